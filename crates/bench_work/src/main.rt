@@ -10,7 +10,7 @@ mod store_run;
 mod tree_run;
 
 use crate::store_run::{StoreLoad, run_store};
-use crate::tree_run::{Order, TreeCounts, TreeLoad, run_tree, walks};
+use crate::tree_run::{Order, TreeCounts, TreeLoad, run_tree};
 use entry_store::EntryStore;
 use image_base::Layout;
 use mem_work::{MemWork, OneRecord};
@@ -21,7 +21,7 @@ use store_api::{Store, StoreError};
 use tree_images::NODE_WORDS;
 
 /// What is run.
-#[derive(Clone, Copy, Debug)]
+#[derive(Clone, Copy)]
 enum Workload {
     /// Entries in units, made and dropped.
     Store(StoreLoad),
@@ -29,37 +29,48 @@ enum Workload {
     Tree(TreeLoad),
 }
 
-/// The workload that the words after the program's name ask for.
-fn workload_in(rt: &HostRuntime) -> Option<Workload> {
-    let mut words = std::env::args(rt).ok()?.skip(1);
-    let name = words.next()?;
-    if name.as_str() == "store" {
-        let rounds = words.next()?.parse::<u64>().ok()?;
-        let units = words.next()?.parse::<u64>().ok()?;
-        let entries = words.next()?.parse::<u32>().ok()?;
-        let buffers = words.next()?.parse::<u32>().ok()?;
-        return Some(Workload::Store(StoreLoad {
-            rounds,
-            units,
-            entries,
-            buffers,
-        }));
+/// The words after the program's name.
+fn words_of(rt: &HostRuntime) -> Option<Vec<String>> {
+    std::env::args(rt).ok()?.skip(1).collect(rt.alloc()).ok()
+}
+
+/// The first four words, which are numbers.
+fn four_in(words: &[String]) -> Option<[u64; 4]> {
+    let mut numbers = [0; 4];
+    for i in 0..4 {
+        numbers[i] = words.get(i)?.parse::<u64>().ok()?;
     }
-    if name.as_str() != "tree" {
-        return None;
-    }
-    let order = order_of(words.next()?.as_str())?;
-    let keys = words.next()?.parse::<u64>().ok()?;
-    let finds = words.next()?.parse::<u64>().ok()?;
-    let walks = words.next()?.parse::<u64>().ok()?;
-    let removes = words.next()?.parse::<u64>().ok()?;
-    Some(Workload::Tree(TreeLoad {
-        order,
-        keys,
-        finds,
-        walks,
-        removes,
+    Some(numbers)
+}
+
+/// `ROUNDS UNITS ENTRIES BUFFERS`.
+fn store_load(numbers: [u64; 4]) -> Option<Workload> {
+    Some(Workload::Store(StoreLoad {
+        rounds: numbers[0],
+        units: numbers[1],
+        entries: u32::try_from(numbers[2]).ok()?,
+        buffers: u32::try_from(numbers[3]).ok()?,
     }))
+}
+
+/// `ORDER KEYS FINDS WALKS REMOVES`.
+fn tree_load(order: &str, numbers: [u64; 4]) -> Option<Workload> {
+    Some(Workload::Tree(TreeLoad {
+        order: order_of(order)?,
+        keys: numbers[0],
+        finds: numbers[1],
+        walks: numbers[2],
+        removes: numbers[3],
+    }))
+}
+
+/// The workload that words ask for.
+fn workload_in(words: &[String]) -> Option<Workload> {
+    match words.first()?.as_str() {
+        "store" => store_load(four_in(words.get(1..)?)?),
+        "tree" => tree_load(words.get(1)?.as_str(), four_in(words.get(2..)?)?),
+        _ => None,
+    }
 }
 
 fn order_of(name: &str) -> Option<Order> {
@@ -99,15 +110,6 @@ fn store_run_of(alloc: Global, load: StoreLoad) -> Result<(u64, u64), StoreError
     }
 }
 
-/// What a run over a tree came to.
-#[derive(Clone, Copy, Debug)]
-struct TreeRun {
-    counts: TreeCounts,
-    walked: u64,
-    /// How many nodes were made.
-    nodes: u64,
-}
-
 /// Buffers for a tree of so many keys: its leaves are half full at worst, and a buffer has 1,926 nodes.
 fn buffers_for(keys: u64) -> u32
     ensures some { 1 ≤ result }
@@ -116,45 +118,47 @@ fn buffers_for(keys: u64) -> u32
     (keys / 12_000).min(1_000) as u32 + 3
 }
 
-/// A run over a tree in a store of its own.
-fn tree_run_of(alloc: Global, load: &TreeLoad) -> Result<TreeRun, StoreError> {
+/// What a run over a tree in a store of its own came to, and how many nodes were made.
+fn tree_run_of(alloc: Global, load: &TreeLoad) -> Result<(TreeCounts, u64), StoreError> {
     match new_store::<TreeLayout>(alloc, buffers_for(load.keys)) {
         Ok(store) => {
-            let mut tree = NumberTree::new(store);
-            let counts = run_tree(&mut tree, load)?;
-            let root = tree.root();
-            let mut store = tree.into_store();
-            let walked = walks(&mut store, root, load.walks);
-            Ok(TreeRun {
-                counts,
-                walked,
-                nodes: store.made(NODE_WORDS as u32),
-            })
+            let (store, counts) = run_tree(NumberTree::new(store), load)?;
+            Ok((counts, store.made(NODE_WORDS as u32)))
         }
         Err(_) => Err(StoreError::Memory),
     }
 }
 
-fn main(rt: HostRuntime) -> ExitCode {
-    let alloc = rt.alloc();
-    let told = match workload_in(&rt) {
-        Some(Workload::Store(load)) => match store_run_of(alloc, load) {
-            Ok((rounds, made)) => println!(&rt; "rounds {rounds} made {made}"),
-            Err(_) => return ExitCode::from(1),
-        },
-        Some(Workload::Tree(load)) => match tree_run_of(alloc, &load) {
-            Ok(run) => println!(&rt;
-                "nodes {} found {} walked {} left {}",
-                run.nodes, run.counts.found, run.walked, run.counts.left
-            ),
-            Err(_) => return ExitCode::from(1),
-        },
-        None => println!(&rt;
-            "bench_work store ROUNDS UNITS ENTRIES BUFFERS, or tree ascending|descending|random KEYS FINDS WALKS REMOVES"
-        ),
-    };
-    match told {
-        Ok(()) => ExitCode::from(0),
-        Err(_) => ExitCode::from(1),
+fn told_store(rt: &HostRuntime, load: StoreLoad) -> bool {
+    match store_run_of(rt.alloc(), load) {
+        Ok((rounds, made)) => println!(rt; "rounds {rounds} made {made}").is_ok(),
+        Err(_) => false,
     }
+}
+
+fn told_tree(rt: &HostRuntime, load: &TreeLoad) -> bool {
+    match tree_run_of(rt.alloc(), load) {
+        Ok((counts, nodes)) => println!(rt;
+            "nodes {nodes} found {} walked {} left {}",
+            counts.found, counts.walked, counts.left
+        )
+        .is_ok(),
+        Err(_) => false,
+    }
+}
+
+/// Runs what words ask for, and prints what came of it. Whether all went well.
+fn told(rt: &HostRuntime, words: &[String]) -> bool {
+    match workload_in(words) {
+        Some(Workload::Store(load)) => told_store(rt, load),
+        Some(Workload::Tree(load)) => told_tree(rt, &load),
+        None => println!(rt;
+            "bench_work store ROUNDS UNITS ENTRIES BUFFERS, or tree ascending|descending|random KEYS FINDS WALKS REMOVES"
+        ).is_ok(),
+    }
+}
+
+fn main(rt: HostRuntime) -> ExitCode {
+    let words = words_of(&rt).unwrap_or(Vec::new(rt.alloc()));
+    ExitCode::from(if told(&rt, &words) { 0 } else { 1 })
 }

@@ -10,7 +10,7 @@ use std::alloc::Global;
 use store_api::{Store, StoreError};
 
 /// What a run over a store is: rounds of so many units, of so many entries each, with a commit after each round.
-#[derive(Clone, Copy, Debug)]
+#[derive(Clone, Copy)]
 pub struct StoreLoad {
     pub rounds: u64,
     pub units: u64,

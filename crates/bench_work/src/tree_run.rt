@@ -8,7 +8,7 @@ use number_tree::{NumberTree, TreeLayout};
 use store_api::{Store, StoreError};
 
 /// The order in which keys come.
-#[derive(Clone, Copy, Debug)]
+#[derive(Clone, Copy)]
 pub enum Order {
     Ascending,
     Descending,
@@ -32,7 +32,7 @@ impl Order {
 }
 
 /// How much of each is done.
-#[derive(Clone, Copy, Debug)]
+#[derive(Clone, Copy)]
 pub struct TreeLoad {
     pub order: Order,
     pub keys: u64,
@@ -42,9 +42,10 @@ pub struct TreeLoad {
 }
 
 /// What was counted.
-#[derive(Clone, Copy, Debug)]
+#[derive(Clone, Copy)]
 pub struct TreeCounts {
     pub found: u64,
+    pub walked: u64,
     pub left: u32,
 }
 
@@ -113,7 +114,7 @@ fn walk<const OFFSET_BITS: u32, F: Frozen<OFFSET_BITS>>(
 }
 
 /// Full walks of a tree, one after another: the sum of all that they see.
-pub fn walks<const OFFSET_BITS: u32, F: Frozen<OFFSET_BITS>>(
+fn walks<const OFFSET_BITS: u32, F: Frozen<OFFSET_BITS>>(
     frozen: &mut F,
     root: EntryRef<OFFSET_BITS>,
     walks: u64,
@@ -128,17 +129,38 @@ pub fn walks<const OFFSET_BITS: u32, F: Frozen<OFFSET_BITS>>(
     walked
 }
 
-/// Inserts, finds and removes of a tree, one after another.
-pub fn run_tree<const OFFSET_BITS: u32, S: Store<OFFSET_BITS, Layout = TreeLayout>>(
+/// Inserts, finds and removes of a tree, one after another: how many keys were found.
+fn change<const OFFSET_BITS: u32, S: Store<OFFSET_BITS, Layout = TreeLayout>>(
     tree: &mut NumberTree<OFFSET_BITS, S>,
     load: &TreeLoad,
-) -> Result<TreeCounts, StoreError>
-    ensures found { IfOk result (λ counts. counts.found ≤ load.now.finds) }
-    ensures left { IfOk result (λ counts. counts.left ≤ length tree.old.pairs + load.now.keys) }
+) -> Result<u64, StoreError>
+    ensures found { IfOk result (λ found. found ≤ load.now.finds) }
+    ensures left { OnOk result (length tree.new.pairs ≤ length tree.old.pairs + load.now.keys) }
 {
     fill(tree, load)?;
     let found = found_in(tree, load);
     take_out(tree, load)?;
+    Ok(found)
+}
+
+/// Inserts, finds, removes and walks of a tree, whose store is given back.
+pub fn run_tree<const OFFSET_BITS: u32, S: Store<OFFSET_BITS, Layout = TreeLayout> + Drop>(
+    tree: NumberTree<OFFSET_BITS, S>,
+    load: &TreeLoad,
+) -> Result<(S, TreeCounts), StoreError>
+    ensures found { IfOk result (λ p. p.1.found ≤ load.now.finds) }
+    ensures left { IfOk result (λ p. p.1.left ≤ length tree.pairs + load.now.keys) }
+{
+    let mut tree = tree;
+    let found = change(&mut tree, load)?;
     let left = tree.len();
-    Ok(TreeCounts { found, left })
+    let root = tree.root();
+    let mut store = tree.into_store();
+    let walked = walks(&mut store, root, load.walks);
+    let counts = TreeCounts {
+        found,
+        walked,
+        left,
+    };
+    Ok((store, counts))
 }

@@ -8,6 +8,7 @@ ghost use Rattle.test_arena.specs.Keepings.{IsKeeping, root_refs};
 
 use crate::answers::Answer;
 use crate::marks::Marks;
+use crate::playing::Seat;
 use crate::steps::Task;
 use entry_ref::EntryRef;
 use node_turns::{Committed, NODE, OneNode, words_of};
@@ -277,9 +278,8 @@ pub fn keeper_of<S: Store<22>>(store: S) -> Keeper<S>
     }
 }
 
-impl<S: Store<22, Layout = OneNode>> Keeper<S> {
-    /// What the keeper's seat comes to.
-    pub fn keep_on(&mut self, task: Task) -> Answer {
+impl<S: Store<22, Layout = OneNode>> Seat for Keeper<S> {
+    fn take(&mut self, task: Task) -> Answer {
         let (keeping, answer) = work_on(&mut self.store, self.keeping, &mut self.marks, task);
         self.keeping = keeping;
         answer

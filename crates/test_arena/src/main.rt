@@ -6,6 +6,7 @@ mod answers;
 mod keeping;
 mod marks;
 mod parties;
+mod playing;
 mod reading;
 mod rows;
 mod steps;
@@ -72,9 +73,9 @@ fn run<R: Threads + Sync>(rt: &HostRuntime, threads: &R, asked: Asked) -> io::Re
 
 /// Plays the rows, and then runs so many commits. Whether all is as it should be.
 fn play<R: Threads + Sync>(rt: &HostRuntime, threads: &R, asked: Asked) -> io::Result<bool> {
-    let rows = compare(rt, threads)?;
-    println!(rt; "{} steps, {} as wanted", rows.steps, rows.right)?;
-    Ok(run(rt, threads, asked)? && rows.steps == rows.right)
+    let (steps, right) = compare(rt, threads)?;
+    println!(rt; "{steps} steps, {right} as wanted")?;
+    Ok(run(rt, threads, asked)? && steps == right)
 }
 
 fn main(rt: HostRuntime) -> ExitCode {

@@ -3,35 +3,30 @@ ghost use Rattle.arena_api.specs.Calls.{IsFresh};
 ghost use Rattle.word_arena.specs.Knows.{view_of};
 ghost use Rattle.word_arena.specs.Ruled.{writer_of};
 
-use crate::answers::Answer;
-use crate::keeping::{Keeper, keeper_of};
-use crate::reading::{Stand, read_on};
+use crate::keeping::keeper_of;
+use crate::playing::{Told, comes, take_steps};
+use crate::reading::Stand;
 use crate::steps::{Setting, Step};
 use crate::writing::{Past, write_on};
 use entry_store::EntryStore;
 use node_turns::OneNode;
 use std::alloc::{AllocError, Global};
 use std::sync::atomic::{AtomicU64, Ordering};
-use std::thread;
 use std::thread::{Threads, map_vec};
-use store_api::Store;
 use word_arena::{Arena, Config, Limits, Reader, Writer};
 
-/// How often a party looks whether its step has come.
-const LOOKS: u64 = 50_000_000;
-
-/// What a step came to.
-#[derive(Clone, Copy, Drop)]
-pub struct Told {
-    pub step: usize,
-    pub answer: Answer,
+/// The writer's seat of a new memory.
+#[derive(Drop)]
+struct Fresh<'a> {
+    writer: Writer<'a, 22, OneNode>,
+    ghost fresh: { IsFresh (view_of writer.place.table_id (writer_of writer.place.me.0)) },
 }
 
-/// The one seat of a thread.
+/// The one seat of a thread: the writer's, the writer's for a store, or a reader's.
 #[derive(Drop)]
 enum Post<'a> {
     Write(Writer<'a, 22, OneNode>),
-    Keep(Keeper<EntryStore<22, Writer<'a, 22, OneNode>>>),
+    Keep(Fresh<'a>),
     Read(Reader<'a, 22, OneNode>),
 }
 
@@ -45,41 +40,7 @@ struct Party<'a> {
     done: &'a AtomicU64,
 }
 
-/// Waits until as many steps are done.
-fn comes(done: &AtomicU64, step: usize) -> bool {
-    for _ in 0..LOOKS {
-        if done.load(Ordering::SeqCst) == step as u64 {
-            return true;
-        }
-        thread::yield_now();
-    }
-    false
-}
-
-fn read_all<'a>(
-    alloc: Global,
-    reader: Reader<'a, 22, OneNode>,
-    number: u32,
-    steps: &[Step],
-    done: &AtomicU64,
-) -> Result<Vec<Told>, AllocError> {
-    let mut told = Vec::new(alloc);
-    let mut stand = Stand::Idle(reader);
-    for step in 0..steps.len() {
-        if steps[step].party != number {
-            continue;
-        }
-        if !comes(done, step) {
-            break;
-        }
-        let (next, answer) = read_on(stand, steps[step].task);
-        stand = next;
-        told.push(Told { step, answer })?;
-        done.fetch_add(1, Ordering::SeqCst);
-    }
-    Ok(told)
-}
-
+/// What the steps of the writer come to.
 fn write_all<'a>(
     alloc: Global,
     writer: Writer<'a, 22, OneNode>,
@@ -104,26 +65,18 @@ fn write_all<'a>(
     Ok(told)
 }
 
-fn keep_all<S: Store<22, Layout = OneNode> + Drop>(
+/// The steps of a store's keeper over the writer's seat.
+fn keep_all(
     alloc: Global,
-    keeper: Keeper<S>,
+    fresh: Fresh<'_>,
     steps: &[Step],
     done: &AtomicU64,
 ) -> Result<Vec<Told>, AllocError> {
-    let mut told = Vec::new(alloc);
-    let mut keeper = keeper;
-    for step in 0..steps.len() {
-        if steps[step].party != 0 {
-            continue;
-        }
-        if !comes(done, step) {
-            break;
-        }
-        let answer = keeper.keep_on(steps[step].task);
-        told.push(Told { step, answer })?;
-        done.fetch_add(1, Ordering::SeqCst);
+    let Fresh { writer } = fresh;
+    match EntryStore::create(alloc, writer) {
+        Ok(store) => take_steps(alloc, keeper_of(store), 0, steps, done),
+        Err(_) => Err(AllocError),
     }
-    Ok(told)
 }
 
 fn play(party: Party<'_>) -> Result<Vec<Told>, AllocError> {
@@ -136,8 +89,8 @@ fn play(party: Party<'_>) -> Result<Vec<Told>, AllocError> {
     } = party;
     match post {
         Post::Write(writer) => write_all(alloc, writer, steps, done),
-        Post::Keep(keeper) => keep_all(alloc, keeper, steps, done),
-        Post::Read(reader) => read_all(alloc, reader, number, steps, done),
+        Post::Keep(fresh) => keep_all(alloc, fresh, steps, done),
+        Post::Read(reader) => take_steps(alloc, Stand::Idle(reader), number, steps, done),
     }
 }
 
@@ -181,20 +134,14 @@ fn readers_of<'a>(
     Ok(parties)
 }
 
-/// The writer's seat, in a store or not.
-fn post_of<'a>(
-    alloc: Global,
-    writer: Writer<'a, 22, OneNode>,
-    store: bool,
-) -> Result<Post<'a>, AllocError>
+/// The writer's seat, for a store or not.
+fn post_of<'a>(writer: Writer<'a, 22, OneNode>, store: bool) -> Post<'a>
     requires { IsFresh (view_of writer.place.table_id (writer_of writer.place.me.0)) }
 {
-    if !store {
-        return Ok(Post::Write(writer));
-    }
-    match EntryStore::create(alloc, writer) {
-        Ok(store) => Ok(Post::Keep(keeper_of(store))),
-        Err(_) => Err(AllocError),
+    if store {
+        Post::Keep(Fresh { writer })
+    } else {
+        Post::Write(writer)
     }
 }
 
@@ -212,7 +159,7 @@ fn parties<'a>(
     let mut parties = readers_of(alloc, &mut writer, setting.readers, steps, done)?;
     let party = Party {
         alloc,
-        post: post_of(alloc, writer, setting.store)?,
+        post: post_of(writer, setting.store),
         number: 0,
         steps,
         done,
@@ -236,13 +183,13 @@ fn play_all<'a, R: Threads + Sync>(
     )
 }
 
-/// What each step of a row came to, in the order of the parties.
+/// What each step of a row came to, by the parties.
 pub fn answers<R: Threads + Sync>(
     rt: &R,
     alloc: Global,
     setting: Setting,
     steps: &[Step],
-) -> Result<Vec<Told>, AllocError> {
+) -> Result<Vec<Result<Vec<Told>, AllocError>>, AllocError> {
     let config = Config {
         buffers: setting.buffers.max(1).min(8),
         words: 8192,
@@ -254,10 +201,8 @@ pub fn answers<R: Threads + Sync>(
     };
     let (arena, token) = Arena::<22, OneNode>::create(alloc, config)?;
     let done = AtomicU64::new(0);
-    let parties = parties(alloc, arena.writer(token), setting, steps, &done)?;
-    let mut all = Vec::new(alloc);
-    for told in play_all(rt, parties)? {
-        all.extend_from_slice(told?.as_slice())?;
-    }
-    Ok(all)
+    play_all(
+        rt,
+        parties(alloc, arena.writer(token), setting, steps, &done)?,
+    )
 }

@@ -2,9 +2,11 @@
 ghost use Rattle.std.specs.Prelude.{◌≡◌, ◌<◌};
 
 use crate::answers::Answer;
+use crate::playing::Seat;
 use crate::steps::Task;
 use node_turns::{Held, OneNode, guarded, raised, tried};
 use std::marker::Brand;
+use std::mem::replace;
 use std::sync::ledger::{Blank, Ledger};
 use word_arena::{Again, Aimed, Reader, Steps};
 
@@ -75,7 +77,7 @@ fn from_guard<'a>(held: Held<'a>, task: Task) -> (Stand<'a>, Answer) {
 }
 
 /// What a reader's seat comes to.
-pub fn read_on<'a>(stand: Stand<'a>, task: Task) -> (Stand<'a>, Answer) {
+fn read_on<'a>(stand: Stand<'a>, task: Task) -> (Stand<'a>, Answer) {
     match stand {
         Stand::Idle(reader) => from_idle(reader, task),
         Stand::Aimed(aimed) => match task {
@@ -84,5 +86,13 @@ pub fn read_on<'a>(stand: Stand<'a>, task: Task) -> (Stand<'a>, Answer) {
         },
         Stand::Guards(held) => from_guard(held, task),
         Stand::Gone => (Stand::Gone, Answer::Unfit),
+    }
+}
+
+impl<'a> Seat for Stand<'a> {
+    fn take(&mut self, task: Task) -> Answer {
+        let (next, answer) = read_on(replace(self, Stand::Gone), task);
+        *self = next;
+        answer
     }
 }

@@ -1,68 +1,103 @@
 //! Rows: `row READERS COMMITS GENERATIONS BUFFERS`, or `store ..`, begins one, `PARTY TASK = ANSWER` is a step of it. Other lines are
 //! remarks.
-use crate::answers::push_answer;
-use crate::parties::{Told, answers};
+use crate::answers::{Answer, push_answer};
+use crate::parties::answers;
+use crate::playing::Told;
 use crate::steps::{Setting, Step, setting_in, step_in};
-use std::alloc::Global;
+use std::alloc::{AllocError, Global};
 use std::io;
 use std::thread::Threads;
+use test_tally::Tally;
 
-/// How many steps there were, and how many came to what was wanted.
-#[derive(Clone, Copy, Default, Drop)]
-pub struct Tally {
-    pub steps: usize,
-    pub right: usize,
-}
-
-/// Whether a step came to what was wanted. One that differs prints itself.
-fn is_right(rt: &HostRuntime, alloc: Global, told: Told, step: &Step) -> io::Result<bool> {
-    let mut text = String::new(alloc);
-    push_answer(&mut text, told.answer)?;
-    if text.as_str() == step.wanted.as_str() {
-        return Ok(true);
-    }
-    println!(rt; "{}: {text} in place of {}", step.asked, step.wanted)?;
-    Ok(false)
-}
-
-/// The row so far, with its steps, and what they came to.
-fn compare_row<R: Threads + Sync>(
+/// Counts what a step came to. One that differs prints itself.
+fn judge(
     rt: &HostRuntime,
-    threads: &R,
-    setting: Setting,
-    steps: &[Step],
+    step: &Step,
+    answer: Answer,
+    text: &mut String,
     tally: &mut Tally,
 ) -> io::Result<()> {
-    let alloc = rt.alloc();
-    tally.steps = tally.steps.saturating_add(steps.len());
-    let all = answers(threads, alloc, setting, steps)?;
-    for told in all.as_slice() {
-        let Some(step) = steps.get(told.step) else {
-            continue;
-        };
-        if is_right(rt, alloc, *told, step)? {
-            tally.right = tally.right.saturating_add(1);
+    text.clear();
+    push_answer(text, answer)?;
+    tally.note(rt, &step.asked, text, &step.wanted)
+}
+
+/// Counts what the steps of a party came to.
+fn judge_all(
+    rt: &HostRuntime,
+    steps: &[Step],
+    party: &[Told],
+    text: &mut String,
+    tally: &mut Tally,
+) -> io::Result<()> {
+    for told in party {
+        if let Some(step) = steps.get(told.step) {
+            judge(rt, step, told.answer, text, tally)?;
         }
     }
     Ok(())
 }
 
-/// Plays the rows of standard input.
-pub fn compare<R: Threads + Sync>(rt: &HostRuntime, threads: &R) -> io::Result<Tally> {
-    let alloc = rt.alloc();
-    let mut tally = Tally::default();
-    let mut setting = Setting::default();
-    let mut steps = Vec::new(alloc);
-    for line in rt.lines(alloc) {
-        let line = line?;
-        if let Some(next) = setting_in(&line) {
-            compare_row(rt, threads, setting, steps.as_slice(), &mut tally)?;
-            setting = next;
-            steps = Vec::new(alloc);
-        } else if let Some(step) = step_in(alloc, &line)? {
-            steps.push(step)?;
+/// The row so far with its steps, the text of the last answer, how many steps there were, and the count of those that were told.
+#[derive(Drop)]
+struct Rows {
+    setting: Setting,
+    steps: Vec<Step>,
+    text: String,
+    all: u64,
+    tally: Tally,
+}
+
+impl Rows {
+    fn new(alloc: Global) -> Rows {
+        Rows {
+            setting: Setting::default(),
+            steps: Vec::new(alloc),
+            text: String::new(alloc),
+            all: 0,
+            tally: Tally::default(),
         }
     }
-    compare_row(rt, threads, setting, steps.as_slice(), &mut tally)?;
-    Ok(tally)
+
+    /// Plays the row so far.
+    fn play<R: Threads + Sync>(&mut self, rt: &HostRuntime, threads: &R) -> io::Result<()> {
+        self.all = self.all.saturating_add(self.steps.len() as u64);
+        for party in answers(threads, rt.alloc(), self.setting, &self.steps)? {
+            judge_all(rt, &self.steps, &party?, &mut self.text, &mut self.tally)?;
+        }
+        Ok(())
+    }
+
+    /// Adds the step of a line, if it is one.
+    fn add(&mut self, alloc: Global, line: &str) -> Result<(), AllocError> {
+        match step_in(alloc, line)? {
+            Some(step) => Ok(self.steps.push(step)?),
+            None => Ok(()),
+        }
+    }
+
+    fn take<R: Threads + Sync>(
+        &mut self,
+        rt: &HostRuntime,
+        threads: &R,
+        line: &str,
+    ) -> io::Result<()> {
+        let Some(setting) = setting_in(line) else {
+            return Ok(self.add(rt.alloc(), line)?);
+        };
+        self.play(rt, threads)?;
+        self.steps.clear();
+        self.setting = setting;
+        Ok(())
+    }
+}
+
+/// Plays the rows of standard input: how many steps there were, and how many of them came to what was wanted.
+pub fn compare<R: Threads + Sync>(rt: &HostRuntime, threads: &R) -> io::Result<(u64, u64)> {
+    let mut rows = Rows::new(rt.alloc());
+    for line in rt.lines(rt.alloc()) {
+        rows.take(rt, threads, line?.as_str())?;
+    }
+    rows.play(rt, threads)?;
+    Ok((rows.all, rows.tally.right))
 }

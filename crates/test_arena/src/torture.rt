@@ -250,7 +250,6 @@ pub fn torture<R: Threads + Sync>(
         },
     };
     let (arena, token) = Arena::<22, OneNode>::create(alloc, config)?;
-    let jobs = jobs_of(alloc, arena.writer(token), READERS, commits)?;
-    let parts = work_all(rt, jobs)?;
+    let parts = work_all(rt, jobs_of(alloc, arena.writer(token), READERS, commits)?)?;
     Ok(tally_of(parts.as_slice(), commits))
 }

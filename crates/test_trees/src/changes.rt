@@ -1,11 +1,13 @@
 //! Many changes of a tree beside a sorted list.
-use crate::trees::{Seen, look, new_tree};
+
+use crate::texts::number_in;
+use crate::trees::{Seen, look};
 use number_tree::{NumberTree, TreeLayout};
 use std::alloc::{AllocError, Global};
 use store_api::Store;
 
 /// The next number of a fixed order that looks like none.
-fn scrambled(number: u64) -> u64 {
+pub fn scrambled(number: u64) -> u64 {
     let mut next = number ^ (number << 13);
     next ^= next >> 7;
     next ^ (next << 17)
@@ -81,12 +83,12 @@ fn are_same<const OFFSET_BITS: u32, S: Store<OFFSET_BITS, Layout = TreeLayout>>(
     alloc: Global,
     tree: &mut NumberTree<OFFSET_BITS, S>,
     pairs: &mut Vec<(u64, u64)>,
-    seed: u64,
-    rounds: &[u64],
+    words: &str,
 ) -> Result<bool, AllocError> {
-    let mut number = seed;
-    for puts in rounds {
-        match change(tree, pairs, number, *puts)? {
+    let (seed, rounds) = words.split_once(' ').unwrap_or((words, ""));
+    let mut number = number_in(seed);
+    for puts in rounds.split(' ') {
+        match change(tree, pairs, number, number_in(puts))? {
             Some(next) => number = next,
             None => return Ok(false),
         }
@@ -104,15 +106,32 @@ fn are_seen(seen: Option<Seen>, pairs: &[(u64, u64)]) -> bool {
     }
 }
 
-/// What comes of a row: rounds of 500 changes, each with so many puts among eight.
-pub fn answer(alloc: Global, seed: u64, rounds: &[u64]) -> Result<String, AllocError> {
+/// The rounds of a row on a new tree: whether it has the pairs of the list after each, and at the end more than two nodes.
+fn are_right<const OFFSET_BITS: u32, S: Store<OFFSET_BITS, Layout = TreeLayout> + Drop>(
+    alloc: Global,
+    tree: NumberTree<OFFSET_BITS, S>,
+    words: &str,
+    pairs: &mut Vec<(u64, u64)>,
+) -> Result<bool, AllocError> {
+    let mut tree = tree;
+    if !are_same(alloc, &mut tree, pairs, words)? {
+        return Ok(false);
+    }
+    Ok(are_seen(look(alloc, tree)?, pairs))
+}
+
+/// Says what comes of a row: rounds of 500 changes, each with so many puts among eight.
+pub fn answer<const OFFSET_BITS: u32, S: Store<OFFSET_BITS, Layout = TreeLayout> + Drop>(
+    alloc: Global,
+    tree: NumberTree<OFFSET_BITS, S>,
+    words: &str,
+    line: &mut String,
+) -> Result<(), AllocError> {
     let mut pairs = Vec::new(alloc);
-    let mut tree = new_tree::<22>(alloc, 64)?;
-    let same = are_same(alloc, &mut tree, &mut pairs, seed, rounds)?;
-    let seen = look(alloc, tree)?;
-    let line = match same && are_seen(seen, &pairs) {
-        true => " the same, in more than two nodes",
-        false => " others",
-    };
-    String::from_str(alloc, line)
+    let right = are_right(alloc, tree, words, &mut pairs)?;
+    line.push_str(if right {
+        " the same, in more than two nodes"
+    } else {
+        " others"
+    })
 }

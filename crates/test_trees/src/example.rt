@@ -1,9 +1,8 @@
-//! The example of the repository's README.
+//! The example of the repository's README, on a map in a store of one buffer of 8,192 words.
+
 use crate::texts::FIRST;
-use entry_store::EntryStore;
-use mem_work::MemWork;
 use number_tree::{NumberTree, TreeLayout};
-use std::alloc::{AllocError, Global};
+use std::alloc::AllocError;
 use store_api::{Store, StoreError};
 
 /// Whether each call of the example answers as it has to.
@@ -26,17 +25,15 @@ fn is_right<const OFFSET_BITS: u32, S: Store<OFFSET_BITS, Layout = TreeLayout>>(
     put & got & walked & (last == Err(full)) & map.get(4999).is_none()
 }
 
-/// What comes of the example.
-pub fn answer(alloc: Global) -> Result<String, AllocError> {
-    let work = MemWork::<22, TreeLayout>::create(alloc, 1, 8192, 1)?;
-    let store = EntryStore::create(alloc, work).map_err(|_| AllocError)?;
-    let mut map = NumberTree::new(store);
-    String::from_str(
-        alloc,
-        if is_right(&mut map) {
-            " right"
-        } else {
-            " wrong"
-        },
-    )
+/// Says what comes of the example.
+pub fn answer<const OFFSET_BITS: u32, S: Store<OFFSET_BITS, Layout = TreeLayout> + Drop>(
+    map: NumberTree<OFFSET_BITS, S>,
+    line: &mut String,
+) -> Result<(), AllocError> {
+    let mut map = map;
+    line.push_str(if is_right(&mut map) {
+        " right"
+    } else {
+        " wrong"
+    })
 }

@@ -1,12 +1,14 @@
 //! Trees touched, by which nodes on a key's way lie in the sealed buffer.
-ghost use Rattle.std.specs.Prelude.{◌<◌, IfOk};
+ghost use Rattle.std.specs.Prelude.{◌≡◌, ◌<◌, IfOk};
 ghost use Rattle.tree_images.specs.Trees.{IsRootNode};
 ghost use Rattle.number_tree.specs.Maps.{HoldsTree};
 
-use crate::texts::push_marks;
-use crate::trees::{new_tree, records_of};
+use crate::changes::scrambled;
+use crate::texts::{number_at, push_mark};
+use crate::trees::records_of;
 use check_trees::{Keys, check_tree};
 use entry_ref::EntryRef;
+use frozen_api::Frozen;
 use frozen_btree::{NumberKey, touch};
 use image_base::{word_in, words_at};
 use number_tree::{NumberTree, TreeLayout};
@@ -25,40 +27,23 @@ fn child_of(words: &[u64], key: u64) -> u64 {
     0
 }
 
-/// The nodes from a root down to the leaf in which a key is sought.
-fn way_of(
-    alloc: Global,
+/// Adds the nodes from a root down to the leaf in which a key is sought.
+fn push_way(
+    way: &mut Vec<u64>,
     records: &BTreeMap<u32, Vec<u64>>,
     root: u64,
     key: u64,
-) -> Result<Vec<u64>, AllocError> {
-    let mut way = Vec::new(alloc);
+) -> Result<(), AllocError> {
     let mut node = root;
     for _ in 0..8 {
         way.push(node)?;
         let words = words_at(records, node);
         if word_in(words, 0) < 256 {
-            return Ok(way);
+            break;
         }
         node = child_of(words, key);
     }
-    Ok(way)
-}
-
-/// Which nodes of a way lie in a buffer, where references have 22 offset bits.
-fn in_buffer(alloc: Global, way: &[u64], buffer: u32) -> Result<Vec<bool>, AllocError> {
-    let mut lies = Vec::new(alloc);
-    for node in way {
-        lies.push(*node % 1024 == u64::from(buffer))?;
-    }
-    Ok(lies)
-}
-
-/// The next number of a fixed order that looks like none.
-fn scrambled(number: u64) -> u64 {
-    let mut next = number ^ (number << 13);
-    next ^= next >> 7;
-    next ^ (next << 17)
+    Ok(())
 }
 
 /// Puts 6,000 keys in, and then makes so many changes, most of which take a key out.
@@ -101,83 +86,120 @@ fn touch_sealed<const OFFSET_BITS: u32, S: Store<OFFSET_BITS>>(
     }
 }
 
-/// Which nodes of a way are others in another way.
-fn others(alloc: Global, old: &[u64], new: &[u64]) -> Result<Vec<bool>, AllocError> {
-    let mut others = Vec::new(alloc);
-    for i in 0..old.len() {
-        others.push(old[i] != word_in(new, i))?;
+/// Says of each node of a way whether it lies in a buffer.
+fn push_lies<const OFFSET_BITS: u32>(
+    line: &mut String,
+    way: &[u64],
+    buffer: u32,
+) -> Result<(), AllocError> {
+    line.push_str(" ")?;
+    for node in way {
+        push_mark(
+            line,
+            EntryRef::<OFFSET_BITS>::from_raw(u32::try_from(*node).unwrap_or(0)).buffer() == buffer,
+        )?;
     }
-    Ok(others)
+    Ok(())
 }
 
-/// What a touch met and did: which nodes of the way lay in the sealed buffer, which of them are others now, which
-/// lie there still, and whether the pairs are the same.
+/// Says of each node of a way whether it is another in another way.
+fn push_others(line: &mut String, old: &[u64], new: &[u64]) -> Result<(), AllocError> {
+    line.push_str(" ")?;
+    for i in 0..old.len() {
+        push_mark(line, old[i] != word_in(new, i))?;
+    }
+    Ok(())
+}
+
+/// A tree's records, its root, and the way of a key.
 #[derive(Drop)]
-struct Touched {
-    lay: Vec<bool>,
-    others: Vec<bool>,
-    left: Vec<bool>,
-    same: bool,
+struct Walked {
+    records: BTreeMap<u32, Vec<u64>>,
+    root: u64,
+    way: Vec<u64>,
 }
 
-/// Touches a tree at a key, and tells what that met and did.
+/// The records of a tree, and the way of a key in it.
+fn walked_in<const OFFSET_BITS: u32, F: Frozen<OFFSET_BITS>>(
+    alloc: Global,
+    frozen: &mut F,
+    root: EntryRef<OFFSET_BITS>,
+    key: u64,
+) -> Result<Walked, AllocError>
+    requires { 0 < root → IsRootNode (F.records frozen.old) root }
+    ensures { frozen.new ≡ frozen.old }
+{
+    let mut walked = Walked {
+        records: records_of(alloc, frozen, root)?,
+        root: u64::from(root.raw()),
+        way: Vec::new(alloc),
+    };
+    push_way(&mut walked.way, &walked.records, walked.root, key)?;
+    Ok(walked)
+}
+
+/// Whether two trees have the same pairs, to the slow checker.
+fn same_pairs(alloc: Global, old: &Walked, new: &Walked) -> Result<bool, AllocError> {
+    let Ok(pairs) = check_tree(alloc, Keys::Numbers, &old.records, old.root) else {
+        return Ok(false);
+    };
+    match check_tree(alloc, Keys::Numbers, &new.records, new.root) {
+        Ok(left) => Ok(pairs == left),
+        Err(_) => Ok(false),
+    }
+}
+
+/// Says what a touch met and did: which nodes of the way lay in the sealed buffer, which of them are others now, which
+/// lie there still, and whether the pairs are the same.
+fn push_touched<const OFFSET_BITS: u32>(
+    alloc: Global,
+    line: &mut String,
+    old: &Walked,
+    new: &Walked,
+    buffer: u32,
+) -> Result<(), AllocError> {
+    push_lies::<OFFSET_BITS>(line, &old.way, buffer)?;
+    push_others(line, &old.way, &new.way)?;
+    push_lies::<OFFSET_BITS>(line, &new.way, buffer)?;
+    line.push_str(if same_pairs(alloc, old, new)? {
+        " same"
+    } else {
+        " others"
+    })
+}
+
+/// Touches a tree at a key, and says what that met and did.
 fn touch_in<const OFFSET_BITS: u32, S: Store<OFFSET_BITS>>(
     alloc: Global,
     store: &mut S,
     root: EntryRef<OFFSET_BITS>,
     key: u64,
-) -> Result<Touched, AllocError>
+    line: &mut String,
+) -> Result<(), AllocError>
     requires { HoldsTree (S.ledger store.old) (S.records store.old) root }
 {
     let buffer = store.choose_victim().unwrap_or(0);
-    let records = records_of(alloc, store, root)?;
-    let number = u64::from(root.raw());
-    let way = way_of(alloc, &records, number, key)?;
-    let next = match touch_sealed(store, root, key) {
-        Ok(next) => next,
-        Err(_) => return Err(AllocError),
+    let old = walked_in(alloc, store, root, key)?;
+    let Ok(next) = touch_sealed(store, root, key) else {
+        return line.push_str(" full");
     };
-    let after = records_of(alloc, store, next)?;
-    let top = u64::from(next.raw());
-    let anew = way_of(alloc, &after, top, key)?;
-    Ok(Touched {
-        lay: in_buffer(alloc, &way, buffer)?,
-        others: others(alloc, &way, &anew)?,
-        left: in_buffer(alloc, &anew, buffer)?,
-        same: same_pairs(alloc, &records, number, &after, top)?,
-    })
+    let new = walked_in(alloc, store, next, key)?;
+    push_touched::<OFFSET_BITS>(alloc, line, &old, &new, buffer)
 }
 
-/// Whether two trees have the same pairs, to the slow checker.
-fn same_pairs(
+/// Says what comes of a row: after so many changes, for a key, which nodes of its way lay in the sealed buffer, which were made
+/// anew, which lie there still, and whether the pairs are the same.
+pub fn answer<const OFFSET_BITS: u32, S: Store<OFFSET_BITS, Layout = TreeLayout> + Drop>(
     alloc: Global,
-    old: &BTreeMap<u32, Vec<u64>>,
-    root: u64,
-    new: &BTreeMap<u32, Vec<u64>>,
-    next: u64,
-) -> Result<bool, AllocError> {
-    let pairs = check_tree(alloc, Keys::Numbers, old, root).map_err(|_| AllocError)?;
-    let left = check_tree(alloc, Keys::Numbers, new, next).map_err(|_| AllocError)?;
-    Ok(pairs == left)
-}
-
-/// A tree after some changes, touched at a key.
-fn touch_after(alloc: Global, changes: u64, key: u64) -> Result<Touched, AllocError> {
-    let mut tree = new_tree::<22>(alloc, 64)?;
-    wear(&mut tree, changes).map_err(|_| AllocError)?;
+    tree: NumberTree<OFFSET_BITS, S>,
+    words: &str,
+    line: &mut String,
+) -> Result<(), AllocError> {
+    let mut tree = tree;
+    if wear(&mut tree, number_at(words, 0)).is_err() {
+        return line.push_str(" full");
+    }
     let root = tree.root();
     let mut store = tree.into_store();
-    touch_in(alloc, &mut store, root, key)
-}
-
-/// What comes of a row: after so many changes, for a key, which nodes of its way lay in the sealed buffer, which were made anew,
-/// which lie there still, and whether the pairs are the same.
-pub fn answer(alloc: Global, changes: u64, key: u64) -> Result<String, AllocError> {
-    let mut line = String::new(alloc);
-    let touched = touch_after(alloc, changes, key)?;
-    push_marks(&mut line, &touched.lay)?;
-    push_marks(&mut line, &touched.others)?;
-    push_marks(&mut line, &touched.left)?;
-    line.push_str(if touched.same { " same" } else { " others" })?;
-    Ok(line)
+    touch_in(alloc, &mut store, root, number_at(words, 1), line)
 }

@@ -1,42 +1,102 @@
 //! Rows of standard input: a word that says what is done, with numbers or steps behind it, and then `said ANSWER`, what must come of
 //! it. Other lines are remarks.
-use crate::texts::numbers_in;
-use crate::{changes, example, keys, of_build, of_touch, steps as on_trees};
+ghost use Rattle.std.specs.Prelude.{◌≤◌, ◌<◌};
+ghost use Rattle.entry_ref.specs.References.{offset_limit, buffer_limit};
+
+use crate::texts::number_at;
+use crate::trees::new_tree;
+use crate::{changes, example, keys, of_build, of_touch, steps};
+use number_tree::{NumberTree, TreeLayout};
 use std::alloc::{AllocError, Global};
 use std::io;
+use store_api::Store;
+use test_tally::Tally;
 
-/// What comes of a row with numbers.
-fn answer_of(alloc: Global, kind: &str, numbers: &[u64]) -> Result<Option<String>, AllocError> {
-    let first = *numbers.first().unwrap_or(&0);
-    match kind {
-        "built" => Ok(Some(of_build::answer(alloc, first)?)),
-        "touched" => Ok(Some(of_touch::answer(alloc, first, *numbers.get(1).unwrap_or(&0))?)),
-        "changed" => Ok(Some(changes::answer(alloc, first, numbers.get(1..).unwrap_or(&[]))?)),
-        "beside" => Ok(Some(keys::beside(alloc, first)?)),
-        "replaced" => Ok(Some(keys::replaced(alloc)?)),
-        "example" => Ok(Some(example::answer(alloc)?)),
-        _ => Ok(None),
+/// What a row does, and over how many buffers.
+#[derive(Clone, Copy)]
+struct Row<'a> {
+    kind: &'a str,
+    words: &'a str,
+    buffers: u32,
+    ghost some: { 1 ≤ buffers },
+    ghost most: { buffers ≤ 64 },
+}
+
+/// The row of a line, if it is one.
+fn row_in(line: &str) -> Option<Row<'_>> {
+    let (kind, words) = line.split_once(' ').unwrap_or((line, ""));
+    let buffers = match kind {
+        "tree" => number_at(words, 0).max(1).min(8) as u32,
+        "built" => 8,
+        "replaced" => 8,
+        "touched" => 64,
+        "changed" => 64,
+        "beside" => 1,
+        "example" => 1,
+        _ => return None,
+    };
+    Some(Row {
+        kind,
+        words,
+        buffers,
+    })
+}
+
+/// Says what comes of a row on a new tree.
+fn answer_in<const OFFSET_BITS: u32, S: Store<OFFSET_BITS, Layout = TreeLayout> + Drop>(
+    alloc: Global,
+    tree: NumberTree<OFFSET_BITS, S>,
+    row: Row<'_>,
+    line: &mut String,
+) -> Result<(), AllocError> {
+    match row.kind {
+        "tree" => steps::answer(alloc, tree, row.words, line),
+        "changed" => changes::answer(alloc, tree, row.words, line),
+        "touched" => of_touch::answer(alloc, tree, row.words, line),
+        "example" => example::answer(tree, line),
+        _ => answer_on(alloc, tree, row, line),
     }
 }
 
-/// What comes of a line, where it is a row.
-fn answer_to(alloc: Global, line: &str) -> Result<Option<String>, AllocError> {
-    let (kind, rest) = line.split_once(' ').unwrap_or((line, ""));
-    if kind == "tree" {
-        let (buffers, steps) = rest.split_once(' ').unwrap_or((rest, ""));
-        return Ok(Some(on_trees::answer(alloc, buffers.parse::<u64>().unwrap_or(0), steps)?));
+/// The same of the rows that are about its store.
+fn answer_on<const OFFSET_BITS: u32, S: Store<OFFSET_BITS, Layout = TreeLayout> + Drop>(
+    alloc: Global,
+    tree: NumberTree<OFFSET_BITS, S>,
+    row: Row<'_>,
+    line: &mut String,
+) -> Result<(), AllocError> {
+    let mut store = tree.into_store();
+    match row.kind {
+        "built" => of_build::answer(alloc, &mut store, number_at(row.words, 0), line),
+        "beside" => keys::beside(&mut store, number_at(row.words, 0), line),
+        _ => keys::replaced(alloc, &mut store, line),
     }
-    let numbers = numbers_in(alloc, rest)?;
-    answer_of(alloc, kind, &numbers)
 }
 
-/// The last row, what came of it, and how many were compared.
+/// Says what comes of a row on a tree in a store of its own.
+fn answer<const OFFSET_BITS: u32>(
+    alloc: Global,
+    row: Row<'_>,
+    line: &mut String,
+) -> Result<(), AllocError>
+    requires few { 64 < buffer_limit OFFSET_BITS }
+    requires offsets { 8192 ≤ offset_limit OFFSET_BITS }
+{
+    answer_in(
+        alloc,
+        new_tree::<OFFSET_BITS>(alloc, row.buffers)?,
+        row,
+        line,
+    )
+}
+
+/// The last row, and what came of it over references of 22 and of 19 bits.
 #[derive(Drop)]
 struct Rows {
     row: String,
     found: String,
-    compared: u32,
-    right: u32,
+    wide: String,
+    tally: Tally,
 }
 
 impl Rows {
@@ -44,32 +104,36 @@ impl Rows {
         Rows {
             row: String::new(alloc),
             found: String::new(alloc),
-            compared: 0,
-            right: 0,
+            wide: String::new(alloc),
+            tally: Tally::default(),
         }
     }
 
-    fn judge(&mut self, rt: &HostRuntime, wanted: &str) -> io::Result<()> {
-        self.compared = self.compared.saturating_add(1);
-        if self.found.as_str() == wanted {
-            self.right = self.right.saturating_add(1);
-            return Ok(());
-        }
-        println!(rt; "{}:{} in place of{wanted}", self.row, self.found)
-    }
-
-    fn answer(&mut self, alloc: Global, line: &str) -> Result<(), AllocError> {
-        if let Some(found) = answer_to(alloc, line)? {
-            self.found = found;
-            self.row = String::from_str(alloc, line)?;
+    fn answer(&mut self, alloc: Global, row: Row<'_>) -> Result<(), AllocError> {
+        self.found.clear();
+        self.wide.clear();
+        answer::<22>(alloc, row, &mut self.found)?;
+        answer::<19>(alloc, row, &mut self.wide)?;
+        if self.found != self.wide {
+            self.found.push_str(", of 19 bits")?;
+            self.found.push_str(&self.wide)?;
         }
         Ok(())
     }
 
+    fn ask(&mut self, alloc: Global, line: &str) -> Result<(), AllocError> {
+        let Some(row) = row_in(line) else {
+            return Ok(());
+        };
+        self.row.clear();
+        self.row.push_str(line)?;
+        self.answer(alloc, row)
+    }
+
     fn take(&mut self, rt: &HostRuntime, line: &str) -> io::Result<()> {
         match line.strip_prefix("said") {
-            Some(wanted) => self.judge(rt, wanted),
-            None => Ok(self.answer(rt.alloc(), line)?),
+            Some(wanted) => self.tally.note(rt, &self.row, &self.found, wanted),
+            None => Ok(self.ask(rt.alloc(), line)?),
         }
     }
 }
@@ -79,6 +143,5 @@ pub fn compare(rt: &HostRuntime) -> io::Result<()> {
     for line in rt.lines(rt.alloc()) {
         rows.take(rt, line?.as_str())?;
     }
-    let (compared, right) = (rows.compared, rows.right);
-    println!(rt; "rows: {compared} compared, {right} as wanted")
+    rows.tally.print(rt, "rows")
 }

@@ -12,6 +12,7 @@ use mem_work::MemWork;
 use number_tree::{NumberTree, TreeLayout};
 use std::alloc::{AllocError, Global};
 use std::collections::BTreeMap;
+use store_api::Store;
 use tree_images::NODE_WORDS;
 use tree_node::{read_head, read_node, read_words};
 
@@ -24,8 +25,8 @@ pub fn new_tree<const OFFSET_BITS: u32>(
     AllocError,
 >
     requires some { 1 ≤ buffers }
-    requires most { buffers ≤ 1023 }
-    requires few { buffers < buffer_limit OFFSET_BITS }
+    requires most { buffers ≤ 64 }
+    requires few { 64 < buffer_limit OFFSET_BITS }
     requires offsets { 8192 ≤ offset_limit OFFSET_BITS }
 {
     let work = MemWork::<OFFSET_BITS, TreeLayout>::create(alloc, buffers, 8192, 1)?;
@@ -138,9 +139,9 @@ fn seen_in(
 }
 
 /// Looks at the records of a tree in a store of its own.
-pub fn look<const OFFSET_BITS: u32>(
+pub fn look<const OFFSET_BITS: u32, S: Store<OFFSET_BITS, Layout = TreeLayout> + Drop>(
     alloc: Global,
-    tree: NumberTree<OFFSET_BITS, EntryStore<OFFSET_BITS, MemWork<OFFSET_BITS, TreeLayout>>>,
+    tree: NumberTree<OFFSET_BITS, S>,
 ) -> Result<Option<Seen>, AllocError> {
     let top = tree.root();
     let mut store = tree.into_store();
