@@ -2,6 +2,8 @@
 #![tactic(auto)]
 
 #[cfg(test)]
+mod cases;
+#[cfg(test)]
 mod of_buffers;
 #[cfg(test)]
 mod of_commits;

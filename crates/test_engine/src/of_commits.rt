@@ -3,7 +3,8 @@ ghost use Rattle.entry_ref.specs.References.{buffer_of};
 ghost use Rattle.store_api.specs.Ledgers.{is_width, is_this, IsNew};
 ghost use Rattle.store_api.specs.Parts.{OwnsAll, entry};
 
-use crate::stores::{Filled, fill, fill_undone, new_store};
+use crate::cases::{Case, came_to};
+use crate::stores::{Filled, fill, fill_undone};
 use arena_api::{Advance, Oldest};
 use entry_ref::EntryRef;
 use mem_work::OneRecord;
@@ -84,10 +85,13 @@ fn replace_roots<const OFFSET_BITS: u32, S: Store<OFFSET_BITS, Layout = OneRecor
     Ok(([first.raw(), second.raw(), third.raw(), fourth.raw()], last))
 }
 
-#[test]
-fn what_is_dropped_is_made_again_after_a_commit(rt: HostRuntime) -> Result<(), Fail> {
-    let mut store = new_store::<22>(rt.alloc(), 1)?;
-    let last = Stored {
+/// Whether four records take each other's place, the third where the first was.
+pub fn are_replaced<const OFFSET_BITS: u32, S: Store<OFFSET_BITS, Layout = OneRecord>>(
+    store: &mut S,
+) -> Result<bool, StoreError>
+    requires new { IsNew (S.ledger store.old) }
+{
+    let stored = Stored {
         commit: 4,
         advance: Advance::To {
             generation: 4,
@@ -100,14 +104,18 @@ fn what_is_dropped_is_made_again_after_a_commit(rt: HostRuntime) -> Result<(), F
             newest: true,
         },
     };
-    assert_eq!(rt;
-        replace_roots::<22, _>(&mut store, 1024),
-        Ok(([1024, 2048, 1024, 2048], Some(last)))
-    );
-    assert_eq!(rt;
-        (store.made(1024), store.commits_left()),
-        (4, 4_294_967_291)
-    );
+    let (roots, last) = replace_roots(store, 1024)?;
+    Ok(
+        roots == [1024, 2048, 1024, 2048]
+            && last == Some(stored)
+            && store.commits_left() == 4_294_967_291,
+    )
+}
+
+#[test]
+fn what_is_dropped_is_made_again_after_a_commit(rt: HostRuntime) -> Result<(), Fail> {
+    let came = came_to::<22>(rt.alloc(), 1, Case::Replaced)?;
+    assert!(rt; came.is_right && came.arrays == 4);
     Ok(())
 }
 
@@ -128,10 +136,13 @@ fn fill_after_drop<const OFFSET_BITS: u32, S: Store<OFFSET_BITS, Layout = OneRec
     Ok([dropped, fill_undone(store, width)])
 }
 
-#[test]
-fn what_a_commit_has_is_not_made_again(rt: HostRuntime) -> Result<(), Fail> {
-    let mut store = new_store::<22>(rt.alloc(), 1)?;
-    let full = StoreError::Full {
+/// Whether a record of the last commit that was dropped stays in the way of others.
+pub fn is_kept<const OFFSET_BITS: u32, S: Store<OFFSET_BITS, Layout = OneRecord>>(
+    store: &mut S,
+) -> Result<bool, StoreError>
+    requires new { IsNew (S.ledger store.old) }
+{
+    let full = Some(StoreError::Full {
         width: 1024,
         active: 1,
         held: 0,
@@ -141,10 +152,15 @@ fn what_a_commit_has_is_not_made_again(rt: HostRuntime) -> Result<(), Fail> {
             found: 0,
             newest: true,
         },
-    };
-    let both = fill_after_drop::<22, _>(&mut store, 1024)?;
-    assert_eq!(rt; both[0], (6, 7168, Some(full)));
-    assert_eq!(rt; (both[1].0, both[1].2), (6, Some(full)));
+    });
+    let [dropped, undone] = fill_after_drop(store, 1024)?;
+    Ok(dropped == (6, 7168, full) && undone.0 == 6 && undone.2 == full)
+}
+
+#[test]
+fn what_a_commit_has_is_not_made_again(rt: HostRuntime) -> Result<(), Fail> {
+    let came = came_to::<22>(rt.alloc(), 1, Case::Kept)?;
+    assert!(rt; came.is_right);
     Ok(())
 }
 
@@ -188,14 +204,24 @@ fn empty_victim<const OFFSET_BITS: u32, S: Store<OFFSET_BITS, Layout = OneRecord
     Ok((victim, [first, sealed, fill_undone(store, 34)]))
 }
 
+/// Whether the first buffer is the victim, and so many entries of 34 words are made behind the commit.
+pub fn is_emptied<const OFFSET_BITS: u32, S: Store<OFFSET_BITS, Layout = OneRecord>>(
+    store: &mut S,
+    finishes: bool,
+    made: u32,
+) -> Result<bool, StoreError>
+    requires new { IsNew (S.ledger store.old) }
+{
+    let (victim, [first, sealed, nodes]) = empty_victim(store, finishes)?;
+    Ok(victim == Some(0) && first.0 == 14 && sealed.0 == 6 && nodes.0 == made)
+}
+
 #[test]
 fn a_victim_goes_on_hold_with_all_its_entries(rt: HostRuntime) -> Result<(), Fail> {
     // whether the victim is finished, and how many entries of 34 words are made then
     for (finishes, made) in [(false, 0), (true, 239)] {
-        let mut store = new_store::<22>(rt.alloc(), 2)?;
-        let (victim, [first, sealed, wide]) = empty_victim::<22, _>(&mut store, finishes)?;
-        assert_eq!(rt; victim, Some(0));
-        assert_eq!(rt; (first.0, sealed.0, wide.0), (14, 6, made));
+        let came = came_to::<22>(rt.alloc(), 2, Case::Emptied { finishes, made })?;
+        assert!(rt; came.is_right);
     }
     Ok(())
 }

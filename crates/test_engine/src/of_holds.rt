@@ -1,6 +1,5 @@
 //! The queue of generation holds over openings, renewals and closings.
 use generation_handler::{HOLDS, Holds};
-use std::process::Abort;
 
 #[derive(Clone, Copy)]
 enum Step {
@@ -36,34 +35,70 @@ const fn after(step: Step, oldest: u64, newest: u64, hold: u32, len: u32) -> Row
     }
 }
 
-fn opens(rt: &impl Abort, holds: &mut Holds, generation: u64, wanted: Option<u32>) {
+/// Whether this hold is the next one. It is opened.
+fn opens(holds: &mut Holds, generation: u64, wanted: Option<u32>) -> bool {
     let next = holds.open_next();
-    assert_eq!(rt; next, wanted);
     if let Some(hold) = next {
         holds.append(generation, hold, 7);
     }
+    next == wanted
 }
 
-fn takes(rt: &impl Abort, holds: &mut Holds, step: &Step) {
-    let generation = holds.newest().generation.saturating_add(1);
-    match step {
-        Step::Opens(hold) => opens(rt, holds, generation, Some(*hold)),
-        Step::OpensAll => {
-            for more in 0..HOLDS {
-                if let Some(hold) = holds.open_next() {
-                    holds.append(generation.saturating_add(u64::from(more)), hold, 7);
-                }
-            }
-        }
-        Step::IsFull => opens(rt, holds, generation, None),
-        Step::Renews => holds.renew(generation, 9),
-        Step::Closes(count) => {
-            for _ in 0..*count {
-                assert!(rt; holds.len() > 1);
-                let _ = holds.pop_oldest();
-            }
+fn open_all(holds: &mut Holds, generation: u64) {
+    for more in 0..HOLDS {
+        if let Some(hold) = holds.open_next() {
+            holds.append(generation.saturating_add(u64::from(more)), hold, 7);
         }
     }
+}
+
+/// Closes so many holds, if one is left then.
+fn closes(holds: &mut Holds, count: u32) -> bool {
+    for _ in 0..count {
+        if holds.len() <= 1 {
+            return false;
+        }
+        let _ = holds.pop_oldest();
+    }
+    true
+}
+
+/// Whether a step can be taken. It is.
+fn takes(holds: &mut Holds, step: Step) -> bool {
+    let generation = holds.newest().generation.saturating_add(1);
+    match step {
+        Step::Opens(hold) => opens(holds, generation, Some(hold)),
+        Step::OpensAll => {
+            open_all(holds, generation);
+            true
+        }
+        Step::IsFull => opens(holds, generation, None),
+        Step::Renews => {
+            holds.renew(generation, 9);
+            true
+        }
+        Step::Closes(count) => closes(holds, count),
+    }
+}
+
+/// Whether the queue is as a row says.
+fn is_as(holds: &Holds, row: &Row) -> bool {
+    let newest = holds.newest();
+    holds.oldest().generation == row.oldest
+        && newest.generation == row.newest
+        && newest.hold == row.hold
+        && holds.len() == row.len
+}
+
+/// Whether each step of a run is taken, and the queue after it is the wanted one.
+fn is_right_run(rows: &[Row]) -> bool {
+    let mut holds = Holds::new();
+    for row in rows {
+        if !takes(&mut holds, row.step) || !is_as(&holds, row) {
+            return false;
+        }
+    }
+    true
 }
 
 #[test]
@@ -106,38 +141,24 @@ fn a_queue_after_each_step(rt: HostRuntime) {
         ],
     ];
     for (number, rows) in runs.iter().enumerate() {
-        let mut holds = Holds::new();
-        for (place, row) in rows.iter().enumerate() {
-            takes(&rt, &mut holds, &row.step);
-            let newest = holds.newest();
-            assert_eq!(rt;
-                (
-                    holds.oldest().generation,
-                    newest.generation,
-                    newest.hold,
-                    holds.len(),
-                ),
-                (row.oldest, row.newest, row.hold, row.len),
-                "run {number}, step {place}"
-            );
-        }
+        assert!(rt; is_right_run(rows), "run {number}");
     }
+}
+
+/// Whether an entry has the first commit that it was given, and another one when it is renewed.
+fn keeps_first_commit() -> bool {
+    let mut holds = Holds::new();
+    let first = holds.newest().first_commit;
+    if let Some(hold) = holds.open_next() {
+        holds.append(1, hold, 5);
+    }
+    let opened = (holds.oldest().first_commit, holds.newest().first_commit);
+    holds.renew(2, 6);
+    let renewed = (holds.oldest().first_commit, holds.newest().first_commit);
+    first == 0 && opened == (0, 5) && renewed == (0, 6)
 }
 
 #[test]
 fn an_entry_keeps_its_first_commit(rt: HostRuntime) {
-    let mut holds = Holds::new();
-    assert_eq!(rt; holds.newest().first_commit, 0);
-    if let Some(hold) = holds.open_next() {
-        holds.append(1, hold, 5);
-    }
-    assert_eq!(rt;
-        (holds.oldest().first_commit, holds.newest().first_commit),
-        (0, 5)
-    );
-    holds.renew(2, 6);
-    assert_eq!(rt;
-        (holds.oldest().first_commit, holds.newest().first_commit),
-        (0, 6)
-    );
+    assert!(rt; keeps_first_commit());
 }

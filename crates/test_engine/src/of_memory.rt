@@ -1,39 +1,62 @@
 use arena_api::Work;
 use entry_ref::EntryRef;
 use mem_work::{MemWork, OneRecord};
+use std::alloc::{AllocError, Global};
 use std::test::Fail;
+
+/// Whether nothing was stored.
+fn has_no_record(alloc: Global, work: &MemWork<22, OneRecord>) -> Result<bool, AllocError> {
+    Ok(work.records(alloc)?.is_empty())
+}
+
+/// Whether three buffers are handed out from the lowest on, and no more.
+fn hands_out_three<const OFFSET_BITS: u32, W: Work<OFFSET_BITS>>(work: &mut W) -> bool {
+    let mut is_right = (work.buffers(), work.words()) == (3, 8192);
+    // what is answered, and how many buffers are free then
+    for (buffer, free) in [(Some(0), 2), (Some(1), 1), (Some(2), 0), (None, 0)] {
+        is_right &= work.hand_out(34) == buffer;
+        is_right &= work.free_buffers() == free;
+    }
+    is_right
+}
+
+/// Whether 1,024 buffers are handed out, one after another, and no more.
+fn hands_out_all<const OFFSET_BITS: u32, W: Work<OFFSET_BITS>>(work: &mut W) -> bool {
+    let mut is_right = (work.buffers(), work.words()) == (1024, 8192);
+    for buffer in 0..1024 {
+        is_right &= work.hand_out(2) == Some(buffer);
+    }
+    is_right & ((work.hand_out(2), work.free_buffers()) == (None, 0))
+}
 
 #[test]
 fn buffers_are_handed_out_from_the_lowest_on(rt: HostRuntime) -> Result<(), Fail> {
     let mut work = MemWork::<22, OneRecord>::create(rt.alloc(), 3, 8192, 1)?;
-    assert_eq!(rt; (work.buffers(), work.words()), (3, 8192));
-    // what is answered, and how many buffers are free then
-    for (buffer, free) in [(Some(0), 2), (Some(1), 1), (Some(2), 0), (None, 0)] {
-        assert_eq!(rt; work.hand_out(34), buffer);
-        assert_eq!(rt; work.free_buffers(), free);
-    }
-    // nothing was stored in them
-    assert!(rt; work.records(rt.alloc())?.is_empty());
+    let is_right = hands_out_three::<22, _>(&mut work) & has_no_record(rt.alloc(), &work)?;
+    assert!(rt; is_right);
     Ok(())
 }
 
 #[test]
 fn references_of_19_bits_name_1024_buffers(rt: HostRuntime) -> Result<(), Fail> {
     let mut work = MemWork::<19, OneRecord>::create(rt.alloc(), 1024, 8192, 1)?;
-    assert_eq!(rt; (work.buffers(), work.words()), (1024, 8192));
-    for buffer in 0..1024 {
-        assert_eq!(rt; work.hand_out(2), Some(buffer));
-    }
-    assert_eq!(rt; (work.hand_out(2), work.free_buffers()), (None, 0));
+    let is_right = hands_out_all::<19, _>(&mut work);
+    assert!(rt; is_right);
     Ok(())
+}
+
+/// Whether a commit is counted, and stores nothing by itself.
+fn is_counted(alloc: Global) -> Result<bool, AllocError> {
+    let mut work = MemWork::<22, OneRecord>::create(alloc, 8, 8192, 1)?;
+    let before = work.commits_left();
+    let commit = work.publish(EntryRef::from_raw(0));
+    let counts = (before, commit, work.commits_left());
+    Ok((counts == (u32::MAX, 1, 4_294_967_294)) & has_no_record(alloc, &work)?)
 }
 
 #[test]
 fn commits_are_counted(rt: HostRuntime) -> Result<(), Fail> {
-    let mut work = MemWork::<22, OneRecord>::create(rt.alloc(), 8, 8192, 1)?;
-    assert_eq!(rt; work.commits_left(), u32::MAX);
-    assert_eq!(rt; work.publish(EntryRef::from_raw(0)), 1);
-    assert_eq!(rt; work.commits_left(), 4_294_967_294);
-    assert!(rt; work.records(rt.alloc())?.is_empty());
+    let is_right = is_counted(rt.alloc())?;
+    assert!(rt; is_right);
     Ok(())
 }

@@ -52,9 +52,20 @@ fn words_of_entries_stand_at_the_worked_places(rt: HostRuntime) {
         ((2, 8, 2), (3, 1, 1), 35),
     ];
     for ((buffers, words, width), (offset, buffer, i), place) in rows {
-        let entry = EntryRef::<22>::new(offset, buffer);
-        assert_eq!(rt; place_of(buffers, words, width, entry, i), place);
-        let entry = EntryRef::<19>::new(offset, buffer);
-        assert_eq!(rt; place_of(buffers, words, width, entry, i), place);
+        let of_22 = place_of(
+            buffers,
+            words,
+            width,
+            EntryRef::<22>::new(offset, buffer),
+            i,
+        );
+        let of_19 = place_of(
+            buffers,
+            words,
+            width,
+            EntryRef::<19>::new(offset, buffer),
+            i,
+        );
+        assert!(rt; of_22 == place && of_19 == place, "{place}");
     }
 }

@@ -1,7 +1,8 @@
 ghost use Rattle.std.specs.Prelude.{◌≡◌, ◌<◌, ◌≤◌, true, false};
 ghost use Rattle.entry_ref.specs.References.{buffer_limit, offset_limit};
-ghost use Rattle.store_api.specs.Ledgers.{is_width};
+ghost use Rattle.store_api.specs.Ledgers.{is_width, IsNew};
 
+use crate::cases::{Case, came_to};
 use crate::stores::{Filled, fill_undone, new_store};
 use arena_api::Oldest;
 use std::alloc::{AllocError, Global};
@@ -24,20 +25,24 @@ fn make_again<const OFFSET_BITS: u32, S: Store<OFFSET_BITS>>(
     Ok([first.raw(), again.raw(), next.raw(), wide.raw()])
 }
 
+/// Whether these are the entries that a new store makes before and after an undo.
+pub fn is_made_again<const OFFSET_BITS: u32, S: Store<OFFSET_BITS>>(
+    store: &mut S,
+    wanted: [u32; 4],
+) -> Result<bool, StoreError>
+    requires new { IsNew (S.ledger store.old) }
+{
+    Ok(make_again(store)? == wanted)
+}
+
 #[test]
 fn an_entry_is_made_again_after_an_undo(rt: HostRuntime) -> Result<(), Fail> {
-    let mut store = new_store::<22>(rt.alloc(), 8)?;
-    assert_eq!(rt;
-        make_again::<22, _>(&mut store),
-        Ok([1024, 1024, 2048, 1025])
-    );
-    assert_eq!(rt; (store.made(2), store.made(34), store.made(4)), (3, 1, 0));
-    let mut store = new_store::<19>(rt.alloc(), 8)?;
-    assert_eq!(rt;
-        make_again::<19, _>(&mut store),
-        Ok([8192, 8192, 16384, 8193])
-    );
-    assert_eq!(rt; (store.made(2), store.made(34), store.made(4)), (3, 1, 0));
+    let wanted = Case::MadeAgain([1024, 1024, 2048, 1025]);
+    let came = came_to::<22>(rt.alloc(), 8, wanted)?;
+    assert!(rt; came.is_right && came.twos == 3 && came.nodes == 1 && came.fours == 0);
+    let wanted = Case::MadeAgain([8192, 8192, 16384, 8193]);
+    let came = came_to::<19>(rt.alloc(), 8, wanted)?;
+    assert!(rt; came.is_right && came.twos == 3 && came.nodes == 1 && came.fours == 0);
     Ok(())
 }
 

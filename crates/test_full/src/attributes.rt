@@ -9,13 +9,9 @@ use attr_types::{
     Doc, Field, FieldItems, Fields, Item, Items, Kind, Name, Op, Value, ValueType, fits,
 };
 use attribute_kinds::{AttrError, Attribute, CommitInfo};
-use entry_store::EntryStore;
 use std::alloc::{AllocError, Global};
 use store_api::Store;
 use word_arena::{Reader, Writer};
-
-/// Attributes over a running memory.
-pub type Kinds<'a> = Attribute<22, EntryStore<22, Writer<'a, 22, AttrLayout>>>;
 
 /// Why nothing more was put: how many buffers were in use and held, and which hold was the oldest.
 #[derive(Clone, Copy, Drop)]
@@ -54,21 +50,6 @@ pub fn seat_in<'a>(
     }
 }
 
-/// Attributes without a document.
-pub fn new_attribute<'a>(
-    alloc: Global,
-    writer: Writer<'a, 22, AttrLayout>,
-    fields: &Fields,
-) -> Result<Kinds<'a>, AllocError>
-    requires new { IsNewWriter fields.now writer.place.table_id (writer_of writer.place.me.0) }
-    ensures fields { IfOk result (λ a. a.fields ≡ fields.now) }
-{
-    match Attribute::create(alloc, writer, fields, false) {
-        Ok(attribute) => Ok(attribute),
-        Err(_) => Err(AllocError),
-    }
-}
-
 /// The put of a number to a document.
 fn put_of(alloc: Global, document: u32, number: u32) -> Result<Op, AllocError> {
     let value = Value::Long(i64::from(number));
@@ -97,6 +78,27 @@ fn refused(error: AttrError) -> Result<Option<NoRoom>, AllocError> {
     }
 }
 
+fn apply<const OFFSET_BITS: u32, S: Store<OFFSET_BITS, Layout = AttrLayout>>(
+    alloc: Global,
+    attribute: &mut Attribute<OFFSET_BITS, S>,
+    fields: &Fields,
+    op: &Op,
+) -> Result<Option<NoRoom>, AllocError>
+    requires same { attribute.old.fields ≡ fields.now }
+    ensures same { attribute.new.fields ≡ fields.now }
+{
+    if !fits(fields, op) {
+        return Err(AllocError);
+    }
+    if attribute.operations() == u32::MAX {
+        return Err(AllocError);
+    }
+    match attribute.apply(alloc, op) {
+        Ok(_) => Ok(None),
+        Err(error) => refused(error),
+    }
+}
+
 /// Puts a number to a document.
 pub fn put<const OFFSET_BITS: u32, S: Store<OFFSET_BITS, Layout = AttrLayout>>(
     alloc: Global,
@@ -109,16 +111,7 @@ pub fn put<const OFFSET_BITS: u32, S: Store<OFFSET_BITS, Layout = AttrLayout>>(
     ensures same { attribute.new.fields ≡ fields.now }
 {
     let op = put_of(alloc, document, number)?;
-    if !fits(fields, &op) {
-        return Err(AllocError);
-    }
-    if attribute.operations() == u32::MAX {
-        return Err(AllocError);
-    }
-    match attribute.apply(alloc, &op) {
-        Ok(_) => Ok(None),
-        Err(error) => refused(error),
-    }
+    apply(alloc, attribute, fields, &op)
 }
 
 /// Commits what was put.
@@ -154,29 +147,29 @@ pub fn compact<const OFFSET_BITS: u32, S: Store<OFFSET_BITS, Layout = AttrLayout
     }
 }
 
-fn line_of(alloc: Global, info: CommitInfo) -> Result<String, AllocError> {
+fn push_info(line: &mut String, info: CommitInfo) -> Result<(), AllocError> {
     let commit = info.commit;
     match info.advance {
-        Advance::To { generation, .. } => format!(in alloc; "{commit} to {generation}"),
+        Advance::To { generation, .. } => write!(line, "{commit} to {generation}"),
         Advance::NoHold { holds, found } => {
-            format!(in alloc; "{commit} no hold of {holds} found {found}")
+            write!(line, "{commit} no hold of {holds} found {found}")
         }
-        Advance::Spent { generation } => format!(in alloc; "{commit} spent at {generation}"),
+        Advance::Spent { generation } => write!(line, "{commit} spent at {generation}"),
     }
 }
 
-/// What a commit comes to, as a line: its number and the generation after it, or the commit after which there is none.
-pub fn commit_line<const OFFSET_BITS: u32, S: Store<OFFSET_BITS, Layout = AttrLayout>>(
-    alloc: Global,
+/// Commits, and tells what that comes to: its number and the generation after it, or the commit after which there is none.
+pub fn tell_commit<const OFFSET_BITS: u32, S: Store<OFFSET_BITS, Layout = AttrLayout>>(
     attribute: &mut Attribute<OFFSET_BITS, S>,
     fields: &Fields,
-) -> Result<String, AllocError>
+    line: &mut String,
+) -> Result<(), AllocError>
     requires same { attribute.old.fields ≡ fields.now }
     ensures same { attribute.new.fields ≡ fields.now }
 {
     match attribute.commit() {
-        Ok(info) => line_of(alloc, info),
-        Err(AttrError::CommitsSpent { commit }) => format!(in alloc; "none after {commit}"),
+        Ok(info) => push_info(line, info),
+        Err(AttrError::CommitsSpent { commit }) => write!(line, "none after {commit}"),
         Err(AttrError::Full { .. }) => Err(AllocError),
         Err(AttrError::Memory) => Err(AllocError),
     }

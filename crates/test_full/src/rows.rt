@@ -3,8 +3,9 @@
 //! `limits PUTS COMMITS GENERATIONS = LINE`: what the commits after each of so many puts come to. Other lines are remarks.
 use crate::attributes::NoRoom;
 use crate::run::{Load, Told, run, tell};
-use std::alloc::{AllocError, Global};
+use std::alloc::AllocError;
 use std::io;
+use test_tally::Tally;
 
 fn number_at(row: &str, place: usize) -> u32 {
     match row.split(' ').skip(place).next() {
@@ -50,73 +51,69 @@ fn is_wanted(load: Load, told: Told, least: u32, most: u32) -> bool {
         && told.after.committed == load.puts
 }
 
-fn line_of(alloc: Global, told: Told) -> Result<String, AllocError> {
+fn push_room(line: &mut String, room: NoRoom) -> Result<(), AllocError> {
+    write!(line, "; {} active, {} held", room.active, room.held)?;
+    let generation = room.oldest.generation;
+    let found = room.oldest.found;
+    write!(line, ", generation {generation} found {found}")
+}
+
+fn push_told(line: &mut String, told: Told) -> Result<(), AllocError> {
     let before = told.before.committed;
+    let commit = told.commit;
+    write!(line, "{before} before the guard of commit {commit}")?;
     let under = told.under.committed;
     let after = told.after.committed;
-    let commit = told.commit;
-    let mut line = format!(in alloc;
-        "{before} before the guard of commit {commit}, {under} before its release, {after} after it"
-    )?;
-    if let Some(room) = told.under.full {
-        let active = room.active;
-        let held = room.held;
-        let generation = room.oldest.generation;
-        let found = room.oldest.found;
-        write!(
-            line,
-            "; {active} active, {held} held, generation {generation} found {found}"
-        )?;
+    write!(line, ", {under} before its release, {after} after it")?;
+    match told.under.full {
+        Some(room) => push_room(line, room),
+        None => Ok(()),
     }
-    Ok(line)
 }
 
-/// Whether a row is as wanted; it prints itself else.
-fn compare_row(rt: &HostRuntime, row: &str) -> io::Result<bool> {
-    let alloc = rt.alloc();
+/// Prints what a row came to.
+fn print(rt: &HostRuntime, row: &str, told: Told) -> io::Result<()> {
+    let mut line = String::new(rt.alloc());
+    push_told(&mut line, told)?;
+    println!(rt; "{row}: {line}")
+}
+
+fn compare_row(rt: &HostRuntime, row: &str, tally: &mut Tally) -> io::Result<()> {
     let load = load_in(row);
-    let told = run(alloc, load)?;
-    if is_wanted(load, told, number_at(row, 7), number_at(row, 8)) {
-        return Ok(true);
+    let Some(told) = run(rt.alloc(), load)? else {
+        let _ = tally.count(false);
+        return Ok(());
+    };
+    if tally.count(is_wanted(load, told, number_at(row, 7), number_at(row, 8))) {
+        return Ok(());
     }
-    let told = line_of(alloc, told)?;
-    println!(rt; "{row}: {told}")?;
-    Ok(false)
+    print(rt, row, told)
 }
 
-fn compare_limits(rt: &HostRuntime, row: &str) -> io::Result<bool> {
+fn compare_limits(rt: &HostRuntime, row: &str, tally: &mut Tally) -> io::Result<()> {
     let Some((asked, wanted)) = row.split_once(" = ") else {
-        return Ok(false);
+        let _ = tally.count(false);
+        return Ok(());
     };
-    let told = tell(
-        rt.alloc(),
-        number_at(asked, 1),
-        number_at(asked, 2),
-        number_at(asked, 3),
-    )?;
-    if told.as_str() == wanted {
-        return Ok(true);
+    let puts = number_at(asked, 1);
+    let told = tell(rt.alloc(), puts, number_at(asked, 2), number_at(asked, 3))?;
+    tally.note(rt, asked, &told, wanted)
+}
+
+fn compare_line(rt: &HostRuntime, line: &str, tally: &mut Tally) -> io::Result<()> {
+    if line.starts_with("row ") {
+        return compare_row(rt, line, tally);
     }
-    println!(rt; "{asked}: {told} in place of {wanted}")?;
-    Ok(false)
+    if line.starts_with("limits ") {
+        return compare_limits(rt, line, tally);
+    }
+    Ok(())
 }
 
 pub fn compare(rt: &HostRuntime) -> io::Result<()> {
-    let mut compared: u32 = 0;
-    let mut right: u32 = 0;
+    let mut tally = Tally::default();
     for line in rt.lines(rt.alloc()) {
-        let line = line?;
-        let wanted = if line.starts_with("row ") {
-            compare_row(rt, &line)?
-        } else if line.starts_with("limits ") {
-            compare_limits(rt, &line)?
-        } else {
-            continue;
-        };
-        compared = compared.saturating_add(1);
-        if wanted {
-            right = right.saturating_add(1);
-        }
+        compare_line(rt, line?.as_str(), &mut tally)?;
     }
-    println!(rt; "rows: {compared} compared, {right} as wanted")
+    tally.print(rt, "rows")
 }

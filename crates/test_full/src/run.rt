@@ -4,15 +4,13 @@ ghost use Rattle.attr_types.specs.declared.field.TheConstants.{MOST_FIELDS};
 ghost use Rattle.word_arena.specs.Ruled.{writer_of};
 ghost use Rattle.test_full.specs.New.{IsNewWriter};
 
-use crate::attributes::{
-    NoRoom, commit, commit_line, compact, new_attribute, one_field, put, seat_in,
-};
+use crate::attributes::{NoRoom, commit, compact, one_field, put, seat_in, tell_commit};
 use attr_images::{AttrLayout, shape_of};
 use attr_types::Fields;
 use attribute_kinds::Attribute;
 use std::alloc::{AllocError, Global};
 use store_api::Store;
-use word_arena::{Arena, Config, Limits, Reader, Writer};
+use word_arena::{Arena, Config, Guarded, Limits, Reader, Writer};
 
 /// What is put: the numbers 1, 2, 3 and so on, each to the next of so many documents.
 #[derive(Clone, Copy, Drop)]
@@ -42,6 +40,22 @@ pub struct Told {
     pub under: Came,
     pub after: Came,
     pub commit: u32,
+}
+
+/// What a new memory is asked.
+#[derive(Clone, Copy, Drop)]
+pub enum Asked {
+    /// Puts before a guard, under it and after it.
+    Guard(Load),
+    /// So many puts to one document with a commit after each.
+    Limits(u32),
+}
+
+/// What was committed around a guard; what commits under limits came to, one after another.
+#[derive(Drop)]
+pub struct Answer {
+    pub told: Option<Told>,
+    pub line: String,
 }
 
 /// One put, and a commit and a step of a compaction where it ends a batch; else why there was no room.
@@ -96,8 +110,25 @@ fn put_all<const OFFSET_BITS: u32, S: Store<OFFSET_BITS, Layout = AttrLayout>>(
     })
 }
 
-/// All puts, some of them under a guard.
+/// The puts under a guard, until there is no room; the guard is released then.
 fn put_under<'a, const OFFSET_BITS: u32, S: Store<OFFSET_BITS, Layout = AttrLayout>>(
+    alloc: Global,
+    attribute: &mut Attribute<OFFSET_BITS, S>,
+    guard: Guarded<'a, 22, AttrLayout>,
+    fields: &Fields,
+    load: Load,
+    above: u32,
+) -> Result<Came, AllocError>
+    requires same { attribute.old.fields ≡ fields.now }
+    ensures same { attribute.new.fields ≡ fields.now }
+{
+    let under = put_all(alloc, attribute, fields, load, above, load.puts)?;
+    let _reader = guard.release();
+    Ok(under)
+}
+
+/// All puts, some of them under a guard.
+fn put_guarded<'a, const OFFSET_BITS: u32, S: Store<OFFSET_BITS, Layout = AttrLayout>>(
     alloc: Global,
     attribute: &mut Attribute<OFFSET_BITS, S>,
     reader: Reader<'a, 22, AttrLayout>,
@@ -110,9 +141,8 @@ fn put_under<'a, const OFFSET_BITS: u32, S: Store<OFFSET_BITS, Layout = AttrLayo
     let Ok(guard) = reader.try_guard() else {
         return Err(AllocError);
     };
-    let under = put_all(alloc, attribute, fields, load, before.committed, load.puts)?;
     let commit = guard.commit();
-    let _reader = guard.release();
+    let under = put_under(alloc, attribute, guard, fields, load, before.committed)?;
     let after = put_all(alloc, attribute, fields, load, under.committed, load.puts)?;
     Ok(Told {
         before,
@@ -122,118 +152,162 @@ fn put_under<'a, const OFFSET_BITS: u32, S: Store<OFFSET_BITS, Layout = AttrLayo
     })
 }
 
-/// A run over a writer that has committed nothing.
-fn run_over<'a>(
-    alloc: Global,
-    writer: Writer<'a, 22, AttrLayout>,
-    fields: &Fields,
-    load: Load,
-) -> Result<Told, AllocError>
-    requires new { IsNewWriter fields.now writer.place.table_id (writer_of writer.place.me.0) }
-{
-    let mut writer = writer;
-    let reader = seat_in(&mut writer, fields)?;
-    let mut attribute = new_attribute(alloc, writer, fields)?;
-    put_under(alloc, &mut attribute, reader, fields, load)
-}
-
-/// A run over a new memory of so many buffers.
-fn run_with(alloc: Global, fields: &Fields, load: Load) -> Result<Told, AllocError>
-    requires some_fields { 0 < length fields.now }
-    requires few_fields { length fields.now ≤ MOST_FIELDS }
-    requires some_buffers { 1 ≤ load.buffers }
-    requires few_buffers { load.buffers ≤ 64 }
-{
-    let config = Config {
-        buffers: load.buffers,
-        words: 8192,
-        shape: shape_of(fields),
-        limits: Limits {
-            commits: 4_294_967_295,
-            generations: 281_474_976_710_655,
-        },
-    };
-    let (arena, token) = Arena::create(alloc, config)?;
-    let writer = arena.writer(token);
-    run_over(alloc, writer, fields, load)
-}
-
-/// A run over a new memory of 1 to 64 buffers.
-pub fn run(alloc: Global, load: Load) -> Result<Told, AllocError> {
-    let fields = one_field(alloc)?;
-    if load.buffers < 1 || load.buffers > 64 {
-        return Err(AllocError);
-    }
-    run_with(alloc, &fields, load)
-}
-
-/// So many puts to one document with a commit after each: what the commits come to, one after another.
+/// One put to one document, and what its commit comes to.
 fn put_and_tell<const OFFSET_BITS: u32, S: Store<OFFSET_BITS, Layout = AttrLayout>>(
     alloc: Global,
     attribute: &mut Attribute<OFFSET_BITS, S>,
     fields: &Fields,
+    number: u32,
+    line: &mut String,
+) -> Result<(), AllocError>
+    requires same { attribute.old.fields ≡ fields.now }
+    ensures same { attribute.new.fields ≡ fields.now }
+{
+    let _ = put(alloc, attribute, fields, 1, number)?;
+    if number > 0 {
+        line.push_str(", ")?;
+    }
+    tell_commit(attribute, fields, line)
+}
+
+/// So many puts to one document with a commit after each: what the commits come to, one after another.
+fn tell_all<const OFFSET_BITS: u32, S: Store<OFFSET_BITS, Layout = AttrLayout>>(
+    alloc: Global,
+    attribute: &mut Attribute<OFFSET_BITS, S>,
+    fields: &Fields,
     puts: u32,
-) -> Result<String, AllocError>
+    line: &mut String,
+) -> Result<(), AllocError>
     requires same { attribute.old.fields ≡ fields.now }
 {
-    let mut told = String::new(alloc);
     for i in 0..puts {
-        let _ = put(alloc, attribute, fields, 1, i)?;
-        if i > 0 {
-            told.push_str(", ")?;
-        }
-        let line = commit_line(alloc, attribute, fields)?;
-        told.push_str(&line)?;
+        put_and_tell(alloc, attribute, fields, i, line)?;
     }
-    Ok(told)
+    Ok(())
+}
+
+/// What attributes without a document are asked, with a reader beside them.
+fn answer_one<'a, const OFFSET_BITS: u32, S: Store<OFFSET_BITS, Layout = AttrLayout>>(
+    alloc: Global,
+    attribute: &mut Attribute<OFFSET_BITS, S>,
+    reader: Reader<'a, 22, AttrLayout>,
+    fields: &Fields,
+    asked: Asked,
+    answer: &mut Answer,
+) -> Result<(), AllocError>
+    requires same { attribute.old.fields ≡ fields.now }
+{
+    match asked {
+        Asked::Guard(load) => {
+            answer.told = Some(put_guarded(alloc, attribute, reader, fields, load)?);
+            Ok(())
+        }
+        Asked::Limits(puts) => tell_all(alloc, attribute, fields, puts, &mut answer.line),
+    }
 }
 
 /// The same over a writer that has committed nothing.
-fn tell_over<'a>(
+fn answer_over<'a>(
+    alloc: Global,
+    writer: Writer<'a, 22, AttrLayout>,
+    reader: Reader<'a, 22, AttrLayout>,
+    fields: &Fields,
+    asked: Asked,
+    told: &mut Answer,
+) -> Result<(), AllocError>
+    requires new { IsNewWriter fields.now writer.place.table_id (writer_of writer.place.me.0) }
+{
+    match Attribute::create(alloc, writer, fields, false) {
+        Ok(mut attribute) => answer_one(alloc, &mut attribute, reader, fields, asked, told),
+        Err(_) => Err(AllocError),
+    }
+}
+
+/// The same over a writer that has no reader yet.
+fn answer_seated<'a>(
     alloc: Global,
     writer: Writer<'a, 22, AttrLayout>,
     fields: &Fields,
-    puts: u32,
-) -> Result<String, AllocError>
+    asked: Asked,
+    told: &mut Answer,
+) -> Result<(), AllocError>
     requires new { IsNewWriter fields.now writer.place.table_id (writer_of writer.place.me.0) }
 {
-    let mut attribute = new_attribute(alloc, writer, fields)?;
-    put_and_tell(alloc, &mut attribute, fields, puts)
+    let mut writer = writer;
+    let reader = seat_in(&mut writer, fields)?;
+    answer_over(alloc, writer, reader, fields, asked, told)
 }
 
-/// The same over a new memory of eight buffers with these limits.
-fn tell_with(
+/// The same over a new memory of so many buffers with these limits.
+fn answer_with(
     alloc: Global,
     fields: &Fields,
-    puts: u32,
+    buffers: u32,
     limits: Limits,
-) -> Result<String, AllocError>
+    asked: Asked,
+    told: &mut Answer,
+) -> Result<(), AllocError>
     requires some_fields { 0 < length fields.now }
     requires few_fields { length fields.now ≤ MOST_FIELDS }
+    requires some_buffers { 1 ≤ buffers }
+    requires few_buffers { buffers ≤ 64 }
     requires generations { limits.generations < 2 ^ 48 }
 {
     let config = Config {
-        buffers: 8,
+        buffers,
         words: 8192,
         shape: shape_of(fields),
         limits,
     };
     let (arena, token) = Arena::create(alloc, config)?;
     let writer = arena.writer(token);
-    tell_over(alloc, writer, fields, puts)
+    answer_seated(alloc, writer, fields, asked, told)
 }
 
-/// So many puts under limits of commits and of generations.
+/// The same of one attribute of longs.
+fn answer_of(
+    alloc: Global,
+    buffers: u32,
+    limits: Limits,
+    asked: Asked,
+) -> Result<Answer, AllocError>
+    requires some_buffers { 1 ≤ buffers }
+    requires few_buffers { buffers ≤ 64 }
+    requires generations { limits.generations < 2 ^ 48 }
+{
+    let mut told = Answer {
+        told: None,
+        line: String::new(alloc),
+    };
+    let fields = one_field(alloc)?;
+    answer_with(alloc, &fields, buffers, limits, asked, &mut told)?;
+    Ok(told)
+}
+
+/// A run over a new memory of 1 to 64 buffers.
+pub fn run(alloc: Global, load: Load) -> Result<Option<Told>, AllocError> {
+    if load.buffers < 1 || load.buffers > 64 {
+        return Err(AllocError);
+    }
+    let limits = Limits {
+        commits: 4_294_967_295,
+        generations: 281_474_976_710_655,
+    };
+    let answer = answer_of(alloc, load.buffers, limits, Asked::Guard(load))?;
+    Ok(answer.told)
+}
+
+/// So many puts in eight buffers under limits of commits and of generations.
 pub fn tell(
     alloc: Global,
     puts: u32,
     commits: u32,
     generations: u32,
 ) -> Result<String, AllocError> {
-    let fields = one_field(alloc)?;
     let limits = Limits {
         commits,
         generations: u64::from(generations),
     };
-    tell_with(alloc, &fields, puts, limits)
+    let answer = answer_of(alloc, 8, limits, Asked::Limits(puts))?;
+    Ok(answer.line)
 }
