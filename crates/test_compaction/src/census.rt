@@ -1,5 +1,5 @@
 //! Which records attributes reach in which buffer, by what they are.
-use attr_types::{Field, Kind};
+use attr_types::{Field, Kind, ValueType};
 use check_trees::{CheckFault, Keys, check_tree};
 use image_base::{word_in, words_at};
 use std::alloc::{AllocError, Global};
@@ -155,6 +155,37 @@ fn add_list(
     }
 }
 
+/// The documents of an attribute.
+fn add_documents(
+    alloc: Global,
+    census: &mut Census,
+    kind: Kind,
+    records: &BTreeMap<u32, Vec<u64>>,
+    root: u64,
+) -> Result<(), CheckFault> {
+    let column = check_tree(alloc, Keys::Numbers, records, root)?;
+    for pair in column.as_slice() {
+        add_document(census, kind, records, pair.1)?;
+    }
+    Ok(())
+}
+
+/// The values of an attribute's dictionary, and their lists.
+fn add_values(
+    alloc: Global,
+    census: &mut Census,
+    value: ValueType,
+    records: &BTreeMap<u32, Vec<u64>>,
+    root: u64,
+) -> Result<(), CheckFault> {
+    let values = check_tree(alloc, Keys::Values(value), records, root)?;
+    for pair in values.as_slice() {
+        census.note(KEYS, pair.0)?;
+        add_list(census, records, pair.1)?;
+    }
+    Ok(())
+}
+
 fn add_field(
     alloc: Global,
     census: &mut Census,
@@ -163,15 +194,8 @@ fn add_field(
     documents: u64,
     dictionary: u64,
 ) -> Result<(), CheckFault> {
-    let column = check_tree(alloc, Keys::Numbers, records, documents)?;
-    for pair in column.as_slice() {
-        add_document(census, field.kind, records, pair.1)?;
-    }
-    let values = check_tree(alloc, Keys::Values(field.value), records, dictionary)?;
-    for pair in values.as_slice() {
-        census.note(KEYS, pair.0)?;
-        add_list(census, records, pair.1)?;
-    }
+    add_documents(alloc, census, field.kind, records, documents)?;
+    add_values(alloc, census, field.value, records, dictionary)?;
     add_tree(census, NODES, records, documents)?;
     add_tree(census, NODES, records, dictionary)?;
     Ok(())

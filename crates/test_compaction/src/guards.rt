@@ -1,15 +1,12 @@
 //! Compactions while readers keep guards: each of them reads its commit's image, word for word, before the compactions and behind them.
-ghost use Rattle.std.specs.Prelude.{◌≡◌, ◌<◌, ◌≤◌, ◌^◌, length, slice_get, Some};
+ghost use Rattle.std.specs.Prelude.{◌≡◌, ◌≤◌, length};
 ghost use Rattle.attr_types.specs.declared.field.TheConstants.{MOST_FIELDS};
 
-use crate::ended::Ended;
-use crate::run::{Load, Told, load_all};
-use crate::seats::{Seat, hear};
-use crate::sights::Sight;
+use crate::course::Course;
+use crate::seats::Readers;
 use crate::steps::{commit_now, take_steps};
-use attr_images::{AttrLayout, shape_of};
-use attr_plain::PlainTable;
-use attr_types::{Field, Fields};
+use attr_images::AttrLayout;
+use attr_types::Fields;
 use attribute_kinds::Attribute;
 use std::alloc::{AllocError, Global};
 use store_api::Store;
@@ -18,18 +15,14 @@ use store_api::Store;
 fn compact_one<const OFFSET_BITS: u32, S: Store<OFFSET_BITS, Layout = AttrLayout>>(
     alloc: Global,
     attribute: &mut Attribute<OFFSET_BITS, S>,
-    plain: &mut PlainTable,
     fields: &Fields,
-    load: Load,
-    told: &mut Told,
-    ended: &mut Vec<Ended>,
+    course: &mut Course,
 ) -> Result<(), AllocError>
     requires same { attribute.old.fields ≡ fields.now }
     ensures same { attribute.new.fields ≡ fields.now }
 {
-    let finishes = told.finished.saturating_add(1);
-    let one = Load { finishes, ..load };
-    take_steps(alloc, attribute, plain, fields, one, told, ended)
+    let finishes = course.told.finished.saturating_add(1);
+    take_steps(alloc, attribute, fields, course, finishes)
 }
 
 /// Guards by so many readers, one behind another with a compaction behind each. What each reads of its image is kept as it takes its
@@ -37,125 +30,67 @@ fn compact_one<const OFFSET_BITS: u32, S: Store<OFFSET_BITS, Layout = AttrLayout
 fn under_guards<'a, const OFFSET_BITS: u32, S: Store<OFFSET_BITS, Layout = AttrLayout>>(
     alloc: Global,
     attribute: &mut Attribute<OFFSET_BITS, S>,
-    plain: &mut PlainTable,
     fields: &Fields,
-    field: &Field,
-    load: Load,
-    told: &mut Told,
-    ended: &mut Vec<Ended>,
-    seats: &mut Vec<Seat<'a, OFFSET_BITS>>,
-    sights: &mut Vec<Sight>,
+    course: &mut Course,
+    readers: &mut Readers<'a, OFFSET_BITS>,
     left: u32,
 ) -> Result<(), AllocError>
     requires few { length fields.now ≤ MOST_FIELDS }
-    requires first { slice_get fields.now 0 ≡ Some field.now }
     requires same { attribute.old.fields ≡ fields.now }
     ensures same { attribute.new.fields ≡ fields.now }
 {
     if left == 0 {
         return Ok(());
     }
-    let Some(seat) = seats.pop() else {
+    let Some(guard) = readers.next_guard(fields) else {
+        course.told.differs = true;
         return Ok(());
     };
-    let Seat { reader, shape } = seat;
-    if shape != shape_of(fields) {
-        told.differs = true;
-        return Ok(());
-    }
-    let Ok(guard) = reader.try_guard() else {
-        told.differs = true;
-        return Ok(());
-    };
-    let commit = guard.commit();
-    let (guard, before, sound) = hear(alloc, guard, fields, field)?;
-    compact_one(alloc, attribute, plain, fields, load, told, ended)?;
-    under_guards(
-        alloc,
-        attribute,
-        plain,
-        fields,
-        field,
-        load,
-        told,
-        ended,
-        seats,
-        sights,
-        left - 1,
-    )?;
-    let (guard, behind, still) = hear(alloc, guard, fields, field)?;
+    let guard = readers.hear(alloc, guard, fields)?;
+    compact_one(alloc, attribute, fields, course)?;
+    under_guards(alloc, attribute, fields, course, readers, left - 1)?;
+    let guard = readers.hear(alloc, guard, fields)?;
     let _ = guard.release();
-    if !sound || !still {
-        told.differs = true;
-    }
-    sights.push(Sight {
-        commit,
-        before,
-        behind,
-    })?;
     Ok(())
 }
 
-/// Compactions under guards, then three commits behind the guards, and the compactions that are left.
-fn keep_guards<'a, const OFFSET_BITS: u32, S: Store<OFFSET_BITS, Layout = AttrLayout>>(
-    alloc: Global,
+/// Three commits; whether it goes on.
+fn commit_thrice<const OFFSET_BITS: u32, S: Store<OFFSET_BITS, Layout = AttrLayout>>(
     attribute: &mut Attribute<OFFSET_BITS, S>,
-    plain: &mut PlainTable,
     fields: &Fields,
-    load: Load,
-    told: &mut Told,
-    ended: &mut Vec<Ended>,
-    seats: Vec<Seat<'a, OFFSET_BITS>>,
-) -> Result<Vec<Sight>, AllocError>
-    requires few { length fields.now ≤ MOST_FIELDS }
+    course: &mut Course,
+) -> Result<bool, AllocError>
     requires same { attribute.old.fields ≡ fields.now }
     ensures same { attribute.new.fields ≡ fields.now }
 {
-    let mut sights = Vec::new(alloc);
-    let mut seats = seats;
-    let Some(field) = fields.as_slice().first() else {
-        return Ok(sights);
-    };
-    under_guards(
-        alloc,
-        attribute,
-        plain,
-        fields,
-        field,
-        load,
-        told,
-        ended,
-        &mut seats,
-        &mut sights,
-        load.guards,
-    )?;
-    told.released = told.commits.saturating_add(1);
     for _ in 0..3u32 {
-        if !commit_now(attribute, fields, told)? {
-            return Ok(sights);
+        if !commit_now(attribute, fields, course)? {
+            return Ok(false);
         }
     }
-    take_steps(alloc, attribute, plain, fields, load, told, ended)?;
-    Ok(sights)
+    Ok(true)
 }
 
-/// The operations of a row, and what comes behind them.
-pub fn load_guarded<'a, const OFFSET_BITS: u32, S: Store<OFFSET_BITS, Layout = AttrLayout>>(
+/// Compactions under guards, where a row has some, and then three commits behind the guards. Whether it goes on.
+pub fn keep_guards<'a, const OFFSET_BITS: u32, S: Store<OFFSET_BITS, Layout = AttrLayout>>(
     alloc: Global,
     attribute: &mut Attribute<OFFSET_BITS, S>,
-    plain: &mut PlainTable,
     fields: &Fields,
-    load: Load,
-    told: &mut Told,
-    ended: &mut Vec<Ended>,
-    seats: Vec<Seat<'a, OFFSET_BITS>>,
-) -> Result<Vec<Sight>, AllocError>
+    course: &mut Course,
+    readers: &mut Readers<'a, OFFSET_BITS>,
+) -> Result<bool, AllocError>
     requires few { length fields.now ≤ MOST_FIELDS }
     requires same { attribute.old.fields ≡ fields.now }
     ensures same { attribute.new.fields ≡ fields.now }
 {
-    if !load_all(alloc, attribute, plain, fields, load, told)? {
-        return Ok(Vec::new(alloc));
+    if course.load.guards == 0 {
+        return Ok(true);
     }
-    keep_guards(alloc, attribute, plain, fields, load, told, ended, seats)
+    let guards = course.load.guards;
+    under_guards(alloc, attribute, fields, course, readers, guards)?;
+    if !readers.are_sound() {
+        course.told.differs = true;
+    }
+    course.told.released = course.told.commits.saturating_add(1);
+    commit_thrice(attribute, fields, course)
 }

@@ -3,13 +3,14 @@
 
 mod asking;
 mod census;
+mod course;
 mod ended;
 mod guards;
 mod heard;
 mod memory;
+mod outcome;
 mod rows;
 mod run;
-mod running;
 mod script;
 mod seats;
 mod sights;

@@ -1,12 +1,14 @@
 //! Rows of standard input: `run FIELDS BUFFERS PUTS VALUES LAST KEEP COMMITS KEYS FINISHES CHECKS EACH REMOVES PARTS WAITS`
 //! with GUARDS behind it where readers are to keep guards, and then `said LINE`, how much it must have done, and `met WORDS`, what it must
 //! have met; `tell` tells all of it. FIELDS are `KIND:TYPE`, with commas between them. Other lines are remarks.
-use crate::run::{Load, Outcome, run};
-use crate::running::run_guarded;
+use crate::course::Load;
+use crate::memory::run;
+use crate::outcome::Outcome;
 use crate::script::Script;
 use attr_types::{Field, Fields, Kind, MOST_FIELDS, Name, ValueType};
 use std::alloc::{AllocError, Global};
 use std::io;
+use test_tally::Tally;
 
 fn number_at(row: &str, place: usize) -> u32 {
     match row.split(' ').skip(place).next() {
@@ -51,16 +53,26 @@ fn type_in(word: &str) -> ValueType {
     }
 }
 
+fn field_in(alloc: Global, word: &str) -> Result<Field, AllocError> {
+    let name = Name::from_str(alloc, word)?;
+    Ok(Field {
+        name,
+        kind: kind_in(word),
+        value: type_in(word),
+    })
+}
+
+fn first_word(row: &str) -> &str {
+    match row.split(' ').next() {
+        Some(word) => word,
+        None => row,
+    }
+}
+
 fn fields_in(alloc: Global, row: &str) -> Result<Fields, AllocError> {
     let mut fields = Fields::new(alloc);
-    if let Some(words) = row.split(' ').next() {
-        for word in words.split(',') {
-            fields.push(Field {
-                name: Name::from_str(alloc, word)?,
-                kind: kind_in(word),
-                value: type_in(word),
-            })?;
-        }
+    for word in first_word(row).split(',') {
+        fields.push(field_in(alloc, word)?)?;
     }
     Ok(fields)
 }
@@ -144,25 +156,20 @@ fn described(alloc: Global, outcome: Option<Outcome>) -> Result<String, AllocErr
     };
     let counts = counts_of(alloc, outcome)?;
     let (told, copied) = (outcome.told, outcome.copied);
-    format!(in alloc;
-        "{counts}; operations {} commits {} steps {} refused {} stopped {} short {} cut {} resumed {} idle {} full {}; copied {:?}; widths {} {} {} {}; guards {} back {}",
-        told.operations,
-        told.commits,
-        told.steps,
+    let done = [told.operations, told.commits, told.steps];
+    let broken = [
         told.refused,
         told.stopped,
         told.short,
         told.cut,
         told.resumed,
-        told.idle,
-        told.full,
-        copied.counts,
-        copied.twos,
-        copied.fours,
-        copied.sixteens,
-        copied.nodes,
-        outcome.kept,
-        outcome.back
+    ];
+    let (idle, full) = (told.idle, told.full);
+    let moved = copied.counts;
+    let widths = [copied.twos, copied.fours, copied.sixteens, copied.nodes];
+    let guards = [outcome.kept, outcome.back];
+    format!(in alloc;
+        "{counts}; operations, commits, steps {done:?}; refused, stopped, short, cut, resumed {broken:?}; idle {idle} full {full}; copied {moved:?}; widths {widths:?}; guards, back {guards:?}"
     )
 }
 
@@ -175,36 +182,61 @@ fn outcome_of(alloc: Global, row: &str) -> Result<Option<Outcome>, AllocError> {
     if fields.len() > MOST_FIELDS {
         return Ok(None);
     }
-    let load = load_in(row);
-    if load.guards > 0 {
-        return Ok(Some(run_guarded(alloc, &fields, load)?));
-    }
-    Ok(Some(run(alloc, &fields, load)?))
+    Ok(Some(run(alloc, &fields, load_in(row))?))
 }
 
-pub fn compare(rt: &HostRuntime) -> io::Result<()> {
-    let alloc = rt.alloc();
-    let mut case = String::new(alloc);
-    let mut last: Option<Outcome> = None;
-    let mut compared = 0u32;
-    let mut right = 0u32;
-    for line in rt.lines(alloc) {
-        let line = line?;
+/// The last row, what it came to, and how many lines were compared.
+#[derive(Drop)]
+struct Rows {
+    case: String,
+    last: Option<Outcome>,
+    tally: Tally,
+}
+
+impl Rows {
+    fn begin(&mut self, alloc: Global, row: &str) -> Result<(), AllocError> {
+        self.last = outcome_of(alloc, row)?;
+        self.case = String::from_str(alloc, row)?;
+        Ok(())
+    }
+
+    fn tell(&self, rt: &HostRuntime) -> io::Result<()> {
+        let found = described(rt.alloc(), self.last)?;
+        println!(rt; "{}: {found}", self.case)
+    }
+
+    fn judge(&mut self, rt: &HostRuntime, is_right: bool, line: &str) -> io::Result<()> {
+        if self.tally.count(is_right) {
+            return Ok(());
+        }
+        let found = described(rt.alloc(), self.last)?;
+        println!(rt; "{}: {found} in place of {line}", self.case)
+    }
+
+    fn take(&mut self, rt: &HostRuntime, line: &str) -> io::Result<()> {
+        let alloc = rt.alloc();
         if let Some(row) = line.strip_prefix("run ") {
-            last = outcome_of(alloc, row)?;
-            case = String::from_str(alloc, row)?;
-        } else if line.as_str() == "tell" {
-            let found = described(alloc, last)?;
-            println!(rt; "{case}: {found}")?;
-        } else if let Some(wanted) = is_as_wanted(alloc, last, line.as_str())? {
-            compared = compared.saturating_add(1);
-            if wanted {
-                right = right.saturating_add(1);
-            } else {
-                let found = described(alloc, last)?;
-                println!(rt; "{case}: {found} in place of {line}")?;
-            }
+            return Ok(self.begin(alloc, row)?);
+        }
+        if line == "tell" {
+            return self.tell(rt);
+        }
+        match is_as_wanted(alloc, self.last, line)? {
+            Some(is_right) => self.judge(rt, is_right, line),
+            None => Ok(()),
         }
     }
-    println!(rt; "rows: {compared} compared, {right} as wanted")
+}
+
+/// Compares the rows of standard input, one behind another.
+pub fn compare(rt: &HostRuntime) -> io::Result<()> {
+    let mut rows = Rows {
+        case: String::new(rt.alloc()),
+        last: None,
+        tally: Tally::default(),
+    };
+    for line in rt.lines(rt.alloc()) {
+        rows.take(rt, line?.as_str())?;
+    }
+    rows.tally.print(rt, "rows")
 }

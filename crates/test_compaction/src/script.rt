@@ -1,7 +1,7 @@
 //! The operations of a row, by their number.
 use crate::values::document_at;
 use attr_plain::PlainTable;
-use attr_types::{Doc, Field, Op};
+use attr_types::{Doc, Field, Op, fits};
 use std::alloc::{AllocError, Global};
 
 /// Puts to the documents 1 to `puts`; removes of those from 1 to `last` that `keep` does not divide, all where it is 0; and then removes of
@@ -74,4 +74,19 @@ pub fn op_at(
         Some(doc) => Ok(Op::Remove { doc }),
         None => Ok(Op::Remove { doc: doc_of(1) }),
     }
+}
+
+/// The operation of this number on the plain table that has those before it; whether it fits.
+pub fn follow_one(
+    alloc: Global,
+    script: Script,
+    number: u32,
+    plain: &mut PlainTable,
+) -> Result<bool, AllocError> {
+    let op = op_at(alloc, plain.fields().as_slice(), script, number, plain)?;
+    if !fits(plain.fields(), &op) {
+        return Ok(false);
+    }
+    let _ = plain.apply(alloc, op)?;
+    Ok(true)
 }

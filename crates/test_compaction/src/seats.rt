@@ -1,5 +1,5 @@
-//! A running memory, its readers before anything is stored, and what they read under their guards.
-ghost use Rattle.std.specs.Prelude.{◌≡◌, ◌≤◌, length, slice_get, Some, IfOk};
+//! Readers of a running memory before anything is stored, and what they read under their guards.
+ghost use Rattle.std.specs.Prelude.{◌≡◌, ◌≤◌, length, IfOk, IfSome};
 ghost use Rattle.arena_api.specs.Calls.{IsFresh};
 ghost use Rattle.attr_images.specs.Images.{IsLawfulImage};
 ghost use Rattle.attr_images.specs.Shapes.{shape_of, types_of};
@@ -10,17 +10,17 @@ ghost use Rattle.word_arena.specs.Ruled.{seen_image, reader_of, writer_of};
 
 use crate::asking::ask_all;
 use crate::heard::Heard;
-use crate::words::Words;
-use attr_images::AttrLayout;
-use attr_types::{Field, Fields};
+use crate::sights::Sight;
+use attr_images::{AttrLayout, shape_of};
+use attr_types::Fields;
 use std::alloc::{AllocError, Global};
 use word_arena::{Guarded, Reader, Writer};
 
 /// A reader of images of this shape.
 #[derive(Drop)]
-pub struct Seat<'a, const OFFSET_BITS: u32> {
-    pub reader: Reader<'a, OFFSET_BITS, AttrLayout>,
-    pub shape: u32,
+struct Seat<'a, const OFFSET_BITS: u32> {
+    reader: Reader<'a, OFFSET_BITS, AttrLayout>,
+    shape: u32,
     ghost fits: { (reader_of reader.place.me.0).sizes.shape ≡ shape },
 }
 
@@ -40,42 +40,92 @@ fn seat_in<'a, const OFFSET_BITS: u32>(
     }
 }
 
-/// So many readers.
-pub fn seats_in<'a, const OFFSET_BITS: u32>(
-    alloc: Global,
-    writer: &mut Writer<'a, OFFSET_BITS, AttrLayout>,
-    count: u32,
-    shape: u32,
-) -> Result<Vec<Seat<'a, OFFSET_BITS>>, AllocError>
-    requires shape { (writer_of writer.old.place.me.0).sizes.shape ≡ shape }
-    requires fresh { IsFresh (view_of writer.old.place.table_id (writer_of writer.old.place.me.0)) }
-    ensures shape { (writer_of writer.new.place.me.0).sizes.shape ≡ shape }
-    ensures fresh { IsFresh (view_of writer.new.place.table_id (writer_of writer.new.place.me.0)) }
-{
-    let mut seats = Vec::new(alloc);
-    for _ in 0..count {
-        seats.push(seat_in(writer, shape)?)?;
-    }
-    Ok(seats)
+/// Readers that had no guard so far, and what was read under the guards of others.
+#[derive(Drop)]
+pub struct Readers<'a, const OFFSET_BITS: u32> {
+    seats: Vec<Seat<'a, OFFSET_BITS>>,
+    sights: Vec<Sight>,
+    /// All that was read was in itself as it should be.
+    are_sound: bool,
 }
 
-/// A guard, what its reader reads of the whole image, and whether it is in itself as it should be.
-pub fn hear<'a, const OFFSET_BITS: u32>(
-    alloc: Global,
-    guard: Guarded<'a, OFFSET_BITS, AttrLayout>,
-    fields: &Fields,
-    field: &Field,
-) -> Result<(Guarded<'a, OFFSET_BITS, AttrLayout>, Words, bool), AllocError>
-    requires few { length fields.now ≤ MOST_FIELDS }
-    requires first { slice_get fields.now 0 ≡ Some field.now }
-    requires shape { (reader_of guard.place.me.0).sizes.shape ≡ shape_of (types_of fields.now) }
-    requires image { IsLawfulImage (reader_of guard.place.me.0).sizes.shape (words_at (seen_image (reader_of guard.place.me.0)))
-        (seen_image (reader_of guard.place.me.0)).root }
-    ensures same { IfOk result (λ r. r.0 ≡ guard.entry) }
-{
-    let root = guard.root();
-    let mut heard = Heard::new(alloc, guard);
-    let sound = ask_all(alloc, &mut heard, root, fields, field)?;
-    let (guard, words) = heard.into_parts();
-    Ok((guard, words, sound))
+impl<'a, const OFFSET_BITS: u32> Readers<'a, OFFSET_BITS> {
+    /// There are none so far.
+    pub fn new(alloc: Global) -> Self {
+        Readers {
+            seats: Vec::new(alloc),
+            sights: Vec::new(alloc),
+            are_sound: true,
+        }
+    }
+
+    /// So many readers of a writer that has committed nothing.
+    pub fn add(
+        &mut self,
+        writer: &mut Writer<'a, OFFSET_BITS, AttrLayout>,
+        count: u32,
+        shape: u32,
+    ) -> Result<(), AllocError>
+        requires shape { (writer_of writer.old.place.me.0).sizes.shape ≡ shape }
+        requires fresh { IsFresh (view_of writer.old.place.table_id (writer_of writer.old.place.me.0)) }
+        ensures shape { (writer_of writer.new.place.me.0).sizes.shape ≡ shape }
+        ensures fresh { IsFresh (view_of writer.new.place.table_id (writer_of writer.new.place.me.0)) }
+    {
+        for _ in 0..count {
+            self.seats.push(seat_in(writer, shape)?)?;
+        }
+        Ok(())
+    }
+
+    /// A guard by the next reader, if it comes to one.
+    pub fn next_guard(&mut self, fields: &Fields) -> Option<Guarded<'a, OFFSET_BITS, AttrLayout>>
+        requires few { length fields.now ≤ MOST_FIELDS }
+        ensures shape { IfSome result (λ g. (reader_of g.place.me.0).sizes.shape ≡ shape_of (types_of fields.now)) }
+        ensures image { IfSome result (λ g. IsLawfulImage (reader_of g.place.me.0).sizes.shape
+            (words_at (seen_image (reader_of g.place.me.0))) (seen_image (reader_of g.place.me.0)).root) }
+    {
+        let Some(Seat { reader, shape }) = self.seats.pop() else {
+            return None;
+        };
+        if shape != shape_of(fields) {
+            return None;
+        }
+        match reader.try_guard() {
+            Ok(guard) => Some(guard),
+            Err(_) => None,
+        }
+    }
+
+    /// A guard again: what its reader reads of the whole image is kept.
+    pub fn hear(
+        &mut self,
+        alloc: Global,
+        guard: Guarded<'a, OFFSET_BITS, AttrLayout>,
+        fields: &Fields,
+    ) -> Result<Guarded<'a, OFFSET_BITS, AttrLayout>, AllocError>
+        requires few { length fields.now ≤ MOST_FIELDS }
+        requires shape { (reader_of guard.place.me.0).sizes.shape ≡ shape_of (types_of fields.now) }
+        requires image { IsLawfulImage (reader_of guard.place.me.0).sizes.shape (words_at (seen_image (reader_of guard.place.me.0)))
+            (seen_image (reader_of guard.place.me.0)).root }
+        ensures same { IfOk result (λ g. g ≡ guard.entry) }
+    {
+        let (root, commit) = (guard.root(), guard.commit());
+        let mut heard = Heard::new(alloc, guard);
+        if !ask_all(alloc, &mut heard, root, fields)? {
+            self.are_sound = false;
+        }
+        let (guard, words) = heard.into_parts();
+        self.sights.push(Sight { commit, words })?;
+        Ok(guard)
+    }
+
+    /// Whether all that was read was in itself as it should be.
+    pub fn are_sound(&self) -> bool {
+        self.are_sound
+    }
+
+    /// What was read under guards.
+    pub fn sights(&self) -> &[Sight] {
+        self.sights.as_slice()
+    }
 }

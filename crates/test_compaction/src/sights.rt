@@ -4,12 +4,11 @@ use crate::words::Words;
 use image_base::{word_in, words_at};
 use std::collections::BTreeMap;
 
-/// What a reader read under its guard of a commit, before compactions and behind them.
+/// What a reader read under its guard of a commit, before compactions or behind them.
 #[derive(Drop)]
 pub struct Sight {
     pub commit: u32,
-    pub before: Words,
-    pub behind: Words,
+    pub words: Words,
 }
 
 /// Whether a record was read as it was stored, but for words that are 0.
@@ -47,12 +46,12 @@ fn is_sight(seen: &[Seen], sight: &Sight) -> bool {
         return false;
     };
     match &commit.image {
-        Some(image) => is_image(image, &sight.before) && is_image(image, &sight.behind),
+        Some(image) => is_image(image, &sight.words),
         None => false,
     }
 }
 
-/// How many readers read, before and behind, what was stored for their commit.
+/// How many readers read what was stored for their commit, by two readings each: before compactions and behind them.
 pub fn same_sights(watch: &Watch, sights: &[Sight]) -> u32 {
     let Some(seen) = watch.seen() else {
         return 0;
@@ -63,7 +62,7 @@ pub fn same_sights(watch: &Watch, sights: &[Sight]) -> u32 {
             same = same.saturating_add(1);
         }
     }
-    same
+    same / 2
 }
 
 /// How many buffers were free as a commit was made.

@@ -1,12 +1,10 @@
-//! Steps of compactions, with what comes between them.
+//! The operations before the first compaction, and steps of compactions, with what comes between them.
 ghost use Rattle.std.specs.Prelude.{◌≡◌};
 
-use crate::ended::Ended;
-use crate::run::{Load, Told};
+use crate::course::{Course, Next};
 use crate::script::{lowest, op_at};
-use crate::turn::{Answer, Stepped, apply_both, commit_one, step_one};
+use crate::turn::{Answer, Stepped, apply_one, commit_one, step_one};
 use attr_images::AttrLayout;
-use attr_plain::PlainTable;
 use attr_types::Fields;
 use attribute_kinds::Attribute;
 use std::alloc::{AllocError, Global};
@@ -16,82 +14,104 @@ use store_api::Store;
 pub fn commit_now<const OFFSET_BITS: u32, S: Store<OFFSET_BITS, Layout = AttrLayout>>(
     attribute: &mut Attribute<OFFSET_BITS, S>,
     fields: &Fields,
-    told: &mut Told,
+    course: &mut Course,
 ) -> Result<bool, AllocError>
     requires same { attribute.old.fields ≡ fields.now }
     ensures same { attribute.new.fields ≡ fields.now }
 {
-    match commit_one(attribute, fields)? {
-        Answer::Done => {
-            told.commits = told.commits.saturating_add(1);
-            Ok(true)
-        }
-        Answer::Full => {
-            told.full = true;
-            Ok(false)
-        }
-        Answer::Odd => {
-            told.differs = true;
-            Ok(false)
-        }
-    }
+    let answer = commit_one(attribute, fields)?;
+    Ok(course.note_commit(answer))
 }
 
-/// The next operation of the row; whether it goes on.
-pub fn turn_now<const OFFSET_BITS: u32, S: Store<OFFSET_BITS, Layout = AttrLayout>>(
+/// The next operation of the row on the attributes.
+fn apply_next<const OFFSET_BITS: u32, S: Store<OFFSET_BITS, Layout = AttrLayout>>(
     alloc: Global,
     attribute: &mut Attribute<OFFSET_BITS, S>,
-    plain: &mut PlainTable,
     fields: &Fields,
-    load: Load,
-    told: &mut Told,
-) -> Result<bool, AllocError>
+    course: &Course,
+) -> Result<Answer, AllocError>
     requires same { attribute.old.fields ≡ fields.now }
     ensures same { attribute.new.fields ≡ fields.now }
 {
+    let number = course.told.operations;
     let op = op_at(
         alloc,
         fields.as_slice(),
-        load.script,
-        told.operations,
-        plain,
+        course.load.script,
+        number,
+        &course.plain,
     )?;
-    match apply_both(alloc, attribute, plain, fields, op)? {
-        Answer::Done => {
-            told.operations = told.operations.saturating_add(1);
-            Ok(true)
-        }
-        Answer::Full => {
-            told.full = true;
-            Ok(false)
-        }
-        Answer::Odd => {
-            told.differs = true;
-            Ok(false)
+    apply_one(alloc, attribute, fields, &op)
+}
+
+/// The next operation of the row; whether it goes on.
+fn turn_now<const OFFSET_BITS: u32, S: Store<OFFSET_BITS, Layout = AttrLayout>>(
+    alloc: Global,
+    attribute: &mut Attribute<OFFSET_BITS, S>,
+    fields: &Fields,
+    course: &mut Course,
+) -> Result<bool, AllocError>
+    requires same { attribute.old.fields ≡ fields.now }
+    ensures same { attribute.new.fields ≡ fields.now }
+{
+    let answer = apply_next(alloc, attribute, fields, course)?;
+    course.note_turn(alloc, answer)
+}
+
+/// An operation before the first compaction, and a commit where it is due; whether it goes on.
+fn load_one<const OFFSET_BITS: u32, S: Store<OFFSET_BITS, Layout = AttrLayout>>(
+    alloc: Global,
+    attribute: &mut Attribute<OFFSET_BITS, S>,
+    fields: &Fields,
+    course: &mut Course,
+    number: u32,
+) -> Result<bool, AllocError>
+    requires same { attribute.old.fields ≡ fields.now }
+    ensures same { attribute.new.fields ≡ fields.now }
+{
+    let goes_on = turn_now(alloc, attribute, fields, course)?;
+    if goes_on && course.is_due(number) {
+        return commit_now(attribute, fields, course);
+    }
+    Ok(goes_on)
+}
+
+/// The operations before the first compaction, with a commit after each so many and at the end; whether it goes on.
+pub fn load_all<const OFFSET_BITS: u32, S: Store<OFFSET_BITS, Layout = AttrLayout>>(
+    alloc: Global,
+    attribute: &mut Attribute<OFFSET_BITS, S>,
+    fields: &Fields,
+    course: &mut Course,
+) -> Result<bool, AllocError>
+    requires same { attribute.old.fields ≡ fields.now }
+    ensures same { attribute.new.fields ≡ fields.now }
+{
+    for number in 0..course.load.script.load() {
+        if !load_one(alloc, attribute, fields, course, number)? {
+            return Ok(false);
         }
     }
+    Ok(true)
 }
 
 /// The lowest document goes, with a commit behind it; whether it goes on.
 fn remove_lowest<const OFFSET_BITS: u32, S: Store<OFFSET_BITS, Layout = AttrLayout>>(
     alloc: Global,
     attribute: &mut Attribute<OFFSET_BITS, S>,
-    plain: &mut PlainTable,
     fields: &Fields,
-    load: Load,
-    told: &mut Told,
+    course: &mut Course,
 ) -> Result<bool, AllocError>
     requires same { attribute.old.fields ≡ fields.now }
     ensures same { attribute.new.fields ≡ fields.now }
 {
-    if lowest(plain).is_none() {
+    if lowest(&course.plain).is_none() {
         return Ok(false);
     }
-    told.quiet = false;
-    if !turn_now(alloc, attribute, plain, fields, load, told)? {
+    course.told.quiet = false;
+    if !turn_now(alloc, attribute, fields, course)? {
         return Ok(false);
     }
-    commit_now(attribute, fields, told)
+    commit_now(attribute, fields, course)
 }
 
 /// A compaction came to its end: until its buffer goes with a commit none is begun.
@@ -99,189 +119,64 @@ fn end_one<const OFFSET_BITS: u32, S: Store<OFFSET_BITS, Layout = AttrLayout>>(
     alloc: Global,
     attribute: &mut Attribute<OFFSET_BITS, S>,
     fields: &Fields,
-    told: &mut Told,
-    ended: &mut Vec<Ended>,
+    course: &mut Course,
     buffer: u32,
 ) -> Result<bool, AllocError>
     requires same { attribute.old.fields ≡ fields.now }
     ensures same { attribute.new.fields ≡ fields.now }
 {
-    told.finished = told.finished.saturating_add(1);
-    let (begun, quiet) = (told.begun, told.quiet);
     if !matches!(step_one(alloc, attribute, fields, 1), Stepped::Idle) {
-        told.differs = true;
+        course.told.differs = true;
         return Ok(false);
     }
-    if !commit_now(attribute, fields, told)? {
+    if !commit_now(attribute, fields, course)? {
         return Ok(false);
     }
-    ended.push(Ended {
-        buffer,
-        begun,
-        closed: told.commits as usize,
-        quiet,
-    })?;
-    told.begun = told.commits as usize;
-    told.quiet = true;
-    told.is_first = true;
+    course.end_one(buffer)?;
     Ok(true)
-}
-
-/// What comes behind a step that went through; whether it goes on.
-fn after_step<const OFFSET_BITS: u32, S: Store<OFFSET_BITS, Layout = AttrLayout>>(
-    alloc: Global,
-    attribute: &mut Attribute<OFFSET_BITS, S>,
-    plain: &mut PlainTable,
-    fields: &Fields,
-    load: Load,
-    told: &mut Told,
-) -> Result<bool, AllocError>
-    requires same { attribute.old.fields ≡ fields.now }
-    ensures same { attribute.new.fields ≡ fields.now }
-{
-    let was_first = told.is_first;
-    told.is_first = false;
-    if load.removes || (was_first && load.parts > 0) {
-        return remove_lowest(alloc, attribute, plain, fields, load, told);
-    }
-    if load.each {
-        return commit_now(attribute, fields, told);
-    }
-    Ok(true)
-}
-
-/// Behind a step that was refused at its first key comes a commit, and where that was not enough the lowest document goes; whether it goes
-/// on.
-fn make_room<const OFFSET_BITS: u32, S: Store<OFFSET_BITS, Layout = AttrLayout>>(
-    alloc: Global,
-    attribute: &mut Attribute<OFFSET_BITS, S>,
-    plain: &mut PlainTable,
-    fields: &Fields,
-    load: Load,
-    told: &mut Told,
-) -> Result<bool, AllocError>
-    requires same { attribute.old.fields ≡ fields.now }
-    ensures same { attribute.new.fields ≡ fields.now }
-{
-    told.tries = told.tries.saturating_add(1);
-    if told.tries == 1 {
-        return commit_now(attribute, fields, told);
-    }
-    remove_lowest(alloc, attribute, plain, fields, load, told)
-}
-
-/// A step went through, maybe behind one that was refused or was cut off for want of memory.
-fn go_on(told: &mut Told) {
-    if told.tries > 0 || told.lacks {
-        told.resumed = told.resumed.saturating_add(1);
-    }
-    told.tries = 0;
-    told.lacks = false;
-}
-
-/// More than a row has.
-const MOST_DOCUMENTS: usize = 1_000_000;
-
-/// How many keys the next step is to visit: the first of a compaction may go to the end of a phase.
-fn keys_of(plain: &PlainTable, load: Load, told: Told) -> u32 {
-    if told.is_first && load.parts > 0 {
-        let documents = plain.documents().len().min(MOST_DOCUMENTS) as u32;
-        return documents.saturating_mul(load.parts);
-    }
-    load.keys
 }
 
 /// One step, and what comes behind it; whether it goes on.
 fn step_now<const OFFSET_BITS: u32, S: Store<OFFSET_BITS, Layout = AttrLayout>>(
     alloc: Global,
     attribute: &mut Attribute<OFFSET_BITS, S>,
-    plain: &mut PlainTable,
     fields: &Fields,
-    load: Load,
-    told: &mut Told,
-    ended: &mut Vec<Ended>,
+    course: &mut Course,
 ) -> Result<bool, AllocError>
     requires same { attribute.old.fields ≡ fields.now }
     ensures same { attribute.new.fields ≡ fields.now }
 {
-    let keys = keys_of(plain, load, *told);
-    told.steps = told.steps.saturating_add(1);
-    match step_one(alloc, attribute, fields, keys) {
-        Stepped::Idle => {
-            told.idle = true;
-            Ok(false)
-        }
-        Stepped::Moved(done) => {
-            if done != keys {
-                told.differs = true;
-            }
-            go_on(told);
-            after_step(alloc, attribute, plain, fields, load, told)
-        }
-        Stepped::Stopped(done) => {
-            told.stopped = told.stopped.saturating_add(1);
-            if done == 0 || done >= keys {
-                told.differs = true;
-            }
-            go_on(told);
-            told.is_first = false;
-            Ok(true)
-        }
-        Stepped::Short => {
-            told.short = told.short.saturating_add(1);
-            told.lacks = true;
-            told.is_first = false;
-            Ok(true)
-        }
-        Stepped::Cut(done) => {
-            told.cut = told.cut.saturating_add(1);
-            if done == 0 || done >= keys {
-                told.differs = true;
-            }
-            go_on(told);
-            told.lacks = true;
-            told.is_first = false;
-            Ok(true)
-        }
-        Stepped::Full => {
-            told.refused = told.refused.saturating_add(1);
-            told.is_first = false;
-            make_room(alloc, attribute, plain, fields, load, told)
-        }
-        Stepped::Finished(buffer) => {
-            go_on(told);
-            end_one(alloc, attribute, fields, told, ended, buffer)
-        }
-        Stepped::Odd => {
-            told.differs = true;
-            Ok(false)
-        }
+    let keys = course.next_keys();
+    let stepped = step_one(alloc, attribute, fields, keys);
+    match course.note_step(keys, stepped) {
+        Next::End => Ok(false),
+        Next::Step => Ok(true),
+        Next::Commit => commit_now(attribute, fields, course),
+        Next::Remove => remove_lowest(alloc, attribute, fields, course),
+        Next::Finish(buffer) => end_one(alloc, attribute, fields, course, buffer),
     }
 }
 
-/// Steps until enough compactions came to their end.
+/// Steps until so many compactions came to their end.
 pub fn take_steps<const OFFSET_BITS: u32, S: Store<OFFSET_BITS, Layout = AttrLayout>>(
     alloc: Global,
     attribute: &mut Attribute<OFFSET_BITS, S>,
-    plain: &mut PlainTable,
     fields: &Fields,
-    load: Load,
-    told: &mut Told,
-    ended: &mut Vec<Ended>,
+    course: &mut Course,
+    finishes: u32,
 ) -> Result<(), AllocError>
     requires same { attribute.old.fields ≡ fields.now }
     ensures same { attribute.new.fields ≡ fields.now }
 {
-    told.begun = told.commits as usize;
-    told.quiet = !load.waits;
+    course.begin_steps();
     for _ in 0..20_000u32 {
-        if told.finished >= load.finishes {
+        if course.told.finished >= finishes {
             return Ok(());
         }
-        if !step_now(alloc, attribute, plain, fields, load, told, ended)? {
+        if !step_now(alloc, attribute, fields, course)? {
             return Ok(());
         }
     }
-    told.differs = true;
+    course.told.differs = true;
     Ok(())
 }

@@ -1,9 +1,8 @@
-//! One operation, one commit and one step of a compaction of attributes in a store, and one operation on the plain table.
+//! One operation, one commit and one step of a compaction of attributes in a store.
 ghost use Rattle.std.specs.Prelude.{◌≡◌};
 
 use attr_changes::Applied;
 use attr_images::AttrLayout;
-use attr_plain::PlainTable;
 use attr_types::{Fields, Op, fits};
 use attribute_kinds::{AttrError, Attribute, Compacted};
 use std::alloc::{AllocError, Global};
@@ -46,7 +45,7 @@ fn refusal_of(error: AttrError) -> Result<Answer, AllocError> {
 }
 
 /// Applies an operation that changes the table.
-fn apply_one<const OFFSET_BITS: u32, S: Store<OFFSET_BITS, Layout = AttrLayout>>(
+pub fn apply_one<const OFFSET_BITS: u32, S: Store<OFFSET_BITS, Layout = AttrLayout>>(
     alloc: Global,
     attribute: &mut Attribute<OFFSET_BITS, S>,
     fields: &Fields,
@@ -66,26 +65,6 @@ fn apply_one<const OFFSET_BITS: u32, S: Store<OFFSET_BITS, Layout = AttrLayout>>
         Ok(Applied::Skipped) => Ok(Answer::Odd),
         Err(error) => refusal_of(error),
     }
-}
-
-/// Applies it to the plain table too, where it was not refused.
-pub fn apply_both<const OFFSET_BITS: u32, S: Store<OFFSET_BITS, Layout = AttrLayout>>(
-    alloc: Global,
-    attribute: &mut Attribute<OFFSET_BITS, S>,
-    plain: &mut PlainTable,
-    fields: &Fields,
-    op: Op,
-) -> Result<Answer, AllocError>
-    requires same { attribute.old.fields ≡ fields.now }
-    ensures same { attribute.new.fields ≡ fields.now }
-{
-    let answer = apply_one(alloc, attribute, fields, &op)?;
-    if let Answer::Done = answer {
-        if fits(plain.fields(), &op) {
-            let _ = plain.apply(alloc, op)?;
-        }
-    }
-    Ok(answer)
 }
 
 /// Commits.

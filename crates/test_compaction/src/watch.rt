@@ -1,9 +1,10 @@
 //! What is seen of a run at its commits: each image is compared with the plain table after the operations that it counts.
 use crate::census::{Census, take};
-use crate::script::{Script, op_at};
+use crate::course::Load;
+use crate::script::{Script, follow_one};
 use crate::table::{is_lawful, reads_as};
 use attr_plain::PlainTable;
-use attr_types::{Fields, fits};
+use attr_types::Fields;
 use check_trees::CheckFault;
 use image_base::{word_in, words_at};
 use std::alloc::{AllocError, Global};
@@ -60,20 +61,15 @@ pub struct Watch {
 
 impl Watch {
     /// Nothing was seen so far.
-    pub fn new(
-        alloc: Global,
-        fields: &Fields,
-        script: Script,
-        checks: usize,
-        keeps: bool,
-    ) -> Result<Watch, AllocError> {
+    pub fn new(alloc: Global, fields: &Fields, load: Load) -> Result<Watch, AllocError> {
+        let own = fields.clone()?;
         Ok(Watch {
             alloc,
             fields: fields.clone()?,
-            script,
-            checks,
-            keeps,
-            plain: PlainTable::new(alloc, fields.clone()?),
+            script: load.script,
+            checks: load.checks as usize,
+            keeps: load.guards > 0,
+            plain: PlainTable::new(alloc, own),
             done: 0,
             seen: Vec::new(alloc),
             handed: Vec::new(alloc),
@@ -83,17 +79,9 @@ impl Watch {
 
     /// One operation more on the plain table.
     fn follow_one(&mut self) -> Result<(), AllocError> {
-        let op = op_at(
-            self.alloc,
-            self.fields.as_slice(),
-            self.script,
-            self.done,
-            &self.plain,
-        )?;
-        self.done = self.done.saturating_add(1);
-        if fits(self.plain.fields(), &op) {
-            let _ = self.plain.apply(self.alloc, op)?;
-        } else {
+        let number = self.done;
+        self.done = number.saturating_add(1);
+        if !follow_one(self.alloc, self.script, number, &mut self.plain)? {
             self.failed = true;
         }
         Ok(())
@@ -108,6 +96,17 @@ impl Watch {
             self.follow_one()?;
         }
         Ok(())
+    }
+
+    fn image_of(
+        &self,
+        records: &BTreeMap<u32, Vec<u64>>,
+        census: &Census,
+    ) -> Result<Option<BTreeMap<u32, Vec<u64>>>, AllocError> {
+        if !self.keeps {
+            return Ok(None);
+        }
+        Ok(Some(census.image_in(self.alloc, records)?))
     }
 
     /// Compares an image with the plain table, wholly or quickly.
@@ -136,17 +135,6 @@ impl Watch {
             image,
             free: 0,
         })
-    }
-
-    fn image_of(
-        &self,
-        records: &BTreeMap<u32, Vec<u64>>,
-        census: &Census,
-    ) -> Result<Option<BTreeMap<u32, Vec<u64>>>, AllocError> {
-        if !self.keeps {
-            return Ok(None);
-        }
-        Ok(Some(census.image_in(self.alloc, records)?))
     }
 
     fn add(&mut self, seen: Result<Seen, CheckFault>, free: u32) -> Result<(), AllocError> {

@@ -3,8 +3,8 @@ use Rattle.arena_api.specs.Calls.{IsFresh}
 use Rattle.entry_store.proofs.Fresh.{opened-fresh}
 use Rattle.test_compaction.proofs.memory.new_attribute.Goals as goal
 
-pub open_watched-requires : goal.open_watched-requires
-open_watched-requires c = (
+pub open-requires : goal.open-requires
+open-requires c = (
   omega arith,
   (
     omega arith,
