@@ -5,6 +5,8 @@ ghost use Rattle.store_api.specs.Ledgers.{IsNew};
 use crate::of_commits::{are_replaced, is_emptied, is_kept};
 use crate::of_store::is_made_again;
 use crate::stores::new_store;
+use arena_api::Work;
+use entry_store::EntryStore;
 use mem_work::OneRecord;
 use std::alloc::{AllocError, Global};
 use store_api::{Store, StoreError};
@@ -46,6 +48,19 @@ fn is_met<const OFFSET_BITS: u32, S: Store<OFFSET_BITS, Layout = OneRecord>>(
     }
 }
 
+fn counted<const OFFSET_BITS: u32, W: Work<OFFSET_BITS>>(
+    store: &EntryStore<OFFSET_BITS, W>,
+    is_right: bool,
+) -> Came {
+    Came {
+        is_right,
+        twos: store.made(2),
+        fours: store.made(4),
+        nodes: store.made(34),
+        arrays: store.made(1024),
+    }
+}
+
 /// What a case comes to over a new store of so many buffers.
 pub fn came_to<const OFFSET_BITS: u32>(
     alloc: Global,
@@ -59,11 +74,5 @@ pub fn came_to<const OFFSET_BITS: u32>(
 {
     let mut store = new_store::<OFFSET_BITS>(alloc, buffers)?;
     let is_right = is_met::<OFFSET_BITS, _>(&mut store, case) == Ok(true);
-    Ok(Came {
-        is_right,
-        twos: store.made(2),
-        fours: store.made(4),
-        nodes: store.made(34),
-        arrays: store.made(1024),
-    })
+    Ok(counted(&store, is_right))
 }

@@ -33,24 +33,38 @@ fn bound_of(
     Ok(Some(value_at(alloc, value_type, random.below(sizes.values))?))
 }
 
+fn range_of(
+    alloc: Global,
+    value_type: ValueType,
+    sizes: Sizes,
+    random: &mut Random,
+) -> Result<Leaf, AllocError> {
+    let low = bound_of(alloc, value_type, sizes, random)?;
+    let high = bound_of(alloc, value_type, sizes, random)?;
+    Ok(Leaf::Range { low, high })
+}
+
+fn leaf_with(alloc: Global, chance: u32, value: Value) -> Result<Leaf, AllocError> {
+    match chance {
+        0 => Ok(Leaf::Prefix(prefix_of(alloc, value)?)),
+        1 => Ok(Leaf::Below(value)),
+        2 => Ok(Leaf::Above(value)),
+        _ => Ok(Leaf::Is(value)),
+    }
+}
+
 fn leaf_of(
     alloc: Global,
     value_type: ValueType,
     sizes: Sizes,
     random: &mut Random,
 ) -> Result<Leaf, AllocError> {
-    let value = value_at(alloc, value_type, random.below(sizes.values))?;
-    match random.below(8) {
-        0 => Ok(Leaf::Prefix(prefix_of(alloc, value)?)),
-        1 => Ok(Leaf::Below(value)),
-        2 => Ok(Leaf::Above(value)),
-        3 | 4 => {
-            let low = bound_of(alloc, value_type, sizes, random)?;
-            let high = bound_of(alloc, value_type, sizes, random)?;
-            Ok(Leaf::Range { low, high })
-        }
-        _ => Ok(Leaf::Is(value)),
+    let number = random.below(sizes.values);
+    let chance = random.below(8);
+    if chance == 3 || chance == 4 {
+        return range_of(alloc, value_type, sizes, random);
     }
+    leaf_with(alloc, chance, value_at(alloc, value_type, number)?)
 }
 
 /// A leaf on some attribute, seldom on one that is not there or with a value of another type.

@@ -7,10 +7,12 @@ ghost use Rattle.attr_types.specs.declared.field.TheConstants.{MOST_FIELDS};
 use crate::ask::{parts_of, query_of};
 use crate::make::Sizes;
 use crate::random::Random;
-use crate::turn::{Kinds, Memory, close};
+use crate::turn::Noted;
+use arena_api::Work;
 use attr_plain::PlainTable;
-use attr_scores::{Score, scores_of};
+use attr_scores::{Parts, Score, scores_of};
 use attr_types::{Doc, FieldItems, Fields, Items, Query};
+use attribute_kinds::Published;
 use check_images::check_image;
 use check_trees::CheckFault;
 use entry_ref::EntryRef;
@@ -56,11 +58,26 @@ fn are_same_scores(found: &[Score], wanted: &[Score]) -> bool {
     true
 }
 
+/// How many documents were found, if the plain table has these too.
+fn count_same(
+    alloc: Global,
+    plain: &PlainTable,
+    query: &Query,
+    found: &[Doc],
+) -> Result<Option<usize>, AllocError> {
+    let wanted = plain.hits(alloc, query)?;
+    if are_same_documents(found, wanted.as_slice()) {
+        Ok(Some(found.len()))
+    } else {
+        Ok(None)
+    }
+}
+
 /// How many documents a query has, if these are the plain table's.
-fn same_hits<F: Frozen<22>>(
+fn same_hits<const OFFSET_BITS: u32, F: Frozen<OFFSET_BITS>>(
     alloc: Global,
     frozen: &mut F,
-    root: EntryRef<22>,
+    root: EntryRef<OFFSET_BITS>,
     fields: &Fields,
     plain: &PlainTable,
     query: &Query,
@@ -71,19 +88,14 @@ fn same_hits<F: Frozen<22>>(
     ensures same { frozen.new ≡ frozen.old }
 {
     let found = hits(alloc, frozen, root, fields, query)?;
-    let wanted = plain.hits(alloc, query)?;
-    if are_same_documents(found.as_slice(), wanted.as_slice()) {
-        Ok(Some(found.len()))
-    } else {
-        Ok(None)
-    }
+    count_same(alloc, plain, query, found.as_slice())
 }
 
 /// One query by chance.
-fn hits_same<F: Frozen<22>>(
+fn hits_same<const OFFSET_BITS: u32, F: Frozen<OFFSET_BITS>>(
     alloc: Global,
     frozen: &mut F,
-    root: EntryRef<22>,
+    root: EntryRef<OFFSET_BITS>,
     fields: &Fields,
     plain: &PlainTable,
     sizes: Sizes,
@@ -98,11 +110,46 @@ fn hits_same<F: Frozen<22>>(
     same_hits(alloc, frozen, root, fields, plain, &query)
 }
 
-/// One dot product: how many documents have a score, if these are the plain table's.
-fn scores_same<F: Frozen<22>>(
+/// How many scores were found, if the plain table has these too.
+fn count_same_scores(
+    alloc: Global,
+    plain: &PlainTable,
+    field: u32,
+    parts: &Parts,
+    found: &[Score],
+) -> Result<Option<usize>, AllocError> {
+    let wanted = scores_of(alloc, plain.documents(), field, parts)?;
+    if are_same_scores(found, wanted.as_slice()) {
+        Ok(Some(found.len()))
+    } else {
+        Ok(None)
+    }
+}
+
+/// How many documents have a score by these parts, if these are the plain table's.
+fn same_scores<const OFFSET_BITS: u32, F: Frozen<OFFSET_BITS>>(
     alloc: Global,
     frozen: &mut F,
-    root: EntryRef<22>,
+    root: EntryRef<OFFSET_BITS>,
+    fields: &Fields,
+    plain: &PlainTable,
+    field: u32,
+    parts: &Parts,
+) -> Result<Option<usize>, AllocError>
+    requires few { length fields.now ≤ MOST_FIELDS }
+    requires shape { F.shape frozen.old ≡ shape_of (types_of fields.now) }
+    requires image { IsLawfulImage (F.shape frozen.old) (F.records frozen.old) root }
+    ensures same { frozen.new ≡ frozen.old }
+{
+    let found = scores(alloc, frozen, root, fields, field, parts)?;
+    count_same_scores(alloc, plain, field, parts, found.as_slice())
+}
+
+/// One dot product by chance.
+fn scores_same<const OFFSET_BITS: u32, F: Frozen<OFFSET_BITS>>(
+    alloc: Global,
+    frozen: &mut F,
+    root: EntryRef<OFFSET_BITS>,
     fields: &Fields,
     plain: &PlainTable,
     sizes: Sizes,
@@ -115,20 +162,14 @@ fn scores_same<F: Frozen<22>>(
 {
     let field = random.below(fields.len().min(8) as u32);
     let parts = parts_of(alloc, fields.as_slice(), field, sizes, random)?;
-    let found = scores(alloc, frozen, root, fields, field, &parts)?;
-    let wanted = scores_of(alloc, plain.documents(), field, &parts)?;
-    if are_same_scores(found.as_slice(), wanted.as_slice()) {
-        Ok(Some(found.len()))
-    } else {
-        Ok(None)
-    }
+    same_scores(alloc, frozen, root, fields, plain, field, &parts)
 }
 
 /// One query and one dot product more.
-fn ask_one<F: Frozen<22>>(
+fn ask_one<const OFFSET_BITS: u32, F: Frozen<OFFSET_BITS>>(
     alloc: Global,
     frozen: &mut F,
-    root: EntryRef<22>,
+    root: EntryRef<OFFSET_BITS>,
     fields: &Fields,
     plain: &PlainTable,
     sizes: Sizes,
@@ -154,10 +195,10 @@ fn ask_one<F: Frozen<22>>(
 }
 
 /// So many queries and dot products.
-fn ask_each<F: Frozen<22>>(
+fn ask_each<const OFFSET_BITS: u32, F: Frozen<OFFSET_BITS>>(
     alloc: Global,
     frozen: &mut F,
-    root: EntryRef<22>,
+    root: EntryRef<OFFSET_BITS>,
     fields: &Fields,
     plain: &PlainTable,
     sizes: Sizes,
@@ -238,10 +279,10 @@ fn is_lawful(
 }
 
 /// Has the slow checker read the image, where its records were noted.
-fn check_notes(
+fn check_notes<W: Noted>(
     alloc: Global,
     fields: &Fields,
-    work: &Memory,
+    work: &W,
     root: u64,
     plain: &PlainTable,
     asked: Asked,
@@ -249,7 +290,7 @@ fn check_notes(
     requires { length fields.now ≤ MOST_FIELDS }
 {
     let mut next = asked;
-    if let Some(records) = work.records() {
+    if let Some(records) = work.notes() {
         next.checked = true;
         if !is_lawful(alloc, fields, records, root, asked.operations, plain)? {
             next.differs = true;
@@ -260,9 +301,10 @@ fn check_notes(
 
 /// Asks the last commit of attributes for its documents, and so many queries and dot products; and the slow checker, where its records
 /// were noted.
-pub fn ask_image(
+pub fn ask_image<const OFFSET_BITS: u32, W: Work<OFFSET_BITS> + Noted>(
     alloc: Global,
-    attribute: Kinds,
+    work: &mut W,
+    last: Published<OFFSET_BITS>,
     fields: &Fields,
     plain: &PlainTable,
     sizes: Sizes,
@@ -270,22 +312,21 @@ pub fn ask_image(
     random: &mut Random,
 ) -> Result<Asked, AllocError>
     requires few { length fields.now ≤ MOST_FIELDS }
-    requires same { attribute.fields ≡ fields.now }
+    requires shape { W.shape work.old ≡ shape_of (types_of fields.now) }
+    requires image { IsLawfulImage (W.shape work.old) (W.records work.old) last.root }
 {
-    let (mut work, published) = close(attribute, fields);
-    let root = published.root;
-    let operations = published.operations;
-    let count = documents(&mut work, root);
+    let root = last.root;
+    let count = documents(work, root);
     let asked = Asked {
         differs: count as usize != plain.documents().len(),
-        operations,
+        operations: last.operations,
         queries: 0,
         hits: 0,
         scores: 0,
         checked: false,
     };
-    let checked = check_notes(alloc, fields, &work, u64::from(root.raw()), plain, asked)?;
+    let checked = check_notes(alloc, fields, work, u64::from(root.raw()), plain, asked)?;
     ask_each(
-        alloc, &mut work, root, fields, plain, sizes, queries, random, checked,
+        alloc, work, root, fields, plain, sizes, queries, random, checked,
     )
 }

@@ -55,16 +55,20 @@ fn is_above_last(items: &[Item], value: &Value) -> bool {
     }
 }
 
+fn push_above(items: &mut Items, value: Value, weight: i32) -> Result<(), AllocError> {
+    if is_above_last(items.as_slice(), &value) {
+        items.push(Item { value, weight })?;
+    }
+    Ok(())
+}
+
 /// Each value once, in order, with a weight.
 fn weighed(alloc: Global, values: Vec<Value>, random: &mut Random) -> Result<Items, AllocError> {
     let mut sorted = values;
     sorted.sort()?;
     let mut items = Items::new(alloc);
     for value in sorted {
-        let weight = random.weight();
-        if is_above_last(items.as_slice(), &value) {
-            items.push(Item { value, weight })?;
-        }
+        push_above(&mut items, value, random.weight())?;
     }
     Ok(items)
 }

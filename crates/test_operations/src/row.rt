@@ -25,16 +25,20 @@ fn type_in(word: &str) -> ValueType {
     }
 }
 
+fn field_in(alloc: Global, word: &str) -> Result<Field, AllocError> {
+    Ok(Field {
+        name: Name::from_str(alloc, "f")?,
+        kind: kind_in(word),
+        value: type_in(word),
+    })
+}
+
 /// The attributes that a row names, each named `f`.
 pub fn fields_in(alloc: Global, row: &str) -> Result<Fields, AllocError> {
     let mut fields = Fields::new(alloc);
     if let Some(words) = row.split(' ').next() {
         for word in words.split(',') {
-            fields.push(Field {
-                name: Name::from_str(alloc, "f")?,
-                kind: kind_in(word),
-                value: type_in(word),
-            })?;
+            fields.push(field_in(alloc, word)?)?;
         }
     }
     Ok(fields)

@@ -9,6 +9,7 @@ use crate::run::{Load, Told, run};
 use attr_types::MOST_FIELDS;
 use std::alloc::{AllocError, Global};
 use std::io;
+use test_tally::Tally;
 
 fn load_in(row: &str) -> Load {
     Load {
@@ -29,21 +30,16 @@ fn load_in(row: &str) -> Load {
 }
 
 /// How much was done: operations and commits only where nothing was refused, for how much is refused a row does not tell.
-fn counts_of(alloc: Global, told: Told) -> Result<String, AllocError> {
+fn push_counts(line: &mut String, told: Told) -> Result<(), AllocError> {
     if told.differs {
-        let episodes = told.episodes;
-        return format!(in alloc; "differs in episode {episodes}");
+        return write!(line, "differs in episode {}", told.episodes);
     }
-    let queries = told.queries;
-    let images = told.images;
-    if told.refused > 0 || told.full > 0 {
-        return format!(in alloc; "same: {queries} queries, {images} images");
+    line.push_str("same: ")?;
+    if told.refused == 0 && told.full == 0 {
+        let operations = u64::from(told.changed) + u64::from(told.skipped);
+        write!(line, "{operations} operations, {} commits, ", told.commits)?;
     }
-    let operations = u64::from(told.changed) + u64::from(told.skipped);
-    let commits = told.commits;
-    format!(in alloc;
-        "same: {operations} operations, {commits} commits, {queries} queries, {images} images"
-    )
+    write!(line, "{} queries, {} images", told.queries, told.images)
 }
 
 /// What a run met often enough.
@@ -70,47 +66,12 @@ fn has_met_all(told: Told, words: &str) -> bool {
     true
 }
 
-/// Whether a run or a worked row is as a line wants it, or nothing where the line is a remark.
-fn is_as_wanted(
-    alloc: Global,
-    told: Option<Told>,
-    worked: &Lines,
-    line: &str,
-) -> Result<Option<bool>, AllocError> {
-    if let Some(wanted) = line.strip_prefix("answers") {
-        return Ok(Some(worked.answer(alloc)?.as_str() == wanted));
-    }
-    let Some(told) = told else {
-        return Ok(None);
-    };
-    if let Some(wanted) = line.strip_prefix("said ") {
-        let counts = counts_of(alloc, told)?;
-        return Ok(Some(counts.as_str() == wanted));
-    }
-    match line.strip_prefix("met ") {
-        Some(words) => Ok(Some(has_met_all(told, words))),
-        None => Ok(None),
-    }
-}
-
-/// All that a run or a worked row came to.
-fn described(alloc: Global, told: Option<Told>, worked: &Lines) -> Result<String, AllocError> {
-    let Some(told) = told else {
-        return worked.answer(alloc);
-    };
-    let counts = counts_of(alloc, told)?;
-    format!(in alloc;
-        "{counts}; changed {} skipped {} commits {} refused {} again {} twice {} full {} hits {} scores {}",
-        told.changed,
-        told.skipped,
-        told.commits,
-        told.refused,
-        told.again,
-        told.twice,
-        told.full,
-        told.hits,
-        told.scores
-    )
+/// What may have to be met, and how often it was.
+fn push_met(line: &mut String, told: Told) -> Result<(), AllocError> {
+    write!(line, "changed {} skipped {}", told.changed, told.skipped)?;
+    write!(line, " refused {} again {}", told.refused, told.again)?;
+    write!(line, " twice {} full {}", told.twice, told.full)?;
+    write!(line, " hits {} scores {}", told.hits, told.scores)
 }
 
 /// What a row's run comes to, if it names one to eight attributes.
@@ -125,26 +86,22 @@ fn told(alloc: Global, row: &str) -> Result<Option<Told>, AllocError> {
     Ok(Some(run(alloc, &fields, load_in(row))?))
 }
 
-/// The last row, what it came to, and how many lines were compared.
+/// The last row, what it came to, and the count of what was compared.
 #[derive(Drop)]
 struct Rows {
     case: String,
     told: Option<Told>,
     worked: Lines,
-    compared: u32,
-    right: u32,
+    tally: Tally,
 }
 
 impl Rows {
     fn new(alloc: Global) -> Result<Rows, AllocError> {
-        let worked = Lines::new(alloc, "")?;
-        let case = String::new(alloc);
         Ok(Rows {
-            case,
+            case: String::new(alloc),
             told: None,
-            worked,
-            compared: 0,
-            right: 0,
+            worked: Lines::new(alloc, "")?,
+            tally: Tally::default(),
         })
     }
 
@@ -161,26 +118,49 @@ impl Rows {
         Ok(())
     }
 
-    fn judge(&mut self, rt: &HostRuntime, is_right: bool, line: &str) -> io::Result<()> {
-        self.compared = self.compared.saturating_add(1);
-        if is_right {
-            self.right = self.right.saturating_add(1);
+    fn compare_worked(&mut self, rt: &HostRuntime, wanted: &str) -> io::Result<()> {
+        let found = self.worked.answer(rt.alloc())?;
+        self.tally.note(rt, &self.case, &found, wanted)
+    }
+
+    fn compare_counts(&mut self, rt: &HostRuntime, told: Told, wanted: &str) -> io::Result<()> {
+        let mut found = String::new(rt.alloc());
+        push_counts(&mut found, told)?;
+        self.tally.note(rt, &self.case, &found, wanted)
+    }
+
+    fn compare_met(&mut self, rt: &HostRuntime, told: Told, words: &str) -> io::Result<()> {
+        if self.tally.count(has_met_all(told, words)) {
             return Ok(());
         }
-        let found = described(rt.alloc(), self.told, &self.worked)?;
-        println!(rt; "{}: {found} in place of {line}", self.case)
+        let mut found = String::new(rt.alloc());
+        push_met(&mut found, told)?;
+        println!(rt; "{}: {found} in place of {words}", self.case)
+    }
+
+    /// Compares a run with a line, if it speaks of one.
+    fn compare_run(&mut self, rt: &HostRuntime, told: Told, line: &str) -> io::Result<()> {
+        if let Some(wanted) = line.strip_prefix("said ") {
+            return self.compare_counts(rt, told, wanted);
+        }
+        if let Some(words) = line.strip_prefix("met ") {
+            return self.compare_met(rt, told, words);
+        }
+        Ok(())
     }
 
     fn take(&mut self, rt: &HostRuntime, line: &str) -> io::Result<()> {
-        let alloc = rt.alloc();
         if let Some(row) = line.strip_prefix("run ") {
-            return Ok(self.begin_run(alloc, row)?);
+            return Ok(self.begin_run(rt.alloc(), row)?);
         }
         if let Some(row) = line.strip_prefix("on ") {
-            return Ok(self.begin_worked(alloc, row)?);
+            return Ok(self.begin_worked(rt.alloc(), row)?);
         }
-        match is_as_wanted(alloc, self.told, &self.worked, line)? {
-            Some(is_right) => self.judge(rt, is_right, line),
+        if let Some(wanted) = line.strip_prefix("answers") {
+            return self.compare_worked(rt, wanted);
+        }
+        match self.told {
+            Some(told) => self.compare_run(rt, told, line),
             None => Ok(self.worked.take(line)?),
         }
     }
@@ -191,6 +171,5 @@ pub fn compare(rt: &HostRuntime) -> io::Result<()> {
     for line in rt.lines(rt.alloc()) {
         rows.take(rt, line?.as_str())?;
     }
-    let (compared, right) = (rows.compared, rows.right);
-    println!(rt; "rows: {compared} compared, {right} as wanted")
+    rows.tally.print(rt, "rows")
 }

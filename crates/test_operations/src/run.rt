@@ -1,18 +1,21 @@
 //! Episodes of operations: each begins without a document, and at its end the last commit is asked.
-ghost use Rattle.std.specs.Prelude.{◌≡◌, ◌<◌, ◌≤◌, length, IfOk};
+ghost use Rattle.std.specs.Prelude.{◌≡◌, ◌<◌, ◌≤◌, length};
+ghost use Rattle.attr_images.specs.Images.{IsLawfulImage};
+ghost use Rattle.attr_images.specs.Shapes.{shape_of, types_of};
 ghost use Rattle.attr_types.specs.declared.field.TheConstants.{MOST_FIELDS};
 
 use crate::image::{Asked, ask_image};
 use crate::make::{Sizes, op_of};
 use crate::random::Random;
 use crate::turn::{
-    Answer, Committed, Kinds, apply_one, apply_plain, commit_one, new_attribute, new_plain,
+    Answer, Committed, Noted, apply_one, apply_plain, close, commit_one, new_attribute, new_plain,
 };
+use arena_api::Work;
 use attr_changes::Applied;
 use attr_images::AttrLayout;
 use attr_plain::PlainTable;
 use attr_types::{Fields, Op};
-use attribute_kinds::Attribute;
+use attribute_kinds::{Attribute, Published};
 use std::alloc::{AllocError, Global};
 use store_api::Store;
 
@@ -170,6 +173,26 @@ fn count(told: &mut Told, applied: Applied) {
     }
 }
 
+/// The same operation on the plain table; whether it comes to the same.
+fn follow(
+    alloc: Global,
+    plain: &mut PlainTable,
+    fields: &Fields,
+    op: Op,
+    applied: Applied,
+    told: &mut Told,
+) -> Result<bool, AllocError>
+    requires beside { plain.old.fields ≡ fields.now }
+    ensures beside { plain.new.fields ≡ fields.now }
+{
+    if apply_plain(alloc, plain, fields, op)? == Some(applied) {
+        count(told, applied);
+        return Ok(true);
+    }
+    told.differs = true;
+    Ok(false)
+}
+
 /// One operation on both; whether it goes on.
 fn apply_both<const OFFSET_BITS: u32, S: Store<OFFSET_BITS, Layout = AttrLayout>>(
     alloc: Global,
@@ -185,16 +208,10 @@ fn apply_both<const OFFSET_BITS: u32, S: Store<OFFSET_BITS, Layout = AttrLayout>
     ensures same { attribute.new.fields ≡ fields.now }
     ensures beside { plain.new.fields ≡ fields.now }
 {
-    let Some(applied) = apply(alloc, attribute, fields, &op, operations, told)? else {
-        return Ok(false);
-    };
-    let wanted = apply_plain(alloc, plain, fields, op)?;
-    if wanted != Some(applied) {
-        told.differs = true;
-        return Ok(false);
+    match apply(alloc, attribute, fields, &op, operations, told)? {
+        Some(applied) => follow(alloc, plain, fields, op, applied, told),
+        None => Ok(false),
     }
-    count(told, applied);
-    Ok(true)
 }
 
 /// A turn: an operation, and a commit where it is due; whether it goes on.
@@ -265,6 +282,9 @@ fn plain_after(
 
 /// What an episode's end came to.
 fn add(told: &mut Told, asked: Asked) {
+    if asked.differs || asked.operations != told.committed {
+        told.differs = true;
+    }
     told.queries = told.queries.saturating_add(asked.queries);
     told.hits = told.hits.saturating_add(asked.hits);
     told.scores = told.scores.saturating_add(asked.scores);
@@ -292,9 +312,10 @@ fn play<const OFFSET_BITS: u32, S: Store<OFFSET_BITS, Layout = AttrLayout>>(
 }
 
 /// What the last commit answers, beside the plain table after its operations.
-fn ask_last(
+fn ask_last<const OFFSET_BITS: u32, W: Work<OFFSET_BITS> + Noted>(
     alloc: Global,
-    attribute: Kinds,
+    work: &mut W,
+    last: Published<OFFSET_BITS>,
     fields: &Fields,
     load: Load,
     start: Random,
@@ -302,14 +323,12 @@ fn ask_last(
     told: &mut Told,
 ) -> Result<(), AllocError>
     requires few { length fields.now ≤ MOST_FIELDS }
-    requires same { attribute.fields ≡ fields.now }
+    requires shape { W.shape work.old ≡ shape_of (types_of fields.now) }
+    requires image { IsLawfulImage (W.shape work.old) (W.records work.old) last.root }
 {
     let (sizes, queries) = (load.sizes, load.queries);
     let wanted = plain_after(alloc, fields, sizes, start, told.committed)?;
-    let asked = ask_image(alloc, attribute, fields, &wanted, sizes, queries, random)?;
-    if asked.differs || asked.operations != told.committed {
-        told.differs = true;
-    }
+    let asked = ask_image(alloc, work, last, fields, &wanted, sizes, queries, random)?;
     add(told, asked);
     Ok(())
 }
@@ -327,7 +346,8 @@ fn episode(
     let start = *random;
     let mut attribute = new_attribute(alloc, fields, load.buffers.max(1).min(1000), load.checks)?;
     play(alloc, &mut attribute, fields, load, random, told)?;
-    ask_last(alloc, attribute, fields, load, start, random, told)
+    let (mut work, last) = close(attribute, fields);
+    ask_last(alloc, &mut work, last, fields, load, start, random, told)
 }
 
 /// The episodes of a run, one after another, until something differs.

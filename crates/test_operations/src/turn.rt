@@ -16,6 +16,7 @@ use frozen_api::Frozen;
 use mem_work::MemWork;
 use noted_work::NotedWork;
 use std::alloc::{AllocError, Global};
+use std::collections::BTreeMap;
 use store_api::Store;
 
 /// A memory without readers, and beside it the words of each record as they were stored.
@@ -23,6 +24,18 @@ pub type Memory = NotedWork<22, MemWork<22, AttrLayout>>;
 
 /// Attributes over a memory without readers.
 pub type Kinds = Attribute<22, EntryStore<22, Memory>>;
+
+/// A work that may have notes of what was stored in it.
+pub trait Noted {
+    /// The words that were stored last at each reference, where they were kept.
+    fn notes(&self) -> Option<&BTreeMap<u32, Vec<u64>>>;
+}
+
+impl<const OFFSET_BITS: u32, W: Work<OFFSET_BITS>> Noted for NotedWork<OFFSET_BITS, W> {
+    fn notes(&self) -> Option<&BTreeMap<u32, Vec<u64>>> {
+        self.records()
+    }
+}
 
 /// What an operation came to.
 #[derive(Clone, Copy)]

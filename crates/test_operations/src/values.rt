@@ -25,17 +25,20 @@ fn text_of(alloc: Global, text: &str) -> Result<Text, AllocError> {
 }
 
 /// So many letters, and what stands behind them.
-fn text_at(alloc: Global, number: u32) -> Result<Text, AllocError> {
+fn push_text(text: &mut String, number: u32) -> Result<(), AllocError> {
     let place = (number / 4) as usize;
     if place >= LENGTHS.len() {
-        let text = format!(in alloc; "{number}")?;
-        return text_of(alloc, &text);
+        return write!(text, "{number}");
     }
-    let mut text = String::new(alloc);
     for _ in 0..LENGTHS[place] {
         text.push_str("a")?;
     }
-    text.push_str(ENDS[(number % 4) as usize])?;
+    text.push_str(ENDS[(number % 4) as usize])
+}
+
+fn text_at(alloc: Global, number: u32) -> Result<Text, AllocError> {
+    let mut text = String::new(alloc);
+    push_text(&mut text, number)?;
     text_of(alloc, &text)
 }
 

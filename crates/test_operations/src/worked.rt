@@ -5,11 +5,12 @@ ghost use Rattle.attr_images.specs.Shapes.{shape_of, types_of};
 ghost use Rattle.attr_types.specs.declared.field.TheConstants.{MOST_FIELDS};
 
 use crate::told::{push_answer, push_commit, push_documents, push_table};
-use crate::turn::{Kinds, Memory, apply_one, close, commit_one, new_attribute};
+use crate::turn::{Noted, apply_one, close, commit_one, new_attribute};
+use arena_api::Work;
 use attr_images::AttrLayout;
 use attr_io::SliceSource;
-use attr_types::{Fields, Ops, Query};
-use attribute_kinds::Attribute;
+use attr_types::{Fields, Op, Ops, Query};
+use attribute_kinds::{Attribute, Published};
 use check_images::check_image;
 use check_trees::CheckFault;
 use entry_ref::EntryRef;
@@ -27,6 +28,23 @@ fn read(alloc: Global, line: &str, fields: &Fields) -> Result<Ops, FeedError> {
     read_feed(alloc, &mut SliceSource::new(line.as_bytes()), fields)
 }
 
+/// Applies the one operation that a line is.
+fn apply_only<const OFFSET_BITS: u32, S: Store<OFFSET_BITS, Layout = AttrLayout>>(
+    alloc: Global,
+    attribute: &mut Attribute<OFFSET_BITS, S>,
+    fields: &Fields,
+    ops: &[Op],
+    told: &mut String,
+) -> Result<(), AllocError>
+    requires same { attribute.old.fields ≡ fields.now }
+    ensures same { attribute.new.fields ≡ fields.now }
+{
+    match ops {
+        [op] => push_answer(told, apply_one(alloc, attribute, fields, op)?),
+        _ => told.push_str(" no operation"),
+    }
+}
+
 /// Applies the operation of a line.
 fn apply_line<const OFFSET_BITS: u32, S: Store<OFFSET_BITS, Layout = AttrLayout>>(
     alloc: Global,
@@ -39,10 +57,7 @@ fn apply_line<const OFFSET_BITS: u32, S: Store<OFFSET_BITS, Layout = AttrLayout>
     ensures same { attribute.new.fields ≡ fields.now }
 {
     match read(alloc, line, fields) {
-        Ok(ops) => match ops.as_slice() {
-            [op] => push_answer(told, apply_one(alloc, attribute, fields, op)?),
-            _ => told.push_str(" no operation"),
-        },
+        Ok(ops) => apply_only(alloc, attribute, fields, ops.as_slice(), told),
         Err(e) => write!(told, " {e}"),
     }
 }
@@ -98,26 +113,26 @@ fn tell_image(
     }
 }
 
-fn tell_notes(
+fn tell_notes<W: Noted>(
     alloc: Global,
     fields: &Fields,
-    work: &Memory,
+    work: &W,
     root: u64,
     told: &mut String,
 ) -> Result<(), AllocError>
     requires { length fields.now ≤ MOST_FIELDS }
 {
-    match work.records() {
+    match work.notes() {
         Some(records) => tell_image(alloc, fields, records, root, told),
         None => Err(AllocError),
     }
 }
 
 /// The documents of a query, which this text is.
-fn tell_found<F: Frozen<22>>(
+fn tell_found<const OFFSET_BITS: u32, F: Frozen<OFFSET_BITS>>(
     alloc: Global,
     frozen: &mut F,
-    root: EntryRef<22>,
+    root: EntryRef<OFFSET_BITS>,
     fields: &Fields,
     text: &str,
     query: &Query,
@@ -133,10 +148,10 @@ fn tell_found<F: Frozen<22>>(
 }
 
 /// The documents of a query, or its refusal.
-fn tell_hits<F: Frozen<22>>(
+fn tell_hits<const OFFSET_BITS: u32, F: Frozen<OFFSET_BITS>>(
     alloc: Global,
     frozen: &mut F,
-    root: EntryRef<22>,
+    root: EntryRef<OFFSET_BITS>,
     fields: &Fields,
     text: &str,
     told: &mut String,
@@ -152,10 +167,10 @@ fn tell_hits<F: Frozen<22>>(
     }
 }
 
-fn tell_each<F: Frozen<22>>(
+fn tell_each<const OFFSET_BITS: u32, F: Frozen<OFFSET_BITS>>(
     alloc: Global,
     frozen: &mut F,
-    root: EntryRef<22>,
+    root: EntryRef<OFFSET_BITS>,
     fields: &Fields,
     queries: &str,
     told: &mut String,
@@ -172,21 +187,22 @@ fn tell_each<F: Frozen<22>>(
 }
 
 /// The last commit: its number and that of its operations, its table by the slow checker, and the documents of each query.
-fn tell_last(
+fn tell_last<const OFFSET_BITS: u32, W: Work<OFFSET_BITS> + Noted>(
     alloc: Global,
-    attribute: Kinds,
+    work: &mut W,
+    last: Published<OFFSET_BITS>,
     fields: &Fields,
     queries: &str,
     told: &mut String,
 ) -> Result<(), AllocError>
     requires few { length fields.now ≤ MOST_FIELDS }
-    requires same { attribute.fields ≡ fields.now }
+    requires shape { W.shape work.old ≡ shape_of (types_of fields.now) }
+    requires image { IsLawfulImage (W.shape work.old) (W.records work.old) last.root }
 {
-    let (mut work, published) = close(attribute, fields);
-    let root = published.root;
-    write!(told, "; at {}/{}", published.commit, published.operations)?;
-    tell_notes(alloc, fields, &work, u64::from(root.raw()), told)?;
-    tell_each(alloc, &mut work, root, fields, queries, told)
+    let root = last.root;
+    write!(told, "; at {}/{}", last.commit, last.operations)?;
+    tell_notes(alloc, fields, work, u64::from(root.raw()), told)?;
+    tell_each(alloc, work, root, fields, queries, told)
 }
 
 fn tell_all(
@@ -204,7 +220,8 @@ fn tell_all(
 {
     let mut attribute = new_attribute(alloc, fields, buffers, true)?;
     take_lines(alloc, &mut attribute, fields, lines, told)?;
-    tell_last(alloc, attribute, fields, queries, told)
+    let (mut work, last) = close(attribute, fields);
+    tell_last(alloc, &mut work, last, fields, queries, told)
 }
 
 /// What each line answers, and what the last commit does.
