@@ -6,7 +6,7 @@ use std::thread::{Threads, map_vec};
 use word_arena::{Again, Arena, Config, Limits, Reader, Writer};
 
 /// What is run.
-#[derive(Clone, Copy, Debug)]
+#[derive(Clone, Copy)]
 pub enum Load {
     Guards {
         readers: u32,
@@ -140,15 +140,23 @@ fn reads(held: Held<'_>, loops: u64) -> u64 {
     counted
 }
 
+/// Stores a node of the first commit. Whether a buffer was free.
+fn store_node<W: Work<22, Layout = OneNode>>(work: &mut W) -> bool {
+    if turn(work, None, 1).is_none() {
+        return false;
+    }
+    let _ = pass(work, None);
+    true
+}
+
 fn read_node(writer: Writer<'_, 22, OneNode>, loops: u64) -> u64 {
     let mut writer = writer;
     let Ok(reader) = writer.reader() else {
         return 0;
     };
-    if turn(&mut writer, None, 1).is_none() {
+    if !store_node(&mut writer) {
         return 0;
     }
-    let _ = pass(&mut writer, None);
     match tried(reader) {
         Ok(held) => reads(held, loops),
         Err(_) => 0,

@@ -28,8 +28,8 @@ fn put(pairs: &mut Vec<(u64, u64)>, key: u64, value: u64) -> Result<(), AllocErr
     let place = place_of(pairs, key);
     if place < pairs.len() && pairs[place].0 == key {
         pairs[place] = (key, value);
-    } else if place <= pairs.len() {
-        pairs.insert(place, (key, value)).map_err(|_| AllocError)?;
+    } else if place <= pairs.len() && pairs.insert(place, (key, value)).is_err() {
+        return Err(AllocError);
     }
     Ok(())
 }
@@ -58,7 +58,9 @@ fn change<const OFFSET_BITS: u32, S: Store<OFFSET_BITS, Layout = TreeLayout>>(
         let key = number / 8 % 600;
         if number % 8 < puts {
             put(pairs, key, number)?;
-            tree.put(key, number).map_err(|_| AllocError)?;
+            if tree.put(key, number).is_err() {
+                return Err(AllocError);
+            }
         } else if tree.remove(key) != Ok(take(pairs, key)) {
             return Ok(None);
         }
