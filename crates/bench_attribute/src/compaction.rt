@@ -6,7 +6,7 @@ ghost use Rattle.attr_types.specs.declared.field.TheConstants.{MOST_FIELDS};
 
 use crate::draws::{Random, doc_at, items_of};
 use crate::live::live_words;
-use crate::memory::{new_attribute, one_field};
+use crate::memory::one_field;
 use arena_api::Work;
 use attr_images::{AttrLayout, shape_of};
 use attr_types::{FieldItems, Fields, Kind, Op, ValueType, fits};
@@ -57,20 +57,39 @@ struct Told {
     full: bool,
 }
 
+/// A memory of so many buffers of 8,192 words.
 fn new_memory(
     alloc: Global,
     fields: &Fields,
     buffers: u32,
-    noting: bool,
-) -> Result<Memory, AllocError>
+) -> Result<MemWork<22, AttrLayout>, AllocError>
     requires few { length fields.now ≤ MOST_FIELDS }
     requires buffers { 1 ≤ buffers }
     requires fit { buffers ≤ 1000 }
-    ensures shape { IfOk result (λ w. ⟦<NotedWork<22, MemWork<22, AttrLayout>> as Frozen<22>>⟧.shape w ≡ shape_of (types_of fields.now)) }
-    ensures fresh { IfOk result (λ w. IsFresh (⟦<NotedWork<22, MemWork<22, AttrLayout>> as Work<22>>⟧.knows w)) }
+    ensures shape { IfOk result (λ w. ⟦<MemWork<22, AttrLayout> as Frozen<22>>⟧.shape w ≡ shape_of (types_of fields.now)) }
+    ensures fresh { IfOk result (λ w. IsFresh (⟦<MemWork<22, AttrLayout> as Work<22>>⟧.knows w)) }
 {
     let work = MemWork::create(alloc, buffers, 8192, shape_of(fields))?;
-    Ok(NotedWork::new(alloc, work, noting))
+    Ok(work)
+}
+
+/// Attributes without a document, over a work beside which the words of each record are kept, or not.
+fn noted_attribute<const OFFSET_BITS: u32, W: Work<OFFSET_BITS, Layout = AttrLayout> + Drop>(
+    alloc: Global,
+    work: W,
+    fields: &Fields,
+    noting: bool,
+) -> Result<Attribute<OFFSET_BITS, EntryStore<OFFSET_BITS, NotedWork<OFFSET_BITS, W>>>, AllocError>
+    requires some { 0 < length fields.now }
+    requires few { length fields.now ≤ MOST_FIELDS }
+    requires shape { W.shape work ≡ shape_of (types_of fields.now) }
+    requires fresh { IsFresh (W.knows work) }
+    ensures fields { IfOk result (λ a. a.fields ≡ fields.now) }
+{
+    match Attribute::create(alloc, NotedWork::new(alloc, work, noting), fields, false) {
+        Ok(attribute) => Ok(attribute),
+        Err(_) => Err(AllocError),
+    }
 }
 
 /// A number below `most`: each as likely as any other; or one of 16 octaves, and a number of it.
@@ -192,7 +211,7 @@ fn take_turn<const OFFSET_BITS: u32, S: Store<OFFSET_BITS, Layout = AttrLayout>>
 
 fn apply_all<const OFFSET_BITS: u32, W: Work<OFFSET_BITS, Layout = AttrLayout>>(
     alloc: Global,
-    attribute: &mut Attribute<OFFSET_BITS, EntryStore<OFFSET_BITS, W>>,
+    attribute: &mut Attribute<OFFSET_BITS, EntryStore<OFFSET_BITS, NotedWork<OFFSET_BITS, W>>>,
     fields: &Fields,
     load: Updates,
     told: &mut Told,
@@ -226,7 +245,7 @@ fn counted<const OFFSET_BITS: u32, W: Work<OFFSET_BITS>>(
 }
 
 /// The words of the buffers that are not free.
-fn held_by<const OFFSET_BITS: u32, W: Work<OFFSET_BITS>>(work: &W) -> u64 {
+fn held_by<const OFFSET_BITS: u32, W: Work<OFFSET_BITS>>(work: &NotedWork<OFFSET_BITS, W>) -> u64 {
     let taken = work.buffers().saturating_sub(work.free_buffers());
     u64::from(taken).saturating_mul(u64::from(work.words()))
 }
@@ -268,9 +287,8 @@ fn told_of(alloc: Global, fields: &Fields, load: Updates) -> Result<String, Allo
     requires some { 0 < length fields.now }
     requires few { length fields.now ≤ MOST_FIELDS }
 {
-    let buffers = load.buffers.max(1).min(1000);
-    let work = new_memory(alloc, fields, buffers, load.counts)?;
-    let mut attribute = new_attribute(alloc, work, fields)?;
+    let work = new_memory(alloc, fields, load.buffers.max(1).min(1000))?;
+    let mut attribute = noted_attribute(alloc, work, fields, load.counts)?;
     let mut told = Told {
         operations: 0,
         commits: 0,

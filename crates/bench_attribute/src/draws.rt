@@ -25,12 +25,7 @@ impl Random {
 
 /// A text of 20 digits.
 fn text_at(alloc: Global, number: u64) -> Result<Text, AllocError> {
-    let digits = format!(in alloc; "{number}")?;
-    let mut text = String::new(alloc);
-    for _ in digits.len()..20 {
-        text.push_str("0")?;
-    }
-    text.push_str(&digits)?;
+    let text = format!(in alloc; "{number:020}")?;
     if text.len() > Text::MAX_LEN {
         return Text::from_str(alloc, "");
     }

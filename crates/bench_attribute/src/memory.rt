@@ -31,11 +31,7 @@ pub fn one_field(alloc: Global, kind: Kind, value: ValueType) -> Result<Fields, 
 }
 
 /// A memory of so many buffers of 65,536 words.
-pub fn new_memory(
-    alloc: Global,
-    fields: &Fields,
-    buffers: u32,
-) -> Result<Memory, AllocError>
+pub fn new_memory(alloc: Global, fields: &Fields, buffers: u32) -> Result<Memory, AllocError>
     requires few { length fields.now ≤ MOST_FIELDS }
     requires buffers { 1 ≤ buffers }
     requires fit { buffers ≤ 1000 }

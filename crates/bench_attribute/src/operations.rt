@@ -3,7 +3,9 @@ ghost use Rattle.std.specs.Prelude.{◌≡◌, ◌<◌, ◌≤◌, length};
 ghost use Rattle.attr_types.specs.declared.field.TheConstants.{MOST_FIELDS};
 
 use crate::draws::{Random, doc_at, items_of};
-use crate::memory::{Kinds, apply_one, commit_one, new_attribute, new_memory, one_field, words_made};
+use crate::memory::{
+    Kinds, apply_one, commit_one, new_attribute, new_memory, one_field, words_made,
+};
 use arena_api::Work;
 use attr_changes::Applied;
 use attr_images::AttrLayout;

@@ -2,8 +2,8 @@ ghost use Rattle.std.specs.Prelude.{◌≡◌, ◌≤◌, true, length};
 ghost use Rattle.store_api.specs.Ledgers.{IsNew};
 
 use crate::stores::new_store;
-use array_store::{add, class_of, count, get};
 use arena_api::Work;
+use array_store::{add, class_of, count, get};
 use entry_store::EntryStore;
 use std::alloc::{AllocError, Global};
 use std::test::Fail;

@@ -155,13 +155,13 @@ fn a_text_reads_back_at_each_edge_of_a_class(rt: HostRuntime) -> Result<(), Fail
 }
 
 /// Whether this is the order of a value that is added to a store that is new and another of its type.
-fn is_order_in<const OFFSET_BITS: u32, S: Store<OFFSET_BITS>>(
-    store: &mut S,
+fn is_order_in<const OFFSET_BITS: u32, W: Work<OFFSET_BITS>>(
+    store: &mut EntryStore<OFFSET_BITS, W>,
     stored: &Value,
     given: &Value,
     wanted: Ordering,
 ) -> Result<bool, AllocError>
-    requires new { IsNew (S.ledger store.old) }
+    requires new { IsNew (⟦<EntryStore<OFFSET_BITS, W> as Store<OFFSET_BITS>>⟧.ledger store.old) }
     requires typed { type_of stored.now ≡ type_of given.now }
 {
     store.begin();
