@@ -138,7 +138,8 @@ pub values_few : (table : Column) (start : Index) (doc : ℕ) (added removed : L
 values_few table start doc added removed index of p =
     let few : length (keys_of index) ≤ length (column_values table ++ values_of added) =
     no_more value_cmp_total (keys_of index) (column_values table ++ values_of added) p.formed.ascends (all_keys index
-    (AllByRecursion-weaker (λ e. lookup (is_at (value_cmp e.0)) index ≡ Some e.1) (λ e. list_any (is_at (value_cmp e.0)) (column_values table ++ values_of added) ≡ true) (λ e found. value_from table start doc added removed index e.0 of p (ap is_some found))
+    (AllByRecursion-weaker (λ e. lookup (is_at (value_cmp e.0)) index ≡ Some e.1)
+    (λ e. list_any (is_at (value_cmp e.0)) (column_values table ++ values_of added) ≡ true) (λ e found. value_from table start doc added removed index e.0 of p (ap is_some found))
     index (all_found value_cmp_total index p.formed.ascends))) in
     let count : length (keys_of index) ≡ length index = length-map index (λ e. e.0) in
     let both : length (column_values table ++ values_of added) ≡ length (column_values table) + length (values_of added) = length-append (column_values table) (values_of added) in

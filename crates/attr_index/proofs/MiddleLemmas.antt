@@ -1,24 +1,18 @@
 -- The state between the walks, as the start of the second.
-use Rattle.std.proofs.Common.{◌≡◌, ℕ, ℤ, true, false, List, [], ◌∷◌, ◌++◌, Option, Some, None, cond}
+use Rattle.std.proofs.Common.{◌≡◌, ℕ, ℤ, true, false, List, [], ◌∷◌, Option, Some, None, cond}
 use Rattle.std.proofs.Common.{option_map, map, nat_cmp, is_eq, refl, sym, ap, ◌∙◌, subst, Less}
 use Rattle.std.proofs.lemmas.Cmp.{nat_cmp_total}
 use Rattle.std.specs.BTreeMap.{insert_entry, is_at}
-use Rattle.std.specs.List.{AllByRecursion, find}
-use Rattle.std.specs.List.Sorted.{IsStrictlySortedBy}
-use Rattle.std.specs.Map.{keys_of, lookup}
-use Rattle.std.specs.Ordering.{ordering_reverse}
+use Rattle.std.specs.List.{find}
+use Rattle.std.specs.Map.{lookup}
 use Rattle.attr_types.proofs.EntryLemmas.{lookup-insert_here, sorted-insert}
-use Rattle.attr_types.specs.Lawful.{AscendByValue}
-use Rattle.attr_types.specs.Value.{value_cmp, values_of}
-use Rattle.attr_types.specs.ProofsForOrder.{value_cmp_total}
+use Rattle.attr_types.specs.Value.{value_cmp}
 use Rattle.attr_types.specs.declared.items.Item.{Item}
 use Rattle.attr_types.specs.declared.value.Value.{Value}
-use Rattle.attr_index.specs.Columns.{Column, items_of}
 use Rattle.attr_index.proofs.ListLemmas.{list_of-sorted}
 use Rattle.attr_index.proofs.PartLemmas.{insert_same}
-use Rattle.attr_index.proofs.ChangeLemmas.{ends}
-use Rattle.attr_index.specs.Index.{Index, IsFormed, IsIndexOf, list_of, weight_in}
-use Rattle.attr_index.specs.Changes.{first_given, settled, IsBetween, IsPartway}
+use Rattle.attr_index.specs.Index.{Index, IsFormed, list_of, weight_in}
+use Rattle.attr_index.specs.Changes.{first_given, settled, IsBetween}
 
 module _ (start : Index) (doc : ℕ) (old new : Value → Option ℤ) where
   -- after the first walk

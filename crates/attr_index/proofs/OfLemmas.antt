@@ -152,7 +152,8 @@ is_index_of table index ordered up values lists = record {
         (λ e found is. length-has_some e.1 (ap has_some is ∙ sym (any-table e.0 table)
         ∙ list_any-from_Contains (eq_by_cmp_equiv value_cmp_total) e.0 (column_values table) ((values e.0).0 (key-there e.0 index e.1 found))))
         (all_found value_cmp_total index up) lists;
-    lists_ascend = AllByRecursion-weaker (λ e. e.1 ≡ documents_with e.0 table) (λ e. IsStrictlySortedBy nat_cmp (keys_of e.1)) (λ e is. subst (λ docs. IsStrictlySortedBy nat_cmp (keys_of docs)) (sym is) (documents_with-sorted table e.0 ordered))
+    lists_ascend = AllByRecursion-weaker (λ e. e.1 ≡ documents_with e.0 table) (λ e. IsStrictlySortedBy nat_cmp (keys_of e.1))
+        (λ e is. subst (λ docs. IsStrictlySortedBy nat_cmp (keys_of docs)) (sym is) (documents_with-sorted table e.0 ordered))
         index lists;
   };
   lists = λ value. told value (lookup (is_at (value_cmp value)) index) refl;

@@ -1,7 +1,6 @@
 -- What a program meets at a step: its pair is there, a list that becomes empty, keys that keep their place.
-use Rattle.std.proofs.Common.{◌≡◌, ◌<◌, ℕ, ℤ, false, cond, List, [], ◌∷◌, ◌++◌, length, Option, Some, None, IsSome, arith}
+use Rattle.std.proofs.Common.{◌≡◌, ◌<◌, ℕ, ℤ, cond, List, [], ◌∷◌, length, Option, Some, None, IsSome, arith}
 use Rattle.std.proofs.Common.{nat_cmp, is_eq, refl, sym, ap, ◌∙◌, subst, Ordering, Less, Equal, Greater}
-use Rattle.std.proofs.lemmas.Cmp.{nat_cmp_total}
 use Rattle.std.specs.BTreeMap.{insert_entry, is_at}
 use Rattle.std.specs.Cmp.{IsTotalOrder}
 use Rattle.std.specs.List.{AllByRecursion}
@@ -10,17 +9,16 @@ use Rattle.std.specs.Map.{keys_of, lookup, remove_entry}
 use Rattle.std.specs.Option.{unwrap_or}
 use Rattle.std.specs.Ordering.{match_ordering}
 use Rattle.attr_index.proofs.OfLemmas.{lookup_above}
-use Rattle.attr_types.proofs.EntryLemmas.{below_all, lookup-insert_here, lookup-insert_other, lookup-remove}
+use Rattle.attr_types.proofs.EntryLemmas.{below_all}
 use Rattle.attr_types.specs.Value.{value_cmp}
 use Rattle.attr_types.specs.ProofsForOrder.{value_cmp_total}
 use Rattle.attr_types.specs.declared.items.Item.{Item}
 use Rattle.attr_types.specs.declared.value.Value.{Value}
 use Rattle.attr_index.specs.Columns.{Column, documents_with, with_change}
 use Rattle.attr_index.proofs.PartLemmas.{placed}
-use Rattle.attr_index.proofs.ListLemmas.{apart_back, weight_in-push_new}
 use Rattle.attr_index.proofs.ChangeLemmas.{documents_with-change, untouched}
 use Rattle.attr_index.specs.Index.{Index, IsFormed, IsIndexOf, list_of, with_list, with_posting, without_posting, weight_in}
-use Rattle.attr_index.specs.Changes.{HasItems, settled, IsPartway}
+use Rattle.attr_index.specs.Changes.{IsPartway}
 
 -- ---- keys
 

@@ -1,5 +1,5 @@
 -- The index between, while one document's items change: two walks, over the new items and then over the old.
-use Rattle.std.specs.Prelude.{◌≡◌, ℕ, ℤ, Bool, false, ◌||◌, List, [], ◌∷◌, ◌++◌, Option, None, Some, is_some, unwrap_or, option_map}
+use Rattle.std.specs.Prelude.{◌≡◌, ℕ, ℤ, Bool, false, List, [], ◌∷◌, Option, None, Some, is_some}
 use Rattle.std.specs.Prelude.{option_and_then}
 use Rattle.std.specs.Prelude.{if◌then◌else◌}
 use Rattle.std.specs.BTreeMap.{insert_entry, is_at}
@@ -8,7 +8,7 @@ use Rattle.std.specs.Ordering.{nat_cmp, int_eq}
 use Rattle.attr_types.specs.declared.items.Item.{Item}
 use Rattle.attr_types.specs.Value.{value_cmp}
 use Rattle.attr_types.specs.declared.value.Value.{Value}
-use Rattle.attr_index.specs.Index.{Index, IsFormed, list_of, weight_in, with_posting, without_posting}
+use Rattle.attr_index.specs.Index.{Index, IsFormed, list_of, weight_in}
 
 abbrev pub is_weight : ℤ → Option ℤ → Bool
 is_weight weight None = false

@@ -1,6 +1,6 @@
 -- Where a loading stands between two batches.
-use Rattle.std.proofs.Common.{◌≡◌, ℕ, zero, suc, ◌+◌, ◌-◌, ◌*◌, ◌/◌, ◌<◌, ◌≤◌, List, [], ◌∷◌, ◌++◌, length, Option, Some, None, inl, inr, mul-zero, refl, sym, ap, ◌∙◌, subst, arith}
-use Rattle.std.specs.Prelude.{take, drop, min, slice_get, All}
+use Rattle.std.proofs.Common.{◌≡◌, ℕ, zero, suc, ◌+◌, ◌-◌, ◌*◌, ◌/◌, ◌<◌, ◌≤◌, List, [], ◌∷◌, ◌++◌, length, Some, None, inl, inr, mul-zero, refl, sym, ap, ◌∙◌, subst, arith}
+use Rattle.std.specs.Prelude.{take, drop, min, slice_get}
 use Rattle.std.proofs.lemmas.List.{length-append, length-take, length-drop}
 use Rattle.std.proofs.lemmas.Bool.{cases_lt}
 use Rattle.std.proofs.lemmas.Option.{slice_get_within, get_or_from_slice_get}
@@ -9,16 +9,14 @@ use Rattle.image_base.specs.declared.Image.{Image}
 use Rattle.image_base.specs.Images.{no_image, words_at}
 use Rattle.arena_api.specs.Calls.{told_after}
 use Rattle.store_api.specs.Ledgers.{Ledger}
-use Rattle.attr_images.specs.Images.{IsLawfulImage, table_of, operations_at}
+use Rattle.attr_images.specs.Images.{IsLawfulImage, table_of}
 use Rattle.attr_images.specs.Shapes.{shape_of, types_of}
-use Rattle.attr_types.specs.Table.{Table, after_ops, after, skipped, skipped_ops}
+use Rattle.attr_types.specs.Table.{after_ops, after, skipped, skipped_ops}
 use Rattle.attr_types.specs.declared.field.Field.{Field}
 use Rattle.attr_types.specs.declared.op.Op.{Op}
 use Rattle.attribute_kinds.specs.Views.{AttributeView}
-use Rattle.attr_loader.specs.Loading.{commit_point, IsImageAfter, AreCommits, told_of, IsAtStart, StaysIn, EndsAt, Loads}
-use Rattle.attr_loader.specs.Batches.{KeepsCommit, MakesCommit, AppliesAll, FindsNoRoom, LoadsAll}
-use Rattle.attr_loader.specs.declared.loaded.Loaded.{Loaded}
-use Rattle.attr_loader.specs.declared.loaded.NoRoom.{NoRoom}
+use Rattle.attr_loader.specs.Loading.{commit_point, IsImageAfter, AreCommits, told_of, IsAtStart, StaysIn, Loads}
+use Rattle.attr_loader.specs.Batches.{FindsNoRoom, LoadsAll}
 use Rattle.attr_loader.proofs.Applying.{after_ops-append, skipped_ops-append, skipped_ops-few, stays_on}
 use Rattle.attr_loader.proofs.Points.{whole, next_point, batch_of}
 

@@ -1,5 +1,5 @@
 -- What one batch makes of attributes.
-use Rattle.std.specs.Prelude.{◌≡◌, ℕ, ◌+◌, ◌<◌, ◌≤◌, List, length}
+use Rattle.std.specs.Prelude.{◌≡◌, ℕ, ◌+◌, ◌≤◌, List, length}
 use Rattle.image_base.specs.declared.Image.{Image}
 use Rattle.image_base.specs.Images.{words_at}
 use Rattle.arena_api.specs.Calls.{told_after}

@@ -1,10 +1,9 @@
 -- What a loading makes of attributes and of what their store tells.
-use Rattle.std.specs.Prelude.{◌≡◌, ℕ, zero, suc, ◌+◌, ◌-◌, ◌*◌, ◌/◌, ◌^◌, ◌<◌, ◌≤◌, min, List, [], length, slice_get, Option, Some, None}
+use Rattle.std.specs.Prelude.{◌≡◌, ℕ, suc, ◌+◌, ◌-◌, ◌*◌, ◌/◌, ◌^◌, ◌<◌, ◌≤◌, min, List, [], length, slice_get, Option, Some, None}
 use Rattle.std.specs.Prelude.{All}
 use Rattle.std.specs.List.{AllByRecursion}
 use Rattle.image_base.specs.declared.Image.{Image}
 use Rattle.image_base.specs.Images.{no_image, words_at}
-use Rattle.arena_api.specs.Works.{WorkView}
 use Rattle.store_api.specs.Ledgers.{Ledger}
 use Rattle.attr_images.specs.Images.{IsLawfulImage, table_of, operations_at}
 use Rattle.attr_images.specs.Shapes.{shape_of, types_of}

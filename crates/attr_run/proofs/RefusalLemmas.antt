@@ -1,5 +1,5 @@
 -- Words are refused by the first query that the grammar refuses.
-use Rattle.std.proofs.Common.{◌≡◌, ◌∙◌, sym, ap, ap₂, refl, subst, ℕ, ◌+◌, List, [], ◌∷◌, ◌++◌, length, Result, Ok, Err, suc, arith}
+use Rattle.std.proofs.Common.{◌≡◌, ◌∙◌, sym, ap, refl, subst, ℕ, ◌+◌, List, [], ◌∷◌, ◌++◌, length, Result, Ok, Err, suc, arith}
 use Rattle.std.specs.List.{AllByRecursion, AllZip}
 use Rattle.std.specs.Str.{IsUtf8}
 use Rattle.clap.specs.Walk.{Text}
@@ -10,12 +10,10 @@ use Rattle.attr_scores.specs.Scores.{AskTree}
 use Rattle.query_text.specs.Asks.{ask_of}
 use Rattle.query_text.specs.Grammar.{any_word, Answers}
 use Rattle.query_text.specs.Laws.{ReadsByGrammar, AnswersOnce}
-use Rattle.attr_report.specs.Run.{Run}
 use Rattle.attr_run.specs.Run.{◌>>=◌, given_or_refused, ask_or_refused, asks_from, run_of, asked}
-use Rattle.attr_run.specs.Settings.{IsTextOf, IsFirstRefused, IsRefusedSo, QueriesAreRefused}
+use Rattle.attr_run.specs.Settings.{IsTextOf, QueriesAreRefused}
 use Rattle.attr_run.specs.declared.outcome.Status.{Status}
 use Rattle.attr_run.specs.declared.outcome.Status.TheVariants.{Usage}
-use Rattle.attr_run.specs.declared.outcome.UsageCause.{UsageCause}
 use Rattle.attr_run.specs.declared.outcome.UsageCause.TheVariants as usage
 
 abbrev refusal : ℕ → QueryError → Status

@@ -1,5 +1,5 @@
 -- A run of the engine is what its answer says.
-use Rattle.std.proofs.Common.{◌≡◌, ◌+◌, ◌*◌, ◌≤◌, ◌<◌, refl, sym, subst, ℕ, List, length, Option, Some, None, nat_lt, true, false, IfSome, IfOk, IsOk, Ok, arith}
+use Rattle.std.proofs.Common.{◌≡◌, ◌+◌, ◌*◌, ◌≤◌, ◌<◌, refl, sym, subst, ℕ, List, length, Option, Some, None, true, false, IfSome, Ok, arith}
 use Rattle.std.proofs.lemmas.Bool.Decides.{nat_tests}
 use Rattle.std.proofs.Math.Nat.{mul-le-mul}
 use Rattle.clap.specs.Walk.{Text}

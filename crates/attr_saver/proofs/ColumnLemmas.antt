@@ -1,18 +1,13 @@
 -- The first attribute of a lawful table may be saved.
-use Rattle.std.proofs.Common.{◌≡◌, ℕ, ◌<◌, ◌≤◌, ◌^◌, List, [], ◌∷◌, length, map, refl, sym, ap, subst, arith}
-use Rattle.std.specs.List.{AllByRecursion, AllZip}
+use Rattle.std.proofs.Common.{◌≡◌, ℕ, List, [], ◌∷◌, refl, ap}
+use Rattle.std.specs.List.{AllByRecursion}
 use Rattle.std.specs.Map.{keys_of}
-use Rattle.attr_types.specs.Lawful.{ItemsFit, IsLawfulItems, IsLawfulDocument, IsLawfulTable, DocumentHasType, DocumentsHaveType}
+use Rattle.attr_types.specs.Lawful.{ItemsFit, IsLawfulDocument, IsLawfulTable, DocumentHasType, DocumentsHaveType}
 use Rattle.attr_types.specs.Query.{items_in}
 use Rattle.attr_types.specs.Table.{Table}
-use Rattle.attr_types.specs.Value.{AreOfType, values_of, Document}
+use Rattle.attr_types.specs.Value.{Document}
 use Rattle.attr_types.specs.declared.field.Field.{Field}
-use Rattle.attr_types.specs.declared.items.Item.{Item}
-use Rattle.attr_types.specs.declared.kind.Kind.{Kind}
-use Rattle.attr_types.specs.declared.kind.Kind.TheVariants.{Single, Array, WeightedSet}
-use Rattle.attr_types.specs.declared.kind.ValueType.{ValueType}
 use Rattle.attr_saver.specs.Lawful.{first_column, docs_of, AreLawfulDocuments}
-use Rattle.attr_saver.specs.declared.saved.SavedDocument.{SavedDocument}
 
 docs_are : (table : Table) → keys_of table ≡ docs_of (first_column table)
 docs_are [] = refl

@@ -1,26 +1,23 @@
 -- Items and documents that follow each other are those that a kind allows, and the other way round.
-use Rattle.std.proofs.Common.{◌≡◌, ℕ, zero, suc, ◌+◌, ◌<◌, ◌≤◌, Bool, true, List, [], ◌∷◌, length, map, Option, Some, None, Ordering, Less, nat_cmp, is_lt, pos, refl, sym, ap, arith, unwrap_or}
+use Rattle.std.proofs.Common.{◌≡◌, ℕ, ◌+◌, ◌<◌, ◌≤◌, true, List, [], ◌∷◌, length, map, Option, Some, None, Ordering, Less, nat_cmp, is_lt, pos, refl, sym, ap, arith}
 use Rattle.std.specs.Cmp.{nat_cmp_is}
-use Rattle.std.specs.List.{AllByRecursion, AllZip}
+use Rattle.std.specs.List.{AllByRecursion}
 use Rattle.std.specs.List.Sorted.{IsStrictlySortedBy}
 use Rattle.std.proofs.lemmas.List.{length-map}
 use Rattle.std.proofs.lemmas.Cmp.{ranked, nat_cmp_total}
-use Rattle.attr_types.specs.Lawful.{last_doc, IsDocNumber, HaveWeightOne, AscendByValue, IsLawfulItems, ItemsFit, IsLawfulDocument, IsLawfulTable, DocumentHasType, DocumentsHaveType}
+use Rattle.attr_types.specs.Lawful.{last_doc, IsDocNumber, IsLawfulItems, ItemsFit}
 use Rattle.attr_types.specs.ProofsForOrder.{value_cmp_total}
-use Rattle.attr_types.specs.Query.{items_in}
-use Rattle.attr_types.specs.Table.{Table}
-use Rattle.attr_types.specs.Value.{value_cmp, values_of, type_of, AreOfType, Document}
-use Rattle.attr_types.specs.declared.field.Field.{Field}
+use Rattle.attr_types.specs.Value.{value_cmp, values_of, type_of, AreOfType}
 use Rattle.attr_types.specs.declared.items.Item.{Item}
 use Rattle.attr_types.specs.declared.kind.Kind.{Kind}
 use Rattle.attr_types.specs.declared.kind.Kind.TheVariants.{Single, Array, WeightedSet}
 use Rattle.attr_types.specs.declared.kind.ValueType.{ValueType}
 use Rattle.attr_types.specs.declared.value.Value.{Value}
 use Rattle.attr_saver.specs.Fields.{may_follow, most_by_kind}
-use Rattle.attr_saver.specs.Lawful.{first_column, docs_of, AreLawfulDocuments, IsStorable}
+use Rattle.attr_saver.specs.Lawful.{docs_of, AreLawfulDocuments, IsStorable}
 use Rattle.attr_saver.specs.declared.saved.SavedDocument.{SavedDocument}
 use Rattle.attr_saver.proofs.Rows.{Chain, chain_all}
-use Rattle.attr_saver.proofs.SaveLemmas.{ValueFits, WeightFits, ItemFits}
+use Rattle.attr_saver.proofs.SaveLemmas.{WeightFits, ItemFits}
 
 all_map : {A B : Type 0} (f : A → B) (Q : B → Type 0) (xs : List A) → AllByRecursion (λ x. Q (f x)) xs → AllByRecursion Q (map f xs)
 all_map f Q [] all = tt

@@ -1,13 +1,9 @@
 -- A save that is read is the save that was written, and what was written is read again.
-use Rattle.std.proofs.Common.{◌≡◌, ℕ, zero, suc, ◌+◌, ◌^◌, ◌<◌, ◌≤◌, Bool, true, false, cond, ltb, leb, eqb, ◌&&◌, List, [], ◌∷◌, ◌++◌, length, Option, Some, None, Result, Ok, Err, ℤ, pos, FitsSigned, refl, sym, ap}
+use Rattle.std.proofs.Common.{◌≡◌, ℕ, ◌^◌, ◌≤◌, true, List, ◌++◌, length, Option, Ok, ℤ, pos, FitsSigned, refl, sym, ap}
 use Rattle.std.proofs.Common.{subst, ◌∙◌, append_assoc, arith}
 use Rattle.std.specs.Int.{w16, w32, to_be_bytes, cast_signed, cast_unsigned}
-use Rattle.std.specs.List.{flat_map}
 use Rattle.std.proofs.Math.Facts.{sfits_to_z, Fits-of_lt, Fits-of_z}
-use Rattle.std.proofs.lemmas.Bool.{ltb-false, ltb-true, le-ltb, lt-ltb, eqb-true, leb-true}
 use Rattle.std.proofs.lemmas.Int.{of_z-to_z, to_z-of_z}
-use Rattle.std.proofs.lemmas.List.{append-nil, nil_from_length}
-use Rattle.attr_types.specs.Lawful.{last_doc}
 use Rattle.attr_types.specs.Value.{type_of}
 use Rattle.attr_types.specs.declared.items.Item.{Item}
 use Rattle.attr_types.specs.declared.kind.Kind.{Kind}
@@ -16,13 +12,12 @@ use Rattle.attr_types.specs.declared.kind.ValueType.{ValueType}
 use Rattle.attr_types.specs.declared.kind.ValueType.TheVariants as types
 use Rattle.attr_types.specs.declared.value.Value.{Value}
 use Rattle.attr_types.specs.declared.value.Value.TheVariants as values
-use Rattle.attr_saver.specs.Bytes.{text_bytes, value_bytes, weight_bytes, item_bytes, document_bytes, saved_bytes, form_bytes, head_bytes, magic, kind_byte, type_byte}
-use Rattle.attr_saver.specs.Fields.{◌>>=◌, Read, bad, read_number, may_follow, following, read_long, read_text_len, read_text, read_value, read_weight, read_item, read_row, read_items}
+use Rattle.attr_saver.specs.Bytes.{text_bytes, value_bytes, weight_bytes, item_bytes}
+use Rattle.attr_saver.specs.Fields.{◌>>=◌, read_number, may_follow, following, read_long, read_text_len, read_text, read_value, read_weight, read_item}
 use Rattle.attr_saver.specs.Laws.{AreBytes}
-use Rattle.attr_saver.specs.Lawful.{IsStorableValue, IsStorableText, IsStorable}
-use Rattle.attr_saver.proofs.FieldLemmas.{bind_ok, ok_is, unless_ok, where_ok, Takes, Takes-then, Takes-nothing, wide16, wide32, number_takes, number_again}
+use Rattle.attr_saver.specs.Lawful.{IsStorableValue, IsStorableText}
+use Rattle.attr_saver.proofs.FieldLemmas.{bind_ok, ok_is, where_ok, Takes, Takes-then, Takes-nothing, wide32, number_takes, number_again}
 use Rattle.attr_saver.proofs.FieldLemmas.{long_takes, long_again, text_len_takes, text_len_again, text_takes, text_again}
-use Rattle.attr_saver.proofs.Rows.{Chain, row_takes, row_again}
 
 -- ---- values
 

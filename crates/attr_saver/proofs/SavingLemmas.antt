@@ -1,11 +1,7 @@
 -- What is written one after another is a save.
-use Rattle.std.proofs.Common.{◌≡◌, ℕ, ◌+◌, ◌≤◌, ◌<◌, ◌^◌, List, [], ◌∷◌, ◌++◌, length, Fits, w32, refl, sym, ap, ◌∙◌, arith}
+use Rattle.std.proofs.Common.{◌≡◌, ℕ, ◌+◌, List, [], ◌∷◌, ◌++◌, length, Fits, w32, refl, arith}
 use Rattle.std.specs.List.{flat_map}
-use Rattle.std.proofs.lemmas.List.{length-map}
-use Rattle.attr_types.specs.Lawful.{last_doc}
-use Rattle.attr_types.specs.Query.{items_in}
 use Rattle.attr_types.specs.Table.{Table}
-use Rattle.attr_types.specs.Value.{Document}
 use Rattle.attr_types.specs.declared.kind.Kind.{Kind}
 use Rattle.attr_types.specs.declared.kind.ValueType.{ValueType}
 use Rattle.attr_saver.specs.Bytes.{form_bytes, head_bytes, document_bytes, saved_bytes}

@@ -1,8 +1,8 @@
 -- Whole documents and whole saves: what is read is what was written, and what was written is read again.
-use Rattle.std.proofs.Common.{◌≡◌, ℕ, ◌+◌, ◌-◌, ◌^◌, ◌<◌, ◌≤◌, Bool, true, false, cond, ltb, leb, eqb, ◌&&◌, List, [], ◌∷◌, ◌++◌, length, Option, Some, None, Result, Ok, Err, IfOk, refl, sym, ap, subst, ◌∙◌}
+use Rattle.std.proofs.Common.{◌≡◌, ℕ, ◌-◌, ◌^◌, ◌<◌, ◌≤◌, Bool, true, false, cond, ltb, leb, eqb, ◌&&◌, List, [], ◌∷◌, ◌++◌, length, Some, None, Result, Ok, Err, refl, sym, ap, subst, ◌∙◌}
 use Rattle.std.proofs.Common.{append_assoc, arith}
 use Rattle.std.specs.Int.{w16, w32, to_be_bytes}
-use Rattle.std.specs.List.{flat_map, AllByRecursion}
+use Rattle.std.specs.List.{flat_map}
 use Rattle.std.proofs.lemmas.Bool.{ltb-false, ltb-true, le-ltb, lt-ltb, eqb-true, leb-true, le-leb}
 use Rattle.std.proofs.lemmas.List.{append-nil, nil_from_length}
 use Rattle.attr_types.specs.Lawful.{last_doc}
@@ -10,18 +10,17 @@ use Rattle.attr_types.specs.declared.items.Item.{Item}
 use Rattle.attr_types.specs.declared.kind.Kind.{Kind}
 use Rattle.attr_types.specs.declared.kind.Kind.TheVariants.{Single, Array, WeightedSet}
 use Rattle.attr_types.specs.declared.kind.ValueType.{ValueType}
-use Rattle.attr_types.specs.declared.value.Value.{Value}
 use Rattle.attr_saver.specs.Bytes.{item_bytes, document_bytes, saved_bytes, form_bytes, head_bytes, magic, kind_byte, type_byte}
-use Rattle.attr_saver.specs.Fields.{◌>>=◌, Read, bad, read_number, read_magic, read_kind, read_type, read_count, read_item, read_items, read_doc, most_by_kind, read_item_count, read_document, read_documents}
+use Rattle.attr_saver.specs.Fields.{◌>>=◌, bad, read_number, read_magic, read_kind, read_type, read_count, read_item, read_items, read_doc, most_by_kind, read_item_count, read_document, read_documents}
 use Rattle.attr_saver.specs.Fields.{read_fields, with_offset, read_of}
 use Rattle.attr_saver.specs.Laws.{AreBytes}
-use Rattle.attr_saver.specs.Lawful.{AreLawfulDocuments, IsLawfulSaved}
+use Rattle.attr_saver.specs.Lawful.{IsLawfulSaved}
 use Rattle.attr_saver.specs.declared.saved.Saved.{Saved}
 use Rattle.attr_saver.specs.declared.saved.SavedDocument.{SavedDocument}
-use Rattle.attr_saver.proofs.Columns.{DocumentFits, DocumentChain, StoresItems, column_lawful, column_chain, column_few}
+use Rattle.attr_saver.proofs.Columns.{DocumentFits, column_lawful, column_chain, column_few}
 use Rattle.attr_saver.proofs.FieldLemmas.{bind_ok, ok_is, unless_ok, where_ok, Takes, Takes-then, wide16, wide32, number_takes, number_again}
-use Rattle.attr_saver.proofs.FieldLemmas.{magic_takes, magic_again, kind_takes, kind_again, type_takes, type_again, count_takes, count_again}
-use Rattle.attr_saver.proofs.Rows.{Chain, row_takes, row_again}
+use Rattle.attr_saver.proofs.FieldLemmas.{magic_takes, kind_takes, kind_again, type_takes, type_again, count_takes, count_again}
+use Rattle.attr_saver.proofs.Rows.{row_takes, row_again}
 use Rattle.attr_saver.proofs.SaveLemmas.{ItemFits, item_takes, item_again}
 
 -- ---- documents

@@ -1,6 +1,6 @@
 -- A save read field by field, each with its rule. A reader gives the field's value and the bytes after it. The first
 -- field that breaks its rule, or ends past the input, is told by how many bytes are left where it begins.
-use Rattle.std.specs.Prelude.{ℕ, ℤ, zero, suc, pos, ◌-◌, ◌&&◌, Bool, true, false, nat_lt, nat_le, nat_eq, if◌then◌else◌}
+use Rattle.std.specs.Prelude.{ℕ, ℤ, zero, suc, pos, ◌-◌, ◌&&◌, Bool, true, nat_lt, nat_le, nat_eq, if◌then◌else◌}
 use Rattle.std.specs.Prelude.{List, [], ◌∷◌, length, take, drop, slice_get, Option, Some, None, option_map, Result, Ok, Err}
 use Rattle.std.specs.Int.{Width, w8, w16, w32, w64, byte_len, from_be_bytes, cast_signed}
 use Rattle.std.specs.List.{starts_with}

@@ -44,7 +44,8 @@ module _ (laws : FieldLaws) {H : Type 0} (now new : Ledger H) (m n : Records) (t
     (partly : ArePartly m trees before after i) (refers : AllReferBeside now m trees (parts_of trees)) (turned : After now new m n (parts_of trees) (parts_of (set trees i b)) (parts_of (rest_at trees i)))
     (is_field : IsFieldAt n b) (column_is : column_in n b ≡ column_of i after) where
   other : (j : ℕ) (c : AttributeTrees) → j ≢ i → slice_get trees j ≡ Some c → IsSameAt m n c
-  other j c apart there = stays_beside laws m n c (AllByRecursion-slice_get (IsFieldAt m) trees j c partly.each there) now (parts_of trees) (AllByRecursion-slice_get (RefersAt now m (parts_of trees)) trees j c refers there)
+  other j c apart there = stays_beside laws m n c (AllByRecursion-slice_get (IsFieldAt m) trees j c partly.each there) now (parts_of trees)
+      (AllByRecursion-slice_get (RefersAt now m (parts_of trees)) trees j c refers there)
       (stay_at trees i j c m n turned.stay there apart) turned.turns.kept
 
   field_at : (j : ℕ) (c : AttributeTrees) → slice_get (set trees i b) j ≡ Some c → IsFieldAt n c

@@ -1,9 +1,9 @@
 -- A change that fits makes items that fit of such items.
-use Rattle.std.proofs.Common.{◌≡◌, ℕ, ℤ, pos, ◌+ℤ◌, ◌≤◌, Bool, true, false, cond, not, List, [], ◌∷◌, ◌++◌, map, length}
+use Rattle.std.proofs.Common.{◌≡◌, ℕ, ℤ, pos, ◌+ℤ◌, ◌≤◌, Bool, true, false, cond, not, List, ◌++◌, length}
 use Rattle.std.proofs.Common.{leb, leb-true, Option, Some, None, option_map, refl, sym, ap, ◌∙◌, subst, arith}
 use Rattle.std.proofs.lemmas.List.{length-set}
 use Rattle.std.proofs.lemmas.List.Filters.{length-filter_both}
-use Rattle.std.specs.List.{AllByRecursion, filter, slice_get, slice_set}
+use Rattle.std.specs.List.{filter, slice_set}
 use Rattle.std.specs.List.Sorted.{IsStrictlySortedBy}
 use Rattle.std.specs.Option.{IfSome, option_and_then}
 use Rattle.list_facts.proofs.Each.{AllByRecursion-append}
@@ -12,7 +12,7 @@ use Rattle.attr_types.proofs.ItemLemmas.{all-with_items, ascend-with_items, all_
 use Rattle.attr_types.proofs.ItemLemmas.{values_of-set, changed_at-then}
 use Rattle.attr_types.specs.Change.{with_items, is_named, if_within_limit, if_signed, shifted, new_value, new_weight}
 use Rattle.attr_types.specs.Change.{with_new_value, with_new_weight, changed_at, place_of, changed, most_items}
-use Rattle.attr_types.specs.Lawful.{HaveWeightOne, AscendByValue, ItemsFit, ActFits, ChangeFits}
+use Rattle.attr_types.specs.Lawful.{HaveWeightOne, ItemsFit, ActFits, ChangeFits}
 use Rattle.attr_types.specs.Value.{value_cmp, values_of, type_of, AreOfType}
 use Rattle.attr_types.specs.declared.change.Act.{Act}
 use Rattle.attr_types.specs.declared.change.Act.TheVariants as acts

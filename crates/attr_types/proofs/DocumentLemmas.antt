@@ -1,6 +1,6 @@
 -- Documents that fit: what an update makes of them, and one without items.
-use Rattle.std.proofs.Common.{◌≡◌, ◌≤◌, List, [], ◌∷◌, map, Option, Some, None, refl, arith}
-use Rattle.std.specs.List.{AllByRecursion, AllZip}
+use Rattle.std.proofs.Common.{List, [], ◌∷◌, Option, Some, None, arith}
+use Rattle.std.specs.List.{AllZip}
 use Rattle.std.specs.List.Sorted.{IsStrictlySortedBy}
 use Rattle.std.specs.Option.{IfSome}
 use Rattle.attr_types.proofs.ChangeLemmas.{changed_fits}

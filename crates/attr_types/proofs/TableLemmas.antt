@@ -13,7 +13,7 @@ use Rattle.attr_types.proofs.EntryLemmas.{all-lookup, all_keys-insert, all_value
 use Rattle.attr_types.proofs.EntryLemmas.{all_keys-remove, all-remove, sorted-remove, lookup-insert_here}
 use Rattle.attr_types.proofs.EntryLemmas.{lookup-insert_other, lookup-remove, nat_cmp_apart}
 use Rattle.attr_types.specs.Lawful.{IsDocNumber, IsLawfulDocument, IsLawfulTable, DocumentHasType, DocumentsHaveType, OpFits}
-use Rattle.attr_types.specs.Table.{Table, op_doc, document_at, with_document, without_document, without_items}
+use Rattle.attr_types.specs.Table.{Table, op_doc, document_at, with_document, without_document}
 use Rattle.attr_types.specs.Table.{to_update, updated, step, is_skipped, after_op, after_ops, after}
 use Rattle.attr_types.specs.Value.{Document}
 use Rattle.attr_types.specs.declared.change.Change.{Change}

@@ -1,14 +1,13 @@
 -- A compaction that is under way stays so through operations and commits.
-use Rattle.std.proofs.Common.{◌≡◌, ℕ, zero, suc, Bool, true, false, List, [], ◌∷◌, length, Option, None, Some, refl, sym, ap, ap₂, subst, ◌∙◌, true≢false}
+use Rattle.std.proofs.Common.{◌≡◌, ℕ, zero, suc, Bool, true, false, List, [], ◌∷◌, Option, None, Some, refl, sym, ap, ap₂, subst, ◌∙◌, true≢false}
 use Rattle.std.specs.Prelude.{◌&&◌, is_some, not, slice_get}
-use Rattle.std.specs.List.{AllByRecursion, AllZip}
+use Rattle.std.specs.List.{AllZip}
 use Rattle.std.specs.Option.{IfSome}
 use Rattle.image_base.specs.Records.{Records}
 use Rattle.store_api.specs.Ledgers.{Ledger, is_this}
 use Rattle.store_api.specs.declared.store.Stored.{Stored}
 use Rattle.attr_compaction.specs.Places.{PlanView}
 use Rattle.attr_compaction.specs.declared.plan.PlanKey.{PlanKey}
-use Rattle.attr_field.specs.declared.roots.FieldRoots.{FieldRoots}
 use Rattle.attr_images.specs.Tables.{AttributeTrees}
 use Rattle.attr_types.specs.declared.field.Field.{Field}
 use Rattle.attr_types.specs.declared.kind.ValueType.{ValueType}
@@ -16,7 +15,7 @@ use Rattle.attr_types.specs.declared.op.Op.{Op}
 use Rattle.plan_keys.specs.PhaseKeys.{HasType}
 use Rattle.attr_steps.specs.Calls.{KeepsStore}
 use Rattle.attr_steps.specs.Commits.{CommitsAttributes}
-use Rattle.attr_steps.specs.Fields.{FlowsTrees, HoldsAttributes, IsFieldAt}
+use Rattle.attr_steps.specs.Fields.{FlowsTrees, HoldsAttributes}
 use Rattle.attr_steps.specs.Steps.{StepsTo}
 use Rattle.compact_steps.specs.LeavesCleared.{AllStayLeavesCleared, IsCleared, OperationLeavesCleared}
 use Rattle.compact_steps.specs.Units.{IsUnderWay}

@@ -1,5 +1,5 @@
 -- What holds of attributes between calls: through an operation, and where one was refused.
-use Rattle.std.proofs.Common.{◌≡◌, ℕ, List, length, sym, ap, subst, ◌∙◌, arith}
+use Rattle.std.proofs.Common.{◌≡◌, ℕ, List, length, sym, ap, subst, ◌∙◌}
 use Rattle.image_base.specs.Images.{words_at}
 use Rattle.image_base.specs.Records.{Records}
 use Rattle.image_base.specs.declared.Image.{Image}

@@ -1,5 +1,5 @@
 -- What a store has to spare where it refused an operation, by the values that the operation is about.
-use Rattle.std.specs.Prelude.{◌≡◌, ℕ, ℤ, ◌+◌, ◌*◌, ◌<◌, ◌≤◌, if◌then◌else◌, List, [], ◌∷◌, length}
+use Rattle.std.specs.Prelude.{◌≡◌, ℕ, ℤ, ◌+◌, ◌*◌, ◌<◌, ◌≤◌, List, [], ◌∷◌, length}
 use Rattle.arena_api.specs.Works.{free_count}
 use Rattle.store_api.specs.Ledgers.{Ledger}
 use Rattle.attr_field.specs.Counts.{lost_values}

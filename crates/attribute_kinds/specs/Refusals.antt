@@ -1,5 +1,5 @@
 -- A store's refusal, as one of the attributes, and what a step came to.
-use Rattle.std.specs.Prelude.{Bool, true, false, Option, Result, Ok, Err}
+use Rattle.std.specs.Prelude.{Bool, true, false, Result, Ok, Err}
 use Rattle.std.specs.Option.{option_map}
 use Rattle.store_api.specs.declared.store.StoreError.{StoreError}
 use Rattle.store_api.specs.declared.store.StoreError.TheVariants as errors

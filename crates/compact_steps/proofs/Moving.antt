@@ -81,7 +81,8 @@ module _ (laws : FieldLaws) {H : Type 0} (bits victim : ℕ) (begun mid : Ledger
 
   other : (j : ℕ) (c : AttributeTrees) → j ≢ i → slice_get trees j ≡ Some c → IsSameAt m n c
   other j c apart there =
-      stays_beside laws m n c (AllByRecursion-slice_get (IsFieldAt m) trees j c are.each there) begun before (AllByRecursion-slice_get (RefersAt begun m before) trees j c refer there) (other_stays j c apart there) turned.turns.kept
+      stays_beside laws m n c (AllByRecursion-slice_get (IsFieldAt m) trees j c are.each there) begun before
+      (AllByRecursion-slice_get (RefersAt begun m before) trees j c refer there) (other_stays j c apart there) turned.turns.kept
 
   -- the attribute moved refers to keys, or to old copies beside all parts
   here_refers : RefersAt mid n behind b

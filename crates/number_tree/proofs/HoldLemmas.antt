@@ -1,17 +1,17 @@
 -- A tree that is all that is in use stays so through a unit and through a commit.
-use Rattle.std.proofs.Common.{◌≡◌, ℕ, ◌+◌, ◌<◌, [], ◌∷◌, true, false, Option, None, Some, is_some, refl, sym, ap, subst, ◌∙◌, arith, true≢false}
+use Rattle.std.proofs.Common.{◌≡◌, ℕ, [], ◌∷◌, true, false, Option, None, Some, is_some, refl, sym, ap, subst, ◌∙◌, arith, true≢false}
 use Rattle.std.specs.List.Sorted.{IsStrictlySortedBy}
 use Rattle.std.specs.Ordering.{nat_cmp}
 use Rattle.list_facts.proofs.Each.{AllByRecursion-each}
 use Rattle.entry_ref.specs.References.{buffer_of}
 use Rattle.image_base.specs.Images.{image_of, words_at}
-use Rattle.image_base.specs.Records.{Records, SameAt, AllThere, Among}
+use Rattle.image_base.specs.Records.{Records, SameAt, AllThere}
 use Rattle.arena_api.specs.Calls.{published}
 use Rattle.arena_api.specs.Works.{Sizes, WorkView}
 use Rattle.tree_images.specs.ProofsForTrees.{tree_pairs-same, IsTree-same, tree_there}
 use Rattle.tree_images.specs.Trees.{tree_pairs, tree_nodes, by_number, IsTree}
 use Rattle.key_order.specs.Keys.{IsKeyedTree}
-use Rattle.store_api.specs.Statuses.{Status, in_use}
+use Rattle.store_api.specs.Statuses.{in_use}
 use Rattle.store_api.specs.Ledgers.{Ledger, IsNew, IsSettled, is_this}
 use Rattle.store_api.specs.Units.{MayDo}
 use Rattle.store_api.specs.Calls.{Accepts, Undoes, Refuses, IsWhole, StoresCommit, with_hold}

@@ -4,7 +4,7 @@ use Rattle.std.proofs.Common.{nat_cmp, refl, sym, ap, subst, ◌∙◌, arith}
 use Rattle.std.proofs.lemmas.Bool.{le-ltb}
 use Rattle.std.proofs.lemmas.List.{length-map}
 use Rattle.std.specs.declared.cmp.Ordering.{Ordering}
-use Rattle.std.specs.List.{find, flat_map, AllByRecursion}
+use Rattle.std.specs.List.{find, AllByRecursion}
 use Rattle.std.specs.List.Sorted.{IsStrictlySortedBy}
 use Rattle.std.specs.Map.{keys_of}
 use Rattle.std.specs.Ordering.{ordering_reverse, ordering_then}
@@ -12,7 +12,7 @@ use Rattle.image_base.specs.Records.{Records}
 use Rattle.key_order.specs.Pairs.{choose, lookup_pair, seek}
 use Rattle.tree_images.specs.Trees.{tree_pairs}
 use Rattle.tree_search.specs.Places.{first_key, first_value}
-use Rattle.attr_images.specs.Postings.{ListForm, short, tree, vector, list_form, IsPostingList}
+use Rattle.attr_images.specs.Postings.{tree, list_form, IsPostingList}
 use Rattle.attr_images.specs.Values.{stored_value, IsValueRecord}
 use Rattle.attr_images.specs.Words.{weight_in_bits}
 use Rattle.attr_types.specs.Lawful.{IsDocNumber}
@@ -22,12 +22,12 @@ use Rattle.attr_types.specs.declared.kind.ValueType.{ValueType}
 use Rattle.attr_types.specs.declared.value.Value.{Value as AnyValue}
 use Rattle.attr_compaction.specs.Places.{key_cmp}
 use Rattle.attr_compaction.specs.declared.plan.PlanKey.{PlanKey}
-use Rattle.attr_compaction.specs.declared.plan.PlanKey.TheVariants.{Start, Value, Doc, Pair}
+use Rattle.attr_compaction.specs.declared.plan.PlanKey.TheVariants.{Pair}
 use Rattle.enum_dictionary.specs.Dictionaries.{behind, beside_value}
-use Rattle.posting_store.specs.Lists.{list_at, IsList, IsPlain}
+use Rattle.posting_store.specs.Lists.{IsList, IsPlain}
 use Rattle.posting_store.proofs.FormLemmas.{form_even, form_odd, tree_at, tree_form}
 use Rattle.value_index.specs.Indexes.{IsIndex, IsValuePair}
-use Rattle.plan_keys.specs.PhaseKeys.{first_item, form_docs, key_past, keys_of_pairs, next_in_list, pair_keys, IsListPair}
+use Rattle.plan_keys.specs.PhaseKeys.{first_item, form_docs, key_past, keys_of_pairs, next_in_list, IsListPair}
 use Rattle.plan_keys.proofs.NextLemmas.{lt_cmp, past_number}
 
 -- ---- a list that is a tree, and one that is a record

@@ -88,7 +88,11 @@ length_in_least doc weight (e ∷ es) =
 -- a list that is a tree
 module _ {H : Type 0} (old new : Ledger H) (m n : Records) (word root : ℕ) (list : IsList m word) (plain : IsPlain word) (is : word ≡ 2 * root + 1) where
   pub tree_keyed : IsKeyedTree nat_cmp by_number (λ n key. Unit {0}) (λ n key. []) m root
-  tree_keyed = record { tree = (tree_form m word root plain is list).0; readable = AllByRecursion-each (λ (p : ℕ × ℕ). Unit {0}) (λ p. tt) (tree_pairs m root); apart = AllByRecursion-each (λ (p : ℕ × ℕ). Unit {0}) (λ p. tt) (tree_pairs m root) }
+  tree_keyed = record {
+    tree = (tree_form m word root plain is list).0;
+    readable = AllByRecursion-each (λ (p : ℕ × ℕ). Unit {0}) (λ p. tt) (tree_pairs m root);
+    apart = AllByRecursion-each (λ (p : ℕ × ℕ). Unit {0}) (λ p. tt) (tree_pairs m root);
+  }
 
   counted : (r : ℕ) → count_in r m (list_part word ∷ []) ≡ count_in r m (tree root ∷ [])
   counted r = ap (λ rs. times r rs + 0) (tree_reach m word root plain is)

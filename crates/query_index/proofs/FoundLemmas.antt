@@ -7,9 +7,8 @@ use Rattle.std.proofs.lemmas.List.Folds.{list_any-append}
 use Rattle.std.proofs.lemmas.Map.Views.{Contains-from_any, list_any-from_Contains, tells_apart}
 use Rattle.std.specs.List.{AllByRecursion, list_any, filter, flat_map, find, cons_option, Contains}
 use Rattle.std.specs.Map.{keys_of}
-use Rattle.std.specs.Option.{is_some, unwrap_or}
+use Rattle.std.specs.Option.{is_some}
 use Rattle.std.specs.Ordering.{eq_by_cmp}
-use Rattle.std.specs.Prelude.{slice_get}
 use Rattle.attr_index.proofs.ListLemmas.{same_value}
 use Rattle.attr_index.proofs.OfLemmas.{has_values, has_lists}
 use Rattle.attr_index.specs.Columns.{Column, IsLawfulColumn, column_of, column_values, documents_with}

@@ -1,5 +1,5 @@
 -- The documents that the indexes of a table's attributes hold for a query.
-use Rattle.std.specs.Prelude.{ℕ, suc, ◌≡◌, ◌+◌, Bool, true, false, ◌&&◌, ◌||◌, List, [], ◌∷◌, slice_get, unwrap_or}
+use Rattle.std.specs.Prelude.{ℕ, ◌+◌, Bool, true, false, ◌&&◌, ◌||◌, List, [], ◌∷◌, slice_get, unwrap_or}
 use Rattle.std.specs.List.{list_any}
 use Rattle.attr_index.specs.Columns.{column_of}
 use Rattle.attr_index.specs.Index.{Index, IsIndexOf}

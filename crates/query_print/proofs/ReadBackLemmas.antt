@@ -1,15 +1,15 @@
 -- The text of an ask is read back as it.
-use Rattle.std.proofs.Common.{◌≡◌, ◌≤◌, ℕ, List, nat_lt, true, false, Option, Some, None, Ok, refl, sym, ap, ap₂, subst, ◌∙◌, arith}
+use Rattle.std.proofs.Common.{◌≡◌, ℕ, List, nat_lt, true, false, None, Ok, refl, ap, ap₂, subst, ◌∙◌, arith}
 use Rattle.std.specs.Str.{IsUtf8}
 use Rattle.std.specs.Option.{unwrap_or}
 use Rattle.std.proofs.lemmas.Bool.Decides.{nat_tests}
 use Rattle.attr_types.specs.declared.field.Field.{Field}
 use Rattle.attr_types.specs.Query.{QueryTree, QueryTrees, one, and, or, no_trees, tree}
 use Rattle.attr_scores.specs.Scores.{AskTree, hits_of, dot_of}
-use Rattle.query_text.specs.Grammar.{Words, Word, word_text, tree_text, IsAmong, first_found, unknown_if, unknown_in, unknown_list, unknown_others, unknown_at, resolved, resolved_list, asked_by, has_types, has_range}
+use Rattle.query_text.specs.Grammar.{word_text, first_found, unknown_if, unknown_in, unknown_list, unknown_others, unknown_at, resolved, resolved_list, asked_by, has_types, has_range}
 use Rattle.query_text.specs.Grammar.{word_levels, unless_unknown, checked_by, judged}
 use Rattle.query_text.specs.Laws.{ask_by, ReadsBack}
-use Rattle.query_print.specs.Printing.{name_at, named, named_list, named_word, AllFound, ListFound, AskFound, IsLawfulAsk, ReadsBackAs}
+use Rattle.query_print.specs.Printing.{named, named_list, named_word, AllFound, ListFound, AskFound, IsLawfulAsk, ReadsBackAs}
 
 -- each name is one of the attributes
 mutual

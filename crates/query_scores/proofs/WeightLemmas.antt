@@ -1,5 +1,5 @@
 -- The weight of a document in a list, by the pair that is found.
-use Rattle.std.proofs.Common.{◌≡◌, ◌<◌, ◌/◌, ◌%◌, ℕ, ℤ, pos, Bool, List, map, Option, Some, None, refl, sym, ap, subst, ◌∙◌, cond}
+use Rattle.std.proofs.Common.{◌≡◌, ◌/◌, ℕ, pos, Option, sym, ap, ◌∙◌, cond}
 use Rattle.std.specs.Option.{option_map, unwrap_or}
 use Rattle.std.specs.Ordering.{nat_cmp}
 use Rattle.std.proofs.lemmas.Cmp.{nat_cmp_total}

@@ -1,10 +1,10 @@
 -- The list of a value, by the pair that a dictionary has for it.
-use Rattle.std.proofs.Common.{◌≡◌, ℕ, ℤ, pos, Bool, true, false, ◌||◌, List, [], ◌∷◌, map, Option, Some, None, refl, sym, ap, subst, ◌∙◌, cond, arith}
+use Rattle.std.proofs.Common.{◌≡◌, ℕ, pos, true, false, List, [], ◌∷◌, map, Option, Some, None, refl, sym, ap, ◌∙◌, cond, arith}
 use Rattle.std.specs.BTreeMap.{is_at}
-use Rattle.std.specs.List.{AllByRecursion, find}
+use Rattle.std.specs.List.{find}
 use Rattle.std.specs.Map.{lookup}
 use Rattle.std.specs.Option.{option_map, unwrap_or}
-use Rattle.std.specs.Ordering.{is_eq, nat_cmp}
+use Rattle.std.specs.Ordering.{is_eq}
 use Rattle.image_base.specs.Records.{Records}
 use Rattle.tree_images.specs.Trees.{tree_pairs}
 use Rattle.key_order.specs.Pairs.{lookup_pair}
@@ -12,7 +12,7 @@ use Rattle.attr_images.specs.Postings.{list_form, postings_at, index_of}
 use Rattle.attr_images.specs.Values.{stored_value}
 use Rattle.attr_index.specs.Changes.{HasItems}
 use Rattle.attr_index.specs.Index.{Index, list_of, weight_in}
-use Rattle.attr_scores.specs.Scores.{has_value, weight_of}
+use Rattle.attr_scores.specs.Scores.{weight_of}
 use Rattle.attr_types.specs.Fitting.{is_of_type}
 use Rattle.attr_types.specs.ProofsForOrder.{value_cmp_total}
 use Rattle.attr_types.specs.Value.{type_of, value_cmp}

@@ -1,16 +1,16 @@
 -- What a keeper knows after each call of its store.
-use Rattle.std.proofs.Common.{◌≡◌, ◌⊎◌, ℕ, zero, suc, ◌+◌, ◌<◌, ◌≤◌, List, [], ◌∷◌, length, true, false, Option, Some, None, refl, sym, ap, subst, ◌∙◌, arith, inl, inr, cond, Bool, true≢false}
+use Rattle.std.proofs.Common.{◌≡◌, ℕ, zero, suc, ◌+◌, ◌<◌, ◌≤◌, List, [], ◌∷◌, length, true, false, Option, Some, None, refl, sym, ap, subst, ◌∙◌, arith, inl, inr, cond, Bool, true≢false}
 use Rattle.std.proofs.lemmas.Bool.{eq-eqb, ne_eqb}
 use Rattle.entry_ref.specs.References.{buffer_of}
 use Rattle.image_base.specs.Images.{image_of, words_at}
 use Rattle.image_base.specs.Records.{Records, SameAt, AllThere, Among}
 use Rattle.node_turns.specs.OneNode.{node_reaches, IsNodeRecord}
-use Rattle.store_api.specs.Statuses.{Status, in_use}
+use Rattle.store_api.specs.Statuses.{in_use}
 use Rattle.store_api.specs.Ledgers.{Ledger, IsNew, IsSettled, is_this}
 use Rattle.store_api.specs.Units.{MayDo}
 use Rattle.store_api.specs.Calls.{Accepts, Undoes, IsWhole, Seals, StoresCommit}
 use Rattle.store_api.specs.declared.store.Stored.{Stored}
-use Rattle.store_api.specs.Parts.{Part, Owns, OwnsAll, Turns, entry, entries, times, uses}
+use Rattle.store_api.specs.Parts.{Owns, OwnsAll, Turns, entry, entries, times, uses}
 use Rattle.store_api.proofs.CommitLemmas.{whole-from, commit-owns, commit-same}
 use Rattle.store_api.proofs.Times.{times-same}
 use Rattle.store_api.proofs.Uses.{uses-out, uses-same, uses-few}

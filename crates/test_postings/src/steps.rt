@@ -101,8 +101,8 @@ fn walked<const OFFSET_BITS: u32, F: Frozen<OFFSET_BITS>>(
     Ok(postings)
 }
 
-/// What the list of the documents from one to another comes to in a store that is new, as `words_of` tells it; or where `again` says so, the
-/// list after the document behind the last was put in and taken out.
+/// What the list of the documents from one to another comes to in a store that is new, as `words_of` tells it; or where `again` says so,
+/// the list after the document behind the last was put in and taken out.
 pub fn form_of<const OFFSET_BITS: u32, S: Store<OFFSET_BITS>>(
     store: &mut S,
     first: u32,

@@ -1,4 +1,4 @@
-use Rattle.std.proofs.Common.{◌≡◌, ◌+◌, ◌≤◌, ◌++◌, drop, length, map, string_bytes}
+use Rattle.std.proofs.Common.{◌≡◌, ◌+◌, ◌++◌, drop, map, string_bytes}
 use Rattle.attr_answers.specs.Lines.{lines_from}
 use Rattle.attr_images.specs.Images.{table_of}
 use Rattle.attr_scores.specs.Scores.{ask_tree}

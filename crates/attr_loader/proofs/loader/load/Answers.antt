@@ -1,10 +1,10 @@
-use Rattle.std.proofs.Common.{◌≡◌, ◌+◌, ◌<◌, ◌∙◌, ℕ, List, length, refl, sym, ap, subst, arith}
+use Rattle.std.proofs.Common.{◌≡◌, ◌<◌, ◌∙◌, List, length, refl, sym, ap, subst, arith}
 use Rattle.std.specs.Prelude.{take, drop}
 use Rattle.std.proofs.lemmas.List.{length-drop, drop-drop}
 use Rattle.std.proofs.lemmas.Bool.{eqb-true, eqb-false}
 use Rattle.attr_types.specs.declared.op.Op.{Op}
 use Rattle.attr_loader.specs.Batches.{LoadsBatch}
-use Rattle.attr_loader.proofs.Stands.{Stands, starts, stands_on, more_few, part-long, finds_no_room, ends_all}
+use Rattle.attr_loader.proofs.Stands.{starts, stands_on, more_few, part-long, finds_no_room, ends_all}
 use Rattle.attr_loader.proofs.loader.load.Goals as goal
 
 pub loop-rest-init : goal.loop-rest-init

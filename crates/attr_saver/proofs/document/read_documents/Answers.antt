@@ -1,4 +1,4 @@
-use Rattle.std.proofs.Common.{◌≡◌, refl, sym}
+use Rattle.std.proofs.Common.{sym}
 use Rattle.std.proofs.lemmas.Result.{err_from_is_err_and}
 use Rattle.attr_saver.specs.declared.saved.SavedDocument.{SavedDocument}
 use Rattle.attr_saver.specs.Fields.{read_document, read_documents}

@@ -1,4 +1,4 @@
-use Rattle.std.proofs.Common.{◌≡◌, ◌-◌, ◌<◌, Err, ap, sym, ◌∙◌, arith}
+use Rattle.std.proofs.Common.{arith}
 use Rattle.attr_saver.specs.Laws.{AreBytes}
 use Rattle.attr_saver.proofs.Wholes.{read_ok, read_bad, reads_saves}
 use Rattle.attr_saver.proofs.loading.saved_or_refused.Goals as goal

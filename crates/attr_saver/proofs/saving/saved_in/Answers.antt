@@ -1,6 +1,4 @@
-use Rattle.std.proofs.Common.{◌≡◌, ◌≤◌, ◌<◌, ◌++◌, ℕ, Ok, ap, sym, ◌∙◌, arith, length}
-use Rattle.std.proofs.lemmas.List.{length-map}
-use Rattle.attr_saver.specs.Bytes.{saved_bytes}
+use Rattle.std.proofs.Common.{ap, ◌∙◌}
 use Rattle.attr_saver.specs.Fields.{read_of}
 use Rattle.attr_saver.specs.Lawful.{first_column, save_of}
 use Rattle.attr_saver.proofs.Columns.{items_few}

@@ -1,4 +1,4 @@
-use Rattle.std.proofs.Common.{◌≡◌, ◌≤◌, arith}
+use Rattle.std.proofs.Common.{arith}
 use Rattle.attr_saver.specs.Lawful.{first_column}
 use Rattle.attr_saver.proofs.Columns.{column_few, items_few}
 use Rattle.attr_saver.proofs.SavingLemmas.{saved_len}

@@ -1,5 +1,4 @@
-use Rattle.std.proofs.Common.{◌≡◌, ◌++◌, ◌∷◌, [], None, Some, refl, sym, subst}
-use Rattle.std.specs.Prelude.{List}
+use Rattle.std.proofs.Common.{◌++◌, ◌∷◌, [], None, Some}
 use Rattle.std.proofs.lemmas.Result.{err_from_is_err_and}
 use Rattle.attr_types.specs.declared.items.Item.{Item}
 use Rattle.attr_saver.specs.Fields.{read_item, read_items, last_value}

@@ -1,7 +1,6 @@
 use Rattle.std.proofs.Common.{◌≡◌, ℕ, Bool, true, false, List, length, Ok, Err, refl, sym, ◌∙◌, ap}
 use Rattle.std.specs.Str.{IsUtf8, is_utf8}
 use Rattle.std.proofs.lemmas.Str.{is_utf8-from_IsUtf8, IsUtf8-from_is_utf8}
-use Rattle.attr_types.specs.declared.value.Value.{Value}
 use Rattle.attr_types.specs.declared.value.Value.TheVariants as values
 use Rattle.attr_saver.specs.Fields.{read_bytes, read_text}
 use Rattle.attr_saver.proofs.value.read_text.Goals as goal

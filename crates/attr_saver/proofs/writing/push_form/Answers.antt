@@ -1,5 +1,5 @@
 use Rattle.std.proofs.Common.{◌≡◌, ℕ, List, [], ◌∷◌, ◌++◌, append_assoc, ◌∙◌}
-use Rattle.attr_saver.specs.Bytes.{magic, kind_byte, type_byte, form_bytes}
+use Rattle.attr_saver.specs.Bytes.{magic, form_bytes}
 use Rattle.attr_saver.proofs.writing.push_form.Goals as goal
 
 formed : (a b c d : List ℕ) (k t : ℕ) → b ≡ a ++ magic → c ≡ b ++ k ∷ [] → d ≡ c ++ t ∷ [] → d ≡ a ++ (magic ++ k ∷ t ∷ [])

@@ -43,7 +43,8 @@ key_of-found-requires g c =
         (
           AllByRecursion-map_slice_get (λ value. type_of value ≡ type) (λ (x : Item). x.value) items c.loop-item.item-index c.item-item.result c.requires.typed at,
           subst (λ f. 0 < length (list_of c.item-item.result.value (index_of type (g.F.Frozen.records f) c.args.root))) (sym c.loop-item.invariant.same)
-              (AllByRecursion-slice_get (λ (item : Item). 0 < length (list_of item.value (index_of type (g.F.Frozen.records c.args.frozen.now) c.args.root))) items c.loop-item.item-index c.item-item.result c.requires.listed at),
+              (AllByRecursion-slice_get (λ (item : Item). 0 < length (list_of item.value (index_of type (g.F.Frozen.records c.args.frozen.now) c.args.root)))
+              items c.loop-item.item-index c.item-item.result c.requires.listed at),
         ),
       ),
     )

@@ -1,4 +1,4 @@
-use Rattle.std.proofs.Common.{rules, ℕ, arith, ap, ◌∙◌}
+use Rattle.std.proofs.Common.{rules, arith, ap, ◌∙◌}
 use Rattle.tree_images.specs.Trees.{tree_pairs}
 use Rattle.key_order.specs.Pairs.{take_out}
 use Rattle.number_tree.specs.Maps.{beside_number}

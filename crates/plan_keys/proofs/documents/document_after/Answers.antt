@@ -1,4 +1,4 @@
-use Rattle.std.proofs.Common.{◌≡◌, None, Option, refl, sym, subst, ◌∙◌, arith}
+use Rattle.std.proofs.Common.{◌≡◌, None, refl, sym, subst, ◌∙◌, arith}
 use Rattle.tree_images.specs.Trees.{tree_pairs}
 use Rattle.attr_compaction.specs.declared.plan.PlanKey.{PlanKey}
 use Rattle.plan_keys.specs.PhaseKeys.{document_keys, key_past}

@@ -1,4 +1,4 @@
-use Rattle.std.proofs.Common.{◌≡◌, ◌%◌, ◌/◌, sym, ap, ◌∙◌, arith}
+use Rattle.std.proofs.Common.{sym, ap, ◌∙◌, arith}
 use Rattle.plan_keys.specs.PhaseKeys.{first_item}
 use Rattle.plan_keys.proofs.ListLemmas.{first_tree, short_docs, tree_form_is, tree_numbers}
 use Rattle.plan_keys.proofs.lists.first_in_list.Goals as goal

@@ -1,4 +1,4 @@
-use Rattle.std.proofs.Common.{◌≡◌, ◌%◌, ◌/◌, ◌∙◌, arith}
+use Rattle.std.proofs.Common.{◌∙◌, arith}
 use Rattle.plan_keys.proofs.ListLemmas.{past_tree, short_past, tree_form_is, tree_numbers}
 use Rattle.plan_keys.proofs.lists.past_in_list.Goals as goal
 

@@ -1,4 +1,4 @@
-use Rattle.std.proofs.Common.{◌≡◌, ◌<◌, ℕ, Option, sym, subst, arith}
+use Rattle.std.proofs.Common.{◌≡◌, ℕ, sym, subst, arith}
 use Rattle.std.specs.Prelude.{IfOk}
 use Rattle.plan_keys.specs.PhaseKeys.{key_past, phase_keys}
 use Rattle.plan_keys.proofs.next.next_key.Goals as goal

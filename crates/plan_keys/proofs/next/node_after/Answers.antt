@@ -1,7 +1,6 @@
-use Rattle.std.proofs.Common.{◌≡◌, Some, None, Option, sym, subst, ◌∙◌, arith}
+use Rattle.std.proofs.Common.{◌≡◌, sym, subst, ◌∙◌, arith}
 use Rattle.std.proofs.lemmas.Result.{err_from_is_err_and}
 use Rattle.doc_vector.specs.Documents.{IsDocumentMap}
-use Rattle.attr_compaction.specs.declared.plan.PlanKey.{PlanKey}
 use Rattle.plan_keys.specs.PhaseKeys.{document_keys, key_past, value_keys}
 use Rattle.plan_keys.proofs.ListLemmas.{node_later, node_now}
 use Rattle.plan_keys.proofs.next.node_after.Goals as goal

@@ -1,4 +1,4 @@
-use Rattle.std.proofs.Common.{◌≡◌, ◌≢◌, ℕ, [], true≢false, Some, Option, option_map, sym, ap, subst, ◌∙◌, arith}
+use Rattle.std.proofs.Common.{◌≡◌, ◌≢◌, ℕ, [], true≢false, Some, Option, option_map, sym, ap, ◌∙◌, arith}
 use Rattle.tree_search.proofs.PlaceLemmas.{first_pair}
 use Rattle.tree_search.specs.Places.{pairs_from}
 use Rattle.attr_types.specs.Lawful.{IsDocNumber}

@@ -1,4 +1,4 @@
-use Rattle.std.proofs.Common.{◌≡◌, Option, is_lt, refl, sym, subst, ◌∙◌, arith}
+use Rattle.std.proofs.Common.{◌≡◌, Option, is_lt, refl, sym, subst, arith}
 use Rattle.std.specs.Prelude.{IfOk}
 use Rattle.tree_images.specs.Trees.{tree_pairs}
 use Rattle.attr_compaction.specs.Places.{key_cmp}

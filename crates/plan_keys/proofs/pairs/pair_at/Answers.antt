@@ -1,14 +1,13 @@
-use Rattle.std.proofs.Common.{◌≡◌, ◌≢◌, ◌<◌, ℕ, [], true≢false, Some, None, Option, option_map, sym, ap, subst, ◌∙◌, arith}
+use Rattle.std.proofs.Common.{◌≡◌, ◌≢◌, ◌<◌, ℕ, [], true≢false, Some, Option, option_map, sym, ap, subst, ◌∙◌, arith}
 use Rattle.std.specs.Prelude.{IfOk}
 use Rattle.tree_search.proofs.PlaceLemmas.{first_pair}
-use Rattle.tree_search.specs.Places.{first_key, first_value, pairs_from}
-use Rattle.attr_images.specs.Postings.{list_form}
+use Rattle.tree_search.specs.Places.{pairs_from}
 use Rattle.attr_images.specs.Values.{stored_value, IsValueRecord}
 use Rattle.attr_compaction.specs.declared.plan.PlanKey.{PlanKey}
 use Rattle.attr_compaction.specs.declared.plan.PlanKey.TheVariants.{Pair}
 use Rattle.posting_store.specs.Lists.{IsList, IsPlain}
 use Rattle.unique_store.proofs.RecordLemmas.{value_there}
-use Rattle.plan_keys.specs.PhaseKeys.{first_item, form_docs, IsListPair}
+use Rattle.plan_keys.specs.PhaseKeys.{IsListPair}
 use Rattle.plan_keys.proofs.ListLemmas.{first_pair_is, no_pairs}
 use Rattle.plan_keys.proofs.pairs.pair_at.Goals as goal
 

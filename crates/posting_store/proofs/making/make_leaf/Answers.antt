@@ -38,7 +38,10 @@ build_leaf-requires g c =
           leaf_even c.loop-i.keys c.loop-i.values items keys values,
           (
             leaf_fits c.loop-i.keys c.loop-i.values items keys values c.requires.nine,
-            (leaf_ascends c.loop-i.keys c.loop-i.values items keys values c.requires.documents, (AllByRecursion-each (λ (p : ℕ × ℕ). Unit {0}) (λ p. tt) pairs, AllByRecursion-each (λ (p : ℕ × ℕ). Unit {0}) (λ p. tt) pairs)),
+            (
+              leaf_ascends c.loop-i.keys c.loop-i.values items keys values c.requires.documents,
+              (AllByRecursion-each (λ (p : ℕ × ℕ). Unit {0}) (λ p. tt) pairs, AllByRecursion-each (λ (p : ℕ × ℕ). Unit {0}) (λ p. tt) pairs),
+            ),
           ),
         ),
       ),

@@ -1,12 +1,10 @@
-use Rattle.std.proofs.Common.{◌≡◌, ℕ, Bool, List, map, sym, ap, subst, ◌∙◌}
+use Rattle.std.proofs.Common.{ℕ, List, map, sym, ap, subst, ◌∙◌}
 use Rattle.std.proofs.lemmas.Result.{IfOk-weaker}
 use Rattle.attr_images.specs.Postings.{index_of}
 use Rattle.attr_index.specs.Changes.{HasItems}
 use Rattle.attr_scores.specs.Scores.{score_of}
 use Rattle.attr_scores.specs.declared.score.Score.{Score}
 use Rattle.doc_set.proofs.DocLemmas.{same_ascending}
-use Rattle.doc_set.specs.Gathers.{is_gathered}
-use Rattle.query_scores.specs.Weights.{is_found}
 use Rattle.query_scores.proofs.parts.scored.Goals as goal
 
 pub returns-clause-scores : goal.returns-clause-scores

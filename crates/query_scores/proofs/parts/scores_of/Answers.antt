@@ -1,4 +1,4 @@
-use Rattle.std.proofs.Common.{◌≡◌, ◌<◌, ◌+◌, ◌++◌, ℕ, ℤ, List, [], ◌∷◌, length, map, drop, get_or, arith, rules, refl, sym, ap, subst, ◌∙◌, to_z, of_z}
+use Rattle.std.proofs.Common.{◌<◌, ◌++◌, ℕ, ℤ, List, length, map, arith, rules, sym, ap, subst, ◌∙◌}
 use Rattle.std.proofs.lemmas.Int.{to_z-of_z}
 use Rattle.std.proofs.lemmas.List.{drop_all, append-nil}
 use Rattle.std.specs.Int.{w128}
@@ -7,7 +7,6 @@ use Rattle.attr_images.specs.Postings.{index_of}
 use Rattle.attr_index.specs.Changes.{HasItems}
 use Rattle.attr_scores.specs.Scores.{score_of}
 use Rattle.attr_scores.specs.declared.score.Score.{Score}
-use Rattle.attr_types.specs.declared.items.Item.{Item}
 use Rattle.query_scores.proofs.ListLemmas.{one_more}
 use Rattle.query_scores.proofs.parts.scores_of.Goals as goal
 

@@ -1,4 +1,4 @@
-use Rattle.std.proofs.Common.{◌≡◌, ℕ, Some, None, arith, sym, ap, subst, ◌∙◌}
+use Rattle.std.proofs.Common.{ℕ, Some, arith, sym, ap, subst, ◌∙◌}
 use Rattle.tree_images.specs.Trees.{tree_pairs}
 use Rattle.key_order.specs.Pairs.{lookup_pair}
 use Rattle.attr_images.specs.Postings.{list_form, postings_at}

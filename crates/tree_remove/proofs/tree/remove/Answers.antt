@@ -1,4 +1,4 @@
-use Rattle.std.proofs.Common.{◌≡◌, ◌+◌, ℕ, [], ◌∷◌, sym, subst}
+use Rattle.std.proofs.Common.{◌+◌, ℕ, [], ◌∷◌, sym, subst}
 use Rattle.tree_images.specs.Trees.{tree_pairs}
 use Rattle.key_order.specs.Keys.{seen_by, ReadsNoNode}
 use Rattle.key_order.specs.Pairs.{take_out}
