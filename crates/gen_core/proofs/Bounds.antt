@@ -7,7 +7,7 @@ use Rattle.gen_core.specs.Views.{queue_of, oldest_in, oldest_of, floor_of, hold_
 use Rattle.gen_core.specs.Conditions.{MayClose, MayProbe}
 use Rattle.gen_core.specs.Laws.{IsInUse, IsPassed}
 use Rattle.gen_core.specs.Steps.{hold_of, hold_in, word_of, operation_of, subtract}
-use Rattle.gen_core.specs.Events.{coming_hold, count_at, Event, Happens, store_width, store_word, hand_out, publish, put_on_hold, free_buffer, reopen, store_newest, close, stop_at_oldest, probe, stop_at_newest, morph}
+use Rattle.gen_core.specs.Events.{coming_hold, count_at, Event, Happens, store_width, store_word, find_word, hand_out, publish, put_on_hold, free_buffer, reopen, store_newest, close, stop_at_oldest, probe, stop_at_newest, morph}
 use Rattle.gen_core.specs.Events.{split, join, meet_load, load_own, load_newest, raise, bounce, load_root, load_word, release}
 use Rattle.gen_core.proofs.Holds.{at_newest, at_oldest, oldest-push, newest-open, oldest-rises, oldest-replaced, first-open}
 use Rattle.gen_core.proofs.Lists.{all_at, count_some}
@@ -100,6 +100,7 @@ module _ (reaches : ℕ → Records → ℕ → List ℕ) (lawful : ℕ → Reco
   pub floor-stays : (s t : State) (e : Event) → Good reaches lawful s → Happens reaches lawful s e t → floor_of s.writer ≤ floor_of t.writer
   floor-stays s t (store_width b width) g h = stays s t (ap (λ (x : State). floor_of x.writer) h.1)
   floor-stays s t (store_word p n) g h = stays s t (ap (λ (x : State). floor_of x.writer) h.1)
+  floor-stays s t (find_word p) g h = stays s t (ap (λ (x : State). floor_of x.writer) h.1)
   floor-stays s t (hand_out b) g h = stays s t (ap (λ (x : State). floor_of x.writer) h.1)
   floor-stays s t (publish root) g h = stays s t (ap (λ (x : State). floor_of x.writer) h.1)
   floor-stays s t (put_on_hold b) g h = stays s t (ap (λ (x : State). floor_of x.writer) h.2)
@@ -152,6 +153,7 @@ module _ (reaches : ℕ → Records → ℕ → List ℕ) (lawful : ℕ → Reco
   pub none-below : (s t : State) (e : Event) (n : ℕ) → Good reaches lawful s → Happens reaches lawful s e t → operation_of s e ≡ subtract n → n ≤ slice_index s.words (word_of s e)
   none-below s t (store_width b width) n g h is = absurd (cc)
   none-below s t (store_word p m) n g h is = absurd (cc)
+  none-below s t (find_word p) n g h is = absurd (cc)
   none-below s t (hand_out b) n g h is = absurd (cc)
   none-below s t (publish root) n g h is = absurd (cc)
   none-below s t (put_on_hold b) n g h is = absurd (cc)

@@ -20,11 +20,11 @@ use Rattle.gen_core.specs.Views.{open_holds, oldest_of, floor_of, kept_of, last_
 use Rattle.gen_core.specs.Work.{next_image}
 use Rattle.gen_core.specs.Good.{State, IsPlaced, WordsStand, RaiseFits, GuardFits, GoodReaderState, GoodReader, IsLawfulCommit, Good}
 use Rattle.gen_core.specs.Conditions.{MayHandOut, MayPublish, IsUnder}
-use Rattle.gen_core.specs.Events.{Event, store_width, store_word, hand_out, publish, put_on_hold, free_buffer, reopen, store_newest, close, stop_at_oldest, probe, stop_at_newest, morph, split, join, meet_load, load_own}
+use Rattle.gen_core.specs.Events.{Event, store_width, store_word, find_word, hand_out, publish, put_on_hold, free_buffer, reopen, store_newest, close, stop_at_oldest, probe, stop_at_newest, morph, split, join, meet_load, load_own}
 use Rattle.gen_core.specs.Events.{load_newest, raise, bounce, load_root, load_word, release, Happens, Happen, MayOpen, opening, NoneFromBefore, after_publish}
 use Rattle.gen_core.specs.Laws.{TellsCommit, IsKeptFor}
 use Rattle.gen_core.proofs.Lists.{all_at, all_drop-at, all_found}
-use Rattle.gen_core.proofs.Writer.{store_word_keeps, store_width_keeps, hand_out_keeps}
+use Rattle.gen_core.proofs.Writer.{store_word_keeps, find_word_keeps, store_width_keeps, hand_out_keeps}
 use Rattle.gen_core.proofs.Publish.{publish_keeps}
 use Rattle.gen_core.proofs.Readers.{load_root_keeps, split_keeps, join_keeps}
 use Rattle.gen_core.proofs.Counts.{load_newest_keeps, raise_keeps, bounce_keeps, release_keeps}
@@ -41,6 +41,7 @@ module _ (reaches : ℕ → Records → ℕ → List ℕ) (lawful : ℕ → Reco
   pub event_keeps : IsLayout reaches lawful → (s t : State) (e : Event) → Good reaches lawful s → Happens reaches lawful s e t → Good reaches lawful t
   event_keeps l s t (store_width b width) g h = subst (Good reaches lawful) (sym h.1) (store_width_keeps reaches lawful s b width g h.0)
   event_keeps l s t (store_word p n) g h = subst (Good reaches lawful) (sym h.1) (store_word_keeps reaches lawful s p n g h.0)
+  event_keeps l s t (find_word p) g h = subst (Good reaches lawful) (sym h.1) (find_word_keeps reaches lawful s p g h.0)
   event_keeps l s t (hand_out b) g h = subst (Good reaches lawful) (sym h.1) (hand_out_keeps reaches lawful s b g h.0)
   event_keeps l s t (publish root) g h = subst (Good reaches lawful) (sym h.1) (publish_keeps reaches lawful l s root g h.0)
   event_keeps l s t (put_on_hold b) g h = subst (Good reaches lawful) (sym h.2) (put_on_hold_keeps reaches lawful s b h.0 g h.1)

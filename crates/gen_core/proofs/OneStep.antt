@@ -6,7 +6,7 @@ use Rattle.std.specs.Option.{unwrap_or}
 use Rattle.gen_core.specs.Views.{oldest_in, oldest_of, last_number, last_image, newest_word, hold_place, spent}
 use Rattle.gen_core.specs.Good.{State}
 use Rattle.gen_core.specs.Steps.{left_by, hold_of, hold_in, next_hold, view_at, IsOneStep, add, subtract, exchange}
-use Rattle.gen_core.specs.Events.{coming_hold, newcomer, with_state, aims, found_state, bounced, sees, count_at, Event, Happens, store_width, store_word, hand_out, publish, put_on_hold, free_buffer, reopen}
+use Rattle.gen_core.specs.Events.{coming_hold, newcomer, with_state, aims, found_state, bounced, sees, count_at, Event, Happens, store_width, store_word, find_word, hand_out, publish, put_on_hold, free_buffer, reopen}
 use Rattle.gen_core.specs.Events.{store_newest, close, stop_at_oldest, probe, stop_at_newest, morph, split, join, meet_load, load_own, load_newest, raise, bounce, load_root, load_word, release}
 use Rattle.gen_core.specs.declared.views.OpenHold.{OpenHold}
 use Rattle.gen_core.specs.declared.views.ReaderView.{ReaderView}
@@ -70,6 +70,7 @@ module _ (reaches : ℕ → Records → ℕ → List ℕ) (lawful : ℕ → Reco
   pub one_step : (s t : State) (e : Event) → Happens reaches lawful s e t → IsOneStep s e t
   one_step s t (store_width b width) h = record { words = ap (λ (x : State). x.words) h.1; views = λ k off far. writer-alone s t (ap (λ (x : State). x.readers) h.1) k off }
   one_step s t (store_word p n) h = record { words = ap (λ (x : State). x.words) h.1; views = λ k off far. writer-alone s t (ap (λ (x : State). x.readers) h.1) k off }
+  one_step s t (find_word p) h = record { words = loaded s t p (ap (λ (x : State). x.words) h.1); views = λ k off far. writer-alone s t (ap (λ (x : State). x.readers) h.1) k off }
   one_step s t (hand_out b) h = record { words = ap (λ (x : State). x.words) h.1; views = λ k off far. writer-alone s t (ap (λ (x : State). x.readers) h.1) k off }
   one_step s t (publish root) h = record { words = ap (λ (x : State). x.words) h.1; views = λ k off far. writer-alone s t (ap (λ (x : State). x.readers) h.1) k off }
   one_step s t (put_on_hold b) h = record { words = ap (λ (x : State). x.words) h.2; views = λ k off far. writer-alone s t (ap (λ (x : State). x.readers) h.2) k off }

@@ -19,7 +19,8 @@ use Rattle.gen_core.specs.Views.{kept_of, state_word, record_width, width_in, ac
 use Rattle.gen_core.specs.Work.{work_at}
 use Rattle.gen_core.specs.Good.{State, IsWorkPlace, Good}
 use Rattle.gen_core.specs.Conditions.{MayStoreWidth, MayStoreWord, MayHandOut}
-use Rattle.gen_core.specs.Events.{with_buffer, after_store_width, after_store_word, after_hand_out}
+use Rattle.gen_core.specs.Events.{with_buffer, stored, after_store_width, after_store_word, after_find_word, after_hand_out}
+use Rattle.gen_core.proofs.OneStep.{set_back}
 use Rattle.gen_core.proofs.Lists.{at_set}
 use Rattle.gen_core.proofs.Frames.{IsBehind, active-behind, behind-base, base-same, behind-high, names-set, counts-set, records-set, records-behind, active-inside, active-below, sizes-set}
 use Rattle.gen_core.proofs.ViewLemmas.{active-width, active-there}
@@ -56,6 +57,12 @@ module _ (reaches : ℕ → Records → ℕ → List ℕ) (lawful : ℕ → Reco
       word : (q m : ℕ) (t : Bool) → eqb q p ≡ t → cond t (Some n) (work_at s.writer.work q) ≡ Some m → slice_index (set s.words p n) q ≡ m
       word q m true e there = let is : n ≡ m = cc in ap (slice_index (set s.words p n)) (eqb-true q p e) ∙ get_or-set_same s.words p n 0 inside ∙ is
       word q m false e there = get_or-set_other s.words p q n 0 (λ same. true≢false (sym (eq-eqb q p same) ∙ e)) ∙ g.memory.stored q m there
+
+  -- a word that is found is one that is stored again
+  pub find_word_keeps : (s : State) (p : ℕ) → Good reaches lawful s → MayStoreWord s.writer p → Good reaches lawful (after_find_word s p)
+  find_word_keeps s p g may =
+      subst (λ (l : List ℕ). Good reaches lawful (record { words = l; writer = stored s.writer p (slice_index s.words p); readers = s.readers })) (set_back s.words p)
+      (store_word_keeps s p (slice_index s.words p) g may)
 
   -- a buffer without records gets another state or width, and one word changes that is behind no first word of a buffer
   buffer_keeps : (s : State) (b p n width : ℕ) (last : Option Tag) → Good reaches lawful s

@@ -110,6 +110,10 @@ after_store_width s b width = record {
 abbrev pub after_store_word : State → ℕ → ℕ → State
 after_store_word s p n = record { words = set s.words p n; writer = stored s.writer p n; readers = s.readers }
 
+-- a word that was found counts as stored
+abbrev pub after_find_word : State → ℕ → State
+after_find_word s p = record s { writer = stored s.writer p (slice_index s.words p) }
+
 abbrev pub after_hand_out : State → ℕ → State
 after_hand_out s b = record { words = set s.words (state_place b) 1; writer = handed_out s.writer b; readers = s.readers }
 
@@ -215,6 +219,7 @@ pub record MayOpen (sizes : Sizes) : Type 0 where
 pub data Event : Type 0 where
   store_width : (b width : ℕ) → Event
   store_word : (p n : ℕ) → Event
+  find_word : (p : ℕ) → Event
   hand_out : (b : ℕ) → Event
   publish : (root : ℕ) → Event
   put_on_hold : (b : ℕ) → Event
@@ -242,6 +247,7 @@ module _ (reaches : ℕ → Records → ℕ → List ℕ) (lawful : ℕ → Reco
   abbrev pub Happens : State → Event → State → Type 0
   Happens s (store_width b width) t = MayStoreWidth s.writer b width × (t ≡ after_store_width s b width)
   Happens s (store_word p n) t = MayStoreWord s.writer p × (t ≡ after_store_word s p n)
+  Happens s (find_word p) t = MayStoreWord s.writer p × (t ≡ after_find_word s p)
   Happens s (hand_out b) t = MayHandOut s.writer b × (t ≡ after_hand_out s b)
   Happens s (publish root) t = MayPublish lawful s.writer root × (t ≡ after_publish s (next_image reaches s.writer root))
   Happens s (put_on_hold b) t = (width : ℕ) × MayPutOnHold s.writer b width × (t ≡ after_put_on_hold s b width)

@@ -12,7 +12,7 @@ use Rattle.gen_core.specs.declared.views.View.{View}
 use Rattle.gen_core.specs.declared.views.View.TheVariants.{Writer, Reader}
 use Rattle.gen_core.specs.Views.{oldest_of, newest_word, hold_place, spent}
 use Rattle.gen_core.specs.Good.{State}
-use Rattle.gen_core.specs.Events.{coming_hold, Event, store_width, store_word, hand_out, publish, put_on_hold, free_buffer, reopen}
+use Rattle.gen_core.specs.Events.{coming_hold, Event, store_width, store_word, find_word, hand_out, publish, put_on_hold, free_buffer, reopen}
 use Rattle.gen_core.specs.Events.{store_newest, close, stop_at_oldest, probe, stop_at_newest, morph, split, join, meet_load, load_own}
 use Rattle.gen_core.specs.Events.{load_newest, raise, bounce, load_root, load_word, release, Happens}
 
@@ -52,6 +52,7 @@ next_hold Probed = 0
 abbrev pub word_of : State → Event → ℕ
 word_of s (store_width b width) = base s.writer.sizes.buffers s.writer.sizes.words b
 word_of s (store_word p n) = p
+word_of s (find_word p) = p
 word_of s (hand_out b) = state_place b
 word_of s (publish root) = 0
 word_of s (put_on_hold b) = state_place b
@@ -78,6 +79,7 @@ word_of s (release j) = hold_place (hold_in s j)
 abbrev pub operation_of : State → Event → Operation
 operation_of s (store_width b width) = store width
 operation_of s (store_word p n) = store n
+operation_of s (find_word p) = load
 operation_of s (hand_out b) = store 1
 operation_of s (publish root) = store (length s.writer.commits * 2 ^ 32 + root)
 operation_of s (put_on_hold b) = store 2
@@ -104,6 +106,7 @@ operation_of s (release j) = subtract 2
 abbrev pub seat_of : Event → ℕ
 seat_of (store_width b width) = 0
 seat_of (store_word p n) = 0
+seat_of (find_word p) = 0
 seat_of (hand_out b) = 0
 seat_of (publish root) = 0
 seat_of (put_on_hold b) = 0

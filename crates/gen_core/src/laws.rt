@@ -1,6 +1,6 @@
 //! The core's laws: each function's contract is the law, for every layout.
 
-ghost use Rattle.gen_core.specs.Laws.{KeepsGood, HandsOutUnguarded, EventKeepsGood, LoadsImageWord, LoadsWidth, KeepsGuarded};
+ghost use Rattle.gen_core.specs.Laws.{KeepsGood, HandsOutUnguarded, HoldsBack, EventKeepsGood, LoadsImageWord, LoadsWidth, KeepsGuarded};
 ghost use Rattle.gen_core.specs.Laws.{StoreLeavesKept, WidthLeavesKept, PublishedStands, PublishesWhole, RecordsAreFound, FoundAreRecords};
 ghost use Rattle.gen_core.specs.Laws.{RecordsStand, LoadsLaterCommit, KeepsCommits, ViewIsGood, OddIsPassed, AimIsNotBelow, CloseFindsUse};
 ghost use Rattle.gen_core.specs.Laws.{ProbeFindsUse, CountsAreSmall, NoneIsBelowZero, FloorStays};
@@ -21,6 +21,12 @@ use image_base::Layout;
 pub fn core_law<L: Layout>()
     ensures good { KeepsGood L.reaches L.lawful }
     ensures hand_out { HandsOutUnguarded L.reaches L.lawful }
+{}
+
+/// A buffer that is put on hold while a view stands on a hold is not handed out before that view's
+/// release, whatever happens between.
+pub fn held_law<L: Layout>()
+    ensures { HoldsBack L.reaches L.lawful }
 {}
 
 /// Each event keeps the invariant, from every state that meets it.

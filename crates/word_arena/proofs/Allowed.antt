@@ -25,16 +25,17 @@ use Rattle.gen_core.specs.Good.{State as CoreState, HoldFits, AimFits, BounceFit
 use Rattle.gen_core.specs.Conditions.{MayStoreWidth, MayStoreWord, MayHandOut, MayPublish, MaySplit, MayJoin, MayLoadWord}
 use Rattle.gen_core.specs.declared.views.Pending.TheVariants.{Nothing}
 use Rattle.gen_core.specs.declared.views.ReaderState.{ReaderState}
-use Rattle.gen_core.specs.Events.{after_hand_out, after_store_width, after_store_word, after_publish, after_load_newest, after_raise, after_bounce, after_load_root, after_release, stored, aims, with_state, found_state}
+use Rattle.gen_core.specs.Events.{after_hand_out, after_store_width, after_store_word, after_find_word, after_publish, after_load_newest, after_raise, after_bounce, after_load_root, after_release, stored, aims, with_state, found_state}
 use Rattle.gen_core.specs.Events.{bounced, MayOpen, opening_words, opening_view, handed_out, widened, published, sees, with_reader, newcomer, joined}
+use Rattle.gen_core.specs.Events.{Event, Happens, Happen, opening, store_width, store_word, find_word, hand_out, publish, split, join, load_own, load_newest, raise, bounce, load_root, load_word, release}
 use Rattle.gen_core.proofs.Lists.{all_at}
 use Rattle.gen_core.proofs.Frames.{base-same}
-use Rattle.gen_core.proofs.Writer.{store_word_keeps, store_width_keeps, hand_out_keeps}
+use Rattle.gen_core.proofs.Writer.{store_word_keeps, find_word_keeps, store_width_keeps, hand_out_keeps}
 use Rattle.gen_core.proofs.Publish.{publish_keeps, records-stands}
 use Rattle.gen_core.proofs.Readers.{load_root_keeps, split_keeps, join_keeps}
 use Rattle.gen_core.proofs.Opening.{opening_good}
 use Rattle.gen_core.proofs.Law.{image_stands}
-use Rattle.word_arena.specs.Ruled.{Slot, views_of, Ruled, Becomes, writer_of, reader_of, cut_left, cut_right, glued}
+use Rattle.word_arena.specs.Ruled.{Slot, views_of, IsReached, Ruled, Becomes, writer_of, reader_of, cut_left, cut_right, glued}
 use Rattle.word_arena.specs.PlayEvents.{plays_hand_out, plays_width, plays_store, plays_find, plays_publish, plays_load_root, plays_load_newest, plays_raise, plays_bounce, plays_release, plays_load_word, plays_load_own}
 use Rattle.word_arena.specs.ProofsForWork.{coming-least}
 use Rattle.word_arena.proofs.Views.{get_some}
@@ -46,7 +47,7 @@ use Rattle.gen_core.proofs.Layouts.{IsLayout}
 use Rattle.gen_core.proofs.Bounds.{count-small, counted-two}
 
 -- the writer's seat is the first, and each other one is a reader's
-writer_at : (w0 : WriterView) (readers : List ReaderView) (id : ℕ) (w : WriterView) → get_elem? (views_of w0 readers) id ≡ some (Writer w) → (id ≡ 0) × (w0 ≡ w)
+pub writer_at : (w0 : WriterView) (readers : List ReaderView) (id : ℕ) (w : WriterView) → get_elem? (views_of w0 readers) id ≡ some (Writer w) → (id ≡ 0) × (w0 ≡ w)
 writer_at w0 readers zero w e = (refl, ap writer_of (some-injective _ _ e))
 writer_at w0 readers (suc j) w e = absurd (no_writer readers j e)
   where
@@ -55,7 +56,7 @@ writer_at w0 readers (suc j) w e = absurd (no_writer readers j e)
     no_writer (r ∷ rs) zero e = cc
     no_writer (r ∷ rs) (suc j) e = no_writer rs j e
 
-reader_at : (w0 : WriterView) (readers : List ReaderView) (id : ℕ) (r : ReaderView) → get_elem? (views_of w0 readers) id ≡ some (Reader r) → (j : ℕ) × (id ≡ suc j) × (slice_get readers j ≡ Some r)
+pub reader_at : (w0 : WriterView) (readers : List ReaderView) (id : ℕ) (r : ReaderView) → get_elem? (views_of w0 readers) id ≡ some (Reader r) → (j : ℕ) × (id ≡ suc j) × (slice_get readers j ≡ Some r)
 reader_at w0 readers zero r e = absurd (cc)
 reader_at w0 readers (suc j) r e = (j, refl, get_some readers j r (mine readers j e))
   where
@@ -86,12 +87,28 @@ set_got (x ∷ xs) zero a e = let same : x ≡ a = cc in λ k. sym same k ∷ xs
 set_got (x ∷ xs) (suc i) a e = λ k. x ∷ set_got xs i a e k
 
 module _ (reaches : ℕ → Records → ℕ → List ℕ) (lawful : ℕ → Records → ℕ → Type 0) (sizes : Sizes) where
+  -- one event more
+  pub happen-push : (s : CoreState) (events : List Event) (m : CoreState) (e : Event) (t : CoreState) → Happen reaches lawful s events m → Happens reaches lawful m e t
+      → Happen reaches lawful s (events ++ e ∷ []) t
+  happen-push s [] m e t h step = (t, subst (λ (x : CoreState). Happens reaches lawful x e t) h step, refl)
+  happen-push s (x ∷ xs) m e t h step = (h.0, h.1, happen-push h.0 xs m e t h.2 step)
+
+  -- an event takes the run on
+  unfoldable pub goes_on : {s t : CoreState} (e : Event) → IsReached reaches lawful sizes s → Happens reaches lawful s e t → Good reaches lawful t → IsReached reaches lawful sizes t
+  goes_on {s} {t} e r step good = record { events = r.events ++ e ∷ []; run = happen-push (opening sizes) r.events s e t r.run step; good = good }
+
   -- a good state in which the seat id is the writer's, with the view w
   pub record Writing (t : State Slot View) (id : ℕ) (w : WriterView) : Type 0 where
     pub readers : List ReaderView
     pub same_sizes : w.sizes ≡ sizes
+    pub reached : IsReached reaches lawful sizes (record { words = t.words; writer = w; readers = readers })
+    pub own : IsReached reaches lawful w.sizes (record { words = t.words; writer = w; readers = readers })
     pub good : Good reaches lawful (record { words = t.words; writer = w; readers = readers })
     pub set_view : (v : WriterView) → set t.views id (Writer v) ≡ views_of v readers
+
+  -- the sizes of the run are those that the writer's view names
+  by_own : (t : State Slot View) (rule : Ruled reaches lawful sizes t) → IsReached reaches lawful rule.writer.sizes (record { words = t.words; writer = rule.writer; readers = rule.readers })
+  by_own t rule = subst (λ (z : Sizes). IsReached reaches lawful z (record { words = t.words; writer = rule.writer; readers = rule.readers })) (sym rule.same_sizes) rule.reached
 
   pub writing : (t : State Slot View) → Ruled reaches lawful sizes t → (id : ℕ) (w : WriterView) → get_elem? t.views id ≡ some (Writer w) → Writing t id w
   writing t rule id w e =
@@ -99,7 +116,9 @@ module _ (reaches : ℕ → Records → ℕ → List ℕ) (lawful : ℕ → Reco
       record {
         readers = rule.readers;
         same_sizes = sym (ap (λ (v : WriterView). v.sizes) at.1) ∙ rule.same_sizes;
-        good = subst (λ (v : WriterView). Good reaches lawful (record { words = t.words; writer = v; readers = rule.readers })) at.1 rule.good;
+        reached = subst (λ (v : WriterView). IsReached reaches lawful sizes (record { words = t.words; writer = v; readers = rule.readers })) at.1 rule.reached;
+        own = subst (λ (v : WriterView). IsReached reaches lawful v.sizes (record { words = t.words; writer = v; readers = rule.readers })) at.1 (by_own t rule);
+        good = subst (λ (v : WriterView). Good reaches lawful (record { words = t.words; writer = v; readers = rule.readers })) at.1 rule.reached.good;
         set_view = λ v i. set (rule.views i) (at.0 i) (Writer v);
       }
 
@@ -110,6 +129,8 @@ module _ (reaches : ℕ → Records → ℕ → List ℕ) (lawful : ℕ → Reco
     j : ℕ
     there : slice_get readers j ≡ Some r
     same_sizes : writer.sizes ≡ sizes
+    reached : IsReached reaches lawful sizes (record { words = t.words; writer = writer; readers = readers })
+    own : IsReached reaches lawful writer.sizes (record { words = t.words; writer = writer; readers = readers })
     good : Good reaches lawful (record { words = t.words; writer = writer; readers = readers })
     set_view : (v : ReaderView) → set t.views id (Reader v) ≡ views_of writer (set readers j v)
 
@@ -122,15 +143,17 @@ module _ (reaches : ℕ → Records → ℕ → List ℕ) (lawful : ℕ → Reco
         j = at.0;
         there = at.2;
         same_sizes = rule.same_sizes;
-        good = rule.good;
+        reached = rule.reached;
+        own = by_own t rule;
+        good = rule.reached.good;
         set_view = λ v. (λ i. set (rule.views i) (at.1 i) (Reader v)) ∙ ap (λ l. Writer rule.writer ∷ l) (sym (map-set Reader rule.readers at.0 v));
       }
 
   -- a step of the writer to a good state
   pub ruled_by : (t : State Slot View) (id : ℕ) (w v : WriterView) (k : Writing t id w) (words : List ℕ) → v.sizes ≡ w.sizes
-      → Good reaches lawful (record { words = words; writer = v; readers = k.readers })
+      → IsReached reaches lawful sizes (record { words = words; writer = v; readers = k.readers })
       → Ruled reaches lawful sizes (record { words = words; homes = t.homes; views = set t.views id (Writer v) })
-  ruled_by t id w v k words same good = record { writer = v; readers = k.readers; views = k.set_view v; same_sizes = same ∙ k.same_sizes; good = good }
+  ruled_by t id w v k words same reached = record { writer = v; readers = k.readers; views = k.set_view v; same_sizes = same ∙ k.same_sizes; reached = reached }
 
   pub hand_out_allowed : (slots id : ℕ) (w : WriterView) (b : ℕ) → MayHandOut w b
       → Allows (Ruled reaches lawful sizes) slots id (Writer w, []) (state_place b) (λ _. 1) (λ _. plays_hand_out reaches lawful (step slots (state_place b) 1 0 none) (Writer w, []) 1)
@@ -140,7 +163,7 @@ module _ (reaches : ℕ → Records → ℕ → List ℕ) (lawful : ℕ → Reco
         Writer (handed_out w b),
         keeps,
         tt,
-        ruled_by t id w (handed_out w b) k _ refl good,
+        ruled_by t id w (handed_out w b) k _ refl (goes_on (hand_out b) k.reached (may, refl) good),
         record {
           told = λ other same. let e : b ≡ other = omega arith in
               subst (λ (c : ℕ). Becomes (Writer w, []) (handed_out w c) (Writer (handed_out w b), [])) e (record { is = refl; good = good_view reaches lawful _ good });
@@ -149,7 +172,7 @@ module _ (reaches : ℕ → Records → ℕ → List ℕ) (lawful : ℕ → Reco
             record {
               before = state_of t w k.readers;
               after = after_hand_out (state_of t w k.readers) b;
-              good = k.good;
+              reached = k.own;
               happens = (may, refl);
               word = refl;
               operands = refl;
@@ -170,7 +193,7 @@ module _ (reaches : ℕ → Records → ℕ → List ℕ) (lawful : ℕ → Reco
         Writer (widened w b width),
         keeps,
         tt,
-        ruled_by t id w (widened w b width) k _ refl good,
+        ruled_by t id w (widened w b width) k _ refl (goes_on (store_width b width) k.reached (may, refl) good),
         record {
           told = λ other same. let e : b ≡ other = base-same w.sizes b other k.good.sizes.some_word same in
               subst (λ (c : ℕ). Becomes (Writer w, []) (widened w c width) (Writer (widened w b width), [])) e (record { is = refl; good = good_view reaches lawful _ good });
@@ -179,7 +202,7 @@ module _ (reaches : ℕ → Records → ℕ → List ℕ) (lawful : ℕ → Reco
             record {
               before = state_of t w k.readers;
               after = after_store_width (state_of t w k.readers) b width;
-              good = k.good;
+              reached = k.own;
               happens = (may, refl);
               word = refl;
               operands = refl;
@@ -199,13 +222,13 @@ module _ (reaches : ℕ → Records → ℕ → List ℕ) (lawful : ℕ → Reco
         Writer (stored w p n),
         keeps,
         tt,
-        ruled_by t id w (stored w p n) k _ refl good,
+        ruled_by t id w (stored w p n) k _ refl (goes_on (store_word p n) k.reached (may, refl) good),
         record {
           told = record { is = refl; good = good_view reaches lawful _ good };
           event = record {
             before = state_of t w k.readers;
             after = after_store_word (state_of t w k.readers) p n;
-            good = k.good;
+            reached = k.own;
             happens = (may, refl);
             word = refl;
             operands = refl;
@@ -221,19 +244,21 @@ module _ (reaches : ℕ → Records → ℕ → List ℕ) (lawful : ℕ → Reco
   find_allowed slots id w p may t rule homes at small =
       let k = writing t rule id w at in
       let n : ℕ = slice_index t.words p in
-      let good = store_word_keeps reaches lawful _ p n k.good may in (
+      let good = find_word_keeps reaches lawful _ p k.good may in (
         Writer (stored w p n),
         keeps,
         tt,
-        ruled_by t id w (stored w p n) k _ refl good,
+        ruled_by t id w (stored w p n) k _ refl (subst (λ (l : List ℕ). IsReached reaches lawful sizes (record { words = l; writer = stored w p n; readers = k.readers })) (sym (set_back t.words p))
+            (goes_on (find_word p) k.reached (may, refl) good)),
         record {
           told = record { is = refl; good = good_view reaches lawful _ good };
           event = record {
             before = state_of t w k.readers;
-            after = after_store_word (state_of t w k.readers) p n;
-            good = k.good;
+            after = after_find_word (state_of t w k.readers) p;
+            reached = k.own;
             happens = (may, refl);
-            same = set_back t.words p;
+            word = refl;
+            operands = tt;
             found_is = refl;
             sees = refl;
             then_sees = refl;
@@ -251,7 +276,7 @@ module _ (reaches : ℕ → Records → ℕ → List ℕ) (lawful : ℕ → Reco
         Writer v,
         keeps,
         tt,
-        ruled_by t id w v k _ refl good,
+        ruled_by t id w v k _ refl (goes_on (publish root) k.reached (may, refl) good),
         record {
           told = λ other same. let e : root ≡ other = omega arith in
               subst (λ (c : ℕ). Becomes (Writer w, []) (published w (next_image reaches w c)) (Writer v, [])) e (record { is = refl; good = good_view reaches lawful _ good });
@@ -260,7 +285,7 @@ module _ (reaches : ℕ → Records → ℕ → List ℕ) (lawful : ℕ → Reco
             record {
               before = state_of t w k.readers;
               after = after_publish (state_of t w k.readers) (next_image reaches w root);
-              good = k.good;
+              reached = k.own;
               happens = (may, refl);
               word = refl;
               operands = refl;
@@ -274,9 +299,9 @@ module _ (reaches : ℕ → Records → ℕ → List ℕ) (lawful : ℕ → Reco
 
   -- a step of a reader to a good state
   read_by : (t : State Slot View) (id : ℕ) (r v : ReaderView) (k : Reading t id r) (words : List ℕ)
-      → Good reaches lawful (record { words = words; writer = k.writer; readers = set k.readers k.j v })
+      → IsReached reaches lawful sizes (record { words = words; writer = k.writer; readers = set k.readers k.j v })
       → Ruled reaches lawful sizes (record { words = words; homes = t.homes; views = set t.views id (Reader v) })
-  read_by t id r v k words good = record { writer = k.writer; readers = set k.readers k.j v; views = k.set_view v; same_sizes = k.same_sizes; good = good }
+  read_by t id r v k words reached = record { writer = k.writer; readers = set k.readers k.j v; views = k.set_view v; same_sizes = k.same_sizes; reached = reached }
 
   pub load_newest_allowed : (slots id : ℕ) (r : ReaderView) → r.state ≡ Idle
       → Allows (Ruled reaches lawful sizes) slots id (Reader r, []) 1 (λ n. n) (plays_load_newest reaches lawful (step slots 1 0 0 none) (Reader r, []))
@@ -286,8 +311,8 @@ module _ (reaches : ℕ → Records → ℕ → List ℕ) (lawful : ℕ → Reco
         Reader v,
         keeps,
         tt,
-        read_by t id r v k _ (subst (λ (l : List ℕ). Good reaches lawful (record { words = l; writer = k.writer; readers = set k.readers k.j v })) (sym (set_back t.words 1))
-            (load_newest_keeps reaches lawful _ k.j r k.good k.there idle)),
+        read_by t id r v k _ (subst (λ (l : List ℕ). IsReached reaches lawful sizes (record { words = l; writer = k.writer; readers = set k.readers k.j v })) (sym (set_back t.words 1))
+            (goes_on (load_newest k.j) k.reached (r, k.there, idle, refl) (load_newest_keeps reaches lawful _ k.j r k.good k.there idle))),
         record {
           told = record {
             entry = k.writer.queue.newest;
@@ -301,7 +326,7 @@ module _ (reaches : ℕ → Records → ℕ → List ℕ) (lawful : ℕ → Reco
             record {
               before = state_of t k.writer k.readers;
               after = after_load_newest (state_of t k.writer k.readers) k.j r;
-              good = k.good;
+              reached = k.own;
               happens = (r, k.there, idle, refl);
               word = refl;
               operands = tt;
@@ -327,8 +352,8 @@ module _ (reaches : ℕ → Records → ℕ → List ℕ) (lawful : ℕ → Reco
         Reader v,
         keeps,
         tt,
-        read_by t id r v k _ (subst (λ (n : ℕ). Good reaches lawful (record { words = set t.words (hold_place h) n; writer = w; readers = set k.readers k.j v })) sum
-            (raise_keeps reaches lawful _ k.j r generation h k.good k.there aimed)),
+        read_by t id r v k _ (subst (λ (n : ℕ). IsReached reaches lawful sizes (record { words = set t.words (hold_place h) n; writer = w; readers = set k.readers k.j v })) sum
+            (goes_on (raise k.j) k.reached (r, k.there, generation, h, aimed, refl) (raise_keeps reaches lawful _ k.j r generation h k.good k.there aimed))),
         record {
           told = λ other same. let e : h ≡ other = omega arith in ap (λ (i : ℕ). (Reader (with_state r (found_state found i)), [])) e;
           event = (
@@ -336,7 +361,7 @@ module _ (reaches : ℕ → Records → ℕ → List ℕ) (lawful : ℕ → Reco
             record {
               before = state_of t w k.readers;
               after = after_raise (state_of t w k.readers) k.j r h;
-              good = k.good;
+              reached = k.own;
               happens = (r, k.there, generation, h, aimed, refl);
               word = held_word (state_of t w k.readers) k.j h r (Aimed generation h) k.there aimed refl;
               operands = refl;
@@ -366,8 +391,8 @@ module _ (reaches : ℕ → Records → ℕ → List ℕ) (lawful : ℕ → Reco
         Reader v,
         keeps,
         tt,
-        read_by t id r v k _ (subst (λ (n : ℕ). Good reaches lawful (record { words = set t.words (hold_place h) n; writer = w; readers = set k.readers k.j v })) less
-            (bounce_keeps reaches lawful _ k.j r h k.good k.there is)),
+        read_by t id r v k _ (subst (λ (n : ℕ). IsReached reaches lawful sizes (record { words = set t.words (hold_place h) n; writer = w; readers = set k.readers k.j v })) less
+            (goes_on (bounce k.j) k.reached (r, k.there, h, is, refl) (bounce_keeps reaches lawful _ k.j r h k.good k.there is))),
         record {
           told = record {
             is = refl;
@@ -379,7 +404,7 @@ module _ (reaches : ℕ → Records → ℕ → List ℕ) (lawful : ℕ → Reco
             record {
               before = state_of t w k.readers;
               after = after_bounce (state_of t w k.readers) k.j r h;
-              good = k.good;
+              reached = k.own;
               happens = (r, k.there, h, is, refl);
               word = held_word (state_of t w k.readers) k.j h r (Bounced h) k.there is refl;
               operands = refl;
@@ -405,8 +430,8 @@ module _ (reaches : ℕ → Records → ℕ → List ℕ) (lawful : ℕ → Reco
         Reader v,
         keeps,
         tt,
-        read_by t id r v k _ (subst (λ (n : ℕ). Good reaches lawful (record { words = set t.words (hold_place h) n; writer = w; readers = set k.readers k.j v })) less
-            (release_keeps reaches lawful _ k.j r h c k.good k.there is)),
+        read_by t id r v k _ (subst (λ (n : ℕ). IsReached reaches lawful sizes (record { words = set t.words (hold_place h) n; writer = w; readers = set k.readers k.j v })) less
+            (goes_on (release k.j) k.reached (r, k.there, h, c, is, refl) (release_keeps reaches lawful _ k.j r h c k.good k.there is))),
         record {
           told = refl;
           event = (
@@ -414,7 +439,7 @@ module _ (reaches : ℕ → Records → ℕ → List ℕ) (lawful : ℕ → Reco
             record {
               before = state_of t w k.readers;
               after = after_release (state_of t w k.readers) k.j r h;
-              good = k.good;
+              reached = k.own;
               happens = (r, k.there, h, c, is, refl);
               word = held_word (state_of t w k.readers) k.j h r (Guarded h c) k.there is refl;
               operands = refl;
@@ -448,8 +473,8 @@ module _ (reaches : ℕ → Records → ℕ → List ℕ) (lawful : ℕ → Reco
           readers = set k.readers k.j v;
           views = k.set_view v;
           same_sizes = k.same_sizes;
-          good = subst (λ (l : List ℕ). Good reaches lawful (record { words = l; writer = w; readers = set k.readers k.j v })) (sym (set_back t.words 0))
-              (load_root_keeps reaches lawful _ k.j r h k.good k.there raised);
+          reached = subst (λ (l : List ℕ). IsReached reaches lawful sizes (record { words = l; writer = w; readers = set k.readers k.j v })) (sym (set_back t.words 0))
+              (goes_on (load_root k.j) k.reached (r, k.there, h, raised, refl) (load_root_keeps reaches lawful _ k.j r h k.good k.there raised));
         },
         record {
           told = record {
@@ -473,7 +498,7 @@ module _ (reaches : ℕ → Records → ℕ → List ℕ) (lawful : ℕ → Reco
             record {
               before = state_of t w k.readers;
               after = after_load_root (state_of t w k.readers) k.j r h;
-              good = k.good;
+              reached = k.own;
               happens = (r, k.there, h, raised, refl);
               word = refl;
               operands = tt;
@@ -497,7 +522,7 @@ module _ (reaches : ℕ → Records → ℕ → List ℕ) (lawful : ℕ → Reco
           readers = k.readers;
           views = k.set_view r ∙ ap (λ l. views_of k.writer l) (set_got k.readers k.j r k.there);
           same_sizes = k.same_sizes;
-          good = subst (λ (l : List ℕ). Good reaches lawful (record { words = l; writer = k.writer; readers = k.readers })) (sym (set_back t.words p)) k.good;
+          reached = subst (λ (l : List ℕ). IsReached reaches lawful sizes (record { words = l; writer = k.writer; readers = k.readers })) (sym (set_back t.words p)) (goes_on (load_word k.j p) k.reached (r, k.there, may, refl) k.good);
         },
         record {
           told = record {
@@ -514,7 +539,7 @@ module _ (reaches : ℕ → Records → ℕ → List ℕ) (lawful : ℕ → Reco
             record {
               before = state_of t k.writer k.readers;
               after = state_of t k.writer k.readers;
-              good = k.good;
+              reached = k.own;
               happens = (r, k.there, may, refl);
               word = refl;
               operands = tt;
@@ -533,7 +558,7 @@ module _ (reaches : ℕ → Records → ℕ → List ℕ) (lawful : ℕ → Reco
         Writer w,
         keeps,
         tt,
-        ruled_by t id w w k _ refl (subst (λ (l : List ℕ). Good reaches lawful (record { words = l; writer = w; readers = k.readers })) (sym (set_back t.words p)) k.good),
+        ruled_by t id w w k _ refl (subst (λ (l : List ℕ). IsReached reaches lawful sizes (record { words = l; writer = w; readers = k.readers })) (sym (set_back t.words p)) (goes_on (load_own p) k.reached (calm, refl) k.good)),
         record {
           told = record {
             same = refl;
@@ -543,7 +568,7 @@ module _ (reaches : ℕ → Records → ℕ → List ℕ) (lawful : ℕ → Reco
             };
             seen = k.good.commits.seen;
           };
-          event = record { before = state_of t w k.readers; after = state_of t w k.readers; good = k.good; happens = (calm, refl); word = refl; operands = tt; found_is = refl; sees = refl; then_sees = refl };
+          event = record { before = state_of t w k.readers; after = state_of t w k.readers; reached = k.own; happens = (calm, refl); word = refl; operands = tt; found_is = refl; sees = refl; then_sees = refl };
         },
       )
 
@@ -556,7 +581,7 @@ module _ (reaches : ℕ → Records → ℕ → List ℕ) (lawful : ℕ → Reco
         readers = k.readers ++ newcomer w ∷ [];
         views = ap (λ l. l ++ Reader (newcomer w) ∷ []) (k.set_view v) ∙ ap (λ l. Writer v ∷ l) (sym (map-append Reader k.readers (newcomer w ∷ [])));
         same_sizes = k.same_sizes;
-        good = split_keeps reaches lawful _ k.good may;
+        reached = goes_on split k.reached (may, refl) (split_keeps reaches lawful _ k.good may);
       }
 
   pub join_allowed : (id : ℕ) (w : WriterView) (other : ℕ) (r : ReaderView) → MayJoin w r → Joins (Ruled reaches lawful sizes) id (Writer w) other (Reader r) (Writer (joined w r)) (Reader spent)
@@ -569,12 +594,12 @@ module _ (reaches : ℕ → Records → ℕ → List ℕ) (lawful : ℕ → Reco
         readers = set k.readers it.0 spent;
         views = (λ i. set (k.set_view v i) (it.1 i) (Reader spent)) ∙ ap (λ l. Writer v ∷ l) (sym (map-set Reader k.readers it.0 spent));
         same_sizes = k.same_sizes;
-        good = join_keeps reaches lawful _ it.0 r k.good it.2 may;
+        reached = goes_on (join it.0) k.reached (r, it.2, may, refl) (join_keeps reaches lawful _ it.0 r k.good it.2 may);
       }
 
   pub opens : IsLayout reaches lawful → MayOpen sizes
       → Ruled reaches lawful sizes (record { words = opening_words sizes; homes = []; views = Writer (opening_view sizes) ∷ [] })
-  opens l may = record { writer = opening_view sizes; readers = []; views = refl; same_sizes = refl; good = opening_good reaches lawful l sizes may }
+  opens l may = record { writer = opening_view sizes; readers = []; views = refl; same_sizes = refl; reached = record { events = []; run = refl; good = opening_good reaches lawful l sizes may } }
 
 -- the same at a seat whose view is known
 module _ (reaches : ℕ → Records → ℕ → List ℕ) (lawful : ℕ → Records → ℕ → Type 0) (sizes : Sizes) (slots id : ℕ) (me : Me Slot View) where

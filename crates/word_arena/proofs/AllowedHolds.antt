@@ -26,13 +26,13 @@ use Rattle.gen_core.specs.declared.views.Pending.{Pending}
 use Rattle.gen_core.specs.Steps.{next_hold}
 use Rattle.gen_core.specs.Conditions.{MayReopen, MayPutOnHold, MayFree}
 use Rattle.gen_core.specs.Events.{after_store_newest, after_morph, after_reopen, after_put_on_hold, after_free, after_close, after_stop, after_probe, probed, coming_hold, advanced, morphed, put_aside, freed, reopened}
-use Rattle.gen_core.specs.Events.{closed, stopped}
+use Rattle.gen_core.specs.Events.{closed, stopped, put_on_hold, free_buffer, reopen, store_newest, close, stop_at_oldest, probe, stop_at_newest, morph}
 use Rattle.gen_core.proofs.Advancing.{closed-word, reopen_keeps, store_newest_keeps, probe_keeps, stop_keeps}
 use Rattle.gen_core.proofs.Closing.{close_keeps, morph_keeps}
 use Rattle.gen_core.proofs.Buffers.{put_on_hold_keeps, free_keeps}
-use Rattle.word_arena.specs.Ruled.{Slot, Ruled, Becomes}
+use Rattle.word_arena.specs.Ruled.{Slot, IsReached, Ruled, Becomes}
 use Rattle.word_arena.specs.PlayEvents.{plays_reopen, plays_store_newest, plays_morph, plays_probe, plays_close, plays_hold, plays_free}
-use Rattle.word_arena.proofs.Allowed.{state_of, writing, ruled_by}
+use Rattle.word_arena.proofs.Allowed.{state_of, goes_on, writing, ruled_by}
 use Rattle.gen_core.proofs.GoodViews.{good_view}
 use Rattle.gen_core.proofs.OneStep.{set_back}
 
@@ -56,14 +56,14 @@ module _ (reaches : ℕ → Records → ℕ → List ℕ) (lawful : ℕ → Reco
         Writer (advanced w h),
         keeps,
         tt,
-        ruled_by reaches lawful sizes t id w (advanced w h) k _ refl good,
+        ruled_by reaches lawful sizes t id w (advanced w h) k _ refl (goes_on reaches lawful sizes store_newest k.reached (h, next, refl) good),
         record {
           told = λ other is. let e : h ≡ other = one_next h other (sym next ∙ is) in
               subst (λ (c : ℕ). Becomes (Writer w, []) (advanced w c) (Writer (advanced w h), [])) e (record { is = refl; good = good_view reaches lawful _ good });
           event = record {
             before = state_of t w k.readers;
             after = after_store_newest (state_of t w k.readers) h;
-            good = k.good;
+            reached = k.own;
             happens = (h, next, refl);
             word = refl;
             operands = ap (λ (p : Pending). newest_word (coming_hold w (next_hold p))) (sym next);
@@ -86,13 +86,13 @@ module _ (reaches : ℕ → Records → ℕ → List ℕ) (lawful : ℕ → Reco
         Writer (morphed w),
         keeps,
         tt,
-        ruled_by reaches lawful sizes t id w (morphed w) k _ refl good,
+        ruled_by reaches lawful sizes t id w (morphed w) k _ refl (goes_on reaches lawful sizes morph k.reached (is, refl) good),
         record {
           told = λ _. record { is = refl; good = good_view reaches lawful _ good };
           event = record {
             before = state_of t w k.readers;
             after = after_morph (state_of t w k.readers);
-            good = k.good;
+            reached = k.own;
             happens = (is, refl);
             word = refl;
             operands = refl;
@@ -116,7 +116,7 @@ module _ (reaches : ℕ → Records → ℕ → List ℕ) (lawful : ℕ → Reco
         keeps,
         tt,
         ruled_by reaches lawful sizes t id w (reopened w h) k _ refl
-            (subst (λ (n : ℕ). Good reaches lawful (record { words = set t.words (hold_place h) n; writer = reopened w h; readers = k.readers })) less good),
+            (subst (λ (n : ℕ). IsReached reaches lawful sizes (record { words = set t.words (hold_place h) n; writer = reopened w h; readers = k.readers })) less (goes_on reaches lawful sizes (reopen h) k.reached (may, refl) good)),
         record {
           told = λ other same. let e : h ≡ other = omega arith in
               subst (λ (c : ℕ). Becomes (Writer w, []) (reopened w c) (Writer (reopened w h), [])) e (record { is = refl; good = good_view reaches lawful _ good });
@@ -125,7 +125,7 @@ module _ (reaches : ℕ → Records → ℕ → List ℕ) (lawful : ℕ → Reco
             record {
               before = state_of t w k.readers;
               after = after_reopen (state_of t w k.readers) h;
-              good = k.good;
+              reached = k.own;
               happens = (may, refl);
               word = refl;
               operands = refl;
@@ -149,7 +149,7 @@ module _ (reaches : ℕ → Records → ℕ → List ℕ) (lawful : ℕ → Reco
         Writer v,
         keeps,
         tt,
-        ruled_by reaches lawful sizes t id w v k _ refl good,
+        ruled_by reaches lawful sizes t id w v k _ refl (goes_on reaches lawful sizes (put_on_hold b) k.reached (width, may, refl) good),
         record {
           told = λ other width' same active.
               let e : b ≡ other = omega arith in
@@ -161,7 +161,7 @@ module _ (reaches : ℕ → Records → ℕ → List ℕ) (lawful : ℕ → Reco
             record {
               before = state_of t w k.readers;
               after = after_put_on_hold (state_of t w k.readers) b width;
-              good = k.good;
+              reached = k.own;
               happens = (width, may, refl);
               word = refl;
               operands = refl;
@@ -182,7 +182,7 @@ module _ (reaches : ℕ → Records → ℕ → List ℕ) (lawful : ℕ → Reco
         Writer v,
         keeps,
         tt,
-        ruled_by reaches lawful sizes t id w v k _ refl good,
+        ruled_by reaches lawful sizes t id w v k _ refl (goes_on reaches lawful sizes (free_buffer b) k.reached (tag, may, refl) good),
         record {
           told = λ other width tag' same held.
               let e : b ≡ other = omega arith in
@@ -194,7 +194,7 @@ module _ (reaches : ℕ → Records → ℕ → List ℕ) (lawful : ℕ → Reco
             record {
               before = state_of t w k.readers;
               after = after_free (state_of t w k.readers) b tag;
-              good = k.good;
+              reached = k.own;
               happens = (tag, may, refl);
               word = refl;
               operands = refl;
@@ -222,7 +222,7 @@ module _ (reaches : ℕ → Records → ℕ → List ℕ) (lawful : ℕ → Reco
         Writer (closed w es),
         keeps,
         tt,
-        ruled_by reaches lawful sizes t id w (closed w es) k _ refl good,
+        ruled_by reaches lawful sizes t id w (closed w es) k _ refl (goes_on reaches lawful sizes close k.reached (e, es, record { calm = calm; is = older }, zero, refl) good),
         record {
           told = record {
             alone = λ _. zero;
@@ -235,7 +235,7 @@ module _ (reaches : ℕ → Records → ℕ → List ℕ) (lawful : ℕ → Reco
             hit = λ _. record {
               before = state_of t w k.readers;
               after = after_close (state_of t w k.readers) e es;
-              good = k.good;
+              reached = k.own;
               happens = (e, es, record { calm = calm; is = older }, zero, refl);
               word = ap (λ (o : List OpenHold). hold_place (oldest_in o w.queue.newest).hold) (sym older);
               operands = (refl, refl);
@@ -253,7 +253,7 @@ module _ (reaches : ℕ → Records → ℕ → List ℕ) (lawful : ℕ → Reco
         keeps,
         tt,
         ruled_by reaches lawful sizes t id w (stopped w found) k _ refl
-            (subst (λ (l : List ℕ). Good reaches lawful (record { words = l; writer = stopped w found; readers = k.readers })) (sym (set_back t.words (hold_place e.hold))) good),
+            (subst (λ (l : List ℕ). IsReached reaches lawful sizes (record { words = l; writer = stopped w found; readers = k.readers })) (sym (set_back t.words (hold_place e.hold))) (goes_on reaches lawful sizes stop_at_oldest k.reached (e, es, record { calm = calm; is = older }, ne, refl) good)),
         record {
           told = record {
             hit = λ zero. absurd (ne zero);
@@ -270,7 +270,7 @@ module _ (reaches : ℕ → Records → ℕ → List ℕ) (lawful : ℕ → Reco
             miss = λ _. record {
               before = state_of t w k.readers;
               after = after_stop (state_of t w k.readers) found;
-              good = k.good;
+              reached = k.own;
               happens = (e, es, record { calm = calm; is = older }, ne, refl);
               word = ap (λ (o : List OpenHold). hold_place (oldest_in o w.queue.newest).hold) (sym older);
               operands = (refl, refl);
@@ -297,14 +297,14 @@ module _ (reaches : ℕ → Records → ℕ → List ℕ) (lawful : ℕ → Reco
         keeps,
         tt,
         ruled_by reaches lawful sizes t id w (probed w) k _ refl
-            (subst (λ (l : List ℕ). Good reaches lawful (record { words = l; writer = probed w; readers = k.readers })) (sym (set_back t.words (hold_place w.queue.newest.hold))) good),
+            (subst (λ (l : List ℕ). IsReached reaches lawful sizes (record { words = l; writer = probed w; readers = k.readers })) (sym (set_back t.words (hold_place w.queue.newest.hold))) (goes_on reaches lawful sizes probe k.reached (record { calm = calm; left = left }, zero, refl) good)),
         record {
           told = record { hit = λ _. record { is = refl; good = good_view reaches lawful _ good }; miss = λ ne. absurd (ne zero); alone = λ _. zero };
           event = record {
             hit = λ _. record {
               before = state_of t w k.readers;
               after = after_probe (state_of t w k.readers);
-              good = k.good;
+              reached = k.own;
               happens = (record { calm = calm; left = left }, zero, refl);
               word = refl;
               operands = tt;
@@ -322,7 +322,7 @@ module _ (reaches : ℕ → Records → ℕ → List ℕ) (lawful : ℕ → Reco
         keeps,
         tt,
         ruled_by reaches lawful sizes t id w (stopped w found) k _ refl
-            (subst (λ (l : List ℕ). Good reaches lawful (record { words = l; writer = stopped w found; readers = k.readers })) (sym (set_back t.words (hold_place w.queue.newest.hold))) good),
+            (subst (λ (l : List ℕ). IsReached reaches lawful sizes (record { words = l; writer = stopped w found; readers = k.readers })) (sym (set_back t.words (hold_place w.queue.newest.hold))) (goes_on reaches lawful sizes stop_at_newest k.reached (record { calm = calm; left = left }, ne, refl) good)),
         record {
           told = record {
             hit = λ zero. absurd (ne zero);
@@ -334,7 +334,7 @@ module _ (reaches : ℕ → Records → ℕ → List ℕ) (lawful : ℕ → Reco
             miss = λ _. record {
               before = state_of t w k.readers;
               after = after_stop (state_of t w k.readers) found;
-              good = k.good;
+              reached = k.own;
               happens = (record { calm = calm; left = left }, ne, refl);
               word = refl;
               operands = tt;

@@ -3,12 +3,12 @@ use Rattle.std.specs.Prelude.{◌≡◌, ◌≢◌, ℕ, List, slice_index, Some
 use Rattle.atomic_table.specs.Table.{Me, Step}
 use Rattle.image_base.specs.Records.{Records}
 use Rattle.gen_core.specs.declared.views.View.{View}
-use Rattle.gen_core.specs.Good.{State, Good}
+use Rattle.gen_core.specs.Good.{State}
 use Rattle.gen_core.specs.Steps.{Operation, load, store, add, subtract, exchange, word_of, operation_of, seat_of, view_at}
-use Rattle.gen_core.specs.Events.{Event, store_width, store_word, hand_out, publish, put_on_hold, free_buffer, reopen, store_newest, close}
+use Rattle.gen_core.specs.Events.{Event, store_width, store_word, find_word, hand_out, publish, put_on_hold, free_buffer, reopen, store_newest, close}
 use Rattle.gen_core.specs.Events.{stop_at_oldest, probe, stop_at_newest, morph, load_own, load_newest, raise, bounce, load_root, load_word}
 use Rattle.gen_core.specs.Events.{release, Happens}
-use Rattle.word_arena.specs.Ruled.{Slot, told_hand_out, told_width, told_store, told_find, told_publish, told_load_root, told_load_newest}
+use Rattle.word_arena.specs.Ruled.{Slot, IsReached, told_hand_out, told_width, told_store, told_find, told_publish, told_load_root, told_load_newest}
 use Rattle.word_arena.specs.Ruled.{told_raise, told_bounce, told_release, told_load_word, told_load_own}
 use Rattle.word_arena.specs.WriterHolds.{told_reopen, told_store_newest, told_morph, told_probe, told_close, told_hold, told_free}
 
@@ -29,11 +29,11 @@ told_found (subtract n) word = word
 told_found (exchange wanted new) word = word
 
 module _ (reaches : ℕ → Records → ℕ → List ℕ) (lawful : ℕ → Records → ℕ → Type 0) where
-  -- in a good state in which the seat has the view before, the event happens, on the word of the step, and leaves the seat the view after
+  -- in a state of a run in which the seat has the view before, the event happens, on the word of the step, and leaves the seat the view after
   pub record IsEvent (event : Event) (st : Step Slot) (me : Me Slot View) (found : ℕ) (me' : Me Slot View) : Type 0 where
     pub before : State
     pub after : State
-    pub good : Good reaches lawful before
+    pub reached : IsReached reaches lawful before.writer.sizes before
     pub happens : Happens reaches lawful before event after
     pub word : st.word ≡ word_of before event
     pub operands : HasOperands (operation_of before event) st
@@ -57,19 +57,8 @@ module _ (reaches : ℕ → Records → ℕ → List ℕ) (lawful : ℕ → Reco
   abbrev pub plays_store : Step Slot → Me Slot View → ℕ → Me Slot View → Type 0
   plays_store st me found me' = Told (told_store st me found me') (IsEvent reaches lawful (store_word st.word st.first) st me found me')
 
-  -- a load that found what a store would leave is the event of that store, which changes no word then
-  pub record IsStoreOfFound (st : Step Slot) (me : Me Slot View) (found : ℕ) (me' : Me Slot View) : Type 0 where
-    pub before : State
-    pub after : State
-    pub good : Good reaches lawful before
-    pub happens : Happens reaches lawful before (store_word st.word found) after
-    pub same : after.words ≡ before.words
-    pub found_is : found ≡ slice_index before.words st.word
-    pub sees : view_at before (seat_of (store_word st.word found)) ≡ Some me.0
-    pub then_sees : view_at after (seat_of (store_word st.word found)) ≡ Some me'.0
-
   abbrev pub plays_find : Step Slot → Me Slot View → ℕ → Me Slot View → Type 0
-  plays_find st me found me' = Told (told_find st me found me') (IsStoreOfFound st me found me')
+  plays_find st me found me' = Told (told_find st me found me') (IsEvent reaches lawful (find_word st.word) st me found me')
 
   abbrev pub plays_publish : Step Slot → Me Slot View → ℕ → Me Slot View → Type 0
   plays_publish st me found me' = Told (told_publish reaches lawful st me found me') ((root : ℕ)

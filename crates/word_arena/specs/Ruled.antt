@@ -16,10 +16,10 @@ use Rattle.gen_core.specs.declared.views.View.{View}
 use Rattle.gen_core.specs.declared.views.View.TheVariants.{Writer, Reader}
 use Rattle.gen_core.specs.Views.{hold_place, newest_word, IsCommit, root_word, spent}
 use Rattle.gen_core.specs.Work.{place_in, writer_records, next_image}
-use Rattle.gen_core.specs.Good.{IsLawfulCommit, Good, GoodView}
+use Rattle.gen_core.specs.Good.{State as CoreState, IsLawfulCommit, Good, GoodView}
 use Rattle.gen_core.specs.Conditions.{IsUnder}
 use Rattle.gen_core.specs.Events.{stored, aims, with_state, found_state, bounced, opening_view, widened, handed_out, published, sees}
-use Rattle.gen_core.specs.Events.{with_reader, newcomer, joined}
+use Rattle.gen_core.specs.Events.{with_reader, newcomer, joined, Event, Happen, opening}
 use Rattle.arena_api.specs.Works.{Sizes as ApiSizes}
 use Rattle.arena_api.specs.Calls.{IsWithinLimits}
 
@@ -33,14 +33,21 @@ Slot = Unit {0}
 abbrev pub views_of : WriterView → List ReaderView → List View
 views_of w readers = Writer w ∷ map Reader readers
 
--- the words and the views are those of a good state
+-- a good state, to which these events led from the opening
+pub record IsReached (reaches : ℕ → Records → ℕ → List ℕ) (lawful : ℕ → Records → ℕ
+    → Type 0) (sizes : Sizes) (s : CoreState) : Type 0 where
+  pub events : List Event
+  pub run : Happen reaches lawful (opening sizes) events s
+  pub good : Good reaches lawful s
+
+-- the words and the views are those of a state of a run of the core
 pub record Ruled (reaches : ℕ → Records → ℕ → List ℕ) (lawful : ℕ → Records → ℕ
     → Type 0) (sizes : Sizes) (t : State Slot View) : Type 0 where
   pub writer : WriterView
   pub readers : List ReaderView
   pub views : t.views ≡ views_of writer readers
   pub same_sizes : writer.sizes ≡ sizes
-  pub good : Good reaches lawful (record { words = t.words; writer = writer; readers = readers })
+  pub reached : IsReached reaches lawful sizes (record { words = t.words; writer = writer; readers = readers })
 
 abbrev pub writer_of : View → WriterView
 writer_of (Writer w) = w
