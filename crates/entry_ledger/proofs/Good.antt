@@ -1,5 +1,5 @@
 -- What is always so, from what is kept.
-use Rattle.std.proofs.Common.{◌≡◌, ℕ, zero, suc, ◌+◌, ◌-◌, ◌*◌, ◌/◌, ◌<◌, ◌≤◌, true, false, not, ◌&&◌, cond, List, [], ◌∷◌, length, None, Some, refl, sym, ap, subst, ◌∙◌, arith, inl, inr}
+use Rattle.std.proofs.Common.{eqb, ◌⊎◌, ◌≢◌, ◌≡◌, ℕ, zero, suc, ◌+◌, ◌-◌, ◌*◌, ◌/◌, ◌<◌, ◌≤◌, Bool, true, false, not, ◌&&◌, cond, List, [], ◌∷◌, length, None, Some, refl, sym, ap, subst, ◌∙◌, arith, inl, inr}
 use Rattle.std.specs.List.{All, AllByRecursion, slice_get, count_by}
 use Rattle.std.proofs.Math.Nat.{div-mul-le_self, mul-le-mul_right}
 use Rattle.std.proofs.lemmas.List.Elements.{All-head, All-tail}
@@ -8,17 +8,21 @@ use Rattle.std.proofs.lemmas.Option.{slice_get_within}
 use Rattle.std.proofs.lemmas.Bool.{cases_lt, cases_eq, eq-eqb, ne_eqb}
 use Rattle.entry_ref.specs.References.{buffer_of, offset_of}
 use Rattle.image_base.specs.Places.{IsEntry}
-use Rattle.store_api.specs.Ledgers.{capacity}
+use Rattle.store_api.specs.Ledgers.{capacity, is_width}
 use Rattle.buffer_shelf.specs.declared.state.State.{State}
+use Rattle.buffer_states.specs.declared.BufferState.{BufferState}
+use Rattle.buffer_states.specs.declared.BufferState.TheVariants.{Free, Active, OnHold}
+use Rattle.buffer_states.specs.Buffers.{buffer_at, is_state_active, is_state_free, new_buffer}
 use Rattle.buffer_shelf.specs.States.{ShelfView, empty_shelf}
 use Rattle.entry_shelves.specs.Shelves.{shelf_at, made_in, filled_at}
 use Rattle.entry_shelves.specs.Kept.{IsOfWidth}
 use Rattle.entry_shelves.proofs.Rows.{width-bounds}
 use Rattle.entry_shelves.proofs.Opening.{some-capacity}
 use Rattle.hold_lists.specs.Held.{HeldEntry}
-use Rattle.entry_ledger.specs.Entries.{EntriesView, IsEntryOf, IsSpare, IsGood, width_of, is_open_entry}
-use Rattle.entry_ledger.specs.Ledgers.{LedgerView, entries_of, state_in, unmade_of_width, is_buffer_of, AreEntries}
+use Rattle.entry_ledger.specs.Entries.{EntriesView, IsEntryOf, IsSealed, IsSpare, IsGood, width_of, is_open_entry}
+use Rattle.entry_ledger.specs.Ledgers.{LedgerView, entries_of, state_in, unmade_in, unmade_of_width, is_buffer_of, AreEntries}
 use Rattle.entry_ledger.proofs.Unmade.{few-unmade, few-buffers}
+use Rattle.entry_ledger.proofs.Packed.{unmade-spare, sum-but, sum-counted}
 use Rattle.entry_ledger.proofs.Spares.{IsOpenAt, spare_place, few_spare}
 use Rattle.entry_ledger.proofs.Takes.{entries_in}
 
@@ -134,6 +138,79 @@ module _ (bits : ℕ) (v : LedgerView) (held : List HeldEntry) (room unheld : �
   spares-at w [] all = tt
   spares-at w (r ∷ refs) all = (spare-at w r (All-head (IsSpare bits e w) r refs all), spares-at w refs (All-tail (IsSpare bits e w) r refs all))
 
+  -- what has room left is not sealed
+  unsealed-is : (b : ℕ) → length (shelf b).states < (shelf b).room → (shelf b).sealed ≡ false
+  unfolding entries_of
+  unsealed-is b less = by_seal (shelf b).sealed refl
+    where
+      by_seal : (t : Bool) → (shelf b).sealed ≡ t → t ≡ false
+      by_seal false is = refl
+      by_seal true is = absurd (
+          let sealed = k.sound.sealed b ((k.counted b).sealed ∙ is) in
+          let wide : (shelf b).width ≡ (buffer_at v.buffers b).width = (k.counted b).width ∙ ap (λ t. cond t (buffer_at v.buffers b).width 0) sealed.active in
+          sealed.unfilled (ap (filled_at v.shelves.filled) (sym wide) ∙ k.filled b less))
+
+  -- the room of the shelves of a width
+  abbrev room_in : ℕ → ShelfView → ℕ
+  room_in w s = cond (eqb s.width w) (capacity v.shelves.words w) 0
+
+  unmade-room : (w : ℕ) → 0 < w → (b : ℕ) → unmade_in w (shelf b) ≤ room_in w (shelf b)
+  unmade-room w wide b = elim (cases_eq (shelf b).width w) [
+    | inl same ↦
+        (let is : unmade_in w (shelf b) ≡ (shelf b).room - length (shelf b).states = ap (λ t. cond t ((shelf b).room - length (shelf b).states) 0) (eq-eqb (shelf b).width w same) in
+        let all : room_in w (shelf b) ≡ capacity v.shelves.words w = ap (λ t. cond t (capacity v.shelves.words w) 0) (eq-eqb (shelf b).width w same) in
+        let has : (shelf b).room ≡ capacity v.shelves.words w =
+        (k.counted b).of.room ∙ ap (λ t. cond t 0 (capacity v.shelves.words (shelf b).width)) (ne_eqb (shelf b).width 0 (λ z. omega (arith, wide, same, z))) ∙ ap (capacity v.shelves.words) same in
+        omega (arith, is, all, has))
+    | inr ne ↦
+        (let is : unmade_in w (shelf b) ≡ 0 = ap (λ t. cond t ((shelf b).room - length (shelf b).states) 0) (ne_eqb (shelf b).width w ne) in omega (arith, is))
+  ]
+
+  room-counted : (w : ℕ) → 0 < w → (b : ℕ) → room_in w (shelf b) ≤ cond (is_buffer_of w (buffer_at v.buffers b)) (capacity v.shelves.words w) 0
+  room-counted w wide b = by_state (buffer_at v.buffers b).state refl (cases_eq (shelf b).width w)
+    where
+      by_state : (t : BufferState) → (buffer_at v.buffers b).state ≡ t → ((shelf b).width ≡ w) ⊎ ((shelf b).width ≢ w)
+          → room_in w (shelf b) ≤ cond (is_buffer_of w (buffer_at v.buffers b)) (capacity v.shelves.words w) 0
+      by_state t state (inr ne) =
+          (let is : room_in w (shelf b) ≡ 0 = ap (λ u. cond u (capacity v.shelves.words w) 0) (ne_eqb (shelf b).width w ne) in omega (arith, is))
+      by_state Free state (inl same) =
+          absurd (let none : (shelf b).width ≡ 0 = (k.counted b).width ∙ ap (λ u. cond (is_state_active u) (buffer_at v.buffers b).width 0) state in omega (arith, wide, same, none))
+      by_state OnHold state (inl same) =
+          absurd (let none : (shelf b).width ≡ 0 = (k.counted b).width ∙ ap (λ u. cond (is_state_active u) (buffer_at v.buffers b).width 0) state in omega (arith, wide, same, none))
+      by_state Active state (inl same) =
+          (let is : room_in w (shelf b) ≡ capacity v.shelves.words w = ap (λ t. cond t (capacity v.shelves.words w) 0) (eq-eqb (shelf b).width w same) in
+          let of_w : (buffer_at v.buffers b).width ≡ w = sym ((k.counted b).width ∙ ap (λ u. cond (is_state_active u) (buffer_at v.buffers b).width 0) state) ∙ same in
+          let all : cond (is_buffer_of w (buffer_at v.buffers b)) (capacity v.shelves.words w) 0 ≡ capacity v.shelves.words w =
+          ap (λ u. cond (not (is_state_free u) && eqb (buffer_at v.buffers b).width w) (capacity v.shelves.words w) 0) state
+          ∙ ap (λ u. cond (true && u) (capacity v.shelves.words w) 0) (eq-eqb (buffer_at v.buffers b).width w of_w) in
+          omega (arith, is, all))
+
+  -- a width of which a buffer is not filled
+  unfilled-made : (b w : ℕ) → b < length v.shelves.shelves → is_width w ≡ true → (shelf b).width ≡ w → (filled_at v.shelves.filled w ≡ Some b → ⊥) → capacity v.shelves.words w ≤ made_in v.shelves.made w
+  unfilled-made b w below is same unfilled =
+      let wide : 0 < w = (let bounds = width-bounds w is in omega (arith, bounds.0)) in
+      let whole : unmade_in w (shelf b) ≡ 0 = elim (cases_lt (length (shelf b).states) (shelf b).room) [
+        | inl less ↦ absurd (unfilled (ap (filled_at v.shelves.filled) (sym same) ∙ k.filled b less))
+        | inr none ↦ (let here : unmade_in w (shelf b) ≡ (shelf b).room - length (shelf b).states = ap (λ t. cond t ((shelf b).room - length (shelf b).states) 0) (eq-eqb (shelf b).width w same) in
+            omega (arith, here, none))
+      ] in
+      let has : room_in w (shelf b) ≡ capacity v.shelves.words w = ap (λ t. cond t (capacity v.shelves.words w) 0) (eq-eqb (shelf b).width w same) in
+      let less = sum-but (unmade_in w) (room_in w) empty_shelf v.shelves.shelves b (capacity v.shelves.words w) below (unmade-room w wide) (omega (arith, whole, has)) in
+      let few = sum-counted (room_in w) (is_buffer_of w) empty_shelf new_buffer (capacity v.shelves.words w) v.shelves.shelves v.buffers (sym k.count) (room-counted w wide) in
+      let all = k.enough w is in
+      omega (arith, less, few, all)
+
+  unfilled-is : (b : ℕ) → IsSealed (entries_of bits v) b → capacity v.shelves.words (buffer_at v.buffers b).width ≤ made_in v.shelves.made (buffer_at v.buffers b).width
+  unfolding entries_of
+  unfilled-is b s =
+      unfilled-made b (buffer_at v.buffers b).width s.below ((k.sound.marks b).width (active-taken (buffer_at v.buffers b).state s.active))
+      ((k.counted b).width ∙ ap (λ t. cond t (buffer_at v.buffers b).width 0) s.active) s.unfilled
+    where
+      active-taken : (t : BufferState) → is_state_active t ≡ true → is_state_free t ≡ false
+      active-taken Free is = absurd (cc)
+      active-taken Active is = refl
+      active-taken OnHold is = absurd (cc)
+
   pub good : IsGood bits (entries_of bits v)
   unfolding entries_of
   good = record {
@@ -149,6 +226,10 @@ module _ (bits : ℕ) (v : LedgerView) (held : List HeldEntry) (room unheld : �
         (few-unmade v.shelves.words v.shelves.shelves w (let bounds = width-bounds w is in omega (arith, bounds.0)) (λ b. (k.counted b).of) (filled_at v.shelves.filled w)
         (λ b wide less. ap (filled_at v.shelves.filled) (sym wide) ∙ k.filled b less));
     few_made = k.sound.few_made;
+    unfilled = unfilled-is;
+    enough = λ w is. (let all = k.enough w is in
+        let left = unmade-spare v.shelves.shelves w unsealed-is in
+        omega (arith, all, left));
     whole = k.sound.whole;
   }
 

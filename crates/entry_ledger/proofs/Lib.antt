@@ -7,6 +7,7 @@ pub mod States
 pub mod Counts
 pub mod Spares
 pub mod Unmade
+pub mod Packed
 pub mod Takes
 pub mod Good
 pub mod Sound

@@ -135,5 +135,9 @@ pub record IsGood (bits : ℕ) (e : EntriesView) : Type 0 where
   -- a width has at most one buffer more than its entries made would fill
   pub few : (w : ℕ) → is_width w ≡ true → (e.of_width w).buffers ≤ 1 + (e.of_width w).made / capacity e.words w
   pub few_made : (w : ℕ) → (e.of_width w).made ≤ 18446744073709551615
+  -- all entries for which the buffers of a width have room were made or are to spare
+  pub enough : (w : ℕ) → is_width w ≡ true → (e.of_width w).buffers * capacity e.words w ≤ (e.of_width w).made + (e.of_width w).spare
+  -- and all those of an active buffer that is not filled were made
+  pub unfilled : (b : ℕ) → IsSealed e b → capacity e.words (e.mark b).width ≤ (e.of_width (e.mark b).width).made
   -- each buffer is free or one of a width
   pub whole : count_marks is_state_free e.mark e.count + buffers_in e.of_width widths ≡ e.count

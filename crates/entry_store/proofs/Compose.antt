@@ -257,13 +257,15 @@ held-none buffer (suc n) none =
 
 -- a store that is full
 pub is-full : {H : Type 0} (old mid new : Ledger H) (width : ℕ) (oldest : Oldest) (error : StoreError) → TellsOldest old.work mid.work oldest → new ≡ mid → (mid.of_width width).spare ≡ 0
+    → (mid.of_width width).buffers * capacity mid.work.sizes.words width ≤ (mid.of_width width).made + (mid.of_width width).spare
     → ((b : ℕ) → b < mid.work.sizes.buffers → mid.work.made ≡ 0 → current mid.work < mid.work.sizes.generations → is_held (mid.work.buffer b) ≡ false)
     → FullAs mid.work width oldest error → Refuses old new width error
-is-full old mid new width oldest Memory tells same none unread full = tt
-is-full old mid new width oldest (Full w active held answer) tells same none unread full = (
+is-full old mid new width oldest Memory tells same none enough unread full = tt
+is-full old mid new width oldest (Full w active held answer) tells same none enough unread full = (
   full.0,
   subst (λ l. IsFull old l width active held answer) (sym same) (record {
     spare = none;
+    made = omega (arith, enough, none);
     free = full.1;
     active_is = full.2;
     held_is = full.3;
@@ -342,9 +344,10 @@ module _ {H : Type 0} (bits : ℕ) (old mid new : Ledger H) (m k n : Records) (w
 
   pub again-refuses : (oldest : Oldest) → TellsOldest old.work mid.work oldest
       → ((b : ℕ) → b < mid.work.sizes.buffers → mid.work.made ≡ 0 → current mid.work < mid.work.sizes.generations → is_held (mid.work.buffer b) ≡ false)
+      → (mid.of_width width).buffers * capacity mid.work.sizes.words width ≤ (mid.of_width width).made + (mid.of_width width).spare
       → (result : Result ℕ StoreError) → OnErr result (new ≡ mid) → IfErr result (FullAs mid.work width oldest) → IfErr result (Refuses old new width)
-  again-refuses oldest tells unread (Ok r) is full = tt
-  again-refuses oldest tells unread (Err e) is full = is-full old mid new width oldest e tells is none unread full
+  again-refuses oldest tells unread enough (Ok r) is full = tt
+  again-refuses oldest tells unread enough (Err e) is full = is-full old mid new width oldest e tells is none enough unread full
 
 pub takes-over : {H : Type 0} {bits : ℕ} {old new : Ledger H} {m k n : Records} {width : ℕ} {words : List ℕ} {r : ℕ} → m ≡ k → TakesOne bits old new m n width words r → TakesOne bits old new k n width words r
 takes-over {H} {bits} {old} {new} {m} {k} {n} {width} {words} {r} same takes = subst (λ (x : Records). TakesOne bits old new x n width words r) same takes

@@ -5,7 +5,7 @@ use Rattle.std.specs.List.{IsDistinct, All, AllByRecursion}
 use Rattle.std.proofs.lemmas.List.Elements.{All-head, All-tail, All-from_recursion}
 use Rattle.std.proofs.Common.{inl, inr, leb}
 use Rattle.std.specs.Prelude.{◌&&◌}
-use Rattle.std.proofs.lemmas.Bool.{false≢true, cond-true, cases_Bool, ne_eqb, leb-true, and_parts}
+use Rattle.std.proofs.lemmas.Bool.{false≢true, cond-true, cases_Bool, eq-eqb, ne_eqb, leb-true, and_parts}
 use Rattle.buffer_shelf.specs.declared.state.State.{State}
 use Rattle.buffer_shelf.specs.declared.state.State.TheVariants.{Dropped}
 use Rattle.entry_ref.specs.References.{buffer_of}
@@ -272,6 +272,31 @@ module _ {H : Type 0} (bits : ℕ) (work : WorkView H) (m : Records) (e : Entrie
 
   pub store_few_buffers : (w : ℕ) → is_width w ≡ true → (e.of_width w).buffers ≤ 1 + (e.of_width w).made / capacity work.sizes.words w
   store_few_buffers w is = subst (λ n. (e.of_width w).buffers ≤ 1 + (e.of_width w).made / capacity n w) st.words (st.good.few w is)
+
+  pub store_enough : (w : ℕ) → is_width w ≡ true → (e.of_width w).buffers * capacity work.sizes.words w ≤ (e.of_width w).made + (e.of_width w).spare
+  store_enough w is = subst (λ n. (e.of_width w).buffers * capacity n w ≤ (e.of_width w).made + (e.of_width w).spare) st.words (st.good.enough w is)
+
+  pub store_unfilled : (shape b : ℕ) → IsUnfilled (ledger_of bits work shape m e unit) b
+      → capacity work.sizes.words (active_width (work.buffer b)) ≤ (e.of_width (active_width (work.buffer b))).made
+  store_unfilled shape b is =
+      let below : b < e.count = subst (λ n. b < n) (sym st.count) is.below in
+      let some : 0 < cond (is_state_active (e.mark b).state) (e.mark b).width 0 = subst (λ n. 0 < n) (sym (width-of b is.below)) is.active in
+      let active : is_state_active (e.mark b).state ≡ true = active-from (is_state_active (e.mark b).state) (e.mark b).width some in
+      let wide : (e.mark b).width ≡ active_width (work.buffer b) = sym (ap (λ u. cond u (e.mark b).width 0) active) ∙ width-of b is.below in
+      subst (λ w. capacity work.sizes.words w ≤ (e.of_width w).made) wide
+      (subst (λ n. capacity n (e.mark b).width ≤ (e.of_width (e.mark b).width).made) st.words
+      (st.good.unfilled b (record {
+        below = below;
+        active = active;
+        unfilled = λ filled. this-not (e.of_width (active_width (work.buffer b))).filled is.unfilled (ap (λ n. (e.of_width n).filled) (sym wide) ∙ filled);
+      })))
+    where
+      active-from : (t : Bool) (w : ℕ) → 0 < cond t w 0 → t ≡ true
+      active-from true w some = refl
+      active-from false w some = absurd (omega arith)
+
+      this-not : (o : Option ℕ) → is_this o b ≡ false → o ≡ Some b → ⊥
+      this-not o none is = absurd (false≢true (sym none ∙ ap (λ q. is_this q b) is ∙ eq-eqb b b refl))
 
   entries-each : ((r : ℕ) → 0 < length (m r) → FitsEntry bits work.sizes (active_width (work.buffer (buffer_of bits r))) r (length (m r)))
       → (w : ℕ) → 0 < w

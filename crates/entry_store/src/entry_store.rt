@@ -340,7 +340,7 @@ impl<const OFFSET_BITS: u32, W: Work<OFFSET_BITS>> Store<OFFSET_BITS>
     ghost use Rattle.entry_store.specs.ProofsForStore.{store_recorded, store_placed, store_taken, store_filled, store_spares, store_unkept};
     ghost use Rattle.entry_store.specs.ProofsForStore.{store_held, store_last, store_settled, store_steady, store_sealed, store_finished};
     ghost use Rattle.entry_store.specs.ProofsForStore.{store_counted};
-    ghost use Rattle.entry_store.specs.ProofsForStore.{store_few_buffers, store_few_records, store_few_nodes};
+    ghost use Rattle.entry_store.specs.ProofsForStore.{store_enough, store_few_buffers, store_few_records, store_few_nodes, store_unfilled};
 
     type Layout = W::Layout;
 
@@ -477,6 +477,12 @@ impl<const OFFSET_BITS: u32, W: Work<OFFSET_BITS>> Store<OFFSET_BITS>
 
     ghost few_buffers = { λ s. store_few_buffers OFFSET_BITS (W.knows s.work) (W.records s.work) (entries_of OFFSET_BITS s.entries)
         s.unit s.stands };
+
+    ghost enough = { λ s. store_enough OFFSET_BITS (W.knows s.work) (W.records s.work) (entries_of OFFSET_BITS s.entries)
+        s.unit s.stands };
+
+    ghost unfilled = { λ s. store_unfilled OFFSET_BITS (W.knows s.work) (W.records s.work) (entries_of OFFSET_BITS s.entries)
+        s.unit s.stands (W.shape s.work) };
 
     ghost few_records = { λ s. store_few_records OFFSET_BITS (W.knows s.work) (W.records s.work) (entries_of OFFSET_BITS s.entries)
         s.unit s.stands (W.entries s.work) };

@@ -1,5 +1,5 @@
 -- What the calls of a store make of its ledger.
-use Rattle.std.specs.Prelude.{◌≡◌, ◌≢◌, ◌⊎◌, ℕ, ◌+◌, ◌-◌, ◌<◌, ◌≤◌, true, false, ◌&&◌, not, nat_eq, if◌then◌else◌, List, [], length, drop}
+use Rattle.std.specs.Prelude.{◌≡◌, ◌≢◌, ◌⊎◌, ℕ, ◌+◌, ◌-◌, ◌*◌, ◌<◌, ◌≤◌, true, false, ◌&&◌, not, nat_eq, if◌then◌else◌, List, [], length, drop}
 use Rattle.std.specs.Prelude.{Option, None, Some}
 use Rattle.entry_ref.specs.References.{buffer_of}
 use Rattle.image_base.specs.declared.Image.{Image}
@@ -89,6 +89,8 @@ pub record Makes {H : Type 0} (bits : ℕ) (old new : Ledger H) (m n : Records) 
 -- what a full store is, after a reclaim: the width has nothing to spare and no buffer is free
 pub record IsFull {H : Type 0} (old new : Ledger H) (width active held : ℕ) (oldest : Oldest) : Type 0 where
   pub spare : (new.of_width width).spare ≡ 0
+  -- so all entries of its buffers were made
+  pub made : (new.of_width width).buffers * capacity new.work.sizes.words width ≤ (new.of_width width).made
   pub free : free_count new.work.buffer new.work.sizes.buffers ≡ 0
   pub active_is : active ≡ active_count new.work.buffer new.work.sizes.buffers
   pub held_is : held ≡ held_count new.work.buffer new.work.sizes.buffers

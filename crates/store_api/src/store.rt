@@ -190,6 +190,16 @@ pub trait Store<const OFFSET_BITS: u32>: Frozen<OFFSET_BITS> {
     ghost few_buffers: { (s : Self) (width : ℕ) → is_width width ≡ true
         → ((ledger s).of_width width).buffers ≤ 1 + ((ledger s).of_width width).made / capacity (ledger s).work.sizes.words width };
 
+    // all entries for which a width's buffers have room were made or are to spare
+    ghost enough: { (s : Self) (width : ℕ) → is_width width ≡ true
+        → ((ledger s).of_width width).buffers * capacity (ledger s).work.sizes.words width
+        ≤ ((ledger s).of_width width).made + ((ledger s).of_width width).spare };
+
+    // and all those of an active buffer that is not filled were made
+    ghost unfilled: { (s : Self) (b : ℕ) → IsUnfilled (ledger s) b
+        → capacity (ledger s).work.sizes.words (active_width ((ledger s).work.buffer b))
+        ≤ ((ledger s).of_width (active_width ((ledger s).work.buffer b))).made };
+
     // distinct records of one width are at most its offsets in all buffers
     ghost few_records: { (s : Self) (width : ℕ) (refs : List ℕ) → 0 < width → IsDistinct nat_eq refs
         → All (λ r. length (Self.records s r) ≡ width) refs

@@ -3,7 +3,7 @@ use Rattle.store_api.proofs.May.{may_do-then}
 use Rattle.store_api.specs.Calls.{GivesBack}
 use Rattle.entry_ledger.specs.Ledgers.{entries_of}
 use Rattle.entry_store.specs.Standing.{ledger_of, records_by_status, statuses}
-use Rattle.entry_store.specs.ProofsForStore.{store_spares}
+use Rattle.entry_store.specs.ProofsForStore.{store_enough, store_spares}
 use Rattle.entry_store.specs.Steps.{TellsOldest}
 use Rattle.entry_store.proofs.Compose.{back-may, one-makes, one-may, again-makes, again-refuses, again-refused, again-left, takes-over}
 use Rattle.entry_store.proofs.entry_store.EntryStore.make_again.Goals as goal
@@ -97,6 +97,7 @@ returns-in-None-clause-refuses g c =
     (store_spares g.row.OFFSET_BITS _ _ _ t.unit t.stands (g.W.Frozen.shape t.work) c.args.width)
     (ap (λ x. (records_by_status (statuses (g.W.Work.knows x.work).commits (entries_of g.row.OFFSET_BITS x.entries)) (g.W.Frozen.records x.work))) c.in-None.ensures.left ∙ c.reclaim-oldest.ensures.records)
     c.reclaim-oldest.result (subst (λ x. TellsOldest (g.W.Work.knows s.work) (g.W.Work.knows x.work) c.reclaim-oldest.result) (sym c.in-None.ensures.left) c.reclaim-oldest.ensures.tells) t.stands.unread
+    (store_enough g.row.OFFSET_BITS _ _ _ t.unit t.stands c.args.width c.requires.width)
     c.make_opened.result c.make_opened.ensures.refused c.make_opened.ensures.full
 
 pub returns-in-None-clause-may : goal.returns-in-None-clause-may
