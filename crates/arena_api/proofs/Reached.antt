@@ -2,9 +2,9 @@
 use Rattle.std.proofs.Common.{◌≡◌, ℕ, ◌<◌, List, [], ◌∷◌, length, sym, ap, subst, ◌∙◌}
 use Rattle.std.proofs.Math.Logic.{∥∥₁_elim, ∥∥₁_map}
 use Rattle.std.specs.Coded.{×_prop, Unit-prop, le_prop, Coded-set, coded_list, coded_ℕ}
-use Rattle.image_base.specs.Images.{image_of, words_at}
-use Rattle.image_base.specs.Records.{Records, SameAt, AllThere}
-use Rattle.image_base.proofs.Pairs.{words-among, there-among, same-from, pairs-same_at}
+use Rattle.entry_ref.specs.Images.{image_of, words_at}
+use Rattle.entry_ref.specs.Records.{Records, SameAt, AllThere}
+use Rattle.entry_ref.proofs.Pairs.{words-among, there-among, same-from, pairs-same_at}
 use Rattle.arena_api.specs.Calls.{next_image}
 
 pub AllThere-prop : (refs : List ℕ) (m : Records) → IsProp (AllThere refs m)

@@ -2,10 +2,10 @@
 use Rattle.std.specs.Prelude.{◌-◌, replicate, length, ◌≡◌, ℕ, ◌+◌, ◌^◌, ◌<◌, ◌≤◌, ◌&&◌, true, false, nat_eq, if◌then◌else◌, List, [], ◌∷◌}
 use Rattle.std.specs.Prelude.{◌++◌, None, Some}
 use Rattle.entry_ref.specs.References.{buffer_of, buffer_limit, offset_limit}
-use Rattle.image_base.specs.declared.Image.{Image}
-use Rattle.image_base.specs.Images.{no_image, image_of, words_at}
-use Rattle.image_base.specs.Places.{IsEntry}
-use Rattle.image_base.specs.Records.{Records}
+use Rattle.entry_ref.specs.declared.images.Image.{Image}
+use Rattle.entry_ref.specs.Images.{no_image, image_of, words_at}
+use Rattle.entry_ref.specs.Places.{IsEntry}
+use Rattle.entry_ref.specs.Records.{Records}
 use Rattle.arena_api.specs.Works.{Sizes, Buffer, Commits, Stored, WorkView, active_width, is_free, last_tag, first_hold, oldest_of}
 
 -- from 1 buffer to as many as can be named, of 8,192 to 65,536 words, whose offsets can be named; commits fit 32 bits, generations 48

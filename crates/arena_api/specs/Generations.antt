@@ -3,7 +3,7 @@ use Rattle.std.specs.Prelude.{◌≡◌, ◌⊎◌, ℕ, suc, ◌<◌, ◌≤◌
 use Rattle.std.specs.Prelude.{Option, Some, None}
 use Rattle.std.specs.List.{AllByRecursion}
 use Rattle.entry_ref.specs.References.{buffer_of}
-use Rattle.image_base.specs.Images.{words_at}
+use Rattle.entry_ref.specs.Images.{words_at}
 use Rattle.arena_api.specs.Works.{Buffer, Tag, Hold, Commits, WorkView, active_width, last_image, oldest_of, newest_of}
 use Rattle.arena_api.specs.Calls.{IsKept, with_buffer}
 use Rattle.arena_api.specs.declared.answers.Advance.{Advance}

@@ -1,6 +1,6 @@
 -- What a work knows: the sizes, each buffer, the open holds, the commits that are kept, and what was stored since the last.
 use Rattle.std.specs.Prelude.{ℕ, suc, zero, ◌+◌, Bool, true, false, if◌then◌else◌, List, [], ◌∷◌, Option, Some}
-use Rattle.image_base.specs.declared.Image.{Image}
+use Rattle.entry_ref.specs.declared.images.Image.{Image}
 
 -- the numbers of buffers and of words in each, and the highest numbers of a commit and of a generation
 pub record Sizes : Type 0 where

@@ -2,18 +2,17 @@ ghost use Rattle.std.specs.Prelude.{◌≡◌, ◌≢◌, ◌<◌, ◌≤◌, �
 ghost use Rattle.std.specs.Prelude.{IfNone};
 ghost use Rattle.std.specs.List.{AllByRecursion};
 ghost use Rattle.entry_ref.specs.References.{buffer_of};
-ghost use Rattle.image_base.specs.Images.{words_at};
-ghost use Rattle.image_base.specs.Places.{IsEntry};
-ghost use Rattle.image_base.specs.Records.{Records, with_words};
+ghost use Rattle.entry_ref.specs.Images.{words_at};
+ghost use Rattle.entry_ref.specs.Places.{IsEntry};
+ghost use Rattle.entry_ref.specs.Records.{Records, with_words};
 ghost use Rattle.arena_api.specs.Works.{WorkView, Buffer, active_width, width_of, free_count, last_image};
 ghost use Rattle.arena_api.specs.Generations.{IsQueue, IsHeldUnder, MayRetire, retired, Advances, advanced, LetsGo, Reclaims, reclaimed};
 ghost use Rattle.arena_api.specs.Calls.{IsWithinLimits, IsInOrder, IsKept, InNoCommit, IsWordIn, MayStore, FitsEntry, IsLowestFree};
 ghost use Rattle.arena_api.specs.Calls.{AddsCommit, with_stored, padded, handed_out, next_image, published};
 
 use crate::answers::{Advance, Oldest};
-use entry_ref::EntryRef;
+use entry_ref::{EntryRef, Layout};
 use frozen_api::Frozen;
-use image_base::Layout;
 
 /// Buffers of words, over which records are made and roots are published.
 ///

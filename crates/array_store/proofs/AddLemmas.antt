@@ -4,7 +4,7 @@ use Rattle.std.proofs.Math.Nat.{pos_of_div-pos}
 use Rattle.std.specs.Prelude.{IfOk, OnErr}
 use Rattle.attr_images.specs.Words.{class_of}
 use Rattle.entry_ref.specs.References.{buffer_limit}
-use Rattle.image_base.specs.Records.{Records}
+use Rattle.entry_ref.specs.Records.{Records}
 use Rattle.arena_api.specs.Calls.{padded}
 use Rattle.store_api.specs.Ledgers.{Ledger}
 use Rattle.store_api.specs.Calls.{MayGiveBack, Makes}

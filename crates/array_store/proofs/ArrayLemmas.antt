@@ -3,7 +3,7 @@ use Rattle.std.proofs.Common.{◌≡◌, ℕ, ◌+◌, ◌-◌, ◌<◌, ◌≤�
 use Rattle.std.specs.Prelude.{slice_index, IfOk}
 use Rattle.std.proofs.lemmas.List.{take_at, get_or-take, get_or-drop}
 use Rattle.attr_images.specs.Words.{class_of, filled, stored_items, IsStoredList}
-use Rattle.image_base.specs.Records.{Records}
+use Rattle.entry_ref.specs.Records.{Records}
 use Rattle.store_api.specs.Ledgers.{Ledger}
 use Rattle.array_store.specs.Adding.{AddsRecord}
 use Rattle.array_store.specs.Arrays.{IsArray}

@@ -3,7 +3,7 @@ use Rattle.std.proofs.Common.{◌≡◌, ◌≢◌, ℕ, ◌<◌, ◌≤◌, Boo
 use Rattle.std.proofs.lemmas.Bool.{le-leb}
 use Rattle.std.specs.List.{find, AllByRecursion}
 use Rattle.std.specs.Option.{unwrap_or}
-use Rattle.image_base.specs.Records.{Among}
+use Rattle.entry_ref.specs.Records.{Among}
 use Rattle.attr_images.specs.Words.{classes, class_of}
 use Rattle.store_api.specs.Ledgers.{is_width}
 

@@ -1,6 +1,6 @@
 -- Arrays, and what the classes of records are, as laws.
 use Rattle.std.specs.Prelude.{◌≡◌, ◌≢◌, ℕ, ◌<◌, ◌≤◌, true, List, ◌∷◌, length}
-use Rattle.image_base.specs.Records.{Among}
+use Rattle.entry_ref.specs.Records.{Among}
 use Rattle.tree_images.specs.declared.TheConstants.{NODE_WORDS}
 use Rattle.attr_images.specs.Words.{classes, class_of, filled, stored_items, IsStoredList}
 use Rattle.store_api.specs.Ledgers.{is_width}

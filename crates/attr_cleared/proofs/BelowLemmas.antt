@@ -1,10 +1,10 @@
 -- The nodes and the keys below a node that two trees have.
 use Rattle.std.proofs.Common.{◌≡◌, ℕ, zero, suc, ◌<◌, List, [], ◌∷◌, ◌++◌, map, inl, inr, refl, sym, ap, subst, ◌∙◌, arith}
 use Rattle.std.specs.List.{flat_map, AllByRecursion}
-use Rattle.image_base.proofs.Among.{Among-all, SameAt-among}
+use Rattle.entry_ref.proofs.Among.{Among-all, SameAt-among}
 use Rattle.value_index.proofs.KeyLemmas.{among_left, among_right}
 use Rattle.entry_ref.specs.References.{buffer_of}
-use Rattle.image_base.specs.Records.{Records, SameAt, Among}
+use Rattle.entry_ref.specs.Records.{Records, SameAt, Among}
 use Rattle.tree_images.proofs.TreeLemmas.{IsNode-form}
 use Rattle.tree_images.specs.Nodes.{level_of, node_values}
 use Rattle.tree_images.specs.ProofsForTrees.{pairs-same, tree_nodes-same, IsRootNode-same}

@@ -1,10 +1,10 @@
 -- The index beside documents that are moved stays: what is cleared of it is so still.
 use Rattle.std.proofs.Common.{◌≡◌, ◌≢◌, ℕ, sym, subst}
 use Rattle.std.specs.List.{AllByRecursion}
-use Rattle.image_base.proofs.Among.{SameAt-among}
+use Rattle.entry_ref.proofs.Among.{SameAt-among}
 use Rattle.list_facts.proofs.Each.{AllByRecursion-and}
 use Rattle.entry_ref.specs.References.{buffer_of}
-use Rattle.image_base.specs.Records.{Records, SameAt, Among}
+use Rattle.entry_ref.specs.Records.{Records, SameAt, Among}
 use Rattle.tree_images.specs.ProofsForTrees.{SameAt-left, SameAt-right, all-same, tree_pairs-same}
 use Rattle.tree_images.specs.Trees.{tree_nodes, tree_pairs}
 use Rattle.tree_ways.specs.Ways.{tree_keys}

@@ -2,7 +2,7 @@
 use Rattle.std.proofs.Common.{◌≡◌, ℕ, zero, suc, ◌%◌, ◌<◌, true, List, [], ◌∷◌, ◌++◌, map, Option, None, Some, option_map, inl, inr, refl, sym, ap, subst, arith}
 use Rattle.std.specs.List.{flat_map, AllByRecursion}
 use Rattle.list_facts.proofs.Options.{same_Some}
-use Rattle.image_base.specs.Records.{Records, SameAt, Among}
+use Rattle.entry_ref.specs.Records.{Records, SameAt, Among}
 use Rattle.key_order.specs.Pairs.{lookup_pair}
 use Rattle.store_api.specs.Ledgers.{Ledger}
 use Rattle.store_api.specs.Parts.{Owns}

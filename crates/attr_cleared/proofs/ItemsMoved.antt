@@ -7,7 +7,7 @@ use Rattle.std.specs.List.Sorted.{IsStrictlySortedBy}
 use Rattle.std.specs.Ordering.{nat_cmp, MatchOrdering}
 use Rattle.std.specs.declared.cmp.Ordering.{Ordering}
 use Rattle.attr_cleared.proofs.IndexClauses.{items_stay}
-use Rattle.image_base.specs.Records.{Records, SameAt}
+use Rattle.entry_ref.specs.Records.{Records, SameAt}
 use Rattle.key_order.specs.Pairs.{choose, lookup, take_out}
 use Rattle.store_api.specs.Ledgers.{Ledger}
 use Rattle.tree_images.specs.ProofsForTrees.{all-same}

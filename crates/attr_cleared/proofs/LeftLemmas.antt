@@ -4,10 +4,10 @@ use Rattle.std.proofs.lemmas.Cmp.{nat_cmp_total}
 use Rattle.std.specs.Cmp.{IsTotalOrder}
 use Rattle.std.specs.List.{flat_map, AllByRecursion}
 use Rattle.std.specs.declared.cmp.Ordering.{Ordering}
-use Rattle.image_base.proofs.Among.{Among-all, Among-append}
+use Rattle.entry_ref.proofs.Among.{Among-all, Among-append}
 use Rattle.list_facts.proofs.Each.{AllByRecursion-and}
 use Rattle.entry_ref.specs.References.{buffer_of}
-use Rattle.image_base.specs.Records.{Records, Among}
+use Rattle.entry_ref.specs.Records.{Records, Among}
 use Rattle.tree_images.specs.Trees.{by_number, tree_nodes, tree_pairs, IsTree}
 use Rattle.tree_ways.proofs.WayLemmas.{have_keys}
 use Rattle.attr_images.specs.Documents.{documents_reach, items_reach}

@@ -4,9 +4,9 @@ use Rattle.std.proofs.lemmas.Cmp.{tied_itself, nat_cmp_total}
 use Rattle.std.specs.declared.cmp.Ordering.{Ordering}
 use Rattle.std.specs.List.Sorted.{IsStrictlySortedBy}
 use Rattle.std.specs.Ordering.{nat_cmp, ordering_then}
-use Rattle.image_base.proofs.Among.{Among-all, SameAt-among}
+use Rattle.entry_ref.proofs.Among.{Among-all, SameAt-among}
 use Rattle.entry_ref.specs.References.{buffer_of}
-use Rattle.image_base.specs.Records.{Records, SameAt, Among}
+use Rattle.entry_ref.specs.Records.{Records, SameAt, Among}
 use Rattle.store_api.specs.Ledgers.{Ledger}
 use Rattle.store_api.specs.Parts.{Owns}
 use Rattle.store_api.specs.Statuses.{in_use}

@@ -1,7 +1,7 @@
 -- A compaction's turn at one key of an attribute, and what a move leaves of the buffer that is emptied.
 use Rattle.std.specs.Prelude.{◌≡◌, ℕ, true, Some}
 use Rattle.entry_ref.specs.References.{buffer_of}
-use Rattle.image_base.specs.Records.{Records}
+use Rattle.entry_ref.specs.Records.{Records}
 use Rattle.store_api.specs.Ledgers.{Ledger}
 use Rattle.store_api.specs.Statuses.{in_use}
 use Rattle.attr_compaction.specs.Places.{PlanPlace}

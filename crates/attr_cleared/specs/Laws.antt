@@ -2,7 +2,7 @@
 use Rattle.std.specs.Prelude.{◌≡◌, ◌≢◌, ℕ, ◌<◌, ◌≤◌, false}
 use Rattle.std.specs.declared.cmp.Ordering.TheVariants.{Less}
 use Rattle.entry_ref.specs.References.{buffer_of}
-use Rattle.image_base.specs.Records.{Records, Among}
+use Rattle.entry_ref.specs.Records.{Records, Among}
 use Rattle.attr_images.specs.Attributes.{trees_reach, IsLawfulAttribute}
 use Rattle.attr_images.specs.Tables.{AttributeTrees}
 use Rattle.attr_compaction.specs.Places.{first_place, is_start, place_cmp, PlanPlace}

@@ -6,8 +6,8 @@ use Rattle.std.specs.BTreeMap.{is_at}
 use Rattle.std.specs.List.{flat_map, AllByRecursion}
 use Rattle.std.specs.Map.{lookup as lookup_in}
 use Rattle.std.specs.Ordering.{nat_cmp}
-use Rattle.image_base.proofs.Among.{SameAt-then}
-use Rattle.image_base.specs.Records.{Records, SameAt, Among}
+use Rattle.entry_ref.proofs.Among.{SameAt-then}
+use Rattle.entry_ref.specs.Records.{Records, SameAt, Among}
 use Rattle.tree_images.specs.ProofsForTrees.{SameAt-right, tree_nodes-same}
 use Rattle.tree_images.specs.Trees.{tree_nodes, tree_pairs}
 use Rattle.key_order.specs.Pairs.{lookup, put, take_out}

@@ -8,7 +8,7 @@ use Rattle.std.specs.declared.cmp.Ordering.TheVariants.{Less, Equal, Greater}
 use Rattle.std.specs.List.{AllByRecursion}
 use Rattle.std.specs.List.Sorted.{IsStrictlySortedBy}
 use Rattle.std.specs.Ordering.{nat_cmp}
-use Rattle.image_base.specs.Records.{Records, Among, SameAt}
+use Rattle.entry_ref.specs.Records.{Records, Among, SameAt}
 use Rattle.key_order.specs.Pairs.{choose, lookup, put, take_out}
 use Rattle.key_order.proofs.PairLemmas.{lookup-put}
 use Rattle.store_api.specs.Ledgers.{Ledger}

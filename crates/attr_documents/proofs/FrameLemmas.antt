@@ -1,6 +1,6 @@
 -- Records beside the parts that a call turns, and records that are the same.
 use Rattle.std.proofs.Common.{◌≡◌, ℕ, ◌<◌, List, [], ◌∷◌, arith}
-use Rattle.image_base.specs.Records.{Records, SameAt}
+use Rattle.entry_ref.specs.Records.{Records, SameAt}
 use Rattle.store_api.specs.Ledgers.{Ledger}
 use Rattle.store_api.specs.Parts.{Part, Turns, times}
 use Rattle.store_api.proofs.PartLemmas.{reads-stay, same_at}

@@ -5,7 +5,7 @@ use Rattle.std.specs.Prelude.{slice_get, Some, IfOk}
 use Rattle.store_api.specs.declared.store.StoreError.{StoreError}
 use Rattle.std.specs.List.{AllByRecursion}
 use Rattle.list_facts.proofs.Options.{same_Some}
-use Rattle.image_base.specs.Records.{Records}
+use Rattle.entry_ref.specs.Records.{Records}
 use Rattle.store_api.specs.Ledgers.{Ledger}
 use Rattle.store_api.specs.Parts.{Turns, entries, entry}
 use Rattle.store_api.proofs.PartLemmas.{turns-as}

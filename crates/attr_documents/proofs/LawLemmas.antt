@@ -5,7 +5,7 @@ use Rattle.std.specs.Prelude.{◌↔◌}
 use Rattle.std.specs.List.{flat_map, AllByRecursion}
 use Rattle.std.specs.List.Sorted.{IsStrictlySortedBy}
 use Rattle.std.specs.Ordering.{nat_cmp}
-use Rattle.image_base.specs.Records.{Records, SameAt, Among}
+use Rattle.entry_ref.specs.Records.{Records, SameAt, Among}
 use Rattle.tree_images.specs.ProofsForTrees.{SameAt-left, SameAt-right}
 use Rattle.tree_images.specs.Trees.{tree_nodes, tree_pairs, by_number, IsTree}
 use Rattle.store_api.specs.Parts.{times}

@@ -10,7 +10,7 @@ use Rattle.key_order.specs.Pairs.{choose, lookup}
 use Rattle.doc_vector.specs.Documents.{beside_document}
 use Rattle.std.specs.List.{AllByRecursion}
 use Rattle.list_facts.proofs.Options.{same_Some}
-use Rattle.image_base.specs.Records.{Records}
+use Rattle.entry_ref.specs.Records.{Records}
 use Rattle.array_store.proofs.ArrayLemmas.{list_array}
 use Rattle.array_store.specs.Arrays.{IsArray}
 use Rattle.attr_images.specs.Documents.{weighted, items_at, column_at, AreItemRecords}

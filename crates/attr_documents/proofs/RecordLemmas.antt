@@ -1,7 +1,7 @@
 -- The items of documents where their records stay.
 use Rattle.std.proofs.Common.{◌≡◌, ℕ, zero, suc, ℤ, List, [], ◌∷◌, ◌++◌, map, refl, sym, ap, subst, ◌∙◌}
 use Rattle.std.specs.List.{flat_map, AllByRecursion}
-use Rattle.image_base.specs.Records.{Records, SameAt}
+use Rattle.entry_ref.specs.Records.{Records, SameAt}
 use Rattle.tree_images.specs.ProofsForTrees.{SameAt-left, SameAt-right}
 use Rattle.attr_images.specs.Documents.{weighted, items_at, IsItemsRecord}
 use Rattle.attr_images.specs.Values.{value_of, IsValueRecord}

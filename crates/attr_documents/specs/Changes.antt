@@ -1,7 +1,7 @@
 -- What a change of one document asks for, and what it leaves.
 use Rattle.std.specs.Prelude.{◌≡◌, ◌⊎◌, ℕ, ◌+◌, ◌<◌, nat_eq, if◌then◌else◌, List, [], ◌∷◌}
 use Rattle.std.specs.List.{flat_map, AllZip}
-use Rattle.image_base.specs.Records.{Records, Among, SameAt}
+use Rattle.entry_ref.specs.Records.{Records, Among, SameAt}
 use Rattle.key_order.specs.Pairs.{take_out}
 use Rattle.tree_images.specs.Trees.{tree_nodes, tree_pairs}
 use Rattle.tree_images.specs.declared.TheConstants.{NODE_WORDS}

@@ -2,7 +2,7 @@
 -- These are owned. The records of the values are another's: documents refer to them.
 use Rattle.std.specs.Prelude.{ℕ, zero, suc, List, [], ◌∷◌, ◌++◌, map}
 use Rattle.std.specs.List.{flat_map, AllByRecursion}
-use Rattle.image_base.specs.Records.{Records}
+use Rattle.entry_ref.specs.Records.{Records}
 use Rattle.tree_images.specs.Trees.{tree_nodes, tree_pairs}
 use Rattle.store_api.specs.Parts.{Part}
 use Rattle.doc_vector.specs.Documents.{IsDocumentMap}

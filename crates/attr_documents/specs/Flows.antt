@@ -1,7 +1,7 @@
 -- What a change takes over of documents: a reference that was in use when the unit began has in the new ones no role that it had not in
 -- the old.
 use Rattle.std.specs.Prelude.{◌⊎◌, ℕ, List, unwrap_or}
-use Rattle.image_base.specs.Records.{Records, Among}
+use Rattle.entry_ref.specs.Records.{Records, Among}
 use Rattle.store_api.specs.Ledgers.{Ledger}
 use Rattle.store_api.specs.Flows.{ComesFrom}
 use Rattle.key_order.specs.Pairs.{lookup}

@@ -1,6 +1,6 @@
 -- The items of one document: its references of values with weights, as words of a record.
 use Rattle.std.specs.Prelude.{◌≡◌, ℕ, ℤ, ◌+◌, ◌<◌, pos, Bool, true, false, List, [], ◌∷◌}
-use Rattle.image_base.specs.Records.{Records}
+use Rattle.entry_ref.specs.Records.{Records}
 use Rattle.store_api.specs.Ledgers.{Ledger}
 use Rattle.store_api.specs.Parts.{Turns, entries}
 use Rattle.attr_images.specs.Documents.{weighted, IsItemsRecord}

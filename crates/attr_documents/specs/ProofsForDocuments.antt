@@ -1,7 +1,7 @@
 -- Nobody has to read this: what documents own stays where these records stay. It stands here since a part cites it.
 use Rattle.std.proofs.Common.{◌≡◌, ℕ, List, ◌++◌, ap, ◌∙◌}
 use Rattle.std.specs.List.{flat_map}
-use Rattle.image_base.specs.Records.{Records, SameAt}
+use Rattle.entry_ref.specs.Records.{Records, SameAt}
 use Rattle.tree_images.specs.ProofsForTrees.{SameAt-left, tree_pairs-same, tree_nodes-same}
 use Rattle.tree_images.specs.Trees.{tree_nodes, tree_pairs}
 

@@ -4,9 +4,9 @@ use Rattle.std.specs.Prelude.{Bool, true, false, if◌then◌else◌, is_some, O
 use Rattle.std.specs.Global.{Global}
 use Rattle.std.specs.BTreeMap.{BTreeMap}
 use Rattle.std.proofs.lemmas.Option.{slice_get_within, IfSome_then}
-use Rattle.image_base.specs.declared.Image.{Image}
-use Rattle.image_base.specs.Images.{no_image, words_at}
-use Rattle.image_base.specs.Records.{Records}
+use Rattle.entry_ref.specs.declared.images.Image.{Image}
+use Rattle.entry_ref.specs.Images.{no_image, words_at}
+use Rattle.entry_ref.specs.Records.{Records}
 use Rattle.gen_core.specs.declared.views.WriterView.{WriterView}
 use Rattle.gen_core.specs.Views.{last_number}
 use Rattle.attr_images.specs.Images.{table_of}

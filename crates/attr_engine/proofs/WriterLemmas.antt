@@ -4,9 +4,9 @@ use Rattle.std.specs.Prelude.{slice_get, All, ◌^◌}
 use Rattle.std.specs.List.{AllByRecursion}
 use Rattle.std.proofs.lemmas.Option.{slice_get_within}
 use Rattle.atomic_table.specs.Seated.{TableId}
-use Rattle.image_base.specs.declared.Image.{Image}
-use Rattle.image_base.specs.Images.{no_image, words_at}
-use Rattle.image_base.specs.Records.{Records}
+use Rattle.entry_ref.specs.declared.images.Image.{Image}
+use Rattle.entry_ref.specs.Images.{no_image, words_at}
+use Rattle.entry_ref.specs.Records.{Records}
 use Rattle.arena_api.specs.Works.{Sizes as ApiSizes, WorkView, last_image}
 use Rattle.gen_core.specs.declared.views.WriterView.{WriterView}
 use Rattle.gen_core.specs.declared.views.ReaderView.{ReaderView}

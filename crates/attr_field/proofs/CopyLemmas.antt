@@ -1,6 +1,6 @@
 -- What documents refer to, keys of their index and old copies of keys: through a change, and through one after another.
 use Rattle.std.proofs.Common.{ℕ, ◌<◌, ◌≤◌, List, arith, inl, inr}
-use Rattle.image_base.specs.Records.{Records}
+use Rattle.entry_ref.specs.Records.{Records}
 use Rattle.store_api.specs.Ledgers.{Ledger}
 use Rattle.store_api.specs.Parts.{Part, Turns, count_in}
 use Rattle.store_api.proofs.Uses.{uses-few}

@@ -1,8 +1,8 @@
 -- What an attribute takes over of another: nothing was done, a change of the index or of the documents, and one after another.
 use Rattle.std.proofs.Common.{ℕ, List, inl, inr}
 use Rattle.std.specs.List.{AllByRecursion}
-use Rattle.image_base.proofs.Among.{Among-all}
-use Rattle.image_base.specs.Records.{Records, SameAt}
+use Rattle.entry_ref.proofs.Among.{Among-all}
+use Rattle.entry_ref.specs.Records.{Records, SameAt}
 use Rattle.store_api.specs.Ledgers.{Ledger}
 use Rattle.store_api.specs.Units.{MayDo}
 use Rattle.tree_images.specs.Trees.{tree_nodes}

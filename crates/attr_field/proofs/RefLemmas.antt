@@ -1,7 +1,7 @@
 -- References in lists, and what an attribute owns as two parts.
 use Rattle.std.proofs.Common.{◌≡◌, ℕ, [], ◌∷◌, Result, Ok, Err, arith}
 use Rattle.std.specs.Prelude.{IfOk}
-use Rattle.image_base.specs.Records.{Records}
+use Rattle.entry_ref.specs.Records.{Records}
 use Rattle.store_api.specs.Ledgers.{Ledger}
 use Rattle.store_api.specs.Parts.{Owns, Turns, count_in}
 use Rattle.store_api.proofs.PartLemmas.{owns-some, turns-as}

@@ -2,9 +2,9 @@
 use Rattle.std.proofs.Common.{◌≡◌, ℕ, suc, ◌<◌, List, [], ◌∷◌, length, map, refl, sym, ap, subst, arith, inl, inr}
 use Rattle.std.specs.Prelude.{Contains, ℤ, Option, None}
 use Rattle.std.specs.List.{AllByRecursion}
-use Rattle.image_base.proofs.Pairs.{same-from}
-use Rattle.image_base.proofs.Among.{Among-all}
-use Rattle.image_base.specs.Records.{Records, Among, SameAt}
+use Rattle.entry_ref.proofs.Pairs.{same-from}
+use Rattle.entry_ref.proofs.Among.{Among-all}
+use Rattle.entry_ref.specs.Records.{Records, Among, SameAt}
 use Rattle.store_api.specs.Ledgers.{Ledger}
 use Rattle.store_api.specs.Parts.{After, Turns, count_in, uses}
 use Rattle.store_api.proofs.PartLemmas.{after}

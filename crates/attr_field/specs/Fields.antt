@@ -1,6 +1,6 @@
 -- One attribute in a store: its documents and the index of their values, each by the root of its tree.
 use Rattle.std.specs.Prelude.{◌⊎◌, ℕ, ◌<◌, List, ◌++◌}
-use Rattle.image_base.specs.Records.{Records, Among}
+use Rattle.entry_ref.specs.Records.{Records, Among}
 use Rattle.store_api.specs.Ledgers.{Ledger}
 use Rattle.store_api.specs.Parts.{Part, count_in, uses}
 use Rattle.attr_documents.specs.Documents.{documents_own, documents_refer, IsDocuments}

@@ -1,6 +1,6 @@
 -- What a change of one attribute takes over of what was in use when the unit began.
 use Rattle.std.specs.Prelude.{◌≡◌, ◌⊎◌, ℕ, true}
-use Rattle.image_base.specs.Records.{Records, Among}
+use Rattle.entry_ref.specs.Records.{Records, Among}
 use Rattle.store_api.specs.Ledgers.{Ledger}
 use Rattle.store_api.specs.Statuses.{in_use}
 use Rattle.tree_images.specs.Trees.{tree_nodes}

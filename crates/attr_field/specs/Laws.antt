@@ -1,6 +1,6 @@
 -- What an attribute in a store is, as laws.
 use Rattle.std.specs.Prelude.{◌≡◌, ◌↔◌, ◌⊎◌, ℕ, []}
-use Rattle.image_base.specs.Records.{Records, SameAt, Among}
+use Rattle.entry_ref.specs.Records.{Records, SameAt, Among}
 use Rattle.attr_documents.specs.Documents.{documents_refer}
 use Rattle.attr_images.specs.Attributes.{trees_reach, IsLawfulAttribute}
 use Rattle.attr_images.specs.Documents.{column_at}

@@ -1,6 +1,6 @@
 -- The steps of a change: documents and an index that have to become one another's again.
 use Rattle.std.specs.Prelude.{◌≡◌, ℕ, [], ◌∷◌}
-use Rattle.image_base.specs.Records.{Records}
+use Rattle.entry_ref.specs.Records.{Records}
 use Rattle.store_api.specs.Ledgers.{Ledger}
 use Rattle.store_api.specs.Parts.{Owns, Turns}
 use Rattle.attr_documents.specs.Documents.{documents_part, IsDocuments}

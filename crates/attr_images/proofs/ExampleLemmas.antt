@@ -3,7 +3,7 @@ use Rattle.std.proofs.Common.{◌≡◌, ℕ, zero, suc, ◌<◌, ◌≤◌, ℤ
 use Rattle.std.proofs.lemmas.Str.{IsUtf8-from_ascii}
 use Rattle.std.specs.List.Sorted.{IsStrictlySortedBy}
 use borrow.Author.Tests.{ltb-true, leb-true}
-use Rattle.image_base.specs.Images.{words_at}
+use Rattle.entry_ref.specs.Images.{words_at}
 use Rattle.tree_images.proofs.NodeLemmas.{node_formed}
 use Rattle.tree_images.specs.Trees.{pairs_below, nodes_below, IsNode}
 use Rattle.attr_images.specs.Examples.{one_text, broken, two_fields, OneTextIsLawful, OneTextReads, MissingRecord, WrongCount, UnlawfulTable, MissingValue, WrongWeight, TwoFieldsAreLawful, TwoFieldsRead, OtherDocument}

@@ -6,7 +6,7 @@ use Rattle.std.proofs.lemmas.Bool.{leb-true}
 use Rattle.std.proofs.lemmas.List.{get_or-append-add, append_assoc, length-replicate, length-map}
 use Rattle.std.specs.List.{find, flat_map, AllByRecursion}
 use Rattle.std.specs.Option.{unwrap_or}
-use Rattle.image_base.specs.Records.{Records}
+use Rattle.entry_ref.specs.Records.{Records}
 use Rattle.attr_images.proofs.ImageLemmas.{image_lawful}
 use Rattle.attr_images.proofs.ShapeLemmas.{shape_tells}
 use Rattle.attr_images.specs.Images.{attributes_from, attributes_of, root_record, IsRootRecord, IsLawfulImage}

@@ -1,7 +1,7 @@
 -- The items of a document, as its reference in the document tree reads.
 use Rattle.std.specs.Prelude.{ℕ, zero, suc, ℤ, pos, List, [], ◌∷◌, map}
 use Rattle.std.specs.List.{flat_map, AllByRecursion}
-use Rattle.image_base.specs.Records.{Records}
+use Rattle.entry_ref.specs.Records.{Records}
 use Rattle.tree_images.specs.Trees.{tree_pairs}
 use Rattle.attr_images.specs.Values.{stored_value, IsValueRecord}
 use Rattle.attr_images.specs.Words.{stored_items, unpacked, IsStoredList}

@@ -1,7 +1,7 @@
 -- Images made by hand: one of a weighted set of texts, one with a second attribute, and a broken one for each part of what is lawful.
 use Rattle.std.specs.Prelude.{◌≡◌, ℕ, ◌+◌, ◌*◌, ◌^◌, pos, negsuc, List, [], ◌∷◌}
-use Rattle.image_base.specs.Images.{words_at}
-use Rattle.image_base.specs.declared.Image.{Image}
+use Rattle.entry_ref.specs.Images.{words_at}
+use Rattle.entry_ref.specs.declared.images.Image.{Image}
 use Rattle.tree_images.specs.Nodes.{node_words}
 use Rattle.attr_images.specs.Images.{table_of, IsLawfulImage}
 use Rattle.attr_types.specs.declared.value.Value.TheVariants as values

@@ -1,7 +1,7 @@
 -- Images: a root record that names the two trees of each attribute; what an image reads as, and when it is lawful.
 use Rattle.std.specs.Prelude.{◌≡◌, ℕ, zero, suc, ◌+◌, ◌*◌, ◌<◌, ◌^◌, List, [], ◌∷◌, length, slice_index, drop}
 use Rattle.std.specs.List.{flat_map, AllByRecursion}
-use Rattle.image_base.specs.Records.{Records}
+use Rattle.entry_ref.specs.Records.{Records}
 use Rattle.attr_images.specs.Shapes.{types_of_shape}
 use Rattle.attr_images.specs.Tables.{AttributeTrees, table_of_columns, columns_at, attributes_reach, AreLawfulAttributes}
 use Rattle.attr_images.specs.Words.{class_of, filled}

@@ -5,7 +5,7 @@ use Rattle.std.specs.Int.{w64}
 use Rattle.std.specs.List.{IsDistinct}
 use Rattle.std.specs.List.Sorted.{IsStrictlySortedBy}
 use Rattle.std.specs.Map.{keys_of}
-use Rattle.image_base.specs.Records.{Records, AllThere}
+use Rattle.entry_ref.specs.Records.{Records, AllThere}
 use Rattle.tree_images.specs.Trees.{tree_nodes, IsTree}
 use Rattle.attr_images.specs.Attributes.{trees_reach, AreFormed, IsLawfulAttribute}
 use Rattle.attr_images.specs.Documents.{column_at}

@@ -3,7 +3,7 @@ use Rattle.std.specs.Prelude.{◌≡◌, ℕ, ℤ, pos, ◌+◌, ◌-◌, ◌*�
 use Rattle.std.specs.Prelude.{List, [], ◌∷◌, ◌++◌, length, map, filter}
 use Rattle.std.specs.List.{flat_map, range_with_len, AllByRecursion}
 use Rattle.std.specs.Ordering.{nat_cmp}
-use Rattle.image_base.specs.Records.{Records}
+use Rattle.entry_ref.specs.Records.{Records}
 use Rattle.tree_images.specs.Trees.{tree_pairs, tree_nodes, by_number, IsTree}
 use Rattle.attr_images.specs.declared.TheConstants.{MOST_SHORT, FIRST_VECTOR, BLOCK_WORDS, BLOCK_DOCUMENTS}
 use Rattle.attr_images.specs.Values.{stored_value, IsValueRecord}

@@ -1,7 +1,7 @@
 ghost use Rattle.attr_images.specs.ProofsForImages.{attr_empty_reaches, attr_empty_lawful, attr_present, attr_stays};
 ghost use Rattle.attr_images.specs.Images.{attr_reaches, IsLawfulImage};
 
-use image_base::Layout;
+use entry_ref::Layout;
 
 /// The layout of images of one to eight attributes, whose kinds and value types the shape tells.
 pub struct AttrLayout;

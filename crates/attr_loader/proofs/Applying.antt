@@ -2,7 +2,7 @@
 use Rattle.std.proofs.Common.{◌≡◌, ℕ, ◌+◌, ◌<◌, ◌≤◌, Bool, true, false, if◌then◌else◌, List, [], ◌∷◌, ◌++◌, length, refl, sym, ap, ◌∙◌, subst, arith}
 use Rattle.std.specs.Prelude.{Result, Ok, Err, IfOk}
 use Rattle.std.proofs.lemmas.List.{length_push}
-use Rattle.image_base.specs.Images.{words_at}
+use Rattle.entry_ref.specs.Images.{words_at}
 use Rattle.store_api.specs.Ledgers.{Ledger}
 use Rattle.attr_changes.specs.declared.applied.Applied.{Applied}
 use Rattle.attr_changes.specs.declared.applied.Applied.TheVariants.{Changed, Skipped}

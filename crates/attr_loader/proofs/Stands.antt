@@ -5,8 +5,8 @@ use Rattle.std.proofs.lemmas.List.{length-append, length-take, length-drop}
 use Rattle.std.proofs.lemmas.Bool.{cases_lt}
 use Rattle.std.proofs.lemmas.Option.{slice_get_within, get_or_from_slice_get}
 use Rattle.std.proofs.Math.Seq.{take-add}
-use Rattle.image_base.specs.declared.Image.{Image}
-use Rattle.image_base.specs.Images.{no_image, words_at}
+use Rattle.entry_ref.specs.declared.images.Image.{Image}
+use Rattle.entry_ref.specs.Images.{no_image, words_at}
 use Rattle.arena_api.specs.Calls.{told_after}
 use Rattle.store_api.specs.Ledgers.{Ledger}
 use Rattle.attr_images.specs.Images.{IsLawfulImage, table_of}

@@ -1,7 +1,7 @@
 -- What one batch makes of attributes.
 use Rattle.std.specs.Prelude.{◌≡◌, ℕ, ◌+◌, ◌≤◌, List, length}
-use Rattle.image_base.specs.declared.Image.{Image}
-use Rattle.image_base.specs.Images.{words_at}
+use Rattle.entry_ref.specs.declared.images.Image.{Image}
+use Rattle.entry_ref.specs.Images.{words_at}
 use Rattle.arena_api.specs.Calls.{told_after}
 use Rattle.store_api.specs.Ledgers.{Ledger}
 use Rattle.attr_changes.specs.declared.applied.Applied.{Applied}

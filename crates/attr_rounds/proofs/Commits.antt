@@ -4,8 +4,8 @@ use Rattle.std.specs.Prelude.{take, reverse, slice_get, All}
 use Rattle.std.specs.List.{AllZip}
 use Rattle.std.proofs.lemmas.List.{length-append, get_or_append_left, reverse-append}
 use Rattle.std.proofs.lemmas.List.Elements.{All-nil, All-push, All-take}
-use Rattle.image_base.specs.declared.Image.{Image}
-use Rattle.image_base.specs.Records.{Records}
+use Rattle.entry_ref.specs.declared.images.Image.{Image}
+use Rattle.entry_ref.specs.Records.{Records}
 use Rattle.gen_core.specs.declared.views.ReaderView.{ReaderView}
 use Rattle.gen_core.specs.Views.{IsCommit}
 use Rattle.attr_rounds.specs.declared.rounds.Round.{Round}

@@ -6,13 +6,13 @@ use Rattle.std.specs.List.Sorted.{IsNonDecreasing}
 use Rattle.std.proofs.lemmas.List.{length_push, map-append, reverse-append, get_or_push, get_or_append_left}
 use Rattle.std.proofs.lemmas.List.Sorted.{IsNonDecreasingBy-push}
 use Rattle.list_facts.proofs.Pairs.{AllZip-push}
-use Rattle.image_base.specs.declared.Image.{Image}
-use Rattle.image_base.specs.Records.{Records}
+use Rattle.entry_ref.specs.declared.images.Image.{Image}
+use Rattle.entry_ref.specs.Records.{Records}
 use Rattle.gen_core.specs.declared.views.Sizes.{Sizes}
 use Rattle.gen_core.specs.declared.views.ReaderView.{ReaderView}
 use Rattle.gen_core.specs.declared.views.ReaderState.TheVariants.{Idle}
 use Rattle.gen_core.specs.Events.{with_state}
-use Rattle.image_base.specs.Images.{words_at}
+use Rattle.entry_ref.specs.Images.{words_at}
 use Rattle.word_arena.specs.Ruled.{seen_image, seen_number, IsLater}
 use Rattle.attr_rounds.specs.declared.rounds.Round.{Round}
 use Rattle.attr_rounds.specs.Rounds.{seen_last, IsOfSeen, MakesRounds, MakesRound}

@@ -6,7 +6,7 @@ use crate::question::Question;
 use crate::rounds::{Reading, go_round};
 use attr_io::Gate;
 use attr_threads::Task;
-use image_base::Layout;
+use entry_ref::Layout;
 use std::alloc::{AllocError, Global};
 use word_arena::Reader;
 

@@ -1,9 +1,8 @@
 ghost use Rattle.std.specs.Prelude.{◌≡◌, ℕ, IfOk};
-ghost use Rattle.image_base.specs.Records.{Records};
+ghost use Rattle.entry_ref.specs.Records.{Records};
 
-use entry_ref::EntryRef;
+use entry_ref::{EntryRef, Layout};
 use frozen_api::Frozen;
-use image_base::Layout;
 use std::alloc::{AllocError, Global};
 
 /// What is asked of a commit in each round.

@@ -5,7 +5,7 @@ ghost use Rattle.attr_rounds.specs.Rounds.{MakesRounds};
 
 use crate::question::Question;
 use attr_io::{Gate, Point};
-use image_base::Layout;
+use entry_ref::Layout;
 use std::alloc::{AllocError, Global};
 use word_arena::{Again, Guarded, Reader};
 

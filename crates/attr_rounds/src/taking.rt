@@ -5,7 +5,7 @@ ghost use Rattle.attr_rounds.specs.Rounds.{AreSeen, IsOfCommit};
 
 use crate::question::Question;
 use crate::rounds::{Reading, Round};
-use image_base::Layout;
+use entry_ref::Layout;
 use word_arena::Writer;
 
 /// Ends a reader after its rounds to this question. Each of them is then known to be of a commit of the writer.

@@ -4,7 +4,7 @@ use Rattle.std.specs.Prelude.{slice_get}
 use Rattle.std.specs.BTreeMap.{is_at}
 use Rattle.std.specs.List.{AllByRecursion, AllZip}
 use Rattle.std.specs.Option.{IfSome}
-use Rattle.image_base.specs.Records.{Records, Among, SameAt}
+use Rattle.entry_ref.specs.Records.{Records, Among, SameAt}
 use Rattle.tree_images.specs.Trees.{tree_pairs}
 use Rattle.attr_index.proofs.ColumnLemmas.{operation_changes, column-remove}
 use Rattle.attr_index.specs.Columns.{Column, IsLawfulColumn, column_of, with_change}

@@ -1,11 +1,11 @@
 -- What a commit of attributes asks for, and what it makes of them.
 use Rattle.std.proofs.Common.{◌≡◌, ℕ, ◌+◌, ◌<◌, ◌≤◌, ◌^◌, Bool, List, [], ◌∷◌, length, true, false, Option, None, Some, true≢false, refl, sym, ap, subst, ◌∙◌, arith, inl, inr}
 use Rattle.std.specs.List.{AllByRecursion}
-use Rattle.image_base.proofs.Among.{SameAt-then}
+use Rattle.entry_ref.proofs.Among.{SameAt-then}
 use Rattle.entry_ref.specs.References.{buffer_of}
-use Rattle.image_base.specs.Images.{image_of, words_at}
-use Rattle.image_base.specs.Records.{Records, Among, SameAt}
-use Rattle.image_base.specs.declared.Image.{Image}
+use Rattle.entry_ref.specs.Images.{image_of, words_at}
+use Rattle.entry_ref.specs.Records.{Records, Among, SameAt}
+use Rattle.entry_ref.specs.declared.images.Image.{Image}
 use Rattle.arena_api.specs.Calls.{AddsCommit, next_image, published, told_after}
 use Rattle.arena_api.specs.Works.{WorkView, last_image}
 use Rattle.store_api.specs.Calls.{IsWhole, StoresCommit, with_hold}

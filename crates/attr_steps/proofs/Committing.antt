@@ -2,14 +2,14 @@
 use Rattle.std.proofs.Common.{◌≡◌, ℕ, zero, suc, ◌+◌, ◌<◌, ◌≤◌, Bool, true, false, not, ◌&&◌, Option, None, Some, ne_eqb, List, [], ◌∷◌, refl, sym, ap, subst, ◌∙◌, arith, inl, inr, ◌⊎◌, true≢false}
 use Rattle.std.proofs.lemmas.Bool.{cases_Bool, cases_eq, eq-eqb}
 use Rattle.std.specs.List.{AllByRecursion}
-use Rattle.image_base.proofs.Among.{Among-append, SameAt-among}
+use Rattle.entry_ref.proofs.Among.{Among-append, SameAt-among}
 use Rattle.value_index.proofs.KeyLemmas.{among_left, among_right}
 use Rattle.list_facts.specs.Counting.{one_if}
 use Rattle.entry_ref.specs.References.{buffer_of}
-use Rattle.image_base.specs.Images.{image_of, words_at}
-use Rattle.image_base.specs.Records.{Records, AllThere, Among}
-use Rattle.image_base.specs.declared.Image.{Image}
-use Rattle.image_base.proofs.Pairs.{pairs-same, same-from}
+use Rattle.entry_ref.specs.Images.{image_of, words_at}
+use Rattle.entry_ref.specs.Records.{Records, AllThere, Among}
+use Rattle.entry_ref.specs.declared.images.Image.{Image}
+use Rattle.entry_ref.proofs.Pairs.{pairs-same, same-from}
 use Rattle.store_api.specs.Calls.{IsWhole, StoresCommit}
 use Rattle.store_api.specs.Ledgers.{Ledger, is_in, is_this}
 use Rattle.store_api.specs.Parts.{Part, AllStay, Turns, count_in, entries, times, uses}

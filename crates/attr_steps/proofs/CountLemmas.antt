@@ -3,7 +3,7 @@ use Rattle.std.proofs.Common.{◌≡◌, ℕ, ℤ, zero, suc, ◌+◌, ◌-◌, 
 use Rattle.std.proofs.lemmas.Bool.{eqb-true, true≢false}
 use Rattle.std.specs.List.{AllByRecursion, list_any}
 use Rattle.std.specs.Prelude.{min, unwrap_or, ◌||◌}
-use Rattle.image_base.specs.Records.{Records}
+use Rattle.entry_ref.specs.Records.{Records}
 use Rattle.store_api.specs.Calls.{Undoes, EndsOf, RefusesOf}
 use Rattle.store_api.specs.Ledgers.{Ledger, OfWidth, IsSettled, capacity, is_width, widths}
 use Rattle.store_api.specs.Units.{MayDo, MakesAtMost}

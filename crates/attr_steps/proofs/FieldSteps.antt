@@ -6,7 +6,7 @@ use Rattle.std.specs.Map.{lookup}
 use Rattle.std.specs.Option.{IfSome, IfNone}
 use Rattle.list_facts.proofs.Options.{same_Some}
 use Rattle.list_facts.proofs.Each.{AllByRecursion-slice_get}
-use Rattle.image_base.specs.Records.{Records}
+use Rattle.entry_ref.specs.Records.{Records}
 use Rattle.store_api.specs.Ledgers.{Ledger}
 use Rattle.store_api.specs.Parts.{Owns}
 use Rattle.store_api.specs.Units.{MayDo}

@@ -7,7 +7,7 @@ use Rattle.std.proofs.lemmas.List.{take_all}
 use Rattle.list_facts.proofs.Options.{same_Some}
 use Rattle.list_facts.proofs.Each.{AllByRecursion-slice_get}
 use Rattle.attr_images.proofs.TableLemmas.{document_size}
-use Rattle.image_base.specs.Records.{Records}
+use Rattle.entry_ref.specs.Records.{Records}
 use Rattle.attr_types.proofs.TableLemmas.{Sound}
 use Rattle.attr_types.specs.Query.{items_in}
 use Rattle.attr_types.specs.Table.{Table, document_at}

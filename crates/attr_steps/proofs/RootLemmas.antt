@@ -4,7 +4,7 @@ use Rattle.std.specs.Prelude.{slice_get}
 use Rattle.std.proofs.lemmas.List.{append_assoc}
 use Rattle.list_facts.proofs.Options.{same_Some}
 use Rattle.entry_ref.specs.References.{buffer_of}
-use Rattle.image_base.specs.Records.{Records, SameAt}
+use Rattle.entry_ref.specs.Records.{Records, SameAt}
 use Rattle.arena_api.specs.Works.{Sizes, free_count}
 use Rattle.attr_field.specs.declared.roots.FieldRoots.{FieldRoots}
 use Rattle.attr_images.specs.Tables.{AttributeTrees}

@@ -1,6 +1,6 @@
 -- What a unit leaves of the store, and why one was refused.
 use Rattle.std.specs.Prelude.{◌≡◌, ℕ, ◌+◌, ◌<◌, ◌≤◌, true, false, length}
-use Rattle.image_base.specs.Records.{Records}
+use Rattle.entry_ref.specs.Records.{Records}
 use Rattle.arena_api.specs.Generations.{current}
 use Rattle.arena_api.specs.Works.{free_count, oldest_of}
 use Rattle.arena_api.specs.declared.answers.Oldest.{Oldest}

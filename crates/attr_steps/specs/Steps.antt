@@ -2,7 +2,7 @@
 use Rattle.std.specs.Prelude.{◌≡◌, ℕ, List, length, Result, Ok, Err, Option, Some, None, Vec}
 use Rattle.std.specs.declared.alloc.Global.{Global}
 use Rattle.std.specs.List.{AllZip}
-use Rattle.image_base.specs.Records.{Records}
+use Rattle.entry_ref.specs.Records.{Records}
 use Rattle.store_api.specs.Ledgers.{Ledger}
 use Rattle.store_api.specs.Parts.{Turns}
 use Rattle.store_api.specs.declared.store.StoreError.{StoreError}

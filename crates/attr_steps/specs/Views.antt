@@ -1,6 +1,6 @@
 -- The table that attributes read as.
 use Rattle.std.specs.Prelude.{List}
-use Rattle.image_base.specs.Records.{Records}
+use Rattle.entry_ref.specs.Records.{Records}
 use Rattle.attr_images.specs.Tables.{AttributeTrees, table_of_columns, columns_at}
 use Rattle.attr_types.specs.Table.{Table}
 

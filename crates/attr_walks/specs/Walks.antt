@@ -1,6 +1,6 @@
 -- What a walk over the weights of a document makes of an index in a store.
 use Rattle.std.specs.Prelude.{ℕ, ℤ, [], ◌∷◌, Option}
-use Rattle.image_base.specs.Records.{Records}
+use Rattle.entry_ref.specs.Records.{Records}
 use Rattle.store_api.specs.Ledgers.{Ledger}
 use Rattle.store_api.specs.Parts.{Owns, Turns}
 use Rattle.attr_images.specs.Postings.{index_of}

@@ -3,9 +3,9 @@ use Rattle.std.proofs.Common.{◌≡◌, ℕ, zero, suc, ◌<◌, ◌≤◌, Lis
 use Rattle.std.specs.List.{AllByRecursion}
 use Rattle.std.specs.Map.{keys_of}
 use Rattle.entry_ref.specs.References.{buffer_of}
-use Rattle.image_base.specs.Images.{no_image}
-use Rattle.image_base.specs.Records.{Records}
-use Rattle.image_base.specs.declared.Image.{Image}
+use Rattle.entry_ref.specs.Images.{no_image}
+use Rattle.entry_ref.specs.Records.{Records}
+use Rattle.entry_ref.specs.declared.images.Image.{Image}
 use Rattle.arena_api.specs.Calls.{IsFresh}
 use Rattle.arena_api.specs.Works.{WorkView, last_image}
 use Rattle.store_api.specs.Ledgers.{Ledger, IsNew, is_this}

@@ -1,7 +1,7 @@
 -- The last image of a store, read in other records that have the same words of it.
 use Rattle.std.proofs.Common.{◌≡◌, ℕ, zero, suc, ◌<◌, List, [], ◌∷◌, length, refl, sym, ap, ◌∙◌}
 use Rattle.std.specs.Prelude.{slice_index}
-use Rattle.image_base.specs.Records.{Records, AllThere, SameAt}
+use Rattle.entry_ref.specs.Records.{Records, AllThere, SameAt}
 use Rattle.attr_images.proofs.ImageLemmas.{table_empty}
 use Rattle.attr_images.specs.Images.{IsLawfulImage, attr_reaches, attributes_from, attributes_of, operations_at, table_of}
 use Rattle.attr_images.specs.ProofsForImages.{attr_present, attr_stays, columns_at-same}

@@ -1,7 +1,7 @@
 -- What an operation and a commit make of attributes, and what a refusal leaves.
 use Rattle.std.specs.Prelude.{◌≡◌, ℕ, ◌+◌, ◌*◌, ◌<◌, if◌then◌else◌, List, length}
-use Rattle.image_base.specs.declared.Image.{Image}
-use Rattle.image_base.specs.Images.{words_at}
+use Rattle.entry_ref.specs.declared.images.Image.{Image}
+use Rattle.entry_ref.specs.Images.{words_at}
 use Rattle.arena_api.specs.Works.{free_count, last_image}
 use Rattle.arena_api.specs.declared.answers.Oldest.{Oldest}
 use Rattle.store_api.specs.Calls.{StoresCommit}

@@ -2,7 +2,7 @@
 use Rattle.std.specs.Prelude.{◌≡◌, ◌≢◌, ◌⊎◌, ℕ, ◌<◌, ◌≤◌, length, Option, None, Some, IsSome}
 use Rattle.std.specs.declared.cmp.Ordering.TheVariants.{Greater}
 use Rattle.entry_ref.specs.References.{buffer_of}
-use Rattle.image_base.specs.Records.{Records, Among}
+use Rattle.entry_ref.specs.Records.{Records, Among}
 use Rattle.arena_api.specs.declared.answers.Oldest.{Oldest}
 use Rattle.store_api.specs.Ledgers.{Ledger}
 use Rattle.store_api.specs.Victims.{HasNoVictim}

@@ -1,5 +1,5 @@
 ghost use Rattle.std.specs.Prelude.{◌≡◌, ◌<◌, ◌≤◌, ◌+◌, ◌-◌, ◌^◌, [], None, false, length, IfOk, IfErr, OnOk, OnErr, Ok, Err, replicate};
-ghost use Rattle.image_base.specs.Images.{words_at};
+ghost use Rattle.entry_ref.specs.Images.{words_at};
 ghost use Rattle.arena_api.specs.Calls.{IsFresh, told_after};
 ghost use Rattle.arena_api.specs.Works.{last_image};
 ghost use Rattle.attr_changes.specs.declared.applied.Applied.TheVariants.{Skipped};
@@ -50,7 +50,7 @@ pub struct Attribute<const OFFSET_BITS: u32, S: Store<OFFSET_BITS, Layout = Attr
 
 impl<const OFFSET_BITS: u32, S: Store<OFFSET_BITS, Layout = AttrLayout>> Model
     for Attribute<OFFSET_BITS, S> {
-    ghost use Rattle.image_base.specs.Images.{words_at};
+    ghost use Rattle.entry_ref.specs.Images.{words_at};
     ghost use Rattle.arena_api.specs.Works.{last_image};
     ghost use Rattle.attr_images.specs.Images.{table_of};
     ghost use Rattle.attr_images.specs.Shapes.{shape_of, types_of};

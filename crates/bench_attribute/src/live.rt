@@ -1,7 +1,7 @@
 //! The words of the records that an image reaches.
 use attr_types::{Field, Kind};
 use check_trees::{CheckFault, Keys, check_tree};
-use image_base::{word_in, words_at};
+use entry_ref::{word_in, words_at};
 use std::alloc::Global;
 use std::collections::BTreeMap;
 use tree_images::FIRST_VALUE;

@@ -5,7 +5,7 @@ use Rattle.std.proofs.lemmas.List.{map-id, append-nil, append_assoc, take_more, 
 use Rattle.std.proofs.lemmas.Grind.{flat_map-append}
 use Rattle.std.proofs.lemmas.List.FromFn.{filter_of_map_range_with_len_more}
 use Rattle.std.specs.List.{range_with_len, flat_map, AllByRecursion}
-use Rattle.image_base.specs.Records.{Records}
+use Rattle.entry_ref.specs.Records.{Records}
 use Rattle.attr_images.specs.Postings.{block_documents, IsBlock}
 use Rattle.attr_images.specs.declared.TheConstants.{BLOCK_DOCUMENTS}
 use Rattle.doc_set.specs.Sets.{in_words}

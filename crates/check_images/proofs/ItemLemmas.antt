@@ -4,7 +4,7 @@ use Rattle.std.specs.Prelude.{ℤ, Vec, IfOk}
 use Rattle.std.specs.List.{AllByRecursion}
 use Rattle.std.specs.declared.alloc.Global.{Global}
 use Rattle.std.specs.declared.alloc.AllocError.{AllocError}
-use Rattle.image_base.specs.Records.{Records}
+use Rattle.entry_ref.specs.Records.{Records}
 use Rattle.attr_images.specs.Documents.{weighted, IsItemsRecord, items_at, AreItemRecords}
 use Rattle.attr_images.specs.Values.{value_of, stored_value, IsValueRecord}
 use Rattle.attr_types.specs.declared.items.Item.{Item}

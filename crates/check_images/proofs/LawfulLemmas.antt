@@ -2,7 +2,7 @@
 use Rattle.std.proofs.Common.{◌≡◌, ℕ, zero, suc, ◌<◌, ◌≤◌, List, [], length, Result, Ok, Err, refl, sym, ap, ap₂, subst, ◌∙◌, arith}
 use Rattle.std.specs.Prelude.{IfErr}
 use Rattle.std.proofs.lemmas.List.{length-map}
-use Rattle.image_base.specs.Records.{Records}
+use Rattle.entry_ref.specs.Records.{Records}
 use Rattle.attr_images.proofs.ImageLemmas.{attributes_lawful, image_lawful, table_empty}
 use Rattle.attr_images.proofs.ShapeLemmas.{shape_tells}
 use Rattle.attr_images.specs.Images.{root_words, attributes_from, attributes_of, table_of, IsRootRecord, IsLawfulImage}

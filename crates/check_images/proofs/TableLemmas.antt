@@ -5,7 +5,7 @@ use Rattle.std.specs.List.{zip, AllByRecursion}
 use Rattle.std.proofs.Math.Seq.{take-length}
 use Rattle.std.proofs.lemmas.List.{take_rest, append_assoc, append-nil, nil_from_length}
 use Rattle.std.specs.Map.{keys_of}
-use Rattle.image_base.specs.Records.{Records}
+use Rattle.entry_ref.specs.Records.{Records}
 use Rattle.attr_images.proofs.TableLemmas.{same_rest, table_keys}
 use Rattle.attr_images.specs.Attributes.{IsLawfulAttribute}
 use Rattle.attr_images.specs.Documents.{column_at}

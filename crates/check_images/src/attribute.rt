@@ -9,7 +9,7 @@ ghost use Rattle.attr_images.specs.Documents.{AreItemRecords, column_at};
 ghost use Rattle.attr_images.specs.Postings.{list_form, postings_at, IsDictionaryEntry};
 ghost use Rattle.attr_images.specs.Values.{stored_value};
 ghost use Rattle.attr_types.specs.Value.{value_cmp};
-ghost use Rattle.image_base.specs.Maps.{seen};
+ghost use Rattle.entry_ref.specs.Maps.{seen};
 ghost use Rattle.check_trees.specs.Refutations.{Refutes};
 
 use crate::coverage::have_all_values;

@@ -2,12 +2,12 @@ ghost use Rattle.std.specs.Prelude.{◌≡◌, ◌<◌, ◌^◌, ◌++◌, ℕ, 
 ghost use Rattle.std.specs.List.{flat_map, AllByRecursion};
 ghost use Rattle.attr_images.specs.Postings.{block_documents, IsBlock};
 ghost use Rattle.doc_set.specs.Sets.{in_words};
-ghost use Rattle.image_base.specs.Maps.{seen};
+ghost use Rattle.entry_ref.specs.Maps.{seen};
 ghost use Rattle.check_trees.specs.Refutations.{Refutes};
 
 use attr_images::{BLOCK_DOCUMENTS, BLOCK_WORDS};
 use check_trees::CheckFault;
-use image_base::{word_in, words_at};
+use entry_ref::{word_in, words_at};
 use std::alloc::{AllocError, Global};
 use std::collections::BTreeMap;
 

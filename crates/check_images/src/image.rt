@@ -3,7 +3,7 @@ ghost use Rattle.std.specs.List.{AllByRecursion};
 ghost use Rattle.attr_images.specs.Images.{attributes_from, table_of, IsRootRecord, IsLawfulImage};
 ghost use Rattle.attr_images.specs.Shapes.{shape_of, types_of};
 ghost use Rattle.attr_images.specs.Tables.{table_of_columns, columns_at, AreLawfulAttributes};
-ghost use Rattle.image_base.specs.Maps.{seen};
+ghost use Rattle.entry_ref.specs.Maps.{seen};
 ghost use Rattle.check_trees.specs.Refutations.{Refutes};
 
 use crate::attribute::check_attribute;
@@ -11,7 +11,7 @@ use crate::tables::{have_same_documents, put_beside, table_of_column};
 use crate::words::class_of;
 use attr_types::{Field, FieldItems, Fields, MOST_FIELDS};
 use check_trees::CheckFault;
-use image_base::{word_in, words_at};
+use entry_ref::{word_in, words_at};
 use std::alloc::Global;
 use std::collections::BTreeMap;
 

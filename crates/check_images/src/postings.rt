@@ -2,7 +2,7 @@ ghost use Rattle.std.specs.Prelude.{◌≡◌, ◌<◌, ◌^◌, ℕ, map, OnOk,
 ghost use Rattle.std.specs.List.{AllByRecursion};
 ghost use Rattle.attr_images.specs.Postings.{list_form, tree, vector, postings_at, IsPostingList};
 ghost use Rattle.attr_images.specs.Words.{weight_in_bits};
-ghost use Rattle.image_base.specs.Maps.{seen};
+ghost use Rattle.entry_ref.specs.Maps.{seen};
 ghost use Rattle.check_trees.specs.Refutations.{Refutes};
 ghost use Rattle.check_images.specs.Told.{Tells};
 
@@ -10,7 +10,7 @@ use crate::blocks::read_blocks;
 use crate::words::{read_list, unpack_all};
 use attr_images::{FIRST_VECTOR, MOST_SHORT};
 use check_trees::{CheckFault, Keys, check_tree};
-use image_base::words_at;
+use entry_ref::words_at;
 use std::alloc::{AllocError, Global};
 use std::collections::BTreeMap;
 

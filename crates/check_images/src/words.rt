@@ -3,7 +3,7 @@ ghost use Rattle.attr_images.specs.Words.{class_of, filled, stored_items, unpack
 ghost use Rattle.check_images.specs.Told.{Tells};
 
 use check_trees::rest_of;
-use image_base::word_in;
+use entry_ref::word_in;
 use std::alloc::{AllocError, Global};
 
 const CLASSES: [usize; 10] = [2, 4, 8, 16, 32, 64, 128, 256, 512, 1024];

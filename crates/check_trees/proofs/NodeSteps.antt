@@ -1,7 +1,7 @@
 -- A node above the leaves, by its level: each step of the walk over its children.
 use Rattle.std.proofs.Common.{◌≡◌, ℕ, zero, suc, ◌+◌, ◌-◌, ◌<◌, List, ◌++◌, length, get_or, sym, ap, subst, ◌∙◌, arith}
 use Rattle.std.specs.List.{zip}
-use Rattle.image_base.specs.Records.{Records}
+use Rattle.entry_ref.specs.Records.{Records}
 use Rattle.tree_images.proofs.TreeLemmas.{IsNode-count, leaf_pairs}
 use Rattle.tree_images.specs.Nodes.{used_of, count_of, node_keys, node_values, IsNodeForm}
 use Rattle.tree_images.specs.Trees.{pairs_below, last_key, HasLastKeys, IsNode}

@@ -1,7 +1,7 @@
 -- What a walk over the children of a node has found, and how a refusal goes up.
 use Rattle.std.proofs.Common.{◌≡◌, ℕ, List, ◌++◌, map, take}
 use Rattle.std.specs.List.{flat_map, AllByRecursion}
-use Rattle.image_base.specs.Records.{Records}
+use Rattle.entry_ref.specs.Records.{Records}
 use Rattle.tree_images.specs.Nodes.{node_keys, node_values}
 use Rattle.tree_images.specs.Trees.{pairs_below, last_key, IsNode}
 use Rattle.check_trees.specs.Keys.{PairsAscend}

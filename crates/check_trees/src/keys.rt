@@ -2,11 +2,11 @@ ghost use Rattle.std.specs.Prelude.{◌≡◌, IfOk, slice_index};
 ghost use Rattle.std.specs.Int.{cast_signed, w64};
 ghost use Rattle.attr_images.specs.Values.{stored_text};
 ghost use Rattle.check_trees.specs.Keys.{stored_cmp};
-ghost use Rattle.image_base.specs.Maps.{seen};
+ghost use Rattle.entry_ref.specs.Maps.{seen};
 
 use crate::read::rest_of;
 use attr_types::ValueType;
-use image_base::{word_in, words_at};
+use entry_ref::{word_in, words_at};
 use std::alloc::{AllocError, Global};
 use std::cmp::Ordering;
 use std::collections::BTreeMap;

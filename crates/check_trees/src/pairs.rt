@@ -4,7 +4,7 @@ ghost use Rattle.tree_images.specs.Nodes.{used_of, node_keys, node_values};
 ghost use Rattle.tree_images.specs.Trees.{last_key};
 ghost use Rattle.check_trees.specs.Keys.{PairsAscend};
 ghost use Rattle.check_trees.specs.Refutations.{Refutes};
-ghost use Rattle.image_base.specs.Maps.{seen};
+ghost use Rattle.entry_ref.specs.Maps.{seen};
 
 use crate::fault::CheckFault;
 use crate::keys::{Keys, compare_keys};

@@ -3,13 +3,13 @@ ghost use Rattle.tree_images.specs.Nodes.{IsNodeForm};
 ghost use Rattle.tree_images.specs.Trees.{pairs_below, tree_pairs, IsNode, root_least};
 ghost use Rattle.check_trees.specs.Keys.{PairsAscend, IsTreeOf};
 ghost use Rattle.check_trees.specs.Refutations.{Refutes};
-ghost use Rattle.image_base.specs.Maps.{seen};
+ghost use Rattle.entry_ref.specs.Maps.{seen};
 
 use crate::fault::CheckFault;
 use crate::keys::Keys;
 use crate::node::is_node_form;
 use crate::pairs::{add_leaf, last_of};
-use image_base::{word_in, words_at};
+use entry_ref::{word_in, words_at};
 use std::alloc::Global;
 use std::collections::BTreeMap;
 use tree_images::{FIRST_KEY, FIRST_VALUE, LEAST_SLOTS};

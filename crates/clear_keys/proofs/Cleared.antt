@@ -7,7 +7,7 @@ use Rattle.std.specs.List.{AllByRecursion}
 use Rattle.std.specs.List.Sorted.{IsStrictlySortedBy}
 use Rattle.std.specs.Ordering.{nat_cmp}
 use Rattle.entry_ref.specs.References.{buffer_of}
-use Rattle.image_base.specs.Records.{Among, Records}
+use Rattle.entry_ref.specs.Records.{Among, Records}
 use Rattle.key_order.specs.Pairs.{choose, seek}
 use Rattle.tree_images.specs.Trees.{tree_pairs}
 use Rattle.attr_cleared.specs.Cleared.{IsClearedField, IsVisited, ListIsCleared, NodesAreCleared}

@@ -6,9 +6,9 @@ use Rattle.std.specs.declared.cmp.Ordering.{Ordering}
 use Rattle.std.specs.List.{AllByRecursion}
 use Rattle.std.specs.List.Sorted.{IsStrictlySortedBy}
 use Rattle.std.specs.Ordering.{nat_cmp}
-use Rattle.image_base.proofs.Among.{Among-all}
+use Rattle.entry_ref.proofs.Among.{Among-all}
 use Rattle.entry_ref.specs.References.{buffer_of}
-use Rattle.image_base.specs.Records.{Among, Records}
+use Rattle.entry_ref.specs.Records.{Among, Records}
 use Rattle.key_order.specs.Keys.{seen_by}
 use Rattle.key_order.specs.Pairs.{seek}
 use Rattle.tree_images.specs.Trees.{by_number, last_key, tree_nodes, tree_pairs}

@@ -1,7 +1,7 @@
 -- What is asked of the pairs of an attribute's two trees.
 use Rattle.std.proofs.Common.{◌<◌, ◌^◌, ℕ, List, [], ◌∷◌, arith}
 use Rattle.std.specs.List.{AllByRecursion}
-use Rattle.image_base.specs.Records.{Records}
+use Rattle.entry_ref.specs.Records.{Records}
 use Rattle.tree_images.specs.Trees.{tree_pairs}
 use Rattle.attr_documents.specs.Documents.{AreItemsAt, IsDocuments}
 use Rattle.attr_types.specs.declared.kind.Kind.{Kind}

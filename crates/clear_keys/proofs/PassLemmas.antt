@@ -1,7 +1,7 @@
 -- A run of pairs under which nothing lies in the victim is a run of keys that are passed.
 use Rattle.std.proofs.Common.{◌≡◌, ℕ, zero, suc, ◌+◌, ◌%◌, ◌<◌, ◌≤◌, List, [], ◌∷◌, ◌++◌, map, length, take, drop, Some, refl, sym, ap, subst, ◌∙◌, arith}
 use Rattle.std.specs.Ordering.{nat_cmp}
-use Rattle.image_base.specs.Records.{Records}
+use Rattle.entry_ref.specs.Records.{Records}
 use Rattle.key_order.specs.Pairs.{lookup_pair, seek}
 use Rattle.tree_images.specs.Trees.{last_key, tree_pairs}
 use Rattle.attr_compaction.specs.Places.{PlanPlace}

@@ -4,7 +4,7 @@ use Rattle.std.specs.Cmp.{IsTotalOrder}
 use Rattle.std.specs.declared.cmp.Ordering.{Ordering}
 use Rattle.std.specs.List.{flat_map, AllByRecursion}
 use Rattle.entry_ref.specs.References.{buffer_of}
-use Rattle.image_base.specs.Records.{Among, Records, word_at}
+use Rattle.entry_ref.specs.Records.{Among, Records, word_at}
 use Rattle.key_order.specs.Keys.{seen_by, Ascends}
 use Rattle.key_order.specs.Pairs.{seek}
 use Rattle.tree_images.specs.Nodes.{used_of, node_keys, node_values}

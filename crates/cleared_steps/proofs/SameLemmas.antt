@@ -3,10 +3,10 @@ use Rattle.std.proofs.Common.{◌≡◌, ◌≢◌, ℕ, zero, suc, List, [], �
 use Rattle.std.specs.Prelude.{slice_get}
 use Rattle.std.specs.declared.cmp.Ordering.{Ordering}
 use Rattle.std.specs.List.{AllByRecursion}
-use Rattle.image_base.proofs.Pairs.{same-from}
-use Rattle.image_base.proofs.Among.{SameAt-among}
+use Rattle.entry_ref.proofs.Pairs.{same-from}
+use Rattle.entry_ref.proofs.Among.{SameAt-among}
 use Rattle.entry_ref.specs.References.{buffer_of}
-use Rattle.image_base.specs.Records.{Records, Among, SameAt}
+use Rattle.entry_ref.specs.Records.{Records, Among, SameAt}
 use Rattle.tree_images.specs.ProofsForTrees.{tree_nodes-same, tree_pairs-same}
 use Rattle.tree_images.specs.Trees.{by_number, tree_nodes, tree_pairs, IsTree}
 use Rattle.tree_ways.specs.Ways.{tree_keys}

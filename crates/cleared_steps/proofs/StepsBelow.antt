@@ -2,10 +2,10 @@
 use Rattle.std.proofs.Common.{◌≡◌, ℕ, zero, suc, List, [], ◌∷◌, map, length, inl, inr, ◌⊎◌, refl, sym, ap, subst, ◌∙◌, arith}
 use Rattle.std.specs.declared.cmp.Ordering.{Ordering}
 use Rattle.std.specs.List.{flat_map, AllByRecursion}
-use Rattle.image_base.proofs.Pairs.{same-from}
-use Rattle.image_base.proofs.Among.{Among-all, Among-append, SameAt-among}
+use Rattle.entry_ref.proofs.Pairs.{same-from}
+use Rattle.entry_ref.proofs.Among.{Among-all, Among-append, SameAt-among}
 use Rattle.attr_cleared.proofs.BelowLemmas.{among_flat}
-use Rattle.image_base.specs.Records.{Records, Among, SameAt}
+use Rattle.entry_ref.specs.Records.{Records, Among, SameAt}
 use Rattle.tree_images.proofs.TreeLemmas.{IsNode-form}
 use Rattle.tree_images.specs.Nodes.{level_of, node_values}
 use Rattle.tree_images.specs.ProofsForTrees.{pairs-same}

@@ -6,10 +6,10 @@ use Rattle.std.specs.List.{flat_map, AllByRecursion}
 use Rattle.std.specs.List.Sorted.{IsStrictlySortedBy}
 use Rattle.std.specs.Option.{unwrap_or}
 use Rattle.std.specs.declared.cmp.Ordering.{Ordering}
-use Rattle.image_base.proofs.Pairs.{same-from}
-use Rattle.image_base.proofs.Among.{SameAt-among}
+use Rattle.entry_ref.proofs.Pairs.{same-from}
+use Rattle.entry_ref.proofs.Among.{SameAt-among}
 use Rattle.value_index.proofs.KeyLemmas.{among_left, among_right}
-use Rattle.image_base.specs.Records.{Records, Among, SameAt}
+use Rattle.entry_ref.specs.Records.{Records, Among, SameAt}
 use Rattle.key_order.specs.Pairs.{choose, lookup}
 
 -- ---- references

@@ -4,7 +4,7 @@ use Rattle.std.specs.Prelude.{slice_get}
 use Rattle.std.specs.List.{AllZip}
 use Rattle.list_facts.proofs.Each.{AllByRecursion-slice_get}
 use Rattle.entry_ref.specs.References.{buffer_of}
-use Rattle.image_base.specs.Records.{Records, Among}
+use Rattle.entry_ref.specs.Records.{Records, Among}
 use Rattle.store_api.specs.Ledgers.{Ledger}
 use Rattle.store_api.specs.Parts.{count_in, entries}
 use Rattle.store_api.specs.Statuses.{Status, in_use}

@@ -6,7 +6,7 @@ use Rattle.attr_images.proofs.ImageLemmas.{value_typed}
 use Rattle.list_facts.proofs.Each.{AllByRecursion-append}
 use Rattle.list_facts.proofs.Options.{same_Some}
 use Rattle.plan_counts.proofs.StageLemmas.{less_is}
-use Rattle.image_base.specs.Records.{Records, SameAt}
+use Rattle.entry_ref.specs.Records.{Records, SameAt}
 use Rattle.tree_images.specs.ProofsForTrees.{SameAt-left, SameAt-right, flat_map-same, map-same, tree_pairs-same}
 use Rattle.tree_images.specs.Trees.{tree_nodes, tree_pairs}
 use Rattle.attr_documents.specs.Documents.{documents_own, items_own}

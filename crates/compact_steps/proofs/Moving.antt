@@ -7,7 +7,7 @@ use Rattle.list_facts.proofs.Options.{same_Some}
 use Rattle.list_facts.proofs.Places.{slice_get-set_other}
 use Rattle.list_facts.proofs.Each.{AllByRecursion-slice_get}
 use Rattle.entry_ref.specs.References.{buffer_of}
-use Rattle.image_base.specs.Records.{Records, Among, SameAt}
+use Rattle.entry_ref.specs.Records.{Records, Among, SameAt}
 use Rattle.store_api.specs.Calls.{Accepts}
 use Rattle.store_api.specs.Ledgers.{Ledger, is_this}
 use Rattle.store_api.specs.Parts.{After, AllStay, Owns, Part, Turns, count_in, entries, times, uses}

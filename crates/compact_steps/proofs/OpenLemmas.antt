@@ -5,7 +5,7 @@ use Rattle.std.specs.Prelude.{slice_get}
 use Rattle.std.specs.Option.{IfSome}
 use Rattle.store_api.proofs.May.{back-then}
 use Rattle.entry_ref.specs.References.{buffer_of}
-use Rattle.image_base.specs.Records.{Records, Among}
+use Rattle.entry_ref.specs.Records.{Records, Among}
 use Rattle.store_api.specs.Calls.{Seals}
 use Rattle.store_api.specs.Ledgers.{Ledger, OfWidth, is_this}
 use Rattle.store_api.specs.Victims.{IsVictim}

@@ -5,7 +5,7 @@ use Rattle.std.specs.Prelude.{slice_get, unwrap_or}
 use Rattle.std.specs.List.{AllByRecursion}
 use Rattle.std.specs.Option.{IfSome, option_and_then}
 use Rattle.list_facts.proofs.Each.{AllByRecursion-slice_get}
-use Rattle.image_base.specs.Records.{Records}
+use Rattle.entry_ref.specs.Records.{Records}
 use Rattle.store_api.specs.Ledgers.{Ledger}
 use Rattle.attr_cleared.specs.Cleared.{IsCleared}
 use Rattle.cleared_steps.specs.StepsLaws.{PhaseEndLeavesCleared}

@@ -8,7 +8,7 @@ use Rattle.list_facts.proofs.Options.{same_Some}
 use Rattle.list_facts.proofs.Places.{slice_get-set_other}
 use Rattle.list_facts.proofs.Each.{AllByRecursion-slice_get}
 use Rattle.entry_ref.specs.References.{buffer_of}
-use Rattle.image_base.specs.Records.{Among, Records, SameAt}
+use Rattle.entry_ref.specs.Records.{Among, Records, SameAt}
 use Rattle.arena_api.specs.Calls.{FitsEntry}
 use Rattle.arena_api.specs.Works.{active_width}
 use Rattle.store_api.specs.Calls.{Accepts, IsUsedWidth, RefusesOf, Undoes}

@@ -1,7 +1,7 @@
 -- What a walk over keys makes of attributes in their store, and how far it came.
 use Rattle.std.specs.Prelude.{◌≡◌, ◌≢◌, ℕ, ◌+◌, ◌<◌, ◌≤◌, List, Option, None, Some, Result, Ok, Err}
 use Rattle.std.specs.declared.cmp.Ordering.TheVariants.{Greater}
-use Rattle.image_base.specs.Records.{Records}
+use Rattle.entry_ref.specs.Records.{Records}
 use Rattle.store_api.specs.Ledgers.{Ledger}
 use Rattle.store_api.specs.declared.store.StoreError.{StoreError}
 use Rattle.attr_compaction.specs.Places.{place_cmp, PlanView}

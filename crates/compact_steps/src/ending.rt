@@ -1,7 +1,7 @@
 //! A compaction comes to its end.
 ghost use Rattle.std.specs.Prelude.{◌≡◌, ◌≢◌, ℕ, Some};
 ghost use Rattle.entry_ref.specs.References.{buffer_of};
-ghost use Rattle.image_base.specs.Records.{Among};
+ghost use Rattle.entry_ref.specs.Records.{Among};
 ghost use Rattle.attr_compaction.specs.declared.plan.TheConstants.{PHASES};
 ghost use Rattle.attr_images.specs.Tables.{attributes_reach};
 ghost use Rattle.attr_steps.specs.Fields.{HoldsAttributes, trees_of};

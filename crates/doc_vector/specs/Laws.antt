@@ -1,7 +1,7 @@
 -- What a map by document is, as laws over its pairs.
 use Rattle.std.specs.Prelude.{◌≡◌, ◌≢◌, ℕ, List, Some, None}
 use Rattle.std.specs.Ordering.{nat_cmp}
-use Rattle.image_base.specs.Records.{Records, SameAt}
+use Rattle.entry_ref.specs.Records.{Records, SameAt}
 use Rattle.tree_images.specs.Trees.{tree_nodes, tree_pairs, by_number}
 use Rattle.key_order.specs.Keys.{Ascends}
 use Rattle.key_order.specs.Pairs.{lookup, put, take_out}

@@ -1,7 +1,7 @@
 -- The records that a document's items have and refer to, as the words of its record have them.
 use Rattle.std.proofs.Common.{◌≡◌, ◌≢◌, ℕ, zero, suc, ◌<◌, ℤ, true, List, [], ◌∷◌, get_or, length, map, take, refl, sym, ap, subst, ◌∙◌, arith}
 use Rattle.entry_ref.specs.References.{buffer_of}
-use Rattle.image_base.specs.Records.{Records}
+use Rattle.entry_ref.specs.Records.{Records}
 use Rattle.tree_touch.specs.Paths.{NoneIn}
 use Rattle.attr_images.specs.Words.{stored_items}
 use Rattle.attr_types.specs.declared.kind.Kind.{Kind}

@@ -6,9 +6,9 @@ use Rattle.std.specs.List.{flat_map, AllByRecursion}
 use Rattle.std.specs.Map.{lookup as lookup_in}
 use Rattle.std.specs.Ordering.{nat_cmp}
 use Rattle.list_facts.proofs.Each.{AllByRecursion-weaker}
-use Rattle.image_base.proofs.Among.{Among-all}
+use Rattle.entry_ref.proofs.Among.{Among-all}
 use Rattle.entry_ref.specs.References.{buffer_of}
-use Rattle.image_base.specs.Records.{Records, SameAt, Among}
+use Rattle.entry_ref.specs.Records.{Records, SameAt, Among}
 use Rattle.key_order.specs.Pairs.{lookup}
 use Rattle.store_api.specs.Ledgers.{Ledger}
 use Rattle.store_api.specs.Parts.{Owns, times}

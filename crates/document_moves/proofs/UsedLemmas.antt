@@ -8,7 +8,7 @@ use Rattle.std.specs.Prelude.{pos}
 use Rattle.list_facts.proofs.Options.{same_Some}
 use Rattle.tree_make.proofs.UsedLemmas.{node_used}
 use Rattle.attr_images.proofs.RootLemmas.{length-filled}
-use Rattle.image_base.specs.Records.{Among, Records}
+use Rattle.entry_ref.specs.Records.{Among, Records}
 use Rattle.key_order.specs.Pairs.{lookup}
 use Rattle.store_api.specs.Calls.{IsUsedWidth}
 use Rattle.store_api.specs.Ledgers.{Ledger}

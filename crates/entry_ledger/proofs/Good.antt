@@ -7,7 +7,7 @@ use Rattle.std.proofs.lemmas.Nat.{le-div}
 use Rattle.std.proofs.lemmas.Option.{slice_get_within}
 use Rattle.std.proofs.lemmas.Bool.{cases_lt, cases_eq, eq-eqb, ne_eqb}
 use Rattle.entry_ref.specs.References.{buffer_of, offset_of}
-use Rattle.image_base.specs.Places.{IsEntry}
+use Rattle.entry_ref.specs.Places.{IsEntry}
 use Rattle.store_api.specs.Ledgers.{capacity, is_width}
 use Rattle.buffer_shelf.specs.declared.state.State.{State}
 use Rattle.buffer_states.specs.declared.BufferState.{BufferState}

@@ -3,7 +3,7 @@ use Rattle.std.specs.Prelude.{◌≡◌, ℕ, zero, suc, ◌+◌, ◌*◌, ◌/�
 use Rattle.std.specs.Prelude.{if◌then◌else◌, List, length, Option, None, Some}
 use Rattle.std.specs.List.{IsDistinct, All}
 use Rattle.entry_ref.specs.References.{buffer_of, packed}
-use Rattle.image_base.specs.Places.{IsEntry}
+use Rattle.entry_ref.specs.Places.{IsEntry}
 use Rattle.store_api.specs.Ledgers.{OfWidth, is_width, widths, capacity, buffers_in}
 use Rattle.buffer_states.specs.declared.BufferState.{BufferState}
 use Rattle.buffer_states.specs.Buffers.{is_state_free, is_state_active, is_on_hold}

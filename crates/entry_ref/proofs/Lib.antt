@@ -1,1 +1,5 @@
 pub mod Bits
+pub mod Among
+pub mod Pairs
+pub mod Apart
+pub mod Steps

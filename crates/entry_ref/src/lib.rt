@@ -1,6 +1,12 @@
 //! References to entries: 32 bits, of which the high ones are an offset in a buffer and the low ones the buffer's number.
 #![tactic(auto)]
 
+mod images;
+mod maps;
+
+pub use images::{Image, Layout, images_law, place_of, places_law};
+pub use maps::{word_in, words_at};
+
 ghost use Rattle.std.specs.Prelude.{◌≡◌, ◌↔◌, ◌<◌, ℕ, IsTrue};
 ghost use Rattle.entry_ref.specs.References.{offset_limit, buffer_limit, packed, offset_of, buffer_of};
 

@@ -4,8 +4,8 @@ use Rattle.list_facts.specs.Counting.{one_if}
 use Rattle.std.proofs.lemmas.Bool.{true≢false, cases_lt}
 use Rattle.std.specs.Prelude.{IfSome, IsNone, ◌↔◌}
 use Rattle.entry_ref.specs.References.{buffer_of}
-use Rattle.image_base.specs.Images.{words_at}
-use Rattle.image_base.specs.Records.{Records, with_words}
+use Rattle.entry_ref.specs.Images.{words_at}
+use Rattle.entry_ref.specs.Records.{Records, with_words}
 use Rattle.arena_api.specs.Works.{width_of, active_width, last_image}
 use Rattle.arena_api.specs.Calls.{IsKept, InNoCommit, FitsEntry, padded}
 use Rattle.arena_api.proofs.Padded.{length-padded}
@@ -33,7 +33,7 @@ use Rattle.entry_store.specs.ProofsForMarks.{mark-free, mark-width}
 use Rattle.entry_store.specs.ProofsForStates.{open-status}
 use Rattle.entry_store.proofs.Soundness.{open-uncommitted}
 use Rattle.store_api.specs.Ledgers.{is_in}
-use Rattle.image_base.specs.Places.{IsEntry}
+use Rattle.entry_ref.specs.Places.{IsEntry}
 use Rattle.entry_store.proofs.Queues.{oldest-rises, oldest-below, newest-drop, order-drop}
 
 pub along : (P : ℕ → Records → Type 0) {i j : ℕ} {x y : Records} → i ≡ j → x ≡ y → P j y → P i x

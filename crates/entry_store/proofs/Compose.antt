@@ -8,8 +8,8 @@ use Rattle.list_facts.specs.Counting.{one_if}
 use Rattle.std.proofs.lemmas.Bool.{true≢false, cases_eq, eq-eqb, eqb-true, ne_eqb, and_parts, leb-true}
 use Rattle.list_facts.proofs.Tests.{true_from_list_all}
 use Rattle.entry_ref.specs.References.{buffer_of}
-use Rattle.image_base.specs.Places.{IsEntry}
-use Rattle.image_base.specs.Records.{Records}
+use Rattle.entry_ref.specs.Places.{IsEntry}
+use Rattle.entry_ref.specs.Records.{Records}
 use Rattle.arena_api.specs.Works.{WorkView, Buffer, active_width, last_tag, oldest_of, newest_of}
 use Rattle.arena_api.specs.Calls.{IsLowestFree, handed_out}
 use Rattle.arena_api.specs.Generations.{current}

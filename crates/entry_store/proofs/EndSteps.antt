@@ -3,7 +3,7 @@ use Rattle.std.proofs.Common.{◌≡◌, ◌⊎◌, ℕ, suc, ◌<◌, ◌≤◌
 use Rattle.std.specs.Prelude.{◌&&◌}
 use Rattle.std.proofs.lemmas.Bool.{true≢false, cases_eq, cases_Bool, eq-eqb, ne_eqb, eqb-true}
 use Rattle.entry_ref.specs.References.{buffer_of}
-use Rattle.image_base.specs.Records.{Records}
+use Rattle.entry_ref.specs.Records.{Records}
 use Rattle.arena_api.specs.Works.{WorkView, Hold, Tag, last_image, oldest_of, newest_of}
 use Rattle.arena_api.specs.Generations.{IsQueue, LetsGo, Advances, Renews, Opens, current, next_hold, with_newest, advanced, retired, tag_now}
 use Rattle.arena_api.specs.declared.answers.Advance.{Advance}

@@ -1,6 +1,6 @@
 -- A work that was only opened is fresh.
 use Rattle.std.proofs.Common.{refl, List}
-use Rattle.image_base.specs.declared.Image.{Image}
+use Rattle.entry_ref.specs.declared.images.Image.{Image}
 use Rattle.arena_api.specs.Works.{Sizes}
 use Rattle.arena_api.specs.Calls.{IsFresh, opened}
 

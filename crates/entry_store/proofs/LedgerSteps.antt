@@ -8,8 +8,8 @@ use Rattle.buffer_states.specs.declared.BufferState.{BufferState}
 use Rattle.buffer_states.specs.declared.BufferState.TheVariants.{Free as FreeBuffer, Active, OnHold}
 use Rattle.buffer_states.specs.Buffers.{is_on_hold, is_state_active}
 use Rattle.entry_ref.specs.References.{buffer_of}
-use Rattle.image_base.specs.Places.{IsEntry}
-use Rattle.image_base.specs.Records.{Records, with_words}
+use Rattle.entry_ref.specs.Places.{IsEntry}
+use Rattle.entry_ref.specs.Records.{Records, with_words}
 use Rattle.arena_api.specs.Works.{WorkView, Commits, Tag, Stored, active_width, last_image, oldest_of}
 use Rattle.arena_api.specs.Calls.{IsInOrder, IsLowestFree, handed_out, padded}
 use Rattle.arena_api.specs.Generations.{LetsGo, Reclaims, reclaimed}

@@ -5,10 +5,10 @@ use Rattle.std.proofs.lemmas.Bool.{true≢false, false≢true, cond-true, eqb-tr
 use Rattle.buffer_shelf.specs.declared.state.State.{State}
 use Rattle.buffer_shelf.specs.declared.state.State.TheVariants.{Free, Returned, Made, InUse, LetGo, DroppedNow, Dropped}
 use Rattle.entry_ref.specs.References.{buffer_of}
-use Rattle.image_base.specs.Records.{Records, SameAt, AllThere}
-use Rattle.image_base.specs.declared.Image.{Image}
-use Rattle.image_base.specs.Images.{words_at}
-use Rattle.image_base.proofs.Pairs.{same-from, there-among}
+use Rattle.entry_ref.specs.Records.{Records, SameAt, AllThere}
+use Rattle.entry_ref.specs.declared.images.Image.{Image}
+use Rattle.entry_ref.specs.Images.{words_at}
+use Rattle.entry_ref.proofs.Pairs.{same-from, there-among}
 use Rattle.arena_api.specs.Works.{WorkView, Tag, last_image, oldest_of}
 use Rattle.arena_api.specs.Calls.{AddsCommit, next_image, published}
 use Rattle.arena_api.specs.Generations.{IsQueue, current, tag_now}

@@ -8,7 +8,7 @@ use Rattle.buffer_shelf.specs.declared.state.State.{State}
 use Rattle.buffer_shelf.specs.declared.state.State.TheVariants.{Free, Returned, Made, InUse, LetGo, DroppedNow, Dropped}
 use Rattle.buffer_states.specs.Buffers.{is_state_active}
 use Rattle.entry_ref.specs.References.{packed}
-use Rattle.image_base.specs.Records.{Records}
+use Rattle.entry_ref.specs.Records.{Records}
 use Rattle.arena_api.specs.Works.{WorkView, Buffer, Tag, active_width, last_image}
 use Rattle.store_api.specs.Statuses.{Status, is_taken, is_dead}
 use Rattle.store_api.specs.Ledgers.{Ledger, IsUnfilled, is_this, is_in, capacity}

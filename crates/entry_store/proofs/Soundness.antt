@@ -2,9 +2,9 @@
 use Rattle.std.proofs.Common.{◌≡◌, ◌⊎◌, ℕ, zero, suc, ◌+◌, ◌<◌, ◌≤◌, Bool, true, false, cond, eqb, ltb, List, [], ◌∷◌, length, drop, refl, sym, ap, subst, ◌∙◌, arith, inl, inr}
 use Rattle.std.proofs.lemmas.Bool.{true≢false, false≢true, cond-false, cases_eq, cases_lt, cases_Bool, eq-eqb, ne_eqb, ltb-true, lt-ltb}
 use Rattle.entry_ref.specs.References.{buffer_of}
-use Rattle.image_base.specs.declared.Image.{Image}
-use Rattle.image_base.specs.Images.{words_at}
-use Rattle.image_base.specs.Records.{Records, with_words}
+use Rattle.entry_ref.specs.declared.images.Image.{Image}
+use Rattle.entry_ref.specs.Images.{words_at}
+use Rattle.entry_ref.specs.Records.{Records, with_words}
 use Rattle.arena_api.specs.Works.{WorkView, Commits, Hold, Buffer, Tag, active_width, width_of, last_image, oldest_of, newest_of, last_tag}
 use Rattle.arena_api.specs.Works.{is_free as is_free_buffer}
 use Rattle.arena_api.specs.Calls.{IsKept, InNoCommit, IsInOrder, AddsCommit, FitsEntry, handed_out, published}

@@ -5,8 +5,8 @@ use Rattle.buffer_shelf.specs.declared.state.State.{State}
 use Rattle.buffer_shelf.specs.declared.state.State.TheVariants.{Made}
 use Rattle.buffer_shelf.specs.States.{dropped, undone}
 use Rattle.entry_ref.specs.References.{buffer_of}
-use Rattle.image_base.specs.Images.{words_at}
-use Rattle.image_base.specs.Records.{Records, with_words}
+use Rattle.entry_ref.specs.Images.{words_at}
+use Rattle.entry_ref.specs.Records.{Records, with_words}
 use Rattle.arena_api.specs.Works.{WorkView, Buffer, active_width, width_of, last_image, last_tag, oldest_of, newest_of}
 use Rattle.arena_api.specs.Works.{is_free as is_free_buffer}
 use Rattle.arena_api.specs.Calls.{IsKept, IsInOrder, IsLowestFree, IsFresh, FitsEntry, handed_out}

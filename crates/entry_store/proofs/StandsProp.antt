@@ -1,7 +1,7 @@
 -- That a store stands has one proof at most.
 use Rattle.std.proofs.Common.{ℕ, Bool}
 use Rattle.std.proofs.Props.{props}
-use Rattle.image_base.specs.Records.{Records}
+use Rattle.entry_ref.specs.Records.{Records}
 use Rattle.arena_api.specs.Works.{WorkView}
 use Rattle.entry_ledger.specs.Entries.{EntriesView}
 use Rattle.entry_store.specs.Standing.{Stands}

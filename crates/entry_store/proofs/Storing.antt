@@ -2,7 +2,7 @@
 use Rattle.std.proofs.Common.{◌≡◌, ℕ, cond, ap, subst, ◌∙◌, arith, not}
 use Rattle.std.specs.Prelude.{◌&&◌}
 use Rattle.entry_ref.specs.References.{buffer_of}
-use Rattle.image_base.specs.declared.Image.{Image}
+use Rattle.entry_ref.specs.declared.images.Image.{Image}
 use Rattle.arena_api.specs.Works.{Commits, Tag, oldest_of}
 use Rattle.arena_api.specs.Calls.{AddsCommit, published}
 use Rattle.arena_api.specs.Generations.{LetsGo, Advances, advanced, tag_now}

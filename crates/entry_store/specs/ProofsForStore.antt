@@ -9,9 +9,9 @@ use Rattle.std.proofs.lemmas.Bool.{false≢true, cond-true, cases_Bool, eq-eqb, 
 use Rattle.buffer_shelf.specs.declared.state.State.{State}
 use Rattle.buffer_shelf.specs.declared.state.State.TheVariants.{Dropped}
 use Rattle.entry_ref.specs.References.{buffer_of}
-use Rattle.image_base.specs.Places.{IsEntry}
-use Rattle.image_base.specs.Records.{Records}
-use Rattle.image_base.specs.Images.{words_at}
+use Rattle.entry_ref.specs.Places.{IsEntry}
+use Rattle.entry_ref.specs.Records.{Records}
+use Rattle.entry_ref.specs.Images.{words_at}
 use Rattle.arena_api.specs.Works.{WorkView, Tag, active_width, free_count, last_image}
 use Rattle.arena_api.specs.Calls.{FitsEntry, InNoCommit}
 use Rattle.store_api.specs.Statuses.{Status, in_use, has_record, is_taken, is_committed, is_uncommitted}

@@ -2,8 +2,8 @@
 use Rattle.std.specs.Prelude.{◌≡◌, ℕ, ◌+◌, ◌<◌, ◌≤◌, Bool, true, false, ◌&&◌, ◌||◌, not, nat_eq, nat_lt, nat_le, if◌then◌else◌, List, []}
 use Rattle.std.specs.Prelude.{◌∷◌, length, Option, Some, None, option_map}
 use Rattle.entry_ref.specs.References.{buffer_of}
-use Rattle.image_base.specs.Images.{words_at}
-use Rattle.image_base.specs.Records.{Records, with_words}
+use Rattle.entry_ref.specs.Images.{words_at}
+use Rattle.entry_ref.specs.Records.{Records, with_words}
 use Rattle.arena_api.specs.Works.{WorkView, Commits, Hold, Buffer, Tag, active_width, last_image, oldest_of}
 use Rattle.arena_api.specs.Calls.{IsKept, InNoCommit, padded}
 use Rattle.arena_api.specs.Generations.{current}

@@ -1,9 +1,9 @@
 -- The steps of which the calls of a store are made, by its ledger.
 use Rattle.std.specs.Prelude.{◌≡◌, ◌≢◌, ℕ, ◌+◌, ◌<◌, ◌≤◌, true, false, ◌&&◌, not, if◌then◌else◌, List, [], length, Option, None, Some}
 use Rattle.entry_ref.specs.References.{buffer_of}
-use Rattle.image_base.specs.declared.Image.{Image}
-use Rattle.image_base.specs.Places.{IsEntry}
-use Rattle.image_base.specs.Records.{Records, with_words}
+use Rattle.entry_ref.specs.declared.images.Image.{Image}
+use Rattle.entry_ref.specs.Places.{IsEntry}
+use Rattle.entry_ref.specs.Records.{Records, with_words}
 use Rattle.arena_api.specs.Works.{WorkView, active_width, free_count, oldest_of}
 use Rattle.arena_api.specs.Calls.{AddsCommit, IsLowestFree, handed_out, padded, published}
 use Rattle.arena_api.specs.Generations.{Advances, LetsGo, Reclaims, advanced, reclaimed, tag_now}

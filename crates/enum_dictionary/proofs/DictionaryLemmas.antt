@@ -7,7 +7,7 @@ use Rattle.std.specs.List.{flat_map, AllByRecursion}
 use Rattle.std.specs.List.Sorted.{IsStrictlySortedBy}
 use Rattle.std.specs.Ordering.{ordering_reverse}
 use Rattle.list_facts.proofs.Options.{same_Some}
-use Rattle.image_base.specs.Records.{Records, SameAt}
+use Rattle.entry_ref.specs.Records.{Records, SameAt}
 use Rattle.key_order.specs.Keys.{NoneReadsNodes, IsKeyedTree, IsKeyWord, IsNoNode}
 use Rattle.key_order.specs.Pairs.{choose, lookup, lookup_pair, put, take_out}
 use Rattle.key_order.proofs.KeyLemmas.{keyed-stays}

@@ -3,7 +3,7 @@ use Rattle.std.proofs.Common.{◌≡◌, ◌≢◌, ℕ, List, [], ◌∷◌, No
 use Rattle.std.specs.declared.cmp.Ordering.{Ordering}
 use Rattle.std.specs.declared.cmp.Ordering.TheVariants.{Equal}
 use Rattle.std.specs.List.{AllByRecursion}
-use Rattle.image_base.specs.Records.{Records}
+use Rattle.entry_ref.specs.Records.{Records}
 use Rattle.key_order.specs.Keys.{KeepsOthers}
 use Rattle.key_order.specs.Pairs.{choose, lookup_pair, put, take_out}
 use Rattle.key_order.proofs.PairLemmas.{All-put, All-take_out}

@@ -1,6 +1,6 @@
 -- What a dictionary is, as laws.
 use Rattle.std.specs.Prelude.{◌≡◌, ◌≢◌, ℕ, map, None, Some}
-use Rattle.image_base.specs.Records.{Records, SameAt}
+use Rattle.entry_ref.specs.Records.{Records, SameAt}
 use Rattle.tree_images.specs.Trees.{tree_nodes, tree_pairs}
 use Rattle.key_order.specs.Keys.{KeepsOthers}
 use Rattle.key_order.specs.Pairs.{lookup_pair, put, take_out}

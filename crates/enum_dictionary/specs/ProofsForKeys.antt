@@ -1,7 +1,7 @@
 -- Nobody has to read this: the laws that keys by value owe, proved. They stand here since an impl takes its laws from specs/ alone.
 use Rattle.std.proofs.Common.{◌≡◌, ℕ, [], ◌∷◌, refl, sym, ap, subst}
 use Rattle.std.specs.Cmp.{IsTotalOrder}
-use Rattle.image_base.specs.Records.{Records, SameAt}
+use Rattle.entry_ref.specs.Records.{Records, SameAt}
 use Rattle.attr_images.specs.Values.{value_of, stored_value, IsValueRecord}
 use Rattle.attr_types.specs.ProofsForOrder.{value_cmp_total}
 use Rattle.attr_types.specs.Value.{value_cmp}

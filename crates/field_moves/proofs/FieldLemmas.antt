@@ -1,9 +1,9 @@
 -- An attribute of which the index was moved beside the documents, or the documents beside the index.
 use Rattle.std.proofs.Common.{◌≡◌, ℕ, List, [], ◌∷◌, ◌++◌, map, inl, inr, ◌⊎◌, refl, sym, ap, subst, ◌∙◌, arith}
 use Rattle.std.specs.List.{flat_map, AllByRecursion}
-use Rattle.image_base.proofs.Pairs.{same-from}
-use Rattle.image_base.proofs.Among.{SameAt-among}
-use Rattle.image_base.specs.Records.{Records, Among, SameAt}
+use Rattle.entry_ref.proofs.Pairs.{same-from}
+use Rattle.entry_ref.proofs.Among.{SameAt-among}
+use Rattle.entry_ref.specs.Records.{Records, Among, SameAt}
 use Rattle.store_api.specs.Ledgers.{Ledger}
 use Rattle.store_api.specs.Parts.{After, Owns, Turns, entries, times}
 use Rattle.store_api.proofs.PartLemmas.{after, owns-some, turns-as}

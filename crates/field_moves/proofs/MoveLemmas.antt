@@ -1,6 +1,6 @@
 -- A key of a phase was moved: the attribute stands, and is cleared up to the key.
 use Rattle.std.proofs.Common.{◌≡◌, ◌⊎◌, ℕ, ◌<◌, List, [], ◌∷◌, map, true, Some, inl, refl, sym, ap, subst, ◌∙◌, arith}
-use Rattle.image_base.specs.Records.{Records, Among}
+use Rattle.entry_ref.specs.Records.{Records, Among}
 use Rattle.store_api.specs.Ledgers.{Ledger}
 use Rattle.store_api.specs.Parts.{Owns, Turns, entries}
 use Rattle.store_api.proofs.PartLemmas.{turns-as}

@@ -1,7 +1,7 @@
 -- What is left of a store when one key of a phase was moved out of a buffer, in one attribute: the attribute reads as it did.
 use Rattle.std.specs.Prelude.{◌≡◌, ◌⊎◌, ℕ, ◌<◌, List, [], ◌∷◌, true}
 use Rattle.std.specs.List.{AllByRecursion}
-use Rattle.image_base.specs.Records.{Records, Among}
+use Rattle.entry_ref.specs.Records.{Records, Among}
 use Rattle.store_api.specs.Ledgers.{Ledger}
 use Rattle.store_api.specs.Parts.{Owns, Turns, count_in, entries, uses}
 use Rattle.store_api.specs.Statuses.{in_use}

@@ -1,6 +1,6 @@
 -- What a move of one key finds, and what it leaves, for each phase alike.
 use Rattle.std.specs.Prelude.{◌≡◌, ℕ, true, Some, [], ◌∷◌}
-use Rattle.image_base.specs.Records.{Records}
+use Rattle.entry_ref.specs.Records.{Records}
 use Rattle.store_api.specs.Ledgers.{Ledger}
 use Rattle.store_api.specs.Parts.{Owns}
 use Rattle.attr_cleared.specs.Cleared.{IsClearedField}

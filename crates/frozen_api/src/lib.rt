@@ -2,7 +2,7 @@
 #![tactic(auto)]
 
 ghost use Rattle.std.specs.Prelude.{◌≡◌, ◌<◌, ◌≤◌, ◌+◌, ◌^◌, ℕ, length, take, drop};
-ghost use Rattle.image_base.specs.Records.{Records, HasWord, word_at};
+ghost use Rattle.entry_ref.specs.Records.{Records, HasWord, word_at};
 
 use entry_ref::EntryRef;
 

@@ -15,7 +15,7 @@ use Rattle.gen_core.proofs.Advancing.{closed-word}
 use Rattle.gen_core.specs.declared.views.OpenHold.{OpenHold}
 use Rattle.gen_core.specs.declared.views.WriterView.{WriterView}
 use Rattle.gen_core.specs.declared.views.ReaderView.{ReaderView}
-use Rattle.image_base.specs.Records.{Records}
+use Rattle.entry_ref.specs.Records.{Records}
 use Rattle.gen_core.specs.declared.views.ReaderState.TheVariants.{Aimed, Bounced, Guarded}
 
 -- twice a number, and one more where it is closed

@@ -8,8 +8,8 @@ use Rattle.std.specs.Prelude.{slice_get, All, option_and_then}
 use Rattle.std.proofs.lemmas.Option.{slice_get_within, get_or_from_slice_get}
 use Rattle.std.proofs.lemmas.List.{get_or-drop}
 use Rattle.entry_ref.specs.References.{buffer_of}
-use Rattle.image_base.specs.Records.{Records}
-use Rattle.image_base.specs.Places.{base, state_place}
+use Rattle.entry_ref.specs.Records.{Records}
+use Rattle.entry_ref.specs.Places.{base, state_place}
 use Rattle.gen_core.specs.declared.views.Tag.{Tag}
 use Rattle.gen_core.specs.declared.views.Buffer.{Buffer}
 use Rattle.gen_core.specs.declared.views.Buffer.TheVariants.{Free, Held}

@@ -1,5 +1,5 @@
 -- The lists of events of the examples happen: each condition holds by computation.
-use Rattle.image_base.specs.Images.{no_image}
+use Rattle.entry_ref.specs.Images.{no_image}
 use Rattle.entry_ref.specs.References.{packed}
 use Rattle.std.proofs.Common.{◌≡◌, ◌≢◌, ℕ, suc, ◌+◌, List, [], ◌∷◌, length, Bool, true, false, eqb, refl, sym, ◌∙◌, eq-eqb, true≢false, inl, inr}
 use Rattle.std.specs.Prelude.{All, nat_eq, nat_lt, nat_le, ◌||◌}

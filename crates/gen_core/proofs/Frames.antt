@@ -5,9 +5,9 @@ use Rattle.std.proofs.lemmas.Nat.{same_from_place}
 use Rattle.std.specs.Prelude.{slice_get, All, option_and_then}
 use Rattle.std.proofs.lemmas.Option.{slice_get_within}
 use Rattle.entry_ref.specs.References.{buffer_of, offset_of}
-use Rattle.image_base.specs.declared.Image.{Image}
-use Rattle.image_base.specs.Places.{base, state_place, size_of, IsEntry}
-use Rattle.image_base.proofs.Apart.{within}
+use Rattle.entry_ref.specs.declared.images.Image.{Image}
+use Rattle.entry_ref.specs.Places.{base, state_place, size_of, IsEntry}
+use Rattle.entry_ref.proofs.Apart.{within}
 use Rattle.gen_core.specs.declared.views.Sizes.{Sizes}
 use Rattle.gen_core.specs.declared.views.OpenHold.{OpenHold}
 use Rattle.gen_core.specs.declared.views.Buffer.{Buffer}
@@ -16,7 +16,7 @@ use Rattle.gen_core.specs.Views.{active_width, active_in, kept_of}
 use Rattle.gen_core.specs.Work.{place_in}
 use Rattle.gen_core.specs.Good.{GoodNamedWords, GoodCounts, InActive, WordsStand, IsPlaced, State, GoodMemory, Good, GoodSizes}
 use Rattle.gen_core.specs.declared.views.Queue.{Queue}
-use Rattle.image_base.specs.Records.{Records}
+use Rattle.entry_ref.specs.Records.{Records}
 use Rattle.gen_core.proofs.StoredWords.{p}
 
 -- a place in the buffers: behind the first word of one of them

@@ -2,15 +2,15 @@
 use Rattle.std.proofs.lemmas.List.Elements.{All-tail, All-head}
 use Rattle.std.specs.Map.{lookup}
 use Rattle.std.proofs.lemmas.Option.{slice_get_within}
-use Rattle.image_base.specs.Images.{words_at, record_at}
+use Rattle.entry_ref.specs.Images.{words_at, record_at}
 use Rattle.std.proofs.Common.{true, false, zero, suc, Bool, suc, nat_eq, cond, subst, [], ⊎_elim, unwrap_or, get_or, slice_get, length, option_and_then, eq-eqb, ◌≡◌, ◌≢◌, ℕ, ◌+◌, ◌<◌, ◌≤◌, List, ◌∷◌, Option, Some, None}
 use Rattle.std.proofs.Common.{refl, sym, ap, ◌∙◌, arith}
-use Rattle.image_base.specs.Places.{IsEntry, base}
-use Rattle.image_base.proofs.Apart.{one_place}
+use Rattle.entry_ref.specs.Places.{IsEntry, base}
+use Rattle.entry_ref.proofs.Apart.{one_place}
 use Rattle.gen_core.specs.Views.{active_in, floor_of, kept_of, last_number, last_image, record_width, width_in, active_width}
 use Rattle.gen_core.specs.Good.{State, GoodView, Good, HoldFits, HasNothingIn, IsPlaced, IsApart, Avoids}
 use Rattle.gen_core.specs.Work.{work_at, place_in, IsRecordStored, whole_at, writer_records}
-use Rattle.image_base.specs.Records.{records_of, Records}
+use Rattle.entry_ref.specs.Records.{records_of, Records}
 use Rattle.gen_core.proofs.Holds.{at_oldest}
 use Rattle.gen_core.proofs.Lists.{all_drop-at, all_found}
 use Rattle.gen_core.proofs.ViewLemmas.{active-width, last_at}
@@ -18,7 +18,7 @@ use Rattle.gen_core.proofs.Work.{whole-found, records-found}
 use Rattle.gen_core.specs.declared.views.Tag.{Tag}
 use Rattle.gen_core.specs.declared.views.Buffer.{Buffer}
 use Rattle.gen_core.specs.declared.views.WriterView.{WriterView}
-use Rattle.image_base.specs.declared.Image.{Image}
+use Rattle.entry_ref.specs.declared.images.Image.{Image}
 use Rattle.entry_ref.specs.References.{buffer_of}
 use Rattle.std.proofs.lemmas.Nat.{same_from_place}
 use Rattle.std.specs.Prelude.{All}

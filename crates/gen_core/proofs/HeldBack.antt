@@ -7,7 +7,7 @@ use native.Mathlib.Decide.{ℕ_discrete}
 use Rattle.std.specs.Prelude.{slice_get, All, nat_eq, IsTrue, ◌||◌, option_and_then}
 use Rattle.std.specs.List.{list_any}
 use Rattle.std.proofs.lemmas.Option.{slice_get_within}
-use Rattle.image_base.specs.Records.{Records}
+use Rattle.entry_ref.specs.Records.{Records}
 use Rattle.gen_core.specs.declared.views.OpenHold.{OpenHold}
 use Rattle.gen_core.specs.declared.views.Queue.{Queue}
 use Rattle.gen_core.specs.declared.views.Pending.{Pending}

@@ -1,6 +1,6 @@
 -- The laws of a layout as one argument.
 use Rattle.std.proofs.Common.{◌≡◌, ℕ, List, []}
-use Rattle.image_base.specs.Records.{Records, SameAt, AllThere}
+use Rattle.entry_ref.specs.Records.{Records, SameAt, AllThere}
 
 pub record IsLayout (reaches : ℕ → Records → ℕ → List ℕ) (lawful : ℕ → Records → ℕ → Type 0) : Type 0 where
   -- root 0 reaches nothing and is lawful

@@ -9,9 +9,9 @@ use Rattle.std.proofs.lemmas.Option.{slice_get_within}
 use Rattle.std.proofs.lemmas.List.Elements.{All-contains}
 use Rattle.list_facts.proofs.Options.{same_Some}
 use Rattle.entry_ref.specs.References.{buffer_of}
-use Rattle.image_base.specs.declared.Image.{Image}
-use Rattle.image_base.specs.Records.{Records}
-use Rattle.image_base.specs.Places.{base, state_place}
+use Rattle.entry_ref.specs.declared.images.Image.{Image}
+use Rattle.entry_ref.specs.Records.{Records}
+use Rattle.entry_ref.specs.Places.{base, state_place}
 use Rattle.gen_core.specs.declared.views.Buffer.{Buffer}
 use Rattle.gen_core.specs.declared.views.Buffer.TheVariants.{Free, Active, Held}
 use Rattle.gen_core.specs.declared.views.ReaderState.TheVariants.{Raised}

@@ -10,7 +10,7 @@ use Rattle.gen_core.specs.Events.{coming_hold, newcomer, with_state, aims, found
 use Rattle.gen_core.specs.Events.{store_newest, close, stop_at_oldest, probe, stop_at_newest, morph, split, join, meet_load, load_own, load_newest, raise, bounce, load_root, load_word, release}
 use Rattle.gen_core.specs.declared.views.OpenHold.{OpenHold}
 use Rattle.gen_core.specs.declared.views.ReaderView.{ReaderView}
-use Rattle.image_base.specs.Records.{Records}
+use Rattle.entry_ref.specs.Records.{Records}
 use Rattle.gen_core.specs.declared.views.ReaderState.TheVariants.{Idle}
 use Rattle.gen_core.specs.declared.views.View.TheVariants.{Writer, Reader}
 

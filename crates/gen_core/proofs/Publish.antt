@@ -5,11 +5,11 @@ use Rattle.std.specs.Prelude.{slice_get, All, option_and_then}
 use Rattle.entry_ref.specs.References.{buffer_of}
 use Rattle.gen_core.specs.declared.views.Tag.{Tag}
 use Rattle.std.proofs.lemmas.List.Elements.{All-push, All-weaker}
-use Rattle.image_base.specs.declared.Image.{Image}
-use Rattle.image_base.specs.Records.{Records, AllThere}
-use Rattle.image_base.specs.Images.{record_at, words_at}
-use Rattle.image_base.specs.Places.{base, state_place}
-use Rattle.image_base.proofs.Pairs.{references-pairs, pairs-same}
+use Rattle.entry_ref.specs.declared.images.Image.{Image}
+use Rattle.entry_ref.specs.Records.{Records, AllThere}
+use Rattle.entry_ref.specs.Images.{record_at, words_at}
+use Rattle.entry_ref.specs.Places.{base, state_place}
+use Rattle.entry_ref.proofs.Pairs.{references-pairs, pairs-same}
 use Rattle.gen_core.specs.declared.views.Sizes.{Sizes}
 use Rattle.gen_core.specs.declared.views.Pending.TheVariants.{Nothing}
 use Rattle.gen_core.specs.declared.views.Buffer.TheVariants.{Held}

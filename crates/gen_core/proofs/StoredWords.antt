@@ -6,9 +6,9 @@ use Rattle.std.specs.Option.{unwrap_or}
 use Rattle.std.proofs.lemmas.Bool.{cases_eq, ltb-true, lt-ltb, and_parts, and_left, and_right, and_from}
 use Rattle.std.proofs.lemmas.Option.{slice_get_within}
 use Rattle.list_facts.proofs.Options.{same_Some}
-use Rattle.image_base.specs.Images.{words_at}
-use Rattle.image_base.specs.Places.{IsEntry}
-use Rattle.image_base.proofs.Apart.{within, one_place}
+use Rattle.entry_ref.specs.Images.{words_at}
+use Rattle.entry_ref.specs.Places.{IsEntry}
+use Rattle.entry_ref.proofs.Apart.{within, one_place}
 use Rattle.gen_core.specs.Views.{last_image, active_width, active_in, last_tag, last_tag_in}
 use Rattle.gen_core.specs.Conditions.{MayStoreWidth, MayHandOut}
 use Rattle.gen_core.specs.Good.{GoodView}

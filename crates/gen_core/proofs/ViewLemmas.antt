@@ -2,12 +2,12 @@
 use Rattle.std.proofs.Common.{◌≡◌, ℕ, suc, ◌<◌, List, [], ◌∷◌, ◌++◌, length, Option, Some, None, refl, sym, ap, ◌∙◌, subst, arith}
 use Rattle.std.specs.Prelude.{slice_get, All, option_and_then}
 use Rattle.std.proofs.lemmas.List.Elements.{All-nil, All-cons, All-weaker}
-use Rattle.image_base.specs.Records.{Records, AllThere, pairs_of}
+use Rattle.entry_ref.specs.Records.{Records, AllThere, pairs_of}
 use Rattle.gen_core.specs.Views.{last_number, last_image, IsCommit, record_width, width_in, active_width, active_in}
 use Rattle.gen_core.proofs.Lists.{at_longer}
 use Rattle.gen_core.specs.declared.views.Tag.{Tag}
 use Rattle.gen_core.specs.declared.views.Buffer.{Buffer}
-use Rattle.image_base.specs.declared.Image.{Image}
+use Rattle.entry_ref.specs.declared.images.Image.{Image}
 use Rattle.gen_core.specs.declared.views.Buffer.TheVariants.{Free, Active, Held}
 
 -- an active buffer's width is its records' width

@@ -2,10 +2,10 @@
 use Rattle.std.specs.Prelude.{if◌then◌else◌, ◌≡◌, ◌≢◌, ℕ, ◌+◌, ◌-◌, ◌*◌, ◌%◌, ◌^◌, slice_index, ◌<◌, List, [], ◌∷◌, ◌++◌, length, set}
 use Rattle.std.specs.Prelude.{replicate, slice_get, Some, None, All, IsTrue, nat_eq}
 use Rattle.std.specs.List.{list_any}
-use Rattle.image_base.specs.declared.Image.{Image}
-use Rattle.image_base.specs.Records.{Records}
-use Rattle.image_base.specs.Images.{no_image}
-use Rattle.image_base.specs.Places.{base, state_place}
+use Rattle.entry_ref.specs.declared.images.Image.{Image}
+use Rattle.entry_ref.specs.Records.{Records}
+use Rattle.entry_ref.specs.Images.{no_image}
+use Rattle.entry_ref.specs.Places.{base, state_place}
 use Rattle.gen_core.specs.declared.views.Sizes.{Sizes}
 use Rattle.gen_core.specs.declared.views.OpenHold.{OpenHold}
 use Rattle.gen_core.specs.declared.views.Pending.TheVariants.{Nothing, Next, Probed}

@@ -1,9 +1,9 @@
 -- Lists of events that happen, each from the opening, and the state that each ends in.
 use Rattle.std.specs.Prelude.{ℕ, zero, suc, ◌+◌, ◌*◌, ◌^◌, ◌<◌, List, [], ◌∷◌, ◌++◌, length, replicate, Some, None}
 use Rattle.entry_ref.specs.References.{packed}
-use Rattle.image_base.specs.declared.Image.{Image}
-use Rattle.image_base.specs.Records.{Records}
-use Rattle.image_base.specs.Images.{no_image}
+use Rattle.entry_ref.specs.declared.images.Image.{Image}
+use Rattle.entry_ref.specs.Records.{Records}
+use Rattle.entry_ref.specs.Images.{no_image}
 use Rattle.gen_core.specs.declared.views.Sizes.{Sizes}
 use Rattle.gen_core.specs.declared.views.OpenHold.{OpenHold}
 use Rattle.gen_core.specs.declared.views.Pending.TheVariants.{Nothing}

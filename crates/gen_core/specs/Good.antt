@@ -2,10 +2,10 @@
 use Rattle.std.specs.Prelude.{if◌then◌else◌, ◌≡◌, ◌≢◌, ℕ, suc, ◌+◌, ◌*◌, ◌^◌, ◌<◌, ◌≤◌, List, length, drop, slice_get, slice_index, Some}
 use Rattle.std.specs.Prelude.{None, Bool, IsTrue, All, AllPairs, count_by}
 use Rattle.entry_ref.specs.References.{buffer_of}
-use Rattle.image_base.specs.declared.Image.{Image}
-use Rattle.image_base.specs.Records.{Records, references_of}
-use Rattle.image_base.specs.Images.{no_image, words_at}
-use Rattle.image_base.specs.Places.{base, state_place, size_of, IsEntry}
+use Rattle.entry_ref.specs.declared.images.Image.{Image}
+use Rattle.entry_ref.specs.Records.{Records, references_of}
+use Rattle.entry_ref.specs.Images.{no_image, words_at}
+use Rattle.entry_ref.specs.Places.{base, state_place, size_of, IsEntry}
 use Rattle.gen_core.specs.declared.views.Sizes.{Sizes}
 use Rattle.gen_core.specs.declared.views.OpenHold.{OpenHold}
 use Rattle.gen_core.specs.declared.views.Pending.TheVariants.{Next, Probed}

@@ -2,8 +2,8 @@
 use Rattle.std.specs.Prelude.{if◌then◌else◌, ◌≡◌, ◌≢◌, ℕ, zero, suc, ◌+◌, ◌-◌, ◌*◌, ◌^◌, List, length, set, slice_get, slice_index, Option}
 use Rattle.std.specs.Prelude.{Some, nat_eq, option_map}
 use Rattle.std.specs.Option.{unwrap_or}
-use Rattle.image_base.specs.Records.{Records}
-use Rattle.image_base.specs.Places.{base, state_place}
+use Rattle.entry_ref.specs.Records.{Records}
+use Rattle.entry_ref.specs.Places.{base, state_place}
 use Rattle.gen_core.specs.declared.views.Pending.{Pending}
 use Rattle.gen_core.specs.declared.views.Pending.TheVariants.{Nothing, Next, Probed}
 use Rattle.gen_core.specs.declared.views.ReaderState.{ReaderState}

@@ -1,9 +1,9 @@
 -- What follows of the writer's view alone, for a seat that has no more than that.
 use Rattle.std.specs.Prelude.{◌≡◌, ◌≢◌, ℕ, ◌<◌, ◌≤◌, ◌&&◌, if◌then◌else◌, List, [], length, slice_get, Option, Some, All, nat_eq}
 use Rattle.entry_ref.specs.References.{buffer_of}
-use Rattle.image_base.specs.declared.Image.{Image}
-use Rattle.image_base.specs.Images.{record_at, words_at}
-use Rattle.image_base.specs.Places.{IsEntry}
+use Rattle.entry_ref.specs.declared.images.Image.{Image}
+use Rattle.entry_ref.specs.Images.{record_at, words_at}
+use Rattle.entry_ref.specs.Places.{IsEntry}
 use Rattle.gen_core.specs.declared.views.Buffer.TheVariants.{Free}
 use Rattle.gen_core.specs.declared.views.Tag.{Tag}
 use Rattle.gen_core.specs.declared.views.WriterView.{WriterView}

@@ -2,8 +2,8 @@
 use Rattle.std.specs.Prelude.{◌≡◌, ℕ, ◌+◌, ◌-◌, ◌*◌, ◌^◌, List, [], ◌∷◌, ◌++◌, length, drop, slice_get, Option, Some, None, Bool, false}
 use Rattle.std.specs.Prelude.{◌||◌, nat_eq, option_and_then}
 use Rattle.std.specs.List.{list_any}
-use Rattle.image_base.specs.declared.Image.{Image}
-use Rattle.image_base.specs.Images.{no_image}
+use Rattle.entry_ref.specs.declared.images.Image.{Image}
+use Rattle.entry_ref.specs.Images.{no_image}
 use Rattle.gen_core.specs.declared.views.OpenHold.{OpenHold}
 use Rattle.gen_core.specs.declared.views.Pending.{Pending}
 use Rattle.gen_core.specs.declared.views.Pending.TheVariants.{Nothing, Next, Probed}

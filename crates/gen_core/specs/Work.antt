@@ -4,10 +4,10 @@ use Rattle.std.specs.Prelude.{◌&&◌, nat_eq, nat_lt, nat_le}
 use Rattle.std.specs.Option.{unwrap_or}
 use Rattle.std.specs.Map.{lookup}
 use Rattle.entry_ref.specs.References.{buffer_of, offset_of}
-use Rattle.image_base.specs.declared.Image.{Image}
-use Rattle.image_base.specs.Records.{Records}
-use Rattle.image_base.specs.Images.{words_at, image_of}
-use Rattle.image_base.specs.Places.{IsEntry, place}
+use Rattle.entry_ref.specs.declared.images.Image.{Image}
+use Rattle.entry_ref.specs.Records.{Records}
+use Rattle.entry_ref.specs.Images.{words_at, image_of}
+use Rattle.entry_ref.specs.Places.{IsEntry, place}
 use Rattle.gen_core.specs.declared.views.Sizes.{Sizes}
 use Rattle.gen_core.specs.declared.views.WriterView.{WriterView}
 use Rattle.gen_core.specs.Views.{active_in, last_image}

@@ -14,7 +14,7 @@ ghost use Rattle.gen_core.specs.Examples.{Ends, hold_sizes, buffer_sizes, missed
 ghost use Rattle.gen_core.specs.Examples.{closed_events, closed_end, reopened_events, reopened_end, again_events, again_end, stored_events};
 ghost use Rattle.gen_core.specs.Examples.{stored_end};
 
-use image_base::Layout;
+use entry_ref::Layout;
 
 /// Every list of events from the opening keeps the invariant, and where a buffer is handed out no
 /// view stands on a hold whose generation is at most the buffer's last tag.

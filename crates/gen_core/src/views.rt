@@ -1,6 +1,6 @@
 //! What each seat knows: plain data, which a seat of the table can carry.
 
-use image_base::Image;
+use entry_ref::Image;
 use std::collections::LinkedList;
 
 /// The bits of a reference that are its offset, the buffers, the words of each, the shape of the

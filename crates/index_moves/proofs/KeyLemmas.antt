@@ -2,9 +2,9 @@
 use Rattle.std.proofs.Common.{◌≡◌, ℕ, List, [], ◌∷◌, None, Some, Option, option_map, Result, Ok, Err, true, true≢false, inl, inr, ◌⊎◌, refl, sym, ap, subst, ◌∙◌, arith}
 use Rattle.std.specs.Prelude.{IfOk}
 use Rattle.list_facts.proofs.Options.{same_Some}
-use Rattle.image_base.proofs.Among.{SameAt-then, SameAt-among}
+use Rattle.entry_ref.proofs.Among.{SameAt-then, SameAt-among}
 use Rattle.entry_ref.specs.References.{buffer_of}
-use Rattle.image_base.specs.Records.{Records, SameAt, Among}
+use Rattle.entry_ref.specs.Records.{Records, SameAt, Among}
 use Rattle.key_order.specs.Pairs.{lookup_pair, put}
 use Rattle.key_order.proofs.PairLemmas.{lookup-of_pair}
 use Rattle.store_api.specs.Ledgers.{Ledger}

@@ -3,7 +3,7 @@ use Rattle.std.proofs.Common.{◌≡◌, ℕ, List, [], ◌∷◌, map, Result, 
 use Rattle.std.specs.Prelude.{IfOk}
 use Rattle.std.specs.declared.cmp.Ordering.{Ordering}
 use Rattle.std.specs.List.{flat_map, AllByRecursion}
-use Rattle.image_base.specs.Records.{Records, SameAt}
+use Rattle.entry_ref.specs.Records.{Records, SameAt}
 use Rattle.store_api.specs.Ledgers.{Ledger}
 use Rattle.store_api.specs.Parts.{After, Owns, Turns, times}
 use Rattle.store_api.specs.declared.store.StoreError.{StoreError}

@@ -4,9 +4,9 @@ use Rattle.std.specs.declared.cmp.Ordering.{Ordering}
 use Rattle.std.specs.declared.cmp.Ordering.TheVariants.{Less, Equal, Greater}
 use Rattle.std.specs.List.{flat_map, AllByRecursion}
 use Rattle.list_facts.proofs.Options.{same_Some}
-use Rattle.image_base.proofs.Among.{SameAt-among}
-use Rattle.image_base.proofs.Pairs.{same-from}
-use Rattle.image_base.specs.Records.{Records, SameAt}
+use Rattle.entry_ref.proofs.Among.{SameAt-among}
+use Rattle.entry_ref.proofs.Pairs.{same-from}
+use Rattle.entry_ref.specs.Records.{Records, SameAt}
 use Rattle.key_order.specs.Pairs.{choose, lookup, lookup_pair, put, take_out}
 use Rattle.store_api.specs.Parts.{times}
 use Rattle.store_api.proofs.Times.{among-times, times-among}

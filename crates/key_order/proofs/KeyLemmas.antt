@@ -3,7 +3,7 @@ use Rattle.std.proofs.Common.{◌≡◌, ℕ, ◌<◌, List, [], ◌∷◌, leng
 use Rattle.std.specs.declared.cmp.Ordering.{Ordering}
 use Rattle.std.specs.List.Sorted.{IsStrictlySortedBy}
 use Rattle.std.specs.List.{flat_map, AllByRecursion}
-use Rattle.image_base.specs.Records.{Records, SameAt}
+use Rattle.entry_ref.specs.Records.{Records, SameAt}
 use Rattle.tree_images.specs.ProofsForTrees.{SameAt-left, SameAt-right, tree_pairs-same, IsTree-same}
 use Rattle.tree_images.specs.Trees.{tree_nodes, tree_pairs, IsRootNode, Keeps}
 use Rattle.key_order.specs.Keys.{AllReadable, IsNoNode, ReadsNoNode, NoneReadsNodes, KeepsOthers, Ascends, IsKeyedTree, IsKeyWord}

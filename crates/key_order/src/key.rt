@@ -1,7 +1,7 @@
 ghost use Rattle.std.specs.Prelude.{◌≡◌, ℕ, List};
 ghost use Rattle.std.specs.declared.cmp.Ordering.{Ordering};
 ghost use Rattle.std.specs.Cmp.{IsTotalOrder};
-ghost use Rattle.image_base.specs.Records.{Records, SameAt};
+ghost use Rattle.entry_ref.specs.Records.{Records, SameAt};
 
 use frozen_api::Frozen;
 use std::cmp::Ordering;

@@ -3,7 +3,7 @@ ghost use Rattle.std.specs.declared.cmp.Ordering.{Ordering};
 ghost use Rattle.std.specs.declared.cmp.Ordering.TheVariants.{Equal};
 ghost use Rattle.std.specs.List.{flat_map};
 ghost use Rattle.std.specs.Option.{option_map};
-ghost use Rattle.image_base.specs.Records.{Records, SameAt};
+ghost use Rattle.entry_ref.specs.Records.{Records, SameAt};
 ghost use Rattle.tree_images.specs.Trees.{tree_nodes, tree_pairs};
 ghost use Rattle.key_order.specs.Keys.{Ascends, KeepsOthers, AllReadable, NoneReadsNodes, IsKeyedTree, IsKeyWord, seen_by};
 ghost use Rattle.key_order.specs.Pairs.{lookup, lookup_pair, put, take_out};

@@ -9,9 +9,9 @@ use Rattle.std.proofs.lemmas.Nat.{div-add-mod'}
 use Rattle.std.proofs.Math.Nat.{mul-le-mul_right}
 use Rattle.entry_ref.specs.References.{buffer_of, offset_of, packed, buffer_limit}
 use Rattle.entry_ref.proofs.Bits.{packed-buffer, packed-offset}
-use Rattle.image_base.specs.Places.{IsEntry}
-use Rattle.image_base.specs.Records.{Records, pairs_of}
-use Rattle.image_base.proofs.Steps.{none-or, offset-within}
+use Rattle.entry_ref.specs.Places.{IsEntry}
+use Rattle.entry_ref.specs.Records.{Records, pairs_of}
+use Rattle.entry_ref.proofs.Steps.{none-or, offset-within}
 use Rattle.mem_work.specs.Cells.{width_in, begin_of, stamp_at, standing, was_stored_since, is_whole, records_in}
 use Rattle.mem_work.specs.Entries.{is_chosen, chosen, with_those}
 use Rattle.mem_work.specs.ProofsForMemory.{names_entry-from, standing-entry}

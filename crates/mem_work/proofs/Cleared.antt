@@ -10,10 +10,10 @@ use Rattle.std.proofs.lemmas.Grind.{same_number_lists}
 use Rattle.std.proofs.lemmas.Nat.{same_from_place}
 use Rattle.list_facts.proofs.Places.{slice_index-zeros}
 use Rattle.entry_ref.specs.References.{buffer_of}
-use Rattle.image_base.specs.Images.{words_at}
-use Rattle.image_base.specs.Places.{IsEntry}
-use Rattle.image_base.specs.Records.{Records, SameAt, AllThere}
-use Rattle.image_base.proofs.Apart.{within}
+use Rattle.entry_ref.specs.Images.{words_at}
+use Rattle.entry_ref.specs.Places.{IsEntry}
+use Rattle.entry_ref.specs.Records.{Records, SameAt, AllThere}
+use Rattle.entry_ref.proofs.Apart.{within}
 use Rattle.arena_api.proofs.Reached.{lawful-kept, next_image-kept}
 use Rattle.arena_api.specs.Works.{Buffer, active_width}
 use Rattle.arena_api.specs.Generations.{retired}

@@ -5,8 +5,8 @@ use Rattle.std.specs.List.{list_all}
 use Rattle.std.proofs.lemmas.Bool.{cases_eq, false_from_ne_true, eq-eqb, ne_eqb, ltb-true}
 use Rattle.std.proofs.lemmas.Nat.{same_from_place}
 use Rattle.entry_ref.specs.References.{buffer_of, offset_of}
-use Rattle.image_base.specs.Places.{IsEntry}
-use Rattle.image_base.proofs.Apart.{within}
+use Rattle.entry_ref.specs.Places.{IsEntry}
+use Rattle.entry_ref.proofs.Apart.{within}
 use Rattle.arena_api.specs.Works.{Buffer, last_tag}
 use Rattle.arena_api.specs.Calls.{with_buffer}
 use Rattle.mem_work.specs.Cells.{width_in, begin_of, stamp_at, names_entry, standing, was_stored_since, is_whole, stored_since, buffer_by, buffer_in}

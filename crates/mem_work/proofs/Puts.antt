@@ -2,9 +2,9 @@
 use Rattle.std.proofs.Common.{◌≡◌, ◌≢◌, ℕ, ◌+◌, ◌*◌, ◌<◌, inl, inr, cond, List, [], length, set, sym, ap, ◌∙◌, arith}
 use Rattle.std.proofs.lemmas.Bool.{cases_eq, eq-eqb, ne_eqb, cond-true}
 use Rattle.entry_ref.specs.References.{buffer_of}
-use Rattle.image_base.specs.Images.{words_at}
-use Rattle.image_base.specs.Places.{IsEntry}
-use Rattle.image_base.specs.Records.{Records, SameAt, AllThere, with_words}
+use Rattle.entry_ref.specs.Images.{words_at}
+use Rattle.entry_ref.specs.Places.{IsEntry}
+use Rattle.entry_ref.specs.Records.{Records, SameAt, AllThere, with_words}
 use Rattle.mem_work.specs.Cells.{width_in, begin_of, stamp_at, with_range, standing, is_whole, stored_since, image_in, records_in, buffer_by, memory_view}
 use Rattle.arena_api.proofs.Reached.{lawful-kept, next_image-kept}
 use Rattle.mem_work.proofs.Ranges.{width-range, standing-elsewhere, standing-range, whole-elsewhere, whole-range}

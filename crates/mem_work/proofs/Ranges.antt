@@ -9,7 +9,7 @@ use Rattle.std.proofs.lemmas.Bool.{cases_eq, or_left, le-leb}
 use Rattle.std.proofs.lemmas.Grind.{same_number_lists}
 use Rattle.std.proofs.lemmas.Nat.{same_from_place}
 use Rattle.entry_ref.specs.References.{buffer_of, offset_of}
-use Rattle.image_base.specs.Places.{IsEntry}
+use Rattle.entry_ref.specs.Places.{IsEntry}
 use Rattle.mem_work.specs.Cells.{width_in, begin_of, stamp_at, with_range, names_entry, standing, was_stored_since, IsUnused, is_whole}
 use Rattle.mem_work.proofs.Standing.{range-set_other, lacks, one_cell, not_first, cond-same, and-same, entry-offset, stamp-below, one_stamp}
 use Rattle.mem_work.specs.ProofsForMemory.{names_entry-true, length-standing, word-standing}

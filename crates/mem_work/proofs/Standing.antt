@@ -8,8 +8,8 @@ use Rattle.std.proofs.lemmas.Nat.{same_from_place}
 use Rattle.std.proofs.lemmas.Bool.{cases_lt, cases_eq, eq-eqb, ne_eqb, ltb-true, lt-ltb, cond-true, cond-false, and_from, and_left, and_right, and_parts, or_right, or_cases, leb-true, le-leb}
 use Rattle.entry_ref.specs.References.{buffer_of, offset_of}
 use Rattle.entry_ref.proofs.Bits.{same-ref}
-use Rattle.image_base.specs.Places.{IsEntry}
-use Rattle.image_base.proofs.Apart.{one_place, place-base, within}
+use Rattle.entry_ref.specs.Places.{IsEntry}
+use Rattle.entry_ref.proofs.Apart.{one_place, place-base, within}
 use Rattle.mem_work.specs.Cells.{width_in, begin_of, stamp_at, names_entry, standing, was_stored_since, is_whole, stored_since}
 use Rattle.arena_api.specs.Calls.{with_stored}
 use Rattle.mem_work.specs.ProofsForMemory.{names_entry-true, names_entry-from}

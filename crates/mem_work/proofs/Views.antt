@@ -11,10 +11,10 @@ use Rattle.std.proofs.lemmas.Bool.{false_from_ne_true, cases_eq, cond-false}
 use Rattle.std.proofs.lemmas.Nat.{same_from_place}
 use Rattle.list_facts.proofs.Places.{slice_index-zeros}
 use Rattle.entry_ref.specs.References.{buffer_of, offset_of}
-use Rattle.image_base.specs.Images.{no_image, words_at, image_of}
-use Rattle.image_base.proofs.Apart.{within}
-use Rattle.image_base.specs.Places.{IsEntry}
-use Rattle.image_base.specs.Records.{Records, SameAt, AllThere}
+use Rattle.entry_ref.specs.Images.{no_image, words_at, image_of}
+use Rattle.entry_ref.proofs.Apart.{within}
+use Rattle.entry_ref.specs.Places.{IsEntry}
+use Rattle.entry_ref.specs.Records.{Records, SameAt, AllThere}
 use Rattle.arena_api.specs.Calls.{next_image, with_stored, handed_out, published, AddsCommit, IsLowestFree, opened}
 use Rattle.mem_work.specs.Cells.{width_in, begin_of, stamp_at, standing, was_stored_since, IsUnused, is_whole, stored_since, image_in, records_in, buffer_by, buffer_in, memory_view, sizes_of}
 use Rattle.mem_work.specs.Marks.{mark_at, marked, marked_buffers, with_marks, IsMarkOfWidth}
@@ -25,7 +25,7 @@ use Rattle.mem_work.specs.ProofsForMemory.{standing-entry, length-standing, word
 use Rattle.mem_work.proofs.Standing.{standing-other, whole-other, stored-store, width-store, cond-same, cell-below}
 use Rattle.mem_work.proofs.Standing.{since-parts, whole-first}
 use Rattle.mem_work.specs.ProofsForMemory.{is_stored}
-use Rattle.image_base.proofs.Pairs.{words-found, same-from, there-among}
+use Rattle.entry_ref.proofs.Pairs.{words-found, same-from, there-among}
 use Rattle.arena_api.proofs.Reached.{image-same, lawful-kept, next_image-kept}
 use Rattle.mem_work.specs.ProofsForMemory.{records-stand}
 use Rattle.mem_work.proofs.Handed.{none-from, width-other, buffers-handed, standing-handed, whole-handed, stored-handed}

@@ -1,6 +1,6 @@
 -- The width of an active buffer in memory is its first word.
 use Rattle.std.proofs.Common.{ℕ, ◌<◌, subst}
-use Rattle.image_base.specs.Places.{IsEntry}
+use Rattle.entry_ref.specs.Places.{IsEntry}
 use Rattle.arena_api.specs.Works.{active_width}
 use Rattle.mem_work.specs.Cells.{buffer_by}
 use Rattle.mem_work.specs.Marks.{marked}

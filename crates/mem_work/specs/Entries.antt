@@ -1,6 +1,6 @@
 -- The entries of a memory: all, or those that were stored whole since a stamp.
 use Rattle.std.specs.Prelude.{ℕ, Bool, true, nat_eq, if◌then◌else◌, List, [], ◌∷◌, Option, Some, None}
-use Rattle.image_base.specs.Records.{Records}
+use Rattle.entry_ref.specs.Records.{Records}
 use Rattle.mem_work.specs.Cells.{standing, is_whole}
 
 -- whether each word of an entry was stored since this stamp, if one is given

@@ -1,6 +1,6 @@
 -- The layout whose root is one record.
 use Rattle.std.specs.Prelude.{ℕ, zero, suc, ◌<◌, List, [], ◌∷◌, length}
-use Rattle.image_base.specs.Records.{Records}
+use Rattle.entry_ref.specs.Records.{Records}
 
 -- the root reaches itself
 abbrev pub one_reaches : ℕ → Records → ℕ → List ℕ

@@ -7,8 +7,8 @@ use Rattle.std.proofs.Math.Nat.{mul-le-mul_right}
 use Rattle.std.proofs.lemmas.Bool.{cases_Bool, cond-false, lt-ltb, ltb-true, cond-true, and_from, and_parts, cond_both}
 use Rattle.std.proofs.lemmas.Bool.Decides.{nat_tests}
 use Rattle.entry_ref.specs.References.{buffer_of, buffer_limit, offset_limit}
-use Rattle.image_base.specs.Places.{IsEntry}
-use Rattle.image_base.proofs.Apart.{entry-small}
+use Rattle.entry_ref.specs.Places.{IsEntry}
+use Rattle.entry_ref.proofs.Apart.{entry-small}
 use Rattle.mem_work.specs.Cells.{width_in, begin_of, stamp_at, names_entry, standing, was_stored_since, is_whole, stored_since, buffer_by}
 use Rattle.mem_work.specs.Cells.{image_in, records_in, buffer_in, sizes_of, memory_view}
 use Rattle.mem_work.specs.Marks.{tag_of, mark_at, marked, marked_buffers, only_hold, with_marks, IsHeldMark, IsMarkOfWidth}
@@ -19,9 +19,9 @@ use Rattle.arena_api.specs.Generations.{IsQueue, IsHeldUnder}
 use Rattle.std.proofs.lemmas.Option.{cond_some}
 use Rattle.arena_api.specs.Works.{active_width, width_of, Tag, Buffer, Hold, WorkView}
 use Rattle.std.proofs.lemmas.Grind.{same_number_lists}
-use Rattle.image_base.specs.Images.{words_at}
-use Rattle.image_base.specs.Records.{Records}
-use Rattle.image_base.proofs.Pairs.{words-found}
+use Rattle.entry_ref.specs.Images.{words_at}
+use Rattle.entry_ref.specs.Records.{Records}
+use Rattle.entry_ref.proofs.Pairs.{words-found}
 
 pub names_entry-true : (bits buffers words width r : ℕ) → names_entry bits buffers words width r ≡ true → IsEntry bits buffers words width r
 unfolding names_entry

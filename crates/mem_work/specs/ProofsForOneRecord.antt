@@ -1,7 +1,7 @@
 -- Nobody has to read this: proofs of the laws of `Layout`, which an implementation can cite from specs/ alone.
 use Rattle.std.specs.Prelude.{◌≡◌, ℕ, zero, suc, ◌<◌, length}
 use Rattle.std.proofs.Common.{refl, sym, subst}
-use Rattle.image_base.specs.Records.{Records, SameAt, AllThere}
+use Rattle.entry_ref.specs.Records.{Records, SameAt, AllThere}
 use Rattle.mem_work.specs.OneRecord.{one_reaches, IsOneRecord}
 
 pub one_present : (shape : ℕ) (m : Records) (root : ℕ) → IsOneRecord shape m root → AllThere (one_reaches shape m root) m

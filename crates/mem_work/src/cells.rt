@@ -1,7 +1,7 @@
 ghost use Rattle.std.specs.Prelude.{◌≡◌, ◌↔◌, ◌<◌, ◌≤◌, ◌+◌, ◌*◌, ℕ, [], IsNone, IfSome, IfNone, IfOk, length, vec_len, slice_index};
 ghost use Rattle.std.specs.Prelude.{slice_set, take, drop, map, replicate};
 ghost use Rattle.entry_ref.specs.References.{buffer_of, offset_of, buffer_limit, offset_limit};
-ghost use Rattle.image_base.specs.Places.{IsEntry};
+ghost use Rattle.entry_ref.specs.Places.{IsEntry};
 ghost use Rattle.arena_api.specs.Works.{is_free, free_count};
 ghost use Rattle.arena_api.specs.Calls.{IsLowestFree, padded};
 ghost use Rattle.mem_work.specs.Cells.{width_in, begin_of, stamp_at, with_range, without_stamps, buffer_in};

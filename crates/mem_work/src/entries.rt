@@ -1,9 +1,9 @@
 ghost use Rattle.std.specs.Prelude.{◌≡◌, ◌≢◌, ◌<◌, ◌+◌, ℕ, IfOk, OnOk, [], slice_index, take, drop};
 ghost use Rattle.std.specs.List.{list_all};
 ghost use Rattle.entry_ref.specs.References.{buffer_of};
-ghost use Rattle.image_base.specs.Places.{IsEntry};
-ghost use Rattle.image_base.specs.Before.{those_before};
-ghost use Rattle.image_base.specs.Maps.{seen};
+ghost use Rattle.entry_ref.specs.Places.{IsEntry};
+ghost use Rattle.entry_ref.specs.Before.{those_before};
+ghost use Rattle.entry_ref.specs.Maps.{seen};
 ghost use Rattle.mem_work.specs.Cells.{width_in, begin_of, stamp_at, standing, was_stored_since};
 ghost use Rattle.mem_work.specs.Entries.{is_chosen, chosen};
 

@@ -1,10 +1,9 @@
 ghost use Rattle.std.specs.Prelude.{◌≡◌, IfOk};
-ghost use Rattle.image_base.specs.Maps.{seen};
+ghost use Rattle.entry_ref.specs.Maps.{seen};
 ghost use Rattle.mem_work.specs.OneRecord.{one_reaches};
 
 use crate::reach::Reach;
-use entry_ref::EntryRef;
-use image_base::Layout;
+use entry_ref::{EntryRef, Layout};
 use std::alloc::{AllocError, Global};
 use std::collections::BTreeMap;
 

@@ -1,9 +1,8 @@
 ghost use Rattle.std.specs.Prelude.{◌≡◌, ◌≢◌, ℕ, IfOk, OnOk};
-ghost use Rattle.image_base.specs.Maps.{seen};
+ghost use Rattle.entry_ref.specs.Maps.{seen};
 ghost use Rattle.mem_work.specs.Entries.{with_those};
 
-use entry_ref::EntryRef;
-use image_base::{Layout, words_at};
+use entry_ref::{EntryRef, Layout, words_at};
 use std::alloc::{AllocError, Global};
 use std::collections::BTreeMap;
 

@@ -1,6 +1,6 @@
 -- The layout whose root is one record of 34 words.
 use Rattle.std.specs.Prelude.{◌≡◌, ◌<◌, ℕ, zero, suc, List, [], ◌∷◌, length}
-use Rattle.image_base.specs.Records.{Records}
+use Rattle.entry_ref.specs.Records.{Records}
 
 -- the root reaches itself
 abbrev pub node_reaches : ℕ → Records → ℕ → List ℕ

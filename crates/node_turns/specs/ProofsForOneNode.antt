@@ -1,6 +1,6 @@
 -- Nobody has to read this: proofs of the laws of `Layout`, which an implementation can cite from specs/ alone.
 use Rattle.std.proofs.Common.{◌≡◌, ℕ, zero, suc, ◌<◌, length, refl, ap, ◌∙◌, arith}
-use Rattle.image_base.specs.Records.{Records, SameAt, AllThere}
+use Rattle.entry_ref.specs.Records.{Records, SameAt, AllThere}
 use Rattle.node_turns.specs.OneNode.{node_reaches, IsNodeRecord}
 
 pub node_empty : (shape : ℕ) (m : Records) → IsNodeRecord shape m 0

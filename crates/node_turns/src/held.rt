@@ -1,6 +1,6 @@
 //! A guard of a commit that is empty or one node.
 ghost use Rattle.std.specs.Prelude.{◌≡◌};
-ghost use Rattle.image_base.specs.Images.{words_at};
+ghost use Rattle.entry_ref.specs.Images.{words_at};
 ghost use Rattle.word_arena.specs.Ruled.{reader_of, seen_image};
 ghost use Rattle.node_turns.specs.OneNode.{IsNodeRecord};
 

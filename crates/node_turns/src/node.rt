@@ -1,6 +1,6 @@
 ghost use Rattle.std.specs.Prelude.{◌≡◌, length};
 
-use image_base::Layout;
+use entry_ref::Layout;
 
 /// The words of a node.
 pub const NODE: u32 = 34;

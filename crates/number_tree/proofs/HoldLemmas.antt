@@ -4,8 +4,8 @@ use Rattle.std.specs.List.Sorted.{IsStrictlySortedBy}
 use Rattle.std.specs.Ordering.{nat_cmp}
 use Rattle.list_facts.proofs.Each.{AllByRecursion-each}
 use Rattle.entry_ref.specs.References.{buffer_of}
-use Rattle.image_base.specs.Images.{image_of, words_at}
-use Rattle.image_base.specs.Records.{Records, SameAt, AllThere}
+use Rattle.entry_ref.specs.Images.{image_of, words_at}
+use Rattle.entry_ref.specs.Records.{Records, SameAt, AllThere}
 use Rattle.arena_api.specs.Calls.{published}
 use Rattle.arena_api.specs.Works.{Sizes, WorkView}
 use Rattle.tree_images.specs.ProofsForTrees.{tree_pairs-same, IsTree-same, tree_there}

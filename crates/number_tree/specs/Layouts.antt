@@ -1,7 +1,7 @@
 -- The layout whose root is a tree's, its keys by number.
 use Rattle.std.specs.Prelude.{ℕ, List}
 use Rattle.std.specs.Ordering.{nat_cmp}
-use Rattle.image_base.specs.Records.{Records}
+use Rattle.entry_ref.specs.Records.{Records}
 use Rattle.tree_images.specs.Trees.{tree_nodes, by_number, IsTree}
 
 -- a root reaches the nodes of its tree

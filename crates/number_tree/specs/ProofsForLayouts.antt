@@ -2,7 +2,7 @@
 use Rattle.std.proofs.Common.{◌≡◌, ℕ, [], refl, arith}
 use Rattle.std.specs.List.Sorted.{IsStrictlySortedBy}
 use Rattle.std.specs.Ordering.{nat_cmp}
-use Rattle.image_base.specs.Records.{Records, SameAt, AllThere}
+use Rattle.entry_ref.specs.Records.{Records, SameAt, AllThere}
 use Rattle.tree_images.specs.ProofsForTrees.{tree_nodes-same, IsTree-same, tree_there}
 use Rattle.tree_images.specs.Trees.{by_number}
 use Rattle.number_tree.specs.Layouts.{tree_reaches, tree_lawful}

@@ -1,4 +1,4 @@
-use image_base::Layout;
+use entry_ref::Layout;
 
 /// The layout whose root is a tree's, its keys by number.
 pub struct TreeLayout;

@@ -8,7 +8,7 @@ use Rattle.std.specs.List.Sorted.{IsStrictlySortedBy}
 use Rattle.std.specs.Ordering.{is_gt}
 use Rattle.std.proofs.lemmas.Option.{slice_get_within}
 use Rattle.list_facts.proofs.Options.{same_Some}
-use Rattle.image_base.specs.Records.{Records}
+use Rattle.entry_ref.specs.Records.{Records}
 use Rattle.attr_compaction.proofs.PlaceLemmas.{key_total, place_total}
 use Rattle.attr_compaction.specs.Places.{key_cmp, place_after, place_cmp, PlanPlace}
 use Rattle.attr_compaction.specs.declared.plan.PlanKey.{PlanKey}

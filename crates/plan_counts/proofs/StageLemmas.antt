@@ -8,7 +8,7 @@ use Rattle.std.specs.List.{AllByRecursion}
 use Rattle.std.specs.declared.cmp.Ordering.{Ordering}
 use Rattle.std.specs.Ordering.{is_gt, ordering_reverse, ordering_then, MatchOrdering}
 use Rattle.list_facts.proofs.Each.{AllByRecursion-append}
-use Rattle.image_base.specs.Records.{Records}
+use Rattle.entry_ref.specs.Records.{Records}
 use Rattle.attr_compaction.proofs.PlaceLemmas.{key_total, next_above, place_total, stage_total}
 use Rattle.attr_compaction.specs.Places.{key_cmp, next_stage, place_after, place_cmp, stage_cmp, PlanPlace}
 use Rattle.attr_compaction.specs.declared.plan.PlanKey.{PlanKey}

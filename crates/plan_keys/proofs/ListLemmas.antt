@@ -8,7 +8,7 @@ use Rattle.std.specs.List.{find, AllByRecursion}
 use Rattle.std.specs.List.Sorted.{IsStrictlySortedBy}
 use Rattle.std.specs.Map.{keys_of}
 use Rattle.std.specs.Ordering.{ordering_reverse, ordering_then}
-use Rattle.image_base.specs.Records.{Records}
+use Rattle.entry_ref.specs.Records.{Records}
 use Rattle.key_order.specs.Pairs.{choose, lookup_pair, seek}
 use Rattle.tree_images.specs.Trees.{tree_pairs}
 use Rattle.tree_search.specs.Places.{first_key, first_value}

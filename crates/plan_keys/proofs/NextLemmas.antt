@@ -5,7 +5,7 @@ use Rattle.std.specs.declared.cmp.Ordering.{Ordering}
 use Rattle.std.specs.List.{find, AllByRecursion}
 use Rattle.std.specs.Cmp.{ranks}
 use Rattle.std.specs.Ordering.{is_gt, ordering_reverse, ordering_then, MatchOrdering}
-use Rattle.image_base.specs.Records.{Records}
+use Rattle.entry_ref.specs.Records.{Records}
 use Rattle.key_order.specs.Pairs.{choose, seek}
 use Rattle.tree_images.specs.Trees.{tree_pairs}
 use Rattle.tree_search.specs.Places.{first_key, first_value}

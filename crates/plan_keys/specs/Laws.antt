@@ -1,7 +1,7 @@
 -- What the keys of a phase are, as a law.
 use Rattle.std.specs.Prelude.{ℕ}
 use Rattle.std.specs.List.Sorted.{IsStrictlySortedBy}
-use Rattle.image_base.specs.Records.{Records}
+use Rattle.entry_ref.specs.Records.{Records}
 use Rattle.attr_types.specs.declared.kind.ValueType.{ValueType}
 use Rattle.attr_compaction.specs.Places.{key_cmp}
 use Rattle.doc_vector.specs.Documents.{IsDocumentMap}

@@ -10,7 +10,7 @@ use Rattle.array_store.specs.Adding.{AddsRecord, MakesOneOf}
 use Rattle.attr_images.specs.Postings.{tree, list_form, IsPostingList}
 use Rattle.attr_images.specs.Words.{class_of, filled, stored_items, unpacked, IsStoredList}
 use Rattle.attr_types.specs.Lawful.{IsDocNumber}
-use Rattle.image_base.specs.Records.{Records}
+use Rattle.entry_ref.specs.Records.{Records}
 use Rattle.store_api.specs.Ledgers.{Ledger, capacity}
 use Rattle.store_api.specs.Parts.{Part, count_in, times, entry, Owns, Turns, AllStay}
 use Rattle.store_api.specs.Units.{MakesAtMost}

@@ -10,7 +10,7 @@ use Rattle.std.specs.Map.{keys_of, remove_entry}
 use Rattle.std.specs.Map.{lookup as lookup_in}
 use Rattle.std.specs.Ordering.{nat_cmp, match_ordering}
 use Rattle.list_facts.proofs.Each.{AllByRecursion-each}
-use Rattle.image_base.specs.Records.{Records}
+use Rattle.entry_ref.specs.Records.{Records}
 use Rattle.key_order.specs.Keys.{IsKeyedTree}
 use Rattle.key_order.specs.Pairs.{lookup, put, take_out}
 use Rattle.key_order.proofs.PairLemmas.{All-put, All-take_out}

@@ -2,7 +2,7 @@
 use Rattle.std.proofs.Common.{◌≡◌, ℕ, zero, suc, ◌<◌, length, arith}
 use Rattle.std.specs.List.Sorted.{IsStrictlySortedBy}
 use Rattle.attr_images.proofs.ListLemmas.{lists_filled}
-use Rattle.image_base.specs.Records.{Records, SameAt, AllThere}
+use Rattle.entry_ref.specs.Records.{Records, SameAt, AllThere}
 use Rattle.attr_images.specs.Postings.{list_form}
 use Rattle.attr_images.specs.ProofsForImages.{postings_there}
 use Rattle.attr_types.specs.declared.kind.ValueType.TheVariants as types

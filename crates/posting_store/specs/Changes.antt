@@ -1,6 +1,6 @@
 -- What a change of a list leaves of a store.
 use Rattle.std.specs.Prelude.{◌≡◌, ℕ, ℤ, ◌+◌, ◌*◌, ◌<◌, nat_eq, nat_le, if◌then◌else◌, List, [], ◌∷◌}
-use Rattle.image_base.specs.Records.{Records}
+use Rattle.entry_ref.specs.Records.{Records}
 use Rattle.store_api.specs.Ledgers.{Ledger, capacity}
 use Rattle.store_api.specs.Parts.{Part, Owns, Turns}
 use Rattle.store_api.specs.Units.{MakesAtMost}

@@ -1,6 +1,6 @@
 -- What a list is, as laws.
 use Rattle.std.specs.Prelude.{◌≡◌, ℕ, ◌<◌, length}
-use Rattle.image_base.specs.Records.{Records, SameAt, AllThere}
+use Rattle.entry_ref.specs.Records.{Records, SameAt, AllThere}
 use Rattle.posting_store.specs.Lists.{list_at, list_reach, IsList}
 
 -- the empty list

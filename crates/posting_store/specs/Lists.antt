@@ -4,7 +4,7 @@ use Rattle.std.specs.List.{AllByRecursion}
 use Rattle.std.specs.List.Sorted.{IsStrictlySortedBy}
 use Rattle.std.specs.Map.{keys_of}
 use Rattle.std.specs.Ordering.{nat_cmp}
-use Rattle.image_base.specs.Records.{Records}
+use Rattle.entry_ref.specs.Records.{Records}
 use Rattle.tree_make.specs.Changes.{levels}
 use Rattle.attr_types.specs.Lawful.{IsDocNumber}
 use Rattle.attr_images.specs.declared.TheConstants.{FIRST_VECTOR}

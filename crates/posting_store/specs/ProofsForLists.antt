@@ -4,7 +4,7 @@ use Rattle.std.specs.List.{AllByRecursion}
 use Rattle.std.specs.List.Sorted.{IsStrictlySortedBy}
 use Rattle.std.specs.Map.{keys_of}
 use Rattle.std.specs.Ordering.{nat_cmp}
-use Rattle.image_base.specs.Records.{Records, SameAt}
+use Rattle.entry_ref.specs.Records.{Records, SameAt}
 use Rattle.attr_types.specs.Lawful.{IsDocNumber}
 use Rattle.attr_images.specs.Postings.{list_form}
 use Rattle.attr_images.specs.ProofsForImages.{postings_at-same, postings_reach-same, IsPostingList-same}

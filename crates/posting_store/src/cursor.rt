@@ -1,5 +1,5 @@
 ghost use Rattle.std.specs.Prelude.{◌≡◌, ◌↔◌, drop, length, [], false, IsTrue};
-ghost use Rattle.image_base.specs.Records.{Records};
+ghost use Rattle.entry_ref.specs.Records.{Records};
 ghost use Rattle.posting_store.specs.Lists.{list_at, IsList, IsPlain};
 ghost use Rattle.posting_store.specs.Walks.{postings_from, first_doc, first_weight, HasPosting, IsListPlace};
 

@@ -11,7 +11,7 @@ use Rattle.std.specs.Ordering.{is_eq, nat_cmp}
 use Rattle.std.proofs.lemmas.Bool.{eqb-true, eqb-false}
 use Rattle.std.proofs.lemmas.Cmp.{tied_itself, nat_cmp_total}
 use Rattle.attr_index.proofs.ColumnLemmas.{keys-column}
-use Rattle.image_base.specs.Records.{Records}
+use Rattle.entry_ref.specs.Records.{Records}
 use Rattle.attr_types.proofs.EntryLemmas.{nat_cmp_apart, sorted_map-filter}
 use Rattle.attr_types.specs.Lawful.{IsLawfulDocument, IsLawfulItems}
 use Rattle.attr_types.specs.Query.{items_in}

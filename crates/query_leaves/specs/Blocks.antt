@@ -1,7 +1,7 @@
 -- The blocks of a bit vector.
 use Rattle.std.specs.Prelude.{◌≡◌, ℕ, ◌≤◌, true, List}
 use Rattle.std.specs.List.{flat_map}
-use Rattle.image_base.specs.Records.{Records}
+use Rattle.entry_ref.specs.Records.{Records}
 use Rattle.attr_images.specs.Postings.{block_documents, IsBlock}
 use Rattle.attr_types.specs.Lawful.{IsDocNumber}
 use Rattle.doc_set.specs.Sets.{has}

@@ -1,7 +1,7 @@
 -- A dictionary and its lists of documents, as the index that they stand for.
 use Rattle.std.specs.Prelude.{ℕ, List, map}
 use Rattle.std.specs.List.{AllByRecursion}
-use Rattle.image_base.specs.Records.{Records}
+use Rattle.entry_ref.specs.Records.{Records}
 use Rattle.tree_images.specs.Trees.{tree_pairs, IsTree}
 use Rattle.attr_images.specs.Postings.{list_form, postings_at, IsDictionaryEntry}
 use Rattle.attr_images.specs.Values.{stored_value}

@@ -3,7 +3,7 @@ use Rattle.std.proofs.Common.{◌≡◌, ◌/◌, ℕ, pos, Option, sym, ap, ◌
 use Rattle.std.specs.Option.{option_map, unwrap_or}
 use Rattle.std.specs.Ordering.{nat_cmp}
 use Rattle.std.proofs.lemmas.Cmp.{nat_cmp_total}
-use Rattle.image_base.specs.Records.{Records}
+use Rattle.entry_ref.specs.Records.{Records}
 use Rattle.tree_images.specs.Trees.{tree_pairs, by_number, IsTree}
 use Rattle.key_order.specs.Pairs.{lookup_pair}
 use Rattle.attr_images.specs.Postings.{postings_at, tree, vector, vector_documents}

@@ -4,7 +4,7 @@ use Rattle.std.specs.BTreeMap.{is_at}
 use Rattle.std.specs.List.{list_any}
 use Rattle.std.specs.Map.{keys_of, lookup}
 use Rattle.std.specs.Ordering.{nat_cmp}
-use Rattle.image_base.specs.Records.{Records}
+use Rattle.entry_ref.specs.Records.{Records}
 use Rattle.attr_images.specs.Postings.{list_form, postings_at, IsPostingList}
 use Rattle.attr_index.specs.Index.{Index, list_of}
 use Rattle.attr_scores.specs.declared.part.Part.{Part}

@@ -5,10 +5,10 @@ use Rattle.std.specs.Option.{unwrap_or}
 use Rattle.std.specs.Map.{lookup}
 use Rattle.list_facts.specs.Counting.{one_if}
 use Rattle.entry_ref.specs.References.{buffer_of}
-use Rattle.image_base.specs.declared.Image.{Image}
-use Rattle.image_base.specs.Images.{image_of, words_at}
-use Rattle.image_base.specs.Records.{Records, SameAt, AllThere, Among, pairs_of}
-use Rattle.image_base.proofs.Pairs.{pairs-same, words-among, there-among}
+use Rattle.entry_ref.specs.declared.images.Image.{Image}
+use Rattle.entry_ref.specs.Images.{image_of, words_at}
+use Rattle.entry_ref.specs.Records.{Records, SameAt, AllThere, Among, pairs_of}
+use Rattle.entry_ref.proofs.Pairs.{pairs-same, words-among, there-among}
 use Rattle.arena_api.specs.Works.{Tag}
 use Rattle.store_api.specs.Statuses.{Status, in_use, after_commit}
 use Rattle.store_api.specs.Ledgers.{Ledger, is_in, is_this}

@@ -1,6 +1,6 @@
 -- What was in use when a unit began, through its calls: of what a call makes of parts, that was of these parts.
 use Rattle.std.proofs.Common.{◌≡◌, ℕ, zero, suc, ◌<◌, List, [], ◌∷◌, true, true≢false, ⊎_elim, refl, sym, ◌∙◌, arith}
-use Rattle.image_base.specs.Records.{Records, Among}
+use Rattle.entry_ref.specs.Records.{Records, Among}
 use Rattle.store_api.specs.Ledgers.{Ledger}
 use Rattle.store_api.specs.Parts.{Part, Turns, count_in, uses}
 use Rattle.store_api.specs.Statuses.{in_use}

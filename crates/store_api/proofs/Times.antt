@@ -5,7 +5,7 @@ use Rattle.std.proofs.lemmas.Grind.{flat_map-append}
 use Rattle.std.proofs.lemmas.List.{take_more}
 use Rattle.std.specs.List.{flat_map, AllByRecursion, IsDistinct}
 use Rattle.list_facts.specs.Counting.{one_if}
-use Rattle.image_base.specs.Records.{Among}
+use Rattle.entry_ref.specs.Records.{Among}
 use Rattle.store_api.specs.Parts.{times, EachOnce}
 
 pub times-same : (r q : ℕ) (qs : List ℕ) → r ≡ q → times r (q ∷ qs) ≡ 1 + times r qs

@@ -2,9 +2,9 @@
 use Rattle.std.specs.Prelude.{◌≡◌, ◌≢◌, ◌⊎◌, ℕ, ◌+◌, ◌-◌, ◌*◌, ◌<◌, ◌≤◌, true, false, ◌&&◌, not, nat_eq, if◌then◌else◌, List, [], length, drop}
 use Rattle.std.specs.Prelude.{Option, None, Some}
 use Rattle.entry_ref.specs.References.{buffer_of}
-use Rattle.image_base.specs.declared.Image.{Image}
-use Rattle.image_base.specs.Places.{IsEntry}
-use Rattle.image_base.specs.Records.{Records, Among, with_words}
+use Rattle.entry_ref.specs.declared.images.Image.{Image}
+use Rattle.entry_ref.specs.Places.{IsEntry}
+use Rattle.entry_ref.specs.Records.{Records, Among, with_words}
 use Rattle.arena_api.specs.Works.{WorkView, Commits, Tag, active_width, free_count, oldest_of}
 use Rattle.arena_api.specs.Calls.{AddsCommit, IsLowestFree, handed_out, padded, published}
 use Rattle.arena_api.specs.Generations.{Advances, LetsGo, Reclaims, advanced, current, reclaimed, retired, freed_below, tag_now}

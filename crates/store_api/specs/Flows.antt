@@ -1,6 +1,6 @@
 -- What references come from, of those that were in use when the unit began.
 use Rattle.std.specs.Prelude.{◌≡◌, ℕ, true, List}
-use Rattle.image_base.specs.Records.{Among}
+use Rattle.entry_ref.specs.Records.{Among}
 use Rattle.store_api.specs.Ledgers.{Ledger}
 use Rattle.store_api.specs.Statuses.{in_use}
 

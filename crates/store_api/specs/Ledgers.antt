@@ -3,10 +3,10 @@ use Rattle.std.specs.Prelude.{◌≡◌, ℕ, zero, suc, ◌+◌, ◌-◌, ◌/�
 use Rattle.std.specs.Prelude.{[], ◌∷◌, length, Option, None, Some}
 use Rattle.std.specs.List.{list_any}
 use Rattle.entry_ref.specs.References.{buffer_of}
-use Rattle.image_base.specs.declared.Image.{Image}
-use Rattle.image_base.specs.Images.{words_at}
-use Rattle.image_base.specs.Places.{IsEntry}
-use Rattle.image_base.specs.Records.{Records}
+use Rattle.entry_ref.specs.declared.images.Image.{Image}
+use Rattle.entry_ref.specs.Images.{words_at}
+use Rattle.entry_ref.specs.Places.{IsEntry}
+use Rattle.entry_ref.specs.Records.{Records}
 use Rattle.arena_api.specs.Works.{WorkView, Buffer, Tag, active_width, oldest_of}
 use Rattle.arena_api.specs.Generations.{current}
 use Rattle.arena_api.specs.Calls.{IsKept}

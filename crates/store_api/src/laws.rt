@@ -1,9 +1,9 @@
 ghost use Rattle.std.specs.Prelude.{◌≡◌, ◌<◌, ◌≤◌, ◌*◌, ◌∷◌, [], ℕ, List, length, nat_eq, true, false};
 ghost use Rattle.entry_ref.specs.References.{buffer_of};
-ghost use Rattle.image_base.specs.Images.{image_of, words_at};
-ghost use Rattle.image_base.specs.Records.{Records, AllThere, Among};
+ghost use Rattle.entry_ref.specs.Images.{image_of, words_at};
+ghost use Rattle.entry_ref.specs.Records.{Records, AllThere, Among};
 ghost use Rattle.std.specs.List.{IsDistinct, AllByRecursion};
-ghost use Rattle.image_base.specs.Places.{IsEntry};
+ghost use Rattle.entry_ref.specs.Places.{IsEntry};
 ghost use Rattle.store_api.specs.Ledgers.{capacity, is_this};
 ghost use Rattle.store_api.specs.Calls.{Accepts, IsWhole, StoresCommit};
 ghost use Rattle.store_api.specs.Parts.{Part, After, Owns, OwnsAll, Turns, count_in};

@@ -3,8 +3,8 @@ ghost use Rattle.std.specs.Prelude.{IfSome, IfNone};
 ghost use Rattle.std.specs.List.{IsDistinct, All};
 ghost use Rattle.std.specs.Prelude.{nat_eq};
 ghost use Rattle.entry_ref.specs.References.{buffer_of};
-ghost use Rattle.image_base.specs.Images.{words_at};
-ghost use Rattle.image_base.specs.Records.{Records};
+ghost use Rattle.entry_ref.specs.Images.{words_at};
+ghost use Rattle.entry_ref.specs.Records.{Records};
 ghost use Rattle.arena_api.specs.Works.{WorkView, active_width, free_count, last_image};
 ghost use Rattle.arena_api.specs.Calls.{IsWithinLimits, IsInOrder, AddsCommit, FitsEntry, InNoCommit, next_image};
 ghost use Rattle.arena_api.specs.Generations.{IsQueue, current};
@@ -16,9 +16,8 @@ ghost use Rattle.store_api.specs.Calls.{GivesBack, MayGiveBack, Makes, Refuses, 
 ghost use Rattle.store_api.specs.Victims.{IsVictim, HasNoVictim};
 
 use arena_api::{Advance, Oldest};
-use entry_ref::EntryRef;
+use entry_ref::{EntryRef, Layout};
 use frozen_api::Frozen;
-use image_base::Layout;
 
 /// Why no entry was made.
 #[derive(Clone, Copy, Debug, PartialEq, Eq, Drop)]

@@ -2,8 +2,8 @@
 use Rattle.std.proofs.Common.{◌≡◌, ℕ, zero, suc, ◌+◌, ◌<◌, ◌≤◌, List, [], ◌∷◌, length, true, false, Option, Some, None, refl, sym, ap, subst, ◌∙◌, arith, inl, inr, cond, Bool, true≢false}
 use Rattle.std.proofs.lemmas.Bool.{eq-eqb, ne_eqb}
 use Rattle.entry_ref.specs.References.{buffer_of}
-use Rattle.image_base.specs.Images.{image_of, words_at}
-use Rattle.image_base.specs.Records.{Records, SameAt, AllThere, Among}
+use Rattle.entry_ref.specs.Images.{image_of, words_at}
+use Rattle.entry_ref.specs.Records.{Records, SameAt, AllThere, Among}
 use Rattle.node_turns.specs.OneNode.{node_reaches, IsNodeRecord}
 use Rattle.store_api.specs.Statuses.{in_use}
 use Rattle.store_api.specs.Ledgers.{Ledger, IsNew, IsSettled, is_this}

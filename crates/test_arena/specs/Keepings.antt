@@ -1,7 +1,7 @@
 -- What the keeper of a row's store knows of it.
 use Rattle.std.specs.Prelude.{◌≡◌, ℕ, zero, suc, false, true, List, [], ◌∷◌, Some}
 use Rattle.entry_ref.specs.References.{buffer_of}
-use Rattle.image_base.specs.Records.{Records}
+use Rattle.entry_ref.specs.Records.{Records}
 use Rattle.store_api.specs.Ledgers.{Ledger, is_this}
 use Rattle.store_api.specs.Parts.{OwnsAll, entries}
 use Rattle.node_turns.specs.OneNode.{IsNodeRecord}

@@ -1,7 +1,7 @@
 //! Which records attributes reach in which buffer, by what they are.
 use attr_types::{Field, Kind, ValueType};
 use check_trees::{CheckFault, Keys, check_tree};
-use image_base::{word_in, words_at};
+use entry_ref::{word_in, words_at};
 use std::alloc::{AllocError, Global};
 use std::collections::BTreeMap;
 use tree_images::FIRST_VALUE;

@@ -1,6 +1,6 @@
 //! Records as they are read: each word that was read is kept.
 ghost use Rattle.std.specs.Prelude.{◌≡◌, ◌<◌, ◌≤◌, ◌+◌, ◌^◌, length, take, drop};
-ghost use Rattle.image_base.specs.Records.{HasWord, word_at};
+ghost use Rattle.entry_ref.specs.Records.{HasWord, word_at};
 
 use crate::words::Words;
 use entry_ref::EntryRef;

@@ -4,7 +4,7 @@ ghost use Rattle.arena_api.specs.Calls.{IsFresh};
 ghost use Rattle.attr_images.specs.Images.{IsLawfulImage};
 ghost use Rattle.attr_images.specs.Shapes.{shape_of, types_of};
 ghost use Rattle.attr_types.specs.declared.field.TheConstants.{MOST_FIELDS};
-ghost use Rattle.image_base.specs.Images.{words_at};
+ghost use Rattle.entry_ref.specs.Images.{words_at};
 ghost use Rattle.word_arena.specs.Knows.{view_of};
 ghost use Rattle.word_arena.specs.Ruled.{seen_image, reader_of, writer_of};
 

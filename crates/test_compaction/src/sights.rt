@@ -1,7 +1,7 @@
 //! What readers read under guards that they kept over compactions, beside what was stored.
 use crate::watch::{Seen, Watch};
 use crate::words::Words;
-use image_base::{word_in, words_at};
+use entry_ref::{word_in, words_at};
 use std::collections::BTreeMap;
 
 /// What a reader read under its guard of a commit, before compactions or behind them.

@@ -6,7 +6,7 @@ use attr_plain::PlainTable;
 use attr_types::{Field, FieldItems, Fields, Item, Items, Kind, MOST_FIELDS, Value};
 use check_images::check_image;
 use check_trees::{CheckFault, Keys, check_tree, stored_long, stored_text};
-use image_base::{word_in, words_at};
+use entry_ref::{word_in, words_at};
 use std::alloc::{AllocError, Global};
 use std::collections::BTreeMap;
 

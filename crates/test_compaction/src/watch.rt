@@ -6,7 +6,7 @@ use crate::table::{is_lawful, reads_as};
 use attr_plain::PlainTable;
 use attr_types::Fields;
 use check_trees::CheckFault;
-use image_base::{word_in, words_at};
+use entry_ref::{word_in, words_at};
 use std::alloc::{AllocError, Global};
 use std::collections::BTreeMap;
 

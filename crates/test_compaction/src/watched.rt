@@ -1,9 +1,9 @@
 //! A work whose commits are watched as they are made.
 ghost use Rattle.std.specs.Prelude.{◌≡◌, ◌≢◌, ◌<◌, ◌≤◌, ◌+◌, ◌^◌, ℕ, length, take, drop};
 ghost use Rattle.entry_ref.specs.References.{buffer_of};
-ghost use Rattle.image_base.specs.Images.{words_at};
-ghost use Rattle.image_base.specs.Places.{IsEntry};
-ghost use Rattle.image_base.specs.Records.{HasWord, word_at, with_words};
+ghost use Rattle.entry_ref.specs.Images.{words_at};
+ghost use Rattle.entry_ref.specs.Places.{IsEntry};
+ghost use Rattle.entry_ref.specs.Records.{HasWord, word_at, with_words};
 ghost use Rattle.arena_api.specs.Works.{active_width};
 ghost use Rattle.arena_api.specs.Calls.{MayStore, InNoCommit, AddsCommit, with_stored, padded, next_image, published};
 

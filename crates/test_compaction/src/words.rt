@@ -1,5 +1,5 @@
 //! Words by the references of their records, as they were stored or as they were read.
-use image_base::{word_in, words_at};
+use entry_ref::{word_in, words_at};
 use std::alloc::{AllocError, Global};
 use std::collections::BTreeMap;
 

@@ -1,6 +1,6 @@
 -- The empty dictionary, within a unit.
 use Rattle.std.proofs.Common.{◌≡◌, ℕ, zero, suc, true, ap, arith}
-use Rattle.image_base.specs.Records.{Records}
+use Rattle.entry_ref.specs.Records.{Records}
 use Rattle.store_api.specs.Ledgers.{Ledger}
 use Rattle.store_api.specs.Parts.{times}
 use Rattle.attr_types.specs.declared.kind.ValueType.{ValueType}

@@ -1,6 +1,6 @@
 -- A dictionary with its lists in a store, within a unit.
 use Rattle.std.specs.Prelude.{◌≡◌, ℕ, [], ◌∷◌, true}
-use Rattle.image_base.specs.Records.{Records}
+use Rattle.entry_ref.specs.Records.{Records}
 use Rattle.store_api.specs.Ledgers.{Ledger}
 use Rattle.store_api.specs.Parts.{Owns}
 use Rattle.attr_types.specs.declared.kind.ValueType.{ValueType}

@@ -1,6 +1,6 @@
 -- The empty map, within a unit.
 use Rattle.std.proofs.Common.{◌≡◌, ℕ, zero, suc, true, arith}
-use Rattle.image_base.specs.Records.{Records}
+use Rattle.entry_ref.specs.Records.{Records}
 use Rattle.store_api.specs.Ledgers.{Ledger}
 use Rattle.doc_vector.proofs.DocumentLemmas.{map_nothing}
 use Rattle.test_documents.specs.Holding.{HoldsMap}

@@ -3,8 +3,8 @@ use Rattle.std.proofs.Common.{◌≡◌, ◌⊎◌, ℕ, zero, suc, ◌+◌, ◌
 use Rattle.std.specs.Prelude.{◌↔◌}
 use Rattle.std.proofs.Math.Nat.{pos_of_div-pos}
 use Rattle.entry_ref.specs.References.{buffer_of, buffer_limit}
-use Rattle.image_base.specs.Images.{image_of}
-use Rattle.image_base.specs.Records.{Records, Among}
+use Rattle.entry_ref.specs.Images.{image_of}
+use Rattle.entry_ref.specs.Records.{Records, Among}
 use Rattle.arena_api.specs.Works.{active_width}
 use Rattle.arena_api.specs.Calls.{FitsEntry}
 use Rattle.mem_work.specs.OneRecord.{one_reaches, IsOneRecord}

@@ -1,8 +1,7 @@
 ghost use Rattle.std.specs.Prelude.{◌<◌};
 ghost use Rattle.entry_ref.specs.References.{buffer_limit, offset_limit};
 
-use entry_ref::EntryRef;
-use image_base::place_of;
+use entry_ref::{EntryRef, place_of};
 
 /// Whether the reference of an offset in a buffer is this number, and tells both.
 fn is_reference<const OFFSET_BITS: u32>(offset: u32, buffer: u32, raw: u32) -> bool

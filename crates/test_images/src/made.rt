@@ -2,7 +2,7 @@
 ghost use Rattle.std.specs.Prelude.{◌≡◌, length, IfOk};
 
 use attr_types::{Field, Fields, Kind, Name, ValueType};
-use image_base::word_in;
+use entry_ref::word_in;
 use std::alloc::{AllocError, Global};
 use std::collections::BTreeMap;
 

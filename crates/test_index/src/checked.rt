@@ -4,7 +4,7 @@ use crate::{new_memory, noted_lists};
 use attr_types::{Value, ValueType};
 use check_trees::{CheckFault, Keys, check_tree};
 use entry_store::EntryStore;
-use image_base::words_at;
+use entry_ref::words_at;
 use mem_work::{MemWork, OneRecord};
 use noted_work::NotedWork;
 use std::alloc::{AllocError, Global};

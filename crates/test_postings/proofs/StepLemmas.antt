@@ -10,7 +10,7 @@ use Rattle.std.specs.Ordering.{nat_cmp, match_ordering, is_eq, MatchOrdering}
 use Rattle.tree_images.proofs.TreeLemmas.{root_of_many}
 use Rattle.array_store.proofs.ArrayLemmas.{list_array, item_there}
 use Rattle.attr_images.specs.Postings.{short, tree, list_form, IsPostingList}
-use Rattle.image_base.specs.Records.{Records}
+use Rattle.entry_ref.specs.Records.{Records}
 use Rattle.tree_images.specs.Trees.{IsRootNode}
 use Rattle.tree_search.proofs.PlaceLemmas.{leads-root, step-size}
 use Rattle.posting_store.specs.Lists.{list_at, IsList, IsPlain}

@@ -1,7 +1,7 @@
 -- The children of a node that was read.
 use Rattle.std.proofs.Common.{◌≡◌, ℕ, suc, ◌<◌, ◌≤◌, length, get_or, sym, subst, arith}
 use Rattle.list_facts.proofs.Each.{AllByRecursion-at}
-use Rattle.image_base.specs.Records.{Records}
+use Rattle.entry_ref.specs.Records.{Records}
 use Rattle.tree_images.specs.Nodes.{node_values}
 use Rattle.tree_images.specs.Trees.{IsNode, IsRootNode, root_level, root_least}
 use Rattle.tree_node.proofs.ChildLemmas.{IsNode-lower}

@@ -1,7 +1,7 @@
 -- The empty tree is one by tens.
 use Rattle.std.proofs.Common.{◌≡◌, ℕ, zero, suc, true, arith}
 use Rattle.std.specs.List.Sorted.{IsStrictlySortedBy}
-use Rattle.image_base.specs.Records.{Records}
+use Rattle.entry_ref.specs.Records.{Records}
 use Rattle.store_api.specs.Ledgers.{Ledger}
 use Rattle.test_trees.specs.Tens.{HoldsTens}
 

@@ -4,10 +4,9 @@ ghost use Rattle.entry_ref.specs.References.{offset_limit, buffer_limit};
 ghost use Rattle.tree_images.specs.Trees.{IsNode, IsRootNode};
 
 use check_trees::{Keys, check_tree};
-use entry_ref::EntryRef;
+use entry_ref::{EntryRef, word_in, words_at};
 use entry_store::EntryStore;
 use frozen_api::Frozen;
-use image_base::{word_in, words_at};
 use mem_work::MemWork;
 use number_tree::{NumberTree, TreeLayout};
 use std::alloc::{AllocError, Global};

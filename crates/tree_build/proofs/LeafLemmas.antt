@@ -1,7 +1,7 @@
 -- A tree of one leaf.
 use Rattle.std.proofs.Common.{◌≡◌, ◌↔◌, ℕ, ◌<◌, List, [], ◌∷◌, length, true, ap, ◌∙◌, arith}
 use Rattle.std.specs.List.{zip}
-use Rattle.image_base.specs.Records.{Records}
+use Rattle.entry_ref.specs.Records.{Records}
 use Rattle.store_api.specs.Statuses.{has_record}
 use Rattle.store_api.specs.Ledgers.{Ledger}
 use Rattle.store_api.specs.Parts.{times, Owns, Turns}

@@ -1,7 +1,7 @@
 -- A list as a tree of even groups, and one level of it.
 use Rattle.std.specs.Prelude.{◌≡◌, ℕ, zero, suc, ◌+◌, ◌*◌, ◌/◌, ◌%◌, ◌<◌, List, [], ◌∷◌, ◌++◌, min, nat_lt, if◌then◌else◌}
 use Rattle.std.specs.Int.{div_ceil}
-use Rattle.image_base.specs.Records.{Records}
+use Rattle.entry_ref.specs.Records.{Records}
 use Rattle.store_api.specs.Ledgers.{Ledger}
 use Rattle.store_api.specs.Parts.{times, uses}
 use Rattle.tree_images.specs.Trees.{tree_pairs, tree_nodes, IsRootNode}

@@ -7,7 +7,7 @@ use Rattle.std.specs.List.{flat_map, AllByRecursion, IsDistinct}
 use Rattle.std.specs.List.Sorted.{IsStrictlySortedBy}
 use Rattle.std.specs.Ordering.{ordering_reverse}
 use Rattle.list_facts.proofs.Each.{AllByRecursion-append, AllByRecursion-left}
-use Rattle.image_base.specs.Records.{Records}
+use Rattle.entry_ref.specs.Records.{Records}
 use Rattle.tree_images.proofs.TreeLemmas.{IsNode-form, pairs_many}
 use Rattle.tree_images.specs.Nodes.{level_of, node_values}
 use Rattle.tree_images.specs.Trees.{pairs_below, nodes_below, IsNode, root_level, root_least, tree_pairs, tree_nodes, IsTree}

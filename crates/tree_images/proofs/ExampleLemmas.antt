@@ -5,7 +5,7 @@ use Rattle.std.specs.List.{range_with_len, AllByRecursion}
 use Rattle.std.specs.List.Sorted.{IsStrictlySortedBy}
 use Rattle.std.specs.Ordering.{nat_cmp}
 use borrow.Author.Tests.{ltb-true, leb-true}
-use Rattle.image_base.specs.Images.{words_at}
+use Rattle.entry_ref.specs.Images.{words_at}
 use Rattle.tree_images.proofs.NodeLemmas.{node_formed}
 use Rattle.tree_images.specs.Examples.{two_leaves, TwoLeavesAreATree, TwoLeavesRead}
 use Rattle.tree_images.specs.Nodes.{IsNodeForm}

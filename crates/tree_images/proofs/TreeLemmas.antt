@@ -7,7 +7,7 @@ use Rattle.std.specs.List.{flat_map, AllByRecursion, zip}
 use Rattle.std.specs.Ordering.{nat_cmp}
 use Rattle.list_facts.proofs.Pairs.{length-zip_even}
 use Rattle.list_facts.proofs.Each.{AllByRecursion-weaker}
-use Rattle.image_base.specs.Records.{Records, SameAt}
+use Rattle.entry_ref.specs.Records.{Records, SameAt}
 use Rattle.tree_images.specs.Nodes.{level_of, used_of, count_of, node_keys, node_values, IsNodeForm}
 use Rattle.tree_images.specs.ProofsForTrees.{nodes_there, tree_pairs-same, IsRootNode-same}
 use Rattle.tree_images.specs.Trees.{pairs_below, nodes_below, IsNode, root_level, root_least, tree_pairs, tree_nodes, IsRootNode, IsTree, by_number, Keeps, last_key}

@@ -2,8 +2,8 @@
 use Rattle.std.specs.Prelude.{◌≡◌, [], ◌∷◌, ◌++◌, replicate}
 use Rattle.std.specs.List.{range_with_len, zip}
 use Rattle.std.specs.Ordering.{nat_cmp}
-use Rattle.image_base.specs.Images.{words_at}
-use Rattle.image_base.specs.declared.Image.{Image}
+use Rattle.entry_ref.specs.Images.{words_at}
+use Rattle.entry_ref.specs.declared.images.Image.{Image}
 use Rattle.tree_images.specs.Nodes.{node_words}
 use Rattle.tree_images.specs.Trees.{tree_pairs, by_number, IsTree}
 

@@ -2,7 +2,7 @@
 use Rattle.std.specs.Prelude.{◌≡◌, ℕ, ◌*◌, ◌<◌, ◌≤◌, ◌^◌, List, length, nat_eq, slice_index, map}
 use Rattle.std.specs.List.{IsDistinct}
 use Rattle.std.specs.Ordering.{nat_cmp}
-use Rattle.image_base.specs.Records.{Records, SameAt}
+use Rattle.entry_ref.specs.Records.{Records, SameAt}
 use Rattle.tree_images.specs.declared.TheConstants.{MOST_SLOTS, LEAST_SLOTS}
 use Rattle.tree_images.specs.Nodes.{level_of, count_of, node_keys, node_values, node_words, IsNodeForm}
 use Rattle.tree_images.specs.Trees.{tree_pairs, tree_nodes, by_number, IsRootNode, IsTree, Keeps}

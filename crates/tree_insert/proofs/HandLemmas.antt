@@ -2,7 +2,7 @@
 use Rattle.std.proofs.Common.{◌≡◌, ℕ, suc, ◌+◌, ◌<◌, ◌≤◌, Bool, true, false, List, ◌∷◌, ◌++◌, length, take, drop, insert, refl, sym, ap, ◌∙◌, arith, if◌then◌else◌}
 use Rattle.std.specs.List.{zip}
 use Rattle.std.specs.declared.cmp.Ordering.{Ordering}
-use Rattle.image_base.specs.Records.{Records}
+use Rattle.entry_ref.specs.Records.{Records}
 use Rattle.tree_images.specs.Nodes.{level_of, used_of, count_of, node_keys, node_values, IsNodeForm}
 use Rattle.key_order.specs.Pairs.{put}
 use Rattle.tree_node.specs.Places.{IsSlot, IsFound, IsLacking}

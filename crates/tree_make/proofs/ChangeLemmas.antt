@@ -2,7 +2,7 @@
 use Rattle.std.proofs.Common.{◌≡◌, ◌↔◌, ℕ, zero, suc, ◌<◌, List, [], ◌∷◌, length, true, refl, ◌∙◌, arith}
 use Rattle.std.specs.declared.cmp.Ordering.{Ordering}
 use Rattle.std.specs.List.{AllByRecursion}
-use Rattle.image_base.specs.Records.{Records, SameAt}
+use Rattle.entry_ref.specs.Records.{Records, SameAt}
 use Rattle.key_order.specs.Keys.{AllReadable, NoneReadsNodes, Ascends, KeepsOthers, IsKeyedTree}
 use Rattle.key_order.proofs.KeyLemmas.{keyed-from}
 use Rattle.store_api.specs.Statuses.{has_record}

@@ -2,7 +2,7 @@
 use Rattle.std.proofs.Common.{◌^◌, ◌≡◌, ◌≢◌, ℕ, zero, suc, ◌+◌, ◌<◌, ◌≤◌, cond, ◌-◌, List, [], ◌∷◌, ◌++◌, length, map, replicate, refl, sym, ap, subst, ◌∙◌, arith, Result, Ok, Err}
 use Rattle.std.proofs.lemmas.Bool.{eq-eqb, ne_eqb}
 use Rattle.std.specs.List.{zip, flat_map, AllByRecursion}
-use Rattle.image_base.specs.Records.{Records, with_words}
+use Rattle.entry_ref.specs.Records.{Records, with_words}
 use Rattle.tree_images.specs.Nodes.{count_of, node_keys, node_values, node_words, IsNodeForm}
 use Rattle.tree_images.specs.Trees.{pairs_below, nodes_below, last_key, IsNode, Keeps}
 use Rattle.tree_images.proofs.NodeLemmas.{node_keys-words, node_values-words, node_formed}

@@ -1,7 +1,7 @@
 -- Nodes made one after another.
 use Rattle.std.proofs.Common.{◌≡◌, ℕ, ◌+◌, ◌<◌, ◌≤◌, true, length, refl, sym, ap, subst, ◌∙◌, arith, Result, Ok, Err, IsErrAnd}
 use Rattle.std.specs.Prelude.{IfErr}
-use Rattle.image_base.specs.Records.{Records}
+use Rattle.entry_ref.specs.Records.{Records}
 use Rattle.arena_api.specs.Works.{Sizes}
 use Rattle.store_api.specs.Statuses.{in_use}
 use Rattle.store_api.specs.Ledgers.{Ledger, capacity}

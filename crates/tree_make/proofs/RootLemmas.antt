@@ -4,7 +4,7 @@ use Rattle.std.proofs.Math.Nat.{pos_of_div-pos}
 use Rattle.std.proofs.lemmas.List.{nil_from_length}
 use Rattle.std.specs.List.{zip, AllByRecursion}
 use Rattle.entry_ref.specs.References.{buffer_limit, offset_of}
-use Rattle.image_base.specs.Records.{Records}
+use Rattle.entry_ref.specs.Records.{Records}
 use Rattle.tree_images.specs.Trees.{pairs_below, nodes_below, IsNode, root_least}
 use Rattle.store_api.specs.Ledgers.{Ledger}
 use Rattle.tree_node.specs.Slots.{slot_pairs, slot_nodes, IsInHand}

@@ -1,6 +1,6 @@
 -- What is owned is in use: a record of a part, and the root of a tree.
 use Rattle.std.proofs.Common.{◌≡◌, ℕ, zero, suc, ◌<◌, [], ◌∷◌, length, inl, refl, arith}
-use Rattle.image_base.specs.Records.{Among, Records}
+use Rattle.entry_ref.specs.Records.{Among, Records}
 use Rattle.store_api.specs.Calls.{IsUsedWidth}
 use Rattle.store_api.specs.Ledgers.{Ledger}
 use Rattle.store_api.specs.Parts.{Owns, Part}

@@ -1,6 +1,6 @@
 -- What a change of a tree leaves of a store.
 use Rattle.std.specs.Prelude.{◌≡◌, ℕ, zero, suc, ◌+◌, ◌<◌, ◌≤◌, List, [], ◌∷◌}
-use Rattle.image_base.specs.Records.{Records}
+use Rattle.entry_ref.specs.Records.{Records}
 use Rattle.tree_images.specs.ProofsForTrees.{tree_nodes-same}
 use Rattle.tree_images.specs.Trees.{root_level, tree_pairs, tree_nodes, IsRootNode}
 use Rattle.store_api.specs.Ledgers.{Ledger}

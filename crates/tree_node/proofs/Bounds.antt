@@ -5,7 +5,7 @@ use Rattle.std.specs.Cmp.{IsTotalOrder}
 use Rattle.std.specs.List.{zip, flat_map, All, AllByRecursion, IsDistinct}
 use Rattle.std.specs.declared.cmp.Ordering.{Ordering}
 use Rattle.list_facts.proofs.Each.{AllByRecursion-append}
-use Rattle.image_base.specs.Records.{Records}
+use Rattle.entry_ref.specs.Records.{Records}
 use Rattle.tree_images.proofs.DistinctLemmas.{tree_nodes_distinct}
 use Rattle.tree_images.proofs.TreeLemmas.{length-node_keys, pairs_many}
 use Rattle.tree_images.specs.Nodes.{node_keys, node_values}

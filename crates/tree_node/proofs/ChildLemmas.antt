@@ -8,7 +8,7 @@ use Rattle.std.specs.List.{zip, flat_map, AllByRecursion}
 use Rattle.std.specs.List.Sorted.{IsStrictlySortedBy}
 use Rattle.list_facts.proofs.Pairs.{length-zip_even}
 use Rattle.list_facts.proofs.Each.{AllByRecursion-at}
-use Rattle.image_base.specs.Records.{Records, HasWord, word_at}
+use Rattle.entry_ref.specs.Records.{Records, HasWord, word_at}
 use Rattle.tree_images.specs.Nodes.{used_of, node_keys, node_values, IsNodeForm}
 use Rattle.tree_images.specs.Trees.{pairs_below, last_key, IsNode, HasLastKeys}
 use Rattle.tree_images.proofs.TreeLemmas.{IsNode-form, length-node_keys, length-node_values, leaf_pairs}

@@ -3,7 +3,7 @@ use Rattle.std.proofs.Common.{◌≡◌, ℕ, zero, suc, ◌<◌, List, [], ◌�
 use Rattle.std.specs.List.{zip, flat_map, AllByRecursion}
 use Rattle.std.proofs.lemmas.List.{get_or-map}
 use Rattle.list_facts.proofs.Each.{AllByRecursion-left, AllByRecursion-right}
-use Rattle.image_base.specs.Records.{Records}
+use Rattle.entry_ref.specs.Records.{Records}
 use Rattle.tree_images.specs.Trees.{pairs_below, last_key, IsNode}
 use Rattle.tree_node.specs.Slots.{slot_pairs, HaveChildren, IsInHand}
 use Rattle.tree_node.proofs.ChildLemmas.{All-last, pairs-some}

@@ -5,7 +5,7 @@ use Rattle.std.proofs.lemmas.Grind.{flat_map-append}
 use Rattle.std.specs.List.{zip, flat_map, AllByRecursion}
 use Rattle.list_facts.proofs.Pairs.{zip-append}
 use Rattle.list_facts.proofs.Each.{AllByRecursion-append, AllByRecursion-left, AllByRecursion-right, AllByRecursion-weaker}
-use Rattle.image_base.specs.Records.{Records}
+use Rattle.entry_ref.specs.Records.{Records}
 use Rattle.tree_images.specs.ProofsForTrees.{pairs-same, nodes-same, IsNode-same}
 use Rattle.tree_images.specs.Nodes.{node_keys, node_values}
 use Rattle.tree_images.specs.Trees.{pairs_below, nodes_below, last_key, IsNode, Keeps}

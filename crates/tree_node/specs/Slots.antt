@@ -1,7 +1,7 @@
 -- Slots: keys and values that a node of some level could hold, over records. A leaf has level 0.
 use Rattle.std.specs.Prelude.{◌≡◌, ℕ, zero, suc, List, [], length, map}
 use Rattle.std.specs.List.{zip, flat_map, AllByRecursion}
-use Rattle.image_base.specs.Records.{Records}
+use Rattle.entry_ref.specs.Records.{Records}
 use Rattle.tree_images.specs.Trees.{pairs_below, nodes_below, last_key, IsNode}
 use Rattle.tree_images.specs.declared.TheConstants.{LEAST_SLOTS}
 

@@ -1,5 +1,5 @@
 ghost use Rattle.std.specs.Prelude.{◌≡◌, ◌<◌, ◌≤◌, length};
-ghost use Rattle.image_base.specs.Records.{HasWord};
+ghost use Rattle.entry_ref.specs.Records.{HasWord};
 ghost use Rattle.tree_images.specs.Nodes.{level_of, used_of, node_keys, node_values};
 
 use crate::slots::{Slots, append};

@@ -1,6 +1,6 @@
 ghost use Rattle.std.specs.Prelude.{◌≡◌, ◌<◌, ◌+◌, length, true, false};
 ghost use Rattle.std.specs.List.{AllByRecursion};
-ghost use Rattle.image_base.specs.Records.{HasWord, word_at};
+ghost use Rattle.entry_ref.specs.Records.{HasWord, word_at};
 ghost use Rattle.tree_images.specs.Nodes.{level_of, used_of, node_keys};
 ghost use Rattle.tree_images.specs.Trees.{pairs_below, IsNode};
 ghost use Rattle.key_order.specs.Keys.{AllReadable};

@@ -1,6 +1,6 @@
 -- Nodes that were read as slots.
 use Rattle.std.proofs.Common.{◌≡◌, ℕ, ◌-◌, ◌<◌, List, length, get_or, sym, subst, ◌∙◌, arith}
-use Rattle.image_base.specs.Records.{Records}
+use Rattle.entry_ref.specs.Records.{Records}
 use Rattle.tree_images.proofs.TreeLemmas.{IsNode-form}
 use Rattle.tree_images.specs.Nodes.{level_of, node_keys, node_values}
 use Rattle.tree_images.specs.Trees.{IsNode}

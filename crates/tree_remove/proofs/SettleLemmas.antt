@@ -3,7 +3,7 @@ use Rattle.std.proofs.Common.{◌≡◌, ℕ, zero, suc, ◌+◌, ◌<◌, ◌�
 use Rattle.std.proofs.lemmas.Bool.{cases_lt}
 use Rattle.std.specs.List.{remove}
 use Rattle.std.proofs.lemmas.List.{set_split}
-use Rattle.image_base.specs.Records.{Records}
+use Rattle.entry_ref.specs.Records.{Records}
 use Rattle.tree_images.specs.Trees.{pairs_below, last_key, Keeps}
 use Rattle.store_api.specs.Ledgers.{Ledger}
 use Rattle.tree_node.proofs.SlotLemmas.{slot_pairs-append, slot_nodes-append, hand-right, slot_pairs-kept, slot_nodes-kept}

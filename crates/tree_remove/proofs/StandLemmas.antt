@@ -1,6 +1,6 @@
 -- Nodes made of slots stand for what is below the slots.
 use Rattle.std.proofs.Common.{◌≡◌, ℕ, suc, ◌≤◌, List, [], ◌∷◌, ◌++◌, length, ap, ◌∙◌, arith, length-append}
-use Rattle.image_base.specs.Records.{Records}
+use Rattle.entry_ref.specs.Records.{Records}
 use Rattle.tree_images.specs.Trees.{pairs_below, last_key}
 use Rattle.store_api.specs.Ledgers.{Ledger}
 use Rattle.store_api.proofs.Times.{times-append}

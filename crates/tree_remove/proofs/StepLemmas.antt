@@ -8,7 +8,7 @@ use Rattle.std.specs.List.{zip, flat_map, remove, AllByRecursion}
 use Rattle.std.specs.declared.cmp.Ordering.{Ordering}
 use Rattle.std.specs.declared.cmp.Ordering.TheVariants.{Less, Equal, Greater}
 use Rattle.list_facts.proofs.Each.{AllByRecursion-at}
-use Rattle.image_base.specs.Records.{Records}
+use Rattle.entry_ref.specs.Records.{Records}
 use Rattle.tree_images.proofs.TreeLemmas.{IsNode-form, IsNode-count}
 use Rattle.tree_node.proofs.ReadLemmas.{node-even}
 use Rattle.tree_node.proofs.ChildLemmas.{keys-length, pairs-some}

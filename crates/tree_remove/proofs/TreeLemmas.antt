@@ -2,7 +2,7 @@
 use Rattle.std.proofs.Common.{◌≡◌, ℕ, ◌<◌, ◌≤◌, List, [], length, sym, ap, ◌∙◌, arith, ◌^◌}
 use Rattle.std.specs.Prelude.{IsSome}
 use Rattle.std.specs.declared.cmp.Ordering.{Ordering}
-use Rattle.image_base.specs.Records.{Records}
+use Rattle.entry_ref.specs.Records.{Records}
 use Rattle.tree_images.proofs.TreeLemmas.{root_least-above, IsNode-form, IsNode-count}
 use Rattle.tree_images.specs.Trees.{pairs_below, IsNode, root_level, root_least, tree_pairs, IsTree}
 use Rattle.key_order.proofs.PairLemmas.{length-take_out}

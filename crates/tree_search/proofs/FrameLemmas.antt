@@ -1,7 +1,7 @@
 -- A place stays where the records of the tree's nodes stay.
 use Rattle.std.proofs.Common.{◌≡◌, ℕ, zero, suc, ◌+◌, ◌<◌, min, List, [], ◌∷◌, ◌++◌, length, get_or, drop, refl, sym, ap, subst, ◌∙◌, arith, ltb, ltb-true, ltb-false, Bool, true, false}
 use Rattle.std.specs.List.{flat_map}
-use Rattle.image_base.specs.Records.{Records, SameAt}
+use Rattle.entry_ref.specs.Records.{Records, SameAt}
 use Rattle.tree_images.specs.Nodes.{level_of, used_of, node_values}
 use Rattle.tree_images.specs.ProofsForTrees.{SameAt-left, SameAt-right, flat_map-same, pairs-same, node-same, IsRootNode-same}
 use Rattle.tree_images.specs.Trees.{pairs_below, nodes_below, root_level, tree_nodes, IsNode}

@@ -5,7 +5,7 @@ use Rattle.std.proofs.lemmas.Map.Made.{keys_of-zip}
 use Rattle.std.specs.List.{flat_map, AllByRecursion}
 use Rattle.std.specs.Map.{keys_of}
 use Rattle.tree_images.proofs.TreeLemmas.{leaf_pairs}
-use Rattle.image_base.specs.Records.{Records, word_at}
+use Rattle.entry_ref.specs.Records.{Records, word_at}
 use Rattle.tree_images.specs.Nodes.{used_of, node_keys, node_values}
 use Rattle.tree_images.specs.Trees.{pairs_below, IsNode}
 use Rattle.tree_node.proofs.ChildLemmas.{IsNode-lower, child-node, child-all, children, get_or-node_values, values-size}

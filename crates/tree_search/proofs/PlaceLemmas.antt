@@ -2,7 +2,7 @@
 use Rattle.std.proofs.Common.{append_assoc, ◌≡◌, ◌≢◌, ℕ, zero, suc, ◌+◌, ◌-◌, ◌<◌, ◌≤◌, List, [], ◌∷◌, ◌++◌, length, get_or, drop, refl, sym, ap, subst, ◌∙◌, arith, if◌then◌else◌, nat_lt, lt-ltb, le-ltb, leb, leb-true}
 use Rattle.std.proofs.Common.{leb-false, IsTrue, Bool, true, false}
 use Rattle.std.specs.List.{flat_map, AllByRecursion}
-use Rattle.image_base.specs.Records.{Records, word_at}
+use Rattle.entry_ref.specs.Records.{Records, word_at}
 use Rattle.tree_images.specs.Nodes.{level_of, used_of, count_of, node_values}
 use Rattle.tree_images.specs.Trees.{pairs_below, root_level, root_least, tree_pairs, IsNode, IsRootNode}
 use Rattle.tree_images.proofs.TreeLemmas.{IsNode-form}

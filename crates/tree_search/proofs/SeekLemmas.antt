@@ -6,7 +6,7 @@ use Rattle.std.specs.declared.cmp.Ordering.{Ordering}
 use Rattle.std.specs.declared.cmp.Ordering.TheVariants.{Less, Equal, Greater}
 use Rattle.std.specs.List.{zip, flat_map, AllByRecursion}
 use Rattle.std.specs.List.Sorted.{IsStrictlySortedBy}
-use Rattle.image_base.specs.Records.{Records, word_at}
+use Rattle.entry_ref.specs.Records.{Records, word_at}
 use Rattle.tree_images.specs.Nodes.{level_of, used_of, node_keys, node_values}
 use Rattle.tree_images.specs.Trees.{pairs_below, last_key, tree_pairs, IsNode, IsRootNode}
 use Rattle.tree_images.proofs.TreeLemmas.{IsNode-form, length-node_keys, leaf_pairs}

@@ -1,7 +1,7 @@
 -- Places in the pairs of a tree.
 use Rattle.std.specs.Prelude.{◌≡◌, ℕ, suc, ◌+◌, ◌<◌, List, [], ◌∷◌, ◌++◌, drop, nat_lt, if◌then◌else◌}
 use Rattle.std.specs.List.{flat_map}
-use Rattle.image_base.specs.Records.{Records, word_at}
+use Rattle.entry_ref.specs.Records.{Records, word_at}
 use Rattle.tree_images.specs.Nodes.{level_of, used_of, node_values}
 use Rattle.tree_images.specs.Trees.{pairs_below, root_level, IsRootNode}
 use Rattle.tree_search.specs.Steps.{Step}

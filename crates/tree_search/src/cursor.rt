@@ -1,5 +1,5 @@
 ghost use Rattle.std.specs.Prelude.{◌≡◌, ◌↔◌, ◌<◌, ◌++◌, ℕ, [], drop, replicate, IsTrue};
-ghost use Rattle.image_base.specs.Records.{Records};
+ghost use Rattle.entry_ref.specs.Records.{Records};
 ghost use Rattle.tree_images.specs.Nodes.{level_of};
 ghost use Rattle.tree_images.specs.Trees.{pairs_below, tree_pairs, IsRootNode, IsTree};
 ghost use Rattle.key_order.specs.Keys.{AllReadable, seen_by};

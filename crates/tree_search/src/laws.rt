@@ -1,7 +1,7 @@
 ghost use Rattle.std.specs.Prelude.{◌≡◌, ℕ, List, filter, find, not};
 ghost use Rattle.std.specs.Option.{option_map};
 ghost use Rattle.std.specs.Ordering.{is_lt, is_eq, is_gt};
-ghost use Rattle.image_base.specs.Records.{Records, SameAt};
+ghost use Rattle.entry_ref.specs.Records.{Records, SameAt};
 ghost use Rattle.tree_images.specs.Trees.{tree_nodes};
 ghost use Rattle.key_order.specs.Keys.{Ascends, seen_by};
 ghost use Rattle.key_order.specs.Pairs.{lookup, seek};

@@ -5,7 +5,7 @@ use Rattle.std.proofs.lemmas.List.{get_or-set_other, get_or-set_same, take-set-l
 use Rattle.std.specs.declared.cmp.Ordering.{Ordering}
 use Rattle.std.specs.List.{flat_map, AllByRecursion}
 use Rattle.list_facts.proofs.Each.{AllByRecursion-at, AllByRecursion-weaker}
-use Rattle.image_base.specs.Records.{Records}
+use Rattle.entry_ref.specs.Records.{Records}
 use Rattle.store_api.specs.Parts.{times}
 use Rattle.store_api.proofs.Times.{times-append}
 use Rattle.tree_images.specs.Nodes.{count_of, used_of, node_keys, node_values, IsNodeForm}

@@ -3,7 +3,7 @@ use Rattle.std.proofs.Common.{◌≡◌, ◌≢◌, inl, inr, ⊎_elim, ℕ, zer
 use Rattle.std.specs.declared.cmp.Ordering.{Ordering}
 use Rattle.std.specs.declared.cmp.Ordering.TheVariants.{Less, Equal, Greater}
 use Rattle.std.specs.List.{AllByRecursion}
-use Rattle.image_base.specs.Records.{Records, SameAt}
+use Rattle.entry_ref.specs.Records.{Records, SameAt}
 use Rattle.key_order.specs.Pairs.{choose}
 use Rattle.tree_images.proofs.TreeLemmas.{nodes-kept}
 use Rattle.tree_images.specs.Nodes.{node_keys, node_values}

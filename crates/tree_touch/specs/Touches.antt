@@ -2,7 +2,7 @@
 use Rattle.std.specs.Prelude.{◌≡◌, ℕ, suc, ◌+◌, ◌<◌, ◌≤◌, List, [], ◌∷◌, length, false}
 use Rattle.std.specs.declared.cmp.Ordering.{Ordering}
 use Rattle.entry_ref.specs.References.{buffer_of}
-use Rattle.image_base.specs.Records.{Records}
+use Rattle.entry_ref.specs.Records.{Records}
 use Rattle.store_api.specs.Ledgers.{Ledger}
 use Rattle.store_api.specs.Parts.{times, uses}
 use Rattle.tree_images.specs.Nodes.{used_of}

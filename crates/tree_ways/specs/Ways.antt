@@ -2,7 +2,7 @@
 use Rattle.std.specs.Prelude.{◌≢◌, ℕ, List, map}
 use Rattle.std.specs.declared.cmp.Ordering.{Ordering}
 use Rattle.entry_ref.specs.References.{buffer_of}
-use Rattle.image_base.specs.Records.{Records, Among}
+use Rattle.entry_ref.specs.Records.{Records, Among}
 use Rattle.key_order.specs.Keys.{seen_by}
 use Rattle.tree_images.specs.Nodes.{level_of}
 use Rattle.tree_images.specs.Trees.{pairs_below, tree_nodes, tree_pairs, IsTree}

@@ -5,7 +5,7 @@ use Rattle.std.specs.declared.cmp.Ordering.TheVariants.{Less, Equal, Greater}
 use Rattle.std.specs.List.{flat_map, AllByRecursion}
 use Rattle.std.specs.List.Sorted.{IsStrictlySortedBy}
 use Rattle.std.specs.Option.{unwrap_or}
-use Rattle.image_base.specs.Records.{Records, SameAt, Among}
+use Rattle.entry_ref.specs.Records.{Records, SameAt, Among}
 use Rattle.key_order.specs.Pairs.{lookup, put}
 use Rattle.store_api.specs.Ledgers.{Ledger}
 use Rattle.store_api.specs.Units.{MayDo}

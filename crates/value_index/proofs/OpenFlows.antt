@@ -1,7 +1,7 @@
 -- What the key and the list of an index that is open at one value have taken over: a key that was there, or a record that was made.
 use Rattle.std.proofs.Common.{◌≡◌, ℕ, ℤ, List, [], ◌∷◌, Option, Some, option_map, inl, inr, sym, ap, subst, ◌∙◌}
 use Rattle.std.specs.Option.{unwrap_or}
-use Rattle.image_base.specs.Records.{Records, Among}
+use Rattle.entry_ref.specs.Records.{Records, Among}
 use Rattle.key_order.specs.Pairs.{lookup_pair}
 use Rattle.key_order.proofs.PairLemmas.{lookup-of_pair}
 use Rattle.store_api.specs.Ledgers.{Ledger}

@@ -1,7 +1,7 @@
 -- What a change of an index leaves of a store.
 use Rattle.std.specs.Prelude.{◌≡◌, ◌⊎◌, ℕ, ◌+◌, ◌*◌, ◌<◌, [], ◌∷◌, length, nat_eq, if◌then◌else◌}
 use Rattle.std.specs.Option.{is_some, unwrap_or}
-use Rattle.image_base.specs.Records.{Records}
+use Rattle.entry_ref.specs.Records.{Records}
 use Rattle.store_api.specs.Ledgers.{Ledger}
 use Rattle.store_api.specs.Parts.{Owns, Turns}
 use Rattle.key_order.specs.Pairs.{lookup}

@@ -2,7 +2,7 @@
 use Rattle.std.specs.Prelude.{ℕ, ◌<◌, List, ◌++◌, map, Option}
 use Rattle.std.specs.List.{AllByRecursion}
 use Rattle.std.specs.Option.{option_map}
-use Rattle.image_base.specs.Records.{Records, Among}
+use Rattle.entry_ref.specs.Records.{Records, Among}
 use Rattle.store_api.specs.Parts.{Part}
 use Rattle.tree_images.specs.Trees.{tree_pairs, tree_nodes}
 use Rattle.key_order.specs.Pairs.{lookup_pair}

@@ -1,7 +1,7 @@
 -- What an index and its keys are, as laws.
 use Rattle.std.specs.Prelude.{◌≡◌, ℕ, ◌<◌, [], length, Some}
 use Rattle.std.specs.List.{AllByRecursion}
-use Rattle.image_base.specs.Records.{Records, SameAt, Among}
+use Rattle.entry_ref.specs.Records.{Records, SameAt, Among}
 use Rattle.tree_images.specs.Trees.{tree_pairs, IsTree}
 use Rattle.attr_images.specs.Postings.{index_of, IsDictionaryEntry}
 use Rattle.attr_images.specs.Values.{stored_value, IsValueRecord}

@@ -1,6 +1,6 @@
 -- Nobody has to read this: an index stays where its records stay. It stands here since a part cites it.
 use Rattle.std.proofs.Common.{◌≡◌, ℕ, ◌++◌}
-use Rattle.image_base.specs.Records.{Records, SameAt}
+use Rattle.entry_ref.specs.Records.{Records, SameAt}
 use Rattle.tree_images.specs.Trees.{tree_nodes}
 use Rattle.attr_images.specs.Postings.{dictionary_reach}
 use Rattle.attr_images.specs.ProofsForImages.{trees_reach-same}

@@ -1,6 +1,6 @@
 -- An index that is all that is in use stays so through a unit.
 use Rattle.std.proofs.Common.{◌≡◌, ℕ, [], ◌∷◌, true, sym, ap, subst, ◌∙◌, arith}
-use Rattle.image_base.specs.Records.{Records, SameAt}
+use Rattle.entry_ref.specs.Records.{Records, SameAt}
 use Rattle.store_api.specs.Statuses.{in_use}
 use Rattle.store_api.specs.Ledgers.{Ledger, IsNew, IsSettled}
 use Rattle.store_api.specs.Units.{MayDo}

@@ -1,7 +1,7 @@
 -- The lists of an index, pair by pair.
 use Rattle.std.proofs.Common.{◌≡◌, ◌≢◌, ℕ, ℤ, ◌<◌, List, [], ◌∷◌, ◌++◌, map, drop, append_assoc, refl, sym, ap, subst, ◌∙◌}
 use Rattle.std.specs.List.{AllByRecursion}
-use Rattle.image_base.specs.Records.{Records}
+use Rattle.entry_ref.specs.Records.{Records}
 use Rattle.tree_images.specs.Trees.{tree_pairs}
 use Rattle.tree_search.specs.Places.{first_key, first_value}
 use Rattle.attr_images.specs.Postings.{list_form, postings_at}

@@ -1,6 +1,6 @@
 -- An index that is all that a store has in use.
 use Rattle.std.specs.Prelude.{◌≡◌, ℕ, ℤ, List, [], ◌∷◌, false}
-use Rattle.image_base.specs.Records.{Records}
+use Rattle.entry_ref.specs.Records.{Records}
 use Rattle.store_api.specs.Ledgers.{Ledger}
 use Rattle.store_api.specs.Parts.{OwnsAll}
 use Rattle.attr_index.specs.Index.{Index}

@@ -10,8 +10,8 @@ use Rattle.std.proofs.lemmas.Option.{slice_get_within}
 use Rattle.list_facts.proofs.Places.{slice_get-set_same}
 use Rattle.gen_core.proofs.Counts.{load_newest_keeps, raise_keeps, bounce_keeps, release_keeps}
 use Rattle.atomic_table.specs.Table.{State, Me, step, keeps, Allows, Splits, Joins}
-use Rattle.image_base.specs.Records.{Records}
-use Rattle.image_base.specs.Places.{base, state_place, IsEntry}
+use Rattle.entry_ref.specs.Records.{Records}
+use Rattle.entry_ref.specs.Places.{base, state_place, IsEntry}
 use Rattle.gen_core.specs.declared.views.Sizes.{Sizes}
 use Rattle.gen_core.specs.declared.views.WriterView.{WriterView}
 use Rattle.gen_core.specs.declared.views.ReaderView.{ReaderView}

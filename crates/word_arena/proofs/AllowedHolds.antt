@@ -8,8 +8,8 @@ use Rattle.std.specs.Prelude.{slice_get, count_by}
 use Rattle.list_facts.proofs.Options.{same_Some}
 use Rattle.atomic_table.specs.Table.{Me, Act, Valid, step, keeps, stepped, carried_after, Allows}
 use Rattle.atomic_table.proofs.Lists.{exchanged}
-use Rattle.image_base.specs.Records.{Records}
-use Rattle.image_base.specs.Places.{state_place}
+use Rattle.entry_ref.specs.Records.{Records}
+use Rattle.entry_ref.specs.Places.{state_place}
 use Rattle.gen_core.specs.declared.views.Sizes.{Sizes}
 use Rattle.gen_core.specs.declared.views.OpenHold.{OpenHold}
 use Rattle.gen_core.specs.declared.views.Tag.{Tag}

@@ -5,8 +5,8 @@ use mathlib.Core.Option.{none}
 use Rattle.entry_ref.specs.References.{buffer_of}
 use Rattle.atomic_table.specs.Table.{Me, step}
 use Rattle.atomic_table.specs.Seated.{TableId}
-use Rattle.image_base.specs.Places.{base, place, size_of, IsEntry}
-use Rattle.image_base.proofs.Apart.{within, place-below}
+use Rattle.entry_ref.specs.Places.{base, place, size_of, IsEntry}
+use Rattle.entry_ref.proofs.Apart.{within, place-below}
 use Rattle.generation_handler.specs.declared.HoldEntry.{HoldEntry}
 use Rattle.gen_core.specs.Views.{open_holds}
 use Rattle.gen_core.specs.declared.views.Sizes.{Sizes}

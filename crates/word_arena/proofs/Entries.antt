@@ -6,10 +6,10 @@ use Rattle.std.proofs.lemmas.Bool.{cases_eq, and_from, and_left}
 use Rattle.std.proofs.lemmas.Nat.{same_from_place}
 use Rattle.list_facts.proofs.Places.{slice_get-set_same, slice_get-set_other}
 use Rattle.entry_ref.specs.References.{buffer_of, offset_of}
-use Rattle.image_base.specs.declared.Image.{Image}
-use Rattle.image_base.specs.Images.{words_at}
-use Rattle.image_base.specs.Places.{base, IsEntry}
-use Rattle.image_base.proofs.Apart.{within}
+use Rattle.entry_ref.specs.declared.images.Image.{Image}
+use Rattle.entry_ref.specs.Images.{words_at}
+use Rattle.entry_ref.specs.Places.{base, IsEntry}
+use Rattle.entry_ref.proofs.Apart.{within}
 use Rattle.gen_core.specs.declared.views.Pending.TheVariants.{Nothing}
 use Rattle.gen_core.specs.declared.views.Tag.{Tag}
 use Rattle.gen_core.specs.declared.views.Buffer.{Buffer}

@@ -3,10 +3,10 @@ use Rattle.std.specs.Prelude.{◌*◌, ◌≡◌, ℕ, ◌+◌, ◌<◌, ◌≤�
 use Rattle.std.specs.Option.{unwrap_or}
 use Rattle.atomic_table.specs.Table.{Me}
 use Rattle.atomic_table.specs.Seated.{TableId}
-use Rattle.image_base.specs.declared.Image.{Image}
-use Rattle.image_base.specs.Images.{no_image}
+use Rattle.entry_ref.specs.declared.images.Image.{Image}
+use Rattle.entry_ref.specs.Images.{no_image}
 use Rattle.entry_ref.specs.References.{buffer_of}
-use Rattle.image_base.specs.Places.{base, size_of}
+use Rattle.entry_ref.specs.Places.{base, size_of}
 use Rattle.gen_core.specs.declared.views.Sizes.{Sizes}
 use Rattle.generation_handler.specs.declared.HoldEntry.{HoldEntry}
 use Rattle.gen_core.specs.declared.views.OpenHold.{OpenHold}

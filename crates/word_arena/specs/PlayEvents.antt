@@ -1,7 +1,7 @@
 -- What each step on the running words is: one event of the core, by the same seat, on the same word, by the same operation.
 use Rattle.std.specs.Prelude.{◌≡◌, ◌≢◌, ℕ, List, slice_index, Some}
 use Rattle.atomic_table.specs.Table.{Me, Step}
-use Rattle.image_base.specs.Records.{Records}
+use Rattle.entry_ref.specs.Records.{Records}
 use Rattle.gen_core.specs.declared.views.View.{View}
 use Rattle.gen_core.specs.Good.{State}
 use Rattle.gen_core.specs.Steps.{Operation, load, store, add, subtract, exchange, word_of, operation_of, seat_of, view_at}

@@ -6,7 +6,7 @@ use Rattle.gen_core.specs.declared.views.Tag.{Tag}
 use Rattle.gen_core.specs.declared.views.Pending.TheVariants.{Next, Probed}
 use Rattle.gen_core.specs.declared.views.Buffer.TheVariants.{Held}
 use Rattle.gen_core.specs.declared.views.View.{View}
-use Rattle.image_base.specs.Places.{state_place}
+use Rattle.entry_ref.specs.Places.{state_place}
 use Rattle.gen_core.specs.Views.{hold_place, active_in}
 use Rattle.gen_core.specs.Events.{probed, advanced, morphed, put_aside, freed, reopened, closed, stopped}
 use Rattle.word_arena.specs.Ruled.{Slot, writer_of, Becomes}

@@ -9,7 +9,7 @@ use crate::config::Config;
 use crate::rule::{Place, Words};
 use atomic_table::Table;
 use gen_core::{Buffer, Sizes};
-use image_base::Layout;
+use entry_ref::Layout;
 use std::alloc::{AllocError, Global};
 
 #[derive(Drop)]

@@ -14,7 +14,7 @@ use crate::writer::Writer;
 use arena_api::Advance;
 use gen_core::{Buffer, Tag};
 use generation_handler::HOLDS;
-use image_base::Layout;
+use entry_ref::Layout;
 
 impl<'a, const OFFSET_BITS: u32, L: Layout> Writer<'a, OFFSET_BITS, L> {
     // Puts a buffer on hold that the last commit has no record in, under the current generation and that commit.

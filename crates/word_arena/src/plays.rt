@@ -9,7 +9,7 @@ ghost use Rattle.gen_core.specs.Views.{spent};
 
 use atomic_table::{Join, Play, Split};
 use gen_core::View;
-use image_base::Layout;
+use entry_ref::Layout;
 use std::marker::PhantomData;
 
 pub(crate) struct HandOut<L> {

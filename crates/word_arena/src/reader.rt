@@ -1,21 +1,20 @@
 //! The readers, and their guards.
 ghost use Rattle.std.specs.Prelude.{take, drop, ◌%◌, ◌≡◌, ◌+◌, ◌*◌, ◌<◌, ◌≤◌, ◌^◌, ℕ, List, length, Some, slice_index, IfOk, IfErr};
-ghost use Rattle.image_base.specs.Images.{words_at};
-ghost use Rattle.image_base.specs.Places.{place};
+ghost use Rattle.entry_ref.specs.Images.{words_at};
+ghost use Rattle.entry_ref.specs.Places.{place};
 ghost use Rattle.gen_core.specs.Events.{with_state};
 ghost use Rattle.gen_core.specs.declared.views.ReaderState.TheVariants.{Idle};
 ghost use Rattle.word_arena.specs.Ruled.{reader_of, seen_image, seen_number, IsAimOf, IsLater, IsHigher, IsWatch, IsAim, IsGuard};
 ghost use Rattle.word_arena.specs.PlayEvents.{LoadsNewest, RaiseFinds, TryFinds};
-ghost use Rattle.image_base.specs.Records.{HasWord, word_at};
+ghost use Rattle.entry_ref.specs.Records.{HasWord, word_at};
 
 use crate::arena::Arena;
 use crate::plays::{Bounce, LoadNewest, LoadRoot, LoadWord, Raise, Release};
 use crate::rule::Place;
 use crate::steps::Steps;
-use entry_ref::EntryRef;
+use entry_ref::{EntryRef, Layout, place_of};
 use frozen_api::Frozen;
 use gen_core::Sizes;
-use image_base::{Layout, place_of};
 use std::sync::ledger::Ledger;
 
 #[derive(Drop)]

@@ -5,7 +5,7 @@ ghost use Rattle.word_arena.specs.Ruled.{Ruled};
 
 use atomic_table::{Seat, Table, TableRule};
 use gen_core::{Sizes, View};
-use image_base::Layout;
+use entry_ref::Layout;
 use std::alloc::Global;
 use std::marker::PhantomData;
 

@@ -1,9 +1,9 @@
 //! The writer as a work.
 ghost use Rattle.std.specs.Prelude.{◌≡◌, ◌≢◌, ◌<◌, ◌≤◌, ◌+◌, ◌*◌, ℕ, length, Some, slice_index, true};
 ghost use Rattle.word_arena.specs.Ruled.{writer_of};
-ghost use Rattle.image_base.specs.Images.{words_at};
-ghost use Rattle.image_base.specs.Places.{IsEntry};
-ghost use Rattle.image_base.specs.Records.{with_words};
+ghost use Rattle.entry_ref.specs.Images.{words_at};
+ghost use Rattle.entry_ref.specs.Places.{IsEntry};
+ghost use Rattle.entry_ref.specs.Records.{with_words};
 ghost use Rattle.entry_ref.specs.References.{buffer_of};
 ghost use Rattle.arena_api.specs.Calls.{MayStore, InNoCommit, AddsCommit, with_stored, padded, next_image, published};
 ghost use Rattle.arena_api.specs.Works.{is_free, active_width};
@@ -15,10 +15,9 @@ use crate::buffers::{count_free, last_of, lowest_free, width_of};
 use crate::plays::{FindWord, HandOut, Publish, StoreWidth, StoreWord};
 use crate::writer::Writer;
 use arena_api::{Advance, Oldest, Work};
-use entry_ref::EntryRef;
+use entry_ref::{EntryRef, Layout, place_of};
 use frozen_api::Frozen;
 use gen_core::Buffer;
-use image_base::{Layout, place_of};
 use std::marker::Model;
 
 /// Which arena a work is of. No value of it is made.

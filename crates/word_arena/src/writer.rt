@@ -1,7 +1,7 @@
 //! The one writer.
 ghost use Rattle.std.specs.Prelude.{take, drop, ◌≡◌, ◌+◌, ◌*◌, ◌^◌, ◌<◌, ◌≤◌, ℕ, length, [], IfOk, IfErr, slice_get, Some, All};
-ghost use Rattle.image_base.specs.Images.{words_at};
-ghost use Rattle.image_base.specs.Places.{place};
+ghost use Rattle.entry_ref.specs.Images.{words_at};
+ghost use Rattle.entry_ref.specs.Places.{place};
 ghost use Rattle.gen_core.specs.declared.views.View.TheVariants.{Writer as WriterSees};
 ghost use Rattle.gen_core.specs.Views.{IsCommit};
 ghost use Rattle.gen_core.specs.Work.{writer_records};
@@ -9,17 +9,16 @@ ghost use Rattle.gen_core.specs.Events.{opening_view, with_reader, newcomer, joi
 ghost use Rattle.arena_api.specs.Calls.{IsFresh};
 ghost use Rattle.word_arena.specs.Ruled.{writer_of, reader_of};
 ghost use Rattle.word_arena.specs.Knows.{view_of, IsDesk};
-ghost use Rattle.image_base.specs.Records.{HasWord, word_at};
+ghost use Rattle.entry_ref.specs.Records.{HasWord, word_at};
 
 use crate::arena::{Arena, Token};
 use crate::plays::{Cut, Glue, LoadOwn};
 use crate::reader::Reader;
 use crate::rule::Place;
-use entry_ref::EntryRef;
+use entry_ref::{EntryRef, Layout, place_of};
 use frozen_api::Frozen;
 use gen_core::{Buffer, Sizes};
 use generation_handler::Holds;
-use image_base::{Layout, place_of};
 
 #[derive(Drop)]
 pub struct Writer<'a, const OFFSET_BITS: u32, L: Layout> {

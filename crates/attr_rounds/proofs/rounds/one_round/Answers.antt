@@ -2,7 +2,7 @@ use Rattle.std.proofs.Common.{subst, sym, ap, ◌∙◌, arith}
 use Rattle.gen_core.specs.declared.views.Sizes.{Sizes}
 use Rattle.gen_core.specs.declared.views.ReaderState.TheVariants.{Idle}
 use Rattle.gen_core.specs.Events.{with_state}
-use Rattle.image_base.specs.Images.{words_at}
+use Rattle.entry_ref.specs.Images.{words_at}
 use Rattle.word_arena.specs.Ruled.{reader_of, seen_image}
 use Rattle.word_arena.specs.declared.reader.Guarded.{Guarded}
 use Rattle.attr_rounds.specs.declared.rounds.Round.{Round}

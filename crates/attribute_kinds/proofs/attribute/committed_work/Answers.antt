@@ -1,5 +1,5 @@
 use Rattle.std.proofs.Common.{sym, ap, subst, ◌∙◌, rules}
-use Rattle.image_base.specs.Images.{words_at}
+use Rattle.entry_ref.specs.Images.{words_at}
 use Rattle.arena_api.specs.Works.{WorkView, last_image}
 use Rattle.attr_images.specs.Images.{IsLawfulImage, operations_at, table_of}
 use Rattle.attr_images.specs.Shapes.{shape_of, types_of}

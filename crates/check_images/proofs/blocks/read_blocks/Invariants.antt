@@ -1,7 +1,7 @@
 use Rattle.std.proofs.Common.{◌≡◌, ℕ, pos, map, take}
 use Rattle.std.specs.List.{flat_map, AllByRecursion}
 use Rattle.attr_images.specs.Postings.{block_documents, IsBlock}
-use Rattle.image_base.specs.Maps.{seen}
+use Rattle.entry_ref.specs.Maps.{seen}
 use Rattle.check_images.proofs.blocks.read_blocks.Given as goal
 
 abbrev pub invariant-loop-pair : goal.invariant-loop-pair

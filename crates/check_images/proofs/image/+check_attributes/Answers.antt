@@ -3,7 +3,7 @@ use Rattle.std.specs.List.{zip}
 use Rattle.std.specs.Map.{keys_of}
 use Rattle.attr_index.specs.Columns.{Column}
 use Rattle.attr_types.specs.Table.{Table}
-use Rattle.image_base.specs.Maps.{seen}
+use Rattle.entry_ref.specs.Maps.{seen}
 use Rattle.check_images.proofs.BlockLemmas.{more_than_none}
 use Rattle.check_images.proofs.TableLemmas.{taken_apart, fields_lawful, other_fields_keys, more_table}
 use Rattle.check_images.proofs.image.+check_attributes.Goals as goal

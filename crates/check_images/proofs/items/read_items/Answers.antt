@@ -1,4 +1,4 @@
-use Rattle.image_base.specs.Maps.{seen}
+use Rattle.entry_ref.specs.Maps.{seen}
 use Rattle.check_images.proofs.ItemLemmas.{items_told}
 use Rattle.check_images.proofs.items.read_items.Goals as goal
 

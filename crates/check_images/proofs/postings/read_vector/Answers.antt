@@ -2,7 +2,7 @@ use Rattle.std.proofs.Common.{◌<◌, ℕ, length, sym, ap, subst, ◌∙◌}
 use Rattle.std.proofs.lemmas.Result.{on_ok_weaker}
 use Rattle.std.specs.List.{AllByRecursion}
 use Rattle.attr_images.specs.Postings.{IsBlock}
-use Rattle.image_base.specs.Maps.{seen}
+use Rattle.entry_ref.specs.Maps.{seen}
 use Rattle.check_images.proofs.BlockLemmas.{more_than_none}
 use Rattle.check_images.proofs.postings.read_vector.Goals as goal
 

@@ -3,7 +3,7 @@ use Rattle.std.proofs.lemmas.Result.{err_from_is_err_and}
 use Rattle.tree_images.specs.Nodes.{used_of}
 use Rattle.check_trees.proofs.WalkLemmas.{slots_more, slots_ascend}
 use Rattle.check_trees.proofs.Walks.{refuted_by}
-use Rattle.image_base.specs.Maps.{seen}
+use Rattle.entry_ref.specs.Maps.{seen}
 use Rattle.check_trees.proofs.pairs.add_leaf.Goals as goal
 
 pub loop-i-preserved : goal.loop-i-preserved

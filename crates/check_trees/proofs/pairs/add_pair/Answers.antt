@@ -2,7 +2,7 @@ use Rattle.std.proofs.Common.{◌∷◌, [], ◌++◌, List, subst}
 use Rattle.std.proofs.lemmas.Result.{err_from_is_err_and}
 use Rattle.check_trees.specs.Keys.{PairsAscend}
 use Rattle.check_trees.specs.Refutations.{Refutes}
-use Rattle.image_base.specs.Maps.{seen}
+use Rattle.entry_ref.specs.Maps.{seen}
 use Rattle.check_trees.proofs.pairs.add_pair.Goals as goal
 
 pub returns-in_err-check_order-clause-exact : goal.returns-in_err-check_order-clause-exact

@@ -2,7 +2,7 @@ use Rattle.std.proofs.Common.{length, sym, ap, ◌∙◌}
 use Rattle.list_facts.proofs.Tests.{zero_from_test, above_zero_from_test}
 use Rattle.check_trees.proofs.KeyLemmas.{ascends-first, ascends-more, ascends-last, is_less, not_less}
 use Rattle.check_trees.specs.Keys.{stored_cmp}
-use Rattle.image_base.specs.Maps.{seen}
+use Rattle.entry_ref.specs.Maps.{seen}
 use Rattle.check_trees.proofs.pairs.check_order.Goals as goal
 
 pub returns-then-is_empty-clause-ascends : goal.returns-then-is_empty-clause-ascends

@@ -1,6 +1,6 @@
 use Rattle.std.proofs.Common.{ℕ, ◌/◌, ◌<◌, List, get_or, sym, ap, subst, ◌∙◌, arith}
 use Rattle.std.proofs.lemmas.Result.{err_from_is_err_and}
-use Rattle.image_base.specs.Maps.{seen}
+use Rattle.entry_ref.specs.Maps.{seen}
 use Rattle.check_trees.proofs.KeyLemmas.{ascends-none}
 use Rattle.check_trees.proofs.RootLemmas.{empty_tree, root-low, found-pairs, found-tree, found-whole}
 use Rattle.check_trees.proofs.Walks.{refuted_by}

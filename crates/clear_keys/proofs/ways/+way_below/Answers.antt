@@ -2,7 +2,7 @@ use Rattle.std.proofs.Common.{rules, ◌≡◌, ◌≢◌, ℕ, ◌+◌, ◌-◌
 use Rattle.std.specs.declared.cmp.Ordering.TheVariants.{Equal, Greater}
 use Rattle.std.specs.declared.cmp.Ordering.{Ordering}
 use Rattle.entry_ref.specs.References.{buffer_of}
-use Rattle.image_base.specs.Records.{word_at}
+use Rattle.entry_ref.specs.Records.{word_at}
 use Rattle.tree_images.specs.Nodes.{level_of, used_of, node_keys}
 use Rattle.tree_images.specs.Trees.{pairs_below, IsNode}
 use Rattle.key_order.specs.Keys.{Ascends, AllReadable, seen_by}

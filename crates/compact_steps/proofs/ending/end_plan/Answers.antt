@@ -1,6 +1,6 @@
 use Rattle.std.proofs.Common.{◌≢◌, ℕ, ◌+◌, ◌≤◌, Some, sym, ap, subst, ◌∙◌}
 use Rattle.entry_ref.specs.References.{buffer_of}
-use Rattle.image_base.specs.Records.{Records, Among}
+use Rattle.entry_ref.specs.Records.{Records, Among}
 use Rattle.store_api.specs.Ledgers.{Ledger}
 use Rattle.attr_images.specs.Tables.{attributes_reach}
 use Rattle.attr_steps.specs.Fields.{HoldsAttributes, trees_of}

@@ -1,5 +1,5 @@
 use Rattle.std.proofs.Common.{◌≡◌, Some, ⊎_elim, arith}
-use Rattle.image_base.specs.Images.{record_at}
+use Rattle.entry_ref.specs.Images.{record_at}
 use Rattle.gen_core.specs.Views.{last_image}
 use Rattle.gen_core.specs.Work.{IsRecordStored}
 use Rattle.gen_core.proofs.WriterRecords.{records-whole}

@@ -1,5 +1,5 @@
 use Rattle.std.proofs.Common.{◌≡◌, ℕ, length}
-use Rattle.image_base.specs.Maps.{seen}
+use Rattle.entry_ref.specs.Maps.{seen}
 use Rattle.mem_work.specs.Entries.{with_those}
 use Rattle.mem_work.proofs.reach.add_those.Given as goal
 

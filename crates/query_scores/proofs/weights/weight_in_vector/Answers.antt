@@ -2,7 +2,7 @@ use Rattle.std.proofs.Common.{◌≡◌, ◌/◌, ◌%◌, ℕ, pos, Some, None,
 use Rattle.std.proofs.lemmas.Int.{to_z-of_z}
 use Rattle.std.specs.Int.{w32, bit_at}
 use Rattle.std.specs.Int.RustNames.{FitsSigned}
-use Rattle.image_base.specs.Records.{HasWord, word_at}
+use Rattle.entry_ref.specs.Records.{HasWord, word_at}
 use Rattle.tree_images.specs.Trees.{tree_pairs}
 use Rattle.key_order.specs.Pairs.{lookup_pair}
 use Rattle.std.specs.Ordering.{nat_cmp}

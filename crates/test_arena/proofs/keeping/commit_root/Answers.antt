@@ -1,5 +1,5 @@
 use Rattle.std.proofs.Common.{rules, ◌≡◌, ℕ, sym, subst, arith}
-use Rattle.image_base.specs.Images.{image_of, words_at}
+use Rattle.entry_ref.specs.Images.{image_of, words_at}
 use Rattle.node_turns.specs.OneNode.{node_reaches, IsNodeRecord}
 use Rattle.store_api.specs.Calls.{IsWhole, StoresCommit}
 use Rattle.test_arena.proofs.KeepLemmas.{whole-root, commit-keeps}

@@ -1,7 +1,7 @@
 use Rattle.std.proofs.Common.{rules, ◌≡◌, ◌<◌, ◌≤◌, ◌-◌, ◌++◌, ℕ, suc, List, [], ◌∷◌, length, get_or, slice_index, take, drop, ◌*◌, true, refl, sym, ap, subst, ◌∙◌, arith, ◌+◌, ◌^◌, IfErr}
 use Rattle.std.specs.Prelude.{slice_index_or}
 use Rattle.std.proofs.lemmas.Result.{IfOk-weaker}
-use Rattle.image_base.specs.Records.{Records}
+use Rattle.entry_ref.specs.Records.{Records}
 use Rattle.tree_images.specs.Nodes.{level_of, used_of, count_of, node_keys, node_values, IsNodeForm}
 use Rattle.tree_images.specs.Trees.{pairs_below, IsNode}
 use Rattle.tree_images.proofs.TreeLemmas.{IsNode-form}

@@ -1,5 +1,5 @@
 use Rattle.std.proofs.Common.{◌≡◌, ◌<◌, ◌≤◌, ◌+◌, ◌-◌, ℕ, List, length, get_or, ap, subst, ◌∙◌, arith}
-use Rattle.image_base.specs.Records.{word_at}
+use Rattle.entry_ref.specs.Records.{word_at}
 use Rattle.tree_images.specs.Nodes.{count_of}
 use Rattle.tree_images.specs.Trees.{pairs_below}
 use Rattle.std.specs.List.{flat_map}

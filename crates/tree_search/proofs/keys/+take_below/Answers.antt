@@ -1,6 +1,6 @@
 use Rattle.std.proofs.Common.{rules, ◌≡◌, ◌-◌, ◌+◌, ◌<◌, ◌^◌, ℕ, List, suc, refl, take, arith, sym, ap, subst, ◌∙◌, get_or}
 use Rattle.std.specs.List.{flat_map}
-use Rattle.image_base.specs.Records.{word_at}
+use Rattle.entry_ref.specs.Records.{word_at}
 use Rattle.tree_images.specs.Nodes.{used_of, node_values}
 use Rattle.tree_images.specs.Trees.{pairs_below}
 use Rattle.std.specs.Map.{keys_of}

@@ -1,5 +1,5 @@
 use Rattle.std.proofs.Common.{◌≡◌, ◌+◌, ◌<◌, sym, ap, subst, ◌∙◌, arith}
-use Rattle.image_base.specs.Records.{word_at}
+use Rattle.entry_ref.specs.Records.{word_at}
 use Rattle.tree_images.specs.Nodes.{level_of, used_of}
 use Rattle.key_order.specs.Keys.{seen_by}
 use Rattle.tree_node.proofs.ChildLemmas.{keys-length, slot-key, get_or-node_keys}

@@ -1,5 +1,5 @@
 use Rattle.std.proofs.Common.{◌+◌, ◌<◌, ◌∙◌, length, take, sym, ap, subst, arith}
-use Rattle.image_base.specs.Records.{HasWord, word_at}
+use Rattle.entry_ref.specs.Records.{HasWord, word_at}
 use Rattle.unique_store.proofs.RecordLemmas.{text_count, text_size, text_read, bytes_more}
 use Rattle.unique_store.proofs.reading.read_bytes.Goals as goal
 

@@ -1,7 +1,7 @@
 use Rattle.std.proofs.Common.{◌≡◌, ℕ, Some, length, cond, sym, ap, ◌∙◌, arith, inl, inr, List}
 use Rattle.std.proofs.lemmas.Bool.{cases_eq, eq-eqb, ne_eqb}
 use Rattle.entry_ref.specs.References.{buffer_of}
-use Rattle.image_base.specs.Records.{with_words}
+use Rattle.entry_ref.specs.Records.{with_words}
 use Rattle.arena_api.specs.Works.{active_width}
 use Rattle.arena_api.specs.Calls.{padded}
 use Rattle.arena_api.proofs.Padded.{length-padded, padded-at}

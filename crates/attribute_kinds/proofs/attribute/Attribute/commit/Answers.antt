@@ -1,7 +1,7 @@
 use Rattle.std.proofs.Common.{◌≡◌, ◌+◌, ◌*◌, ◌<◌, ◌≤◌, length, refl, sym, ap, ap₂, subst, ◌∙◌, arith}
 use Rattle.std.specs.Prelude.{is_some}
-use Rattle.image_base.specs.Images.{words_at}
-use Rattle.image_base.specs.declared.Image.{Image}
+use Rattle.entry_ref.specs.Images.{words_at}
+use Rattle.entry_ref.specs.declared.images.Image.{Image}
 use Rattle.arena_api.specs.Calls.{told_after}
 use Rattle.arena_api.specs.Works.{last_image}
 use Rattle.attr_images.specs.Images.{table_of}

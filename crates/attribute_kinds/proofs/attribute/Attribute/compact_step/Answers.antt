@@ -3,8 +3,8 @@ use Rattle.std.proofs.lemmas.List.{with_items_is}
 use Rattle.std.specs.Prelude.{IfErr, IfOk}
 use Rattle.std.specs.Option.{IfSome}
 use Rattle.std.specs.Vec.{with_items}
-use Rattle.image_base.specs.Images.{words_at}
-use Rattle.image_base.specs.declared.Image.{Image}
+use Rattle.entry_ref.specs.Images.{words_at}
+use Rattle.entry_ref.specs.declared.images.Image.{Image}
 use Rattle.attr_compaction.specs.Places.{PlanView}
 use Rattle.attr_field.specs.declared.roots.FieldRoots.{FieldRoots}
 use Rattle.attr_images.specs.Images.{table_of}

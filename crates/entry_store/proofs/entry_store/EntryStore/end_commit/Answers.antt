@@ -1,5 +1,5 @@
 use Rattle.std.proofs.Common.{false, sym, ap, subst, ◌∙◌, arith, refl}
-use Rattle.image_base.specs.Records.{Records}
+use Rattle.entry_ref.specs.Records.{Records}
 use Rattle.entry_ref.specs.References.{buffer_of}
 use Rattle.store_api.specs.Ledgers.{is_this}
 use Rattle.std.proofs.lemmas.Bool.{eq-eqb}

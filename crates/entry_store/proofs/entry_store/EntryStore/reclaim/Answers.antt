@@ -1,5 +1,5 @@
 use Rattle.std.proofs.Common.{sym, ap, subst, ◌∙◌, arith}
-use Rattle.image_base.specs.Records.{Records}
+use Rattle.entry_ref.specs.Records.{Records}
 use Rattle.store_api.specs.Calls.{GivesBack}
 use Rattle.entry_ledger.specs.Ledgers.{entries_of}
 use Rattle.entry_store.specs.Standing.{Stands, ledger_of, records_by_status, statuses}

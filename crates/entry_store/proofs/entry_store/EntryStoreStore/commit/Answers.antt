@@ -1,5 +1,5 @@
 use Rattle.std.proofs.Common.{ap, ◌∙◌, arith}
-use Rattle.image_base.specs.Images.{words_at}
+use Rattle.entry_ref.specs.Images.{words_at}
 use Rattle.entry_store.proofs.Storing.{adds-all, stores-commit}
 use Rattle.entry_store.proofs.entry_store.EntryStoreStore.commit.Goals as goal
 

@@ -1,8 +1,8 @@
 use Rattle.std.proofs.Common.{◌<◌, ◌∙◌, ap, sym, arith}
 use Rattle.entry_ref.specs.References.{buffer_of, offset_of, buffer_limit}
 use Rattle.entry_ref.proofs.Bits.{packed-buffer, packed-offset}
-use Rattle.image_base.specs.Maps.{seen}
-use Rattle.image_base.proofs.Steps.{next-buffer, first-offset, here-not_yet, reference-more}
+use Rattle.entry_ref.specs.Maps.{seen}
+use Rattle.entry_ref.proofs.Steps.{next-buffer, first-offset, here-not_yet, reference-more}
 use Rattle.mem_work.specs.Cells.{width_in}
 use Rattle.mem_work.specs.Entries.{chosen}
 use Rattle.mem_work.proofs.Chosen.{none-free, none-first, none-past, entry-made}

@@ -1,6 +1,6 @@
 use Rattle.std.proofs.Common.{◌≡◌, ◌≤◌, ℕ}
-use Rattle.image_base.specs.Maps.{seen}
-use Rattle.image_base.specs.Before.{those_before}
+use Rattle.entry_ref.specs.Maps.{seen}
+use Rattle.entry_ref.specs.Before.{those_before}
 use Rattle.mem_work.specs.Entries.{chosen}
 use Rattle.mem_work.proofs.cells.Cells.add_entries.Given as goal
 

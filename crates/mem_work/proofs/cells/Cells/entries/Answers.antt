@@ -1,5 +1,5 @@
 use Rattle.std.proofs.Common.{◌∙◌}
-use Rattle.image_base.proofs.Steps.{all-before}
+use Rattle.entry_ref.proofs.Steps.{all-before}
 use Rattle.mem_work.specs.Entries.{chosen}
 use Rattle.mem_work.proofs.Chosen.{none-outside}
 use Rattle.mem_work.proofs.cells.Cells.entries.Goals as goal

@@ -1,4 +1,4 @@
-use Rattle.image_base.specs.Maps.{seen}
+use Rattle.entry_ref.specs.Maps.{seen}
 use Rattle.mem_work.proofs.Chosen.{map-records}
 use Rattle.mem_work.proofs.memory.MemWork.records.Goals as goal
 

@@ -1,5 +1,5 @@
 use Rattle.std.proofs.Common.{rules, ◌≡◌, ◌-◌, ◌<◌, ◌++◌, length, sym, ap, subst, ◌∙◌, arith}
-use Rattle.image_base.specs.Records.{HasWord, word_at}
+use Rattle.entry_ref.specs.Records.{HasWord, word_at}
 use Rattle.tree_images.specs.Nodes.{level_of, used_of}
 use Rattle.tree_images.specs.Trees.{pairs_below}
 use Rattle.tree_search.specs.Places.{Leads, pairs_behind}

@@ -1,5 +1,5 @@
 use Rattle.std.proofs.Common.{◌≡◌, ◌+◌, ◌-◌, ◌<◌, ◌≤◌, ◌^◌, get_or, sym, ap, subst, ◌∙◌, arith, []}
-use Rattle.image_base.specs.Records.{word_at}
+use Rattle.entry_ref.specs.Records.{word_at}
 use Rattle.tree_images.specs.Nodes.{level_of, used_of, node_keys}
 use Rattle.tree_images.specs.Trees.{pairs_below, tree_pairs, IsNode}
 use Rattle.key_order.specs.Keys.{AllReadable, seen_by}

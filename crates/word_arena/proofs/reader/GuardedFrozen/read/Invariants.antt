@@ -1,6 +1,6 @@
 use Rattle.std.proofs.Common.{◌≡◌, length, take, drop}
-use Rattle.image_base.specs.Images.{words_at}
-use Rattle.image_base.specs.Places.{place}
+use Rattle.entry_ref.specs.Images.{words_at}
+use Rattle.entry_ref.specs.Places.{place}
 use Rattle.word_arena.specs.Ruled.{reader_of, seen_image}
 use Rattle.word_arena.proofs.reader.GuardedFrozen.read.Given as goal
 

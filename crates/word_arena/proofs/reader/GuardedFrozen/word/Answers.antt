@@ -1,7 +1,7 @@
 use Rattle.std.proofs.Common.{refl, ap, subst, sym, ◌∙◌, ◌≡◌, ◌<◌, ℕ, length, slice_index}
 use Rattle.atomic_table.specs.declared.shared.Seat.{Seat}
-use Rattle.image_base.specs.Images.{words_at}
-use Rattle.image_base.specs.Places.{place}
+use Rattle.entry_ref.specs.Images.{words_at}
+use Rattle.entry_ref.specs.Places.{place}
 use Rattle.gen_core.specs.declared.views.View.{View}
 use Rattle.word_arena.specs.Ruled.{Slot, reader_of, seen_image, IsGuard}
 use Rattle.word_arena.proofs.Guards.{place-inside, word_found, may_load_word, seat_same, guard-prop}

@@ -1,8 +1,8 @@
 use Rattle.std.proofs.Common.{slice_index, subst, refl, ◌≡◌, ℕ, Some, length, cond, sym, ap, ◌∙◌, arith, inl, inr, List}
 use Rattle.std.proofs.lemmas.Bool.{cases_eq, eq-eqb, ne_eqb, and_from, and_right}
 use Rattle.entry_ref.specs.References.{buffer_of}
-use Rattle.image_base.specs.Records.{with_words}
-use Rattle.image_base.specs.Places.{IsEntry}
+use Rattle.entry_ref.specs.Records.{with_words}
+use Rattle.entry_ref.specs.Places.{IsEntry}
 use Rattle.gen_core.specs.declared.views.WriterView.{WriterView}
 use Rattle.gen_core.specs.Work.{writer_records}
 use Rattle.arena_api.specs.Works.{active_width}

@@ -1,7 +1,7 @@
 use Rattle.std.proofs.Common.{arith, ap, subst, sym, ◌∙◌, ◌≡◌, ◌+◌, ◌*◌, ℕ}
 use Rattle.entry_ref.specs.References.{buffer_of}
 use Rattle.atomic_table.specs.declared.shared.Seat.{Seat}
-use Rattle.image_base.specs.Places.{base, place, IsEntry}
+use Rattle.entry_ref.specs.Places.{base, place, IsEntry}
 use Rattle.gen_core.specs.declared.views.View.{View}
 use Rattle.word_arena.specs.Ruled.{Slot, writer_of}
 use Rattle.word_arena.specs.Knows.{IsDesk}

@@ -2,8 +2,8 @@ use Rattle.std.proofs.Common.{refl, ap, sym, subst, arith, ◌∙◌, ◌≡◌,
 use Rattle.std.specs.Prelude.{slice_get}
 use Rattle.entry_ref.specs.References.{buffer_of}
 use Rattle.atomic_table.specs.Table.{Me}
-use Rattle.image_base.specs.Places.{place}
-use Rattle.image_base.proofs.Apart.{place-below}
+use Rattle.entry_ref.specs.Places.{place}
+use Rattle.entry_ref.proofs.Apart.{place-below}
 use Rattle.gen_core.specs.declared.views.Sizes.{Sizes}
 use Rattle.gen_core.specs.declared.views.View.{View}
 use Rattle.gen_core.specs.declared.views.WriterView.{WriterView}

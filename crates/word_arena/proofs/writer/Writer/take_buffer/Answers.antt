@@ -1,6 +1,6 @@
 use Rattle.std.proofs.Common.{ap, sym, refl, subst, arith, ◌∙◌, ◌≡◌, ◌+◌, ◌*◌, ◌<◌, ℕ, length, set, [], List}
 use Rattle.atomic_table.specs.Table.{Me}
-use Rattle.image_base.specs.Places.{base}
+use Rattle.entry_ref.specs.Places.{base}
 use Rattle.gen_core.specs.declared.views.Sizes.{Sizes}
 use Rattle.gen_core.specs.declared.views.Buffer.{Buffer}
 use Rattle.gen_core.specs.declared.views.Buffer.TheVariants.{Active}

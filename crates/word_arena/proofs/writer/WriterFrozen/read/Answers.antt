@@ -1,7 +1,7 @@
 use Rattle.std.proofs.Common.{arith, refl, ap, subst, sym, ◌∙◌, ◌≡◌, ◌+◌, ◌*◌, ◌<◌, ◌≤◌, ℕ, length, slice_index}
 use Rattle.std.proofs.lemmas.List.{length-set}
 use Rattle.atomic_table.specs.declared.shared.Seat.{Seat}
-use Rattle.image_base.specs.Places.{place}
+use Rattle.entry_ref.specs.Places.{place}
 use Rattle.gen_core.specs.declared.views.Sizes.{Sizes}
 use Rattle.gen_core.specs.declared.views.View.{View}
 use Rattle.gen_core.specs.Work.{writer_records}

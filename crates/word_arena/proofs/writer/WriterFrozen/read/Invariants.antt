@@ -1,5 +1,5 @@
 use Rattle.std.proofs.Common.{◌≡◌, length, take, drop}
-use Rattle.image_base.specs.Places.{place}
+use Rattle.entry_ref.specs.Places.{place}
 use Rattle.gen_core.specs.Work.{writer_records}
 use Rattle.word_arena.specs.Ruled.{writer_of}
 use Rattle.word_arena.proofs.writer.WriterFrozen.read.Given as goal

@@ -1,6 +1,6 @@
 use Rattle.std.proofs.Common.{refl, ap, subst, sym, ◌∙◌, ◌≡◌, ◌<◌, ℕ, length, slice_index}
 use Rattle.atomic_table.specs.declared.shared.Seat.{Seat}
-use Rattle.image_base.specs.Places.{place}
+use Rattle.entry_ref.specs.Places.{place}
 use Rattle.gen_core.specs.declared.views.View.{View}
 use Rattle.gen_core.specs.Work.{writer_records}
 use Rattle.word_arena.specs.Ruled.{Slot, writer_of}

@@ -1,17 +1,14 @@
 //! Images: the records that a root reaches, where their words stand, and the layouts that read them.
 #![tactic(auto)]
 
-mod maps;
-
 ghost use Rattle.std.specs.Prelude.{◌≡◌, ◌<◌, ◌≤◌, ℕ, List, [], length};
 ghost use Rattle.entry_ref.specs.References.{buffer_of};
-ghost use Rattle.image_base.specs.Images.{words_at, image_of};
-ghost use Rattle.image_base.specs.Places.{IsEntry, place};
-ghost use Rattle.image_base.specs.Records.{Records, SameAt, AllThere, references_of};
-ghost use Rattle.image_base.specs.declared.Image.{Image};
+ghost use Rattle.entry_ref.specs.Images.{words_at, image_of};
+ghost use Rattle.entry_ref.specs.Places.{IsEntry, place};
+ghost use Rattle.entry_ref.specs.Records.{Records, SameAt, AllThere, references_of};
+ghost use Rattle.entry_ref.specs.declared.images.Image.{Image};
 
-use entry_ref::EntryRef;
-pub use maps::{word_in, words_at};
+use crate::EntryRef;
 use std::collections::LinkedList;
 
 /// A root and the records that it reaches, each a reference with its words.

@@ -1,8 +1,8 @@
 -- Images: a root, and the records that it reaches.
 use Rattle.std.specs.Prelude.{ℕ, List, [], Option, nat_eq}
 use Rattle.std.specs.Map.{lookup}
-use Rattle.image_base.specs.Records.{Records, pairs_of, records_of}
-use Rattle.image_base.specs.declared.Image.{Image}
+use Rattle.entry_ref.specs.Records.{Records, pairs_of, records_of}
+use Rattle.entry_ref.specs.declared.images.Image.{Image}
 
 -- root 0 and no record
 abbrev pub no_image : Image

@@ -1,7 +1,7 @@
 -- Records up to a buffer and an offset of it.
 use Rattle.std.specs.Prelude.{ℕ, Bool, nat_eq, nat_lt, if◌then◌else◌, [], ◌&&◌, ◌||◌}
 use Rattle.entry_ref.specs.References.{buffer_of, offset_of}
-use Rattle.image_base.specs.Records.{Records}
+use Rattle.entry_ref.specs.Records.{Records}
 
 -- the records of the buffers before one, and its own before an offset
 abbrev pub is_before : ℕ → ℕ → ℕ → ℕ → Bool

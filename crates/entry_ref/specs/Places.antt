@@ -1,8 +1,8 @@
 -- Where the words of records stand: behind the named words come the buffers, one after another.
 use Rattle.std.specs.Prelude.{◌≡◌, ℕ, ◌+◌, ◌*◌, ◌<◌, ◌≤◌, List, length, slice_index, Some}
 use Rattle.entry_ref.specs.References.{buffer_of, offset_of}
-use Rattle.image_base.specs.declared.Image.{Image}
-use Rattle.image_base.specs.Images.{record_at}
+use Rattle.entry_ref.specs.declared.images.Image.{Image}
+use Rattle.entry_ref.specs.Images.{record_at}
 
 -- the state of a buffer: behind the root, the newest hold and the counts of sixteen holds
 abbrev pub state_place : ℕ → ℕ

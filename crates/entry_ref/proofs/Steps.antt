@@ -5,9 +5,9 @@ use Rattle.std.proofs.lemmas.Nat.{div-add-mod'}
 use Rattle.std.proofs.Math.Nat.{mul-le-mul_right}
 use Rattle.entry_ref.specs.References.{buffer_of, offset_of, packed, buffer_limit}
 use Rattle.entry_ref.proofs.Bits.{packed-buffer, packed-offset, packed-same}
-use Rattle.image_base.specs.Places.{IsEntry}
-use Rattle.image_base.specs.Records.{Records}
-use Rattle.image_base.specs.Before.{is_before, those_before}
+use Rattle.entry_ref.specs.Places.{IsEntry}
+use Rattle.entry_ref.specs.Records.{Records}
+use Rattle.entry_ref.specs.Before.{is_before, those_before}
 
 -- an entry by its offset and its buffer
 pub made-of : (bits q buffer offset : ℕ) → buffer_of bits q ≡ buffer → offset_of bits q ≡ offset → q ≡ packed bits offset buffer

@@ -2,8 +2,8 @@
 use Rattle.std.proofs.Common.{◌≡◌, ℕ, ◌<◌, List, [], ◌∷◌, length, Some, Bool, cond, eqb, true, false, nat_eq, refl, sym, ap, ◌∙◌, subst, ⊎_elim, inl, inr, eqb-true, eq-eqb, true≢false, ◌⊎◌, arith}
 use Rattle.std.specs.Option.{unwrap_or}
 use Rattle.std.specs.Map.{lookup}
-use Rattle.image_base.specs.Records.{Records, SameAt, AllThere, pairs_of, references_of, records_of, Among}
-use Rattle.image_base.specs.Images.{image_of, words_at}
+use Rattle.entry_ref.specs.Records.{Records, SameAt, AllThere, pairs_of, references_of, records_of, Among}
+use Rattle.entry_ref.specs.Images.{image_of, words_at}
 
 -- the references of pairs are those that they were made of
 pub references-pairs : (refs : List ℕ) (m : Records) → references_of (pairs_of refs m) ≡ refs

@@ -1,7 +1,7 @@
 -- A reference among others, and records that stay at a list of references.
 use Rattle.std.proofs.Common.{◌≡◌, ◌⊎◌, ℕ, List, [], ◌∷◌, ◌++◌, sym, ◌∙◌, subst, inl, inr}
 use Rattle.std.specs.List.{AllByRecursion}
-use Rattle.image_base.specs.Records.{Records, Among, SameAt}
+use Rattle.entry_ref.specs.Records.{Records, Among, SameAt}
 
 pub Among-append : (r : ℕ) (xs ys : List ℕ) → Among r (xs ++ ys) → Among r xs ⊎ Among r ys
 Among-append r [] ys among = inr among

@@ -3,7 +3,7 @@ use Rattle.std.proofs.Common.{◌≡◌, ◌≢◌, ℕ, ◌+◌, ◌*◌, ◌^�
 use Rattle.std.proofs.lemmas.Nat.{same_from_place}
 use Rattle.entry_ref.specs.References.{buffer_of, offset_of, offset_limit}
 use Rattle.entry_ref.proofs.Bits.{same-ref, ref-small}
-use Rattle.image_base.specs.Places.{base, place, IsEntry}
+use Rattle.entry_ref.specs.Places.{base, place, IsEntry}
 
 -- an entry's word lies in its buffer and is not its first
 pub within : {bits buffers words width ref : ℕ} → IsEntry bits buffers words width ref → (i : ℕ) → i < width → (0 < offset_of bits ref * width + i) × (offset_of bits ref * width + i < words)

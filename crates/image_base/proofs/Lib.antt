@@ -1,4 +1,0 @@
-pub mod Among
-pub mod Pairs
-pub mod Apart
-pub mod Steps

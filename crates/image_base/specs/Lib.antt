@@ -1,5 +1,0 @@
-pub mod Records
-pub mod Images
-pub mod Places
-pub mod Maps
-pub mod Before
