@@ -3,7 +3,9 @@
 #![tactic(auto)]
 
 mod answers;
+mod frozen;
 mod work;
 
 pub use answers::{Advance, Oldest};
+pub use frozen::Frozen;
 pub use work::Work;

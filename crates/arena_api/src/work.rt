@@ -12,7 +12,7 @@ ghost use Rattle.arena_api.specs.Calls.{AddsCommit, with_stored, padded, handed_
 
 use crate::answers::{Advance, Oldest};
 use entry_ref::{EntryRef, Layout};
-use frozen_api::Frozen;
+use crate::Frozen;
 
 /// Buffers of words, over which records are made and roots are published.
 ///

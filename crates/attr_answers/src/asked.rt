@@ -9,7 +9,7 @@ use attr_rounds::Question;
 use attr_scores::Ask;
 use attr_types::Fields;
 use entry_ref::EntryRef;
-use frozen_api::Frozen;
+use arena_api::Frozen;
 use query_eval::documents;
 use std::alloc::{AllocError, Global};
 

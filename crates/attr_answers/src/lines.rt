@@ -10,7 +10,7 @@ use attr_report::{push_count, push_documents, push_scores};
 use attr_scores::{Ask, Score};
 use attr_types::{Doc, Fields};
 use entry_ref::EntryRef;
-use frozen_api::Frozen;
+use arena_api::Frozen;
 use query_eval::{hits, scores};
 use std::alloc::{AllocError, Global};
 

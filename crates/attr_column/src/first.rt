@@ -7,7 +7,7 @@ ghost use Rattle.attr_types.specs.declared.field.TheConstants.{MOST_FIELDS};
 use crate::reading::documents_in;
 use attr_types::{Doc, Field, FieldItems, Fields};
 use entry_ref::EntryRef;
-use frozen_api::Frozen;
+use arena_api::Frozen;
 use std::alloc::{AllocError, Global};
 use std::collections::BTreeMap;
 

@@ -10,7 +10,7 @@ ghost use Rattle.attr_types.specs.declared.items.Item.{Item};
 use attr_documents::items as read_items;
 use attr_types::{Doc, FieldItems, Kind, ValueType};
 use entry_ref::EntryRef;
-use frozen_api::Frozen;
+use arena_api::Frozen;
 use frozen_btree::Cursor;
 use std::alloc::{AllocError, Global};
 use std::collections::BTreeMap;

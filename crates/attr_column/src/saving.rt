@@ -7,7 +7,7 @@ use attr_images::AttrLayout;
 use attr_rounds::Question;
 use attr_types::{Doc, Field, FieldItems, Fields};
 use entry_ref::EntryRef;
-use frozen_api::Frozen;
+use arena_api::Frozen;
 use std::alloc::{AllocError, Global};
 use std::collections::BTreeMap;
 

@@ -23,7 +23,7 @@ use crate::making::{drop_items, make_items};
 use attr_types::{Doc, Item, Kind, ValueType};
 use doc_vector::{get, remove, set};
 use entry_ref::EntryRef;
-use frozen_api::Frozen;
+use arena_api::Frozen;
 use std::alloc::Global;
 use store_api::{Store, StoreError};
 

@@ -16,7 +16,7 @@ use array_store::{count, get as array_item};
 use attr_types::{Doc, Item, Items, Kind, Value, ValueType};
 use doc_vector::get;
 use entry_ref::EntryRef;
-use frozen_api::Frozen;
+use arena_api::Frozen;
 use std::alloc::{AllocError, Global};
 use unique_store::{get as stored, value_law};
 

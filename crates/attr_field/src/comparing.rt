@@ -10,7 +10,7 @@ ghost use Rattle.attr_index.specs.Columns.{items_of};
 use attr_documents::items;
 use attr_types::{Doc, Item, Kind, Value, ValueType};
 use entry_ref::EntryRef;
-use frozen_api::Frozen;
+use arena_api::Frozen;
 use std::alloc::{AllocError, Global};
 
 /// Whether two values are the same.

@@ -8,7 +8,7 @@ ghost use Rattle.attr_images.specs.Documents.{column_at};
 use crate::roots::FieldRoots;
 use attr_documents::items as read_items;
 use attr_types::{Doc, Items, Kind, ValueType};
-use frozen_api::Frozen;
+use arena_api::Frozen;
 use std::alloc::{AllocError, Global};
 
 /// The items of a document, if it is there.

@@ -2,7 +2,7 @@ ghost use Rattle.std.specs.Prelude.{◌≡◌, ℕ, IfOk};
 ghost use Rattle.entry_ref.specs.Records.{Records};
 
 use entry_ref::{EntryRef, Layout};
-use frozen_api::Frozen;
+use arena_api::Frozen;
 use std::alloc::{AllocError, Global};
 
 /// What is asked of a commit in each round.

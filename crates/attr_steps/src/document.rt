@@ -25,7 +25,7 @@ ghost use Rattle.attr_steps.specs.Widths.{IsChangedWidth};
 
 use attr_field::{FieldRoots, field_law, items, put, remove};
 use attr_types::{Doc, Field, FieldItems, Item};
-use frozen_api::Frozen;
+use arena_api::Frozen;
 use std::alloc::{AllocError, Global};
 use store_api::{Store, StoreError, may_do_law};
 

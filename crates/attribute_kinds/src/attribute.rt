@@ -19,7 +19,7 @@ ghost use Rattle.compact_steps.specs.Compactions.{KeepsStoreBut};
 ghost use Rattle.attribute_kinds.specs.declared.answers.Compacted.TheVariants.{Idle};
 
 use crate::answers::{AttrError, CommitInfo, Compacted, Published, has_finished, refusal, told};
-use arena_api::Work;
+use arena_api::{Frozen, Work};
 use attr_changes::Applied;
 use attr_compaction::Plan;
 use attr_field::{FieldRoots, field_law};
@@ -29,7 +29,6 @@ use attr_types::{Fields, Op};
 use compact_steps::{compact, same_law, step_law};
 use entry_ref::EntryRef;
 use entry_store::{EntryStore, NoMemory};
-use frozen_api::Frozen;
 use std::alloc::{AllocError, Global};
 use std::marker::Model;
 use store_api::Store;

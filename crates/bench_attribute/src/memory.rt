@@ -5,13 +5,12 @@ ghost use Rattle.attr_images.specs.Shapes.{shape_of, types_of};
 ghost use Rattle.attr_types.specs.declared.field.TheConstants.{MOST_FIELDS};
 ghost use Rattle.store_api.specs.Ledgers.{is_width};
 
-use arena_api::Work;
+use arena_api::{Frozen, Work};
 use attr_changes::Applied;
 use attr_images::{AttrLayout, shape_of};
 use attr_types::{Field, Fields, Kind, Name, Op, ValueType, fits};
 use attribute_kinds::Attribute;
 use entry_store::EntryStore;
-use frozen_api::Frozen;
 use mem_work::MemWork;
 use std::alloc::{AllocError, Global};
 use store_api::Store;

@@ -6,13 +6,12 @@ ghost use Rattle.attr_types.specs.declared.field.TheConstants.{MOST_FIELDS};
 
 use crate::draws::doc_at;
 use crate::memory::{Kinds, Memory, apply_one, commit_one, new_attribute, new_memory, one_field};
-use arena_api::Work;
+use arena_api::{Frozen, Work};
 use attr_images::AttrLayout;
 use attr_types::{FieldItems, Fields, Item, Items, Kind, Leaf, Op, Query, Value, ValueType};
 use attribute_kinds::{Attribute, committed_work};
 use entry_ref::EntryRef;
 use entry_store::EntryStore;
-use frozen_api::Frozen;
 use mem_work::MemWork;
 use query_eval::hits;
 use std::alloc::{AllocError, Global};

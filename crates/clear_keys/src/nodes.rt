@@ -17,7 +17,7 @@ use attr_field::FieldRoots;
 use attr_types::{Field, Value};
 use entry_ref::EntryRef;
 use enum_dictionary::{LongKey, TextKey};
-use frozen_api::Frozen;
+use arena_api::Frozen;
 use frozen_btree::NumberKey;
 use std::alloc::Global;
 

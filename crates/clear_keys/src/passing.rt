@@ -20,7 +20,7 @@ use attr_field::FieldRoots;
 use attr_types::{Field, Value, ValueType};
 use entry_ref::EntryRef;
 use enum_dictionary::{find, upper};
-use frozen_api::Frozen;
+use arena_api::Frozen;
 use frozen_btree::{Cursor, NumberKey};
 use std::alloc::Global;
 use unique_store::get;

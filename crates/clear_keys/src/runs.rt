@@ -6,7 +6,7 @@ ghost use Rattle.clear_keys.specs.Sights.{StandsApart, IsPairOf, IsRun};
 
 use crate::sights::{Sight, pair_is_apart};
 use attr_types::{Kind, ValueType};
-use frozen_api::Frozen;
+use arena_api::Frozen;
 use frozen_btree::Cursor;
 
 /// So many pairs, and the key of the last of them.

@@ -10,7 +10,7 @@ ghost use Rattle.clear_keys.specs.Sights.{StandsApart, IsPairOf, IsRecordApart};
 use attr_types::{Kind, ValueType};
 use document_moves::items_lie;
 use entry_ref::EntryRef;
-use frozen_api::Frozen;
+use arena_api::Frozen;
 
 /// What stands under a key, by its phase: the record of a value, a document's items, or a value's list.
 #[derive(Clone, Copy, Drop)]

@@ -6,7 +6,7 @@ ghost use Rattle.key_order.specs.Keys.{Ascends, AllReadable, seen_by};
 ghost use Rattle.clear_keys.specs.Ways.{IsWay, IsWayApart, IsWayBelow};
 
 use entry_ref::EntryRef;
-use frozen_api::Frozen;
+use arena_api::Frozen;
 use frozen_btree::KeyOrder;
 use tree_images::{FIRST_VALUE, NODE_WORDS};
 use tree_node::{Spot, read_head, used_in, visit};

@@ -11,7 +11,7 @@ use attr_types::Field;
 use cleared_steps::{same_law, stage_law};
 use entry_ref::EntryRef;
 use field_moves::move_one;
-use frozen_api::Frozen;
+use arena_api::Frozen;
 use plan_keys::next_key;
 use std::alloc::{AllocError, Global};
 use store_api::{Store, StoreError};

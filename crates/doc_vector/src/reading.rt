@@ -6,7 +6,7 @@ ghost use Rattle.doc_vector.specs.Documents.{beside_document, IsDocumentMap};
 
 use attr_types::Doc;
 use entry_ref::EntryRef;
-use frozen_api::Frozen;
+use arena_api::Frozen;
 use frozen_btree::{Cursor, NumberKey, find};
 
 /// The reference of a document's items, 0 where it has none. There is no answer where the document is not there.

@@ -8,7 +8,7 @@ ghost use Rattle.value_index.specs.Indexes.{IsIndex, IsKey};
 
 use attr_types::{Item, Value, ValueType};
 use entry_ref::EntryRef;
-use frozen_api::Frozen;
+use arena_api::Frozen;
 use std::alloc::{AllocError, Global};
 use value_index::{key, key_law};
 

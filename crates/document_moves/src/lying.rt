@@ -17,7 +17,7 @@ use array_store::{count, get as array_item};
 use attr_types::{Doc, Kind, ValueType};
 use doc_vector::get;
 use entry_ref::EntryRef;
-use frozen_api::Frozen;
+use arena_api::Frozen;
 use unique_store::value_law;
 
 /// The record of the value in a word of a document's record.

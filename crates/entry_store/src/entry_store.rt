@@ -16,10 +16,9 @@ ghost use Rattle.entry_store.specs.Standing.{Stands, statuses, records_by_status
 ghost use Rattle.entry_store.specs.Steps.{TakesOne, OpensBuffer, MakesOpened, TellsOldest, FullAs, Publishes, EndsCommit, retired_by};
 ghost use Rattle.entry_store.specs.Steps.{generation_by};
 
-use arena_api::{Advance, Oldest, Work};
+use arena_api::{Advance, Frozen, Oldest, Work};
 use entry_ledger::EntryLedger;
 use entry_ref::EntryRef;
-use frozen_api::Frozen;
 use std::alloc::Global;
 use store_api::{Store, StoreError, Stored};
 

@@ -8,7 +8,7 @@ ghost use Rattle.enum_dictionary.specs.Dictionaries.{IsDictionary, behind, besid
 use crate::keys::{LongKey, TextKey};
 use attr_types::Value;
 use entry_ref::EntryRef;
-use frozen_api::Frozen;
+use arena_api::Frozen;
 use frozen_btree::Cursor;
 use unique_store::compare;
 

@@ -8,7 +8,7 @@ ghost use Rattle.enum_dictionary.specs.Dictionaries.{IsDictionary, beside_value,
 use crate::keys::{LongKey, TextKey};
 use attr_types::Value;
 use entry_ref::EntryRef;
-use frozen_api::Frozen;
+use arena_api::Frozen;
 use frozen_btree::find as find_pair;
 
 /// What stands at a value: the record that is its key, and the word of its list.

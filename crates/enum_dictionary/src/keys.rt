@@ -6,7 +6,7 @@ ghost use Rattle.enum_dictionary.specs.ProofsForKeys.{value_total, value_stays, 
 
 use attr_types::Value;
 use entry_ref::EntryRef;
-use frozen_api::Frozen;
+use arena_api::Frozen;
 use key_order::KeyOrder;
 use std::cmp::Ordering;
 use std::marker::Model;

@@ -3,7 +3,7 @@ ghost use Rattle.std.specs.declared.cmp.Ordering.{Ordering};
 ghost use Rattle.std.specs.Cmp.{IsTotalOrder};
 ghost use Rattle.entry_ref.specs.Records.{Records, SameAt};
 
-use frozen_api::Frozen;
+use arena_api::Frozen;
 use std::cmp::Ordering;
 
 /// A key that is sought in a tree. Stored keys read as values of `Read`, over records.

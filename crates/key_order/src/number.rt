@@ -4,7 +4,7 @@ ghost use Rattle.std.specs.Cmp.{nat_cmp_total};
 ghost use Rattle.tree_images.specs.Trees.{by_number};
 
 use crate::key::KeyOrder;
-use frozen_api::Frozen;
+use arena_api::Frozen;
 use std::cmp::Ordering;
 
 /// A key that is its own number.

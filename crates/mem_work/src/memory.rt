@@ -12,9 +12,8 @@ ghost use Rattle.mem_work.specs.Marks.{IsMarkOfWidth, mark_at, with_marks};
 
 use crate::cells::Cells;
 use crate::reach::{Reach, add_those};
-use arena_api::{Advance, Oldest, Work};
+use arena_api::{Advance, Frozen, Oldest, Work};
 use entry_ref::{EntryRef, Layout};
-use frozen_api::Frozen;
 use std::alloc::{AllocError, Global};
 use std::collections::BTreeMap;
 use std::marker::PhantomData;

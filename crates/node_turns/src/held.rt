@@ -5,7 +5,7 @@ ghost use Rattle.word_arena.specs.Ruled.{reader_of, seen_image};
 ghost use Rattle.node_turns.specs.OneNode.{IsNodeRecord};
 
 use crate::node::{OneNode, are_of};
-use frozen_api::Frozen;
+use arena_api::Frozen;
 use std::sync::ledger::Ledger;
 use word_arena::{Again, Aimed, Guarded, Reader, Steps};
 

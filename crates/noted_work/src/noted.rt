@@ -7,9 +7,8 @@ ghost use Rattle.arena_api.specs.Works.{active_width};
 ghost use Rattle.arena_api.specs.Calls.{MayStore, InNoCommit, AddsCommit, with_stored, padded, next_image, published};
 
 use crate::notes::Notes;
-use arena_api::{Advance, Oldest, Work};
+use arena_api::{Advance, Frozen, Oldest, Work};
 use entry_ref::EntryRef;
-use frozen_api::Frozen;
 use std::alloc::Global;
 use std::collections::BTreeMap;
 

@@ -5,7 +5,7 @@ ghost use Rattle.key_order.specs.Pairs.{seek};
 ghost use Rattle.number_tree.specs.Maps.{beside_number, first_of};
 
 use entry_ref::EntryRef;
-use frozen_api::Frozen;
+use arena_api::Frozen;
 use frozen_btree::{Cursor, NumberKey};
 use std::alloc::{AllocError, Global};
 

@@ -7,7 +7,7 @@ ghost use Rattle.plan_keys.specs.PhaseKeys.{document_keys, key_past};
 use crate::numbers::{first_number, number_past};
 use attr_compaction::PlanKey;
 use entry_ref::EntryRef;
-use frozen_api::Frozen;
+use arena_api::Frozen;
 
 /// The key of a document.
 fn document_key(number: Option<u32>) -> Option<PlanKey>

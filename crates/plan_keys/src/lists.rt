@@ -6,7 +6,7 @@ ghost use Rattle.plan_keys.specs.PhaseKeys.{first_item, form_docs};
 
 use crate::numbers::{first_number, number_past};
 use entry_ref::EntryRef;
-use frozen_api::Frozen;
+use arena_api::Frozen;
 
 /// Whether a list is one record.
 fn is_short(list: u64) -> bool

@@ -10,7 +10,7 @@ use crate::values::value_after;
 use attr_compaction::{DOCUMENTS, KEYS, LISTS, PlanKey};
 use attr_types::ValueType;
 use entry_ref::EntryRef;
-use frozen_api::Frozen;
+use arena_api::Frozen;
 use std::alloc::{AllocError, Global};
 
 /// The first key past another of the last phase: a value, or where none follows a document.

@@ -9,7 +9,7 @@ ghost use Rattle.attr_types.specs.Lawful.{IsDocNumber};
 ghost use Rattle.plan_keys.specs.PhaseKeys.{first_item};
 
 use entry_ref::EntryRef;
-use frozen_api::Frozen;
+use arena_api::Frozen;
 use frozen_btree::{Cursor, NumberKey};
 
 /// The document of the pair that follows, where one does.

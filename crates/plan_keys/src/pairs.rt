@@ -15,7 +15,7 @@ use attr_compaction::PlanKey;
 use attr_types::{Value, ValueType};
 use entry_ref::EntryRef;
 use enum_dictionary::{find, upper};
-use frozen_api::Frozen;
+use arena_api::Frozen;
 use frozen_btree::Cursor;
 use std::alloc::{AllocError, Global};
 use unique_store::get;

@@ -6,7 +6,7 @@ ghost use Rattle.posting_store.specs.Walks.{postings_from, first_doc, first_weig
 use crate::posting::Posting;
 use attr_types::Doc;
 use entry_ref::EntryRef;
-use frozen_api::Frozen;
+use arena_api::Frozen;
 use frozen_btree::{Cursor, total};
 
 /// A place before a document of a list, or at the end of it.

@@ -10,7 +10,7 @@ use crate::cursor::walk;
 use crate::posting::Posting;
 use arrayvec::ArrayVec;
 use attr_types::Doc;
-use frozen_api::Frozen;
+use arena_api::Frozen;
 
 /// The items of a short list, and of one with a document more.
 pub type Items = ArrayVec<u64, 9>;

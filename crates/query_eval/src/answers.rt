@@ -12,7 +12,7 @@ use crate::queries::matching;
 use attr_scores::{Parts, ScoreList};
 use attr_types::{DocList, Fields, Query};
 use entry_ref::EntryRef;
-use frozen_api::Frozen;
+use arena_api::Frozen;
 use query_scores::scored;
 use std::alloc::{AllocError, Global};
 

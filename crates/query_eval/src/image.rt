@@ -7,7 +7,7 @@ ghost use Rattle.query_eval.specs.Indexes.{HasDictionaries, dictionaries_at};
 use crate::dictionary::Dictionary;
 use attr_types::Field;
 use entry_ref::EntryRef;
-use frozen_api::Frozen;
+use arena_api::Frozen;
 use frozen_btree::total;
 use std::alloc::{AllocError, Global};
 

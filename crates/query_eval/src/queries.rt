@@ -13,7 +13,7 @@ use crate::dictionary::Dictionary;
 use crate::sizes::shortest_of;
 use attr_types::{DocList, Leaf, Query};
 use doc_set::Gathered;
-use frozen_api::Frozen;
+use arena_api::Frozen;
 use query_leaves::{gather_every, gather_leaf};
 use query_scores::{kept_with, with_value};
 use std::alloc::{AllocError, Global};

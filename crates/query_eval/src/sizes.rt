@@ -9,7 +9,7 @@ use array_store::count;
 use attr_images::FIRST_VECTOR;
 use attr_types::{Leaf, Query, Value, ValueType};
 use entry_ref::EntryRef;
-use frozen_api::Frozen;
+use arena_api::Frozen;
 use frozen_btree::total;
 use query_scores::word_of;
 

@@ -14,7 +14,7 @@ use attr_images::BLOCK_WORDS;
 use attr_types::Doc;
 use doc_set::{DocSet, Gathered};
 use entry_ref::EntryRef;
-use frozen_api::Frozen;
+use arena_api::Frozen;
 use frozen_btree::Cursor;
 use std::alloc::{AllocError, Global};
 

@@ -10,7 +10,7 @@ ghost use Rattle.query_leaves.specs.Takers.{AddsMeeting};
 
 use attr_types::{Doc, DocList};
 use entry_ref::EntryRef;
-use frozen_api::Frozen;
+use arena_api::Frozen;
 use std::alloc::{AllocError, Global};
 use tree_search::{TakesKeys, take_keys};
 

@@ -16,7 +16,7 @@ use attr_images::{FIRST_VECTOR, MOST_SHORT};
 use attr_types::{Doc, DocList};
 use doc_set::{DocSet, Gathered};
 use entry_ref::EntryRef;
-use frozen_api::Frozen;
+use arena_api::Frozen;
 use frozen_btree::total;
 use std::alloc::{AllocError, Global};
 use tree_search::take_keys;

@@ -12,7 +12,7 @@ use crate::values::is_of_type;
 use attr_types::{Leaf, Text, Value, ValueType};
 use entry_ref::EntryRef;
 use enum_dictionary::lower;
-use frozen_api::Frozen;
+use arena_api::Frozen;
 use frozen_btree::Cursor;
 use std::alloc::{AllocError, Global};
 

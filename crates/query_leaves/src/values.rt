@@ -6,7 +6,7 @@ ghost use Rattle.query_index.specs.Leaves.{stands_before, stands_beyond};
 
 use attr_types::{Leaf, Value, ValueType};
 use entry_ref::EntryRef;
-use frozen_api::Frozen;
+use arena_api::Frozen;
 use query_index::{is_before, is_beyond};
 use std::alloc::{AllocError, Global};
 use unique_store::get;

@@ -13,7 +13,7 @@ use crate::values::{is_before_at, is_beyond_at};
 use attr_types::{Leaf, ValueType};
 use doc_set::Gathered;
 use entry_ref::EntryRef;
-use frozen_api::Frozen;
+use arena_api::Frozen;
 use frozen_btree::Cursor;
 use std::alloc::{AllocError, Global};
 

@@ -18,7 +18,7 @@ use attr_types::{Doc, DocList, Value, ValueType};
 use doc_set::Gathered;
 use entry_ref::EntryRef;
 use enum_dictionary::find;
-use frozen_api::Frozen;
+use arena_api::Frozen;
 use query_leaves::{gather_list, is_of_type, keep_list};
 use std::alloc::{AllocError, Global};
 

@@ -8,7 +8,7 @@ ghost use Rattle.query_scores.specs.Weights.{weight_in_list};
 use array_store::count;
 use attr_images::{FIRST_VECTOR, MOST_SHORT};
 use entry_ref::EntryRef;
-use frozen_api::Frozen;
+use arena_api::Frozen;
 use frozen_btree::{NumberKey, find};
 
 fn weight_among(words: &[u64], doc: u32) -> i32

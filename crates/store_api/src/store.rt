@@ -15,9 +15,8 @@ ghost use Rattle.store_api.specs.Units.{MayDo};
 ghost use Rattle.store_api.specs.Calls.{GivesBack, MayGiveBack, Makes, Refuses, DropsEntry, Accepts, Undoes, IsWhole, StoresCommit, Seals};
 ghost use Rattle.store_api.specs.Victims.{IsVictim, HasNoVictim};
 
-use arena_api::{Advance, Oldest};
+use arena_api::{Advance, Frozen, Oldest};
 use entry_ref::{EntryRef, Layout};
-use frozen_api::Frozen;
 
 /// Why no entry was made.
 #[derive(Clone, Copy, Debug, PartialEq, Eq, Drop)]

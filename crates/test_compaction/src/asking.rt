@@ -8,7 +8,7 @@ use attr_column::first_documents;
 use attr_scores::{Part, Parts};
 use attr_types::{Doc, Field, FieldItems, Fields, Items, Leaf, Query, Value, compare};
 use entry_ref::EntryRef;
-use frozen_api::Frozen;
+use arena_api::Frozen;
 use query_eval::{hits, scores};
 use std::alloc::{AllocError, Global};
 use std::collections::BTreeMap;

@@ -4,7 +4,7 @@ ghost use Rattle.entry_ref.specs.Records.{HasWord, word_at};
 
 use crate::words::Words;
 use entry_ref::EntryRef;
-use frozen_api::Frozen;
+use arena_api::Frozen;
 use std::alloc::Global;
 use std::marker::Model;
 

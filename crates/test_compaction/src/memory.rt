@@ -15,7 +15,7 @@ use attr_images::{AttrLayout, shape_of};
 use attr_types::Fields;
 use attribute_kinds::Attribute;
 use entry_store::EntryStore;
-use frozen_api::Frozen;
+use arena_api::Frozen;
 use mem_work::MemWork;
 use std::alloc::{AllocError, Global};
 use word_arena::{Arena, Config, Limits, Writer};

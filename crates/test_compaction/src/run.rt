@@ -12,12 +12,11 @@ use crate::sights::Sight;
 use crate::steps::{load_all, take_steps};
 use crate::watch::Watch;
 use crate::watched::Watched;
-use arena_api::Work;
+use arena_api::{Frozen, Work};
 use attr_images::AttrLayout;
 use attr_types::Fields;
 use attribute_kinds::Attribute;
 use entry_store::EntryStore;
-use frozen_api::Frozen;
 use std::alloc::{AllocError, Global};
 use store_api::Store;
 

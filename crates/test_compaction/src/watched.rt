@@ -9,9 +9,8 @@ ghost use Rattle.arena_api.specs.Calls.{MayStore, InNoCommit, AddsCommit, with_s
 
 use crate::watch::Watch;
 use crate::words::Words;
-use arena_api::{Advance, Oldest, Work};
+use arena_api::{Advance, Frozen, Oldest, Work};
 use entry_ref::EntryRef;
-use frozen_api::Frozen;
 use std::alloc::Global;
 
 /// A work whose commits are watched: what is stored in it is kept beside it.

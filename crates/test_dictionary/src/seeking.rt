@@ -9,7 +9,7 @@ use crate::new_store;
 use attr_types::Value;
 use entry_ref::EntryRef;
 use enum_dictionary::{find, lower, upper};
-use frozen_api::Frozen;
+use arena_api::Frozen;
 use frozen_btree::Cursor;
 use std::alloc::{AllocError, Global};
 use store_api::Store;

@@ -5,12 +5,11 @@ ghost use Rattle.doc_vector.specs.Documents.{IsDocumentMap};
 ghost use Rattle.test_documents.specs.Holding.{HoldsMap};
 
 use crate::stores::new_store;
-use arena_api::Work;
+use arena_api::{Frozen, Work};
 use attr_types::Doc;
 use doc_vector::{get, remove, set, walk_from};
 use entry_ref::EntryRef;
 use entry_store::EntryStore;
-use frozen_api::Frozen;
 use std::alloc::{AllocError, Global};
 use store_api::{Store, StoreError};
 

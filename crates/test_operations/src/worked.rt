@@ -6,7 +6,7 @@ ghost use Rattle.attr_types.specs.declared.field.TheConstants.{MOST_FIELDS};
 
 use crate::told::{push_answer, push_commit, push_documents, push_table};
 use crate::turn::{Noted, apply_one, close, commit_one, new_attribute};
-use arena_api::Work;
+use arena_api::{Frozen, Work};
 use attr_images::AttrLayout;
 use attr_io::SliceSource;
 use attr_types::{Fields, Op, Ops, Query};
@@ -15,7 +15,6 @@ use check_images::check_image;
 use check_trees::CheckFault;
 use entry_ref::{EntryRef, word_in, words_at};
 use feed_reader::{FeedError, read_feed};
-use frozen_api::Frozen;
 use query_eval::hits;
 use query_text::parse_query;
 use std::alloc::{AllocError, Global};

@@ -5,7 +5,7 @@ ghost use Rattle.test_postings.specs.Held.{HoldsList};
 
 use attr_types::Doc;
 use entry_ref::EntryRef;
-use frozen_api::Frozen;
+use arena_api::Frozen;
 use posting_store::{Posting, add, list_law, remove, walk};
 use std::alloc::{AllocError, Global};
 use store_api::Store;

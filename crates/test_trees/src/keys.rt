@@ -7,7 +7,7 @@ use crate::tens::put_word;
 use crate::texts::push_numbers;
 use crate::trees::records_of;
 use entry_ref::{EntryRef, word_in, words_at};
-use frozen_api::Frozen;
+use arena_api::Frozen;
 use frozen_btree::{KeyOrder, NumberKey};
 use std::alloc::{AllocError, Global};
 use std::cmp::Ordering;

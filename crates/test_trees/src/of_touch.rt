@@ -8,7 +8,7 @@ use crate::texts::{number_at, push_mark};
 use crate::trees::records_of;
 use check_trees::{Keys, check_tree};
 use entry_ref::{EntryRef, word_in, words_at};
-use frozen_api::Frozen;
+use arena_api::Frozen;
 use frozen_btree::{NumberKey, touch};
 use number_tree::{NumberTree, TreeLayout};
 use std::alloc::{AllocError, Global};

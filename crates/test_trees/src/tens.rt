@@ -5,7 +5,7 @@ ghost use Rattle.std.specs.Cmp.{nat_cmp_total};
 ghost use Rattle.test_trees.specs.Tens.{by_tens, HoldsTens};
 
 use entry_ref::EntryRef;
-use frozen_api::Frozen;
+use arena_api::Frozen;
 use frozen_btree::{KeyOrder, insert};
 use std::cmp::Ordering;
 use store_api::{Store, StoreError};

@@ -6,7 +6,7 @@ ghost use Rattle.tree_images.specs.Trees.{IsNode, IsRootNode};
 use check_trees::{Keys, check_tree};
 use entry_ref::{EntryRef, word_in, words_at};
 use entry_store::EntryStore;
-use frozen_api::Frozen;
+use arena_api::Frozen;
 use mem_work::MemWork;
 use number_tree::{NumberTree, TreeLayout};
 use std::alloc::{AllocError, Global};

@@ -11,7 +11,7 @@ use crate::leaf::put_pair;
 use crate::parts::{Parts, count_parts, put_parts};
 use arrayvec::ArrayVec;
 use entry_ref::EntryRef;
-use frozen_api::Frozen;
+use arena_api::Frozen;
 use key_order::KeyOrder;
 use store_api::{Store, StoreError};
 use tree_images::{FIRST_VALUE, NODE_WORDS};

@@ -9,7 +9,7 @@ ghost use Rattle.tree_insert.specs.Parts.{MakesParts, part_keys, part_nodes, par
 
 use arrayvec::ArrayVec;
 use entry_ref::EntryRef;
-use frozen_api::Frozen;
+use arena_api::Frozen;
 use store_api::{Store, StoreError};
 use tree_images::{MOST_SLOTS, NODE_WORDS};
 use tree_make::{Part, add_slot, make_part, make_words, set_slot};

@@ -7,7 +7,7 @@ ghost use Rattle.tree_make.specs.Words.{AreWords};
 
 use arrayvec::ArrayVec;
 use entry_ref::EntryRef;
-use frozen_api::Frozen;
+use arena_api::Frozen;
 use store_api::{Store, StoreError};
 use tree_images::{MOST_SLOTS, NODE_WORDS};
 use tree_node::{Slots, append, used_in};

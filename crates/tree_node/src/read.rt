@@ -5,7 +5,7 @@ ghost use Rattle.tree_images.specs.Nodes.{level_of, used_of, node_keys, node_val
 use crate::slots::{Slots, append};
 use arrayvec::ArrayVec;
 use entry_ref::EntryRef;
-use frozen_api::Frozen;
+use arena_api::Frozen;
 use tree_images::{FIRST_KEY, FIRST_VALUE, MOST_SLOTS, NODE_WORDS};
 
 /// Reads all words of a node.

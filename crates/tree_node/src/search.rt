@@ -9,7 +9,7 @@ ghost use Rattle.tree_node.specs.Places.{IsSlot, IsFound, IsLacking, IsPlace};
 
 use crate::read::{keys_in, read_words};
 use entry_ref::EntryRef;
-use frozen_api::Frozen;
+use arena_api::Frozen;
 use key_order::KeyOrder;
 use std::cmp::Ordering;
 use tree_images::{FIRST_VALUE, MOST_SLOTS, NODE_WORDS};

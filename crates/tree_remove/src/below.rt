@@ -14,7 +14,7 @@ use crate::parent::put_child;
 use crate::words::take_slot;
 use arrayvec::ArrayVec;
 use entry_ref::EntryRef;
-use frozen_api::Frozen;
+use arena_api::Frozen;
 use key_order::KeyOrder;
 use store_api::{Store, StoreError};
 use tree_images::{FIRST_VALUE, NODE_WORDS};

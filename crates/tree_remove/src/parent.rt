@@ -10,7 +10,7 @@ use crate::neighbours::make_neighbours;
 use crate::words::write_slots;
 use arrayvec::ArrayVec;
 use entry_ref::EntryRef;
-use frozen_api::Frozen;
+use arena_api::Frozen;
 use store_api::{Store, StoreError};
 use tree_images::{LEAST_SLOTS, MOST_SLOTS, NODE_WORDS};
 use tree_make::{make_words, set_slot};

@@ -8,7 +8,7 @@ ghost use Rattle.tree_search.specs.Places.{Leads, pairs_behind, pairs_from, IsAt
 
 use crate::path::Path;
 use entry_ref::EntryRef;
-use frozen_api::Frozen;
+use arena_api::Frozen;
 use key_order::KeyOrder;
 use std::marker::Model;
 use tree_images::{FIRST_KEY, FIRST_VALUE, MOST_SLOTS, NODE_WORDS};

@@ -6,7 +6,7 @@ ghost use Rattle.tree_images.specs.Nodes.{used_of, node_keys};
 ghost use Rattle.tree_images.specs.Trees.{pairs_below, tree_pairs, IsNode, IsRootNode};
 
 use entry_ref::EntryRef;
-use frozen_api::Frozen;
+use arena_api::Frozen;
 use std::alloc::AllocError;
 use tree_images::{FIRST_KEY, FIRST_VALUE, MOST_SLOTS, NODE_WORDS};
 use tree_node::{read_head, read_words, used_in};

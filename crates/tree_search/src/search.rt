@@ -7,7 +7,7 @@ ghost use Rattle.key_order.specs.Pairs.{lookup, lookup_pair};
 ghost use Rattle.tree_node.specs.Places.{IsSlot, IsFound, IsLacking};
 
 use entry_ref::EntryRef;
-use frozen_api::Frozen;
+use arena_api::Frozen;
 use key_order::KeyOrder;
 use std::cmp::Ordering;
 use tree_images::{FIRST_KEY, FIRST_VALUE};

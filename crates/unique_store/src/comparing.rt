@@ -8,7 +8,7 @@ ghost use Rattle.attr_types.specs.declared.kind.ValueType.TheVariants as types;
 use crate::bytes::{behind_eight, first_word};
 use attr_types::Value;
 use entry_ref::EntryRef;
-use frozen_api::Frozen;
+use arena_api::Frozen;
 use std::cmp::Ordering;
 
 /// Compares a stored text with bytes. Its words are read as far as they are equal, and no further.

@@ -5,7 +5,7 @@ ghost use Rattle.attr_types.specs.declared.kind.ValueType.TheVariants as types;
 
 use attr_types::{Text, Value, ValueType};
 use entry_ref::EntryRef;
-use frozen_api::Frozen;
+use arena_api::Frozen;
 use std::alloc::{AllocError, Global};
 
 /// Appends the bytes of a word, the highest first.

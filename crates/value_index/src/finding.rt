@@ -5,7 +5,7 @@ ghost use Rattle.value_index.specs.Indexes.{key_at, IsIndex};
 use attr_types::Value;
 use entry_ref::EntryRef;
 use enum_dictionary::find;
-use frozen_api::Frozen;
+use arena_api::Frozen;
 
 /// The key of a value, which is its record, where a document has the value.
 pub fn key<const OFFSET_BITS: u32, F: Frozen<OFFSET_BITS>>(

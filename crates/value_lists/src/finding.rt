@@ -12,7 +12,7 @@ ghost use Rattle.value_index.specs.Indexes.{IsIndex};
 use attr_types::{Doc, Value};
 use entry_ref::EntryRef;
 use enum_dictionary::find;
-use frozen_api::Frozen;
+use arena_api::Frozen;
 use frozen_btree::{NumberKey, find as find_pair};
 use posting_store::{Posting, PostingCursor, walk};
 

@@ -10,7 +10,7 @@ ghost use Rattle.value_lists.specs.Holds.{as_listed};
 use attr_types::{Value, ValueType};
 use entry_ref::EntryRef;
 use enum_dictionary::find;
-use frozen_api::Frozen;
+use arena_api::Frozen;
 use frozen_btree::Cursor;
 use posting_store::{Posting, walk};
 use std::alloc::{AllocError, Global};

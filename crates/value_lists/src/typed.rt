@@ -14,7 +14,7 @@ use crate::reading::{documents_of, sum_of};
 use crate::unit::{add_unit, remove_unit};
 use attr_types::{Doc, Value, ValueType};
 use entry_ref::EntryRef;
-use frozen_api::Frozen;
+use arena_api::Frozen;
 use std::alloc::{AllocError, Global};
 use store_api::{Store, StoreError};
 use value_index::key;

@@ -13,7 +13,7 @@ use crate::plays::{Bounce, LoadNewest, LoadRoot, LoadWord, Raise, Release};
 use crate::rule::Place;
 use crate::steps::Steps;
 use entry_ref::{EntryRef, Layout, place_of};
-use frozen_api::Frozen;
+use arena_api::Frozen;
 use gen_core::Sizes;
 use std::sync::ledger::Ledger;
 

@@ -14,9 +14,8 @@ ghost use Rattle.word_arena.specs.Knows.{view_of, given, buffers_by};
 use crate::buffers::{count_free, last_of, lowest_free, width_of};
 use crate::plays::{FindWord, HandOut, Publish, StoreWidth, StoreWord};
 use crate::writer::Writer;
-use arena_api::{Advance, Oldest, Work};
+use arena_api::{Advance, Frozen, Oldest, Work};
 use entry_ref::{EntryRef, Layout, place_of};
-use frozen_api::Frozen;
 use gen_core::Buffer;
 use std::marker::Model;
 

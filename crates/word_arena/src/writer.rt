@@ -16,7 +16,7 @@ use crate::plays::{Cut, Glue, LoadOwn};
 use crate::reader::Reader;
 use crate::rule::Place;
 use entry_ref::{EntryRef, Layout, place_of};
-use frozen_api::Frozen;
+use arena_api::Frozen;
 use gen_core::{Buffer, Sizes};
 use generation_handler::Holds;
 

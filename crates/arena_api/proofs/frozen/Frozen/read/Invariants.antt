@@ -1,5 +1,5 @@
 use Rattle.std.proofs.Common.{◌≡◌, length, take, drop}
-use Rattle.frozen_api.proofs.Frozen.read.Given as goal
+use Rattle.arena_api.proofs.frozen.Frozen.read.Given as goal
 
 abbrev pub invariant-loop-i : goal.invariant-loop-i
 invariant-loop-i g l =
