@@ -10,10 +10,10 @@ use Rattle.entry_ref.specs.References.{packed}
 use Rattle.store_api.specs.Ledgers.{is_width, widths, capacity, buffers_in}
 use Rattle.buffer_states.specs.declared.Buffer.{Buffer}
 use Rattle.buffer_states.specs.Buffers.{new_buffer, buffer_at, is_state_free, is_state_active, is_on_hold}
-use Rattle.buffer_shelf.specs.declared.state.State.{State}
-use Rattle.buffer_shelf.specs.declared.state.State.TheVariants.{Free, Returned, Made, InUse, LetGo, DroppedNow, Dropped}
-use Rattle.buffer_shelf.specs.States.{ShelfView, empty_shelf, spare_of, is_free_state, is_made, state_at, with_state_at}
-use Rattle.entry_shelves.specs.Shelves.{shelf_at, made_in, filled_at, spare_of_width, with_shelf}
+use Rattle.entry_ledger.specs.declared.state.State.{State}
+use Rattle.entry_ledger.specs.declared.state.State.TheVariants.{Free, Returned, Made, InUse, LetGo, DroppedNow, Dropped}
+use Rattle.entry_ledger.specs.States.{ShelfView, empty_shelf, spare_of, is_free_state, is_made, state_at, with_state_at}
+use Rattle.entry_ledger.specs.Shelves.{shelf_at, made_in, filled_at, spare_of_width, with_shelf}
 use Rattle.hold_lists.specs.Held.{HeldEntry}
 use Rattle.entry_ledger.specs.Entries.{EntriesView, Mark, is_timely, count_marks}
 use Rattle.entry_ledger.specs.Calls.{with_state}

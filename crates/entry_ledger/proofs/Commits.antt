@@ -14,10 +14,10 @@ use Rattle.entry_ref.specs.References.{buffer_of, packed, buffer_limit}
 use Rattle.store_api.specs.Ledgers.{capacity}
 use Rattle.buffer_states.specs.declared.Buffer.{Buffer}
 use Rattle.buffer_states.specs.Buffers.{new_buffer, buffer_at, with_dropped_held, is_state_active, is_on_hold}
-use Rattle.buffer_shelf.specs.declared.state.State.{State}
-use Rattle.buffer_shelf.specs.declared.state.State.TheVariants.{Free, Returned, Made, InUse, LetGo, DroppedNow, Dropped}
-use Rattle.buffer_shelf.specs.States.{ShelfView, is_touched, is_held, state_at}
-use Rattle.entry_shelves.specs.Shelves.{shelf_at, made_in}
+use Rattle.entry_ledger.specs.declared.state.State.{State}
+use Rattle.entry_ledger.specs.declared.state.State.TheVariants.{Free, Returned, Made, InUse, LetGo, DroppedNow, Dropped}
+use Rattle.entry_ledger.specs.States.{ShelfView, is_touched, is_held, state_at}
+use Rattle.entry_ledger.specs.Shelves.{shelf_at, made_in}
 use Rattle.hold_lists.specs.Held.{HeldEntry, HoldTag, tagged_by, tag_or}
 use Rattle.entry_ledger.specs.Entries.{EntriesView, is_timely, is_settled_entry}
 use Rattle.entry_ledger.specs.Ledgers.{LedgerView, entries_of, mark_of, is_since, is_buffer_of, tag_fits, tag_below, is_in_list, IsCounted, IsFlagged, IsHeldList, IsSound, AreEntries, unmade_of_width}

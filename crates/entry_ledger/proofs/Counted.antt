@@ -9,11 +9,11 @@ use Rattle.std.proofs.lemmas.Bool.{cases_eq, eq-eqb, ne_eqb}
 use Rattle.list_facts.specs.Counting.{one_if}
 use Rattle.list_facts.proofs.Counts.{count_by-set}
 use Rattle.buffer_states.specs.declared.Buffer.{Buffer}
-use Rattle.buffer_shelf.specs.declared.state.State.{State}
-use Rattle.buffer_shelf.specs.declared.state.State.TheVariants.{Free, Returned, Made, InUse, LetGo, DroppedNow, Dropped}
-use Rattle.buffer_shelf.specs.States.{ShelfView, is_free_state, is_dead, is_held, is_dropped, state_at, IsOpen, with_made}
-use Rattle.entry_shelves.specs.Kept.{IsOfWidth}
-use Rattle.entry_shelves.proofs.Making.{made-taken}
+use Rattle.entry_ledger.specs.declared.state.State.{State}
+use Rattle.entry_ledger.specs.declared.state.State.TheVariants.{Free, Returned, Made, InUse, LetGo, DroppedNow, Dropped}
+use Rattle.entry_ledger.specs.States.{ShelfView, is_free_state, is_dead, is_held, is_dropped, state_at, IsOpen, with_made}
+use Rattle.entry_ledger.specs.ShelvesKept.{IsOfWidth}
+use Rattle.entry_ledger.proofs.Making.{made-taken}
 use Rattle.entry_ledger.specs.Ledgers.{is_since, unheld_in, IsCounted}
 
 -- what a free state is not

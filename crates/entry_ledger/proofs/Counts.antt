@@ -3,8 +3,8 @@ use Rattle.std.proofs.Common.{◌≡◌, ◌≢◌, ℕ, ◌+◌, ◌<◌, Bool,
 use Rattle.std.specs.List.{sum_by, count_by}
 use Rattle.std.proofs.lemmas.List.Sums.{sum_by-set}
 use Rattle.std.proofs.lemmas.Bool.{eq-eqb, ne_eqb}
-use Rattle.buffer_shelf.specs.States.{ShelfView, empty_shelf, spare_of, is_made}
-use Rattle.entry_shelves.specs.Shelves.{shelf_at, spare_in, spare_of_width}
+use Rattle.entry_ledger.specs.States.{ShelfView, empty_shelf, spare_of, is_made}
+use Rattle.entry_ledger.specs.Shelves.{shelf_at, spare_in, spare_of_width}
 use Rattle.entry_ledger.specs.Ledgers.{fresh_in}
 
 abbrev pub fresh_of_width : List ShelfView → ℕ → ℕ

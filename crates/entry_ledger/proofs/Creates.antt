@@ -8,9 +8,9 @@ use Rattle.entry_ref.specs.References.{buffer_of, offset_of, buffer_limit, offse
 use Rattle.store_api.specs.Ledgers.{is_width, is_this, widths, capacity, buffers_in, no_counts}
 use Rattle.buffer_states.specs.declared.Buffer.{Buffer}
 use Rattle.buffer_states.specs.Buffers.{new_buffer, buffer_at, is_state_free}
-use Rattle.buffer_shelf.specs.declared.state.State.{State}
-use Rattle.buffer_shelf.specs.States.{ShelfView, empty_shelf}
-use Rattle.entry_shelves.specs.Shelves.{shelf_at, row_of, made_in, filled_at, spare_in, spare_of_width}
+use Rattle.entry_ledger.specs.declared.state.State.{State}
+use Rattle.entry_ledger.specs.States.{ShelfView, empty_shelf}
+use Rattle.entry_ledger.specs.Shelves.{shelf_at, row_of, made_in, filled_at, spare_in, spare_of_width}
 use Rattle.entry_ledger.specs.Entries.{EntriesView, count_marks}
 use Rattle.entry_ledger.specs.Calls.{new_entries, free_mark}
 use Rattle.entry_ledger.specs.Ledgers.{LedgerView, entries_of, state_in, mark_of, counts_of, fresh_in, unheld_in, unmade_of_width, is_buffer_of, IsCounted, IsFlagged, IsHeldList, IsSound, AreEntries}

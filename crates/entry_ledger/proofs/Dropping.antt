@@ -5,9 +5,9 @@ use Rattle.std.proofs.Math.ListN.{length-set}
 use Rattle.std.proofs.lemmas.Bool.{cases_eq, eq-eqb, ne_eqb, leb-true, lt-ltb}
 use Rattle.list_facts.specs.Counting.{one_if}
 use Rattle.buffer_states.specs.declared.Buffer.{Buffer}
-use Rattle.buffer_shelf.specs.declared.state.State.{State}
-use Rattle.buffer_shelf.specs.declared.state.State.TheVariants.{Free, Returned, Made, InUse, LetGo, DroppedNow, Dropped}
-use Rattle.buffer_shelf.specs.States.{ShelfView, is_free_state, is_made, is_used, is_dead, is_held, is_dropped, state_at, dropped, with_state_at}
+use Rattle.entry_ledger.specs.declared.state.State.{State}
+use Rattle.entry_ledger.specs.declared.state.State.TheVariants.{Free, Returned, Made, InUse, LetGo, DroppedNow, Dropped}
+use Rattle.entry_ledger.specs.States.{ShelfView, is_free_state, is_made, is_used, is_dead, is_held, is_dropped, state_at, dropped, with_state_at}
 use Rattle.entry_ledger.specs.Entries.{EntriesView, is_timely}
 use Rattle.entry_ledger.specs.Ledgers.{is_since, dropped_buffer, IsCounted}
 use Rattle.entry_ledger.proofs.Counted.{count-keep, count-more, words-more}

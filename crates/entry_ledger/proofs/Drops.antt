@@ -8,10 +8,10 @@ use Rattle.entry_ref.specs.References.{offset_of, packed, buffer_limit}
 use Rattle.entry_ref.proofs.Bits.{packed-buffer, packed-offset}
 use Rattle.buffer_states.specs.declared.Buffer.{Buffer}
 use Rattle.buffer_states.specs.Buffers.{buffer_at, is_state_active}
-use Rattle.buffer_shelf.specs.declared.state.State.{State}
-use Rattle.buffer_shelf.specs.declared.state.State.TheVariants.{Free, Returned, Made, InUse, LetGo, DroppedNow, Dropped}
-use Rattle.buffer_shelf.specs.States.{ShelfView, empty_shelf, is_used, is_dead, is_dropped, state_at, dropped, with_state_at}
-use Rattle.entry_shelves.specs.Shelves.{shelf_at}
+use Rattle.entry_ledger.specs.declared.state.State.{State}
+use Rattle.entry_ledger.specs.declared.state.State.TheVariants.{Free, Returned, Made, InUse, LetGo, DroppedNow, Dropped}
+use Rattle.entry_ledger.specs.States.{ShelfView, empty_shelf, is_used, is_dead, is_dropped, state_at, dropped, with_state_at}
+use Rattle.entry_ledger.specs.Shelves.{shelf_at}
 use Rattle.hold_lists.specs.Held.{HeldEntry}
 use Rattle.entry_ledger.specs.Entries.{is_used_entry}
 use Rattle.entry_ledger.specs.Calls.{Drops}

@@ -5,7 +5,7 @@ use Rattle.std.specs.List.{find}
 use Rattle.std.proofs.lemmas.List.Edits.{length-remove}
 use Rattle.entry_ref.specs.References.{buffer_of}
 use Rattle.buffer_states.specs.declared.Buffer.{Buffer}
-use Rattle.entry_shelves.specs.Shelves.{ShelvesView, shelf_at}
+use Rattle.entry_ledger.specs.Shelves.{ShelvesView, shelf_at}
 use Rattle.hold_lists.specs.Held.{HeldEntry, HeldList, is_below, without_first}
 use Rattle.entry_ledger.specs.Entries.{EntriesView}
 use Rattle.entry_ledger.specs.Ledgers.{LedgerView, entries_of, CanRelease, Releases, AreEntries}

@@ -3,9 +3,9 @@ use Rattle.std.proofs.Common.{◌≡◌, ℕ, ◌+◌, Bool, true, false, cond, 
 use Rattle.std.specs.Option.{option_map}
 use Rattle.std.proofs.lemmas.Bool.{cases_eq, eq-eqb, ne_eqb, not-true}
 use Rattle.store_api.specs.Calls.{EndsOf}
-use Rattle.buffer_shelf.specs.declared.state.State.{State}
-use Rattle.buffer_shelf.specs.States.{is_touched, settled_state}
-use Rattle.buffer_shelf.proofs.Settling.{settled-same, settled-again}
+use Rattle.entry_ledger.specs.declared.state.State.{State}
+use Rattle.entry_ledger.specs.States.{is_touched, settled_state}
+use Rattle.entry_ledger.proofs.Settling.{settled-same, settled-again}
 use Rattle.entry_ledger.specs.Entries.{EntriesView, is_settled_entry}
 use Rattle.entry_ledger.specs.Calls.{StepsEnd, IsEnded, Accepts, Undoes, with_state}
 

@@ -7,10 +7,10 @@ use Rattle.std.proofs.lemmas.List.Sums.{sum_by-set, count_by-le-length}
 use Rattle.entry_ref.specs.References.{offset_limit}
 use Rattle.store_api.specs.Ledgers.{capacity}
 use Rattle.buffer_states.specs.Buffers.{buffer_at, is_state_active}
-use Rattle.buffer_shelf.specs.declared.state.State.{State}
-use Rattle.buffer_shelf.specs.declared.state.State.TheVariants.{Dropped}
-use Rattle.buffer_shelf.specs.States.{ShelfView, empty_shelf, is_dropped, state_at}
-use Rattle.entry_shelves.specs.Shelves.{shelf_at}
+use Rattle.entry_ledger.specs.declared.state.State.{State}
+use Rattle.entry_ledger.specs.declared.state.State.TheVariants.{Dropped}
+use Rattle.entry_ledger.specs.States.{ShelfView, empty_shelf, is_dropped, state_at}
+use Rattle.entry_ledger.specs.Shelves.{shelf_at}
 use Rattle.hold_lists.specs.Held.{HeldEntry}
 use Rattle.entry_ledger.specs.Ledgers.{LedgerView, unheld_in, AreEntries}
 use Rattle.entry_ledger.proofs.Good.{room-of}

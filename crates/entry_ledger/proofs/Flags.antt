@@ -4,7 +4,7 @@ use Rattle.std.proofs.lemmas.Bool.{cases_eq}
 use Rattle.store_api.specs.Ledgers.{is_this}
 use Rattle.buffer_states.specs.declared.Buffer.{Buffer}
 use Rattle.buffer_states.specs.Buffers.{new_buffer, buffer_at}
-use Rattle.entry_shelves.specs.Shelves.{filled_at}
+use Rattle.entry_ledger.specs.Shelves.{filled_at}
 use Rattle.entry_ledger.specs.Entries.{Mark}
 use Rattle.entry_ledger.specs.Ledgers.{mark_of, IsFlagged}
 

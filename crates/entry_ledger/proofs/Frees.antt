@@ -15,10 +15,10 @@ use Rattle.buffer_states.specs.declared.Buffer.{Buffer}
 use Rattle.buffer_states.specs.declared.BufferState.{BufferState}
 use Rattle.buffer_states.specs.declared.BufferState.TheVariants.{Free, Active, OnHold}
 use Rattle.buffer_states.specs.Buffers.{new_buffer, buffer_at, freed_below, is_state_active, is_on_hold}
-use Rattle.buffer_shelf.specs.declared.state.State.{State}
-use Rattle.buffer_shelf.specs.declared.state.State.TheVariants.{Free as FreeState, Returned, Made, InUse, LetGo, DroppedNow, Dropped}
-use Rattle.buffer_shelf.specs.States.{is_dead, is_held}
-use Rattle.entry_shelves.specs.Shelves.{shelf_at, row_of, filled_at}
+use Rattle.entry_ledger.specs.declared.state.State.{State}
+use Rattle.entry_ledger.specs.declared.state.State.TheVariants.{Free as FreeState, Returned, Made, InUse, LetGo, DroppedNow, Dropped}
+use Rattle.entry_ledger.specs.States.{is_dead, is_held}
+use Rattle.entry_ledger.specs.Shelves.{shelf_at, row_of, filled_at}
 use Rattle.hold_lists.specs.Held.{HeldEntry, HoldTag, untagged, is_below, is_tag_below}
 use Rattle.entry_ledger.specs.Entries.{EntriesView, Mark, IsMark, IsSealed, width_of, is_timely}
 use Rattle.entry_ledger.specs.Calls.{freed, freed_mark, free_mark, Frees}

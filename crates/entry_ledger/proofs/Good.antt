@@ -9,15 +9,15 @@ use Rattle.std.proofs.lemmas.Bool.{cases_lt, cases_eq, eq-eqb, ne_eqb}
 use Rattle.entry_ref.specs.References.{buffer_of, offset_of}
 use Rattle.entry_ref.specs.Places.{IsEntry}
 use Rattle.store_api.specs.Ledgers.{capacity, is_width}
-use Rattle.buffer_shelf.specs.declared.state.State.{State}
+use Rattle.entry_ledger.specs.declared.state.State.{State}
 use Rattle.buffer_states.specs.declared.BufferState.{BufferState}
 use Rattle.buffer_states.specs.declared.BufferState.TheVariants.{Free, Active, OnHold}
 use Rattle.buffer_states.specs.Buffers.{buffer_at, is_state_active, is_state_free, new_buffer}
-use Rattle.buffer_shelf.specs.States.{ShelfView, empty_shelf}
-use Rattle.entry_shelves.specs.Shelves.{shelf_at, made_in, filled_at}
-use Rattle.entry_shelves.specs.Kept.{IsOfWidth}
-use Rattle.entry_shelves.proofs.Rows.{width-bounds}
-use Rattle.entry_shelves.proofs.Opening.{some-capacity}
+use Rattle.entry_ledger.specs.States.{ShelfView, empty_shelf}
+use Rattle.entry_ledger.specs.Shelves.{shelf_at, made_in, filled_at}
+use Rattle.entry_ledger.specs.ShelvesKept.{IsOfWidth}
+use Rattle.entry_ledger.proofs.Rows.{width-bounds}
+use Rattle.entry_ledger.proofs.Opening.{some-capacity}
 use Rattle.hold_lists.specs.Held.{HeldEntry}
 use Rattle.entry_ledger.specs.Entries.{EntriesView, IsEntryOf, IsSealed, IsSpare, IsGood, width_of, is_open_entry}
 use Rattle.entry_ledger.specs.Ledgers.{LedgerView, entries_of, state_in, unmade_in, unmade_of_width, is_buffer_of, AreEntries}

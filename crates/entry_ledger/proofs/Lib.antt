@@ -32,3 +32,12 @@ pub mod Commits
 pub mod Opened
 pub mod Opens
 pub mod Creates
+pub mod StackSteps
+pub mod StackRemoval
+pub mod Settling
+pub mod Rows
+pub mod Steps
+pub mod Making
+pub mod Gains
+pub mod Opening
+pub mod Creating

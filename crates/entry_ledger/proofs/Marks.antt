@@ -12,8 +12,8 @@ use Rattle.buffer_states.specs.declared.BufferState.{BufferState}
 use Rattle.buffer_states.specs.declared.BufferState.TheVariants.{Free, Active, OnHold}
 use Rattle.buffer_states.specs.Buffers.{buffer_at, new_buffer, is_state_free, is_state_active}
 use Rattle.buffer_states.specs.Buffers.{IsLowestFree as IsLowestFreeBuffer}
-use Rattle.entry_shelves.specs.Shelves.{shelf_at, filled_at}
-use Rattle.entry_shelves.proofs.Rows.{width-bounds}
+use Rattle.entry_ledger.specs.Shelves.{shelf_at, filled_at}
+use Rattle.entry_ledger.proofs.Rows.{width-bounds}
 use Rattle.hold_lists.specs.Held.{HeldEntry}
 use Rattle.entry_ledger.specs.Entries.{Mark, count_marks}
 use Rattle.entry_ledger.specs.Calls.{IsLowestFree}

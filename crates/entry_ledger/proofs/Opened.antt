@@ -12,7 +12,7 @@ use Rattle.store_api.specs.Ledgers.{OfWidth, is_width, widths, capacity, buffers
 use Rattle.buffer_states.specs.declared.BufferState.{BufferState}
 use Rattle.buffer_states.specs.declared.BufferState.TheVariants.{Free, Active, OnHold}
 use Rattle.buffer_states.specs.Buffers.{is_state_free, is_state_active, is_on_hold}
-use Rattle.buffer_shelf.specs.declared.state.State.{State}
+use Rattle.entry_ledger.specs.declared.state.State.{State}
 use Rattle.hold_lists.specs.Held.{HeldEntry, HoldTag}
 use Rattle.entry_ledger.specs.Entries.{EntriesView, Mark, IsMark, IsSealed, count_marks}
 use Rattle.entry_ledger.specs.Calls.{with_mark, opened_at}

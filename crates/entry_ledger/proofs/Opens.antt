@@ -15,11 +15,11 @@ use Rattle.buffer_states.specs.declared.Buffer.{Buffer}
 use Rattle.buffer_states.specs.declared.BufferState.{BufferState}
 use Rattle.buffer_states.specs.declared.BufferState.TheVariants.{Free, Active, OnHold}
 use Rattle.buffer_states.specs.Buffers.{new_buffer, buffer_at, end_filling, filled_buffer, activated, is_state_free}
-use Rattle.buffer_shelf.specs.declared.state.State.{State}
-use Rattle.buffer_shelf.specs.States.{ShelfView, empty_shelf, spare_of, is_free_state}
-use Rattle.entry_shelves.specs.Shelves.{shelf_at, row_of, made_in, filled_at, spare_in, spare_of_width}
-use Rattle.entry_shelves.specs.Kept.{IsOfWidth}
-use Rattle.entry_shelves.proofs.Rows.{width-bounds, row_of-below, row_of-apart}
+use Rattle.entry_ledger.specs.declared.state.State.{State}
+use Rattle.entry_ledger.specs.States.{ShelfView, empty_shelf, spare_of, is_free_state}
+use Rattle.entry_ledger.specs.Shelves.{shelf_at, row_of, made_in, filled_at, spare_in, spare_of_width}
+use Rattle.entry_ledger.specs.ShelvesKept.{IsOfWidth}
+use Rattle.entry_ledger.proofs.Rows.{width-bounds, row_of-below, row_of-apart}
 use Rattle.hold_lists.specs.Held.{HeldEntry}
 use Rattle.entry_ledger.specs.Entries.{EntriesView, Mark}
 use Rattle.entry_ledger.specs.Calls.{with_mark, opened_at}

@@ -4,8 +4,8 @@ use Rattle.std.specs.List.{sum_by, count_by}
 use Rattle.std.proofs.Math.Nat.{add-mul}
 use Rattle.std.proofs.lemmas.List.Sums.{sum_by-cons}
 use Rattle.std.proofs.lemmas.Bool.{cases_lt, cases_eq, eq-eqb, ne_eqb}
-use Rattle.buffer_shelf.specs.States.{ShelfView, empty_shelf, spare_of}
-use Rattle.entry_shelves.specs.Shelves.{shelf_at, spare_in, spare_of_width}
+use Rattle.entry_ledger.specs.States.{ShelfView, empty_shelf, spare_of}
+use Rattle.entry_ledger.specs.Shelves.{shelf_at, spare_in, spare_of_width}
 use Rattle.entry_ledger.specs.Ledgers.{unmade_in, unmade_of_width}
 
 -- a sum of less at each place is less

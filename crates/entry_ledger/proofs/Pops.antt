@@ -9,8 +9,8 @@ use Rattle.std.proofs.lemmas.List.Quantifiers.{all_pairs_remove}
 use Rattle.std.proofs.lemmas.Bool.{cases_lt, cases_eq, ne_eqb, eqb-true, and_parts, ltb-true, ltb-false, true≢false}
 use Rattle.list_facts.proofs.Options.{same_Some}
 use Rattle.entry_ref.specs.References.{buffer_of}
-use Rattle.buffer_shelf.specs.declared.state.State.{State}
-use Rattle.buffer_shelf.specs.declared.state.State.TheVariants.{Free, Returned, Made, InUse, LetGo, DroppedNow, Dropped}
+use Rattle.entry_ledger.specs.declared.state.State.{State}
+use Rattle.entry_ledger.specs.declared.state.State.TheVariants.{Free, Returned, Made, InUse, LetGo, DroppedNow, Dropped}
 use Rattle.hold_lists.specs.Held.{HeldEntry, HoldTag, untagged, is_tag_below, without_first}
 use Rattle.entry_ledger.specs.Entries.{EntriesView}
 use Rattle.entry_ledger.specs.Ledgers.{tag_fits, held_fits, is_in_list, IsHeldList}

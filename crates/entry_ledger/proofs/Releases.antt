@@ -13,10 +13,10 @@ use Rattle.entry_ref.proofs.Bits.{packed-same}
 use Rattle.store_api.specs.Calls.{GivesBackOf}
 use Rattle.buffer_states.specs.declared.Buffer.{Buffer}
 use Rattle.buffer_states.specs.Buffers.{buffer_at, is_state_active, is_on_hold}
-use Rattle.buffer_shelf.specs.declared.state.State.{State}
-use Rattle.buffer_shelf.specs.declared.state.State.TheVariants.{Free, Dropped}
-use Rattle.buffer_shelf.specs.States.{ShelfView, empty_shelf, is_dead, is_held, is_dropped, is_made, is_free_state, state_at, with_state_at}
-use Rattle.entry_shelves.specs.Shelves.{ShelvesView, shelf_at}
+use Rattle.entry_ledger.specs.declared.state.State.{State}
+use Rattle.entry_ledger.specs.declared.state.State.TheVariants.{Free, Dropped}
+use Rattle.entry_ledger.specs.States.{ShelfView, empty_shelf, is_dead, is_held, is_dropped, is_made, is_free_state, state_at, with_state_at}
+use Rattle.entry_ledger.specs.Shelves.{ShelvesView, shelf_at}
 use Rattle.hold_lists.specs.Held.{HeldEntry, untagged, is_below, without_first}
 use Rattle.entry_ledger.specs.Entries.{EntriesView}
 use Rattle.entry_ledger.specs.Calls.{with_state, freed}

@@ -9,9 +9,9 @@ use Rattle.list_facts.proofs.Counts.{count_by-set}
 use Rattle.store_api.specs.Ledgers.{is_width, widths, capacity, buffers_in}
 use Rattle.buffer_states.specs.declared.Buffer.{Buffer}
 use Rattle.buffer_states.specs.Buffers.{new_buffer, buffer_at, is_state_free, is_state_active, is_on_hold}
-use Rattle.buffer_shelf.specs.declared.state.State.{State}
-use Rattle.buffer_shelf.specs.States.{ShelfView, empty_shelf}
-use Rattle.entry_shelves.specs.Shelves.{shelf_at, made_in, filled_at, with_shelf}
+use Rattle.entry_ledger.specs.declared.state.State.{State}
+use Rattle.entry_ledger.specs.States.{ShelfView, empty_shelf}
+use Rattle.entry_ledger.specs.Shelves.{shelf_at, made_in, filled_at, with_shelf}
 use Rattle.hold_lists.specs.Held.{HeldEntry}
 use Rattle.entry_ledger.specs.Entries.{count_marks}
 use Rattle.entry_ledger.specs.Calls.{with_mark}

@@ -10,10 +10,10 @@ use Rattle.entry_ref.specs.References.{buffer_of, offset_of, packed}
 use Rattle.buffer_states.specs.declared.Buffer.{Buffer}
 use Rattle.buffer_states.specs.declared.BufferState.TheVariants.{OnHold}
 use Rattle.buffer_states.specs.Buffers.{new_buffer, buffer_at, is_state_active, is_on_hold}
-use Rattle.buffer_shelf.specs.declared.state.State.{State}
-use Rattle.buffer_shelf.specs.declared.state.State.TheVariants.{Free, Returned, Made, InUse, LetGo, DroppedNow, Dropped}
-use Rattle.buffer_shelf.specs.States.{ShelfView, empty_shelf, is_made, is_touched, spare_of, state_at}
-use Rattle.entry_shelves.specs.Shelves.{shelf_at, filled_at, spare_in, spare_of_width}
+use Rattle.entry_ledger.specs.declared.state.State.{State}
+use Rattle.entry_ledger.specs.declared.state.State.TheVariants.{Free, Returned, Made, InUse, LetGo, DroppedNow, Dropped}
+use Rattle.entry_ledger.specs.States.{ShelfView, empty_shelf, is_made, is_touched, spare_of, state_at}
+use Rattle.entry_ledger.specs.Shelves.{shelf_at, filled_at, spare_in, spare_of_width}
 use Rattle.hold_lists.specs.Held.{HeldEntry, HoldTag}
 use Rattle.entry_ledger.specs.Entries.{EntriesView, is_timely, is_settled_entry, is_dropped_since}
 use Rattle.entry_ledger.specs.Calls.{retired_at}

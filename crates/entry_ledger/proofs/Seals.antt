@@ -6,9 +6,9 @@ use Rattle.std.proofs.lemmas.List.Sums.{sum_by-set}
 use Rattle.entry_ref.specs.References.{buffer_of}
 use Rattle.buffer_states.specs.declared.Buffer.{Buffer}
 use Rattle.buffer_states.specs.Buffers.{buffer_at, is_state_active}
-use Rattle.buffer_shelf.specs.declared.state.State.{State}
-use Rattle.buffer_shelf.specs.States.{ShelfView, empty_shelf, spare_of, is_made}
-use Rattle.entry_shelves.specs.Shelves.{shelf_at, filled_at, spare_in}
+use Rattle.entry_ledger.specs.declared.state.State.{State}
+use Rattle.entry_ledger.specs.States.{ShelfView, empty_shelf, spare_of, is_made}
+use Rattle.entry_ledger.specs.Shelves.{shelf_at, filled_at, spare_in}
 use Rattle.hold_lists.specs.Held.{HeldEntry, HoldTag}
 use Rattle.entry_ledger.specs.Calls.{Seals}
 use Rattle.entry_ledger.specs.Ledgers.{LedgerView, entries_of, mark_of, fresh_in, unheld_in, held_fits, is_in_list, IsHeldList, AreEntries}

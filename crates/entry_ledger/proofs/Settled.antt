@@ -8,9 +8,9 @@ use Rattle.std.proofs.lemmas.Bool.{eq-eqb, ne_eqb, le-leb, ltb-true, true≢fals
 use Rattle.entry_ref.specs.References.{buffer_of}
 use Rattle.buffer_states.specs.declared.Buffer.{Buffer}
 use Rattle.buffer_states.specs.Buffers.{is_state_active, is_on_hold}
-use Rattle.buffer_shelf.specs.declared.state.State.{State}
-use Rattle.buffer_shelf.specs.declared.state.State.TheVariants.{Free, Returned, Made, InUse, LetGo, DroppedNow, Dropped}
-use Rattle.buffer_shelf.specs.States.{ShelfView, is_free_state, is_made, is_touched, is_dead, is_held, is_dropped, state_at, settled_state, with_state_at}
+use Rattle.entry_ledger.specs.declared.state.State.{State}
+use Rattle.entry_ledger.specs.declared.state.State.TheVariants.{Free, Returned, Made, InUse, LetGo, DroppedNow, Dropped}
+use Rattle.entry_ledger.specs.States.{ShelfView, is_free_state, is_made, is_touched, is_dead, is_held, is_dropped, state_at, settled_state, with_state_at}
 use Rattle.hold_lists.specs.Held.{HeldEntry, untagged}
 use Rattle.entry_ledger.specs.Entries.{EntriesView, is_timely}
 use Rattle.entry_ledger.specs.Calls.{with_state}

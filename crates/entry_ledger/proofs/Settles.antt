@@ -7,11 +7,11 @@ use Rattle.entry_ref.specs.References.{buffer_of, packed, buffer_limit}
 use Rattle.entry_ref.proofs.Bits.{packed-buffer}
 use Rattle.buffer_states.specs.declared.Buffer.{Buffer}
 use Rattle.buffer_states.specs.Buffers.{buffer_at, is_state_active}
-use Rattle.buffer_shelf.specs.declared.state.State.{State}
-use Rattle.buffer_shelf.specs.declared.state.State.TheVariants.{Free, Returned, Made, InUse, LetGo, DroppedNow, Dropped}
-use Rattle.buffer_shelf.specs.States.{ShelfView, empty_shelf, is_touched, is_dead, is_dropped, state_at, settled_state, with_state_at}
-use Rattle.buffer_shelf.proofs.Settling.{settled-touched}
-use Rattle.entry_shelves.specs.Shelves.{shelf_at}
+use Rattle.entry_ledger.specs.declared.state.State.{State}
+use Rattle.entry_ledger.specs.declared.state.State.TheVariants.{Free, Returned, Made, InUse, LetGo, DroppedNow, Dropped}
+use Rattle.entry_ledger.specs.States.{ShelfView, empty_shelf, is_touched, is_dead, is_dropped, state_at, settled_state, with_state_at}
+use Rattle.entry_ledger.proofs.Settling.{settled-touched}
+use Rattle.entry_ledger.specs.Shelves.{shelf_at}
 use Rattle.hold_lists.specs.Held.{HeldEntry, untagged}
 use Rattle.entry_ledger.specs.Calls.{StepsEnd, with_state}
 use Rattle.entry_ledger.specs.Ledgers.{LedgerView, entries_of, mark_of, unheld_in, settled_buffer, is_dropped_now, is_dead_after, held_after, touched_total, AreEntries}

@@ -7,8 +7,8 @@ use Rattle.entry_ref.specs.References.{buffer_of}
 use Rattle.store_api.specs.Ledgers.{OfWidth, widths, buffers_in, one_more, with_counts}
 use Rattle.store_api.specs.Calls.{took_spare}
 use Rattle.buffer_states.specs.Buffers.{is_state_free, is_state_active, is_on_hold}
-use Rattle.buffer_shelf.specs.declared.state.State.{State}
-use Rattle.buffer_shelf.specs.declared.state.State.TheVariants.{Free, Returned, Made, InUse, LetGo, DroppedNow, Dropped}
+use Rattle.entry_ledger.specs.declared.state.State.{State}
+use Rattle.entry_ledger.specs.declared.state.State.TheVariants.{Free, Returned, Made, InUse, LetGo, DroppedNow, Dropped}
 use Rattle.hold_lists.specs.Held.{HeldEntry, HoldTag}
 use Rattle.entry_ledger.specs.Entries.{EntriesView, is_timely, count_marks}
 use Rattle.entry_ledger.specs.Calls.{with_state, made_at}

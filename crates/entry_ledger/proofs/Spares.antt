@@ -6,9 +6,9 @@ use Rattle.std.proofs.lemmas.Bool.{cases_lt, and_parts, eqb-true, eqb-false, ne_
 use Rattle.list_facts.specs.Counting.{one_if}
 use Rattle.entry_ref.specs.References.{buffer_of, offset_of}
 use Rattle.entry_ref.proofs.Bits.{same-ref}
-use Rattle.buffer_shelf.specs.declared.state.State.{State}
-use Rattle.buffer_shelf.specs.States.{ShelfView, empty_shelf, is_free_state, spare_of}
-use Rattle.entry_shelves.specs.Shelves.{shelf_at, spare_in, spare_of_width}
+use Rattle.entry_ledger.specs.declared.state.State.{State}
+use Rattle.entry_ledger.specs.States.{ShelfView, empty_shelf, is_free_state, spare_of}
+use Rattle.entry_ledger.specs.Shelves.{shelf_at, spare_in, spare_of_width}
 use Rattle.entry_ledger.specs.Entries.{is_open_entry}
 
 abbrev pub sum_below : (ℕ → ℕ) → ℕ → ℕ

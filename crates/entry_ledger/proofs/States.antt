@@ -8,10 +8,10 @@ use Rattle.entry_ref.specs.References.{buffer_of, offset_of, packed, buffer_limi
 use Rattle.entry_ref.proofs.Bits.{packed-buffer, packed-offset, same-ref}
 use Rattle.buffer_states.specs.declared.Buffer.{Buffer}
 use Rattle.buffer_states.specs.Buffers.{new_buffer, buffer_at}
-use Rattle.buffer_shelf.specs.declared.state.State.{State}
-use Rattle.buffer_shelf.specs.declared.state.State.TheVariants.{Made}
-use Rattle.buffer_shelf.specs.States.{ShelfView, empty_shelf, with_made}
-use Rattle.entry_shelves.specs.Shelves.{shelf_at}
+use Rattle.entry_ledger.specs.declared.state.State.{State}
+use Rattle.entry_ledger.specs.declared.state.State.TheVariants.{Made}
+use Rattle.entry_ledger.specs.States.{ShelfView, empty_shelf, with_made}
+use Rattle.entry_ledger.specs.Shelves.{shelf_at}
 use Rattle.entry_ledger.specs.Calls.{with_state}
 use Rattle.entry_ledger.specs.Ledgers.{state_in, mark_of}
 

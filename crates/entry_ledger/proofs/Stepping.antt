@@ -6,12 +6,12 @@ use Rattle.std.proofs.lemmas.Option.{get_or_from_slice_get}
 use Rattle.entry_ref.specs.References.{buffer_of, offset_of, packed, buffer_limit, offset_limit}
 use Rattle.buffer_states.specs.declared.Buffer.{Buffer}
 use Rattle.buffer_states.specs.Buffers.{buffer_at}
-use Rattle.buffer_shelf.specs.declared.state.State.{State}
-use Rattle.buffer_shelf.specs.declared.state.State.TheVariants.{Free, Returned, Made, InUse, LetGo, DroppedNow, Dropped}
-use Rattle.buffer_shelf.specs.States.{ShelfView, empty_shelf, is_touched, is_made, state_at, settled_state, with_state_at}
-use Rattle.buffer_shelf.proofs.StackSteps.{count-none}
-use Rattle.entry_shelves.specs.declared.shelves.Changed.{Changed}
-use Rattle.entry_shelves.specs.Shelves.{ShelvesView, shelf_at, with_shelf, SettlesOne}
+use Rattle.entry_ledger.specs.declared.state.State.{State}
+use Rattle.entry_ledger.specs.declared.state.State.TheVariants.{Free, Returned, Made, InUse, LetGo, DroppedNow, Dropped}
+use Rattle.entry_ledger.specs.States.{ShelfView, empty_shelf, is_touched, is_made, state_at, settled_state, with_state_at}
+use Rattle.entry_ledger.proofs.StackSteps.{count-none}
+use Rattle.entry_ledger.specs.declared.shelves.Changed.{Changed}
+use Rattle.entry_ledger.specs.Shelves.{ShelvesView, shelf_at, with_shelf, SettlesOne}
 use Rattle.hold_lists.specs.Held.{HeldEntry, HeldList}
 use Rattle.entry_ledger.specs.Entries.{is_settled_entry}
 use Rattle.entry_ledger.specs.Calls.{StepsEnd, IsEnded}

@@ -10,13 +10,13 @@ use Rattle.store_api.specs.Ledgers.{is_width, one_more, with_counts}
 use Rattle.store_api.specs.Calls.{took_spare}
 use Rattle.buffer_states.specs.declared.Buffer.{Buffer}
 use Rattle.buffer_states.specs.Buffers.{new_buffer, buffer_at, is_state_free}
-use Rattle.buffer_shelf.specs.declared.state.State.{State}
-use Rattle.buffer_shelf.specs.declared.state.State.TheVariants.{Free, Returned, Made, InUse, LetGo, DroppedNow, Dropped}
-use Rattle.buffer_shelf.specs.States.{ShelfView, is_free_state, is_made, state_at, IsOpen, with_made}
-use Rattle.entry_shelves.specs.declared.shelves.Taken.{Taken}
-use Rattle.entry_shelves.specs.Shelves.{ShelvesView, shelf_at, row_of, made_in, filled_at, spare_of_width, Takes}
-use Rattle.entry_shelves.proofs.Rows.{row_of-below, row_of-apart}
-use Rattle.entry_shelves.proofs.Making.{made-spare}
+use Rattle.entry_ledger.specs.declared.state.State.{State}
+use Rattle.entry_ledger.specs.declared.state.State.TheVariants.{Free, Returned, Made, InUse, LetGo, DroppedNow, Dropped}
+use Rattle.entry_ledger.specs.States.{ShelfView, is_free_state, is_made, state_at, IsOpen, with_made}
+use Rattle.entry_ledger.specs.declared.shelves.Taken.{Taken}
+use Rattle.entry_ledger.specs.Shelves.{ShelvesView, shelf_at, row_of, made_in, filled_at, spare_of_width, Takes}
+use Rattle.entry_ledger.proofs.Rows.{row_of-below, row_of-apart}
+use Rattle.entry_ledger.proofs.Making.{made-spare}
 use Rattle.entry_ledger.specs.Entries.{EntriesView, Mark}
 use Rattle.entry_ledger.specs.Calls.{with_state}
 use Rattle.entry_ledger.specs.Ledgers.{LedgerView, mark_of, is_buffer_of, counts_of}

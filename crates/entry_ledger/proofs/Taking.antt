@@ -13,14 +13,14 @@ use Rattle.store_api.specs.Ledgers.{is_width, capacity, one_more}
 use Rattle.store_api.specs.Calls.{took_spare}
 use Rattle.buffer_states.specs.declared.Buffer.{Buffer}
 use Rattle.buffer_states.specs.Buffers.{new_buffer, buffer_at, is_state_active}
-use Rattle.buffer_shelf.specs.declared.state.State.{State}
-use Rattle.buffer_shelf.specs.declared.state.State.TheVariants.{Free, Made, Dropped}
-use Rattle.buffer_shelf.specs.States.{ShelfView, empty_shelf, is_free_state, IsOpen, with_made}
-use Rattle.buffer_shelf.proofs.StackSteps.{count-none}
-use Rattle.entry_shelves.specs.declared.shelves.Taken.{Taken}
-use Rattle.entry_shelves.specs.Shelves.{ShelvesView, shelf_at, row_of, made_in, filled_at, Takes}
-use Rattle.entry_shelves.proofs.Rows.{width-bounds}
-use Rattle.entry_shelves.proofs.Making.{made-length}
+use Rattle.entry_ledger.specs.declared.state.State.{State}
+use Rattle.entry_ledger.specs.declared.state.State.TheVariants.{Free, Made, Dropped}
+use Rattle.entry_ledger.specs.States.{ShelfView, empty_shelf, is_free_state, IsOpen, with_made}
+use Rattle.entry_ledger.proofs.StackSteps.{count-none}
+use Rattle.entry_ledger.specs.declared.shelves.Taken.{Taken}
+use Rattle.entry_ledger.specs.Shelves.{ShelvesView, shelf_at, row_of, made_in, filled_at, Takes}
+use Rattle.entry_ledger.proofs.Rows.{width-bounds}
+use Rattle.entry_ledger.proofs.Making.{made-length}
 use Rattle.hold_lists.specs.Held.{HeldEntry}
 use Rattle.entry_ledger.specs.Entries.{EntriesView, width_of, is_open_entry, is_free_entry}
 use Rattle.entry_ledger.specs.Calls.{CanTake, made_at as entry_made_at}

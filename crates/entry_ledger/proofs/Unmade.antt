@@ -10,11 +10,11 @@ use Rattle.std.proofs.lemmas.Bool.{cases_lt, cases_eq, eq-eqb, ne_eqb}
 use Rattle.list_facts.proofs.Options.{same_Some}
 use Rattle.store_api.specs.Ledgers.{capacity, one_more}
 use Rattle.buffer_states.specs.declared.Buffer.{Buffer}
-use Rattle.buffer_shelf.specs.declared.state.State.{State}
-use Rattle.buffer_shelf.specs.declared.state.State.TheVariants.{Made}
-use Rattle.buffer_shelf.specs.States.{ShelfView, empty_shelf, IsOpen, with_made}
-use Rattle.entry_shelves.specs.Shelves.{shelf_at}
-use Rattle.entry_shelves.specs.Kept.{IsOfWidth}
+use Rattle.entry_ledger.specs.declared.state.State.{State}
+use Rattle.entry_ledger.specs.declared.state.State.TheVariants.{Made}
+use Rattle.entry_ledger.specs.States.{ShelfView, empty_shelf, IsOpen, with_made}
+use Rattle.entry_ledger.specs.Shelves.{shelf_at}
+use Rattle.entry_ledger.specs.ShelvesKept.{IsOfWidth}
 use Rattle.entry_ledger.specs.Ledgers.{unmade_in, unmade_of_width, is_buffer_of}
 
 pub no-places : {A : Type 0} (f : A → ℕ) (d : A) (xs : List A) → ((i : ℕ) → f (get_or xs i d) ≡ 0) → sum_by f xs ≡ 0

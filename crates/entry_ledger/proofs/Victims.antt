@@ -9,9 +9,9 @@ use Rattle.entry_ref.specs.References.{packed}
 use Rattle.store_api.specs.Ledgers.{capacity}
 use Rattle.buffer_states.specs.Buffers.{buffer_at, is_state_active, is_candidate}
 use Rattle.buffer_states.specs.Buffers.{IsVictim as IsVictimBuffer}
-use Rattle.buffer_shelf.specs.declared.state.State.{State}
-use Rattle.buffer_shelf.specs.States.{ShelfView, is_dead}
-use Rattle.entry_shelves.specs.Shelves.{shelf_at}
+use Rattle.entry_ledger.specs.declared.state.State.{State}
+use Rattle.entry_ledger.specs.States.{ShelfView, is_dead}
+use Rattle.entry_ledger.specs.Shelves.{shelf_at}
 use Rattle.hold_lists.specs.Held.{HeldEntry}
 use Rattle.entry_ledger.specs.Entries.{EntriesView, width_of, is_taken_entry, is_dead_entry, count_entries, entries_that, used_words, dead_words}
 use Rattle.entry_ledger.specs.Calls.{IsCandidate, IsVictim}

@@ -7,9 +7,9 @@ use Rattle.store_api.specs.Ledgers.{capacity, no_counts, with_counts}
 use Rattle.store_api.specs.Calls.{GivesBackOf, DropsOf, EndsOf, SealsOf, took_spare}
 use Rattle.buffer_states.specs.declared.BufferState.TheVariants.{Free, Active, OnHold}
 use Rattle.buffer_states.specs.Buffers.{is_state_free, is_state_active, is_on_hold}
-use Rattle.buffer_shelf.specs.declared.state.State.{State}
-use Rattle.buffer_shelf.specs.declared.state.State.TheVariants.{Free as FreeState, Made, Dropped}
-use Rattle.buffer_shelf.specs.States.{dropped, accepted, undone, settled_state, is_touched}
+use Rattle.entry_ledger.specs.declared.state.State.{State}
+use Rattle.entry_ledger.specs.declared.state.State.TheVariants.{Free as FreeState, Made, Dropped}
+use Rattle.entry_ledger.specs.States.{dropped, accepted, undone, settled_state, is_touched}
 use Rattle.entry_ledger.specs.Entries.{EntriesView, Mark, width_of, is_open_entry, is_free_entry, is_settled_entry, used_words, dead_words}
 
 -- one entry has another state

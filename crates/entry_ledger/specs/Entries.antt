@@ -7,9 +7,9 @@ use Rattle.entry_ref.specs.Places.{IsEntry}
 use Rattle.store_api.specs.Ledgers.{OfWidth, is_width, widths, capacity, buffers_in}
 use Rattle.buffer_states.specs.declared.BufferState.{BufferState}
 use Rattle.buffer_states.specs.Buffers.{is_state_free, is_state_active, is_on_hold}
-use Rattle.buffer_shelf.specs.declared.state.State.{State}
-use Rattle.buffer_shelf.specs.declared.state.State.TheVariants.{InUse, DroppedNow, Dropped}
-use Rattle.buffer_shelf.specs.States.{is_free_state, is_touched, is_used, is_dead}
+use Rattle.entry_ledger.specs.declared.state.State.{State}
+use Rattle.entry_ledger.specs.declared.state.State.TheVariants.{InUse, DroppedNow, Dropped}
+use Rattle.entry_ledger.specs.States.{is_free_state, is_touched, is_used, is_dead}
 
 -- a buffer: free, active or on hold under a generation, with the words of its entries
 pub record Mark : Type 0 where

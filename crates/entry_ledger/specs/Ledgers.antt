@@ -6,11 +6,11 @@ use Rattle.entry_ref.specs.References.{buffer_of, offset_of, buffer_limit, offse
 use Rattle.store_api.specs.Ledgers.{OfWidth, is_width, is_this, widths, capacity, buffers_in}
 use Rattle.buffer_states.specs.declared.Buffer.{Buffer}
 use Rattle.buffer_states.specs.Buffers.{buffer_at, with_released, is_state_free, is_state_active, is_on_hold}
-use Rattle.buffer_shelf.specs.declared.state.State.{State}
-use Rattle.buffer_shelf.specs.declared.state.State.TheVariants.{Free as FreeState, Made, Returned, LetGo, DroppedNow, Dropped}
-use Rattle.buffer_shelf.specs.States.{ShelfView, state_at, with_state_at, is_made, is_dead, is_dropped, is_held, is_touched}
-use Rattle.entry_shelves.specs.Shelves.{ShelvesView, shelf_at, with_shelf, made_in, filled_at, spare_of_width}
-use Rattle.entry_shelves.specs.Kept.{IsOfWidth}
+use Rattle.entry_ledger.specs.declared.state.State.{State}
+use Rattle.entry_ledger.specs.declared.state.State.TheVariants.{Free as FreeState, Made, Returned, LetGo, DroppedNow, Dropped}
+use Rattle.entry_ledger.specs.States.{ShelfView, state_at, with_state_at, is_made, is_dead, is_dropped, is_held, is_touched}
+use Rattle.entry_ledger.specs.Shelves.{ShelvesView, shelf_at, with_shelf, made_in, filled_at, spare_of_width}
+use Rattle.entry_ledger.specs.ShelvesKept.{IsOfWidth}
 use Rattle.hold_lists.specs.Held.{HeldEntry, HeldList, HoldTag, untagged}
 use Rattle.entry_ledger.specs.Entries.{EntriesView, Mark, is_timely, IsMark, IsSealed, count_marks}
 

@@ -3,15 +3,14 @@ ghost use Rattle.std.specs.Prelude.{length, slice_set, Some, None, IsNone, IfSom
 ghost use Rattle.entry_ref.specs.References.{buffer_limit, offset_limit, buffer_of};
 ghost use Rattle.store_api.specs.Ledgers.{is_width};
 ghost use Rattle.buffer_states.specs.Buffers.{buffer_at, is_state_free, is_state_active, is_on_hold};
-ghost use Rattle.buffer_shelf.specs.declared.state.State.{State};
-ghost use Rattle.entry_shelves.specs.Shelves.{shelf_at};
+ghost use Rattle.entry_ledger.specs.declared.state.State.{State};
+ghost use Rattle.entry_ledger.specs.Shelves.{shelf_at};
 ghost use Rattle.entry_ledger.specs.Ledgers.{entries_of, taken_buffer, dropped_buffer, settled_buffer};
 ghost use Rattle.entry_ledger.specs.Ledgers.{is_dropped_now, is_dead_after, touched_total, held_after, CanRelease, Releases};
 
-use buffer_shelf::State;
+use crate::{Shelves, State};
 use buffer_states::Buffers;
 use entry_ref::EntryRef;
-use entry_shelves::Shelves;
 use hold_lists::HoldList;
 use std::alloc::{AllocError, Global};
 use std::marker::Model;

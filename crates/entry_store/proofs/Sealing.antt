@@ -4,8 +4,8 @@ use Rattle.std.specs.Prelude.{IfSome, IfNone}
 use Rattle.std.proofs.lemmas.Bool.{true≢false, eq-eqb, eqb-true}
 use Rattle.entry_ledger.proofs.Marks.{this-false}
 use Rattle.list_facts.specs.Counting.{one_if}
-use Rattle.buffer_shelf.specs.declared.state.State.{State}
-use Rattle.buffer_shelf.specs.declared.state.State.TheVariants.{Free, Returned, Made, InUse, LetGo, DroppedNow, Dropped}
+use Rattle.entry_ledger.specs.declared.state.State.{State}
+use Rattle.entry_ledger.specs.declared.state.State.TheVariants.{Free, Returned, Made, InUse, LetGo, DroppedNow, Dropped}
 use Rattle.buffer_states.specs.Buffers.{is_state_active}
 use Rattle.entry_ref.specs.References.{packed}
 use Rattle.entry_ref.specs.Records.{Records}

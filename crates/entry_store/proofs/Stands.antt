@@ -1,9 +1,9 @@
 -- A store stands after each of its calls.
 use Rattle.std.proofs.Common.{◌≡◌, ℕ, ◌<◌, ◌≤◌, Bool, true, false, cond, eqb, List, length, Option, Some, None, refl, sym, ap, subst, ◌∙◌, arith, inl, inr, option_map}
 use Rattle.std.proofs.lemmas.Bool.{true≢false, false≢true, cases_eq, eq-eqb, ne_eqb}
-use Rattle.buffer_shelf.specs.declared.state.State.{State}
-use Rattle.buffer_shelf.specs.declared.state.State.TheVariants.{Made}
-use Rattle.buffer_shelf.specs.States.{dropped, undone}
+use Rattle.entry_ledger.specs.declared.state.State.{State}
+use Rattle.entry_ledger.specs.declared.state.State.TheVariants.{Made}
+use Rattle.entry_ledger.specs.States.{dropped, undone}
 use Rattle.entry_ref.specs.References.{buffer_of}
 use Rattle.entry_ref.specs.Images.{words_at}
 use Rattle.entry_ref.specs.Records.{Records, with_words}

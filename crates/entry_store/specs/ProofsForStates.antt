@@ -4,9 +4,9 @@ use Rattle.std.proofs.Common.{◌≡◌, ◌⊎◌, ℕ, ◌≤◌, ◌+◌, Boo
 use Rattle.std.proofs.Common.{arith, inl, inr, not, option_map}
 use Rattle.std.specs.Prelude.{◌||◌}
 use Rattle.std.proofs.lemmas.Bool.{true≢false, false≢true, cond-true, cond-false, cases_eq, cases_Bool, eq-eqb, ne_eqb, eqb-true, ltb-true}
-use Rattle.buffer_shelf.specs.declared.state.State.{State}
-use Rattle.buffer_shelf.specs.declared.state.State.TheVariants.{Free, Returned, Made, InUse, LetGo, DroppedNow, Dropped}
-use Rattle.buffer_shelf.specs.States.{is_used, dropped, accepted, undone}
+use Rattle.entry_ledger.specs.declared.state.State.{State}
+use Rattle.entry_ledger.specs.declared.state.State.TheVariants.{Free, Returned, Made, InUse, LetGo, DroppedNow, Dropped}
+use Rattle.entry_ledger.specs.States.{is_used, dropped, accepted, undone}
 use Rattle.entry_ref.specs.Records.{Records}
 use Rattle.arena_api.specs.Works.{WorkView, Tag}
 use Rattle.store_api.specs.Statuses.{Status, in_use, has_record, is_committed, is_uncommitted, is_open, is_let_go, after_drop}

@@ -10,9 +10,9 @@ use Rattle.arena_api.specs.Generations.{current}
 use Rattle.store_api.specs.Statuses.{Status, has_record, is_committed, is_uncommitted}
 use Rattle.store_api.specs.Ledgers.{Ledger, is_in, is_held}
 use Rattle.buffer_states.specs.Buffers.{is_state_free, is_state_active, is_on_hold}
-use Rattle.buffer_shelf.specs.declared.state.State.{State}
-use Rattle.buffer_shelf.specs.declared.state.State.TheVariants.{Free, Returned, Made, InUse, LetGo, DroppedNow, Dropped}
-use Rattle.buffer_shelf.specs.States.{undone}
+use Rattle.entry_ledger.specs.declared.state.State.{State}
+use Rattle.entry_ledger.specs.declared.state.State.TheVariants.{Free, Returned, Made, InUse, LetGo, DroppedNow, Dropped}
+use Rattle.entry_ledger.specs.States.{undone}
 use Rattle.entry_ledger.specs.Entries.{EntriesView, Mark, IsGood, is_settled_entry}
 use Rattle.entry_ledger.specs.Calls.{CanTake, made_at}
 

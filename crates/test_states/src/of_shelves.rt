@@ -1,5 +1,4 @@
-use buffer_shelf::Shelf;
-use entry_shelves::Shelves;
+use entry_ledger::{Shelf, Shelves};
 use std::test::Fail;
 
 #[test]

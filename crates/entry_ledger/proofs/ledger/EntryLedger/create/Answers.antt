@@ -1,7 +1,7 @@
 use Rattle.std.proofs.Common.{List, [], refl, sym, ap, subst, ◌∙◌, arith}
 use Rattle.std.proofs.lemmas.Result.{err_from_is_err_and}
 use Rattle.buffer_states.specs.declared.Buffer.{Buffer}
-use Rattle.entry_shelves.specs.Shelves.{ShelvesView}
+use Rattle.entry_ledger.specs.Shelves.{ShelvesView}
 use Rattle.hold_lists.specs.Held.{HeldList}
 use Rattle.entry_ledger.specs.Entries.{IsGood}
 use Rattle.entry_ledger.specs.Ledgers.{entries_of, AreEntries}

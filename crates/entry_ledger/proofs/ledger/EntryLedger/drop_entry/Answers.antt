@@ -4,9 +4,9 @@ use Rattle.entry_ref.specs.References.{buffer_of, offset_of, packed}
 use Rattle.entry_ref.proofs.Bits.{packed-same}
 use Rattle.buffer_states.specs.declared.Buffer.{Buffer}
 use Rattle.buffer_states.specs.Buffers.{buffer_at}
-use Rattle.buffer_shelf.specs.declared.state.State.{State}
-use Rattle.buffer_shelf.specs.States.{state_at, dropped, with_state_at}
-use Rattle.entry_shelves.specs.Shelves.{ShelvesView, shelf_at, with_shelf}
+use Rattle.entry_ledger.specs.declared.state.State.{State}
+use Rattle.entry_ledger.specs.States.{state_at, dropped, with_state_at}
+use Rattle.entry_ledger.specs.Shelves.{ShelvesView, shelf_at, with_shelf}
 use Rattle.entry_ledger.specs.Entries.{is_used_entry}
 use Rattle.entry_ledger.specs.Calls.{Drops}
 use Rattle.entry_ledger.specs.Ledgers.{LedgerView, entries_of, state_in, dropped_buffer, AreEntries}

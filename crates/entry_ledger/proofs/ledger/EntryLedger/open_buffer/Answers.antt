@@ -3,9 +3,9 @@ use Rattle.std.proofs.lemmas.Result.{err_from_is_err_and}
 use Rattle.store_api.specs.Ledgers.{capacity}
 use Rattle.buffer_states.specs.declared.Buffer.{Buffer}
 use Rattle.buffer_states.specs.Buffers.{buffer_at, activated}
-use Rattle.entry_shelves.specs.Shelves.{ShelvesView}
-use Rattle.entry_shelves.proofs.Rows.{width-bounds}
-use Rattle.entry_shelves.proofs.Opening.{some-capacity}
+use Rattle.entry_ledger.specs.Shelves.{ShelvesView}
+use Rattle.entry_ledger.proofs.Rows.{width-bounds}
+use Rattle.entry_ledger.proofs.Opening.{some-capacity}
 use Rattle.hold_lists.specs.Held.{HeldEntry, HeldList}
 use Rattle.entry_ledger.specs.Entries.{IsGood}
 use Rattle.entry_ledger.specs.Calls.{opened_at}

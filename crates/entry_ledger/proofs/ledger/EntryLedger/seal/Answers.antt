@@ -1,6 +1,6 @@
 use Rattle.std.proofs.Common.{◌≡◌, true, Some, sym, ap, subst, ◌∙◌}
 use Rattle.buffer_states.specs.Buffers.{buffer_at, is_state_active}
-use Rattle.entry_shelves.specs.Shelves.{filled_at}
+use Rattle.entry_ledger.specs.Shelves.{filled_at}
 use Rattle.entry_ledger.specs.Entries.{IsGood}
 use Rattle.entry_ledger.specs.Calls.{Seals}
 use Rattle.entry_ledger.specs.Ledgers.{LedgerView, entries_of, AreEntries}

@@ -1,5 +1,5 @@
 use Rattle.std.proofs.Common.{sym, ap, subst, ◌∙◌, arith}
-use Rattle.entry_shelves.specs.Shelves.{ShelvesView}
+use Rattle.entry_ledger.specs.Shelves.{ShelvesView}
 use Rattle.entry_ledger.specs.Entries.{IsGood}
 use Rattle.entry_ledger.specs.Calls.{StepsEnd, IsEnded}
 use Rattle.entry_ledger.specs.Ledgers.{LedgerView, entries_of, touched_total, AreEntries}

@@ -1,7 +1,7 @@
 use Rattle.std.proofs.Common.{◌≡◌, true, false, List, refl, sym, ap, subst, ◌∙◌, arith}
 use Rattle.buffer_states.specs.declared.Buffer.{Buffer}
 use Rattle.buffer_states.specs.Buffers.{buffer_at}
-use Rattle.entry_shelves.specs.Shelves.{ShelvesView, spare_of_width}
+use Rattle.entry_ledger.specs.Shelves.{ShelvesView, spare_of_width}
 use Rattle.entry_ledger.specs.Entries.{IsGood}
 use Rattle.entry_ledger.specs.Calls.{CanTake, made_at}
 use Rattle.entry_ledger.specs.Ledgers.{LedgerView, entries_of, taken_buffer, AreEntries}

@@ -1,3 +1,0 @@
-pub mod StackSteps
-pub mod StackRemoval
-pub mod Settling

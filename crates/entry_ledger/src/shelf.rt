@@ -1,0 +1,269 @@
+ghost use Rattle.std.specs.Prelude.{◌≡◌, ◌↔◌, ◌<◌, ◌≤◌, ◌+◌, ◌^◌, ℕ, [], true, false, nat_lt, length, slice_set, vec_len, vec_capacity};
+ghost use Rattle.std.specs.Prelude.{count_by};
+ghost use Rattle.std.specs.Prelude.{IsNone, IfSome, IfNone, OnOk, OnErr, if◌then◌else◌, ◌∷◌, ◌++◌};
+ghost use Rattle.entry_ledger.specs.States.{is_free_state, is_touched};
+ghost use Rattle.entry_ledger.specs.Stacks.{IsStack};
+
+use crate::state::State;
+use std::alloc::{AllocError, Global};
+use std::marker::Model;
+
+/// The entries of one buffer, by place.
+#[derive(Drop)]
+pub struct Shelf {
+    width: u32,
+    sealed: bool,
+    states: Vec<State>,
+    free: Vec<u32>,
+    touched: Vec<u32>,
+    room: u32,
+}
+
+impl Model for Shelf {
+    ghost use Rattle.std.specs.Prelude.{vec_capacity};
+    ghost use Rattle.entry_ledger.specs.States.{ShelfView};
+    ghost use Rattle.entry_ledger.specs.ShelfKept.{IsShelf};
+
+    ghost Value = { ShelfView };
+
+    ghost view = { λ s. record { width = s.width; sealed = s.sealed; room = s.room; states = s.states.items } };
+
+    ghost invariant = { λ s. IsShelf s.states.items s.free.items s.touched.items s.room
+        (vec_capacity s.states) (vec_capacity s.free) (vec_capacity s.touched) };
+}
+
+/// An entry that the unit changed, with its state before and after the unit's end.
+#[derive(Clone, Copy, Debug, PartialEq, Eq)]
+pub struct Settled {
+    pub place: u32,
+    pub was: State,
+    pub now: State,
+}
+
+impl Shelf {
+    ghost use Rattle.std.specs.List.{slice_get};
+    ghost use Rattle.entry_ledger.specs.States.{empty_shelf, state_at, is_used, is_dropped, spare_of, can_make, has_one_spare, has_touched};
+    ghost use Rattle.entry_ledger.specs.States.{has_one_touched, IsOpen, Settles, with_made, with_state_at, dropped};
+    ghost use Rattle.entry_ledger.specs.declared.state.State.TheVariants.{Free};
+
+    /// No entries, and no room.
+    pub fn new(alloc: Global) -> Self
+        ensures { result ≡ empty_shelf }
+    {
+        Shelf {
+            width: 0,
+            sealed: false,
+            states: Vec::new(alloc),
+            free: Vec::new(alloc),
+            touched: Vec::new(alloc),
+            room: 0,
+        }
+    }
+
+    /// Makes an empty shelf one of `room` entries.
+    pub fn open(&mut self, width: u32, room: u32) -> Result<(), AllocError>
+        requires { self.old ≡ empty_shelf }
+        ensures ok { OnOk result (self.new ≡ record empty_shelf { width = width; room = room }) }
+        ensures err { OnErr result (self.new ≡ self.old) }
+    {
+        let most = room as usize;
+        self.states.reserve(most - self.states.len())?;
+        self.free.reserve(most - self.free.len())?;
+        self.touched.reserve(most - self.touched.len())?;
+        self.width = width;
+        self.room = room;
+        Ok(())
+    }
+
+    /// Leaves all entries.
+    pub fn close(&mut self)
+        ensures { self.new ≡ empty_shelf }
+    {
+        self.width = 0;
+        self.sealed = false;
+        self.states.clear();
+        self.free.clear();
+        self.touched.clear();
+        self.room = 0;
+    }
+
+    pub fn seal(&mut self)
+        ensures { self.new ≡ record self.old { sealed = true } }
+    {
+        self.sealed = true;
+    }
+
+    /// The words of each entry, 0 where there is no room for any.
+    pub fn width(&self) -> u32
+        ensures { result ≡ self.now.width }
+    {
+        self.width
+    }
+
+    pub fn is_sealed(&self) -> bool
+        ensures { result ≡ self.now.sealed }
+    {
+        self.sealed
+    }
+
+    /// How many entries were taken so far.
+    pub fn taken(&self) -> u32
+        ensures taken { result ≡ length self.now.states }
+        ensures within { result ≤ self.now.room }
+    {
+        self.states.len() as u32
+    }
+
+    /// How many entries there are, taken or not.
+    pub fn room(&self) -> u32
+        ensures room { result ≡ self.now.room }
+        ensures taken { length self.now.states ≤ result }
+    {
+        self.room
+    }
+
+    /// The state of an entry that was taken.
+    pub fn get(&self, place: u32) -> Option<State>
+        ensures { result ≡ slice_get self.now.states place }
+    {
+        self.states.get(place as usize).copied()
+    }
+
+    /// How many entries can be made, were it not sealed.
+    pub fn spare(&self) -> u32
+        ensures { result ≡ spare_of self.now }
+    {
+        self.free.len() as u32 + (self.room - self.states.len() as u32)
+    }
+
+    /// Whether an entry may be made.
+    pub fn can_make(&self) -> bool
+        ensures { result ≡ can_make self.now }
+    {
+        !self.sealed & (self.spare() > 0)
+    }
+
+    /// Whether there is an entry that can be made, were it not sealed.
+    pub fn has_spare(&self) -> bool
+        ensures { result ≡ nat_lt 0 (spare_of self.now) }
+    {
+        self.free.len() > 0 || (self.states.len() as u32) < self.room
+    }
+
+    /// Whether one entry alone may be made.
+    pub fn has_one_spare(&self) -> bool
+        ensures { result ≡ has_one_spare self.now }
+    {
+        self.free.len() <= 1 && self.spare() == 1 && !self.sealed
+    }
+
+    /// How many entries were dropped by units that were accepted, and are not free yet.
+    pub fn dropped(&self) -> u32
+        ensures value { result ≡ count_by is_dropped self.now.states }
+        ensures few { result ≤ length self.now.states }
+    {
+        self.states
+            .iter()
+            .filter(|state| state.is_dropped())
+            .count() as u32
+    }
+
+    /// Whether the unit has changed an entry.
+    pub fn has_touched(&self) -> bool
+        ensures { result ≡ has_touched self.now }
+    {
+        self.touched.len() > 0
+    }
+
+    /// Whether the unit has changed one entry alone.
+    pub fn has_one_touched(&self) -> bool
+        ensures { result ≡ has_one_touched self.now }
+    {
+        self.touched.len() == 1
+    }
+
+    /// Makes an entry: a free one, else the next that was not taken. None where there is no more room.
+    pub fn take(&mut self) -> Option<u32>
+        ensures none { IsNone result ↔ (spare_of self.old ≡ 0) }
+        ensures left { IfNone result (self.new ≡ self.old) }
+        ensures open { IfSome result (IsOpen self.old) }
+        ensures made { IfSome result (λ x. self.new ≡ with_made self.old x) }
+    {
+        if let Some(entry) = self.free.pop() {
+            let state = self.states[entry as usize];
+            enter(&mut self.touched, entry, !state.is_returned());
+            self.states[entry as usize] = State::Made;
+            return Some(entry);
+        }
+        let entry = self.states.len() as u32;
+        if entry == self.room {
+            return None;
+        }
+        put(&mut self.states, State::Made);
+        put(&mut self.touched, entry);
+        Some(entry)
+    }
+
+    /// Drops an entry in use, and answers its state. `last` is the number of the last commit.
+    pub fn drop_entry(&mut self, entry: u32, last: u32) -> State
+        requires there { entry < length self.old.states }
+        requires used { is_used (state_at self.old.states entry) ≡ true }
+        ensures now { result ≡ dropped last (state_at self.old.states entry) }
+        ensures dropped { self.new ≡ with_state_at self.old entry (dropped last (state_at self.old.states entry)) }
+    {
+        let state = self.states[entry as usize];
+        if state.is_made() {
+            put(&mut self.free, entry);
+            self.states[entry as usize] = State::Returned;
+            return State::Returned;
+        }
+        put(&mut self.touched, entry);
+        let after = state.dropped(last);
+        self.states[entry as usize] = after;
+        after
+    }
+
+    /// Makes an entry free that was dropped.
+    pub fn release(&mut self, entry: u32)
+        requires there { entry < length self.old.states }
+        requires dropped { is_dropped (state_at self.old.states entry) ≡ true }
+        ensures { self.new ≡ with_state_at self.old entry Free }
+    {
+        put(&mut self.free, entry);
+        self.states[entry as usize] = State::Free;
+    }
+
+    /// Ends the unit for one entry that it changed: what it did is kept, or taken back. None where there is no more.
+    pub fn settle(&mut self, accepts: bool, last: u32, generation: u64) -> Option<Settled>
+        ensures none { IfNone result (count_by is_touched self.old.states ≡ 0) }
+        ensures left { IfNone result (self.new ≡ self.old) }
+        ensures settled { IfSome result (Settles accepts last generation self.old self.new) }
+    {
+        let place = self.touched.pop()?;
+        let was = self.states[place as usize];
+        enter(&mut self.free, place, was.is_freed(accepts));
+        let now = was.settled(accepts, last, generation);
+        self.states[place as usize] = now;
+        Some(Settled { place, was, now })
+    }
+}
+
+/// Appends where there is room.
+fn put<T: Drop>(list: &mut Vec<T>, value: T)
+    requires { vec_len list.old < vec_capacity list.old }
+    ensures items { list.new.items ≡ list.old.items ++ value ∷ [] }
+    ensures capacity { vec_capacity list.old ≤ vec_capacity list.new }
+{
+    list.push_reserved(value);
+}
+
+/// Puts an entry on a stack, or leaves it as it is.
+fn enter(stack: &mut Vec<u32>, entry: u32, enters: bool)
+    requires { enters ≡ true → vec_len stack.old < vec_capacity stack.old }
+    ensures stack { stack.new.items ≡ (if enters then stack.old.items ++ entry ∷ [] else stack.old.items) }
+    ensures capacity { vec_capacity stack.old ≤ vec_capacity stack.new }
+{
+    if enters {
+        put(stack, entry);
+    }
+}

@@ -1,0 +1,85 @@
+ghost use Rattle.std.specs.Prelude.{◌≡◌, ◌≢◌, ◌<◌, ◌-◌, ◌^◌, ◌++◌, ◌∷◌, [], ℕ, true, length, take, remove, slice_index, IfOk, IfNone};
+ghost use Rattle.std.specs.Prelude.{IfSome, Some, if◌then◌else◌};
+
+use std::alloc::{AllocError, Global};
+use std::marker::Model;
+
+/// A stack of numbers that takes no memory once it is made.
+#[derive(Drop)]
+pub struct Stack {
+    list: Vec<u32>,
+    room: u32,
+}
+
+impl Model for Stack {
+    ghost use Rattle.std.specs.Prelude.{◌≤◌, vec_capacity};
+    ghost use Rattle.entry_ledger.specs.ShelvesKept.{StackView};
+
+    ghost Value = { StackView };
+
+    ghost view = { λ s. record { list = s.list.items; room = s.room } };
+
+    ghost invariant = { λ s. s.room ≤ vec_capacity s.list };
+}
+
+impl Stack {
+    /// An empty stack with room for `room` numbers.
+    pub fn create(alloc: Global, room: u32) -> Result<Self, AllocError>
+        ensures { IfOk result (λ s. s ≡ record { list = []; room = room }) }
+    {
+        let mut list = Vec::new(alloc);
+        list.reserve(room as usize)?;
+        Ok(Stack { list, room })
+    }
+
+    /// The number that was put last.
+    pub fn last(&self) -> Option<u32>
+        ensures none { IfNone result (self.now.list ≡ []) }
+        ensures last { (x : ℕ) → result ≡ Some x → (0 < length self.now.list) × (slice_index self.now.list (length self.now.list - 1) ≡ x) }
+    {
+        self.list.last().copied()
+    }
+
+    /// Takes the last number off, where that is to be.
+    pub fn leave(&mut self, leaves: bool)
+        requires { leaves ≡ true → 0 < length self.old.list }
+        ensures { self.new ≡ (if leaves then record self.old { list = take (length self.old.list - 1) self.old.list } else self.old) }
+    {
+        if leaves {
+            let _ = self.list.take_last();
+        }
+    }
+
+    /// Puts a number on the stack, where that is to be.
+    pub fn enter(&mut self, number: u32, enters: bool)
+        requires { enters ≡ true → length self.old.list < self.old.room }
+        ensures { self.new ≡ (if enters then record self.old { list = self.old.list ++ number ∷ [] } else self.old) }
+    {
+        if enters {
+            self.list.push_reserved(number);
+        }
+    }
+
+    /// Where a number stands.
+    pub fn position(&self, number: u32) -> Option<u32>
+        requires { length self.now.list < 2 ^ 32 }
+        ensures none { IfNone result ((i : ℕ) → i < length self.now.list → slice_index self.now.list i ≢ number) }
+        ensures there { IfSome result (λ i. i < length self.now.list) }
+        ensures is { (i : ℕ) → result ≡ Some i → slice_index self.now.list i ≡ number }
+    {
+        for place in 0..self.list.len() {
+            if self.list[place] == number {
+                return Some(place as u32);
+            }
+        }
+        None
+    }
+
+    /// Takes the number at a place out.
+    pub fn remove(&mut self, place: u32)
+        requires { place < length self.old.list }
+        ensures { self.new ≡ record self.old { list = remove self.old.list place } }
+    {
+        let _ = self.list.remove(place as usize);
+    }
+}

@@ -1,6 +1,0 @@
-use Rattle.std.proofs.Common.{◌≡◌, replicate}
-use Rattle.buffer_shelf.specs.States.{empty_shelf}
-use Rattle.entry_shelves.proofs.shelves.new_shelves.Given as goal
-
-abbrev pub invariant-loop-made : goal.invariant-loop-made
-invariant-loop-made l = l.shelves.items ≡ replicate l.made empty_shelf
