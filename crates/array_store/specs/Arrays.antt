@@ -1,7 +1,7 @@
 -- Arrays, and what the classes of records are, as laws.
 use Rattle.std.specs.Prelude.{◌≡◌, ◌≢◌, ℕ, ◌<◌, ◌≤◌, true, List, ◌∷◌, length}
 use Rattle.entry_ref.specs.Records.{Among}
-use Rattle.tree_images.specs.declared.TheConstants.{NODE_WORDS}
+use Rattle.tree_read.specs.declared.node_format.TheConstants.{NODE_WORDS}
 use Rattle.attr_images.specs.Words.{classes, class_of, filled, stored_items, IsStoredList}
 use Rattle.store_api.specs.Ledgers.{is_width}
 use Rattle.array_store.specs.declared.TheConstants.{MOST_ITEMS, MOST_WORDS}

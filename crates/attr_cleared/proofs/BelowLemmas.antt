@@ -5,10 +5,10 @@ use Rattle.entry_ref.proofs.Among.{Among-all, SameAt-among}
 use Rattle.value_index.proofs.KeyLemmas.{among_left, among_right}
 use Rattle.entry_ref.specs.References.{buffer_of}
 use Rattle.entry_ref.specs.Records.{Records, SameAt, Among}
-use Rattle.tree_images.proofs.TreeLemmas.{IsNode-form}
-use Rattle.tree_images.specs.Nodes.{level_of, node_values}
-use Rattle.tree_images.specs.ProofsForTrees.{pairs-same, tree_nodes-same, IsRootNode-same}
-use Rattle.tree_images.specs.Trees.{nodes_below, pairs_below, root_least, root_level, tree_nodes, IsNode, IsRootNode}
+use Rattle.tree_read.proofs.TreeLemmas.{IsNode-form}
+use Rattle.tree_read.specs.Nodes.{level_of, node_values}
+use Rattle.tree_read.specs.ProofsForTrees.{pairs-same, tree_nodes-same, IsRootNode-same}
+use Rattle.tree_read.specs.Trees.{nodes_below, pairs_below, root_least, root_level, tree_nodes, IsNode, IsRootNode}
 use Rattle.tree_ways.proofs.WayLemmas.{find_child, keys_flat}
 use Rattle.tree_ways.specs.Ways.{keys_below, tree_keys}
 use Rattle.attr_cleared.specs.Cleared.{NodesAreCleared}

@@ -3,14 +3,14 @@ use Rattle.std.proofs.Common.{◌≡◌, ℕ, zero, suc, ◌%◌, ◌<◌, true,
 use Rattle.std.specs.List.{flat_map, AllByRecursion}
 use Rattle.list_facts.proofs.Options.{same_Some}
 use Rattle.entry_ref.specs.Records.{Records, SameAt, Among}
-use Rattle.key_order.specs.Pairs.{lookup_pair}
+use Rattle.tree_read.specs.Pairs.{lookup_pair}
 use Rattle.store_api.specs.Ledgers.{Ledger}
 use Rattle.store_api.specs.Parts.{Owns}
 use Rattle.store_api.specs.Statuses.{in_use}
 use Rattle.store_api.proofs.Times.{among-times}
 use Rattle.store_api.proofs.Uses.{in-uses}
-use Rattle.tree_images.specs.ProofsForTrees.{SameAt-left, SameAt-right, all-same, tree_pairs-same}
-use Rattle.tree_images.specs.Trees.{tree_nodes, tree_pairs}
+use Rattle.tree_read.specs.ProofsForTrees.{SameAt-left, SameAt-right, all-same, tree_pairs-same}
+use Rattle.tree_read.specs.Trees.{tree_nodes, tree_pairs}
 use Rattle.tree_touch.specs.Paths.{NoneIn}
 use Rattle.attr_cleared.specs.Cleared.{IsVisited, ListIsCleared, NodesAreCleared}
 use Rattle.attr_compaction.specs.Places.{PlanPlace}

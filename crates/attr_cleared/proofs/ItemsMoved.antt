@@ -8,10 +8,10 @@ use Rattle.std.specs.Ordering.{nat_cmp, MatchOrdering}
 use Rattle.std.specs.declared.cmp.Ordering.{Ordering}
 use Rattle.attr_cleared.proofs.IndexClauses.{items_stay}
 use Rattle.entry_ref.specs.Records.{Records, SameAt}
-use Rattle.key_order.specs.Pairs.{choose, lookup, take_out}
+use Rattle.tree_read.specs.Pairs.{choose, lookup, take_out}
 use Rattle.store_api.specs.Ledgers.{Ledger}
-use Rattle.tree_images.specs.ProofsForTrees.{all-same}
-use Rattle.tree_images.specs.Trees.{tree_pairs}
+use Rattle.tree_read.specs.ProofsForTrees.{all-same}
+use Rattle.tree_read.specs.Trees.{tree_pairs}
 use Rattle.doc_vector.specs.Documents.{beside_document}
 use Rattle.attr_images.specs.Tables.{AttributeTrees}
 use Rattle.attr_images.specs.Values.{stored_value}

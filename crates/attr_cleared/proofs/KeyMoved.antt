@@ -3,9 +3,9 @@ use Rattle.std.proofs.Common.{◌≡◌, ◌≢◌, ℕ, ◌<◌, Some, inl, inr
 use Rattle.std.specs.List.Sorted.{IsStrictlySortedBy}
 use Rattle.entry_ref.specs.References.{buffer_of}
 use Rattle.entry_ref.specs.Records.{Records, SameAt}
-use Rattle.key_order.specs.Pairs.{take_out}
+use Rattle.tree_read.specs.Pairs.{take_out}
 use Rattle.store_api.specs.Ledgers.{Ledger}
-use Rattle.tree_images.specs.Trees.{tree_pairs}
+use Rattle.tree_read.specs.Trees.{tree_pairs}
 use Rattle.attr_cleared.specs.Cleared.{IsClearedField, IsVisited, ListIsCleared}
 use Rattle.attr_compaction.specs.Places.{key_cmp, value_in, PlanPlace}
 use Rattle.attr_compaction.specs.declared.plan.PlanKey.TheVariants as plan

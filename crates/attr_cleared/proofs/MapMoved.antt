@@ -13,8 +13,8 @@ use Rattle.store_api.specs.Parts.{Owns}
 use Rattle.store_api.specs.Statuses.{in_use}
 use Rattle.store_api.proofs.Times.{among-times, times-among, times-append}
 use Rattle.store_api.proofs.Uses.{in-uses, uses-in}
-use Rattle.tree_images.specs.ProofsForTrees.{all-same}
-use Rattle.tree_images.specs.Trees.{by_number, tree_nodes, tree_pairs}
+use Rattle.tree_read.specs.ProofsForTrees.{all-same}
+use Rattle.tree_read.specs.Trees.{by_number, tree_nodes, tree_pairs}
 use Rattle.tree_touch.specs.Paths.{path_nodes}
 use Rattle.tree_ways.proofs.WayLemmas.{stand_on_ways}
 use Rattle.tree_ways.specs.Ways.{keys_below, tree_keys}

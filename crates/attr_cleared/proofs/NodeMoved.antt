@@ -12,7 +12,7 @@ use Rattle.store_api.specs.Parts.{Owns}
 use Rattle.store_api.specs.Statuses.{in_use}
 use Rattle.store_api.proofs.Times.{among-times, times-among}
 use Rattle.store_api.proofs.Uses.{uses-in}
-use Rattle.tree_images.specs.Trees.{tree_nodes, tree_pairs, IsTree}
+use Rattle.tree_read.specs.Trees.{tree_nodes, tree_pairs, IsTree}
 use Rattle.tree_touch.specs.Paths.{path_nodes}
 use Rattle.tree_ways.proofs.WayLemmas.{stand_on_ways}
 use Rattle.tree_ways.specs.Ways.{keys_below, tree_keys}

@@ -1,5 +1,5 @@
 -- Documents put in one after another, in order.
-use Rattle.tree_search.specs.Places.{first_key}
+use Rattle.tree_read.specs.SearchPlaces.{first_key}
 use Rattle.doc_vector.specs.Documents.{IsDocumentPair}
 use Rattle.std.proofs.Common.{◌≡◌, ◌≢◌, ◌<◌, ◌≤◌, ℕ, cond, List, [], ◌∷◌, ◌++◌, map, drop, refl, sym, ap, subst, ◌∙◌, arith, Some}
 use Rattle.std.proofs.lemmas.Cmp.{nat_cmp_total}

@@ -4,7 +4,7 @@ use Rattle.std.specs.Prelude.{slice_get}
 use Rattle.std.specs.List.{AllByRecursion}
 use Rattle.std.specs.Map.{keys_of}
 use Rattle.entry_ref.specs.Records.{Records}
-use Rattle.tree_images.specs.Trees.{tree_pairs}
+use Rattle.tree_read.specs.Trees.{tree_pairs}
 use Rattle.doc_vector.specs.Documents.{IsDocumentPair}
 use Rattle.attr_documents.specs.Documents.{IsDocuments, AreItemsAt}
 use Rattle.attr_images.specs.Attributes.{IsLawfulAttribute}

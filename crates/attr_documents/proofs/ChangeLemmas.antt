@@ -8,10 +8,10 @@ use Rattle.std.specs.Map.{lookup as lookup_in}
 use Rattle.std.specs.Ordering.{nat_cmp}
 use Rattle.entry_ref.proofs.Among.{SameAt-then}
 use Rattle.entry_ref.specs.Records.{Records, SameAt, Among}
-use Rattle.tree_images.specs.ProofsForTrees.{SameAt-right, tree_nodes-same}
-use Rattle.tree_images.specs.Trees.{tree_nodes, tree_pairs}
-use Rattle.key_order.specs.Pairs.{lookup, put, take_out}
-use Rattle.key_order.proofs.PairLemmas.{All-take_out}
+use Rattle.tree_read.specs.ProofsForTrees.{SameAt-right, tree_nodes-same}
+use Rattle.tree_read.specs.Trees.{tree_nodes, tree_pairs}
+use Rattle.tree_read.specs.Pairs.{lookup, put, take_out}
+use Rattle.tree_read.proofs.PairLemmas.{All-take_out}
 use Rattle.store_api.specs.Ledgers.{Ledger}
 use Rattle.store_api.specs.Parts.{Part, After, Owns, Turns, count_in, entries, times, uses}
 use Rattle.store_api.specs.Units.{MayDo}
@@ -233,7 +233,7 @@ module _ {H : Type 0} (kind : Kind) (type : ValueType) (a b c : Ledger H) (m n o
   begun = after a b m n [] (entries (items_own kind ref) ∷ []) own own (entries (items_own kind ref) ∷ documents_part kind root ∷ []) owns makes.turns (λ k r. omega arith) (λ k r. omega arith)
 
   pub nodes_stay : SameAt (tree_nodes m root) m n
-  nodes_stay = Rattle.tree_images.specs.ProofsForTrees.SameAt-left m n (tree_nodes m root) (pairs_own kind (tree_pairs m root)) begun.stay.0
+  nodes_stay = Rattle.tree_read.specs.ProofsForTrees.SameAt-left m n (tree_nodes m root) (pairs_own kind (tree_pairs m root)) begun.stay.0
 
   pub still_map : IsDocumentMap n root
   still_map = (map_stays m n root nodes_stay is.map_is).0

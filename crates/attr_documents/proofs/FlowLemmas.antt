@@ -9,14 +9,14 @@ use Rattle.std.specs.List.{AllByRecursion}
 use Rattle.std.specs.List.Sorted.{IsStrictlySortedBy}
 use Rattle.std.specs.Ordering.{nat_cmp}
 use Rattle.entry_ref.specs.Records.{Records, Among, SameAt}
-use Rattle.key_order.specs.Pairs.{choose, lookup, put, take_out}
-use Rattle.key_order.proofs.PairLemmas.{lookup-put}
+use Rattle.tree_read.specs.Pairs.{choose, lookup, put, take_out}
+use Rattle.tree_read.proofs.PairLemmas.{lookup-put}
 use Rattle.store_api.specs.Ledgers.{Ledger}
 use Rattle.store_api.specs.Parts.{uses}
 use Rattle.store_api.specs.Units.{MayDo}
 use Rattle.store_api.proofs.Times.{among-times, times-among, times-append}
-use Rattle.tree_images.specs.ProofsForTrees.{SameAt-left, SameAt-right, tree_nodes-same, tree_pairs-same}
-use Rattle.tree_images.specs.Trees.{tree_nodes, tree_pairs}
+use Rattle.tree_read.specs.ProofsForTrees.{SameAt-left, SameAt-right, tree_nodes-same, tree_pairs-same}
+use Rattle.tree_read.specs.Trees.{tree_nodes, tree_pairs}
 use Rattle.doc_vector.proofs.DocumentLemmas.{other_number, same_number}
 use Rattle.doc_vector.proofs.MapLemmas.{put_others, take_out_gone, take_out_others}
 use Rattle.doc_vector.specs.Documents.{beside_document}

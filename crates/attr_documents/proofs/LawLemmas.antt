@@ -6,8 +6,8 @@ use Rattle.std.specs.List.{flat_map, AllByRecursion}
 use Rattle.std.specs.List.Sorted.{IsStrictlySortedBy}
 use Rattle.std.specs.Ordering.{nat_cmp}
 use Rattle.entry_ref.specs.Records.{Records, SameAt, Among}
-use Rattle.tree_images.specs.ProofsForTrees.{SameAt-left, SameAt-right}
-use Rattle.tree_images.specs.Trees.{tree_nodes, tree_pairs, by_number, IsTree}
+use Rattle.tree_read.specs.ProofsForTrees.{SameAt-left, SameAt-right}
+use Rattle.tree_read.specs.Trees.{tree_nodes, tree_pairs, by_number, IsTree}
 use Rattle.store_api.specs.Parts.{times}
 use Rattle.store_api.proofs.Times.{times-append, among-times, times-among}
 use Rattle.doc_vector.proofs.DocumentLemmas.{map_nothing, map_stays}

@@ -12,7 +12,7 @@ use Rattle.std.specs.Map.{lookup as lookup_in}
 use Rattle.std.specs.Ordering.{nat_cmp, match_ordering, is_eq, MatchOrdering}
 use Rattle.store_api.specs.Parts.{times}
 use Rattle.store_api.proofs.Times.{times-append}
-use Rattle.key_order.specs.Pairs.{choose, lookup, put, take_out}
+use Rattle.tree_read.specs.Pairs.{choose, lookup, put, take_out}
 use Rattle.doc_vector.specs.Documents.{beside_document}
 use Rattle.posting_store.proofs.ItemLemmas.{cmp_below, cmp_above, cmp_same, cmp_apart}
 use Rattle.posting_store.proofs.PairLemmas.{above_apart}

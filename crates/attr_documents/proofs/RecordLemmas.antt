@@ -2,7 +2,7 @@
 use Rattle.std.proofs.Common.{◌≡◌, ℕ, zero, suc, ℤ, List, [], ◌∷◌, ◌++◌, map, refl, sym, ap, subst, ◌∙◌}
 use Rattle.std.specs.List.{flat_map, AllByRecursion}
 use Rattle.entry_ref.specs.Records.{Records, SameAt}
-use Rattle.tree_images.specs.ProofsForTrees.{SameAt-left, SameAt-right}
+use Rattle.tree_read.specs.ProofsForTrees.{SameAt-left, SameAt-right}
 use Rattle.attr_images.specs.Documents.{weighted, items_at, IsItemsRecord}
 use Rattle.attr_images.specs.Values.{value_of, IsValueRecord}
 use Rattle.attr_images.specs.Words.{IsStoredList}

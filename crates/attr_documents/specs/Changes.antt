@@ -2,9 +2,9 @@
 use Rattle.std.specs.Prelude.{◌≡◌, ◌⊎◌, ℕ, ◌+◌, ◌<◌, nat_eq, if◌then◌else◌, List, [], ◌∷◌}
 use Rattle.std.specs.List.{flat_map, AllZip}
 use Rattle.entry_ref.specs.Records.{Records, Among, SameAt}
-use Rattle.key_order.specs.Pairs.{take_out}
-use Rattle.tree_images.specs.Trees.{tree_nodes, tree_pairs}
-use Rattle.tree_images.specs.declared.TheConstants.{NODE_WORDS}
+use Rattle.tree_read.specs.Pairs.{take_out}
+use Rattle.tree_read.specs.Trees.{tree_nodes, tree_pairs}
+use Rattle.tree_read.specs.declared.node_format.TheConstants.{NODE_WORDS}
 use Rattle.store_api.specs.Ledgers.{Ledger}
 use Rattle.store_api.specs.Parts.{Part, Owns, Turns, count_in, entries, uses}
 use Rattle.tree_make.specs.Changes.{tree}

@@ -3,7 +3,7 @@
 use Rattle.std.specs.Prelude.{ℕ, zero, suc, List, [], ◌∷◌, ◌++◌, map}
 use Rattle.std.specs.List.{flat_map, AllByRecursion}
 use Rattle.entry_ref.specs.Records.{Records}
-use Rattle.tree_images.specs.Trees.{tree_nodes, tree_pairs}
+use Rattle.tree_read.specs.Trees.{tree_nodes, tree_pairs}
 use Rattle.store_api.specs.Parts.{Part}
 use Rattle.doc_vector.specs.Documents.{IsDocumentMap}
 use Rattle.attr_images.specs.Documents.{weighted, items_at, AreItemRecords}

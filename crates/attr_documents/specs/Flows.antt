@@ -4,8 +4,8 @@ use Rattle.std.specs.Prelude.{◌⊎◌, ℕ, List, unwrap_or}
 use Rattle.entry_ref.specs.Records.{Records, Among}
 use Rattle.store_api.specs.Ledgers.{Ledger}
 use Rattle.store_api.specs.Flows.{ComesFrom}
-use Rattle.key_order.specs.Pairs.{lookup}
-use Rattle.tree_images.specs.Trees.{tree_nodes, tree_pairs}
+use Rattle.tree_read.specs.Pairs.{lookup}
+use Rattle.tree_read.specs.Trees.{tree_nodes, tree_pairs}
 use Rattle.doc_vector.specs.Documents.{beside_document}
 use Rattle.attr_types.specs.declared.kind.Kind.{Kind}
 use Rattle.attr_documents.specs.Documents.{items_own, items_refer}

@@ -3,7 +3,7 @@ use Rattle.std.specs.Prelude.{◌≡◌, ◌↔◌, ℕ, [], ◌++◌, map}
 use Rattle.std.specs.List.{AllByRecursion}
 use Rattle.std.specs.Ordering.{nat_cmp}
 use Rattle.entry_ref.specs.Records.{Records, SameAt, Among}
-use Rattle.tree_images.specs.Trees.{tree_nodes, tree_pairs, by_number, IsTree}
+use Rattle.tree_read.specs.Trees.{tree_nodes, tree_pairs, by_number, IsTree}
 use Rattle.attr_images.specs.Documents.{column_at, documents_reach, AreItemRecords}
 use Rattle.attr_images.specs.Values.{stored_value}
 use Rattle.attr_index.specs.Columns.{IsLawfulColumn, column_values}

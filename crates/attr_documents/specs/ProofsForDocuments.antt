@@ -2,8 +2,8 @@
 use Rattle.std.proofs.Common.{◌≡◌, ℕ, List, ◌++◌, ap, ◌∙◌}
 use Rattle.std.specs.List.{flat_map}
 use Rattle.entry_ref.specs.Records.{Records, SameAt}
-use Rattle.tree_images.specs.ProofsForTrees.{SameAt-left, tree_pairs-same, tree_nodes-same}
-use Rattle.tree_images.specs.Trees.{tree_nodes, tree_pairs}
+use Rattle.tree_read.specs.ProofsForTrees.{SameAt-left, tree_pairs-same, tree_nodes-same}
+use Rattle.tree_read.specs.Trees.{tree_nodes, tree_pairs}
 
 pub owned-same : (own : ℕ → List ℕ) (m n : Records) (root : ℕ)
     → SameAt (tree_nodes m root ++ flat_map (λ p. own p.1) (tree_pairs m root)) m n

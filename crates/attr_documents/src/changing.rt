@@ -2,9 +2,9 @@ ghost use Rattle.std.specs.Prelude.{◌≡◌, ◌+◌, ◌*◌, ◌∷◌, [], 
 ghost use Rattle.std.specs.BTreeMap.{is_at};
 ghost use Rattle.std.specs.Map.{lookup};
 ghost use Rattle.std.specs.Ordering.{nat_cmp};
-ghost use Rattle.tree_images.specs.Trees.{tree_pairs};
-ghost use Rattle.tree_images.specs.declared.TheConstants.{NODE_WORDS};
-ghost use Rattle.key_order.specs.Pairs.{lookup as found, put, take_out};
+ghost use Rattle.tree_read.specs.Trees.{tree_pairs};
+ghost use Rattle.tree_read.specs.declared.node_format.TheConstants.{NODE_WORDS};
+ghost use Rattle.tree_read.specs.Pairs.{lookup as found, put, take_out};
 ghost use Rattle.store_api.specs.Calls.{Refuses, RefusesOf};
 ghost use Rattle.store_api.specs.Parts.{Owns};
 ghost use Rattle.store_api.specs.Units.{MayDo};

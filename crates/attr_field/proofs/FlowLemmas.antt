@@ -5,7 +5,7 @@ use Rattle.entry_ref.proofs.Among.{Among-all}
 use Rattle.entry_ref.specs.Records.{Records, SameAt}
 use Rattle.store_api.specs.Ledgers.{Ledger}
 use Rattle.store_api.specs.Units.{MayDo}
-use Rattle.tree_images.specs.Trees.{tree_nodes}
+use Rattle.tree_read.specs.Trees.{tree_nodes}
 use Rattle.attr_documents.specs.Documents.{documents_own}
 use Rattle.attr_documents.specs.Flows.{own_at, FlowsDocuments}
 use Rattle.attr_documents.proofs.FlowLemmas.{documents_flow_stay}

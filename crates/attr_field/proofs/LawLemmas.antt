@@ -1,8 +1,8 @@
 -- What an attribute in a store is: the laws, by those of its documents and of its index.
 use Rattle.std.proofs.Common.{◌++◌, refl, sym, subst, inl, inr}
 use Rattle.entry_ref.proofs.Among.{Among-append}
-use Rattle.tree_images.specs.ProofsForTrees.{SameAt-left, SameAt-right}
-use Rattle.tree_images.specs.Trees.{tree_nodes}
+use Rattle.tree_read.specs.ProofsForTrees.{SameAt-left, SameAt-right}
+use Rattle.tree_read.specs.Trees.{tree_nodes}
 use Rattle.attr_documents.specs.Documents.{documents_own, documents_refer}
 use Rattle.attr_documents.specs.Laws.{NothingIsDocuments, DocumentsStay, DocumentsAreLawful, DocumentsReach}
 use Rattle.attr_images.specs.Documents.{column_at, documents_reach}

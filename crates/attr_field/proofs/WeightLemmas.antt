@@ -22,7 +22,7 @@ use Rattle.attr_types.specs.declared.kind.Kind.{Kind}
 use Rattle.attr_types.specs.declared.kind.ValueType.{ValueType}
 use Rattle.attr_types.specs.declared.value.Value.{Value}
 use Rattle.entry_ref.specs.Records.{Records}
-use Rattle.tree_images.specs.Trees.{tree_pairs}
+use Rattle.tree_read.specs.Trees.{tree_pairs}
 
 -- a map of first weights has the weights of its items
 pub weights_are : (entries : List (Value × ℤ)) (items : List Item) → entries ≡ first_weights [] items → (value : Value)

@@ -3,7 +3,7 @@ use Rattle.std.specs.Prelude.{◌≡◌, ◌⊎◌, ℕ, true}
 use Rattle.entry_ref.specs.Records.{Records, Among}
 use Rattle.store_api.specs.Ledgers.{Ledger}
 use Rattle.store_api.specs.Statuses.{in_use}
-use Rattle.tree_images.specs.Trees.{tree_nodes}
+use Rattle.tree_read.specs.Trees.{tree_nodes}
 use Rattle.attr_documents.specs.Flows.{own_at, refer_at}
 use Rattle.store_api.specs.Flows.{ComesFrom}
 use Rattle.attr_types.specs.declared.kind.Kind.{Kind}

@@ -1,7 +1,7 @@
 -- Nobody has to read this: what an attribute owns stays where these records stay. It stands here since a part cites it.
 use Rattle.std.proofs.Common.{◌≡◌, ℕ, ◌++◌, ap, ◌∙◌}
 use Rattle.entry_ref.specs.Records.{Records, SameAt}
-use Rattle.tree_images.specs.ProofsForTrees.{SameAt-left, SameAt-right}
+use Rattle.tree_read.specs.ProofsForTrees.{SameAt-left, SameAt-right}
 use Rattle.attr_documents.specs.Documents.{documents_own, documents_part}
 use Rattle.attr_types.specs.declared.kind.Kind.{Kind}
 use Rattle.value_index.specs.Indexes.{index_part, index_reach}

@@ -7,7 +7,7 @@ ghost use Rattle.std.specs.Map.{keys_of as values_in, lookup};
 ghost use Rattle.std.specs.Ordering.{nat_cmp};
 ghost use Rattle.store_api.specs.Calls.{Refuses, RefusesOf};
 ghost use Rattle.store_api.specs.Units.{MayDo};
-ghost use Rattle.tree_images.specs.declared.TheConstants.{NODE_WORDS};
+ghost use Rattle.tree_read.specs.declared.node_format.TheConstants.{NODE_WORDS};
 ghost use Rattle.attr_documents.specs.Changes.{IsDocumentWidth};
 ghost use Rattle.attr_field.specs.Steps.{StandsField, StepsField};
 ghost use Rattle.attr_images.specs.Documents.{column_at};

@@ -4,8 +4,8 @@ use Rattle.std.proofs.lemmas.Str.{IsUtf8-from_ascii}
 use Rattle.std.specs.List.Sorted.{IsStrictlySortedBy}
 use borrow.Author.Tests.{ltb-true, leb-true}
 use Rattle.entry_ref.specs.Images.{words_at}
-use Rattle.tree_images.proofs.NodeLemmas.{node_formed}
-use Rattle.tree_images.specs.Trees.{pairs_below, nodes_below, IsNode}
+use Rattle.tree_read.proofs.NodeLemmas.{node_formed}
+use Rattle.tree_read.specs.Trees.{pairs_below, nodes_below, IsNode}
 use Rattle.attr_images.specs.Examples.{one_text, broken, two_fields, OneTextIsLawful, OneTextReads, MissingRecord, WrongCount, UnlawfulTable, MissingValue, WrongWeight, TwoFieldsAreLawful, TwoFieldsRead, OtherDocument}
 use Rattle.attr_images.specs.Attributes.{IsLawfulAttribute}
 use Rattle.attr_images.specs.Shapes.{types_of_shape}

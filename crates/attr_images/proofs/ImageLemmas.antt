@@ -8,7 +8,7 @@ use Rattle.std.specs.Map.{keys_of}
 use Rattle.list_facts.proofs.Options.{same_Some}
 use Rattle.list_facts.proofs.Each.{AllByRecursion-slice_get}
 use Rattle.entry_ref.specs.Records.{Records}
-use Rattle.tree_images.specs.Trees.{tree_pairs, root_level, root_least, IsNode, IsRootNode}
+use Rattle.tree_read.specs.Trees.{tree_pairs, root_level, root_least, IsNode, IsRootNode}
 use Rattle.attr_index.proofs.OfLemmas.{has_values, has_lists, is_index_of}
 use Rattle.attr_index.specs.Columns.{Column, IsLawfulColumn}
 use Rattle.attr_index.specs.Index.{IsIndexOf}

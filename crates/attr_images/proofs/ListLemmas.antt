@@ -5,7 +5,7 @@ use Rattle.std.proofs.lemmas.Bool.{cond-true, cond-false, lt-leb, le-leb}
 use Rattle.std.proofs.lemmas.List.{length-map}
 use Rattle.std.specs.List.{AllByRecursion, flat_map}
 use Rattle.entry_ref.specs.Records.{Records}
-use Rattle.tree_images.specs.Trees.{tree_pairs}
+use Rattle.tree_read.specs.Trees.{tree_pairs}
 use Rattle.attr_images.specs.Postings.{ListForm, short, tree, vector, list_form, block_documents, vector_documents, postings_at, IsBlock, IsPostingList}
 use Rattle.attr_images.specs.Words.{stored_items, unpacked, weight_in_bits}
 use Rattle.attr_images.specs.declared.TheConstants.{FIRST_VECTOR}

@@ -3,7 +3,7 @@ use Rattle.std.specs.Prelude.{ℕ, List, ◌++◌}
 use Rattle.std.specs.List.{AllByRecursion}
 use Rattle.std.specs.Ordering.{nat_cmp}
 use Rattle.entry_ref.specs.Records.{Records}
-use Rattle.tree_images.specs.Trees.{tree_pairs, tree_nodes, by_number, IsTree}
+use Rattle.tree_read.specs.Trees.{tree_pairs, tree_nodes, by_number, IsTree}
 use Rattle.attr_index.specs.Columns.{IsLawfulColumn}
 use Rattle.attr_index.specs.Index.{HasValues, HasLists}
 use Rattle.attr_images.specs.Documents.{column_at, documents_reach, AreItemRecords}

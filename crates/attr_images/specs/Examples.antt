@@ -2,7 +2,7 @@
 use Rattle.std.specs.Prelude.{◌≡◌, ℕ, ◌+◌, ◌*◌, ◌^◌, pos, negsuc, List, [], ◌∷◌}
 use Rattle.entry_ref.specs.Images.{words_at}
 use Rattle.entry_ref.specs.declared.images.Image.{Image}
-use Rattle.tree_images.specs.Nodes.{node_words}
+use Rattle.tree_read.specs.Nodes.{node_words}
 use Rattle.attr_images.specs.Images.{table_of, IsLawfulImage}
 use Rattle.attr_types.specs.declared.value.Value.TheVariants as values
 

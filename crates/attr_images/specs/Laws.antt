@@ -6,7 +6,7 @@ use Rattle.std.specs.List.{IsDistinct}
 use Rattle.std.specs.List.Sorted.{IsStrictlySortedBy}
 use Rattle.std.specs.Map.{keys_of}
 use Rattle.entry_ref.specs.Records.{Records, AllThere}
-use Rattle.tree_images.specs.Trees.{tree_nodes, IsTree}
+use Rattle.tree_read.specs.Trees.{tree_nodes, IsTree}
 use Rattle.attr_images.specs.Attributes.{trees_reach, AreFormed, IsLawfulAttribute}
 use Rattle.attr_images.specs.Documents.{column_at}
 use Rattle.attr_images.specs.Images.{root_words, operations_at, documents_at, dictionary_at, attributes_of, root_record, IsRootRecord}

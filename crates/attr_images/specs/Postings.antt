@@ -4,7 +4,7 @@ use Rattle.std.specs.Prelude.{List, [], ◌∷◌, ◌++◌, length, map, filter
 use Rattle.std.specs.List.{flat_map, range_with_len, AllByRecursion}
 use Rattle.std.specs.Ordering.{nat_cmp}
 use Rattle.entry_ref.specs.Records.{Records}
-use Rattle.tree_images.specs.Trees.{tree_pairs, tree_nodes, by_number, IsTree}
+use Rattle.tree_read.specs.Trees.{tree_pairs, tree_nodes, by_number, IsTree}
 use Rattle.attr_images.specs.declared.TheConstants.{MOST_SHORT, FIRST_VECTOR, BLOCK_WORDS, BLOCK_DOCUMENTS}
 use Rattle.attr_images.specs.Values.{stored_value, IsValueRecord}
 use Rattle.attr_images.specs.Words.{stored_items, unpacked, weight_in_bits, IsStoredList}

@@ -8,9 +8,9 @@ use Rattle.std.specs.Option.{unwrap_or}
 use Rattle.std.specs.Ordering.{nat_cmp}
 use Rattle.std.proofs.lemmas.List.Concat.{flat_map_single}
 use Rattle.entry_ref.specs.Records.{Records, SameAt, AllThere}
-use Rattle.tree_images.specs.ProofsForTrees.{SameAt-left, SameAt-right, flat_map-same, map-same, all-same, tree_pairs-same}
-use Rattle.tree_images.specs.ProofsForTrees.{tree_nodes-same, IsTree-same, there-both, tree_there}
-use Rattle.tree_images.specs.Trees.{tree_pairs, tree_nodes, by_number}
+use Rattle.tree_read.specs.ProofsForTrees.{SameAt-left, SameAt-right, flat_map-same, map-same, all-same, tree_pairs-same}
+use Rattle.tree_read.specs.ProofsForTrees.{tree_nodes-same, IsTree-same, there-both, tree_there}
+use Rattle.tree_read.specs.Trees.{tree_pairs, tree_nodes, by_number}
 use Rattle.attr_images.specs.Attributes.{trees_reach, AreFormed, IsLawfulAttribute}
 use Rattle.attr_index.specs.Columns.{Column, IsLawfulColumn}
 use Rattle.attr_index.specs.Index.{HasValues, HasLists}

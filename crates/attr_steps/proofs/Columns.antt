@@ -5,7 +5,7 @@ use Rattle.std.specs.BTreeMap.{is_at}
 use Rattle.std.specs.List.{AllByRecursion, AllZip}
 use Rattle.std.specs.Option.{IfSome}
 use Rattle.entry_ref.specs.Records.{Records, Among, SameAt}
-use Rattle.tree_images.specs.Trees.{tree_pairs}
+use Rattle.tree_read.specs.Trees.{tree_pairs}
 use Rattle.attr_index.proofs.ColumnLemmas.{operation_changes, column-remove}
 use Rattle.attr_index.specs.Columns.{Column, IsLawfulColumn, column_of, with_change}
 use Rattle.attr_images.proofs.TableLemmas.{IsTyped, table_has_columns, columns_make_lawful, columns_make_typed, columns_make_table, columns_have_same}

@@ -7,7 +7,7 @@ use Rattle.list_facts.proofs.Options.{same_Some}
 use Rattle.list_facts.proofs.Places.{slice_get-set_other}
 use Rattle.entry_ref.specs.References.{buffer_of}
 use Rattle.entry_ref.specs.Records.{Records, SameAt}
-use Rattle.tree_images.specs.ProofsForTrees.{SameAt-left, SameAt-right}
+use Rattle.tree_read.specs.ProofsForTrees.{SameAt-left, SameAt-right}
 use Rattle.store_api.specs.Ledgers.{Ledger}
 use Rattle.store_api.specs.Parts.{AllStay}
 use Rattle.store_api.specs.Statuses.{Status, in_use}

@@ -5,11 +5,11 @@ use Rattle.std.proofs.lemmas.Bool.{cases_lt}
 use Rattle.std.proofs.lemmas.List.{length-map}
 use Rattle.std.specs.Option.{unwrap_or}
 use Rattle.entry_ref.specs.Records.{Records}
-use Rattle.key_order.specs.Pairs.{lookup_pair}
-use Rattle.key_order.proofs.PairLemmas.{lookup-of_pair}
-use Rattle.tree_images.specs.Nodes.{level_of}
-use Rattle.tree_images.specs.Trees.{tree_pairs, IsRootNode}
-use Rattle.tree_images.proofs.TreeLemmas.{many_pairs}
+use Rattle.tree_read.specs.Pairs.{lookup_pair}
+use Rattle.tree_read.proofs.PairLemmas.{lookup-of_pair}
+use Rattle.tree_read.specs.Nodes.{level_of}
+use Rattle.tree_read.specs.Trees.{tree_pairs, IsRootNode}
+use Rattle.tree_read.proofs.TreeLemmas.{many_pairs}
 use Rattle.tree_make.specs.Changes.{levels}
 use Rattle.attr_images.specs.Postings.{ListForm, short, tree, vector, index_of, list_form, postings_at, IsPostingList}
 use Rattle.attr_images.specs.Values.{stored_value}

@@ -4,7 +4,7 @@ use Rattle.std.specs.BTreeMap.{is_at}
 use Rattle.std.specs.List.{count_by}
 use Rattle.std.specs.Map.{lookup}
 use Rattle.store_api.specs.Ledgers.{Ledger}
-use Rattle.tree_images.specs.declared.TheConstants.{NODE_WORDS}
+use Rattle.tree_read.specs.declared.node_format.TheConstants.{NODE_WORDS}
 use Rattle.attr_index.specs.Changes.{is_weight, IsBetween}
 use Rattle.attr_index.specs.Index.{Index, list_of}
 use Rattle.attr_types.specs.Value.{value_cmp}

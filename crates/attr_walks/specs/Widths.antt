@@ -1,6 +1,6 @@
 -- For which widths a walk may be refused.
 use Rattle.std.specs.Prelude.{◌≡◌, ◌⊎◌, ℕ, ℤ, length, Option, IsSome}
-use Rattle.tree_images.specs.declared.TheConstants.{NODE_WORDS}
+use Rattle.tree_read.specs.declared.node_format.TheConstants.{NODE_WORDS}
 use Rattle.attr_index.specs.Changes.{settled}
 use Rattle.attr_index.specs.Index.{Index, list_of}
 use Rattle.attr_types.specs.declared.value.Value.{Value}

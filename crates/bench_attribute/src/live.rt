@@ -4,7 +4,7 @@ use check_trees::{CheckFault, Keys, check_tree};
 use entry_ref::{word_in, words_at};
 use std::alloc::Global;
 use std::collections::BTreeMap;
-use tree_images::FIRST_VALUE;
+use tree_read::FIRST_VALUE;
 
 /// The words of a record.
 fn words_of(records: &BTreeMap<u32, Vec<u64>>, reference: u64) -> u64 {

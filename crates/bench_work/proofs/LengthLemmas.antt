@@ -1,8 +1,8 @@
 -- A key more or less in a list of pairs.
 use Rattle.std.proofs.Common.{◌≡◌, ℕ, suc, ◌+◌, ◌≤◌, List, [], ◌∷◌, length, Ordering, Less, Greater, arith, subst, sym}
 use Rattle.std.specs.declared.cmp.Ordering.TheVariants.{Equal}
-use Rattle.key_order.specs.Pairs.{choose, put, take_out}
-use Rattle.key_order.proofs.PairLemmas.{length-put_most}
+use Rattle.tree_read.specs.Pairs.{choose, put, take_out}
+use Rattle.tree_read.proofs.PairLemmas.{length-put_most}
 
 -- one more at most is put
 pub put-longer : (c : ℕ → Ordering) (pair : ℕ × ℕ) (ps qs : List (ℕ × ℕ)) (most : ℕ) → qs ≡ put c pair ps → length ps ≤ most → length qs ≤ most + 1

@@ -18,7 +18,7 @@ use number_tree::{NumberTree, TreeLayout};
 use std::alloc::{AllocError, Global};
 use std::process::ExitCode;
 use store_api::{Store, StoreError};
-use tree_images::NODE_WORDS;
+use tree_read::NODE_WORDS;
 
 /// What is run.
 #[derive(Clone, Copy)]

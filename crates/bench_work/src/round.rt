@@ -3,7 +3,7 @@ ghost use Rattle.bench_work.specs.Units.{HoldsRoot, Made};
 
 use entry_ref::EntryRef;
 use store_api::{Store, StoreError, make_entry};
-use tree_images::NODE_WORDS;
+use tree_read::NODE_WORDS;
 use tree_make::drop_nodes;
 
 /// One unit: makes `count` entries of 34 words, drops them all, and is accepted.

@@ -1,5 +1,5 @@
 ghost use Rattle.std.specs.Prelude.{◌≡◌, ◌<◌, ◌≤◌, ◌+◌, length, IfOk, OnOk};
-ghost use Rattle.tree_images.specs.Trees.{IsRootNode};
+ghost use Rattle.tree_read.specs.Trees.{IsRootNode};
 
 use entry_ref::EntryRef;
 use arena_api::Frozen;

@@ -10,7 +10,7 @@ use Rattle.std.specs.Ordering.{nat_cmp}
 use Rattle.attr_images.proofs.ImageLemmas.{index_keys}
 use Rattle.list_facts.proofs.Each.{AllByRecursion-append, AllByRecursion-left, AllByRecursion-right}
 use Rattle.entry_ref.specs.Records.{Records}
-use Rattle.tree_images.specs.Trees.{tree_pairs, by_number, IsTree}
+use Rattle.tree_read.specs.Trees.{tree_pairs, by_number, IsTree}
 use Rattle.attr_index.specs.Columns.{Column, column_values, documents_with, IsLawfulColumn}
 use Rattle.attr_index.specs.Index.{HasValues, HasLists}
 use Rattle.attr_images.specs.Documents.{items_at, column_at}

@@ -2,7 +2,7 @@
 ghost use Rattle.std.specs.Prelude.{◌≡◌, ℕ, map, OnOk, IfOk, IfErr};
 ghost use Rattle.std.specs.List.{AllByRecursion};
 ghost use Rattle.std.specs.Ordering.{nat_cmp};
-ghost use Rattle.tree_images.specs.Trees.{tree_pairs, by_number, IsTree};
+ghost use Rattle.tree_read.specs.Trees.{tree_pairs, by_number, IsTree};
 ghost use Rattle.attr_images.specs.Attributes.{IsLawfulAttribute};
 ghost use Rattle.attr_index.specs.Columns.{documents_with, IsLawfulColumn};
 ghost use Rattle.attr_images.specs.Documents.{AreItemRecords, column_at};

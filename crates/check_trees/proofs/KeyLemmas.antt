@@ -5,7 +5,7 @@ use Rattle.std.specs.Cmp.{IsTotalOrder}
 use Rattle.std.specs.List.{AllByRecursion}
 use Rattle.std.specs.List.Sorted.{IsStrictlySortedBy}
 use Rattle.entry_ref.specs.Records.{Records}
-use Rattle.tree_images.specs.Trees.{last_key, tree_pairs, IsRootNode}
+use Rattle.tree_read.specs.Trees.{last_key, tree_pairs, IsRootNode}
 use Rattle.attr_images.specs.Values.{stored_value}
 use Rattle.attr_types.specs.Value.{value_cmp}
 use Rattle.attr_types.specs.ProofsForOrder.{value_cmp_total}

@@ -2,9 +2,9 @@
 use Rattle.std.proofs.Common.{◌≡◌, ℕ, zero, suc, ◌+◌, ◌-◌, ◌<◌, List, ◌++◌, length, get_or, sym, ap, subst, ◌∙◌, arith}
 use Rattle.std.specs.List.{zip}
 use Rattle.entry_ref.specs.Records.{Records}
-use Rattle.tree_images.proofs.TreeLemmas.{IsNode-count, leaf_pairs}
-use Rattle.tree_images.specs.Nodes.{used_of, count_of, node_keys, node_values, IsNodeForm}
-use Rattle.tree_images.specs.Trees.{pairs_below, last_key, HasLastKeys, IsNode}
+use Rattle.tree_read.proofs.TreeLemmas.{IsNode-count, leaf_pairs}
+use Rattle.tree_read.specs.Nodes.{used_of, count_of, node_keys, node_values, IsNodeForm}
+use Rattle.tree_read.specs.Trees.{pairs_below, last_key, HasLastKeys, IsNode}
 use Rattle.check_trees.proofs.WalkLemmas.{walked-more, child-stands, child-last, walked-pairs, walked-node, last-child, count-behind, leaf-node}
 use Rattle.check_trees.proofs.Walks.{Walked}
 use Rattle.check_trees.specs.Keys.{PairsAscend}

@@ -1,7 +1,7 @@
 -- Pairs, and the last of them.
 use Rattle.std.proofs.Common.{◌≡◌, ℕ, suc, ◌-◌, List, [], ◌∷◌, length, None, Some, refl, sym, ap, ◌∙◌, arith}
 use Rattle.std.specs.List.{slice_get}
-use Rattle.tree_images.specs.Trees.{last_key}
+use Rattle.tree_read.specs.Trees.{last_key}
 
 -- the last key of pairs is that of the last pair
 pub last_is : (ps : List (ℕ × ℕ)) (p : ℕ × ℕ) → Some p ≡ slice_get ps (length ps - 1) → last_key ps ≡ p.0

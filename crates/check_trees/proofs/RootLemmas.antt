@@ -1,9 +1,9 @@
 -- The tree at a root.
 use Rattle.std.proofs.Common.{◌≡◌, ℕ, zero, suc, ◌<◌, ◌≤◌, List, [], ◌++◌, refl, sym, ap, subst, ◌∙◌, arith}
 use Rattle.entry_ref.specs.Records.{Records}
-use Rattle.tree_images.proofs.TreeLemmas.{IsNode-form}
-use Rattle.tree_images.specs.Nodes.{level_of}
-use Rattle.tree_images.specs.Trees.{pairs_below, tree_pairs, root_level, root_least, IsNode}
+use Rattle.tree_read.proofs.TreeLemmas.{IsNode-form}
+use Rattle.tree_read.specs.Nodes.{level_of}
+use Rattle.tree_read.specs.Trees.{pairs_below, tree_pairs, root_level, root_least, IsNode}
 use Rattle.check_trees.proofs.KeyLemmas.{ascends-none, make_tree, tree-node, tree-ascends}
 use Rattle.check_trees.specs.Keys.{PairsAscend, IsTreeOf}
 use Rattle.check_trees.specs.declared.keys.Keys.{Keys}

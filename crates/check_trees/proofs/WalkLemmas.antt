@@ -9,9 +9,9 @@ use Rattle.std.proofs.lemmas.Grind.{flat_map-append}
 use Rattle.list_facts.proofs.Pairs.{zip-append}
 use Rattle.list_facts.proofs.Each.{AllByRecursion-append, AllByRecursion-at}
 use Rattle.entry_ref.specs.Records.{Records}
-use Rattle.tree_images.proofs.TreeLemmas.{length-node_values, pairs_many, last_key-append}
-use Rattle.tree_images.specs.Nodes.{used_of, count_of, node_keys, node_values, IsNodeForm}
-use Rattle.tree_images.specs.Trees.{pairs_below, last_key, HasLastKeys, IsNode}
+use Rattle.tree_read.proofs.TreeLemmas.{length-node_values, pairs_many, last_key-append}
+use Rattle.tree_read.specs.Nodes.{used_of, count_of, node_keys, node_values, IsNodeForm}
+use Rattle.tree_read.specs.Trees.{pairs_below, last_key, HasLastKeys, IsNode}
 use Rattle.check_trees.proofs.KeyLemmas.{ascends-left}
 use Rattle.check_trees.proofs.Walks.{Walked}
 use Rattle.check_trees.specs.Keys.{PairsAscend}

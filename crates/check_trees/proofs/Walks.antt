@@ -2,8 +2,8 @@
 use Rattle.std.proofs.Common.{◌≡◌, ℕ, List, ◌++◌, map, take}
 use Rattle.std.specs.List.{flat_map, AllByRecursion}
 use Rattle.entry_ref.specs.Records.{Records}
-use Rattle.tree_images.specs.Nodes.{node_keys, node_values}
-use Rattle.tree_images.specs.Trees.{pairs_below, last_key, IsNode}
+use Rattle.tree_read.specs.Nodes.{node_keys, node_values}
+use Rattle.tree_read.specs.Trees.{pairs_below, last_key, IsNode}
 use Rattle.check_trees.specs.Keys.{PairsAscend}
 use Rattle.check_trees.specs.Refutations.{Refutes}
 use Rattle.check_trees.specs.declared.fault.CheckFault.{CheckFault}

@@ -1,6 +1,6 @@
 -- Slots that are not used.
 use Rattle.std.specs.Prelude.{◌≡◌, ℕ, ◌+◌, ◌<◌, ◌≤◌, List, slice_index}
-use Rattle.tree_images.specs.declared.TheConstants.{FIRST_KEY, FIRST_VALUE}
+use Rattle.tree_read.specs.declared.node_format.TheConstants.{FIRST_KEY, FIRST_VALUE}
 
 -- the words of the slots from `used` to below `end` are 0
 abbrev pub AreZero : List ℕ → ℕ → ℕ → Type 0

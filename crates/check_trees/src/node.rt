@@ -1,8 +1,8 @@
 ghost use Rattle.std.specs.Prelude.{◌≡◌, ◌↔◌, length, IsTrue};
-ghost use Rattle.tree_images.specs.Nodes.{used_of, IsNodeForm};
+ghost use Rattle.tree_read.specs.Nodes.{used_of, IsNodeForm};
 ghost use Rattle.check_trees.specs.Slots.{AreZero};
 
-use tree_images::{FIRST_KEY, FIRST_VALUE, MOST_SLOTS, NODE_WORDS};
+use tree_read::{FIRST_KEY, FIRST_VALUE, MOST_SLOTS, NODE_WORDS};
 
 /// Whether the slots past the used ones are 0.
 fn are_zero(words: &[u64], used: usize) -> bool

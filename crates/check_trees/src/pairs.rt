@@ -1,7 +1,7 @@
 ghost use Rattle.std.specs.Prelude.{◌≡◌, ◌≤◌, ◌∷◌, [], ◌++◌, length, OnOk, IfErr};
 ghost use Rattle.std.specs.List.{zip};
-ghost use Rattle.tree_images.specs.Nodes.{used_of, node_keys, node_values};
-ghost use Rattle.tree_images.specs.Trees.{last_key};
+ghost use Rattle.tree_read.specs.Nodes.{used_of, node_keys, node_values};
+ghost use Rattle.tree_read.specs.Trees.{last_key};
 ghost use Rattle.check_trees.specs.Keys.{PairsAscend};
 ghost use Rattle.check_trees.specs.Refutations.{Refutes};
 ghost use Rattle.entry_ref.specs.Maps.{seen};
@@ -10,7 +10,7 @@ use crate::fault::CheckFault;
 use crate::keys::{Keys, compare_keys};
 use std::alloc::Global;
 use std::collections::BTreeMap;
-use tree_images::{FIRST_KEY, FIRST_VALUE, MOST_SLOTS, NODE_WORDS};
+use tree_read::{FIRST_KEY, FIRST_VALUE, MOST_SLOTS, NODE_WORDS};
 
 /// The last key, 0 where there is none.
 pub fn last_of(pairs: &[(u64, u64)]) -> u64

@@ -1,6 +1,6 @@
 ghost use Rattle.std.specs.Prelude.{◌≡◌, ◌++◌, OnOk, IfOk, IfErr};
-ghost use Rattle.tree_images.specs.Nodes.{IsNodeForm};
-ghost use Rattle.tree_images.specs.Trees.{pairs_below, tree_pairs, IsNode, root_least};
+ghost use Rattle.tree_read.specs.Nodes.{IsNodeForm};
+ghost use Rattle.tree_read.specs.Trees.{pairs_below, tree_pairs, IsNode, root_least};
 ghost use Rattle.check_trees.specs.Keys.{PairsAscend, IsTreeOf};
 ghost use Rattle.check_trees.specs.Refutations.{Refutes};
 ghost use Rattle.entry_ref.specs.Maps.{seen};
@@ -12,7 +12,7 @@ use crate::pairs::{add_leaf, last_of};
 use entry_ref::{word_in, words_at};
 use std::alloc::Global;
 use std::collections::BTreeMap;
-use tree_images::{FIRST_KEY, FIRST_VALUE, LEAST_SLOTS};
+use tree_read::{FIRST_KEY, FIRST_VALUE, LEAST_SLOTS};
 
 /// The words of a node of this level with at least `least` slots used.
 fn read_node(

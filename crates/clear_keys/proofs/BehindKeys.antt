@@ -7,7 +7,7 @@ use Rattle.std.specs.List.Sorted.{IsStrictlySortedBy}
 use Rattle.std.specs.Ordering.{is_gt, ordering_reverse, ordering_then}
 use Rattle.list_facts.proofs.Each.{AllByRecursion-append}
 use Rattle.entry_ref.specs.Records.{Records}
-use Rattle.key_order.specs.Pairs.{choose, lookup_pair, seek}
+use Rattle.tree_read.specs.Pairs.{choose, lookup_pair, seek}
 use Rattle.attr_images.specs.Postings.{ListForm, short, tree, vector, list_form}
 use Rattle.attr_images.specs.Values.{stored_value}
 use Rattle.attr_types.specs.ProofsForOrder.{value_cmp_total}

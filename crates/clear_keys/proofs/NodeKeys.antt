@@ -9,9 +9,9 @@ use Rattle.std.specs.Ordering.{nat_cmp}
 use Rattle.entry_ref.proofs.Among.{Among-all}
 use Rattle.entry_ref.specs.References.{buffer_of}
 use Rattle.entry_ref.specs.Records.{Among, Records}
-use Rattle.key_order.specs.Keys.{seen_by}
-use Rattle.key_order.specs.Pairs.{seek}
-use Rattle.tree_images.specs.Trees.{by_number, last_key, tree_nodes, tree_pairs}
+use Rattle.tree_read.specs.Keys.{seen_by}
+use Rattle.tree_read.specs.Pairs.{seek}
+use Rattle.tree_read.specs.Trees.{by_number, last_key, tree_nodes, tree_pairs}
 use Rattle.tree_touch.specs.Paths.{path_nodes, NoneIn}
 use Rattle.tree_ways.proofs.WayLemmas.{stand_on_ways}
 use Rattle.tree_ways.specs.Ways.{keys_below, tree_keys}

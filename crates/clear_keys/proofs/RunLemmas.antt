@@ -1,8 +1,8 @@
 -- Pairs one after another, by their places in a list.
 use Rattle.std.proofs.Common.{◌≡◌, ◌≢◌, ℕ, zero, suc, ◌<◌, ◌≤◌, List, [], ◌∷◌, length, take, drop, refl, ◌∙◌, arith}
 use Rattle.std.specs.List.{AllByRecursion}
-use Rattle.tree_images.specs.Trees.{last_key}
-use Rattle.tree_search.specs.Places.{first_key, first_value}
+use Rattle.tree_read.specs.Trees.{last_key}
+use Rattle.tree_read.specs.SearchPlaces.{first_key, first_value}
 use Rattle.clear_keys.specs.Sights.{IsRun}
 
 pub drop_nil : (i : ℕ) → drop {A = ℕ × ℕ} i [] ≡ []

@@ -5,14 +5,14 @@ use Rattle.std.specs.declared.cmp.Ordering.{Ordering}
 use Rattle.std.specs.List.{flat_map, AllByRecursion}
 use Rattle.entry_ref.specs.References.{buffer_of}
 use Rattle.entry_ref.specs.Records.{Among, Records, word_at}
-use Rattle.key_order.specs.Keys.{seen_by, Ascends}
-use Rattle.key_order.specs.Pairs.{seek}
-use Rattle.tree_images.specs.Nodes.{used_of, node_keys, node_values}
-use Rattle.tree_images.specs.Trees.{last_key, pairs_below, tree_pairs, IsNode, IsRootNode}
-use Rattle.tree_node.proofs.ChildLemmas.{child-seek, get_or-node_keys, get_or-node_values, leaf-from, leaf-seek, leaf-size, values-size}
-use Rattle.tree_node.specs.Places.{IsSlot}
-use Rattle.tree_search.proofs.SeekLemmas.{first-words, IsFirstSlot}
-use Rattle.tree_search.specs.Places.{first_key}
+use Rattle.tree_read.specs.Keys.{seen_by, Ascends}
+use Rattle.tree_read.specs.Pairs.{seek}
+use Rattle.tree_read.specs.Nodes.{used_of, node_keys, node_values}
+use Rattle.tree_read.specs.Trees.{last_key, pairs_below, tree_pairs, IsNode, IsRootNode}
+use Rattle.tree_read.proofs.ChildLemmas.{child-seek, get_or-node_keys, get_or-node_values, leaf-from, leaf-seek, leaf-size, values-size}
+use Rattle.tree_read.specs.NodePlaces.{IsSlot}
+use Rattle.tree_read.proofs.SeekLemmas.{first-words, IsFirstSlot}
+use Rattle.tree_read.specs.SearchPlaces.{first_key}
 use Rattle.tree_touch.proofs.PathLemmas.{path-leaf, path-over, path_nodes-is}
 use Rattle.tree_touch.specs.Paths.{path_below, NoneIn}
 use Rattle.tree_ways.proofs.WayLemmas.{flat_up, way_goes}

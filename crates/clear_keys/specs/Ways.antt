@@ -3,9 +3,9 @@ use Rattle.std.specs.Prelude.{◌≡◌, ◌≢◌, ℕ, ◌<◌, Bool, true, fa
 use Rattle.std.specs.declared.cmp.Ordering.{Ordering}
 use Rattle.std.specs.declared.cmp.Ordering.TheVariants.{Equal}
 use Rattle.entry_ref.specs.Records.{Records}
-use Rattle.key_order.specs.Keys.{seen_by}
-use Rattle.key_order.specs.Pairs.{seek}
-use Rattle.tree_search.specs.Places.{first_key}
+use Rattle.tree_read.specs.Keys.{seen_by}
+use Rattle.tree_read.specs.Pairs.{seek}
+use Rattle.tree_read.specs.SearchPlaces.{first_key}
 use Rattle.tree_touch.specs.Paths.{path_below, path_nodes, NoneIn}
 use Rattle.clear_keys.specs.Sights.{IsRun}
 

@@ -1,7 +1,7 @@
 //! Pairs one after another under whose keys nothing lies in a buffer.
 ghost use Rattle.std.specs.Prelude.{◌≡◌, ◌≢◌, ◌≤◌, [], true};
 ghost use Rattle.std.specs.List.{AllByRecursion};
-ghost use Rattle.tree_search.specs.Places.{first_key, first_value, pairs_from, HasPair, IsAt};
+ghost use Rattle.tree_read.specs.SearchPlaces.{first_key, first_value, pairs_from, HasPair, IsAt};
 ghost use Rattle.clear_keys.specs.Sights.{StandsApart, IsPairOf, IsRun};
 
 use crate::sights::{Sight, pair_is_apart};

@@ -1,15 +1,14 @@
 //! The rest of a leaf, where no node on the way to it lies in a buffer.
 ghost use Rattle.std.specs.Prelude.{◌≡◌, ◌≢◌, ◌<◌, ◌≤◌, ◌+◌, ◌-◌, true, false, min, length, get_or};
-ghost use Rattle.tree_images.specs.Nodes.{used_of};
-ghost use Rattle.tree_images.specs.Trees.{pairs_below, tree_pairs, IsNode, IsTree};
-ghost use Rattle.key_order.specs.Keys.{Ascends, AllReadable, seen_by};
+ghost use Rattle.tree_read.specs.Nodes.{used_of};
+ghost use Rattle.tree_read.specs.Trees.{pairs_below, tree_pairs, IsNode, IsTree};
+ghost use Rattle.tree_read.specs.Keys.{Ascends, AllReadable, seen_by};
 ghost use Rattle.clear_keys.specs.Ways.{IsWay, IsWayApart, IsWayBelow};
 
 use entry_ref::EntryRef;
 use arena_api::Frozen;
 use frozen_btree::KeyOrder;
-use tree_images::{FIRST_VALUE, NODE_WORDS};
-use tree_node::{Spot, read_head, used_in, visit};
+use tree_read::{FIRST_VALUE, NODE_WORDS, Spot, read_head, used_in, visit};
 
 /// So many pairs from the first that is not below a key on, all of one leaf.
 #[derive(Clone, Copy, Drop)]

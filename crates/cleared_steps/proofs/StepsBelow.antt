@@ -6,11 +6,11 @@ use Rattle.entry_ref.proofs.Pairs.{same-from}
 use Rattle.entry_ref.proofs.Among.{Among-all, Among-append, SameAt-among}
 use Rattle.attr_cleared.proofs.BelowLemmas.{among_flat}
 use Rattle.entry_ref.specs.Records.{Records, Among, SameAt}
-use Rattle.tree_images.proofs.TreeLemmas.{IsNode-form}
-use Rattle.tree_images.specs.Nodes.{level_of, node_values}
-use Rattle.tree_images.specs.ProofsForTrees.{pairs-same}
-use Rattle.tree_images.specs.Trees.{nodes_below, pairs_below, root_least, root_level, tree_nodes, IsNode, IsTree}
-use Rattle.tree_images.specs.declared.TheConstants.{NODE_WORDS}
+use Rattle.tree_read.proofs.TreeLemmas.{IsNode-form}
+use Rattle.tree_read.specs.Nodes.{level_of, node_values}
+use Rattle.tree_read.specs.ProofsForTrees.{pairs-same}
+use Rattle.tree_read.specs.Trees.{nodes_below, pairs_below, root_least, root_level, tree_nodes, IsNode, IsTree}
+use Rattle.tree_read.specs.declared.node_format.TheConstants.{NODE_WORDS}
 use Rattle.tree_ways.proofs.WayLemmas.{keys_flat}
 use Rattle.tree_ways.specs.Ways.{keys_below, tree_keys}
 use Rattle.cleared_steps.proofs.StepsLists.{same_flat}

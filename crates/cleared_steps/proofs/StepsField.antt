@@ -7,7 +7,7 @@ use Rattle.entry_ref.specs.References.{buffer_of}
 use Rattle.entry_ref.specs.Records.{Records, Among}
 use Rattle.store_api.specs.Ledgers.{Ledger}
 use Rattle.store_api.specs.Statuses.{in_use}
-use Rattle.tree_images.specs.Trees.{by_number, tree_nodes, tree_pairs, IsTree}
+use Rattle.tree_read.specs.Trees.{by_number, tree_nodes, tree_pairs, IsTree}
 use Rattle.attr_compaction.specs.Places.{PlanPlace}
 use Rattle.attr_compaction.specs.declared.plan.PlanKey.TheVariants as plan
 use Rattle.attr_compaction.specs.declared.plan.TheConstants.{DOCUMENTS, KEYS, LISTS, NODES}

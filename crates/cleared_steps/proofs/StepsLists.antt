@@ -10,7 +10,7 @@ use Rattle.entry_ref.proofs.Pairs.{same-from}
 use Rattle.entry_ref.proofs.Among.{SameAt-among}
 use Rattle.value_index.proofs.KeyLemmas.{among_left, among_right}
 use Rattle.entry_ref.specs.Records.{Records, Among, SameAt}
-use Rattle.key_order.specs.Pairs.{choose, lookup}
+use Rattle.tree_read.specs.Pairs.{choose, lookup}
 
 -- ---- references
 pub all_refs : (P : ℕ → Type 0) (refs : List ℕ) → ((r : ℕ) → Among r refs → P r) → AllByRecursion P refs

@@ -3,7 +3,7 @@ use Rattle.std.proofs.Common.{◌≡◌, ◌≢◌, ℕ, zero, suc, ◌-◌, ◌
 use Rattle.std.proofs.lemmas.List.{length-replicate}
 use Rattle.std.specs.List.{flat_map}
 use Rattle.entry_ref.specs.Records.{Records, Among}
-use Rattle.tree_images.specs.Trees.{tree_nodes, tree_pairs}
+use Rattle.tree_read.specs.Trees.{tree_nodes, tree_pairs}
 use Rattle.attr_documents.specs.Documents.{documents_own, items_own}
 use Rattle.attr_field.specs.Fields.{field_part}
 use Rattle.attr_images.specs.Postings.{list_form, postings_reach, short, tree}

@@ -7,8 +7,8 @@ use Rattle.list_facts.proofs.Each.{AllByRecursion-append}
 use Rattle.list_facts.proofs.Options.{same_Some}
 use Rattle.plan_counts.proofs.StageLemmas.{less_is}
 use Rattle.entry_ref.specs.Records.{Records, SameAt}
-use Rattle.tree_images.specs.ProofsForTrees.{SameAt-left, SameAt-right, flat_map-same, map-same, tree_pairs-same}
-use Rattle.tree_images.specs.Trees.{tree_nodes, tree_pairs}
+use Rattle.tree_read.specs.ProofsForTrees.{SameAt-left, SameAt-right, flat_map-same, map-same, tree_pairs-same}
+use Rattle.tree_read.specs.Trees.{tree_nodes, tree_pairs}
 use Rattle.attr_documents.specs.Documents.{documents_own, items_own}
 use Rattle.attr_images.specs.Postings.{ListForm, short, tree, vector, dictionary_reach, list_form, postings_reach}
 use Rattle.attr_images.specs.Tables.{AttributeTrees}

@@ -19,7 +19,7 @@ use Rattle.store_api.specs.declared.store.StoreError.{StoreError}
 use Rattle.store_api.specs.declared.store.StoreError.TheVariants.{Full, Memory}
 use Rattle.store_api.proofs.PartLemmas.{owns-some}
 use Rattle.store_api.proofs.Uses.{used_has}
-use Rattle.tree_images.specs.declared.TheConstants.{NODE_WORDS}
+use Rattle.tree_read.specs.declared.node_format.TheConstants.{NODE_WORDS}
 use Rattle.index_moves.specs.Moves.{IsKeyIn}
 use Rattle.attr_documents.specs.Documents.{documents_refer}
 use Rattle.attr_images.specs.Documents.{column_at}

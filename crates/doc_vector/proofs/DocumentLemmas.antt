@@ -11,13 +11,13 @@ use Rattle.std.specs.Ordering.{nat_cmp}
 use Rattle.list_facts.proofs.Options.{same_Some}
 use Rattle.list_facts.proofs.Each.{AllByRecursion-each}
 use Rattle.entry_ref.specs.Records.{Records, SameAt}
-use Rattle.key_order.specs.Keys.{IsKeyedTree}
-use Rattle.key_order.specs.Pairs.{choose, lookup}
+use Rattle.tree_read.specs.Keys.{IsKeyedTree}
+use Rattle.tree_read.specs.Pairs.{choose, lookup}
 use Rattle.store_api.specs.Ledgers.{Ledger}
 use Rattle.store_api.specs.Parts.{Owns, Turns}
 use Rattle.store_api.specs.declared.store.StoreError.{StoreError}
-use Rattle.tree_images.specs.ProofsForTrees.{tree_pairs-same, IsTree-same}
-use Rattle.tree_images.specs.Trees.{tree_nodes, tree_pairs, by_number}
+use Rattle.tree_read.specs.ProofsForTrees.{tree_pairs-same, IsTree-same}
+use Rattle.tree_read.specs.Trees.{tree_nodes, tree_pairs, by_number}
 use Rattle.tree_make.specs.Changes.{tree}
 use Rattle.doc_vector.specs.Documents.{IsDocumentMap, IsDocumentPair, MakesMap}
 

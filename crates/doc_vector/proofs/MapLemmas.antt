@@ -6,8 +6,8 @@ use Rattle.std.specs.declared.cmp.Ordering.TheVariants.{Less, Equal, Greater}
 use Rattle.std.specs.List.{AllByRecursion}
 use Rattle.std.specs.List.Sorted.{IsStrictlySortedBy}
 use Rattle.std.specs.Ordering.{ordering_reverse}
-use Rattle.key_order.proofs.OrderLemmas.{choose_apart, choose_same}
-use Rattle.key_order.specs.Pairs.{choose, lookup, put, take_out}
+use Rattle.tree_read.proofs.OrderLemmas.{choose_apart, choose_same}
+use Rattle.tree_read.specs.Pairs.{choose, lookup, put, take_out}
 
 module _ {V : Type 0} (order : V → V → Ordering) (total : IsTotalOrder order) where
   above_less : (a b : V) → order a b ≡ Less → order b a ≡ Greater

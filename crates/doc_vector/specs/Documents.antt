@@ -6,7 +6,7 @@ use Rattle.std.specs.Ordering.{nat_cmp}
 use Rattle.entry_ref.specs.Records.{Records}
 use Rattle.store_api.specs.Ledgers.{Ledger}
 use Rattle.store_api.specs.Parts.{Owns, Turns}
-use Rattle.tree_images.specs.Trees.{tree_pairs, by_number, IsTree}
+use Rattle.tree_read.specs.Trees.{tree_pairs, by_number, IsTree}
 use Rattle.tree_make.specs.Changes.{tree}
 use Rattle.attr_types.specs.Lawful.{IsDocNumber}
 

@@ -2,9 +2,9 @@
 use Rattle.std.specs.Prelude.{◌≡◌, ◌≢◌, ℕ, List, Some, None}
 use Rattle.std.specs.Ordering.{nat_cmp}
 use Rattle.entry_ref.specs.Records.{Records, SameAt}
-use Rattle.tree_images.specs.Trees.{tree_nodes, tree_pairs, by_number}
-use Rattle.key_order.specs.Keys.{Ascends}
-use Rattle.key_order.specs.Pairs.{lookup, put, take_out}
+use Rattle.tree_read.specs.Trees.{tree_nodes, tree_pairs, by_number}
+use Rattle.tree_read.specs.Keys.{Ascends}
+use Rattle.tree_read.specs.Pairs.{lookup, put, take_out}
 use Rattle.doc_vector.specs.Documents.{beside_document, IsDocumentMap}
 
 -- the empty map

@@ -1,6 +1,6 @@
 ghost use Rattle.std.specs.Prelude.{◌≡◌, ◌+◌, ◌*◌, ◌∷◌, [], true, IsSome, IfOk, IfErr};
-ghost use Rattle.tree_images.specs.Trees.{tree_pairs};
-ghost use Rattle.key_order.specs.Pairs.{lookup, put, take_out};
+ghost use Rattle.tree_read.specs.Trees.{tree_pairs};
+ghost use Rattle.tree_read.specs.Pairs.{lookup, put, take_out};
 ghost use Rattle.store_api.specs.Calls.{Refuses};
 ghost use Rattle.store_api.specs.Parts.{Owns};
 ghost use Rattle.store_api.specs.Units.{MayDo};
@@ -12,7 +12,7 @@ use attr_types::Doc;
 use entry_ref::EntryRef;
 use frozen_btree::{NumberKey, insert, remove as remove_pair};
 use store_api::{Store, StoreError};
-use tree_images::NODE_WORDS;
+use tree_read::NODE_WORDS;
 
 /// Sets the reference of a document's items, 0 for none. The answer is the root of the new map.
 pub fn set<const OFFSET_BITS: u32, S: Store<OFFSET_BITS>>(

@@ -8,7 +8,7 @@ use Rattle.store_api.specs.Parts.{After, Owns, Turns, entries, times}
 use Rattle.store_api.specs.declared.store.StoreError.{StoreError}
 use Rattle.store_api.proofs.PartLemmas.{after, owns-some}
 use Rattle.store_api.proofs.Times.{times-append}
-use Rattle.tree_images.specs.Trees.{tree_nodes, tree_pairs}
+use Rattle.tree_read.specs.Trees.{tree_nodes, tree_pairs}
 use Rattle.tree_make.specs.Changes.{tree}
 use Rattle.tree_touch.specs.Paths.{path_nodes, NoneIn}
 use Rattle.tree_touch.proofs.TreeLemmas.{none-apart}

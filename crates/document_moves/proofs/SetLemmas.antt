@@ -9,7 +9,7 @@ use Rattle.list_facts.proofs.Each.{AllByRecursion-weaker}
 use Rattle.entry_ref.proofs.Among.{Among-all}
 use Rattle.entry_ref.specs.References.{buffer_of}
 use Rattle.entry_ref.specs.Records.{Records, SameAt, Among}
-use Rattle.key_order.specs.Pairs.{lookup}
+use Rattle.tree_read.specs.Pairs.{lookup}
 use Rattle.store_api.specs.Ledgers.{Ledger}
 use Rattle.store_api.specs.Parts.{Owns, times}
 use Rattle.store_api.specs.Units.{MayDo}
@@ -17,7 +17,7 @@ use Rattle.store_api.specs.declared.store.StoreError.{StoreError}
 use Rattle.store_api.proofs.PartLemmas.{owns-some, turns-same}
 use Rattle.store_api.proofs.Times.{all_from_times, among-times, times-among, times-append}
 use Rattle.store_api.proofs.Uses.{in-uses, uses-in}
-use Rattle.tree_images.specs.Trees.{tree_nodes, tree_pairs}
+use Rattle.tree_read.specs.Trees.{tree_nodes, tree_pairs}
 use Rattle.tree_touch.specs.Paths.{NoneIn}
 use Rattle.doc_vector.specs.Documents.{beside_document}
 use Rattle.attr_images.proofs.ImageLemmas.{value_typed}
@@ -95,7 +95,7 @@ module _ {H : Type 0} (bits buffer : ℕ) (kind : Kind) (type : ValueType) (a : 
     column_is = refl;
     apart = apart;
     others = refl;
-    stay = same_self m (pairs_own kind (Rattle.key_order.specs.Pairs.take_out (beside_document doc) (tree_pairs m root)));
+    stay = same_self m (pairs_own kind (Rattle.tree_read.specs.Pairs.take_out (beside_document doc) (tree_pairs m root)));
     refers = λ r among. inl among;
     owns = owns_documents;
     turns = turns-same a m (documents_part kind root ∷ []);

@@ -9,13 +9,13 @@ use Rattle.list_facts.proofs.Options.{same_Some}
 use Rattle.tree_make.proofs.UsedLemmas.{node_used}
 use Rattle.attr_images.proofs.RootLemmas.{length-filled}
 use Rattle.entry_ref.specs.Records.{Among, Records}
-use Rattle.key_order.specs.Pairs.{lookup}
+use Rattle.tree_read.specs.Pairs.{lookup}
 use Rattle.store_api.specs.Calls.{IsUsedWidth}
 use Rattle.store_api.specs.Ledgers.{Ledger}
 use Rattle.store_api.specs.Parts.{Owns, Part, times}
 use Rattle.store_api.proofs.Times.{among-times, times-append}
 use Rattle.store_api.proofs.Uses.{in-uses}
-use Rattle.tree_images.specs.Trees.{tree_nodes, tree_pairs}
+use Rattle.tree_read.specs.Trees.{tree_nodes, tree_pairs}
 use Rattle.tree_make.specs.Changes.{tree}
 use Rattle.doc_vector.specs.Documents.{beside_document}
 use Rattle.attr_images.specs.Documents.{column_at, items_at, IsItemsRecord}

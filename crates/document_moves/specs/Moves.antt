@@ -2,10 +2,10 @@
 use Rattle.std.specs.Prelude.{◌≡◌, ◌≢◌, ◌⊎◌, ℕ, ◌<◌, [], ◌∷◌, length}
 use Rattle.entry_ref.specs.References.{buffer_of}
 use Rattle.entry_ref.specs.Records.{Records, SameAt, Among}
-use Rattle.key_order.specs.Pairs.{take_out}
+use Rattle.tree_read.specs.Pairs.{take_out}
 use Rattle.store_api.specs.Ledgers.{Ledger}
 use Rattle.store_api.specs.Parts.{Owns, Turns}
-use Rattle.tree_images.specs.Trees.{tree_pairs}
+use Rattle.tree_read.specs.Trees.{tree_pairs}
 use Rattle.tree_make.specs.Changes.{tree}
 use Rattle.tree_touch.specs.Paths.{path_nodes, NoneIn}
 use Rattle.doc_vector.specs.Documents.{beside_document}

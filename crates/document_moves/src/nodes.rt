@@ -12,7 +12,7 @@ use attr_types::{Doc, Kind, ValueType};
 use entry_ref::EntryRef;
 use frozen_btree::{NumberKey, touch};
 use store_api::{Store, StoreError};
-use tree_images::NODE_WORDS;
+use tree_read::NODE_WORDS;
 
 /// Moves the nodes of the map out of a sealed buffer that lie there on the way to a document. The answer is the root of the
 /// new documents.

@@ -8,14 +8,14 @@ use Rattle.std.specs.List.Sorted.{IsStrictlySortedBy}
 use Rattle.std.specs.Ordering.{ordering_reverse}
 use Rattle.list_facts.proofs.Options.{same_Some}
 use Rattle.entry_ref.specs.Records.{Records, SameAt}
-use Rattle.key_order.specs.Keys.{NoneReadsNodes, IsKeyedTree, IsKeyWord, IsNoNode}
-use Rattle.key_order.specs.Pairs.{choose, lookup, lookup_pair, put, take_out}
-use Rattle.key_order.proofs.KeyLemmas.{keyed-stays}
+use Rattle.tree_read.specs.Keys.{NoneReadsNodes, IsKeyedTree, IsKeyWord, IsNoNode}
+use Rattle.tree_read.specs.Pairs.{choose, lookup, lookup_pair, put, take_out}
+use Rattle.tree_read.proofs.OrderKeyLemmas.{keyed-stays}
 use Rattle.store_api.specs.Ledgers.{Ledger}
 use Rattle.store_api.specs.Parts.{Owns, Turns}
 use Rattle.store_api.specs.declared.store.StoreError.{StoreError}
-use Rattle.tree_images.specs.ProofsForTrees.{tree_pairs-same}
-use Rattle.tree_images.specs.Trees.{tree_nodes, tree_pairs}
+use Rattle.tree_read.specs.ProofsForTrees.{tree_pairs-same}
+use Rattle.tree_read.specs.Trees.{tree_nodes, tree_pairs}
 use Rattle.tree_make.specs.Changes.{tree}
 use Rattle.attr_images.specs.Values.{stored_value, IsValueRecord}
 use Rattle.attr_types.specs.ProofsForOrder.{value_cmp_total}

@@ -4,10 +4,10 @@ use Rattle.std.specs.declared.cmp.Ordering.{Ordering}
 use Rattle.std.specs.declared.cmp.Ordering.TheVariants.{Equal}
 use Rattle.std.specs.List.{AllByRecursion}
 use Rattle.entry_ref.specs.Records.{Records}
-use Rattle.key_order.specs.Keys.{KeepsOthers}
-use Rattle.key_order.specs.Pairs.{choose, lookup_pair, put, take_out}
-use Rattle.key_order.proofs.PairLemmas.{All-put, All-take_out}
-use Rattle.tree_images.specs.Trees.{tree_pairs}
+use Rattle.tree_read.specs.Keys.{KeepsOthers}
+use Rattle.tree_read.specs.Pairs.{choose, lookup_pair, put, take_out}
+use Rattle.tree_read.proofs.PairLemmas.{All-put, All-take_out}
+use Rattle.tree_read.specs.Trees.{tree_pairs}
 use Rattle.attr_images.specs.Values.{value_of, stored_value, IsValueRecord}
 use Rattle.attr_types.specs.ProofsForOrder.{value_cmp_total, value_cmp_exact}
 use Rattle.attr_types.specs.Value.{type_of, value_cmp}

@@ -1,9 +1,9 @@
 -- What a dictionary is, as laws.
 use Rattle.std.specs.Prelude.{◌≡◌, ◌≢◌, ℕ, map, None, Some}
 use Rattle.entry_ref.specs.Records.{Records, SameAt}
-use Rattle.tree_images.specs.Trees.{tree_nodes, tree_pairs}
-use Rattle.key_order.specs.Keys.{KeepsOthers}
-use Rattle.key_order.specs.Pairs.{lookup_pair, put, take_out}
+use Rattle.tree_read.specs.Trees.{tree_nodes, tree_pairs}
+use Rattle.tree_read.specs.Keys.{KeepsOthers}
+use Rattle.tree_read.specs.Pairs.{lookup_pair, put, take_out}
 use Rattle.attr_images.specs.Values.{stored_value, IsValueRecord}
 use Rattle.attr_types.specs.Value.{type_of}
 use Rattle.attr_types.specs.declared.kind.ValueType.{ValueType}

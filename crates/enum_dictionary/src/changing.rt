@@ -1,7 +1,7 @@
 ghost use Rattle.std.specs.Prelude.{◌≡◌, ◌+◌, ◌*◌, ◌∷◌, [], true, IsSome, IfOk, IfErr};
-ghost use Rattle.tree_images.specs.Trees.{tree_pairs};
-ghost use Rattle.key_order.specs.Keys.{KeepsOthers};
-ghost use Rattle.key_order.specs.Pairs.{lookup, put, take_out};
+ghost use Rattle.tree_read.specs.Trees.{tree_pairs};
+ghost use Rattle.tree_read.specs.Keys.{KeepsOthers};
+ghost use Rattle.tree_read.specs.Pairs.{lookup, put, take_out};
 ghost use Rattle.store_api.specs.Calls.{Refuses};
 ghost use Rattle.store_api.specs.Parts.{Owns};
 ghost use Rattle.store_api.specs.Units.{MayDo};
@@ -16,7 +16,7 @@ use attr_types::Value;
 use entry_ref::EntryRef;
 use frozen_btree::{insert, remove as remove_pair};
 use store_api::{Store, StoreError};
-use tree_images::NODE_WORDS;
+use tree_read::NODE_WORDS;
 
 /// Sets the record that is a value's key, and the word of its list. Where the value is there already, this record
 /// is its key from then on, and the old one is the caller's. The answer is the root of the new dictionary.

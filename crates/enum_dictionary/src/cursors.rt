@@ -1,7 +1,7 @@
 ghost use Rattle.std.specs.Prelude.{◌≡◌};
-ghost use Rattle.tree_images.specs.Trees.{tree_pairs};
-ghost use Rattle.key_order.specs.Pairs.{seek};
-ghost use Rattle.tree_search.specs.Places.{IsAt, pairs_from};
+ghost use Rattle.tree_read.specs.Trees.{tree_pairs};
+ghost use Rattle.tree_read.specs.Pairs.{seek};
+ghost use Rattle.tree_read.specs.SearchPlaces.{IsAt, pairs_from};
 ghost use Rattle.attr_types.specs.Value.{type_of};
 ghost use Rattle.enum_dictionary.specs.Dictionaries.{IsDictionary, behind, beside_value};
 

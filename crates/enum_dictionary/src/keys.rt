@@ -7,7 +7,7 @@ ghost use Rattle.enum_dictionary.specs.ProofsForKeys.{value_total, value_stays, 
 use attr_types::Value;
 use entry_ref::EntryRef;
 use arena_api::Frozen;
-use key_order::KeyOrder;
+use tree_read::KeyOrder;
 use std::cmp::Ordering;
 use std::marker::Model;
 use unique_store::compare as compare_stored;

@@ -8,8 +8,8 @@ use Rattle.store_api.specs.Ledgers.{Ledger}
 use Rattle.store_api.specs.Parts.{After, Owns, Turns, entries, times}
 use Rattle.store_api.proofs.PartLemmas.{after, owns-some, turns-as}
 use Rattle.store_api.proofs.Times.{times-append}
-use Rattle.tree_images.specs.ProofsForTrees.{SameAt-left, SameAt-right}
-use Rattle.tree_images.specs.Trees.{tree_nodes, tree_pairs}
+use Rattle.tree_read.specs.ProofsForTrees.{SameAt-left, SameAt-right}
+use Rattle.tree_read.specs.Trees.{tree_nodes, tree_pairs}
 use Rattle.tree_make.specs.Changes.{tree}
 use Rattle.attr_documents.specs.Changes.{pairs_own}
 use Rattle.attr_documents.specs.Documents.{documents_own, documents_part, documents_refer, items_own, items_refer, IsDocuments}

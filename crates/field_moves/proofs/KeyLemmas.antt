@@ -5,7 +5,7 @@ use Rattle.std.specs.Ordering.{is_lt}
 use Rattle.list_facts.proofs.Options.{same_Some}
 use Rattle.list_facts.proofs.Each.{AllByRecursion-append}
 use Rattle.entry_ref.specs.Records.{Records}
-use Rattle.tree_images.specs.Trees.{tree_pairs}
+use Rattle.tree_read.specs.Trees.{tree_pairs}
 use Rattle.attr_compaction.specs.Places.{has_key, key_cmp}
 use Rattle.attr_compaction.specs.declared.plan.PlanKey.{PlanKey}
 use Rattle.attr_compaction.specs.declared.plan.PlanKey.TheVariants.{Start, Value, Doc, Pair}

@@ -6,9 +6,9 @@
 //! reference of its top node. Its pairs ascend by key, in an order that a `KeyOrder` gives.
 #![tactic(auto)]
 
-pub use key_order::{KeyOrder, NumberKey};
+pub use tree_read::{KeyOrder, NumberKey};
 pub use tree_build::{build, build_leaf, drop_tree};
 pub use tree_insert::insert;
 pub use tree_remove::remove;
-pub use tree_search::{Cursor, find, total};
+pub use tree_read::{Cursor, find, total};
 pub use tree_touch::touch;

@@ -5,14 +5,14 @@ use Rattle.list_facts.proofs.Options.{same_Some}
 use Rattle.entry_ref.proofs.Among.{SameAt-then, SameAt-among}
 use Rattle.entry_ref.specs.References.{buffer_of}
 use Rattle.entry_ref.specs.Records.{Records, SameAt, Among}
-use Rattle.key_order.specs.Pairs.{lookup_pair, put}
-use Rattle.key_order.proofs.PairLemmas.{lookup-of_pair}
+use Rattle.tree_read.specs.Pairs.{lookup_pair, put}
+use Rattle.tree_read.proofs.PairLemmas.{lookup-of_pair}
 use Rattle.store_api.specs.Ledgers.{Ledger}
 use Rattle.store_api.specs.Parts.{After, Owns, Turns, entry}
 use Rattle.store_api.specs.Units.{MayDo}
 use Rattle.store_api.specs.declared.store.StoreError.{StoreError}
 use Rattle.store_api.proofs.PartLemmas.{after, turns-then}
-use Rattle.tree_images.specs.Trees.{tree_pairs}
+use Rattle.tree_read.specs.Trees.{tree_pairs}
 use Rattle.array_store.specs.Adding.{AddsRecord}
 use Rattle.attr_images.specs.Postings.{dictionary_reach, list_form, postings_reach}
 use Rattle.attr_images.specs.Values.{stored_value, value_words, IsValueRecord}

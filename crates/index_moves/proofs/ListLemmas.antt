@@ -9,8 +9,8 @@ use Rattle.list_facts.proofs.Options.{same_Some}
 use Rattle.entry_ref.proofs.Among.{SameAt-among}
 use Rattle.entry_ref.proofs.Pairs.{same-from}
 use Rattle.entry_ref.specs.Records.{Records, SameAt, Among}
-use Rattle.key_order.specs.Pairs.{choose, lookup, lookup_pair, put}
-use Rattle.key_order.proofs.PairLemmas.{lookup-of_pair}
+use Rattle.tree_read.specs.Pairs.{choose, lookup, lookup_pair, put}
+use Rattle.tree_read.proofs.PairLemmas.{lookup-of_pair}
 use Rattle.store_api.specs.Ledgers.{Ledger}
 use Rattle.store_api.specs.Parts.{Owns}
 use Rattle.store_api.specs.declared.store.StoreError.{StoreError}
@@ -18,7 +18,7 @@ use Rattle.store_api.specs.Statuses.{in_use}
 use Rattle.store_api.proofs.PartLemmas.{turns-then}
 use Rattle.store_api.proofs.Times.{among-times, times-among}
 use Rattle.store_api.proofs.Uses.{uses-few, uses-in}
-use Rattle.tree_images.specs.Trees.{tree_pairs}
+use Rattle.tree_read.specs.Trees.{tree_pairs}
 use Rattle.tree_make.specs.Changes.{levels}
 use Rattle.value_index.specs.Changes.{nodes_most}
 use Rattle.attr_images.specs.Postings.{list_form, postings_reach, IsPostingList}

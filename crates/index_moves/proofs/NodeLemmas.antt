@@ -8,8 +8,8 @@ use Rattle.store_api.specs.Ledgers.{Ledger}
 use Rattle.store_api.specs.Parts.{After, Owns, Turns, times}
 use Rattle.store_api.specs.declared.store.StoreError.{StoreError}
 use Rattle.store_api.proofs.PartLemmas.{after, owns-some}
-use Rattle.tree_images.specs.ProofsForTrees.{all-same}
-use Rattle.tree_images.specs.Trees.{tree_pairs}
+use Rattle.tree_read.specs.ProofsForTrees.{all-same}
+use Rattle.tree_read.specs.Trees.{tree_pairs}
 use Rattle.tree_make.specs.Changes.{tree}
 use Rattle.tree_touch.specs.Paths.{path_nodes, NoneIn}
 use Rattle.tree_touch.proofs.TreeLemmas.{none-apart}

@@ -7,7 +7,7 @@ use Rattle.list_facts.proofs.Options.{same_Some}
 use Rattle.entry_ref.proofs.Among.{SameAt-among}
 use Rattle.entry_ref.proofs.Pairs.{same-from}
 use Rattle.entry_ref.specs.Records.{Records, SameAt}
-use Rattle.key_order.specs.Pairs.{choose, lookup, lookup_pair, put, take_out}
+use Rattle.tree_read.specs.Pairs.{choose, lookup, lookup_pair, put, take_out}
 use Rattle.store_api.specs.Parts.{times}
 use Rattle.store_api.proofs.Times.{among-times, times-among}
 use Rattle.value_index.proofs.PairLemmas.{found_times}

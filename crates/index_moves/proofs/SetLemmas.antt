@@ -5,12 +5,12 @@ use Rattle.std.specs.List.{flat_map, AllByRecursion}
 use Rattle.entry_ref.proofs.Pairs.{same-from}
 use Rattle.entry_ref.proofs.Among.{SameAt-then, SameAt-among}
 use Rattle.entry_ref.specs.Records.{Records, SameAt}
-use Rattle.key_order.specs.Pairs.{lookup, lookup_pair, put, take_out}
+use Rattle.tree_read.specs.Pairs.{lookup, lookup_pair, put, take_out}
 use Rattle.store_api.specs.Ledgers.{Ledger}
 use Rattle.store_api.specs.Parts.{Part, After, AllStay, Owns, Turns, count_in, entry, times}
 use Rattle.store_api.proofs.PartLemmas.{after, owns-some, turns-as}
-use Rattle.tree_images.specs.ProofsForTrees.{all-same}
-use Rattle.tree_images.specs.Trees.{tree_pairs, tree_nodes}
+use Rattle.tree_read.specs.ProofsForTrees.{all-same}
+use Rattle.tree_read.specs.Trees.{tree_pairs, tree_nodes}
 use Rattle.tree_make.specs.Changes.{tree}
 use Rattle.attr_images.specs.Postings.{index_of}
 use Rattle.attr_images.specs.Values.{stored_value, value_of, IsValueRecord}

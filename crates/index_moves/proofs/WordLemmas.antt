@@ -10,7 +10,7 @@ use Rattle.store_api.specs.Ledgers.{Ledger, capacity}
 use Rattle.store_api.specs.Parts.{Owns, Turns, count_in, entry, times}
 use Rattle.store_api.specs.Units.{MakesAtMost, MayDo}
 use Rattle.store_api.proofs.PartLemmas.{after, owns-some, turns-as}
-use Rattle.tree_images.specs.Trees.{tree_pairs, by_number, IsTree}
+use Rattle.tree_read.specs.Trees.{tree_pairs, by_number, IsTree}
 use Rattle.tree_make.specs.Changes.{levels, tree as tree_part}
 use Rattle.tree_make.specs.Makes.{CountsNodes}
 use Rattle.tree_touch.specs.Paths.{path_nodes, NoneIn}

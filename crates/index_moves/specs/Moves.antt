@@ -4,12 +4,12 @@ use Rattle.std.specs.List.{flat_map, AllByRecursion}
 use Rattle.std.specs.Ordering.{nat_cmp}
 use Rattle.entry_ref.specs.References.{buffer_of}
 use Rattle.entry_ref.specs.Records.{Records, Among, SameAt}
-use Rattle.key_order.specs.Pairs.{lookup, take_out}
+use Rattle.tree_read.specs.Pairs.{lookup, take_out}
 use Rattle.store_api.specs.Ledgers.{Ledger}
 use Rattle.store_api.specs.Parts.{Owns, Turns, entries}
 use Rattle.store_api.specs.Statuses.{in_use}
-use Rattle.tree_images.specs.Trees.{tree_pairs}
-use Rattle.tree_images.specs.declared.TheConstants.{NODE_WORDS}
+use Rattle.tree_read.specs.Trees.{tree_pairs}
+use Rattle.tree_read.specs.declared.node_format.TheConstants.{NODE_WORDS}
 use Rattle.tree_make.specs.Changes.{levels, tree as tree_part}
 use Rattle.tree_touch.specs.Paths.{path_nodes, NoneIn}
 use Rattle.attr_images.specs.Postings.{ListForm, short, tree, vector, dictionary_reach, index_of, list_form, postings_reach}

@@ -1,6 +1,6 @@
 ghost use Rattle.std.specs.Prelude.{◌≡◌, ◌∷◌, [], true, IfOk, IfErr, Some};
-ghost use Rattle.tree_images.specs.Trees.{tree_pairs};
-ghost use Rattle.key_order.specs.Pairs.{lookup_pair};
+ghost use Rattle.tree_read.specs.Trees.{tree_pairs};
+ghost use Rattle.tree_read.specs.Pairs.{lookup_pair};
 ghost use Rattle.store_api.specs.Calls.{IsUsedWidth, RefusesOf};
 ghost use Rattle.store_api.specs.Parts.{Owns};
 ghost use Rattle.store_api.specs.Units.{MayDo};

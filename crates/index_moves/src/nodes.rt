@@ -13,7 +13,7 @@ use entry_ref::EntryRef;
 use enum_dictionary::{LongKey, TextKey};
 use frozen_btree::touch;
 use store_api::{Store, StoreError};
-use tree_images::NODE_WORDS;
+use tree_read::NODE_WORDS;
 
 /// Moves the nodes of the dictionary out of a sealed buffer that lie there on the way to a value. The answer is the root
 /// of the new index.

@@ -8,9 +8,9 @@ use Rattle.entry_ref.specs.Images.{image_of, words_at}
 use Rattle.entry_ref.specs.Records.{Records, SameAt, AllThere}
 use Rattle.arena_api.specs.Calls.{published}
 use Rattle.arena_api.specs.Works.{Sizes, WorkView}
-use Rattle.tree_images.specs.ProofsForTrees.{tree_pairs-same, IsTree-same, tree_there}
-use Rattle.tree_images.specs.Trees.{tree_pairs, tree_nodes, by_number, IsTree}
-use Rattle.key_order.specs.Keys.{IsKeyedTree}
+use Rattle.tree_read.specs.ProofsForTrees.{tree_pairs-same, IsTree-same, tree_there}
+use Rattle.tree_read.specs.Trees.{tree_pairs, tree_nodes, by_number, IsTree}
+use Rattle.tree_read.specs.Keys.{IsKeyedTree}
 use Rattle.store_api.specs.Statuses.{in_use}
 use Rattle.store_api.specs.Ledgers.{Ledger, IsNew, IsSettled, is_this}
 use Rattle.store_api.specs.Units.{MayDo}

@@ -1,6 +1,6 @@
 -- A walk, pair by pair.
 use Rattle.std.proofs.Common.{◌≡◌, ◌≢◌, ℕ, List, [], ◌∷◌, ◌++◌, drop, append_assoc, refl, ap, ◌∙◌}
-use Rattle.tree_search.specs.Places.{first_key, first_value}
+use Rattle.tree_read.specs.SearchPlaces.{first_key, first_value}
 
 -- the next of the pairs that follow is one of those walked
 pub walk_step : (done ps : List (ℕ × ℕ)) (key value : ℕ) → ps ≢ [] → key ≡ first_key ps → value ≡ first_value ps

@@ -2,7 +2,7 @@
 use Rattle.std.specs.Prelude.{ℕ, List}
 use Rattle.std.specs.Ordering.{nat_cmp}
 use Rattle.entry_ref.specs.Records.{Records}
-use Rattle.tree_images.specs.Trees.{tree_nodes, by_number, IsTree}
+use Rattle.tree_read.specs.Trees.{tree_nodes, by_number, IsTree}
 
 -- a root reaches the nodes of its tree
 abbrev pub tree_reaches : ℕ → Records → ℕ → List ℕ

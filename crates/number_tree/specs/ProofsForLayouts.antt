@@ -3,8 +3,8 @@ use Rattle.std.proofs.Common.{◌≡◌, ℕ, [], refl, arith}
 use Rattle.std.specs.List.Sorted.{IsStrictlySortedBy}
 use Rattle.std.specs.Ordering.{nat_cmp}
 use Rattle.entry_ref.specs.Records.{Records, SameAt, AllThere}
-use Rattle.tree_images.specs.ProofsForTrees.{tree_nodes-same, IsTree-same, tree_there}
-use Rattle.tree_images.specs.Trees.{by_number}
+use Rattle.tree_read.specs.ProofsForTrees.{tree_nodes-same, IsTree-same, tree_there}
+use Rattle.tree_read.specs.Trees.{by_number}
 use Rattle.number_tree.specs.Layouts.{tree_reaches, tree_lawful}
 
 pub tree_empty_reaches : (shape : ℕ) (m : Records) → tree_reaches shape m 0 ≡ []

@@ -1,6 +1,6 @@
 ghost use Rattle.std.specs.Prelude.{◌≡◌, ◌↔◌, ◌-◌, ◌+◌, [], length, is_some, IsNone, IfSome, IfNone, IfOk, IfErr, OnOk, OnErr};
-ghost use Rattle.tree_images.specs.Trees.{tree_pairs};
-ghost use Rattle.key_order.specs.Pairs.{lookup, put, take_out, seek};
+ghost use Rattle.tree_read.specs.Trees.{tree_pairs};
+ghost use Rattle.tree_read.specs.Pairs.{lookup, put, take_out, seek};
 ghost use Rattle.store_api.specs.Ledgers.{IsNew};
 ghost use Rattle.number_tree.specs.Maps.{HoldsTree, IsRefusal, beside_number, first_of};
 
@@ -22,7 +22,7 @@ pub struct NumberTree<const OFFSET_BITS: u32, S: Store<OFFSET_BITS, Layout = Tre
 
 impl<const OFFSET_BITS: u32, S: Store<OFFSET_BITS, Layout = TreeLayout>> Model
     for NumberTree<OFFSET_BITS, S> {
-    ghost use Rattle.tree_images.specs.Trees.{tree_pairs};
+    ghost use Rattle.tree_read.specs.Trees.{tree_pairs};
     ghost use Rattle.number_tree.specs.Maps.{MapView, HoldsTree};
 
     ghost Value = { MapView };

@@ -1,7 +1,7 @@
 ghost use Rattle.std.specs.Prelude.{◌≡◌, ◌<◌, IfOk};
 ghost use Rattle.std.specs.Ordering.{nat_cmp};
-ghost use Rattle.tree_images.specs.Trees.{tree_pairs, by_number, IsRootNode, IsTree};
-ghost use Rattle.key_order.specs.Pairs.{seek};
+ghost use Rattle.tree_read.specs.Trees.{tree_pairs, by_number, IsRootNode, IsTree};
+ghost use Rattle.tree_read.specs.Pairs.{seek};
 ghost use Rattle.number_tree.specs.Maps.{beside_number, first_of};
 
 use entry_ref::EntryRef;

@@ -19,7 +19,7 @@ use Rattle.attr_images.specs.Postings.{list_form}
 use Rattle.attr_images.specs.Tables.{AttributeTrees}
 use Rattle.attr_images.specs.Values.{stored_value}
 use Rattle.attr_types.specs.declared.kind.ValueType.{ValueType}
-use Rattle.tree_images.specs.Trees.{tree_pairs}
+use Rattle.tree_read.specs.Trees.{tree_pairs}
 use Rattle.plan_keys.specs.PhaseKeys.{document_keys, form_docs, key_past, keys_of_pairs, value_keys}
 use Rattle.plan_counts.specs.Counts.{keys_of_phase, place_at}
 

@@ -9,9 +9,9 @@ use Rattle.std.specs.List.Sorted.{IsStrictlySortedBy}
 use Rattle.std.specs.Map.{keys_of}
 use Rattle.std.specs.Ordering.{ordering_reverse, ordering_then}
 use Rattle.entry_ref.specs.Records.{Records}
-use Rattle.key_order.specs.Pairs.{choose, lookup_pair, seek}
-use Rattle.tree_images.specs.Trees.{tree_pairs}
-use Rattle.tree_search.specs.Places.{first_key, first_value}
+use Rattle.tree_read.specs.Pairs.{choose, lookup_pair, seek}
+use Rattle.tree_read.specs.Trees.{tree_pairs}
+use Rattle.tree_read.specs.SearchPlaces.{first_key, first_value}
 use Rattle.attr_images.specs.Postings.{tree, list_form, IsPostingList}
 use Rattle.attr_images.specs.Values.{stored_value, IsValueRecord}
 use Rattle.attr_images.specs.Words.{weight_in_bits}

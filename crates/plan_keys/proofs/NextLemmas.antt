@@ -6,9 +6,9 @@ use Rattle.std.specs.List.{find, AllByRecursion}
 use Rattle.std.specs.Cmp.{ranks}
 use Rattle.std.specs.Ordering.{is_gt, ordering_reverse, ordering_then, MatchOrdering}
 use Rattle.entry_ref.specs.Records.{Records}
-use Rattle.key_order.specs.Pairs.{choose, seek}
-use Rattle.tree_images.specs.Trees.{tree_pairs}
-use Rattle.tree_search.specs.Places.{first_key, first_value}
+use Rattle.tree_read.specs.Pairs.{choose, seek}
+use Rattle.tree_read.specs.Trees.{tree_pairs}
+use Rattle.tree_read.specs.SearchPlaces.{first_key, first_value}
 use Rattle.attr_images.specs.Values.{stored_value}
 use Rattle.attr_types.specs.ProofsForOrder.{value_cmp_total}
 use Rattle.attr_types.specs.Lawful.{IsDocNumber}

@@ -8,7 +8,7 @@ use Rattle.std.specs.Map.{keys_of}
 use Rattle.std.specs.Ordering.{ordering_then}
 use Rattle.list_facts.proofs.Each.{AllByRecursion-append}
 use Rattle.entry_ref.specs.Records.{Records}
-use Rattle.tree_images.specs.Trees.{tree_pairs}
+use Rattle.tree_read.specs.Trees.{tree_pairs}
 use Rattle.attr_images.specs.Postings.{list_form}
 use Rattle.attr_images.specs.Values.{stored_value}
 use Rattle.attr_images.specs.Words.{weight_in_bits}

@@ -2,9 +2,9 @@ ghost use Rattle.std.specs.Prelude.{◌≡◌, ◌+◌};
 ghost use Rattle.std.specs.List.{AllByRecursion};
 ghost use Rattle.std.specs.Option.{option_map};
 ghost use Rattle.std.specs.Ordering.{nat_cmp};
-ghost use Rattle.key_order.specs.Pairs.{seek};
-ghost use Rattle.tree_images.specs.Trees.{tree_pairs, by_number, IsTree};
-ghost use Rattle.tree_search.specs.Places.{pairs_from, IsAt};
+ghost use Rattle.tree_read.specs.Pairs.{seek};
+ghost use Rattle.tree_read.specs.Trees.{tree_pairs, by_number, IsTree};
+ghost use Rattle.tree_read.specs.SearchPlaces.{pairs_from, IsAt};
 ghost use Rattle.attr_types.specs.Lawful.{IsDocNumber};
 ghost use Rattle.plan_keys.specs.PhaseKeys.{first_item};
 

@@ -8,8 +8,8 @@ use Rattle.entry_ref.specs.Records.{Records}
 use Rattle.std.proofs.lemmas.Int.{of_z-to_z}
 use Rattle.std.specs.Int.{cast_signed, cast_unsigned, w32}
 use Rattle.list_facts.proofs.Places.{drop-read}
-use Rattle.tree_search.specs.Places.{Place, IsAt, pairs_from, first_key}
-use Rattle.tree_search.proofs.PlaceLemmas.{pair-first}
+use Rattle.tree_read.specs.SearchPlaces.{Place, IsAt, pairs_from, first_key}
+use Rattle.tree_read.proofs.PlaceLemmas.{pair-first}
 use Rattle.array_store.specs.Arrays.{IsArray}
 use Rattle.array_store.proofs.ArrayLemmas.{count_read, item_read}
 use Rattle.attr_types.specs.Lawful.{IsDocNumber}

@@ -11,12 +11,12 @@ use Rattle.std.specs.Map.{lookup as lookup_in}
 use Rattle.std.specs.Ordering.{nat_cmp, match_ordering}
 use Rattle.list_facts.proofs.Each.{AllByRecursion-each}
 use Rattle.entry_ref.specs.Records.{Records}
-use Rattle.key_order.specs.Keys.{IsKeyedTree}
-use Rattle.key_order.specs.Pairs.{lookup, put, take_out}
-use Rattle.key_order.proofs.PairLemmas.{All-put, All-take_out}
+use Rattle.tree_read.specs.Keys.{IsKeyedTree}
+use Rattle.tree_read.specs.Pairs.{lookup, put, take_out}
+use Rattle.tree_read.proofs.PairLemmas.{All-put, All-take_out}
 use Rattle.store_api.specs.Ledgers.{Ledger}
 use Rattle.store_api.specs.Parts.{count_in, times, Owns, Turns}
-use Rattle.tree_images.specs.Trees.{tree_pairs, by_number, IsTree}
+use Rattle.tree_read.specs.Trees.{tree_pairs, by_number, IsTree}
 use Rattle.tree_make.specs.Changes.{levels, tree}
 use Rattle.tree_make.specs.Makes.{CountsNodes}
 use Rattle.attr_images.specs.Words.{unpacked, weight_in_bits}

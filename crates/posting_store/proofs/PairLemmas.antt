@@ -10,7 +10,7 @@ use Rattle.std.specs.List.Sorted.{IsStrictlySortedBy}
 use Rattle.std.specs.Map.{keys_of, remove_entry}
 use Rattle.std.specs.Map.{lookup as lookup_in}
 use Rattle.std.specs.Ordering.{nat_cmp, match_ordering, is_eq, MatchOrdering}
-use Rattle.key_order.specs.Pairs.{choose, lookup, put, take_out}
+use Rattle.tree_read.specs.Pairs.{choose, lookup, put, take_out}
 use Rattle.attr_images.specs.Words.{unpacked, weight_in_bits}
 use Rattle.attr_types.specs.Lawful.{IsDocNumber}
 use Rattle.posting_store.specs.Lists.{AreDocuments}

@@ -4,7 +4,7 @@ use Rattle.entry_ref.specs.Records.{Records}
 use Rattle.store_api.specs.Ledgers.{Ledger, capacity}
 use Rattle.store_api.specs.Parts.{Part, Owns, Turns}
 use Rattle.store_api.specs.Units.{MakesAtMost}
-use Rattle.tree_images.specs.declared.TheConstants.{NODE_WORDS}
+use Rattle.tree_read.specs.declared.node_format.TheConstants.{NODE_WORDS}
 use Rattle.attr_images.specs.declared.TheConstants.{MOST_SHORT}
 use Rattle.attr_images.specs.Words.{class_of}
 use Rattle.posting_store.specs.Lists.{list_at, list_reach, IsList, IsPlain}

@@ -3,7 +3,7 @@ use Rattle.std.specs.Prelude.{◌≡◌, ℕ, ℤ, pos, ◌<◌, ◌^◌, List, 
 use Rattle.std.specs.List.{AllByRecursion}
 use Rattle.std.specs.Map.{keys_of}
 use Rattle.entry_ref.specs.Records.{Records}
-use Rattle.tree_search.specs.Places.{IsAt, HasPair, pairs_from}
+use Rattle.tree_read.specs.SearchPlaces.{IsAt, HasPair, pairs_from}
 use Rattle.attr_types.specs.Lawful.{IsDocNumber}
 use Rattle.attr_images.specs.Words.{unpacked, weight_in_bits}
 use Rattle.array_store.specs.Arrays.{IsArray}

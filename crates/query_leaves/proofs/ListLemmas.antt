@@ -5,7 +5,7 @@ use Rattle.std.specs.Map.{keys_of}
 use Rattle.std.proofs.lemmas.Bool.{cond-true, le-leb}
 use Rattle.list_facts.proofs.Each.{AllByRecursion-left, AllByRecursion-right}
 use Rattle.entry_ref.specs.Records.{Records}
-use Rattle.tree_images.specs.Trees.{tree_pairs, root_level, root_least, IsRootNode}
+use Rattle.tree_read.specs.Trees.{tree_pairs, root_level, root_least, IsRootNode}
 use Rattle.attr_images.proofs.ImageLemmas.{node_there}
 use Rattle.attr_images.specs.Postings.{vector, list_form, block_documents, IsBlock, IsPostingList}
 use Rattle.attr_images.specs.Words.{weight_in_bits}

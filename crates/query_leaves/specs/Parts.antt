@@ -2,7 +2,7 @@
 use Rattle.std.specs.Prelude.{ℕ, List, map}
 use Rattle.std.specs.List.{AllByRecursion}
 use Rattle.entry_ref.specs.Records.{Records}
-use Rattle.tree_images.specs.Trees.{tree_pairs, IsTree}
+use Rattle.tree_read.specs.Trees.{tree_pairs, IsTree}
 use Rattle.attr_images.specs.Postings.{list_form, postings_at, IsDictionaryEntry}
 use Rattle.attr_images.specs.Values.{stored_value}
 use Rattle.attr_index.specs.Index.{Index}

@@ -2,7 +2,7 @@
 ghost use Rattle.std.specs.Prelude.{◌≡◌, ◌<◌, ◌≤◌, ◌+◌, ◌*◌, ◌/◌, ◌||◌, ◌&&◌, ℕ, nat_eq, length, true, IfOk};
 ghost use Rattle.std.specs.List.{AllByRecursion};
 ghost use Rattle.std.specs.Map.{keys_of};
-ghost use Rattle.tree_search.specs.Places.{IsAt, pairs_from};
+ghost use Rattle.tree_read.specs.SearchPlaces.{IsAt, pairs_from};
 ghost use Rattle.attr_types.specs.Lawful.{IsDocNumber};
 ghost use Rattle.attr_images.specs.Postings.{block_documents, postings_at, vector, IsPostingList};
 ghost use Rattle.doc_set.specs.Gathers.{is_gathered};

@@ -12,7 +12,7 @@ use attr_types::{Doc, DocList};
 use entry_ref::EntryRef;
 use arena_api::Frozen;
 use std::alloc::{AllocError, Global};
-use tree_search::{TakesKeys, take_keys};
+use tree_read::{TakesKeys, take_keys};
 
 /// How many words a document may take of the bit vector.
 const MOST_SPARSE: usize = 16;

@@ -19,7 +19,7 @@ use entry_ref::EntryRef;
 use arena_api::Frozen;
 use frozen_btree::total;
 use std::alloc::{AllocError, Global};
-use tree_search::take_keys;
+use tree_read::take_keys;
 
 /// How many documents a list takes before it becomes a bit vector.
 const MOST_FEW: usize = 1024;

@@ -1,7 +1,7 @@
 //! Where the walk of a leaf begins.
 ghost use Rattle.std.specs.Prelude.{◌≡◌, Some, IfOk};
-ghost use Rattle.tree_images.specs.Trees.{tree_pairs};
-ghost use Rattle.tree_search.specs.Places.{IsAt, pairs_from};
+ghost use Rattle.tree_read.specs.Trees.{tree_pairs};
+ghost use Rattle.tree_read.specs.SearchPlaces.{IsAt, pairs_from};
 ghost use Rattle.attr_images.specs.Postings.{index_of};
 ghost use Rattle.attr_types.specs.declared.query.Leaf.{Leaf as AnyLeaf};
 ghost use Rattle.attr_types.specs.declared.value.Value.TheVariants as values;

@@ -8,7 +8,7 @@ ghost use Rattle.query_leaves.specs.Takers.{Adds};
 use attr_types::Doc;
 use doc_set::DocSet;
 use std::alloc::AllocError;
-use tree_search::TakesKeys;
+use tree_read::TakesKeys;
 
 fn push_keys(docs: &mut Vec<Doc>, keys: &[u64]) -> Result<(), AllocError>
     requires { AllByRecursion IsDocNumber keys.now }

@@ -1,6 +1,6 @@
 //! The documents of the values from a place in a dictionary on.
 ghost use Rattle.std.specs.Prelude.{◌≡◌, ◌||◌, ℕ, IfOk, OnOk};
-ghost use Rattle.tree_search.specs.Places.{IsAt, pairs_from};
+ghost use Rattle.tree_read.specs.SearchPlaces.{IsAt, pairs_from};
 ghost use Rattle.attr_images.specs.Postings.{index_of};
 ghost use Rattle.doc_set.specs.Gathers.{is_gathered};
 ghost use Rattle.doc_set.specs.Sets.{has};

@@ -12,7 +12,7 @@ use Rattle.std.specs.declared.cmp.Ordering.TheVariants.{Less, Equal, Greater}
 use Rattle.std.proofs.lemmas.Bool.{eqb-true, eqb-false}
 use Rattle.std.proofs.lemmas.Cmp.{tied_itself, nat_cmp_total}
 use Rattle.list_facts.proofs.Options.{same_Some}
-use Rattle.key_order.specs.Pairs.{choose, lookup_pair}
+use Rattle.tree_read.specs.Pairs.{choose, lookup_pair}
 use Rattle.attr_types.proofs.EntryLemmas.{nat_cmp_apart}
 use Rattle.doc_set.proofs.BitLemmas.{by_cases}
 use Rattle.doc_set.specs.Sets.{has}

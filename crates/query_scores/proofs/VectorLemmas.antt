@@ -9,7 +9,7 @@ use Rattle.std.proofs.lemmas.Bool.{ne_eqb, eq-eqb}
 use Rattle.std.proofs.lemmas.Cmp.{tied_itself, nat_cmp_total}
 use Rattle.std.proofs.lemmas.Map.Lookups.{exact_unsigned}
 use Rattle.entry_ref.specs.Records.{Records}
-use Rattle.key_order.specs.Pairs.{choose, lookup_pair}
+use Rattle.tree_read.specs.Pairs.{choose, lookup_pair}
 use Rattle.attr_images.proofs.BlockLemmas.{block_has_bits}
 use Rattle.attr_images.specs.Postings.{block_documents}
 use Rattle.doc_set.specs.Sets.{has, in_words}

@@ -4,8 +4,8 @@ use Rattle.std.specs.Option.{option_map, unwrap_or}
 use Rattle.std.specs.Ordering.{nat_cmp}
 use Rattle.std.proofs.lemmas.Cmp.{nat_cmp_total}
 use Rattle.entry_ref.specs.Records.{Records}
-use Rattle.tree_images.specs.Trees.{tree_pairs, by_number, IsTree}
-use Rattle.key_order.specs.Pairs.{lookup_pair}
+use Rattle.tree_read.specs.Trees.{tree_pairs, by_number, IsTree}
+use Rattle.tree_read.specs.Pairs.{lookup_pair}
 use Rattle.attr_images.specs.Postings.{postings_at, tree, vector, vector_documents}
 use Rattle.attr_images.specs.Words.{weight_in_bits}
 use Rattle.query_scores.specs.Weights.{weight_in_list}

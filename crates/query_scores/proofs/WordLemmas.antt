@@ -6,8 +6,8 @@ use Rattle.std.specs.Map.{lookup}
 use Rattle.std.specs.Option.{option_map, unwrap_or}
 use Rattle.std.specs.Ordering.{is_eq}
 use Rattle.entry_ref.specs.Records.{Records}
-use Rattle.tree_images.specs.Trees.{tree_pairs}
-use Rattle.key_order.specs.Pairs.{lookup_pair}
+use Rattle.tree_read.specs.Trees.{tree_pairs}
+use Rattle.tree_read.specs.Pairs.{lookup_pair}
 use Rattle.attr_images.specs.Postings.{list_form, postings_at, index_of}
 use Rattle.attr_images.specs.Values.{stored_value}
 use Rattle.attr_index.specs.Changes.{HasItems}

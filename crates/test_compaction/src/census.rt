@@ -4,7 +4,7 @@ use check_trees::{CheckFault, Keys, check_tree};
 use entry_ref::{word_in, words_at};
 use std::alloc::{AllocError, Global};
 use std::collections::BTreeMap;
-use tree_images::FIRST_VALUE;
+use tree_read::FIRST_VALUE;
 
 /// How many buffers a reference tells apart.
 const BUFFERS: usize = 1024;

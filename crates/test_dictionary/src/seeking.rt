@@ -2,7 +2,7 @@ ghost use Rattle.std.specs.Prelude.{◌≡◌};
 ghost use Rattle.attr_types.specs.Value.{type_of};
 ghost use Rattle.enum_dictionary.specs.Dictionaries.{IsDictionary};
 ghost use Rattle.store_api.specs.Ledgers.{IsNew};
-ghost use Rattle.tree_search.specs.Places.{IsAt};
+ghost use Rattle.tree_read.specs.SearchPlaces.{IsAt};
 
 use crate::filling::{fill, is_like};
 use crate::new_store;

@@ -7,12 +7,12 @@ use Rattle.std.specs.declared.cmp.Ordering.{Ordering}
 use Rattle.std.specs.declared.cmp.Ordering.TheVariants.{Less, Equal, Greater}
 use Rattle.std.specs.Map.{lookup}
 use Rattle.std.specs.Ordering.{nat_cmp, match_ordering, is_eq, MatchOrdering}
-use Rattle.tree_images.proofs.TreeLemmas.{root_of_many}
+use Rattle.tree_read.proofs.TreeLemmas.{root_of_many}
 use Rattle.array_store.proofs.ArrayLemmas.{list_array, item_there}
 use Rattle.attr_images.specs.Postings.{short, tree, list_form, IsPostingList}
 use Rattle.entry_ref.specs.Records.{Records}
-use Rattle.tree_images.specs.Trees.{IsRootNode}
-use Rattle.tree_search.proofs.PlaceLemmas.{leads-root, step-size}
+use Rattle.tree_read.specs.Trees.{IsRootNode}
+use Rattle.tree_read.proofs.PlaceLemmas.{leads-root, step-size}
 use Rattle.posting_store.specs.Lists.{list_at, IsList, IsPlain}
 use Rattle.posting_store.proofs.FormLemmas.{form_even, form_odd}
 use Rattle.posting_store.proofs.ItemLemmas.{cmp_same, cmp_apart}

@@ -2,12 +2,12 @@
 use Rattle.std.proofs.Common.{◌≡◌, ℕ, suc, ◌<◌, ◌≤◌, length, get_or, sym, subst, arith}
 use Rattle.list_facts.proofs.Each.{AllByRecursion-at}
 use Rattle.entry_ref.specs.Records.{Records}
-use Rattle.tree_images.specs.Nodes.{node_values}
-use Rattle.tree_images.specs.Trees.{IsNode, IsRootNode, root_level, root_least}
-use Rattle.tree_node.proofs.ChildLemmas.{IsNode-lower}
-use Rattle.tree_node.proofs.ReadLemmas.{hand-read}
-use Rattle.tree_node.proofs.RootLemmas.{root_least-some}
-use Rattle.tree_node.proofs.SlotLemmas.{child_nodes}
+use Rattle.tree_read.specs.Nodes.{node_values}
+use Rattle.tree_read.specs.Trees.{IsNode, IsRootNode, root_level, root_least}
+use Rattle.tree_read.proofs.ChildLemmas.{IsNode-lower}
+use Rattle.tree_read.proofs.ReadLemmas.{hand-read}
+use Rattle.tree_read.proofs.RootLemmas.{root_least-some}
+use Rattle.tree_read.proofs.SlotLemmas.{child_nodes}
 
 pub child-is : (m : Records) (l node i : ℕ) → IsNode m 1 (suc l) node → i < length (node_values (m node))
     → IsNode m 1 l (get_or (node_values (m node)) i 0)

@@ -3,7 +3,7 @@ ghost use Rattle.std.specs.Prelude.{◌≡◌, ◌<◌, false, IfOk};
 ghost use Rattle.std.specs.List.Sorted.{IsStrictlySortedBy};
 ghost use Rattle.std.specs.Ordering.{nat_cmp};
 ghost use Rattle.store_api.specs.Ledgers.{Ledger};
-ghost use Rattle.tree_images.specs.Trees.{IsRootNode};
+ghost use Rattle.tree_read.specs.Trees.{IsRootNode};
 
 use crate::steps::push_seen;
 use crate::texts::push_number;

@@ -1,6 +1,6 @@
 //! Trees touched, by which nodes on a key's way lie in the sealed buffer.
 ghost use Rattle.std.specs.Prelude.{◌≡◌, ◌<◌, IfOk};
-ghost use Rattle.tree_images.specs.Trees.{IsRootNode};
+ghost use Rattle.tree_read.specs.Trees.{IsRootNode};
 ghost use Rattle.number_tree.specs.Maps.{HoldsTree};
 
 use crate::changes::scrambled;

@@ -1,7 +1,7 @@
 //! Trees to be tested, and what their records say.
 ghost use Rattle.std.specs.Prelude.{◌≡◌, ◌≤◌, ◌<◌};
 ghost use Rattle.entry_ref.specs.References.{offset_limit, buffer_limit};
-ghost use Rattle.tree_images.specs.Trees.{IsNode, IsRootNode};
+ghost use Rattle.tree_read.specs.Trees.{IsNode, IsRootNode};
 
 use check_trees::{Keys, check_tree};
 use entry_ref::{EntryRef, word_in, words_at};
@@ -12,8 +12,7 @@ use number_tree::{NumberTree, TreeLayout};
 use std::alloc::{AllocError, Global};
 use std::collections::BTreeMap;
 use store_api::Store;
-use tree_images::NODE_WORDS;
-use tree_node::{read_head, read_node, read_words};
+use tree_read::{NODE_WORDS, read_head, read_node, read_words};
 
 /// The empty tree in a store of its own, of a number of buffers of 8,192 words.
 pub fn new_tree<const OFFSET_BITS: u32>(

@@ -10,13 +10,13 @@ use Rattle.store_api.specs.Ledgers.{Ledger}
 use Rattle.store_api.specs.Parts.{times, EachOnce, Owns, Turns}
 use Rattle.store_api.proofs.Times.{times-same, times-other}
 use Rattle.store_api.proofs.Uses.{in-uses, used_has, uses-few}
-use Rattle.tree_images.specs.Trees.{nodes_below, tree_pairs, IsNode, Keeps}
-use Rattle.tree_images.specs.Nodes.{node_values}
-use Rattle.tree_node.specs.Slots.{slot_pairs, IsInHand}
-use Rattle.tree_node.proofs.Bounds.{few_at_top}
-use Rattle.tree_node.proofs.ReadLemmas.{node-size}
-use Rattle.tree_node.proofs.SlotLemmas.{child_nodes, nodes-slots, slot_nodes-inner, slot_nodes-leaf, slot_pairs-inner, slot_pairs-leaf}
-use Rattle.tree_node.proofs.CountLemmas.{leaf_count}
+use Rattle.tree_read.specs.Trees.{nodes_below, tree_pairs, IsNode, Keeps}
+use Rattle.tree_read.specs.Nodes.{node_values}
+use Rattle.tree_read.specs.Slots.{slot_pairs, IsInHand}
+use Rattle.tree_read.proofs.Bounds.{few_at_top}
+use Rattle.tree_read.proofs.ReadLemmas.{node-size}
+use Rattle.tree_read.proofs.SlotLemmas.{child_nodes, nodes-slots, slot_nodes-inner, slot_nodes-leaf, slot_pairs-inner, slot_pairs-leaf}
+use Rattle.tree_read.proofs.CountLemmas.{leaf_count}
 use Rattle.tree_make.specs.Changes.{tree}
 use Rattle.tree_make.specs.Makes.{MakesRoot}
 use Rattle.tree_build.specs.Builds.{groups, nodes_above, MakesRow, BuildsTree}

@@ -6,9 +6,9 @@ use Rattle.store_api.specs.Statuses.{has_record}
 use Rattle.store_api.specs.Ledgers.{Ledger}
 use Rattle.store_api.specs.Parts.{times, Owns, Turns}
 use Rattle.store_api.proofs.Uses.{in-uses, used_has}
-use Rattle.tree_images.specs.Trees.{tree_pairs}
-use Rattle.tree_node.specs.Slots.{slot_nodes}
-use Rattle.tree_node.proofs.SlotLemmas.{slot_pairs-leaf, slot_nodes-leaf}
+use Rattle.tree_read.specs.Trees.{tree_pairs}
+use Rattle.tree_read.specs.Slots.{slot_nodes}
+use Rattle.tree_read.proofs.SlotLemmas.{slot_pairs-leaf, slot_nodes-leaf}
 use Rattle.tree_make.specs.Changes.{tree}
 use Rattle.tree_make.specs.Makes.{MakesRoot}
 

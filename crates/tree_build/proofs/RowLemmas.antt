@@ -9,12 +9,12 @@ use Rattle.store_api.specs.declared.store.StoreError.{StoreError}
 use Rattle.store_api.specs.declared.store.StoreError.TheVariants.{Memory}
 use Rattle.store_api.specs.Calls.{Refuses}
 use Rattle.store_api.proofs.Times.{times-append}
-use Rattle.tree_images.specs.Trees.{Keeps}
-use Rattle.tree_node.specs.Slots.{slot_pairs, slot_nodes, IsInHand}
-use Rattle.tree_node.proofs.ChildLemmas.{IsNode-lower}
-use Rattle.tree_node.proofs.CountLemmas.{leaf_count}
-use Rattle.tree_node.proofs.SlotLemmas.{slot_pairs-append, slot_nodes-append, slot_pairs-kept, slot_nodes-kept, slot_pairs-one, slot_nodes-one, slot_pairs-leaf, slot_nodes-leaf, slot_pairs-inner, slot_nodes-inner}
-use Rattle.tree_node.proofs.SlotLemmas.{hand-append, hand-kept, hand-none, hand-one, hand-take, hand-drop, even-take, few-take, few-drop}
+use Rattle.tree_read.specs.Trees.{Keeps}
+use Rattle.tree_read.specs.Slots.{slot_pairs, slot_nodes, IsInHand}
+use Rattle.tree_read.proofs.ChildLemmas.{IsNode-lower}
+use Rattle.tree_read.proofs.CountLemmas.{leaf_count}
+use Rattle.tree_read.proofs.SlotLemmas.{slot_pairs-append, slot_nodes-append, slot_pairs-kept, slot_nodes-kept, slot_pairs-one, slot_nodes-one, slot_pairs-leaf, slot_nodes-leaf, slot_pairs-inner, slot_nodes-inner}
+use Rattle.tree_read.proofs.SlotLemmas.{hand-append, hand-kept, hand-none, hand-one, hand-take, hand-drop, even-take, few-take, few-drop}
 use Rattle.tree_make.specs.Makes.{MakesNode}
 use Rattle.tree_build.specs.Builds.{AddsPart, MakesRow}
 use Rattle.tree_build.proofs.GroupLemmas.{IsGroup}

@@ -13,16 +13,16 @@ use Rattle.store_api.proofs.May.{may_do-then}
 use Rattle.store_api.proofs.PartLemmas.{same_at, turns-as}
 use Rattle.store_api.proofs.Times.{times-same, times-append, all_from_times, all_at_times}
 use Rattle.store_api.proofs.Uses.{in-uses, uses-few}
-use Rattle.tree_images.specs.ProofsForTrees.{nodes-same, IsNode-same}
-use Rattle.tree_images.specs.Nodes.{node_values}
-use Rattle.tree_images.specs.Trees.{nodes_below, tree_nodes, IsNode, IsRootNode, root_level, root_least}
-use Rattle.tree_node.proofs.RootLemmas.{root_least-some, tree_nodes-at}
-use Rattle.key_order.specs.Keys.{KeepsOthers}
-use Rattle.key_order.proofs.PairLemmas.{children-cut}
-use Rattle.tree_node.proofs.ChildLemmas.{IsNode-lower}
-use Rattle.tree_node.proofs.ReadLemmas.{hand-read, inner-nodes}
-use Rattle.tree_node.proofs.SlotLemmas.{child_nodes, nodes-slots, slot_nodes-leaf}
-use Rattle.tree_images.specs.Nodes.{node_keys}
+use Rattle.tree_read.specs.ProofsForTrees.{nodes-same, IsNode-same}
+use Rattle.tree_read.specs.Nodes.{node_values}
+use Rattle.tree_read.specs.Trees.{nodes_below, tree_nodes, IsNode, IsRootNode, root_level, root_least}
+use Rattle.tree_read.proofs.RootLemmas.{root_least-some, tree_nodes-at}
+use Rattle.tree_read.specs.Keys.{KeepsOthers}
+use Rattle.tree_read.proofs.PairLemmas.{children-cut}
+use Rattle.tree_read.proofs.ChildLemmas.{IsNode-lower}
+use Rattle.tree_read.proofs.ReadLemmas.{hand-read, inner-nodes}
+use Rattle.tree_read.proofs.SlotLemmas.{child_nodes, nodes-slots, slot_nodes-leaf}
+use Rattle.tree_read.specs.Nodes.{node_keys}
 use Rattle.tree_make.specs.Changes.{DropsEntries, tree}
 use Rattle.tree_make.proofs.ChangeLemmas.{tree-wide}
 

@@ -4,9 +4,9 @@ use Rattle.std.specs.Int.{div_ceil}
 use Rattle.entry_ref.specs.Records.{Records}
 use Rattle.store_api.specs.Ledgers.{Ledger}
 use Rattle.store_api.specs.Parts.{times, uses}
-use Rattle.tree_images.specs.Trees.{tree_pairs, tree_nodes, IsRootNode}
-use Rattle.tree_images.specs.declared.TheConstants.{MOST_SLOTS}
-use Rattle.tree_node.specs.Slots.{slot_pairs, slot_nodes, IsInHand}
+use Rattle.tree_read.specs.Trees.{tree_pairs, tree_nodes, IsRootNode}
+use Rattle.tree_read.specs.declared.node_format.TheConstants.{MOST_SLOTS}
+use Rattle.tree_read.specs.Slots.{slot_pairs, slot_nodes, IsInHand}
 use Rattle.tree_make.specs.Makes.{MakesPart}
 use Rattle.tree_make.specs.declared.make.Part.{Part}
 

@@ -1,13 +1,13 @@
 ghost use Rattle.std.specs.Prelude.{◌≡◌, ◌<◌, ◌∷◌, [], ℕ, true};
-ghost use Rattle.tree_images.specs.Trees.{nodes_below, IsNode, IsRootNode};
-ghost use Rattle.key_order.specs.Keys.{KeepsOthers};
+ghost use Rattle.tree_read.specs.Trees.{nodes_below, IsNode, IsRootNode};
+ghost use Rattle.tree_read.specs.Keys.{KeepsOthers};
 ghost use Rattle.store_api.specs.Parts.{Owns, Turns, entries};
 ghost use Rattle.store_api.specs.Units.{MayDo, MakesAtMost};
 ghost use Rattle.tree_make.specs.Changes.{DropsEntries, tree};
 
 use entry_ref::EntryRef;
 use store_api::Store;
-use tree_node::{read_head, read_node};
+use tree_read::{read_head, read_node};
 
 /// Drops all nodes below a node of this level, and then the node.
 fn drop_below<const OFFSET_BITS: u32, S: Store<OFFSET_BITS>>(

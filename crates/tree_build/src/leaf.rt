@@ -1,7 +1,7 @@
 ghost use Rattle.std.specs.Prelude.{◌≡◌, ◌≤◌, ◌∷◌, [], true, length, IfOk, IfErr};
 ghost use Rattle.std.specs.List.{zip};
-ghost use Rattle.tree_images.specs.Trees.{tree_pairs, Keeps};
-ghost use Rattle.key_order.specs.Keys.{Ascends, AllReadable, NoneReadsNodes, IsKeyedTree};
+ghost use Rattle.tree_read.specs.Trees.{tree_pairs, Keeps};
+ghost use Rattle.tree_read.specs.Keys.{Ascends, AllReadable, NoneReadsNodes, IsKeyedTree};
 ghost use Rattle.store_api.specs.Calls.{Refuses};
 ghost use Rattle.store_api.specs.Parts.{Owns, Turns};
 ghost use Rattle.store_api.specs.Units.{MayDo};
@@ -10,11 +10,9 @@ ghost use Rattle.tree_make.specs.Makes.{CountsNodes};
 
 use arrayvec::ArrayVec;
 use entry_ref::EntryRef;
-use key_order::KeyOrder;
+use tree_read::{KeyOrder, MOST_SLOTS, NODE_WORDS, Slots, append};
 use store_api::{Store, StoreError};
-use tree_images::{MOST_SLOTS, NODE_WORDS};
 use tree_make::make_root;
-use tree_node::{Slots, append};
 
 /// Makes a tree of up to 16 pairs, whose keys ascend, as one leaf. Of no pair the root is 0.
 pub fn build_leaf<const OFFSET_BITS: u32, S: Store<OFFSET_BITS>, K: KeyOrder<OFFSET_BITS>>(

@@ -1,21 +1,20 @@
 ghost use Rattle.std.specs.Prelude.{◌≡◌, ◌^◌, ◌<◌, ◌≤◌, ◌-◌, ◌∷◌, [], true, length, IfOk, IfErr};
 ghost use Rattle.std.specs.List.{zip};
-ghost use Rattle.tree_images.specs.Trees.{tree_pairs, Keeps};
-ghost use Rattle.key_order.specs.Keys.{Ascends, AllReadable, NoneReadsNodes, IsKeyedTree};
+ghost use Rattle.tree_read.specs.Trees.{tree_pairs, Keeps};
+ghost use Rattle.tree_read.specs.Keys.{Ascends, AllReadable, NoneReadsNodes, IsKeyedTree};
 ghost use Rattle.store_api.specs.Calls.{Refuses};
 ghost use Rattle.store_api.specs.Parts.{Owns, Turns};
 ghost use Rattle.store_api.specs.Units.{MayDo};
 ghost use Rattle.tree_make.specs.Changes.{tree};
 ghost use Rattle.tree_make.specs.Makes.{CountsNodes, MakesNodes};
-ghost use Rattle.tree_node.specs.Slots.{slot_pairs, IsInHand};
+ghost use Rattle.tree_read.specs.Slots.{slot_pairs, IsInHand};
 ghost use Rattle.tree_build.specs.Builds.{nodes_above, nodes_of, BuildsTree};
 
 use crate::rows::{make_row, slots_of};
 use entry_ref::EntryRef;
-use key_order::KeyOrder;
+use tree_read::{KeyOrder, MOST_SLOTS, NODE_WORDS};
 use std::alloc::Global;
 use store_api::{Store, StoreError};
-use tree_images::{MOST_SLOTS, NODE_WORDS};
 use tree_make::make_root;
 
 /// Makes the tree over slots of a level, level by level.

@@ -2,15 +2,14 @@ ghost use Rattle.std.specs.Prelude.{◌≡◌, ◌^◌, ◌<◌, ◌≤◌, ◌+
 ghost use Rattle.store_api.specs.Calls.{Refuses};
 ghost use Rattle.store_api.specs.declared.store.StoreError.TheVariants.{Memory};
 ghost use Rattle.tree_make.specs.Makes.{MakesNodes};
-ghost use Rattle.tree_node.specs.Slots.{slot_pairs, IsInHand};
+ghost use Rattle.tree_read.specs.Slots.{slot_pairs, IsInHand};
 ghost use Rattle.tree_build.specs.Builds.{groups, group_start, AddsPart, MakesRow};
 
 use arrayvec::ArrayVec;
 use std::alloc::Global;
 use store_api::{Store, StoreError};
-use tree_images::{MOST_SLOTS, NODE_WORDS};
+use tree_read::{MOST_SLOTS, NODE_WORDS, Slots, append};
 use tree_make::make_part;
-use tree_node::{Slots, append};
 
 /// Nodes of one level, as the slots of the next are to hold them.
 #[derive(Drop)]

@@ -8,26 +8,26 @@ use Rattle.std.specs.List.{zip, flat_map, AllByRecursion}
 use Rattle.list_facts.proofs.Each.{AllByRecursion-at}
 use Rattle.entry_ref.specs.Records.{Records}
 use Rattle.store_api.specs.Ledgers.{Ledger}
-use Rattle.tree_images.specs.Nodes.{used_of, count_of, node_keys, node_values}
-use Rattle.tree_images.specs.Trees.{pairs_below, nodes_below, last_key, IsNode, Keeps}
-use Rattle.tree_images.proofs.TreeLemmas.{IsNode-form, IsNode-count}
-use Rattle.tree_node.proofs.ChildLemmas.{pairs-some, IsNode-lower, keys-length}
-use Rattle.key_order.specs.Keys.{seen_by, Ascends, AllBelow}
-use Rattle.key_order.specs.Pairs.{put}
-use Rattle.key_order.proofs.PairLemmas.{All-child, children-cut, put-skip, put-stop, length-put_most}
-use Rattle.key_order.proofs.OrderLemmas.{ascends-child, children-below}
+use Rattle.tree_read.specs.Nodes.{used_of, count_of, node_keys, node_values}
+use Rattle.tree_read.specs.Trees.{pairs_below, nodes_below, last_key, IsNode, Keeps}
+use Rattle.tree_read.proofs.TreeLemmas.{IsNode-form, IsNode-count}
+use Rattle.tree_read.proofs.ChildLemmas.{pairs-some, IsNode-lower, keys-length}
+use Rattle.tree_read.specs.Keys.{seen_by, Ascends, AllBelow}
+use Rattle.tree_read.specs.Pairs.{put}
+use Rattle.tree_read.proofs.PairLemmas.{All-child, children-cut, put-skip, put-stop, length-put_most}
+use Rattle.tree_read.proofs.OrderLemmas.{ascends-child, children-below}
 use Rattle.store_api.proofs.Times.{times-append}
 use Rattle.store_api.specs.Parts.{times}
-use Rattle.tree_node.specs.Places.{IsPlace}
-use Rattle.tree_node.specs.Slots.{slot_pairs, slot_nodes, IsInHand}
-use Rattle.tree_node.proofs.KeyLemmas.{key_last}
-use Rattle.tree_node.proofs.SlotLemmas.{pairs-slots, nodes-slots, hand-append, hand-children, hand-kept, child_nodes, slot_pairs-inner, slot_pairs-leaf, slot_nodes-inner, slot_nodes-leaf, all_pairs-kept, all_nodes-kept}
-use Rattle.tree_node.proofs.SlotLemmas.{hand-take, hand-drop}
+use Rattle.tree_read.specs.NodePlaces.{IsPlace}
+use Rattle.tree_read.specs.Slots.{slot_pairs, slot_nodes, IsInHand}
+use Rattle.tree_read.proofs.NodeKeyLemmas.{key_last}
+use Rattle.tree_read.proofs.SlotLemmas.{pairs-slots, nodes-slots, hand-append, hand-children, hand-kept, child_nodes, slot_pairs-inner, slot_pairs-leaf, slot_nodes-inner, slot_nodes-leaf, all_pairs-kept, all_nodes-kept}
+use Rattle.tree_read.proofs.SlotLemmas.{hand-take, hand-drop}
 use Rattle.tree_insert.specs.Inserts.{Inserts}
 use Rattle.tree_insert.specs.Parts.{AreParts, MakesParts, part_keys, part_nodes, parts_count}
 use Rattle.tree_insert.specs.declared.parts.Parts.{Parts}
 use Rattle.tree_insert.specs.declared.parts.Parts.TheVariants.{One, Two}
-use Rattle.tree_node.proofs.ReadLemmas.{hand-read, inner-pairs, inner-nodes, node-even}
+use Rattle.tree_read.proofs.ReadLemmas.{hand-read, inner-pairs, inner-nodes, node-even}
 
 -- parts with more slots than are asked for
 pub parts-lower : (n : Records) (few least level : ℕ) (parts : Parts) (pairs : List (ℕ × ℕ)) → few ≤ least → AreParts n least level parts pairs → AreParts n few level parts pairs

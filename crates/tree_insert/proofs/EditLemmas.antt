@@ -4,7 +4,7 @@ use Rattle.std.proofs.lemmas.List.{append-nil, take_all, drop_all, set_split}
 use Rattle.std.specs.declared.cmp.Ordering.{Ordering}
 use Rattle.std.specs.declared.cmp.Ordering.TheVariants.{Less, Equal, Greater}
 use Rattle.std.specs.List.{zip, refill}
-use Rattle.key_order.specs.Pairs.{choose, put}
+use Rattle.tree_read.specs.Pairs.{choose, put}
 
 pub refill-set : (xs : List ℕ) (i w : ℕ) → i < length xs → refill (length xs) xs (set xs i w) ≡ take i xs ++ (w ∷ drop (suc i) xs)
 refill-set xs i w low =

@@ -3,12 +3,12 @@ use Rattle.std.proofs.Common.{◌≡◌, ℕ, suc, ◌+◌, ◌<◌, ◌≤◌, 
 use Rattle.std.specs.List.{zip}
 use Rattle.std.specs.declared.cmp.Ordering.{Ordering}
 use Rattle.entry_ref.specs.Records.{Records}
-use Rattle.tree_images.specs.Nodes.{level_of, used_of, count_of, node_keys, node_values, IsNodeForm}
-use Rattle.key_order.specs.Pairs.{put}
-use Rattle.tree_node.specs.Places.{IsSlot, IsFound, IsLacking}
-use Rattle.tree_node.specs.Slots.{slot_pairs, IsInHand}
-use Rattle.tree_node.proofs.CountLemmas.{leaf_count}
-use Rattle.tree_node.proofs.SlotLemmas.{hand-leaf}
+use Rattle.tree_read.specs.Nodes.{level_of, used_of, count_of, node_keys, node_values, IsNodeForm}
+use Rattle.tree_read.specs.Pairs.{put}
+use Rattle.tree_read.specs.NodePlaces.{IsSlot, IsFound, IsLacking}
+use Rattle.tree_read.specs.Slots.{slot_pairs, IsInHand}
+use Rattle.tree_read.proofs.CountLemmas.{leaf_count}
+use Rattle.tree_read.proofs.SlotLemmas.{hand-leaf}
 use Rattle.tree_make.specs.Words.{AreWords}
 use Rattle.tree_make.proofs.WordLemmas.{form-words, words-keys, words-values, words-level, words-used, cut-size, put-size}
 use Rattle.tree_insert.specs.Parts.{put_at}

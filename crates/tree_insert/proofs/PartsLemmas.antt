@@ -4,19 +4,19 @@ use Rattle.std.proofs.lemmas.List.{append-nil, take-append-drop}
 use Rattle.std.specs.List.{flat_map}
 use Rattle.entry_ref.specs.Records.{Records}
 use Rattle.store_api.specs.Ledgers.{Ledger}
-use Rattle.tree_images.specs.Trees.{pairs_below, nodes_below, last_key, Keeps}
+use Rattle.tree_read.specs.Trees.{pairs_below, nodes_below, last_key, Keeps}
 use Rattle.store_api.proofs.Times.{times-append}
 use Rattle.store_api.specs.Parts.{times, uses}
 use Rattle.tree_make.specs.Makes.{MakesPart}
-use Rattle.tree_node.specs.Slots.{slot_pairs, slot_nodes, IsInHand}
+use Rattle.tree_read.specs.Slots.{slot_pairs, slot_nodes, IsInHand}
 use Rattle.tree_make.specs.declared.make.Part.{Part}
 use Rattle.tree_make.proofs.MakesLemmas.{makes-then, makes-more}
-use Rattle.tree_node.proofs.SlotLemmas.{slot_pairs-append, slot_nodes-append, hand-right, pairs-kept, nodes_below-kept, node-kept, slot_pairs-kept, slot_nodes-kept, hand-kept, hand-take, hand-drop, few-take, few-drop}
-use Rattle.tree_node.proofs.SlotLemmas.{even-take, cut}
+use Rattle.tree_read.proofs.SlotLemmas.{slot_pairs-append, slot_nodes-append, hand-right, pairs-kept, nodes_below-kept, node-kept, slot_pairs-kept, slot_nodes-kept, hand-kept, hand-take, hand-drop, few-take, few-drop}
+use Rattle.tree_read.proofs.SlotLemmas.{even-take, cut}
 use Rattle.tree_insert.specs.Parts.{MakesParts}
 use Rattle.tree_insert.specs.declared.parts.Parts.TheVariants.{One, Two}
 use Rattle.tree_make.proofs.RootLemmas.{made-balance}
-use Rattle.tree_node.proofs.ChildLemmas.{IsNode-lower}
+use Rattle.tree_read.proofs.ChildLemmas.{IsNode-lower}
 
 pub one_part : {H : Type 0} (old new : Ledger H) (m n : Records) (level : ℕ) (ks vs : List ℕ) (part : Part) → MakesPart old new m n level ks vs part → MakesParts old new m n level ks vs (One part)
 one_part old new m n level ks vs part made = record {

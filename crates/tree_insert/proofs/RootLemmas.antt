@@ -4,14 +4,14 @@ use Rattle.std.proofs.lemmas.List.{append-nil}
 use Rattle.std.specs.List.{flat_map}
 use Rattle.entry_ref.specs.Records.{Records}
 use Rattle.store_api.specs.Ledgers.{Ledger}
-use Rattle.tree_images.specs.Trees.{pairs_below, nodes_below, IsNode, root_least}
+use Rattle.tree_read.specs.Trees.{pairs_below, nodes_below, IsNode, root_least}
 use Rattle.tree_make.proofs.RootLemmas.{made-balance}
 use Rattle.store_api.specs.Parts.{times}
 use Rattle.tree_make.specs.Makes.{MakesNode}
-use Rattle.tree_node.specs.Slots.{slot_pairs, slot_nodes, IsInHand}
+use Rattle.tree_read.specs.Slots.{slot_pairs, slot_nodes, IsInHand}
 use Rattle.tree_make.specs.declared.make.Part.{Part}
 use Rattle.tree_make.proofs.MakesLemmas.{makes-none}
-use Rattle.tree_node.proofs.SlotLemmas.{hand-children, slot_pairs-inner, slot_nodes-inner}
+use Rattle.tree_read.proofs.SlotLemmas.{hand-children, slot_pairs-inner, slot_nodes-inner}
 use Rattle.tree_insert.specs.Parts.{AreParts, IsRootOver}
 use Rattle.tree_insert.specs.declared.parts.Parts.TheVariants.{One, Two}
 

@@ -6,18 +6,18 @@ use Rattle.std.specs.List.{flat_map, All, IsDistinct}
 use Rattle.entry_ref.specs.Records.{Records}
 use Rattle.store_api.specs.Ledgers.{Ledger}
 use Rattle.store_api.specs.Parts.{times}
-use Rattle.tree_images.specs.Nodes.{used_of}
-use Rattle.tree_images.specs.Trees.{pairs_below, root_level, root_least, tree_pairs, tree_nodes, IsTree}
+use Rattle.tree_read.specs.Nodes.{used_of}
+use Rattle.tree_read.specs.Trees.{pairs_below, root_level, root_least, tree_pairs, tree_nodes, IsTree}
 use Rattle.tree_make.proofs.RootLemmas.{made-balance}
-use Rattle.tree_node.proofs.RootLemmas.{tree_pairs-is, tree_nodes-is, root_node-is}
-use Rattle.key_order.specs.Keys.{seen_by}
-use Rattle.key_order.specs.Pairs.{put}
-use Rattle.key_order.proofs.PairLemmas.{length-put_most}
-use Rattle.tree_node.proofs.Bounds.{children_many, tree_small}
+use Rattle.tree_read.proofs.RootLemmas.{tree_pairs-is, tree_nodes-is, root_node-is}
+use Rattle.tree_read.specs.Keys.{seen_by}
+use Rattle.tree_read.specs.Pairs.{put}
+use Rattle.tree_read.proofs.PairLemmas.{length-put_most}
+use Rattle.tree_read.proofs.Bounds.{children_many, tree_small}
 use Rattle.tree_make.specs.Changes.{Rebuilds}
 use Rattle.tree_make.specs.Makes.{MakesNode}
-use Rattle.tree_node.specs.Slots.{slot_nodes}
-use Rattle.tree_node.proofs.SlotLemmas.{slot_pairs-leaf, slot_nodes-leaf}
+use Rattle.tree_read.specs.Slots.{slot_nodes}
+use Rattle.tree_read.proofs.SlotLemmas.{slot_pairs-leaf, slot_nodes-leaf}
 use Rattle.tree_insert.specs.Inserts.{Inserts}
 use Rattle.tree_insert.specs.Parts.{AreParts, IsRootOver, part_nodes}
 use Rattle.tree_insert.specs.declared.parts.Parts.{Parts}

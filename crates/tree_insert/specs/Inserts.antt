@@ -4,9 +4,9 @@ use Rattle.std.specs.List.{flat_map}
 use Rattle.std.specs.declared.cmp.Ordering.{Ordering}
 use Rattle.entry_ref.specs.Records.{Records}
 use Rattle.store_api.specs.Ledgers.{Ledger}
-use Rattle.tree_images.specs.Nodes.{used_of}
-use Rattle.tree_images.specs.Trees.{pairs_below, nodes_below}
-use Rattle.key_order.specs.Pairs.{put}
+use Rattle.tree_read.specs.Nodes.{used_of}
+use Rattle.tree_read.specs.Trees.{pairs_below, nodes_below}
+use Rattle.tree_read.specs.Pairs.{put}
 use Rattle.store_api.specs.Parts.{times, uses}
 use Rattle.tree_insert.specs.declared.parts.Parts.{Parts}
 use Rattle.tree_insert.specs.Parts.{AreParts, part_nodes}

@@ -3,14 +3,14 @@ use Rattle.std.specs.Prelude.{◌≡◌, ℕ, suc, ◌+◌, ◌<◌, ◌≤◌, 
 use Rattle.std.specs.List.{flat_map, AllByRecursion}
 use Rattle.entry_ref.specs.Records.{Records}
 use Rattle.store_api.specs.Ledgers.{Ledger}
-use Rattle.tree_images.specs.Nodes.{count_of}
-use Rattle.tree_images.specs.Trees.{pairs_below, nodes_below, last_key, IsNode, root_least}
+use Rattle.tree_read.specs.Nodes.{count_of}
+use Rattle.tree_read.specs.Trees.{pairs_below, nodes_below, last_key, IsNode, root_least}
 use Rattle.store_api.specs.Parts.{times, uses}
-use Rattle.tree_node.specs.Slots.{slot_pairs, slot_nodes}
+use Rattle.tree_read.specs.Slots.{slot_pairs, slot_nodes}
 use Rattle.tree_make.specs.Makes.{MakesNodes}
 use Rattle.tree_insert.specs.declared.parts.Parts.{Parts}
 use Rattle.tree_insert.specs.declared.parts.Parts.TheVariants.{One, Two}
-use Rattle.tree_images.specs.declared.TheConstants.{LEAST_SLOTS}
+use Rattle.tree_read.specs.declared.node_format.TheConstants.{LEAST_SLOTS}
 
 abbrev pub part_keys : Parts → List ℕ
 part_keys (One part) = part.key ∷ []

@@ -1,10 +1,10 @@
 ghost use Rattle.std.specs.Prelude.{◌≡◌, ◌≤◌, ◌<◌, ◌+◌, ◌*◌, ◌^◌, ◌++◌, ◌∷◌, [], ℕ, List, true, length, suc, IfOk, IfErr};
-ghost use Rattle.tree_images.specs.Nodes.{level_of, node_keys};
-ghost use Rattle.tree_images.specs.Trees.{pairs_below, IsNode};
-ghost use Rattle.key_order.specs.Keys.{seen_by, Ascends, AllReadable};
+ghost use Rattle.tree_read.specs.Nodes.{level_of, node_keys};
+ghost use Rattle.tree_read.specs.Trees.{pairs_below, IsNode};
+ghost use Rattle.tree_read.specs.Keys.{seen_by, Ascends, AllReadable};
 ghost use Rattle.store_api.specs.Calls.{Refuses};
 ghost use Rattle.tree_make.specs.Makes.{MakesNodes};
-ghost use Rattle.tree_node.specs.Places.{IsPlace};
+ghost use Rattle.tree_read.specs.NodePlaces.{IsPlace};
 ghost use Rattle.tree_insert.specs.Inserts.{Inserts};
 
 use crate::leaf::put_pair;
@@ -12,10 +12,8 @@ use crate::parts::{Parts, count_parts, put_parts};
 use arrayvec::ArrayVec;
 use entry_ref::EntryRef;
 use arena_api::Frozen;
-use key_order::KeyOrder;
+use tree_read::{FIRST_VALUE, KeyOrder, NODE_WORDS, used_in, visit};
 use store_api::{Store, StoreError};
-use tree_images::{FIRST_VALUE, NODE_WORDS};
-use tree_node::{used_in, visit};
 
 /// Makes a leaf anew with a pair put in.
 fn insert_in_leaf<const OFFSET_BITS: u32, S: Store<OFFSET_BITS>, K: KeyOrder<OFFSET_BITS>>(

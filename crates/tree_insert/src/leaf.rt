@@ -1,14 +1,13 @@
 ghost use Rattle.std.specs.Prelude.{◌≡◌, ◌≤◌, ◌<◌, true, IfOk, IfErr};
-ghost use Rattle.tree_images.specs.Nodes.{used_of, node_keys, node_values, IsNodeForm};
+ghost use Rattle.tree_read.specs.Nodes.{used_of, node_keys, node_values, IsNodeForm};
 ghost use Rattle.store_api.specs.Calls.{Refuses};
 ghost use Rattle.tree_make.specs.Makes.{MakesNodes};
 ghost use Rattle.tree_insert.specs.Parts.{MakesParts, put_at};
 
 use crate::parts::{Parts, make_one, put_slot};
 use store_api::{Store, StoreError};
-use tree_images::NODE_WORDS;
+use tree_read::{NODE_WORDS, Spot, used_in};
 use tree_make::set_slot;
-use tree_node::{Spot, used_in};
 
 /// Puts a pair among the slots of a leaf in hand, where its key was sought, and makes it, or two of one that was full.
 pub fn put_pair<const OFFSET_BITS: u32, S: Store<OFFSET_BITS>>(

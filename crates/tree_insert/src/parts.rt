@@ -1,8 +1,8 @@
 ghost use Rattle.std.specs.Prelude.{◌≡◌, ◌≤◌, ◌<◌, ◌^◌, ◌++◌, ℕ, List, true, length, take, drop, insert, suc, IfOk, IfErr};
 ghost use Rattle.std.specs.List.{AllByRecursion};
-ghost use Rattle.tree_images.specs.Nodes.{level_of, used_of, node_keys, node_values, IsNodeForm};
+ghost use Rattle.tree_read.specs.Nodes.{level_of, used_of, node_keys, node_values, IsNodeForm};
 ghost use Rattle.store_api.specs.Calls.{Refuses};
-ghost use Rattle.tree_node.specs.Slots.{slot_pairs, IsInHand};
+ghost use Rattle.tree_read.specs.Slots.{slot_pairs, IsInHand};
 ghost use Rattle.tree_make.specs.Makes.{MakesNodes};
 ghost use Rattle.tree_make.specs.Words.{AreWords};
 ghost use Rattle.tree_insert.specs.Parts.{MakesParts, part_keys, part_nodes, parts_count};
@@ -11,9 +11,8 @@ use arrayvec::ArrayVec;
 use entry_ref::EntryRef;
 use arena_api::Frozen;
 use store_api::{Store, StoreError};
-use tree_images::{MOST_SLOTS, NODE_WORDS};
+use tree_read::{MOST_SLOTS, NODE_WORDS, Slots, append, slots_of, used_in};
 use tree_make::{Part, add_slot, make_part, make_words, set_slot};
-use tree_node::{Slots, append, slots_of, used_in};
 
 /// What is made in place of a node: one node, or two.
 #[derive(Clone, Copy, Debug, Drop)]

@@ -1,8 +1,8 @@
 ghost use Rattle.std.specs.Prelude.{◌≡◌, ◌≤◌, ◌<◌, ◌+◌, ◌*◌, ◌^◌, ◌∷◌, [], true, length, IfOk, IfErr, OnErr};
 ghost use Rattle.std.specs.List.{flat_map};
-ghost use Rattle.tree_images.specs.Trees.{pairs_below, tree_pairs, IsTree, Keeps, root_least};
-ghost use Rattle.key_order.specs.Keys.{seen_by, AllReadable, KeepsOthers, IsKeyedTree, IsKeyWord};
-ghost use Rattle.key_order.specs.Pairs.{put};
+ghost use Rattle.tree_read.specs.Trees.{pairs_below, tree_pairs, IsTree, Keeps, root_least};
+ghost use Rattle.tree_read.specs.Keys.{seen_by, AllReadable, KeepsOthers, IsKeyedTree, IsKeyWord};
+ghost use Rattle.tree_read.specs.Pairs.{put};
 ghost use Rattle.store_api.specs.Calls.{Refuses};
 ghost use Rattle.store_api.specs.Parts.{Owns, Turns};
 ghost use Rattle.store_api.specs.Units.{MayDo};
@@ -14,11 +14,9 @@ use crate::below::insert_below;
 use crate::parts::Parts;
 use arrayvec::ArrayVec;
 use entry_ref::EntryRef;
-use key_order::KeyOrder;
+use tree_read::{KeyOrder, NODE_WORDS, Slots};
 use store_api::{Store, StoreError};
-use tree_images::NODE_WORDS;
 use tree_make::{drop_nodes, make_leaf, make_part};
-use tree_node::Slots;
 
 /// The root over parts of a level: one part alone, or a node of the next level with both.
 fn root_over<const OFFSET_BITS: u32, S: Store<OFFSET_BITS>>(

@@ -3,8 +3,8 @@ use Rattle.std.proofs.Common.{◌≡◌, ◌↔◌, ℕ, zero, suc, ◌<◌, Lis
 use Rattle.std.specs.declared.cmp.Ordering.{Ordering}
 use Rattle.std.specs.List.{AllByRecursion}
 use Rattle.entry_ref.specs.Records.{Records, SameAt}
-use Rattle.key_order.specs.Keys.{AllReadable, NoneReadsNodes, Ascends, KeepsOthers, IsKeyedTree}
-use Rattle.key_order.proofs.KeyLemmas.{keyed-from}
+use Rattle.tree_read.specs.Keys.{AllReadable, NoneReadsNodes, Ascends, KeepsOthers, IsKeyedTree}
+use Rattle.tree_read.proofs.OrderKeyLemmas.{keyed-from}
 use Rattle.store_api.specs.Statuses.{has_record}
 use Rattle.store_api.specs.Ledgers.{Ledger}
 use Rattle.store_api.specs.Units.{MayDo}
@@ -13,9 +13,9 @@ use Rattle.store_api.proofs.May.{may_do-then}
 use Rattle.store_api.proofs.PartLemmas.{after, owns-then, owns-some, turns-then}
 use Rattle.store_api.proofs.Times.{all_at_times}
 use Rattle.store_api.proofs.Uses.{in-uses, used_has}
-use Rattle.tree_images.specs.ProofsForTrees.{tree_pairs-same, IsRootNode-same}
-use Rattle.tree_images.specs.Trees.{root_level, root_least, tree_pairs, tree_nodes, IsRootNode}
-use Rattle.tree_node.proofs.Bounds.{nodes_wide}
+use Rattle.tree_read.specs.ProofsForTrees.{tree_pairs-same, IsRootNode-same}
+use Rattle.tree_read.specs.Trees.{root_level, root_least, tree_pairs, tree_nodes, IsRootNode}
+use Rattle.tree_read.proofs.Bounds.{nodes_wide}
 use Rattle.tree_make.specs.Changes.{DropsEntries, Rebuilds, tree}
 use Rattle.tree_make.specs.Makes.{CountsNodes, MakesNodes}
 use Rattle.tree_make.proofs.MakesLemmas.{counts-then}

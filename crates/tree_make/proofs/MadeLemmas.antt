@@ -3,9 +3,9 @@ use Rattle.std.proofs.Common.{◌^◌, ◌≡◌, ◌≢◌, ℕ, zero, suc, ◌
 use Rattle.std.proofs.lemmas.Bool.{eq-eqb, ne_eqb}
 use Rattle.std.specs.List.{zip, flat_map, AllByRecursion}
 use Rattle.entry_ref.specs.Records.{Records, with_words}
-use Rattle.tree_images.specs.Nodes.{count_of, node_keys, node_values, node_words, IsNodeForm}
-use Rattle.tree_images.specs.Trees.{pairs_below, nodes_below, last_key, IsNode, Keeps}
-use Rattle.tree_images.proofs.NodeLemmas.{node_keys-words, node_values-words, node_formed}
+use Rattle.tree_read.specs.Nodes.{count_of, node_keys, node_values, node_words, IsNodeForm}
+use Rattle.tree_read.specs.Trees.{pairs_below, nodes_below, last_key, IsNode, Keeps}
+use Rattle.tree_read.proofs.NodeLemmas.{node_keys-words, node_values-words, node_formed}
 use Rattle.std.proofs.Math.Nat.{pos_of_div-pos}
 use Rattle.std.proofs.lemmas.List.{append-nil}
 use Rattle.list_facts.proofs.Each.{AllByRecursion-weaker}
@@ -20,8 +20,8 @@ use Rattle.tree_make.proofs.MakesLemmas.{makes-more}
 use Rattle.store_api.proofs.UnitLemmas.{back-uses, back-counts, makes-turns, makes-here, makes-elsewhere}
 use Rattle.std.specs.Prelude.{IfOk, OnErr}
 use Rattle.tree_make.specs.Makes.{MakesNodes, MakesNode}
-use Rattle.tree_node.specs.Slots.{slot_pairs, slot_nodes, HaveChildren, IsInHand}
-use Rattle.tree_node.proofs.SlotLemmas.{all_pairs-kept, all_nodes-kept, last_keys-kept, node-kept}
+use Rattle.tree_read.specs.Slots.{slot_pairs, slot_nodes, HaveChildren, IsInHand}
+use Rattle.tree_read.proofs.SlotLemmas.{all_pairs-kept, all_nodes-kept, last_keys-kept, node-kept}
 
 -- new words leave the others
 pub with_words-other : (m : Records) (ref q : ℕ) (ws : List ℕ) → q ≢ ref → with_words m ref ws q ≡ m q

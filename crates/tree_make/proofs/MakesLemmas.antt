@@ -12,7 +12,7 @@ use Rattle.store_api.specs.declared.store.StoreError.TheVariants.{Full, Memory}
 use Rattle.store_api.proofs.Counts.{at_most-none, at_most-then, at_most-more}
 use Rattle.store_api.proofs.May.{may_do-same, may_do-then}
 use Rattle.store_api.proofs.Uses.{uses-in, in-uses}
-use Rattle.tree_images.specs.Trees.{Keeps}
+use Rattle.tree_read.specs.Trees.{Keeps}
 use Rattle.tree_make.specs.Makes.{CountsNodes, MakesNodes}
 
 pub keeps-then : (m n o : Records) → Keeps m n → Keeps n o → Keeps m o

@@ -5,11 +5,11 @@ use Rattle.std.proofs.lemmas.List.{nil_from_length}
 use Rattle.std.specs.List.{zip, AllByRecursion}
 use Rattle.entry_ref.specs.References.{buffer_limit, offset_of}
 use Rattle.entry_ref.specs.Records.{Records}
-use Rattle.tree_images.specs.Trees.{pairs_below, nodes_below, IsNode, root_least}
+use Rattle.tree_read.specs.Trees.{pairs_below, nodes_below, IsNode, root_least}
 use Rattle.store_api.specs.Ledgers.{Ledger}
-use Rattle.tree_node.specs.Slots.{slot_pairs, slot_nodes, IsInHand}
-use Rattle.tree_node.proofs.RootLemmas.{root_least-few, root_node-is, tree_pairs-is, tree_nodes-is}
-use Rattle.tree_node.proofs.SlotLemmas.{slot_pairs-leaf, slot_nodes-leaf, slot_pairs-one, slot_nodes-one, child_nodes}
+use Rattle.tree_read.specs.Slots.{slot_pairs, slot_nodes, IsInHand}
+use Rattle.tree_read.proofs.RootLemmas.{root_least-few, root_node-is, tree_pairs-is, tree_nodes-is}
+use Rattle.tree_read.proofs.SlotLemmas.{slot_pairs-leaf, slot_nodes-leaf, slot_pairs-one, slot_nodes-one, child_nodes}
 use Rattle.tree_make.specs.Makes.{MakesNode, MakesRoot}
 use Rattle.store_api.specs.Parts.{times, uses}
 use Rattle.store_api.proofs.Times.{times-append}

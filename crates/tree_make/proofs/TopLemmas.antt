@@ -2,12 +2,12 @@
 use Rattle.std.proofs.Common.{◌≡◌, ℕ, zero, suc, ◌<◌, ◌≤◌, min, length, refl, sym, ap, subst, ◌∙◌, arith}
 use Rattle.std.specs.declared.cmp.Ordering.{Ordering}
 use Rattle.entry_ref.specs.Records.{Records, SameAt}
-use Rattle.tree_images.proofs.TreeLemmas.{IsNode-form}
-use Rattle.tree_images.specs.Nodes.{level_of, used_of}
-use Rattle.tree_images.specs.ProofsForTrees.{node-same}
-use Rattle.tree_images.specs.Trees.{pairs_below, nodes_below, IsNode, root_level, root_least, tree_pairs, tree_nodes, IsTree}
-use Rattle.tree_node.proofs.ChildLemmas.{IsNode-lower}
-use Rattle.tree_node.proofs.RootLemmas.{root_least-some, tree_pairs-is, tree_nodes-is}
+use Rattle.tree_read.proofs.TreeLemmas.{IsNode-form}
+use Rattle.tree_read.specs.Nodes.{level_of, used_of}
+use Rattle.tree_read.specs.ProofsForTrees.{node-same}
+use Rattle.tree_read.specs.Trees.{pairs_below, nodes_below, IsNode, root_level, root_least, tree_pairs, tree_nodes, IsTree}
+use Rattle.tree_read.proofs.ChildLemmas.{IsNode-lower}
+use Rattle.tree_read.proofs.RootLemmas.{root_least-some, tree_pairs-is, tree_nodes-is}
 use Rattle.tree_make.specs.Changes.{levels}
 
 levels-at : (n : Records) (root : ℕ) → 0 < root → levels n root ≡ suc (root_level n root)

@@ -6,7 +6,7 @@ use Rattle.store_api.specs.Ledgers.{Ledger}
 use Rattle.store_api.specs.Parts.{Owns, Part}
 use Rattle.store_api.proofs.Times.{all_at_times, among-times}
 use Rattle.store_api.proofs.Uses.{in-uses}
-use Rattle.tree_images.specs.Trees.{nodes_below, root_level, tree_nodes, IsRootNode}
+use Rattle.tree_read.specs.Trees.{nodes_below, root_level, tree_nodes, IsRootNode}
 use Rattle.tree_make.specs.Changes.{tree}
 use Rattle.tree_make.proofs.ChangeLemmas.{tree-wide}
 

@@ -6,8 +6,8 @@ use borrow.Rule.Slice.PartMut.{mid_of, put_mid}
 use Rattle.std.proofs.lemmas.Bool.{cases_lt}
 use Rattle.std.proofs.lemmas.List.{ext_get_or, get_or-take, get_or-append_right, get_or_append_left, get_or-replicate, get_or-drop, length-replicate, length-take-le, length-set, take-append-le, take_all, take_at}
 use Rattle.std.proofs.lemmas.List.{take-replicate, drop_at, drop-append-le, append_assoc, take-take, drop-drop, set-append_left, set-append_right, set_split, take-append-drop, drop_all, append-nil}
-use Rattle.tree_images.specs.Nodes.{level_of, used_of, count_of, node_keys, node_values, slot_words, node_words, IsNodeForm}
-use Rattle.tree_images.proofs.NodeLemmas.{node_keys-words, node_values-words, node_formed, length-slot_words}
+use Rattle.tree_read.specs.Nodes.{level_of, used_of, count_of, node_keys, node_values, slot_words, node_words, IsNodeForm}
+use Rattle.tree_read.proofs.NodeLemmas.{node_keys-words, node_values-words, node_formed, length-slot_words}
 use Rattle.tree_make.specs.Words.{AreWords}
 
 -- what is 0 from a place on is what is before, and zeros

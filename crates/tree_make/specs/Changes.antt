@@ -1,8 +1,8 @@
 -- What a change of a tree leaves of a store.
 use Rattle.std.specs.Prelude.{◌≡◌, ℕ, zero, suc, ◌+◌, ◌<◌, ◌≤◌, List, [], ◌∷◌}
 use Rattle.entry_ref.specs.Records.{Records}
-use Rattle.tree_images.specs.ProofsForTrees.{tree_nodes-same}
-use Rattle.tree_images.specs.Trees.{root_level, tree_pairs, tree_nodes, IsRootNode}
+use Rattle.tree_read.specs.ProofsForTrees.{tree_nodes-same}
+use Rattle.tree_read.specs.Trees.{root_level, tree_pairs, tree_nodes, IsRootNode}
 use Rattle.store_api.specs.Ledgers.{Ledger}
 use Rattle.store_api.specs.Units.{MayDo, MakesAtMost}
 use Rattle.store_api.specs.Parts.{Part, times, uses, entries, Turns}

@@ -4,10 +4,10 @@ use Rattle.entry_ref.specs.Records.{Records}
 use Rattle.store_api.specs.Ledgers.{Ledger, capacity}
 use Rattle.store_api.specs.Units.{MayDo, MakesAtMost}
 use Rattle.store_api.specs.Parts.{times, uses}
-use Rattle.tree_images.specs.Trees.{pairs_below, nodes_below, tree_pairs, tree_nodes, last_key, IsNode, IsRootNode, Keeps}
-use Rattle.tree_node.specs.Slots.{slot_pairs, slot_nodes}
+use Rattle.tree_read.specs.Trees.{pairs_below, nodes_below, tree_pairs, tree_nodes, last_key, IsNode, IsRootNode, Keeps}
+use Rattle.tree_read.specs.Slots.{slot_pairs, slot_nodes}
 use Rattle.tree_make.specs.declared.make.Part.{Part}
-use Rattle.tree_images.specs.declared.TheConstants.{NODE_WORDS}
+use Rattle.tree_read.specs.declared.node_format.TheConstants.{NODE_WORDS}
 
 -- of the entries of tree nodes at most so many were made, and of no other width any
 pub record CountsNodes {H : Type 0} (old new : Ledger H) (most : ℕ) : Type 0 where

@@ -1,7 +1,7 @@
 -- The words of a node in hand.
 use Rattle.std.specs.Prelude.{◌≡◌, ℕ, ◌≤◌, List, length}
-use Rattle.tree_images.specs.Nodes.{node_words}
-use Rattle.tree_images.specs.declared.TheConstants.{MOST_SLOTS}
+use Rattle.tree_read.specs.Nodes.{node_words}
+use Rattle.tree_read.specs.declared.node_format.TheConstants.{MOST_SLOTS}
 
 -- these are the words of a node of this level, with this count and these slots
 pub record AreWords (level count : ℕ) (keys values words : List ℕ) : Type 0 where

@@ -1,7 +1,7 @@
 ghost use Rattle.std.specs.Prelude.{◌≡◌, ◌^◌, ◌<◌, ◌≤◌, ◌+◌, ◌∷◌, ◌++◌, ℕ, List, true, length, IfOk, IfErr, OnErr};
-ghost use Rattle.tree_images.specs.Nodes.{slot_words, node_words, used_of};
+ghost use Rattle.tree_read.specs.Nodes.{slot_words, node_words, used_of};
 ghost use Rattle.store_api.specs.Calls.{Refuses};
-ghost use Rattle.tree_node.specs.Slots.{slot_pairs, IsInHand};
+ghost use Rattle.tree_read.specs.Slots.{slot_pairs, IsInHand};
 ghost use Rattle.tree_make.specs.Makes.{MakesNodes, MakesPart};
 ghost use Rattle.tree_make.specs.Words.{AreWords};
 
@@ -9,8 +9,7 @@ use arrayvec::ArrayVec;
 use entry_ref::EntryRef;
 use arena_api::Frozen;
 use store_api::{Store, StoreError};
-use tree_images::{MOST_SLOTS, NODE_WORDS};
-use tree_node::{Slots, append, used_in};
+use tree_read::{MOST_SLOTS, NODE_WORDS, Slots, append, used_in};
 
 /// A node that was made, as the slot of its parent is to hold it: its last key and its reference.
 #[derive(Clone, Copy, Debug, Drop)]

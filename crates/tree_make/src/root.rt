@@ -1,14 +1,13 @@
 ghost use Rattle.std.specs.Prelude.{◌≡◌, ◌^◌, ◌≤◌, ◌<◌, ◌∷◌, [], true, length, IfOk, IfErr};
 ghost use Rattle.store_api.specs.Calls.{Refuses};
 ghost use Rattle.tree_make.specs.Makes.{MakesNodes, MakesNode, MakesRoot};
-ghost use Rattle.tree_node.specs.Slots.{slot_pairs, IsInHand};
+ghost use Rattle.tree_read.specs.Slots.{slot_pairs, IsInHand};
 
 use crate::make::make_part;
 use arrayvec::ArrayVec;
 use entry_ref::EntryRef;
 use store_api::{Store, StoreError};
-use tree_images::{MOST_SLOTS, NODE_WORDS};
-use tree_node::Slots;
+use tree_read::{MOST_SLOTS, NODE_WORDS, Slots};
 
 /// Makes a leaf of one pair.
 pub fn make_leaf<const OFFSET_BITS: u32, S: Store<OFFSET_BITS>>(

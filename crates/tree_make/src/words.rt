@@ -1,7 +1,7 @@
 ghost use Rattle.std.specs.Prelude.{◌≡◌, ◌<◌, ◌≤◌, ◌+◌, ◌-◌, ◌^◌, ◌++◌, ◌∷◌, ℕ, List, length, take, drop, insert, suc, slice_index};
 ghost use Rattle.tree_make.specs.Words.{AreWords};
 
-use tree_images::{FIRST_KEY, FIRST_VALUE, MOST_SLOTS, NODE_WORDS};
+use tree_read::{FIRST_KEY, FIRST_VALUE, MOST_SLOTS, NODE_WORDS};
 
 /// Sets the words of a slot, and the count of pairs.
 pub fn set_slot(words: &mut [u64; NODE_WORDS], pairs: u64, slot: usize, key: u64, value: u64)

@@ -4,13 +4,13 @@ use Rattle.std.proofs.lemmas.List.{append-nil, take_more, drop_more}
 use Rattle.std.proofs.lemmas.Grind.{flat_map-append}
 use Rattle.std.specs.List.{flat_map}
 use Rattle.entry_ref.specs.Records.{Records}
-use Rattle.tree_images.specs.Trees.{pairs_below, nodes_below, Keeps}
+use Rattle.tree_read.specs.Trees.{pairs_below, nodes_below, Keeps}
 use Rattle.store_api.specs.Ledgers.{Ledger}
 use Rattle.store_api.proofs.Times.{times-append}
 use Rattle.store_api.specs.Parts.{times, uses}
-use Rattle.tree_node.proofs.SlotLemmas.{slot_pairs-append, slot_nodes-append, slot_pairs-inner, slot_nodes-inner, hand-append, hand-kept, slot_pairs-kept, slot_nodes-kept, hand-take, hand-drop}
+use Rattle.tree_read.proofs.SlotLemmas.{slot_pairs-append, slot_nodes-append, slot_pairs-inner, slot_nodes-inner, hand-append, hand-kept, slot_pairs-kept, slot_nodes-kept, hand-take, hand-drop}
 use Rattle.tree_make.specs.Makes.{MakesNodes}
-use Rattle.tree_node.specs.Slots.{slot_pairs, slot_nodes, IsInHand}
+use Rattle.tree_read.specs.Slots.{slot_pairs, slot_nodes, IsInHand}
 use Rattle.tree_remove.specs.Removes.{PutsBack, spliced}
 use Rattle.tree_remove.specs.Settles.{SettlesSlots}
 

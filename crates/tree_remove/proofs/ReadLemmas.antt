@@ -1,15 +1,15 @@
 -- Nodes that were read as slots.
 use Rattle.std.proofs.Common.{◌≡◌, ℕ, ◌-◌, ◌<◌, List, length, get_or, sym, subst, ◌∙◌, arith}
 use Rattle.entry_ref.specs.Records.{Records}
-use Rattle.tree_images.proofs.TreeLemmas.{IsNode-form}
-use Rattle.tree_images.specs.Nodes.{level_of, node_keys, node_values}
-use Rattle.tree_images.specs.Trees.{IsNode}
-use Rattle.tree_node.proofs.SlotLemmas.{hand-node, pairs-slots, nodes-slots}
-use Rattle.tree_node.proofs.CountLemmas.{child_at}
-use Rattle.tree_node.specs.Slots.{IsInHand}
+use Rattle.tree_read.proofs.TreeLemmas.{IsNode-form}
+use Rattle.tree_read.specs.Nodes.{level_of, node_keys, node_values}
+use Rattle.tree_read.specs.Trees.{IsNode}
+use Rattle.tree_read.proofs.SlotLemmas.{hand-node, pairs-slots, nodes-slots}
+use Rattle.tree_read.proofs.CountLemmas.{child_at}
+use Rattle.tree_read.specs.Slots.{IsInHand}
 use Rattle.tree_remove.specs.Removes.{IsChild}
-use Rattle.tree_node.proofs.ReadLemmas.{node-room, node-level, node-even}
-use Rattle.tree_node.proofs.ChildLemmas.{keys-length}
+use Rattle.tree_read.proofs.ReadLemmas.{node-room, node-level, node-even}
+use Rattle.tree_read.proofs.ChildLemmas.{keys-length}
 
 -- at the level and with the slots that were read
 pub child-read : (m : Records) (level ref : ℕ) → IsNode m 8 level ref → (level_is : ℕ) (keys values : List ℕ)

@@ -4,17 +4,17 @@ use Rattle.std.specs.Prelude.{IsSome}
 use Rattle.std.specs.List.{zip, flat_map}
 use Rattle.std.specs.declared.cmp.Ordering.{Ordering}
 use Rattle.entry_ref.specs.Records.{Records}
-use Rattle.tree_images.proofs.TreeLemmas.{IsNode-form}
-use Rattle.tree_images.specs.Nodes.{used_of, node_values}
-use Rattle.tree_images.specs.Trees.{pairs_below, nodes_below, Keeps}
-use Rattle.key_order.proofs.PairLemmas.{children-cut, length-take_out}
-use Rattle.key_order.specs.Pairs.{lookup, take_out}
+use Rattle.tree_read.proofs.TreeLemmas.{IsNode-form}
+use Rattle.tree_read.specs.Nodes.{used_of, node_values}
+use Rattle.tree_read.specs.Trees.{pairs_below, nodes_below, Keeps}
+use Rattle.tree_read.proofs.PairLemmas.{children-cut, length-take_out}
+use Rattle.tree_read.specs.Pairs.{lookup, take_out}
 use Rattle.store_api.specs.Ledgers.{Ledger}
 use Rattle.store_api.proofs.Times.{times-append}
 use Rattle.store_api.specs.Parts.{times}
-use Rattle.tree_node.proofs.SlotLemmas.{nodes-slots, slot_pairs-leaf, slot_nodes-leaf, slot_nodes-inner, slot_pairs-kept, slot_nodes-kept, hand-leaf, hand-kept, hand-take, hand-drop}
+use Rattle.tree_read.proofs.SlotLemmas.{nodes-slots, slot_pairs-leaf, slot_nodes-leaf, slot_nodes-inner, slot_pairs-kept, slot_nodes-kept, hand-leaf, hand-kept, hand-take, hand-drop}
 use Rattle.tree_make.proofs.MakesLemmas.{makes-none, makes-then}
-use Rattle.tree_node.specs.Slots.{slot_pairs, slot_nodes, IsInHand}
+use Rattle.tree_read.specs.Slots.{slot_pairs, slot_nodes, IsInHand}
 use Rattle.tree_remove.specs.Removes.{Removes, PutsBack, IsStep, spliced, nodes_beside}
 
 -- a child that has lost no slot is put back alone

@@ -4,11 +4,11 @@ use Rattle.std.proofs.lemmas.Bool.{cases_lt}
 use Rattle.std.specs.List.{remove}
 use Rattle.std.proofs.lemmas.List.{set_split}
 use Rattle.entry_ref.specs.Records.{Records}
-use Rattle.tree_images.specs.Trees.{pairs_below, last_key, Keeps}
+use Rattle.tree_read.specs.Trees.{pairs_below, last_key, Keeps}
 use Rattle.store_api.specs.Ledgers.{Ledger}
-use Rattle.tree_node.proofs.SlotLemmas.{slot_pairs-append, slot_nodes-append, hand-right, slot_pairs-kept, slot_nodes-kept}
+use Rattle.tree_read.proofs.SlotLemmas.{slot_pairs-append, slot_nodes-append, hand-right, slot_pairs-kept, slot_nodes-kept}
 use Rattle.tree_make.specs.Makes.{MakesNode, MakesPart}
-use Rattle.tree_node.specs.Slots.{slot_pairs, slot_nodes, IsInHand}
+use Rattle.tree_read.specs.Slots.{slot_pairs, slot_nodes, IsInHand}
 use Rattle.tree_make.specs.declared.make.Part.{Part}
 use Rattle.tree_remove.proofs.StandLemmas.{stands-one, stands-two}
 use Rattle.tree_remove.specs.Settles.{MakesSlots, SettlesSlots}

@@ -1,17 +1,17 @@
 -- Nodes made of slots stand for what is below the slots.
 use Rattle.std.proofs.Common.{◌≡◌, ℕ, suc, ◌≤◌, List, [], ◌∷◌, ◌++◌, length, ap, ◌∙◌, arith, length-append}
 use Rattle.entry_ref.specs.Records.{Records}
-use Rattle.tree_images.specs.Trees.{pairs_below, last_key}
+use Rattle.tree_read.specs.Trees.{pairs_below, last_key}
 use Rattle.store_api.specs.Ledgers.{Ledger}
 use Rattle.store_api.proofs.Times.{times-append}
 use Rattle.store_api.specs.Parts.{times}
 use Rattle.tree_make.proofs.MakesLemmas.{makes-then}
-use Rattle.tree_node.proofs.SlotLemmas.{slot_pairs-append, slot_nodes-append, slot_pairs-one, slot_nodes-one, hand-append, hand-one, hand-kept, slot_pairs-kept, slot_nodes-kept}
+use Rattle.tree_read.proofs.SlotLemmas.{slot_pairs-append, slot_nodes-append, slot_pairs-one, slot_nodes-one, hand-append, hand-one, hand-kept, slot_pairs-kept, slot_nodes-kept}
 use Rattle.tree_make.specs.Makes.{MakesNode}
-use Rattle.tree_node.specs.Slots.{slot_pairs, slot_nodes}
+use Rattle.tree_read.specs.Slots.{slot_pairs, slot_nodes}
 use Rattle.tree_remove.specs.Settles.{MakesSlots}
 use Rattle.tree_make.proofs.RootLemmas.{made-balance}
-use Rattle.tree_node.proofs.ChildLemmas.{IsNode-lower}
+use Rattle.tree_read.proofs.ChildLemmas.{IsNode-lower}
 
 module _ {H : Type 0} (old new : Ledger H) (m n : Records) (level : ℕ) (keys values : List ℕ) (ref : ℕ) (makes : MakesNode old new m n level keys values ref) where
   pub stands-one : (key : ℕ) → key ≡ last_key (pairs_below n level ref) → 8 ≤ length keys

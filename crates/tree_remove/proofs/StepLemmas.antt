@@ -9,19 +9,19 @@ use Rattle.std.specs.declared.cmp.Ordering.{Ordering}
 use Rattle.std.specs.declared.cmp.Ordering.TheVariants.{Less, Equal, Greater}
 use Rattle.list_facts.proofs.Each.{AllByRecursion-at}
 use Rattle.entry_ref.specs.Records.{Records}
-use Rattle.tree_images.proofs.TreeLemmas.{IsNode-form, IsNode-count}
-use Rattle.tree_node.proofs.ReadLemmas.{node-even}
-use Rattle.tree_node.proofs.ChildLemmas.{keys-length, pairs-some}
-use Rattle.tree_images.specs.Nodes.{node_keys, node_values}
-use Rattle.tree_images.specs.Trees.{pairs_below, last_key, IsNode}
-use Rattle.key_order.proofs.OrderLemmas.{ascends-child, children-below}
-use Rattle.key_order.proofs.PairLemmas.{All-child, children-cut, lookup-skip, lookup-stop, lookup-below, take_out-skip, take_out-stop}
-use Rattle.key_order.specs.Keys.{seen_by, Ascends, AllBelow}
-use Rattle.key_order.specs.Pairs.{lookup, take_out, choose}
-use Rattle.tree_node.proofs.KeyLemmas.{key_last}
-use Rattle.tree_node.proofs.SlotLemmas.{hand-node, pairs-slots, nodes-slots, child_nodes, slot_pairs-inner}
-use Rattle.tree_node.specs.Places.{IsSlot}
-use Rattle.tree_node.specs.Slots.{slot_pairs, slot_nodes, IsInHand}
+use Rattle.tree_read.proofs.TreeLemmas.{IsNode-form, IsNode-count}
+use Rattle.tree_read.proofs.ReadLemmas.{node-even}
+use Rattle.tree_read.proofs.ChildLemmas.{keys-length, pairs-some}
+use Rattle.tree_read.specs.Nodes.{node_keys, node_values}
+use Rattle.tree_read.specs.Trees.{pairs_below, last_key, IsNode}
+use Rattle.tree_read.proofs.OrderLemmas.{ascends-child, children-below}
+use Rattle.tree_read.proofs.PairLemmas.{All-child, children-cut, lookup-skip, lookup-stop, lookup-below, take_out-skip, take_out-stop}
+use Rattle.tree_read.specs.Keys.{seen_by, Ascends, AllBelow}
+use Rattle.tree_read.specs.Pairs.{lookup, take_out, choose}
+use Rattle.tree_read.proofs.NodeKeyLemmas.{key_last}
+use Rattle.tree_read.proofs.SlotLemmas.{hand-node, pairs-slots, nodes-slots, child_nodes, slot_pairs-inner}
+use Rattle.tree_read.specs.NodePlaces.{IsSlot}
+use Rattle.tree_read.specs.Slots.{slot_pairs, slot_nodes, IsInHand}
 use Rattle.tree_remove.specs.Removes.{spliced, IsStep}
 
 none_some : (c : ℕ → Ordering) → IsSome (lookup c []) → ⊥

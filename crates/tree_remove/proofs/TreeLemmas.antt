@@ -3,15 +3,15 @@ use Rattle.std.proofs.Common.{◌≡◌, ℕ, ◌<◌, ◌≤◌, List, [], leng
 use Rattle.std.specs.Prelude.{IsSome}
 use Rattle.std.specs.declared.cmp.Ordering.{Ordering}
 use Rattle.entry_ref.specs.Records.{Records}
-use Rattle.tree_images.proofs.TreeLemmas.{root_least-above, IsNode-form, IsNode-count}
-use Rattle.tree_images.specs.Trees.{pairs_below, IsNode, root_level, root_least, tree_pairs, IsTree}
-use Rattle.key_order.proofs.PairLemmas.{length-take_out}
-use Rattle.key_order.specs.Pairs.{lookup, take_out}
+use Rattle.tree_read.proofs.TreeLemmas.{root_least-above, IsNode-form, IsNode-count}
+use Rattle.tree_read.specs.Trees.{pairs_below, IsNode, root_level, root_least, tree_pairs, IsTree}
+use Rattle.tree_read.proofs.PairLemmas.{length-take_out}
+use Rattle.tree_read.specs.Pairs.{lookup, take_out}
 use Rattle.store_api.specs.Ledgers.{Ledger}
 use Rattle.store_api.specs.Parts.{times}
 use Rattle.tree_make.specs.Changes.{Rebuilds}
 use Rattle.tree_make.specs.Makes.{MakesRoot}
-use Rattle.tree_node.specs.Slots.{slot_pairs}
+use Rattle.tree_read.specs.Slots.{slot_pairs}
 use Rattle.tree_make.proofs.TopLemmas.{root-node, root-pairs, root-nodes}
 use Rattle.tree_remove.specs.Removes.{Removes}
 

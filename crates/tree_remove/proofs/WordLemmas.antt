@@ -5,8 +5,8 @@ use Rattle.std.proofs.lemmas.List.Edits.{length-remove}
 use Rattle.std.specs.List.{remove}
 use borrow.Rule.Slice.PartMut.{mid_of, put_mid}
 use Rattle.std.proofs.lemmas.List.{length-take-le, take-append-le, take_all, take_at, drop_at, drop-append-le, append_assoc, set-append_right, drop_all, append-nil}
-use Rattle.tree_images.proofs.NodeLemmas.{length-slot_words}
-use Rattle.tree_images.specs.Nodes.{node_keys, node_values, slot_words}
+use Rattle.tree_read.proofs.NodeLemmas.{length-slot_words}
+use Rattle.tree_read.specs.Nodes.{node_keys, node_values, slot_words}
 use Rattle.tree_make.specs.Words.{AreWords}
 use Rattle.tree_make.proofs.WordLemmas.{words-head, words-keys, words-values}
 

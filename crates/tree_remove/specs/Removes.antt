@@ -2,14 +2,14 @@
 use Rattle.std.specs.Prelude.{◌≡◌, ◌^◌, ℕ, suc, ◌+◌, ◌*◌, ◌<◌, ◌≤◌, List, ◌∷◌, ◌++◌, length, take, drop, slice_index, IsSome}
 use Rattle.std.specs.declared.cmp.Ordering.{Ordering}
 use Rattle.entry_ref.specs.Records.{Records}
-use Rattle.tree_images.specs.Nodes.{used_of}
-use Rattle.tree_images.specs.Trees.{pairs_below, nodes_below, IsNode}
-use Rattle.key_order.specs.Pairs.{lookup, take_out}
+use Rattle.tree_read.specs.Nodes.{used_of}
+use Rattle.tree_read.specs.Trees.{pairs_below, nodes_below, IsNode}
+use Rattle.tree_read.specs.Pairs.{lookup, take_out}
 use Rattle.store_api.specs.Ledgers.{Ledger}
 use Rattle.store_api.specs.Parts.{times, uses}
 use Rattle.tree_make.specs.Makes.{MakesNodes}
-use Rattle.tree_node.specs.Slots.{slot_pairs, slot_nodes, IsInHand}
-use Rattle.tree_images.specs.declared.TheConstants.{MOST_SLOTS, LEAST_SLOTS}
+use Rattle.tree_read.specs.Slots.{slot_pairs, slot_nodes, IsInHand}
+use Rattle.tree_read.specs.declared.node_format.TheConstants.{MOST_SLOTS, LEAST_SLOTS}
 
 -- the pairs below slots, with these in place of those of one child
 abbrev pub spliced : Records → ℕ → ℕ → List ℕ → List ℕ → List (ℕ × ℕ) → List (ℕ × ℕ)

@@ -4,7 +4,7 @@ use Rattle.entry_ref.specs.Records.{Records}
 use Rattle.store_api.specs.Ledgers.{Ledger}
 use Rattle.store_api.specs.Parts.{times, uses}
 use Rattle.tree_make.specs.Makes.{MakesNodes}
-use Rattle.tree_node.specs.Slots.{slot_pairs, slot_nodes, IsInHand}
+use Rattle.tree_read.specs.Slots.{slot_pairs, slot_nodes, IsInHand}
 
 -- nodes of a level were made, under these slots: the pairs below them are these, the nodes below them these and what is newly in use
 pub record MakesSlots {H : Type 0} (old new : Ledger H) (m n : Records) (level : ℕ) (pairs : List (ℕ × ℕ))

@@ -1,13 +1,13 @@
 ghost use Rattle.std.specs.Prelude.{◌≡◌, ◌≤◌, ◌<◌, ◌+◌, ◌-◌, ◌*◌, true, length, suc, IsSome, OnOk, OnErr, IfErr};
 ghost use Rattle.std.specs.List.{zip};
-ghost use Rattle.tree_images.specs.Nodes.{level_of, used_of, node_keys, node_values};
-ghost use Rattle.tree_images.specs.Trees.{pairs_below, IsNode, root_least};
-ghost use Rattle.key_order.specs.Keys.{seen_by, Ascends, AllReadable};
-ghost use Rattle.key_order.specs.Pairs.{lookup, take_out};
+ghost use Rattle.tree_read.specs.Nodes.{level_of, used_of, node_keys, node_values};
+ghost use Rattle.tree_read.specs.Trees.{pairs_below, IsNode, root_least};
+ghost use Rattle.tree_read.specs.Keys.{seen_by, Ascends, AllReadable};
+ghost use Rattle.tree_read.specs.Pairs.{lookup, take_out};
 ghost use Rattle.store_api.specs.Calls.{Refuses};
 ghost use Rattle.tree_make.specs.Makes.{MakesNodes};
 ghost use Rattle.tree_make.specs.Words.{AreWords};
-ghost use Rattle.tree_node.specs.Slots.{slot_pairs};
+ghost use Rattle.tree_read.specs.Slots.{slot_pairs};
 ghost use Rattle.tree_remove.specs.Removes.{IsStep, Removes};
 
 use crate::parent::put_child;
@@ -15,10 +15,8 @@ use crate::words::take_slot;
 use arrayvec::ArrayVec;
 use entry_ref::EntryRef;
 use arena_api::Frozen;
-use key_order::KeyOrder;
+use tree_read::{FIRST_VALUE, KeyOrder, NODE_WORDS, visit};
 use store_api::{Store, StoreError};
-use tree_images::{FIRST_VALUE, NODE_WORDS};
-use tree_node::visit;
 
 /// The child of a node above the leaves under which a key is.
 #[derive(Clone, Copy, Drop)]

@@ -1,13 +1,12 @@
 ghost use Rattle.std.specs.Prelude.{◌≡◌, ◌^◌, ◌≤◌, ◌<◌, ◌+◌, ◌++◌, true, length, slice_set, suc, OnOk, OnErr, IfErr};
 ghost use Rattle.store_api.specs.Calls.{Refuses};
 ghost use Rattle.tree_make.specs.Makes.{MakesNodes};
-ghost use Rattle.tree_node.specs.Slots.{slot_pairs, slot_nodes, IsInHand};
+ghost use Rattle.tree_read.specs.Slots.{slot_pairs, slot_nodes, IsInHand};
 ghost use Rattle.tree_remove.specs.Settles.{SettlesSlots};
 
 use store_api::{Store, StoreError};
-use tree_images::{LEAST_SLOTS, MOST_SLOTS, NODE_WORDS};
+use tree_read::{LEAST_SLOTS, MOST_SLOTS, NODE_WORDS, Slots, append};
 use tree_make::{Part, make_part};
-use tree_node::{Slots, append};
 
 /// Appends the slots of the right neighbour.
 fn join(left: &mut Slots, right: &Slots)

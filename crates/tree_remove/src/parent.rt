@@ -1,9 +1,9 @@
 ghost use Rattle.std.specs.Prelude.{◌≡◌, ◌^◌, ◌≤◌, ◌<◌, ◌++◌, ◌∷◌, [], true, length, slice_index, suc, OnOk, OnErr, IfErr};
-ghost use Rattle.tree_images.specs.Nodes.{level_of, count_of, node_keys, node_values, IsNodeForm};
+ghost use Rattle.tree_read.specs.Nodes.{level_of, count_of, node_keys, node_values, IsNodeForm};
 ghost use Rattle.store_api.specs.Calls.{Refuses};
 ghost use Rattle.tree_make.specs.Makes.{MakesNodes};
 ghost use Rattle.tree_make.specs.Words.{AreWords};
-ghost use Rattle.tree_node.specs.Slots.{slot_pairs, IsInHand};
+ghost use Rattle.tree_read.specs.Slots.{slot_pairs, IsInHand};
 ghost use Rattle.tree_remove.specs.Removes.{IsChild, PutsBack, spliced};
 
 use crate::neighbours::make_neighbours;
@@ -12,9 +12,8 @@ use arrayvec::ArrayVec;
 use entry_ref::EntryRef;
 use arena_api::Frozen;
 use store_api::{Store, StoreError};
-use tree_images::{LEAST_SLOTS, MOST_SLOTS, NODE_WORDS};
+use tree_read::{LEAST_SLOTS, MOST_SLOTS, NODE_WORDS, Slots, read_node, slots_of, used_in};
 use tree_make::{make_words, set_slot};
-use tree_node::{Slots, read_node, slots_of, used_in};
 
 /// Reads a child of a node in hand, and adds it to the nodes that are replaced.
 fn read_child<const OFFSET_BITS: u32, F: Frozen<OFFSET_BITS>>(

@@ -1,24 +1,22 @@
 ghost use Rattle.std.specs.Prelude.{◌≡◌, ◌<◌, ◌≤◌, ◌+◌, ◌^◌, ◌∷◌, [], true, length, IsSome, IfOk, IfErr, OnErr};
-ghost use Rattle.tree_images.specs.Nodes.{level_of, node_keys, node_values};
-ghost use Rattle.tree_images.specs.Trees.{tree_pairs, IsTree, Keeps};
-ghost use Rattle.key_order.specs.Keys.{seen_by, AllReadable, KeepsOthers, IsKeyedTree};
-ghost use Rattle.key_order.specs.Pairs.{lookup, take_out};
+ghost use Rattle.tree_read.specs.Nodes.{level_of, node_keys, node_values};
+ghost use Rattle.tree_read.specs.Trees.{tree_pairs, IsTree, Keeps};
+ghost use Rattle.tree_read.specs.Keys.{seen_by, AllReadable, KeepsOthers, IsKeyedTree};
+ghost use Rattle.tree_read.specs.Pairs.{lookup, take_out};
 ghost use Rattle.store_api.specs.Calls.{Refuses};
 ghost use Rattle.store_api.specs.Parts.{Owns, Turns};
 ghost use Rattle.store_api.specs.Units.{MayDo};
 ghost use Rattle.tree_make.specs.Changes.{Rebuilds, levels, tree};
 ghost use Rattle.tree_make.specs.Makes.{CountsNodes, MakesNodes, MakesRoot};
 ghost use Rattle.tree_make.specs.Words.{AreWords};
-ghost use Rattle.tree_node.specs.Slots.{slot_pairs, IsInHand};
+ghost use Rattle.tree_read.specs.Slots.{slot_pairs, IsInHand};
 
 use crate::below::remove_below;
 use arrayvec::ArrayVec;
 use entry_ref::EntryRef;
-use key_order::KeyOrder;
+use tree_read::{KeyOrder, NODE_WORDS, slots_of, used_in};
 use store_api::{Store, StoreError};
-use tree_images::NODE_WORDS;
 use tree_make::{drop_nodes, make_root, make_words};
-use tree_node::{slots_of, used_in};
 
 /// The root of words in hand: none where no slot is left, and above the leaves the child of a single one.
 fn make_top<const OFFSET_BITS: u32, S: Store<OFFSET_BITS>>(

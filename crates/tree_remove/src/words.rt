@@ -1,10 +1,9 @@
 ghost use Rattle.std.specs.Prelude.{◌≡◌, ◌<◌, ◌≤◌, ◌++◌, ◌∷◌, [], ℕ, List, length, take, drop, suc, slice_index};
 ghost use Rattle.std.specs.List.{remove};
-ghost use Rattle.tree_images.specs.Nodes.{slot_words};
+ghost use Rattle.tree_read.specs.Nodes.{slot_words};
 ghost use Rattle.tree_make.specs.Words.{AreWords};
 
-use tree_images::{FIRST_KEY, MOST_SLOTS, NODE_WORDS};
-use tree_node::Slots;
+use tree_read::{FIRST_KEY, MOST_SLOTS, NODE_WORDS, Slots};
 
 /// Takes one of 16 words out, for which a zero stands at the end.
 fn take_between(words: &mut [u64], slot: usize)

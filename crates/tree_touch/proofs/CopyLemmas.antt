@@ -8,13 +8,13 @@ use Rattle.list_facts.proofs.Each.{AllByRecursion-at, AllByRecursion-weaker}
 use Rattle.entry_ref.specs.Records.{Records}
 use Rattle.store_api.specs.Parts.{times}
 use Rattle.store_api.proofs.Times.{times-append}
-use Rattle.tree_images.specs.Nodes.{count_of, used_of, node_keys, node_values, IsNodeForm}
-use Rattle.tree_images.specs.Trees.{pairs_below, nodes_below, last_key, IsNode, Keeps}
-use Rattle.tree_images.proofs.TreeLemmas.{IsNode-form}
-use Rattle.tree_node.proofs.ReadLemmas.{node-even, inner-pairs, inner-nodes}
-use Rattle.tree_node.proofs.ChildLemmas.{IsNode-lower, keys-length}
-use Rattle.tree_node.proofs.SlotLemmas.{pairs-kept, nodes_below-kept, node-kept, all_pairs-kept, all_nodes-kept, last_keys-kept}
-use Rattle.tree_node.specs.Places.{IsPlace}
+use Rattle.tree_read.specs.Nodes.{count_of, used_of, node_keys, node_values, IsNodeForm}
+use Rattle.tree_read.specs.Trees.{pairs_below, nodes_below, last_key, IsNode, Keeps}
+use Rattle.tree_read.proofs.TreeLemmas.{IsNode-form}
+use Rattle.tree_read.proofs.ReadLemmas.{node-even, inner-pairs, inner-nodes}
+use Rattle.tree_read.proofs.ChildLemmas.{IsNode-lower, keys-length}
+use Rattle.tree_read.proofs.SlotLemmas.{pairs-kept, nodes_below-kept, node-kept, all_pairs-kept, all_nodes-kept, last_keys-kept}
+use Rattle.tree_read.specs.NodePlaces.{IsPlace}
 use Rattle.tree_touch.specs.Paths.{child_of, path_below}
 use Rattle.tree_touch.proofs.PathLemmas.{child-place, path-over, path-kept}
 

@@ -4,15 +4,15 @@ use Rattle.std.specs.declared.cmp.Ordering.{Ordering}
 use Rattle.std.specs.declared.cmp.Ordering.TheVariants.{Less, Equal, Greater}
 use Rattle.std.specs.List.{AllByRecursion}
 use Rattle.entry_ref.specs.Records.{Records, SameAt}
-use Rattle.key_order.specs.Pairs.{choose}
-use Rattle.tree_images.proofs.TreeLemmas.{nodes-kept}
-use Rattle.tree_images.specs.Nodes.{node_keys, node_values}
-use Rattle.tree_images.specs.ProofsForTrees.{all-same}
-use Rattle.tree_images.specs.Trees.{nodes_below, root_level, IsNode, Keeps}
-use Rattle.tree_node.proofs.ChildLemmas.{keys-length}
-use Rattle.tree_node.proofs.ReadLemmas.{node-even}
-use Rattle.tree_node.proofs.RootLemmas.{root_level-is}
-use Rattle.tree_node.specs.Places.{IsPlace}
+use Rattle.tree_read.specs.Pairs.{choose}
+use Rattle.tree_read.proofs.TreeLemmas.{nodes-kept}
+use Rattle.tree_read.specs.Nodes.{node_keys, node_values}
+use Rattle.tree_read.specs.ProofsForTrees.{all-same}
+use Rattle.tree_read.specs.Trees.{nodes_below, root_level, IsNode, Keeps}
+use Rattle.tree_read.proofs.ChildLemmas.{keys-length}
+use Rattle.tree_read.proofs.ReadLemmas.{node-even}
+use Rattle.tree_read.proofs.RootLemmas.{root_level-is}
+use Rattle.tree_read.specs.NodePlaces.{IsPlace}
 use Rattle.tree_touch.specs.Paths.{child_of, path_below, path_nodes}
 
 stops : (o : Ordering) (a v : ℕ) → o ≢ Less → choose o a v v ≡ v

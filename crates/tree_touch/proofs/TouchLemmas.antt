@@ -13,11 +13,11 @@ use Rattle.store_api.specs.Units.{MayDo}
 use Rattle.store_api.specs.declared.store.StoreError.{StoreError}
 use Rattle.store_api.proofs.Times.{times-append}
 use Rattle.store_api.proofs.UnitLemmas.{made-record, makes-turns}
-use Rattle.tree_images.specs.Nodes.{used_of, count_of, node_keys, node_values, IsNodeForm}
-use Rattle.tree_images.specs.Trees.{pairs_below, nodes_below, IsNode, Keeps}
-use Rattle.tree_images.proofs.TreeLemmas.{IsNode-form, leaf_pairs}
-use Rattle.tree_node.proofs.SlotLemmas.{pairs-kept, nodes_below-kept, node-kept, nodes-slots, slot_nodes-leaf}
-use Rattle.tree_node.specs.Places.{IsPlace}
+use Rattle.tree_read.specs.Nodes.{used_of, count_of, node_keys, node_values, IsNodeForm}
+use Rattle.tree_read.specs.Trees.{pairs_below, nodes_below, IsNode, Keeps}
+use Rattle.tree_read.proofs.TreeLemmas.{IsNode-form, leaf_pairs}
+use Rattle.tree_read.proofs.SlotLemmas.{pairs-kept, nodes_below-kept, node-kept, nodes-slots, slot_nodes-leaf}
+use Rattle.tree_read.specs.NodePlaces.{IsPlace}
 use Rattle.tree_make.proofs.MadeLemmas.{makes-any}
 use Rattle.tree_make.proofs.MakesLemmas.{keeps-then}
 use Rattle.tree_touch.specs.Paths.{NoneIn, path_below}

@@ -7,10 +7,10 @@ use Rattle.store_api.specs.Parts.{times, Owns}
 use Rattle.store_api.proofs.PartLemmas.{same_at}
 use Rattle.store_api.proofs.Times.{all_from_times}
 use Rattle.store_api.proofs.Uses.{uses-few}
-use Rattle.tree_images.specs.Nodes.{used_of}
-use Rattle.tree_images.specs.Trees.{root_level, root_least, tree_pairs, tree_nodes, IsRootNode, IsTree}
-use Rattle.tree_images.specs.ProofsForTrees.{node-same}
-use Rattle.tree_node.proofs.RootLemmas.{root_least-some, tree_pairs-is, tree_nodes-is, root_node-is}
+use Rattle.tree_read.specs.Nodes.{used_of}
+use Rattle.tree_read.specs.Trees.{root_level, root_least, tree_pairs, tree_nodes, IsRootNode, IsTree}
+use Rattle.tree_read.specs.ProofsForTrees.{node-same}
+use Rattle.tree_read.proofs.RootLemmas.{root_least-some, tree_pairs-is, tree_nodes-is, root_node-is}
 use Rattle.tree_make.specs.Changes.{DropsEntries, Rebuilds, tree}
 use Rattle.tree_make.proofs.TopLemmas.{root-pairs, root-nodes, root-used}
 use Rattle.tree_touch.specs.Paths.{NoneIn, path_nodes, path_below}

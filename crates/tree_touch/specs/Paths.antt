@@ -4,9 +4,9 @@ use Rattle.std.specs.declared.cmp.Ordering.{Ordering}
 use Rattle.std.specs.List.{AllByRecursion}
 use Rattle.entry_ref.specs.References.{buffer_of}
 use Rattle.entry_ref.specs.Records.{Records}
-use Rattle.key_order.specs.Pairs.{choose}
-use Rattle.tree_images.specs.Nodes.{node_keys, node_values}
-use Rattle.tree_images.specs.Trees.{root_level}
+use Rattle.tree_read.specs.Pairs.{choose}
+use Rattle.tree_read.specs.Nodes.{node_keys, node_values}
+use Rattle.tree_read.specs.Trees.{root_level}
 
 -- the child of the first key that is not below the one sought, else the last
 abbrev pub child_of : (ℕ → Ordering) → List ℕ → List ℕ → ℕ

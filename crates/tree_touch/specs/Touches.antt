@@ -5,8 +5,8 @@ use Rattle.entry_ref.specs.References.{buffer_of}
 use Rattle.entry_ref.specs.Records.{Records}
 use Rattle.store_api.specs.Ledgers.{Ledger}
 use Rattle.store_api.specs.Parts.{times, uses}
-use Rattle.tree_images.specs.Nodes.{used_of}
-use Rattle.tree_images.specs.Trees.{pairs_below, nodes_below, IsNode}
+use Rattle.tree_read.specs.Nodes.{used_of}
+use Rattle.tree_read.specs.Trees.{pairs_below, nodes_below, IsNode}
 use Rattle.tree_make.specs.Makes.{MakesNodes}
 use Rattle.tree_touch.specs.Paths.{NoneIn, path_below}
 

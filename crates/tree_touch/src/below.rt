@@ -1,20 +1,18 @@
 ghost use Rattle.std.specs.Prelude.{◌≡◌, ◌≤◌, ◌<◌, ◌+◌, ℕ, true, length, slice_index, suc, IfOk, IfErr};
 ghost use Rattle.std.specs.declared.cmp.Ordering.{Ordering};
-ghost use Rattle.tree_images.specs.Nodes.{level_of, node_keys, node_values};
-ghost use Rattle.tree_images.specs.Trees.{pairs_below, IsNode};
-ghost use Rattle.key_order.specs.Keys.{seen_by, AllReadable};
+ghost use Rattle.tree_read.specs.Nodes.{level_of, node_keys, node_values};
+ghost use Rattle.tree_read.specs.Trees.{pairs_below, IsNode};
+ghost use Rattle.tree_read.specs.Keys.{seen_by, AllReadable};
 ghost use Rattle.store_api.specs.Calls.{Refuses};
 ghost use Rattle.tree_make.specs.Makes.{MakesNodes};
-ghost use Rattle.tree_node.specs.Places.{IsPlace};
+ghost use Rattle.tree_read.specs.NodePlaces.{IsPlace};
 ghost use Rattle.tree_touch.specs.Touches.{Touches};
 
 use crate::copies::{copy_of, copy_with};
 use arrayvec::ArrayVec;
 use entry_ref::EntryRef;
-use key_order::KeyOrder;
+use tree_read::{KeyOrder, NODE_WORDS, place_of, read_node};
 use store_api::{Store, StoreError};
-use tree_images::NODE_WORDS;
-use tree_node::{place_of, read_node};
 
 /// Makes a leaf anew where it lies in the buffer.
 fn touch_leaf<const OFFSET_BITS: u32, S: Store<OFFSET_BITS>>(

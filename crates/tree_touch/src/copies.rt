@@ -5,8 +5,7 @@ ghost use Rattle.tree_touch.specs.Touches.{CopiesNode};
 
 use entry_ref::EntryRef;
 use store_api::{Store, StoreError};
-use tree_images::{FIRST_VALUE, MOST_SLOTS, NODE_WORDS};
-use tree_node::read_words;
+use tree_read::{FIRST_VALUE, MOST_SLOTS, NODE_WORDS, read_words};
 
 /// Makes a node of these words.
 fn make_words<const OFFSET_BITS: u32, S: Store<OFFSET_BITS>>(

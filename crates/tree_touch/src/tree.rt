@@ -1,6 +1,6 @@
 ghost use Rattle.std.specs.Prelude.{◌≡◌, ◌∷◌, [], true, IfOk, IfErr, OnErr};
-ghost use Rattle.tree_images.specs.Trees.{tree_pairs, IsTree, Keeps};
-ghost use Rattle.key_order.specs.Keys.{seen_by, AllReadable, KeepsOthers, IsKeyedTree};
+ghost use Rattle.tree_read.specs.Trees.{tree_pairs, IsTree, Keeps};
+ghost use Rattle.tree_read.specs.Keys.{seen_by, AllReadable, KeepsOthers, IsKeyedTree};
 ghost use Rattle.store_api.specs.Calls.{Refuses};
 ghost use Rattle.store_api.specs.Parts.{Owns, Turns};
 ghost use Rattle.store_api.specs.Units.{MayDo};
@@ -11,11 +11,9 @@ ghost use Rattle.tree_touch.specs.Paths.{NoneIn, path_nodes};
 use crate::below::touch_below;
 use arrayvec::ArrayVec;
 use entry_ref::EntryRef;
-use key_order::KeyOrder;
+use tree_read::{KeyOrder, NODE_WORDS, read_head};
 use store_api::{Store, StoreError};
-use tree_images::NODE_WORDS;
 use tree_make::drop_nodes;
-use tree_node::read_head;
 
 /// Makes the tree without nodes of the buffer on a key's way, with the nodes of the old one that it lacks
 /// added to those that are replaced.

@@ -8,11 +8,11 @@ use Rattle.std.specs.List.Sorted.{IsStrictlySortedBy}
 use Rattle.entry_ref.proofs.Among.{Among-all, Among-append}
 use Rattle.entry_ref.specs.References.{buffer_of}
 use Rattle.entry_ref.specs.Records.{Records, Among}
-use Rattle.key_order.specs.Pairs.{choose}
-use Rattle.tree_images.proofs.TreeLemmas.{IsNode-form}
-use Rattle.tree_images.specs.Nodes.{level_of, node_keys, node_values}
-use Rattle.tree_images.specs.Trees.{last_key, nodes_below, pairs_below, root_least, root_level, HasLastKeys, IsNode}
-use Rattle.tree_node.proofs.ChildLemmas.{pairs-some}
+use Rattle.tree_read.specs.Pairs.{choose}
+use Rattle.tree_read.proofs.TreeLemmas.{IsNode-form}
+use Rattle.tree_read.specs.Nodes.{level_of, node_keys, node_values}
+use Rattle.tree_read.specs.Trees.{last_key, nodes_below, pairs_below, root_least, root_level, HasLastKeys, IsNode}
+use Rattle.tree_read.proofs.ChildLemmas.{pairs-some}
 use Rattle.tree_touch.specs.Paths.{child_of, path_below, path_nodes}
 use Rattle.tree_ways.specs.Ways.{keys_below, NodesHaveKeys, NodesStandOnWays, WaysHaveAllNodes}
 

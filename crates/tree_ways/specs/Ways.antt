@@ -3,9 +3,9 @@ use Rattle.std.specs.Prelude.{◌≢◌, ℕ, List, map}
 use Rattle.std.specs.declared.cmp.Ordering.{Ordering}
 use Rattle.entry_ref.specs.References.{buffer_of}
 use Rattle.entry_ref.specs.Records.{Records, Among}
-use Rattle.key_order.specs.Keys.{seen_by}
-use Rattle.tree_images.specs.Nodes.{level_of}
-use Rattle.tree_images.specs.Trees.{pairs_below, tree_nodes, tree_pairs, IsTree}
+use Rattle.tree_read.specs.Keys.{seen_by}
+use Rattle.tree_read.specs.Nodes.{level_of}
+use Rattle.tree_read.specs.Trees.{pairs_below, tree_nodes, tree_pairs, IsTree}
 use Rattle.tree_touch.specs.Paths.{path_nodes, NoneIn}
 
 -- the keys of a tree, and those below one of its nodes

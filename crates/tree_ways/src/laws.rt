@@ -1,7 +1,7 @@
 //! Laws of ways. The function does nothing: its contract is the law.
 ghost use Rattle.tree_ways.specs.Ways.{NodesHaveKeys, NodesStandOnWays, WaysHaveAllNodes};
 
-use key_order::KeyOrder;
+use tree_read::KeyOrder;
 
 /// A node of a tree stands on the way to each key below it, which is one of the tree's, and has a key below it; so where no
 /// node on the way to any key lies in a buffer, no node of the tree does.

@@ -1,6 +1,6 @@
 -- What the record of a value is, as a law.
 use Rattle.std.specs.Prelude.{◌≢◌, ℕ, ◌<◌, List, length}
-use Rattle.tree_images.specs.declared.TheConstants.{NODE_WORDS}
+use Rattle.tree_read.specs.declared.node_format.TheConstants.{NODE_WORDS}
 use Rattle.attr_images.specs.Values.{IsValueRecord}
 use Rattle.attr_types.specs.declared.kind.ValueType.{ValueType}
 

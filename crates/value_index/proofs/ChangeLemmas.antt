@@ -6,14 +6,14 @@ use Rattle.std.specs.Map.{remove_entry}
 use Rattle.entry_ref.proofs.Pairs.{same-from}
 use Rattle.entry_ref.proofs.Among.{SameAt-then, SameAt-among}
 use Rattle.entry_ref.specs.Records.{Records, SameAt, Among}
-use Rattle.key_order.specs.Pairs.{lookup, lookup_pair, put, take_out}
-use Rattle.key_order.proofs.PairLemmas.{lookup-of_pair}
+use Rattle.tree_read.specs.Pairs.{lookup, lookup_pair, put, take_out}
+use Rattle.tree_read.proofs.PairLemmas.{lookup-of_pair}
 use Rattle.store_api.specs.Ledgers.{Ledger}
 use Rattle.store_api.specs.Parts.{Part, After, Owns, Turns, count_in, entry, times}
 use Rattle.store_api.specs.Units.{MayDo}
 use Rattle.store_api.proofs.PartLemmas.{after, owns-some, turns-as, turns-then}
-use Rattle.tree_images.specs.ProofsForTrees.{SameAt-right, all-same, tree_nodes-same}
-use Rattle.tree_images.specs.Trees.{tree_nodes, tree_pairs}
+use Rattle.tree_read.specs.ProofsForTrees.{SameAt-right, all-same, tree_nodes-same}
+use Rattle.tree_read.specs.Trees.{tree_nodes, tree_pairs}
 use Rattle.tree_make.specs.Changes.{tree}
 use Rattle.attr_images.specs.Postings.{list_form, postings_reach, index_of}
 use Rattle.attr_images.specs.ProofsForImages.{postings_at-same}

@@ -6,11 +6,11 @@ use Rattle.std.specs.List.{flat_map, AllByRecursion}
 use Rattle.std.specs.List.Sorted.{IsStrictlySortedBy}
 use Rattle.std.specs.Option.{unwrap_or}
 use Rattle.entry_ref.specs.Records.{Records, SameAt, Among}
-use Rattle.key_order.specs.Pairs.{lookup, put}
+use Rattle.tree_read.specs.Pairs.{lookup, put}
 use Rattle.store_api.specs.Ledgers.{Ledger}
 use Rattle.store_api.specs.Units.{MayDo}
-use Rattle.tree_images.specs.ProofsForTrees.{SameAt-left, SameAt-right, tree_nodes-same, tree_pairs-same}
-use Rattle.tree_images.specs.Trees.{tree_nodes, tree_pairs}
+use Rattle.tree_read.specs.ProofsForTrees.{SameAt-left, SameAt-right, tree_nodes-same, tree_pairs-same}
+use Rattle.tree_read.specs.Trees.{tree_nodes, tree_pairs}
 use Rattle.attr_images.specs.Postings.{dictionary_reach, list_form, postings_reach}
 use Rattle.attr_images.specs.ProofsForImages.{postings_reach-same}
 use Rattle.attr_images.specs.Values.{stored_value, value_of}

@@ -5,8 +5,8 @@ use Rattle.std.specs.List.Sorted.{IsStrictlySortedBy}
 use Rattle.std.specs.Map.{keys_of}
 use Rattle.std.specs.Ordering.{nat_cmp}
 use Rattle.entry_ref.specs.Records.{Records, SameAt, Among}
-use Rattle.tree_images.specs.ProofsForTrees.{SameAt-left, SameAt-right, all-same}
-use Rattle.tree_images.specs.Trees.{tree_pairs, tree_nodes}
+use Rattle.tree_read.specs.ProofsForTrees.{SameAt-left, SameAt-right, all-same}
+use Rattle.tree_read.specs.Trees.{tree_pairs, tree_nodes}
 use Rattle.attr_images.specs.Postings.{list_form, postings_at, postings_reach, dictionary_reach, index_of, IsDictionaryEntry}
 use Rattle.attr_images.specs.ProofsForImages.{trees_index-same}
 use Rattle.attr_images.specs.Values.{stored_value, IsValueRecord}

@@ -10,8 +10,8 @@ use Rattle.std.specs.Option.{unwrap_or}
 use Rattle.list_facts.proofs.Options.{same_Some}
 use Rattle.attr_images.proofs.ImageLemmas.{value_typed}
 use Rattle.entry_ref.specs.Records.{Records, Among}
-use Rattle.key_order.specs.Pairs.{choose, lookup_pair}
-use Rattle.tree_images.specs.Trees.{tree_pairs, tree_nodes}
+use Rattle.tree_read.specs.Pairs.{choose, lookup_pair}
+use Rattle.tree_read.specs.Trees.{tree_pairs, tree_nodes}
 use Rattle.attr_images.specs.Postings.{list_form, postings_reach, dictionary_reach, index_of}
 use Rattle.attr_images.specs.Values.{stored_value, IsValueRecord}
 use Rattle.attr_index.specs.Index.{list_of}

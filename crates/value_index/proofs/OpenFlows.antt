@@ -2,13 +2,13 @@
 use Rattle.std.proofs.Common.{◌≡◌, ℕ, ℤ, List, [], ◌∷◌, Option, Some, option_map, inl, inr, sym, ap, subst, ◌∙◌}
 use Rattle.std.specs.Option.{unwrap_or}
 use Rattle.entry_ref.specs.Records.{Records, Among}
-use Rattle.key_order.specs.Pairs.{lookup_pair}
-use Rattle.key_order.proofs.PairLemmas.{lookup-of_pair}
+use Rattle.tree_read.specs.Pairs.{lookup_pair}
+use Rattle.tree_read.proofs.PairLemmas.{lookup-of_pair}
 use Rattle.store_api.specs.Ledgers.{Ledger}
 use Rattle.store_api.specs.Parts.{Turns, entry}
 use Rattle.store_api.specs.Units.{MayDo}
 use Rattle.store_api.proofs.May.{may_do-then}
-use Rattle.tree_images.specs.Trees.{tree_pairs}
+use Rattle.tree_read.specs.Trees.{tree_pairs}
 use Rattle.array_store.specs.Adding.{AddsRecord}
 use Rattle.attr_types.specs.declared.value.Value.{Value}
 use Rattle.enum_dictionary.specs.Dictionaries.{beside_value}

@@ -3,13 +3,13 @@ use Rattle.std.proofs.Common.{◌≡◌, ℕ, ℤ, ◌+◌, ◌<◌, List, [], �
 use Rattle.std.specs.List.{flat_map}
 use Rattle.entry_ref.proofs.Among.{SameAt-then, SameAt-among}
 use Rattle.entry_ref.specs.Records.{Records, SameAt, Among}
-use Rattle.key_order.specs.Pairs.{lookup_pair, take_out}
+use Rattle.tree_read.specs.Pairs.{lookup_pair, take_out}
 use Rattle.store_api.specs.Ledgers.{Ledger}
 use Rattle.store_api.specs.Parts.{Part, After, Owns, Turns, count_in, entry, times}
 use Rattle.store_api.proofs.PartLemmas.{after, owns-some, turns-as, turns-same, turns-then}
 use Rattle.store_api.proofs.Times.{times-append}
-use Rattle.tree_images.specs.ProofsForTrees.{SameAt-left, SameAt-right, flat_map-same, tree_nodes-same, tree_pairs-same}
-use Rattle.tree_images.specs.Trees.{tree_pairs, tree_nodes}
+use Rattle.tree_read.specs.ProofsForTrees.{SameAt-left, SameAt-right, flat_map-same, tree_nodes-same, tree_pairs-same}
+use Rattle.tree_read.specs.Trees.{tree_pairs, tree_nodes}
 use Rattle.tree_make.specs.Changes.{tree}
 use Rattle.array_store.specs.Adding.{AddsRecord}
 use Rattle.attr_images.specs.Postings.{list_form, postings_reach, dictionary_reach}

@@ -7,13 +7,13 @@ use Rattle.std.specs.Map.{lookup as lookup_in}
 use Rattle.std.specs.Ordering.{nat_cmp, match_ordering}
 use Rattle.list_facts.proofs.Options.{same_Some}
 use Rattle.entry_ref.specs.Records.{Records}
-use Rattle.key_order.specs.Pairs.{lookup_pair, put, take_out}
+use Rattle.tree_read.specs.Pairs.{lookup_pair, put, take_out}
 use Rattle.store_api.specs.Ledgers.{Ledger}
 use Rattle.store_api.specs.Parts.{Owns, Turns, entry}
 use Rattle.store_api.proofs.PartLemmas.{owns-some}
 use Rattle.store_api.specs.Units.{MayDo}
 use Rattle.store_api.specs.declared.store.StoreError.{StoreError}
-use Rattle.tree_images.specs.Trees.{tree_pairs}
+use Rattle.tree_read.specs.Trees.{tree_pairs}
 use Rattle.array_store.specs.Adding.{AddsRecord}
 use Rattle.attr_images.specs.Postings.{index_of}
 use Rattle.attr_images.specs.Values.{stored_value, value_words, IsValueRecord}

@@ -7,7 +7,7 @@ use Rattle.std.specs.List.Sorted.{IsStrictlySortedBy}
 use Rattle.std.specs.Option.{unwrap_or}
 use Rattle.std.specs.Ordering.{ordering_reverse}
 use Rattle.entry_ref.specs.Records.{Among}
-use Rattle.key_order.specs.Pairs.{choose, lookup, put, take_out}
+use Rattle.tree_read.specs.Pairs.{choose, lookup, put, take_out}
 use Rattle.attr_types.specs.ProofsForOrder.{value_cmp_total, value_cmp_exact}
 use Rattle.attr_types.specs.Value.{value_cmp}
 use Rattle.attr_types.specs.declared.value.Value.{Value}

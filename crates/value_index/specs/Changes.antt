@@ -4,9 +4,9 @@ use Rattle.std.specs.Option.{is_some, unwrap_or}
 use Rattle.entry_ref.specs.Records.{Records}
 use Rattle.store_api.specs.Ledgers.{Ledger}
 use Rattle.store_api.specs.Parts.{Owns, Turns}
-use Rattle.key_order.specs.Pairs.{lookup}
-use Rattle.tree_images.specs.declared.TheConstants.{NODE_WORDS}
-use Rattle.tree_images.specs.Trees.{tree_pairs}
+use Rattle.tree_read.specs.Pairs.{lookup}
+use Rattle.tree_read.specs.declared.node_format.TheConstants.{NODE_WORDS}
+use Rattle.tree_read.specs.Trees.{tree_pairs}
 use Rattle.tree_make.specs.Changes.{levels}
 use Rattle.attr_images.specs.Postings.{index_of}
 use Rattle.attr_images.specs.Values.{stored_value, value_words}

@@ -4,8 +4,8 @@ use Rattle.std.specs.List.{AllByRecursion}
 use Rattle.std.specs.Option.{option_map}
 use Rattle.entry_ref.specs.Records.{Records, Among}
 use Rattle.store_api.specs.Parts.{Part}
-use Rattle.tree_images.specs.Trees.{tree_pairs, tree_nodes}
-use Rattle.key_order.specs.Pairs.{lookup_pair}
+use Rattle.tree_read.specs.Trees.{tree_pairs, tree_nodes}
+use Rattle.tree_read.specs.Pairs.{lookup_pair}
 use Rattle.attr_images.specs.Postings.{dictionary_reach}
 use Rattle.attr_types.specs.declared.kind.ValueType.{ValueType}
 use Rattle.attr_types.specs.declared.value.Value.{Value}

@@ -2,7 +2,7 @@
 use Rattle.std.specs.Prelude.{◌≡◌, ℕ, ◌<◌, [], length, Some}
 use Rattle.std.specs.List.{AllByRecursion}
 use Rattle.entry_ref.specs.Records.{Records, SameAt, Among}
-use Rattle.tree_images.specs.Trees.{tree_pairs, IsTree}
+use Rattle.tree_read.specs.Trees.{tree_pairs, IsTree}
 use Rattle.attr_images.specs.Postings.{index_of, IsDictionaryEntry}
 use Rattle.attr_images.specs.Values.{stored_value, IsValueRecord}
 use Rattle.attr_index.specs.Index.{IsFormed, list_of}

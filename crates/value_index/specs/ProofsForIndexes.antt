@@ -1,7 +1,7 @@
 -- Nobody has to read this: an index stays where its records stay. It stands here since a part cites it.
 use Rattle.std.proofs.Common.{◌≡◌, ℕ, ◌++◌}
 use Rattle.entry_ref.specs.Records.{Records, SameAt}
-use Rattle.tree_images.specs.Trees.{tree_nodes}
+use Rattle.tree_read.specs.Trees.{tree_nodes}
 use Rattle.attr_images.specs.Postings.{dictionary_reach}
 use Rattle.attr_images.specs.ProofsForImages.{trees_reach-same}
 use Rattle.attr_types.specs.declared.kind.Kind.TheVariants.{Single}

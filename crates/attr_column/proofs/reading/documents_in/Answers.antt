@@ -3,8 +3,8 @@ use Rattle.std.specs.BTreeMap.{insert_entry, is_at}
 use Rattle.std.specs.List.{AllByRecursion}
 use Rattle.std.specs.Map.{lookup}
 use Rattle.std.specs.Ordering.{nat_cmp}
-use Rattle.tree_images.specs.Trees.{tree_pairs}
-use Rattle.tree_search.specs.Places.{IsAt, first_key, pairs_from}
+use Rattle.tree_read.specs.Trees.{tree_pairs}
+use Rattle.tree_read.specs.SearchPlaces.{IsAt, first_key, pairs_from}
 use Rattle.doc_vector.specs.Documents.{IsDocumentPair}
 use Rattle.attr_images.specs.Documents.{column_at}
 use Rattle.attr_index.specs.Columns.{column_of}

@@ -1,8 +1,8 @@
 use Rattle.std.proofs.Common.{◌+◌, ◌*◌, rules, ◌≡◌, ◌∷◌, [], true, sym, subst, ap, ◌∙◌, arith}
 use Rattle.std.specs.Prelude.{unwrap_or}
-use Rattle.tree_images.specs.Trees.{tree_pairs}
-use Rattle.key_order.specs.Pairs.{lookup as found}
-use Rattle.key_order.specs.Pairs.{put, take_out}
+use Rattle.tree_read.specs.Trees.{tree_pairs}
+use Rattle.tree_read.specs.Pairs.{lookup as found}
+use Rattle.tree_read.specs.Pairs.{put, take_out}
 use Rattle.store_api.specs.Parts.{Owns}
 use Rattle.doc_vector.specs.Documents.{beside_document, IsDocumentMap}
 use Rattle.attr_documents.specs.Changes.{ChangesPair}

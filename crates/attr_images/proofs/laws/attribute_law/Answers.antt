@@ -1,5 +1,5 @@
 use Rattle.attr_images.proofs.ImageLemmas.{dictionary_is_index, values_ascend, attribute_is_lawful, roots_there}
-use Rattle.tree_images.proofs.DistinctLemmas.{tree_nodes_distinct}
+use Rattle.tree_read.proofs.DistinctLemmas.{tree_nodes_distinct}
 use Rattle.attr_images.specs.Values.{stored_value}
 use Rattle.attr_types.specs.Value.{value_cmp}
 use Rattle.attr_types.specs.ProofsForOrder.{value_cmp_total}

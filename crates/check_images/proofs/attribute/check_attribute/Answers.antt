@@ -3,7 +3,7 @@ use Rattle.std.specs.Prelude.{Contains}
 use Rattle.std.proofs.lemmas.Result.{err_from_is_err_and}
 use Rattle.std.specs.List.{AllByRecursion}
 use Rattle.attr_images.proofs.ImageLemmas.{index_keys}
-use Rattle.tree_images.specs.Trees.{tree_pairs}
+use Rattle.tree_read.specs.Trees.{tree_pairs}
 use Rattle.attr_index.specs.Columns.{Column, documents_with}
 use Rattle.attr_images.specs.Documents.{column_at}
 use Rattle.attr_images.specs.Postings.{list_form, postings_at, index_of}

@@ -1,6 +1,6 @@
 use Rattle.std.proofs.Common.{◌<◌, arith}
 use Rattle.std.proofs.lemmas.Result.{err_from_is_err_and}
-use Rattle.tree_images.specs.Nodes.{used_of}
+use Rattle.tree_read.specs.Nodes.{used_of}
 use Rattle.check_trees.proofs.WalkLemmas.{slots_more, slots_ascend}
 use Rattle.check_trees.proofs.Walks.{refuted_by}
 use Rattle.entry_ref.specs.Maps.{seen}

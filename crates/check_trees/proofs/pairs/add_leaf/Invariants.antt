@@ -1,6 +1,6 @@
 use Rattle.std.proofs.Common.{◌≡◌, ◌≤◌, ◌++◌, take, length}
 use Rattle.std.specs.List.{zip}
-use Rattle.tree_images.specs.Nodes.{used_of, node_keys, node_values}
+use Rattle.tree_read.specs.Nodes.{used_of, node_keys, node_values}
 use Rattle.check_trees.specs.Keys.{PairsAscend}
 use Rattle.entry_ref.specs.Maps.{seen}
 use Rattle.check_trees.proofs.pairs.add_leaf.Given as goal

@@ -2,9 +2,9 @@ use Rattle.std.proofs.Common.{◌≡◌, ℕ, ◌+◌, ◌%◌, ◌<◌, List, �
 use Rattle.std.proofs.lemmas.Result.{err_from_is_err_and}
 use Rattle.std.specs.List.{zip}
 use Rattle.entry_ref.specs.Maps.{seen}
-use Rattle.tree_images.proofs.TreeLemmas.{IsNode-form}
-use Rattle.tree_images.specs.Nodes.{used_of, node_keys, node_values}
-use Rattle.tree_images.specs.Trees.{last_key}
+use Rattle.tree_read.proofs.TreeLemmas.{IsNode-form}
+use Rattle.tree_read.specs.Nodes.{used_of, node_keys, node_values}
+use Rattle.tree_read.specs.Trees.{last_key}
 use Rattle.check_trees.proofs.NodeSteps.{count-is, leaf-is, leaf-stands, leaf-ascends, step, next-child, next-key, whole-pairs, whole-node, difference}
 use Rattle.check_trees.proofs.Walks.{refuted_by}
 use Rattle.check_trees.specs.Keys.{PairsAscend}

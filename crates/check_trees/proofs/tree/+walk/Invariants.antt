@@ -1,5 +1,5 @@
 use Rattle.std.proofs.Common.{◌≡◌, ◌<◌, ◌≤◌, ◌-◌, length}
-use Rattle.tree_images.specs.Nodes.{used_of, IsNodeForm}
+use Rattle.tree_read.specs.Nodes.{used_of, IsNodeForm}
 use Rattle.entry_ref.specs.Maps.{seen}
 use Rattle.check_trees.proofs.Walks.{Walked}
 use Rattle.check_trees.proofs.tree.+walk.Given as goal

@@ -1,7 +1,7 @@
 use Rattle.std.proofs.Common.{◌+◌, ◌<◌, ◌^◌, ℕ, nat_cmp, refl, sym, subst, arith}
 use Rattle.attr_cleared.specs.Cleared.{trees_of_roots}
-use Rattle.key_order.specs.Pairs.{seek}
-use Rattle.tree_images.specs.Trees.{by_number, tree_pairs}
+use Rattle.tree_read.specs.Pairs.{seek}
+use Rattle.tree_read.specs.Trees.{by_number, tree_pairs}
 use Rattle.enum_dictionary.proofs.BehindLemmas.{All-seek}
 use Rattle.plan_keys.proofs.NextLemmas.{unit_all}
 use Rattle.clear_keys.specs.Sights.{IsRun}

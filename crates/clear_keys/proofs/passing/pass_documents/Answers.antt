@@ -1,9 +1,9 @@
 use Rattle.std.proofs.Common.{◌+◌, ◌<◌, ◌^◌, ℕ, nat_cmp, sym, subst, ◌∙◌, arith}
 use Rattle.std.specs.List.{AllByRecursion}
 use Rattle.attr_cleared.specs.Cleared.{trees_of_roots}
-use Rattle.key_order.specs.Pairs.{seek}
-use Rattle.tree_images.specs.Trees.{tree_pairs}
-use Rattle.tree_search.specs.Places.{pairs_from, IsAt}
+use Rattle.tree_read.specs.Pairs.{seek}
+use Rattle.tree_read.specs.Trees.{tree_pairs}
+use Rattle.tree_read.specs.SearchPlaces.{pairs_from, IsAt}
 use Rattle.enum_dictionary.proofs.BehindLemmas.{All-seek}
 use Rattle.plan_keys.proofs.NextLemmas.{unit_all}
 use Rattle.clear_keys.specs.Sights.{HasItemRecords, StandsApart, IsRun}

@@ -1,6 +1,6 @@
 use Rattle.std.proofs.Common.{◌≡◌, ◌≢◌, ◌+◌, ℕ, suc, [], drop, refl, sym, ap, subst, ◌∙◌, arith}
 use Rattle.std.specs.List.{AllByRecursion}
-use Rattle.tree_search.specs.Places.{first_key, first_value, pairs_from, IsAt}
+use Rattle.tree_read.specs.SearchPlaces.{first_key, first_value, pairs_from, IsAt}
 use Rattle.clear_keys.specs.Sights.{StandsApart, IsPairOf, IsRun}
 use Rattle.clear_keys.proofs.RunLemmas.{all_dropped, rest_dropped, run_more}
 use Rattle.clear_keys.proofs.runs.run_from.Goals as goal

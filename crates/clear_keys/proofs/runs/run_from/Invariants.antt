@@ -1,5 +1,5 @@
 use Rattle.std.proofs.Common.{◌≡◌, drop}
-use Rattle.tree_search.specs.Places.{pairs_from, IsAt}
+use Rattle.tree_read.specs.SearchPlaces.{pairs_from, IsAt}
 use Rattle.clear_keys.specs.Sights.{StandsApart, IsRun}
 use Rattle.clear_keys.proofs.runs.run_from.Given as goal
 

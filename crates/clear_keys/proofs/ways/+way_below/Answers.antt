@@ -3,12 +3,12 @@ use Rattle.std.specs.declared.cmp.Ordering.TheVariants.{Equal, Greater}
 use Rattle.std.specs.declared.cmp.Ordering.{Ordering}
 use Rattle.entry_ref.specs.References.{buffer_of}
 use Rattle.entry_ref.specs.Records.{word_at}
-use Rattle.tree_images.specs.Nodes.{level_of, used_of, node_keys}
-use Rattle.tree_images.specs.Trees.{pairs_below, IsNode}
-use Rattle.key_order.specs.Keys.{Ascends, AllReadable, seen_by}
-use Rattle.tree_node.specs.Places.{IsSlot}
-use Rattle.tree_node.proofs.ChildLemmas.{IsNode-lower, child-node, child-all, child-ascends, keys-length}
-use Rattle.tree_node.proofs.ReadLemmas.{node-level, node-room, node-size}
+use Rattle.tree_read.specs.Nodes.{level_of, used_of, node_keys}
+use Rattle.tree_read.specs.Trees.{pairs_below, IsNode}
+use Rattle.tree_read.specs.Keys.{Ascends, AllReadable, seen_by}
+use Rattle.tree_read.specs.NodePlaces.{IsSlot}
+use Rattle.tree_read.proofs.ChildLemmas.{IsNode-lower, child-node, child-all, child-ascends, keys-length}
+use Rattle.tree_read.proofs.ReadLemmas.{node-level, node-room, node-size}
 use Rattle.clear_keys.specs.Ways.{IsWay, IsWayBelow}
 use Rattle.clear_keys.proofs.WayLemmas.{way_leaf, way_none, way_over}
 use Rattle.clear_keys.proofs.ways.+way_below.Goals as goal

@@ -1,8 +1,8 @@
 use Rattle.std.proofs.Common.{◌≡◌, ◌<◌, ◌≤◌, ℕ, Bool, [], sym, ap, subst, ◌∙◌, arith}
-use Rattle.tree_images.specs.Nodes.{level_of}
-use Rattle.tree_images.specs.Trees.{pairs_below, tree_pairs, IsNode}
-use Rattle.key_order.specs.Keys.{Ascends, AllReadable, seen_by}
-use Rattle.tree_search.proofs.PlaceLemmas.{leads-length, leads-root, leads-node, root_pairs, step-size}
+use Rattle.tree_read.specs.Nodes.{level_of}
+use Rattle.tree_read.specs.Trees.{pairs_below, tree_pairs, IsNode}
+use Rattle.tree_read.specs.Keys.{Ascends, AllReadable, seen_by}
+use Rattle.tree_read.proofs.PlaceLemmas.{leads-length, leads-root, leads-node, root_pairs, step-size}
 use Rattle.clear_keys.specs.Ways.{IsWay, IsWayApart, IsWayBelow}
 use Rattle.clear_keys.proofs.WayLemmas.{way_none, way_tree}
 use Rattle.clear_keys.proofs.ways.way_of.Goals as goal

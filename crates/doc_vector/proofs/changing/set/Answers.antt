@@ -1,8 +1,8 @@
 use Rattle.std.proofs.Common.{rules, ℕ, subst}
 use Rattle.std.specs.Prelude.{IfOk}
-use Rattle.tree_images.specs.Trees.{tree_pairs}
-use Rattle.key_order.specs.Pairs.{put}
-use Rattle.key_order.proofs.PairLemmas.{All-put}
+use Rattle.tree_read.specs.Trees.{tree_pairs}
+use Rattle.tree_read.specs.Pairs.{put}
+use Rattle.tree_read.proofs.PairLemmas.{All-put}
 use Rattle.doc_vector.specs.Documents.{beside_document, IsDocumentPair, MakesMap}
 use Rattle.doc_vector.proofs.DocumentLemmas.{makes_map}
 use Rattle.doc_vector.proofs.changing.set.Goals as goal

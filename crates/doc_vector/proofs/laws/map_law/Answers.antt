@@ -1,6 +1,6 @@
 use Rattle.std.proofs.lemmas.Cmp.{nat_cmp_total}
 use Rattle.std.specs.Ordering.{nat_cmp}
-use Rattle.key_order.proofs.PairLemmas.{lookup-put}
+use Rattle.tree_read.proofs.PairLemmas.{lookup-put}
 use Rattle.doc_vector.specs.Documents.{beside_document}
 use Rattle.doc_vector.proofs.DocumentLemmas.{same_number, other_number}
 use Rattle.doc_vector.proofs.MapLemmas.{put_others, take_out_others, take_out_gone}

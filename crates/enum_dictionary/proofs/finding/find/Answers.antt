@@ -1,6 +1,6 @@
 use Rattle.std.proofs.Common.{arith, sym}
 use Rattle.attr_types.specs.Value.{type_of}
-use Rattle.tree_images.specs.Trees.{tree_pairs}
+use Rattle.tree_read.specs.Trees.{tree_pairs}
 use Rattle.unique_store.proofs.RecordLemmas.{value_there}
 use Rattle.enum_dictionary.specs.Dictionaries.{beside_value}
 use Rattle.enum_dictionary.proofs.DictionaryLemmas.{found_key}

@@ -13,7 +13,7 @@ use Rattle.posting_store.proofs.RefusalLemmas.{if_one, of_one}
 use Rattle.value_index.specs.Changes.{nodes_most, record_most}
 use Rattle.value_index.proofs.CountLemmas.{within_more, within_none, within_record, within_then, within_tree}
 use Rattle.value_index.proofs.KeyLemmas.{reads_found}
-use Rattle.tree_images.specs.Trees.{tree_pairs}
+use Rattle.tree_read.specs.Trees.{tree_pairs}
 use Rattle.index_moves.specs.Moves.{key_most}
 use Rattle.index_moves.proofs.KeyLemmas.{found_apart, key_moved, key_ready, key_unmoved}
 use Rattle.index_moves.proofs.SetLemmas.{ready_dictionary, ready_owns}

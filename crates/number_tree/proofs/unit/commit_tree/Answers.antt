@@ -1,5 +1,5 @@
 use Rattle.std.proofs.Common.{arith}
-use Rattle.tree_images.specs.ProofsForTrees.{tree_pairs-same}
+use Rattle.tree_read.specs.ProofsForTrees.{tree_pairs-same}
 use Rattle.number_tree.proofs.HoldLemmas.{tree_whole, same_commit, holds_commit, sizes_commit}
 use Rattle.number_tree.proofs.unit.commit_tree.Goals as goal
 

@@ -1,6 +1,6 @@
 use Rattle.std.proofs.Common.{rules, arith, ap, ◌∙◌}
-use Rattle.tree_images.specs.Trees.{tree_pairs}
-use Rattle.key_order.specs.Pairs.{take_out}
+use Rattle.tree_read.specs.Trees.{tree_pairs}
+use Rattle.tree_read.specs.Pairs.{take_out}
 use Rattle.number_tree.specs.Maps.{beside_number}
 use Rattle.number_tree.proofs.HoldLemmas.{number_keyed, begun_owns, begun_tree, ends_last, ends_sizes, is_refusal, holds_next, pairs_next, left_same, holds_still}
 use Rattle.number_tree.proofs.unit.remove_unit.Goals as goal

@@ -1,6 +1,6 @@
 use Rattle.std.proofs.Common.{◌≡◌, ◌++◌, length}
-use Rattle.tree_images.specs.Trees.{tree_pairs}
-use Rattle.tree_search.specs.Places.{IsAt, pairs_from}
+use Rattle.tree_read.specs.Trees.{tree_pairs}
+use Rattle.tree_read.specs.SearchPlaces.{IsAt, pairs_from}
 use Rattle.number_tree.proofs.walk.all_pairs.Given as goal
 
 abbrev pub invariant-loop-cursor : goal.invariant-loop-cursor

@@ -1,5 +1,5 @@
 use Rattle.std.proofs.Common.{◌≡◌, None, refl, sym, subst, ◌∙◌, arith}
-use Rattle.tree_images.specs.Trees.{tree_pairs}
+use Rattle.tree_read.specs.Trees.{tree_pairs}
 use Rattle.attr_compaction.specs.declared.plan.PlanKey.{PlanKey}
 use Rattle.plan_keys.specs.PhaseKeys.{document_keys, key_past}
 use Rattle.plan_keys.proofs.NextLemmas.{documents_number, first_number_is, no_doc_past_pair, number_past_is, number_past_value}

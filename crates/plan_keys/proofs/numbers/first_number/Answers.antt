@@ -1,7 +1,7 @@
 use Rattle.std.proofs.Common.{◌≡◌, ℕ, sym, ap, subst, ◌∙◌, arith}
 use Rattle.std.specs.List.{AllByRecursion}
 use Rattle.std.specs.Option.{option_map}
-use Rattle.tree_search.specs.Places.{pairs_from, IsAt}
+use Rattle.tree_read.specs.SearchPlaces.{pairs_from, IsAt}
 use Rattle.attr_types.specs.Lawful.{IsDocNumber}
 use Rattle.plan_keys.specs.PhaseKeys.{first_item}
 use Rattle.plan_keys.proofs.numbers.first_number.Goals as goal

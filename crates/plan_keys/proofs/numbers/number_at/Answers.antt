@@ -1,6 +1,6 @@
 use Rattle.std.proofs.Common.{◌≡◌, ◌≢◌, ℕ, [], true≢false, Some, Option, option_map, sym, ap, ◌∙◌, arith}
-use Rattle.tree_search.proofs.PlaceLemmas.{first_pair}
-use Rattle.tree_search.specs.Places.{pairs_from}
+use Rattle.tree_read.proofs.PlaceLemmas.{first_pair}
+use Rattle.tree_read.specs.SearchPlaces.{pairs_from}
 use Rattle.attr_types.specs.Lawful.{IsDocNumber}
 use Rattle.plan_keys.proofs.NextLemmas.{pair_first, pair_none}
 use Rattle.plan_keys.proofs.numbers.number_at.Goals as goal

@@ -1,8 +1,8 @@
 use Rattle.std.proofs.Common.{◌≡◌, ◌+◌, ℕ, nat_cmp, sym, ap, subst, ◌∙◌, arith}
 use Rattle.std.specs.List.{AllByRecursion}
 use Rattle.std.specs.Option.{option_map}
-use Rattle.tree_images.specs.Trees.{tree_pairs}
-use Rattle.tree_search.specs.Places.{pairs_from, IsAt}
+use Rattle.tree_read.specs.Trees.{tree_pairs}
+use Rattle.tree_read.specs.SearchPlaces.{pairs_from, IsAt}
 use Rattle.attr_types.specs.Lawful.{IsDocNumber}
 use Rattle.enum_dictionary.proofs.BehindLemmas.{All-seek}
 use Rattle.plan_keys.specs.PhaseKeys.{first_item}

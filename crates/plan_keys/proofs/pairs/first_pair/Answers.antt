@@ -1,7 +1,7 @@
 use Rattle.std.proofs.Common.{◌≡◌, sym, ap, subst, arith}
 use Rattle.std.specs.List.{AllByRecursion}
 use Rattle.std.specs.Prelude.{IfOk, Option}
-use Rattle.tree_search.specs.Places.{pairs_from, IsAt}
+use Rattle.tree_read.specs.SearchPlaces.{pairs_from, IsAt}
 use Rattle.attr_compaction.specs.declared.plan.PlanKey.{PlanKey}
 use Rattle.plan_keys.specs.PhaseKeys.{first_item, keys_of_pairs, IsListPair}
 use Rattle.plan_keys.proofs.ListLemmas.{list_pairs}

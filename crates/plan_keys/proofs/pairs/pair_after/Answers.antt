@@ -1,6 +1,6 @@
 use Rattle.std.proofs.Common.{◌≡◌, Option, is_lt, refl, sym, subst, arith}
 use Rattle.std.specs.Prelude.{IfOk}
-use Rattle.tree_images.specs.Trees.{tree_pairs}
+use Rattle.tree_read.specs.Trees.{tree_pairs}
 use Rattle.attr_compaction.specs.Places.{key_cmp}
 use Rattle.attr_compaction.specs.declared.plan.PlanKey.{PlanKey}
 use Rattle.attr_compaction.specs.declared.plan.PlanKey.TheVariants.{Start, Value, Doc}

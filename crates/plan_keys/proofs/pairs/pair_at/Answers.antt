@@ -1,7 +1,7 @@
 use Rattle.std.proofs.Common.{◌≡◌, ◌≢◌, ◌<◌, ℕ, [], true≢false, Some, Option, option_map, sym, ap, subst, ◌∙◌, arith}
 use Rattle.std.specs.Prelude.{IfOk}
-use Rattle.tree_search.proofs.PlaceLemmas.{first_pair}
-use Rattle.tree_search.specs.Places.{pairs_from}
+use Rattle.tree_read.proofs.PlaceLemmas.{first_pair}
+use Rattle.tree_read.specs.SearchPlaces.{pairs_from}
 use Rattle.attr_images.specs.Values.{stored_value, IsValueRecord}
 use Rattle.attr_compaction.specs.declared.plan.PlanKey.{PlanKey}
 use Rattle.attr_compaction.specs.declared.plan.PlanKey.TheVariants.{Pair}

@@ -1,5 +1,5 @@
 use Rattle.std.proofs.Common.{◌≡◌, ◌≢◌, ℕ, [], true≢false, Some, Option, option_map, sym, ap, subst, ◌∙◌, arith}
-use Rattle.tree_search.specs.Places.{pairs_from}
+use Rattle.tree_read.specs.SearchPlaces.{pairs_from}
 use Rattle.attr_images.specs.Values.{stored_value, IsValueRecord}
 use Rattle.attr_compaction.specs.declared.plan.PlanKey.TheVariants.{Value}
 use Rattle.enum_dictionary.proofs.BehindLemmas.{first_of_all}

@@ -1,14 +1,14 @@
 use Rattle.std.proofs.Common.{◌≡◌, ℕ, sym, ap, subst, ◌∙◌, arith}
 use Rattle.std.specs.List.{AllByRecursion}
 use Rattle.std.specs.Prelude.{IfOk, Option}
-use Rattle.tree_search.specs.Places.{pairs_from, IsAt}
+use Rattle.tree_read.specs.SearchPlaces.{pairs_from, IsAt}
 use Rattle.attr_images.specs.Values.{stored_value, IsValueRecord}
 use Rattle.attr_types.specs.declared.kind.ValueType.{ValueType}
 use Rattle.std.specs.Option.{option_map}
 use Rattle.attr_compaction.specs.declared.plan.PlanKey.{PlanKey}
 use Rattle.attr_compaction.specs.declared.plan.PlanKey.TheVariants.{Value}
 use Rattle.enum_dictionary.specs.Dictionaries.{beside_value, IsDictionary}
-use Rattle.tree_images.specs.Trees.{tree_pairs}
+use Rattle.tree_read.specs.Trees.{tree_pairs}
 use Rattle.plan_keys.specs.PhaseKeys.{first_item}
 use Rattle.plan_keys.proofs.NextLemmas.{all_behind, value_past_is}
 use Rattle.plan_keys.proofs.values.value_past.Goals as goal

@@ -1,5 +1,5 @@
 use Rattle.std.proofs.Common.{◌<◌, ℕ, length, arith, sym, ap, subst, ◌∙◌}
-use Rattle.tree_images.specs.Trees.{tree_pairs, IsRootNode}
+use Rattle.tree_read.specs.Trees.{tree_pairs, IsRootNode}
 use Rattle.query_eval.proofs.CountLemmas.{has_documents}
 use Rattle.query_eval.proofs.image.documents.Goals as goal
 

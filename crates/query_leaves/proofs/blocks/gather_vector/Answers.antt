@@ -1,7 +1,7 @@
 use Rattle.std.proofs.Common.{◌≡◌, ◌||◌, ℕ, Bool, List, arith, sym, ap, subst, ◌∙◌}
 use Rattle.std.specs.List.{AllByRecursion}
-use Rattle.tree_images.specs.Trees.{tree_pairs}
-use Rattle.tree_search.specs.Places.{IsAt, pairs_from}
+use Rattle.tree_read.specs.Trees.{tree_pairs}
+use Rattle.tree_read.specs.SearchPlaces.{IsAt, pairs_from}
 use Rattle.attr_images.specs.Postings.{vector_documents}
 use Rattle.doc_set.specs.Sets.{has, in_words}
 use Rattle.query_leaves.specs.Blocks.{IsDocumentBlock, documents_of}

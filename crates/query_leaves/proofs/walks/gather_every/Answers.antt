@@ -1,7 +1,7 @@
 use Rattle.std.proofs.Common.{◌≡◌, ◌≢◌, ◌||◌, ℕ, [], drop, sym, ap, subst, ◌∙◌, true≢false}
 use Rattle.std.specs.Map.{keys_of}
-use Rattle.tree_images.specs.Trees.{tree_pairs}
-use Rattle.tree_search.specs.Places.{IsAt, pairs_from}
+use Rattle.tree_read.specs.Trees.{tree_pairs}
+use Rattle.tree_read.specs.SearchPlaces.{IsAt, pairs_from}
 use Rattle.attr_images.specs.Postings.{list_form, postings_at}
 use Rattle.doc_set.specs.Gathers.{is_gathered}
 use Rattle.doc_set.specs.Sets.{has}

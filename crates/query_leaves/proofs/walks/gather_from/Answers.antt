@@ -1,6 +1,6 @@
 use Rattle.std.proofs.Common.{◌≡◌, ◌≢◌, ◌||◌, ℕ, [], drop, false, sym, ap, subst, ◌∙◌, true≢false}
 use Rattle.std.specs.Map.{keys_of}
-use Rattle.tree_search.specs.Places.{IsAt, first_key, pairs_from}
+use Rattle.tree_read.specs.SearchPlaces.{IsAt, first_key, pairs_from}
 use Rattle.attr_images.specs.Postings.{list_form, postings_at}
 use Rattle.attr_images.specs.Values.{stored_value}
 use Rattle.doc_set.specs.Gathers.{is_gathered}

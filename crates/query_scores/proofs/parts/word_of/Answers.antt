@@ -1,6 +1,6 @@
 use Rattle.std.proofs.Common.{ℕ, Some, arith, sym, ap, subst, ◌∙◌}
-use Rattle.tree_images.specs.Trees.{tree_pairs}
-use Rattle.key_order.specs.Pairs.{lookup_pair}
+use Rattle.tree_read.specs.Trees.{tree_pairs}
+use Rattle.tree_read.specs.Pairs.{lookup_pair}
 use Rattle.attr_images.specs.Postings.{list_form, postings_at}
 use Rattle.enum_dictionary.specs.Dictionaries.{beside_value}
 use Rattle.query_leaves.proofs.PartLemmas.{type_is, is_dictionary}

@@ -3,8 +3,8 @@ use Rattle.std.proofs.lemmas.Int.{to_z-of_z}
 use Rattle.std.specs.Int.{w32, bit_at}
 use Rattle.std.specs.Int.RustNames.{FitsSigned}
 use Rattle.entry_ref.specs.Records.{HasWord, word_at}
-use Rattle.tree_images.specs.Trees.{tree_pairs}
-use Rattle.key_order.specs.Pairs.{lookup_pair}
+use Rattle.tree_read.specs.Trees.{tree_pairs}
+use Rattle.tree_read.specs.Pairs.{lookup_pair}
 use Rattle.std.specs.Ordering.{nat_cmp}
 use Rattle.attr_images.specs.Postings.{IsBlock}
 use Rattle.query_scores.proofs.LookupLemmas.{pair_among}

@@ -1,5 +1,5 @@
 use Rattle.std.proofs.Common.{◌≡◌, length}
-use Rattle.tree_search.specs.Places.{IsAt, pairs_from}
+use Rattle.tree_read.specs.SearchPlaces.{IsAt, pairs_from}
 use Rattle.test_dictionary.proofs.seeking.keys_from.Given as goal
 
 abbrev pub invariant-loop-cursor : goal.invariant-loop-cursor

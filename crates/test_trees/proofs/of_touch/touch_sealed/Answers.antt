@@ -2,7 +2,7 @@ use Rattle.std.proofs.Common.{ℕ, sym, ap, subst, arith}
 use Rattle.std.specs.Ordering.{nat_cmp}
 use Rattle.std.proofs.lemmas.Result.{IfOk-weaker}
 use Rattle.number_tree.proofs.HoldLemmas.{number_keyed}
-use Rattle.tree_images.specs.Trees.{IsTree, by_number}
+use Rattle.tree_read.specs.Trees.{IsTree, by_number}
 use Rattle.test_trees.proofs.RowLemmas.{owns_begun, tree_begun, sealed-unit, is-sealed, sealed-owns}
 use Rattle.test_trees.proofs.of_touch.touch_sealed.Goals as goal
 

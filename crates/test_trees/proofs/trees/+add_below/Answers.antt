@@ -1,7 +1,7 @@
 use Rattle.std.proofs.Common.{rules, ◌≡◌, ◌-◌, ◌<◌, ◌≤◌, ◌^◌, ℕ, suc, List, length, get_or, sym, ap, subst, ◌∙◌, arith}
-use Rattle.tree_images.specs.Nodes.{node_values, used_of}
-use Rattle.tree_images.specs.Trees.{IsNode}
-use Rattle.tree_node.proofs.ReadLemmas.{node-size, node-room}
+use Rattle.tree_read.specs.Nodes.{node_values, used_of}
+use Rattle.tree_read.specs.Trees.{IsNode}
+use Rattle.tree_read.proofs.ReadLemmas.{node-size, node-room}
 use Rattle.test_trees.proofs.NodeLemmas.{child-is}
 use Rattle.test_trees.proofs.trees.+add_below.Goals as goal
 

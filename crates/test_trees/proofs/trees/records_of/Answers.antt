@@ -1,6 +1,6 @@
 use Rattle.std.proofs.Common.{◌≡◌, ◌<◌, sym, subst, ◌∙◌, arith}
-use Rattle.tree_images.proofs.TreeLemmas.{IsNode-form}
-use Rattle.tree_images.specs.Trees.{IsNode, root_level, root_least}
+use Rattle.tree_read.proofs.TreeLemmas.{IsNode-form}
+use Rattle.tree_read.specs.Trees.{IsNode, root_level, root_least}
 use Rattle.test_trees.proofs.NodeLemmas.{top-is}
 use Rattle.test_trees.proofs.trees.records_of.Goals as goal
 

@@ -1,8 +1,8 @@
 use Rattle.std.proofs.Common.{rules, ◌≡◌, ◌-◌, ◌<◌, ◌≤◌, ◌^◌, ℕ, suc, List, [], ◌∷◌, length, get_or, sym, ap, subst, ◌∙◌, arith}
 use Rattle.store_api.specs.Parts.{Owns, entries}
-use Rattle.tree_images.specs.Nodes.{node_values}
-use Rattle.tree_images.specs.Trees.{nodes_below, IsNode}
-use Rattle.tree_node.proofs.ReadLemmas.{node-size, node-room}
+use Rattle.tree_read.specs.Nodes.{node_values}
+use Rattle.tree_read.specs.Trees.{nodes_below, IsNode}
+use Rattle.tree_read.proofs.ReadLemmas.{node-size, node-room}
 use Rattle.tree_make.specs.Changes.{DropsEntries}
 use Rattle.tree_make.proofs.DropLemmas.{drops-none, drops-more}
 use Rattle.tree_build.proofs.TreeLemmas.{leaf-nodes, leaf-used, child-is, child-owns, child-dropped, node-used, node-dropped}

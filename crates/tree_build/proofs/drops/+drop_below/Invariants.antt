@@ -1,7 +1,7 @@
 use Rattle.std.proofs.Common.{◌-◌, take}
 use Rattle.std.specs.List.{flat_map}
-use Rattle.tree_images.specs.Nodes.{node_values}
-use Rattle.tree_images.specs.Trees.{nodes_below}
+use Rattle.tree_read.specs.Nodes.{node_values}
+use Rattle.tree_read.specs.Trees.{nodes_below}
 use Rattle.tree_make.specs.Changes.{DropsEntries}
 use Rattle.tree_build.proofs.drops.+drop_below.Given as goal
 

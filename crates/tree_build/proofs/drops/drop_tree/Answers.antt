@@ -1,7 +1,7 @@
 use Rattle.std.proofs.Common.{◌≡◌, ◌<◌, [], ◌∷◌, true, sym, subst, ◌∙◌, arith}
 use Rattle.store_api.specs.Parts.{Owns, entries}
-use Rattle.tree_images.proofs.TreeLemmas.{IsNode-form}
-use Rattle.tree_images.specs.Trees.{nodes_below, tree_nodes, IsNode, root_level, root_least}
+use Rattle.tree_read.proofs.TreeLemmas.{IsNode-form}
+use Rattle.tree_read.specs.Trees.{nodes_below, tree_nodes, IsNode, root_level, root_least}
 use Rattle.tree_make.specs.Changes.{DropsEntries}
 use Rattle.tree_build.proofs.TreeLemmas.{top-nodes, top-node, top-owns, drop-others}
 use Rattle.tree_build.proofs.drops.drop_tree.Goals as goal

@@ -1,9 +1,9 @@
 use Rattle.std.proofs.Common.{◌≡◌, ◌<◌, ◌++◌, ℕ, List, length, refl, sym, ap, subst, ◌∙◌, arith}
 use Rattle.std.specs.List.{zip}
 use Rattle.std.proofs.lemmas.Result.{IfOk-weaker}
-use Rattle.tree_node.proofs.CountLemmas.{leaf_count}
-use Rattle.tree_node.proofs.SlotLemmas.{hand-leaf}
-use Rattle.key_order.proofs.KeyLemmas.{keyed-from, others_kept}
+use Rattle.tree_read.proofs.CountLemmas.{leaf_count}
+use Rattle.tree_read.proofs.SlotLemmas.{hand-leaf}
+use Rattle.tree_read.proofs.OrderKeyLemmas.{keyed-from, others_kept}
 use Rattle.tree_make.specs.Makes.{MakesRoot}
 use Rattle.tree_build.proofs.LeafLemmas.{leaf-pairs, leaf-turns, leaf-owns}
 use Rattle.tree_build.proofs.leaf.build_leaf.Goals as goal

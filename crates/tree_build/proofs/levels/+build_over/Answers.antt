@@ -1,7 +1,7 @@
 use Rattle.std.proofs.Common.{rules, ◌≡◌, ◌<◌, ◌≤◌, ◌+◌, ◌-◌, ◌^◌, suc, length, ap, ◌∙◌, arith}
 use Rattle.std.proofs.lemmas.Result.{IfOk-weaker}
 use Rattle.tree_make.proofs.MakesLemmas.{makes-more, makes-then, refuses-if}
-use Rattle.tree_node.specs.Slots.{slot_pairs, IsInHand}
+use Rattle.tree_read.specs.Slots.{slot_pairs, IsInHand}
 use Rattle.tree_build.specs.Builds.{groups, nodes_above, BuildsTree}
 use Rattle.tree_build.proofs.GroupLemmas.{groups-some}
 use Rattle.tree_build.proofs.BuildLemmas.{builds-root, builds-over, nodes_above-some, nodes_above-more, next-few, low-level, as_slots, slots_as, small-few}

@@ -1,9 +1,9 @@
 use Rattle.std.proofs.Common.{◌<◌, ◌≤◌, length, arith}
 use Rattle.std.specs.List.{zip}
 use Rattle.std.proofs.lemmas.Result.{IfOk-weaker}
-use Rattle.tree_node.specs.Slots.{slot_pairs}
-use Rattle.tree_node.proofs.SlotLemmas.{hand-leaf}
-use Rattle.key_order.proofs.KeyLemmas.{keyed-from, others_kept}
+use Rattle.tree_read.specs.Slots.{slot_pairs}
+use Rattle.tree_read.proofs.SlotLemmas.{hand-leaf}
+use Rattle.tree_read.proofs.OrderKeyLemmas.{keyed-from, others_kept}
 use Rattle.tree_build.proofs.BuildLemmas.{built-pairs, built-turns, built-owns}
 use Rattle.tree_build.proofs.levels.build.Goals as goal
 

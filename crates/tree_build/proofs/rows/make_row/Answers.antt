@@ -1,6 +1,6 @@
 use Rattle.std.proofs.Common.{◌≡◌, ◌<◌, ◌+◌, ◌-◌, ◌^◌, length, take, drop, sym, ap, subst, ◌∙◌, arith, length-append, [], ◌∷◌}
 use Rattle.tree_make.proofs.MakesLemmas.{makes-none, makes-more, makes-then}
-use Rattle.tree_node.proofs.SlotLemmas.{hand-kept, slot_pairs-kept}
+use Rattle.tree_read.proofs.SlotLemmas.{hand-kept, slot_pairs-kept}
 use Rattle.tree_build.specs.Builds.{groups, group_start, AddsPart}
 use Rattle.tree_build.proofs.GroupLemmas.{group-is, starts-at-none, starts-at-all}
 use Rattle.tree_build.proofs.RowLemmas.{part-hand, part-few, part-size, row-begins, row-step, row-ends}

@@ -2,18 +2,18 @@ use Rattle.std.proofs.Common.{rules, ◌≡◌, ◌<◌, ◌≤◌, ◌-◌, ◌
 use Rattle.std.specs.Prelude.{slice_index_or}
 use Rattle.std.proofs.lemmas.Result.{IfOk-weaker}
 use Rattle.entry_ref.specs.Records.{Records}
-use Rattle.tree_images.specs.Nodes.{level_of, used_of, count_of, node_keys, node_values, IsNodeForm}
-use Rattle.tree_images.specs.Trees.{pairs_below, IsNode}
-use Rattle.tree_images.proofs.TreeLemmas.{IsNode-form}
+use Rattle.tree_read.specs.Nodes.{level_of, used_of, count_of, node_keys, node_values, IsNodeForm}
+use Rattle.tree_read.specs.Trees.{pairs_below, IsNode}
+use Rattle.tree_read.proofs.TreeLemmas.{IsNode-form}
 use Rattle.store_api.specs.Calls.{Refuses}
-use Rattle.tree_node.proofs.ChildLemmas.{keys-length, IsNode-lower, get_or-node_values}
-use Rattle.tree_node.proofs.ReadLemmas.{node-even}
-use Rattle.key_order.specs.Keys.{seen_by, Ascends, AllReadable}
-use Rattle.key_order.specs.Pairs.{put}
-use Rattle.tree_node.specs.Places.{IsPlace}
+use Rattle.tree_read.proofs.ChildLemmas.{keys-length, IsNode-lower, get_or-node_values}
+use Rattle.tree_read.proofs.ReadLemmas.{node-even}
+use Rattle.tree_read.specs.Keys.{seen_by, Ascends, AllReadable}
+use Rattle.tree_read.specs.Pairs.{put}
+use Rattle.tree_read.specs.NodePlaces.{IsPlace}
 use Rattle.tree_make.specs.Makes.{MakesNodes}
 use Rattle.tree_make.proofs.MakesLemmas.{makes-more, makes-then, refuses-if}
-use Rattle.tree_node.specs.Slots.{slot_pairs, IsInHand}
+use Rattle.tree_read.specs.Slots.{slot_pairs, IsInHand}
 use Rattle.tree_insert.specs.Inserts.{Inserts}
 use Rattle.tree_insert.specs.Parts.{MakesParts, part_keys, part_nodes}
 use Rattle.tree_insert.specs.declared.parts.Parts.{Parts}

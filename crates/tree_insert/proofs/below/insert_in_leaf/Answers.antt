@@ -1,11 +1,11 @@
 use Rattle.std.proofs.Common.{◌≡◌, ◌≤◌, ℕ, length, sym, ap, subst, arith}
 use Rattle.std.specs.List.{zip}
 use Rattle.std.proofs.lemmas.Result.{IfOk-weaker}
-use Rattle.tree_images.specs.Nodes.{used_of, node_keys, node_values, IsNodeForm}
-use Rattle.tree_images.specs.Trees.{pairs_below, IsNode}
-use Rattle.tree_images.proofs.TreeLemmas.{IsNode-form}
-use Rattle.key_order.specs.Keys.{seen_by, AllReadable}
-use Rattle.key_order.specs.Pairs.{put}
+use Rattle.tree_read.specs.Nodes.{used_of, node_keys, node_values, IsNodeForm}
+use Rattle.tree_read.specs.Trees.{pairs_below, IsNode}
+use Rattle.tree_read.proofs.TreeLemmas.{IsNode-form}
+use Rattle.tree_read.specs.Keys.{seen_by, AllReadable}
+use Rattle.tree_read.specs.Pairs.{put}
 use Rattle.tree_insert.specs.Parts.{MakesParts, put_at}
 use Rattle.tree_insert.proofs.BelowLemmas.{leaf-inserts}
 use Rattle.tree_insert.proofs.HandLemmas.{hand-size, hand-even, pair-put, pair-most}

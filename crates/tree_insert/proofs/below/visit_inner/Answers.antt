@@ -1,7 +1,7 @@
 use Rattle.std.proofs.Common.{◌≡◌, ◌<◌, length, ap, arith, inl, inr}
-use Rattle.tree_images.specs.Nodes.{level_of, used_of, node_keys}
-use Rattle.tree_images.proofs.TreeLemmas.{IsNode-form}
-use Rattle.tree_node.proofs.ChildLemmas.{keys-length}
+use Rattle.tree_read.specs.Nodes.{level_of, used_of, node_keys}
+use Rattle.tree_read.proofs.TreeLemmas.{IsNode-form}
+use Rattle.tree_read.proofs.ChildLemmas.{keys-length}
 use Rattle.tree_insert.proofs.below.visit_inner.Goals as goal
 
 pub overflow_sub-result : goal.overflow_sub-result

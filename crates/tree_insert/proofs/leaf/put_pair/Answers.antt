@@ -1,6 +1,6 @@
 use Rattle.std.proofs.Common.{◌≡◌, ◌<◌, ◌^◌, ◌+◌, length, true, false, sym, subst, ◌∙◌, arith, true≢false, IfOk}
-use Rattle.tree_images.specs.Nodes.{count_of, node_keys, node_values}
-use Rattle.tree_node.specs.Slots.{slot_pairs, IsInHand}
+use Rattle.tree_read.specs.Nodes.{count_of, node_keys, node_values}
+use Rattle.tree_read.specs.Slots.{slot_pairs, IsInHand}
 use Rattle.tree_make.specs.Words.{AreWords}
 use Rattle.tree_make.proofs.WordLemmas.{form-words, words-used, cut-size}
 use Rattle.tree_insert.specs.Parts.{MakesParts, put_at}

@@ -1,6 +1,6 @@
 use Rattle.std.proofs.Common.{◌≡◌, ◌<◌, ◌^◌, ◌+◌, ℕ, suc, List, ◌∷◌, ◌++◌, length, take, drop, insert, sym, ap, subst, ◌∙◌, arith, IfOk}
-use Rattle.tree_images.specs.Nodes.{level_of, count_of, node_keys, node_values}
-use Rattle.tree_node.specs.Slots.{slot_pairs, IsInHand}
+use Rattle.tree_read.specs.Nodes.{level_of, count_of, node_keys, node_values}
+use Rattle.tree_read.specs.Slots.{slot_pairs, IsInHand}
 use Rattle.tree_make.specs.Words.{AreWords}
 use Rattle.tree_make.proofs.WordLemmas.{form-words, words-used, words-form, cut-size}
 use Rattle.tree_insert.specs.Parts.{MakesParts, part_keys, part_nodes}

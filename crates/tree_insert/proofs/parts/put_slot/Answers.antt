@@ -1,5 +1,5 @@
 use Rattle.std.proofs.Common.{◌<◌, ◌≤◌, length, insert, subst, arith}
-use Rattle.tree_images.specs.Nodes.{level_of, count_of, node_keys, node_values}
+use Rattle.tree_read.specs.Nodes.{level_of, count_of, node_keys, node_values}
 use Rattle.tree_make.specs.Words.{AreWords}
 use Rattle.tree_make.proofs.WordLemmas.{form-words, words-used, put-size}
 use Rattle.tree_insert.proofs.HandLemmas.{hand-size}

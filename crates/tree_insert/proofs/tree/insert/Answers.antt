@@ -1,10 +1,10 @@
 use Rattle.std.proofs.Common.{◌+◌, ◌*◌, ℕ, [], ◌∷◌, sym, subst}
-use Rattle.tree_images.specs.Trees.{tree_pairs}
-use Rattle.key_order.specs.Keys.{seen_by, ReadsNoNode}
-use Rattle.key_order.specs.Pairs.{put}
-use Rattle.key_order.proofs.KeyLemmas.{others_kept}
-use Rattle.key_order.proofs.OrderLemmas.{put-ascends}
-use Rattle.key_order.proofs.PairLemmas.{All-put}
+use Rattle.tree_read.specs.Trees.{tree_pairs}
+use Rattle.tree_read.specs.Keys.{seen_by, ReadsNoNode}
+use Rattle.tree_read.specs.Pairs.{put}
+use Rattle.tree_read.proofs.OrderKeyLemmas.{others_kept}
+use Rattle.tree_read.proofs.OrderLemmas.{put-ascends}
+use Rattle.tree_read.proofs.PairLemmas.{All-put}
 use Rattle.store_api.specs.Parts.{Owns, entries}
 use Rattle.tree_make.specs.Changes.{DropsEntries, levels}
 use Rattle.tree_make.proofs.ChangeLemmas.{gone-owned, end-turns, end-owns, end-pairs, end-others, end-may, end-counts, end-keyed}

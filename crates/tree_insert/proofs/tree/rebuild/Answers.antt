@@ -1,8 +1,8 @@
 use Rattle.std.proofs.Common.{rules, ◌∙◌, ◌≡◌, ◌<◌, ◌+◌, ◌*◌, ◌/◌, ℕ, suc, [], length, sym, ap, subst, arith, ◌^◌}
 use Rattle.std.proofs.lemmas.Result.{IfOk-weaker}
-use Rattle.tree_images.specs.Trees.{pairs_below, tree_pairs, IsNode, root_level}
-use Rattle.key_order.specs.Keys.{seen_by, Ascends, AllReadable}
-use Rattle.key_order.specs.Pairs.{put}
+use Rattle.tree_read.specs.Trees.{pairs_below, tree_pairs, IsNode, root_level}
+use Rattle.tree_read.specs.Keys.{seen_by, Ascends, AllReadable}
+use Rattle.tree_read.specs.Pairs.{put}
 use Rattle.tree_make.specs.Changes.{Rebuilds, levels}
 use Rattle.tree_make.specs.Makes.{MakesNodes}
 use Rattle.tree_make.proofs.MakesLemmas.{makes-then, makes-more, refuses-if}

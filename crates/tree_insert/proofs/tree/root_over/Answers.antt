@@ -1,7 +1,7 @@
 use Rattle.std.proofs.Common.{◌≡◌, ◌<◌, inl, inr, ℕ, List, [], ◌∷◌, ◌++◌, length, sym, ap, subst, ◌∙◌, arith, ◌^◌}
 use Rattle.std.proofs.lemmas.Bool.{cases_eq}
 use Rattle.std.specs.List.{flat_map}
-use Rattle.tree_images.specs.Trees.{pairs_below, root_least}
+use Rattle.tree_read.specs.Trees.{pairs_below, root_least}
 use Rattle.tree_insert.specs.declared.parts.Parts.TheVariants.{Two}
 use Rattle.tree_insert.specs.Parts.{AreParts, IsRootOver, part_nodes}
 use Rattle.tree_insert.proofs.RootLemmas.{two-hand, two-few, two_root}

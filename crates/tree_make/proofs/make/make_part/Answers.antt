@@ -1,10 +1,10 @@
 use Rattle.std.proofs.Common.{◌≡◌, ◌-◌, ℕ, suc, List, length, get_or, sym, ap, subst, ◌∙◌, arith, Err}
-use Rattle.tree_images.specs.Nodes.{node_words}
-use Rattle.tree_images.specs.Trees.{last_key}
+use Rattle.tree_read.specs.Nodes.{node_words}
+use Rattle.tree_read.specs.Trees.{last_key}
 use Rattle.store_api.specs.Calls.{Makes}
 use Rattle.store_api.specs.Units.{MayDo}
 use Rattle.tree_make.specs.Makes.{MakesNodes, MakesNode}
-use Rattle.tree_node.proofs.CountLemmas.{last_slot}
+use Rattle.tree_read.proofs.CountLemmas.{last_slot}
 use Rattle.tree_make.proofs.MadeLemmas.{makes-node, makes-any, makes-refused}
 use Rattle.tree_make.proofs.Results.{on_err}
 use Rattle.tree_make.proofs.make.make_part.Goals as goal

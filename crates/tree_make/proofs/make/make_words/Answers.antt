@@ -1,8 +1,8 @@
 use Rattle.std.proofs.Common.{◌≡◌, ◌+◌, ◌-◌, ℕ, suc, length, get_or, refl, sym, ap, subst, ◌∙◌, arith, Err}
-use Rattle.tree_images.specs.Trees.{last_key}
-use Rattle.tree_node.specs.Slots.{slot_pairs}
+use Rattle.tree_read.specs.Trees.{last_key}
+use Rattle.tree_read.specs.Slots.{slot_pairs}
 use Rattle.tree_make.specs.Makes.{MakesNode}
-use Rattle.tree_node.proofs.CountLemmas.{last_slot}
+use Rattle.tree_read.proofs.CountLemmas.{last_slot}
 use Rattle.tree_make.proofs.MadeLemmas.{makes-node, makes-any, makes-refused}
 use Rattle.tree_make.proofs.Results.{on_err, if_err}
 use Rattle.tree_make.proofs.WordLemmas.{words-last, words-used}

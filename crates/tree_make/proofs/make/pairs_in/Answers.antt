@@ -1,10 +1,10 @@
 use Rattle.std.proofs.Common.{◌≡◌, ◌<◌, ◌≤◌, ◌+◌, ◌-◌, ℕ, List, length, get_or, ap, subst, ◌∙◌, arith}
 use Rattle.entry_ref.specs.Records.{word_at}
-use Rattle.tree_images.specs.Nodes.{count_of}
-use Rattle.tree_images.specs.Trees.{pairs_below}
+use Rattle.tree_read.specs.Nodes.{count_of}
+use Rattle.tree_read.specs.Trees.{pairs_below}
 use Rattle.std.specs.List.{flat_map}
 use Rattle.std.proofs.lemmas.List.{take_all}
-use Rattle.tree_node.proofs.CountLemmas.{leaf_count, child_size, counted_more, count_within, counted_all}
+use Rattle.tree_read.proofs.CountLemmas.{leaf_count, child_size, counted_more, count_within, counted_all}
 use Rattle.tree_make.proofs.make.pairs_in.Goals as goal
 
 pub returns-then-slots-eq0-clause-count : goal.returns-then-slots-eq0-clause-count

@@ -1,6 +1,6 @@
 use Rattle.std.proofs.Common.{◌≡◌, ◌-◌, length, take}
 use Rattle.std.specs.List.{flat_map}
-use Rattle.tree_images.specs.Trees.{pairs_below}
+use Rattle.tree_read.specs.Trees.{pairs_below}
 use Rattle.tree_make.proofs.make.pairs_in.Given as goal
 
 abbrev pub invariant-loop-child : goal.invariant-loop-child

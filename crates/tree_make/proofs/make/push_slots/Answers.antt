@@ -1,6 +1,6 @@
 use Rattle.std.proofs.Common.{◌≡◌, ◌≤◌, ℕ, List, ◌-◌, ◌++◌, length, take, drop, replicate, ap, ◌∙◌, append_assoc, arith}
 use Rattle.std.proofs.lemmas.List.{drop-replicate, take_all, length-replicate}
-use Rattle.tree_images.specs.Nodes.{slot_words}
+use Rattle.tree_read.specs.Nodes.{slot_words}
 use Rattle.tree_make.proofs.make.push_slots.Goals as goal
 
 slots_more : (words slots all : List ℕ) → all ≡ words ++ slots → length slots ≤ 16

@@ -1,6 +1,6 @@
 use Rattle.std.proofs.Common.{◌≡◌, ℕ, List, [], ◌∷◌, ◌++◌, length, refl, sym, ap, ◌∙◌, arith}
-use Rattle.tree_node.proofs.CountLemmas.{leaf_count}
-use Rattle.tree_node.proofs.SlotLemmas.{hand-leaf}
+use Rattle.tree_read.proofs.CountLemmas.{leaf_count}
+use Rattle.tree_read.proofs.SlotLemmas.{hand-leaf}
 use Rattle.tree_make.proofs.root.make_leaf.Goals as goal
 
 pub make_part-requires-clause-hand : goal.make_part-requires-clause-hand

@@ -1,8 +1,8 @@
 use Rattle.std.proofs.Common.{◌≡◌, ◌≢◌, ℕ, suc, ◌-◌, ◌<◌, List, length, get_or, sym, ap, subst, ◌∙◌, arith}
 use Rattle.list_facts.proofs.Tests.{zero_from_test, above_zero_from_test}
-use Rattle.tree_images.specs.Trees.{IsNode}
-use Rattle.tree_node.specs.Slots.{IsInHand}
-use Rattle.tree_node.proofs.ReadLemmas.{node-size}
+use Rattle.tree_read.specs.Trees.{IsNode}
+use Rattle.tree_read.specs.Slots.{IsInHand}
+use Rattle.tree_read.proofs.ReadLemmas.{node-size}
 use Rattle.tree_make.proofs.RootLemmas.{root-none, root-only, root-made, only-node, leaf_from, many_from, ref_some}
 use Rattle.tree_make.specs.Makes.{MakesRoot}
 use Rattle.tree_make.proofs.root.make_root.Goals as goal

@@ -1,17 +1,17 @@
 use Rattle.std.proofs.Common.{rules, ◌≡◌, ◌+◌, ℕ, suc, ◌-◌, ◌<◌, ◌≤◌, List, [], ◌∷◌, ◌++◌, length, true, refl, sym, ap, subst, ◌∙◌, arith, ◌^◌, length-append}
 use Rattle.std.specs.Prelude.{IsSome}
-use Rattle.tree_images.specs.Nodes.{level_of, count_of, node_keys, node_values, IsNodeForm}
-use Rattle.tree_images.specs.Trees.{pairs_below, IsNode, root_least}
-use Rattle.tree_images.proofs.TreeLemmas.{IsNode-form, IsNode-count}
-use Rattle.key_order.specs.Keys.{seen_by, Ascends, AllReadable}
-use Rattle.key_order.specs.Pairs.{lookup}
-use Rattle.key_order.proofs.PairLemmas.{length-take_out}
-use Rattle.tree_node.specs.Slots.{slot_pairs, IsInHand}
-use Rattle.tree_node.proofs.CountLemmas.{leaf_count}
-use Rattle.tree_node.proofs.SlotLemmas.{hand-leaf}
-use Rattle.tree_node.proofs.ReadLemmas.{node-level}
-use Rattle.tree_node.proofs.RootLemmas.{root_least-few}
-use Rattle.tree_node.proofs.ChildLemmas.{IsNode-lower}
+use Rattle.tree_read.specs.Nodes.{level_of, count_of, node_keys, node_values, IsNodeForm}
+use Rattle.tree_read.specs.Trees.{pairs_below, IsNode, root_least}
+use Rattle.tree_read.proofs.TreeLemmas.{IsNode-form, IsNode-count}
+use Rattle.tree_read.specs.Keys.{seen_by, Ascends, AllReadable}
+use Rattle.tree_read.specs.Pairs.{lookup}
+use Rattle.tree_read.proofs.PairLemmas.{length-take_out}
+use Rattle.tree_read.specs.Slots.{slot_pairs, IsInHand}
+use Rattle.tree_read.proofs.CountLemmas.{leaf_count}
+use Rattle.tree_read.proofs.SlotLemmas.{hand-leaf}
+use Rattle.tree_read.proofs.ReadLemmas.{node-level}
+use Rattle.tree_read.proofs.RootLemmas.{root_least-few}
+use Rattle.tree_read.proofs.ChildLemmas.{IsNode-lower}
 use Rattle.tree_make.specs.Words.{AreWords}
 use Rattle.tree_make.proofs.WordLemmas.{words-level}
 use Rattle.tree_remove.proofs.RemoveLemmas.{removes-leaf, removes-over, over-out, over-few, over-least, over-hand}

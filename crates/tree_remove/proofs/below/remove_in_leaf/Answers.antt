@@ -3,13 +3,13 @@ use Rattle.std.specs.Prelude.{IsSome, slice_index_or}
 use Rattle.std.proofs.lemmas.List.Edits.{length-remove}
 use Rattle.std.specs.List.{zip, remove}
 use Rattle.list_facts.proofs.Pairs.{length-zip_even}
-use Rattle.tree_images.specs.Nodes.{count_of, node_keys, node_values}
-use Rattle.tree_images.specs.Trees.{pairs_below, IsNode}
-use Rattle.tree_images.proofs.TreeLemmas.{IsNode-form, IsNode-count}
-use Rattle.key_order.specs.Keys.{seen_by, AllReadable}
-use Rattle.key_order.specs.Pairs.{lookup, take_out}
-use Rattle.tree_node.proofs.ChildLemmas.{keys-length}
-use Rattle.tree_node.proofs.ReadLemmas.{node-even, leaf-pairs}
+use Rattle.tree_read.specs.Nodes.{count_of, node_keys, node_values}
+use Rattle.tree_read.specs.Trees.{pairs_below, IsNode}
+use Rattle.tree_read.proofs.TreeLemmas.{IsNode-form, IsNode-count}
+use Rattle.tree_read.specs.Keys.{seen_by, AllReadable}
+use Rattle.tree_read.specs.Pairs.{lookup, take_out}
+use Rattle.tree_read.proofs.ChildLemmas.{keys-length}
+use Rattle.tree_read.proofs.ReadLemmas.{node-even, leaf-pairs}
 use Rattle.tree_make.specs.Words.{AreWords}
 use Rattle.tree_make.proofs.WordLemmas.{form-words, words-keys, words-values}
 use Rattle.tree_remove.proofs.StepLemmas.{leaf-out}

@@ -1,11 +1,11 @@
 use Rattle.std.proofs.Common.{◌≡◌, ◌+◌, ◌-◌, ◌≤◌, ℕ, suc, List, get_or, refl, sym, ap, subst, ◌∙◌, arith}
 use Rattle.std.specs.Prelude.{IsSome, slice_index_or}
-use Rattle.tree_images.specs.Nodes.{level_of, node_keys, node_values}
-use Rattle.tree_images.specs.Trees.{pairs_below, IsNode}
-use Rattle.key_order.specs.Keys.{seen_by, Ascends, AllReadable}
-use Rattle.key_order.specs.Pairs.{lookup}
-use Rattle.tree_node.proofs.ChildLemmas.{keys-length, IsNode-lower, get_or-node_values}
-use Rattle.tree_node.proofs.ReadLemmas.{node-size, node-room}
+use Rattle.tree_read.specs.Nodes.{level_of, node_keys, node_values}
+use Rattle.tree_read.specs.Trees.{pairs_below, IsNode}
+use Rattle.tree_read.specs.Keys.{seen_by, Ascends, AllReadable}
+use Rattle.tree_read.specs.Pairs.{lookup}
+use Rattle.tree_read.proofs.ChildLemmas.{keys-length, IsNode-lower, get_or-node_values}
+use Rattle.tree_read.proofs.ReadLemmas.{node-size, node-room}
 use Rattle.tree_remove.proofs.StepLemmas.{at-low, at-node, at-ascends, at-all, at-step}
 use Rattle.tree_remove.proofs.below.step_down.Goals as goal
 

@@ -1,6 +1,6 @@
 use Rattle.std.proofs.Common.{◌≡◌, ◌+◌, ◌<◌, length, set, sym, ap, subst, ◌∙◌, arith, length-append, ◌^◌}
-use Rattle.tree_node.proofs.SlotLemmas.{hand-kept, hand-left, hand-right}
-use Rattle.tree_node.specs.Slots.{slot_pairs, IsInHand}
+use Rattle.tree_read.proofs.SlotLemmas.{hand-kept, hand-left, hand-right}
+use Rattle.tree_read.specs.Slots.{slot_pairs, IsInHand}
 use Rattle.tree_remove.proofs.SettleLemmas.{settles-shared, part-at, hand-at, few-left, few-right, shifted-sizes}
 use Rattle.tree_make.proofs.MakesLemmas.{makes-more, makes-then, refuses-from, refuses-exit}
 use Rattle.tree_make.proofs.Results.{on_err}

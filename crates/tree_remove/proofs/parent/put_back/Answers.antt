@@ -1,7 +1,7 @@
 use Rattle.std.proofs.Common.{◌≡◌, suc, ◌-◌, ◌<◌, ◌++◌, length, get_or, refl, sym, subst, arith, ◌^◌}
 use Rattle.std.proofs.lemmas.Result.{on_ok_weaker}
-use Rattle.tree_node.proofs.SlotLemmas.{hand-append}
-use Rattle.tree_node.specs.Slots.{slot_pairs, slot_nodes, IsInHand}
+use Rattle.tree_read.proofs.SlotLemmas.{hand-append}
+use Rattle.tree_read.specs.Slots.{slot_pairs, slot_nodes, IsInHand}
 use Rattle.tree_remove.proofs.ParentLemmas.{puts-left, puts-right, few-before, few-behind}
 use Rattle.tree_remove.specs.Removes.{IsChild, PutsBack, spliced}
 use Rattle.tree_remove.specs.Settles.{SettlesSlots}

@@ -1,8 +1,8 @@
 use Rattle.std.proofs.Common.{◌≡◌, ◌-◌, ◌<◌, ◌≤◌, ◌^◌, suc, ◌∷◌, ◌++◌, length, take, drop, set, refl, sym, ap, subst, ◌∙◌, arith, length-append}
 use Rattle.std.specs.Prelude.{slice_index_or}
 use Rattle.std.proofs.lemmas.List.{set_split}
-use Rattle.tree_images.specs.Nodes.{level_of, used_of, count_of, node_keys, node_values}
-use Rattle.tree_node.specs.Slots.{slot_pairs}
+use Rattle.tree_read.specs.Nodes.{level_of, used_of, count_of, node_keys, node_values}
+use Rattle.tree_read.specs.Slots.{slot_pairs}
 use Rattle.tree_make.specs.Makes.{MakesPart}
 use Rattle.tree_make.specs.Words.{AreWords}
 use Rattle.tree_make.proofs.WordLemmas.{form-words, words-used, words-keys, words-values}

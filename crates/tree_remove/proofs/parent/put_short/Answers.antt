@@ -1,6 +1,6 @@
 use Rattle.std.proofs.Common.{◌≡◌, length, sym, ap, subst, ◌∙◌}
-use Rattle.tree_images.specs.Nodes.{level_of, node_keys, node_values}
-use Rattle.tree_node.specs.Slots.{slot_pairs}
+use Rattle.tree_read.specs.Nodes.{level_of, node_keys, node_values}
+use Rattle.tree_read.specs.Slots.{slot_pairs}
 use Rattle.tree_make.specs.Words.{AreWords}
 use Rattle.tree_make.proofs.WordLemmas.{words-keys, words-values}
 use Rattle.tree_remove.specs.Removes.{PutsBack}

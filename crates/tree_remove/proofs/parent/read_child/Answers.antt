@@ -1,7 +1,7 @@
 use Rattle.std.proofs.Common.{ℕ, ◌-◌, ◌≤◌, List, length, get_or, sym, ap, subst, ◌∙◌, arith}
-use Rattle.tree_images.specs.Nodes.{used_of, level_of, node_keys, node_values}
+use Rattle.tree_read.specs.Nodes.{used_of, level_of, node_keys, node_values}
 use Rattle.tree_remove.proofs.ReadLemmas.{child-node, child-read}
-use Rattle.tree_node.proofs.ReadLemmas.{node-size, node-room, node-level}
+use Rattle.tree_read.proofs.ReadLemmas.{node-size, node-room, node-level}
 use Rattle.tree_remove.proofs.parent.read_child.Goals as goal
 
 pub overflow_cast-deref : goal.overflow_cast-deref

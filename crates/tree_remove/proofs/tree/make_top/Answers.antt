@@ -1,7 +1,7 @@
 use Rattle.std.proofs.Common.{◌≡◌, ◌≢◌, ◌<◌, ◌≤◌, ◌^◌, ℕ, List, length, sym, subst, arith}
 use Rattle.std.proofs.lemmas.Result.{IfOk-weaker}
-use Rattle.tree_images.specs.Nodes.{level_of, used_of, node_keys, node_values}
-use Rattle.tree_node.specs.Slots.{slot_pairs, IsInHand}
+use Rattle.tree_read.specs.Nodes.{level_of, used_of, node_keys, node_values}
+use Rattle.tree_read.specs.Slots.{slot_pairs, IsInHand}
 use Rattle.tree_make.specs.Makes.{MakesPart, MakesRoot}
 use Rattle.tree_make.proofs.RootLemmas.{root-made, many_from}
 use Rattle.tree_make.proofs.WordLemmas.{words-used}

@@ -1,17 +1,17 @@
 use Rattle.std.proofs.Common.{rules, ◌≡◌, ℕ, suc, ◌+◌, ◌/◌, ◌<◌, length, sym, ap, subst, ◌∙◌, arith, ◌^◌}
 use Rattle.std.specs.Prelude.{IsSome}
 use Rattle.std.proofs.lemmas.Result.{IfOk-weaker}
-use Rattle.tree_images.specs.Trees.{pairs_below, root_level, root_least, IsNode}
-use Rattle.key_order.specs.Keys.{seen_by, Ascends, AllReadable}
-use Rattle.key_order.specs.Pairs.{lookup}
+use Rattle.tree_read.specs.Trees.{pairs_below, root_level, root_least, IsNode}
+use Rattle.tree_read.specs.Keys.{seen_by, Ascends, AllReadable}
+use Rattle.tree_read.specs.Pairs.{lookup}
 use Rattle.tree_make.specs.Changes.{levels}
 use Rattle.tree_make.proofs.MakesLemmas.{makes-then, makes-more, refuses-if}
 use Rattle.tree_make.proofs.TopLemmas.{root-size, root-level, root-low, root-node, root-pairs, root-levels}
 use Rattle.tree_make.specs.Makes.{MakesNodes, MakesRoot}
-use Rattle.tree_images.specs.Nodes.{level_of, node_keys, node_values}
+use Rattle.tree_read.specs.Nodes.{level_of, node_keys, node_values}
 use Rattle.tree_make.specs.Words.{AreWords}
 use Rattle.tree_make.proofs.WordLemmas.{words-level}
-use Rattle.tree_node.specs.Slots.{slot_pairs, IsInHand}
+use Rattle.tree_read.specs.Slots.{slot_pairs, IsInHand}
 use Rattle.tree_remove.proofs.TreeLemmas.{top-few, top-some, rebuilds-from}
 use Rattle.tree_remove.specs.Removes.{Removes}
 use Rattle.tree_remove.proofs.tree.rebuild.Goals as goal

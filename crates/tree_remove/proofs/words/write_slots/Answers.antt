@@ -1,5 +1,5 @@
 use Rattle.std.proofs.Common.{◌+◌, ◌*◌, ◌∷◌, ◌++◌, List, ℕ, ap, ◌∙◌}
-use Rattle.tree_images.specs.Nodes.{slot_words}
+use Rattle.tree_read.specs.Nodes.{slot_words}
 use Rattle.tree_remove.proofs.WordLemmas.{words-rest, words-written}
 use Rattle.tree_remove.proofs.words.write_slots.Goals as goal
 

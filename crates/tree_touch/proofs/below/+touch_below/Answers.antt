@@ -1,16 +1,16 @@
 use Rattle.std.proofs.Common.{rules, ◌≡◌, ◌≢◌, ◌<◌, ◌≤◌, ◌+◌, ◌-◌, ◌++◌, ℕ, suc, [], ◌∷◌, length, get_or, set, true, sym, ap, subst, ◌∙◌, arith}
 use Rattle.std.proofs.lemmas.Result.{IfOk-weaker}
 use Rattle.entry_ref.specs.References.{buffer_of}
-use Rattle.tree_images.specs.Nodes.{level_of, node_values}
-use Rattle.tree_images.specs.Trees.{pairs_below, IsNode}
-use Rattle.tree_images.proofs.TreeLemmas.{IsNode-form}
-use Rattle.key_order.specs.Keys.{seen_by, AllReadable}
+use Rattle.tree_read.specs.Nodes.{level_of, node_values}
+use Rattle.tree_read.specs.Trees.{pairs_below, IsNode}
+use Rattle.tree_read.proofs.TreeLemmas.{IsNode-form}
+use Rattle.tree_read.specs.Keys.{seen_by, AllReadable}
 use Rattle.tree_make.specs.Makes.{MakesNodes}
 use Rattle.tree_make.proofs.MakesLemmas.{makes-more, makes-then}
 use Rattle.tree_make.proofs.RootLemmas.{ref_some}
-use Rattle.tree_node.proofs.ChildLemmas.{IsNode-lower, keys-length}
-use Rattle.tree_node.proofs.ReadLemmas.{node-even, inner-pairs}
-use Rattle.key_order.proofs.PairLemmas.{All-child}
+use Rattle.tree_read.proofs.ChildLemmas.{IsNode-lower, keys-length}
+use Rattle.tree_read.proofs.ReadLemmas.{node-even, inner-pairs}
+use Rattle.tree_read.proofs.PairLemmas.{All-child}
 use Rattle.tree_touch.specs.Touches.{CopiesNode, Touches}
 use Rattle.tree_touch.proofs.CopyLemmas.{child-node}
 use Rattle.tree_touch.proofs.TouchLemmas.{node-stays, node-anew}

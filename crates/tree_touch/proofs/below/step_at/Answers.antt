@@ -1,10 +1,10 @@
 use Rattle.std.proofs.Common.{◌≡◌, ◌<◌, ◌-◌, ◌^◌, ℕ, suc, List, length, get_or, sym, ap, subst, ◌∙◌, arith}
 use Rattle.std.specs.List.{AllByRecursion}
-use Rattle.tree_images.specs.Nodes.{level_of, node_keys, node_values}
-use Rattle.tree_images.specs.Trees.{IsNode}
-use Rattle.tree_images.proofs.TreeLemmas.{IsNode-form}
-use Rattle.tree_node.proofs.ChildLemmas.{keys-length}
-use Rattle.tree_node.proofs.ReadLemmas.{node-even, node-keys-all}
+use Rattle.tree_read.specs.Nodes.{level_of, node_keys, node_values}
+use Rattle.tree_read.specs.Trees.{IsNode}
+use Rattle.tree_read.proofs.TreeLemmas.{IsNode-form}
+use Rattle.tree_read.proofs.ChildLemmas.{keys-length}
+use Rattle.tree_read.proofs.ReadLemmas.{node-even, node-keys-all}
 use Rattle.tree_touch.proofs.CopyLemmas.{child-node}
 use Rattle.tree_touch.proofs.below.step_at.Goals as goal
 

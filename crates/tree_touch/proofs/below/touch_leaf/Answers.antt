@@ -1,7 +1,7 @@
 use Rattle.std.proofs.Common.{◌≡◌, ◌≢◌, ◌++◌, [], ◌∷◌, ap, ◌∙◌, arith}
 use Rattle.std.proofs.lemmas.Result.{IfOk-weaker}
 use Rattle.entry_ref.specs.References.{buffer_of}
-use Rattle.tree_images.proofs.TreeLemmas.{IsNode-form}
+use Rattle.tree_read.proofs.TreeLemmas.{IsNode-form}
 use Rattle.tree_touch.proofs.TouchLemmas.{leaf-stays, leaf-anew}
 use Rattle.tree_touch.proofs.below.touch_leaf.Goals as goal
 

@@ -1,7 +1,7 @@
 use Rattle.std.proofs.Common.{◌≡◌, ◌<◌, suc, [], length, true, sym, ap, subst, ◌∙◌, arith}
 use Rattle.std.proofs.lemmas.Result.{IfOk-weaker}
-use Rattle.tree_images.specs.Trees.{pairs_below, tree_pairs, root_level, IsNode}
-use Rattle.key_order.specs.Keys.{seen_by, AllReadable}
+use Rattle.tree_read.specs.Trees.{pairs_below, tree_pairs, root_level, IsNode}
+use Rattle.tree_read.specs.Keys.{seen_by, AllReadable}
 use Rattle.tree_make.specs.Changes.{Rebuilds, levels}
 use Rattle.tree_make.specs.Makes.{MakesNodes}
 use Rattle.tree_make.proofs.MakesLemmas.{makes-none}

@@ -7,8 +7,8 @@ use Rattle.attr_images.specs.Postings.{index_of}
 use Rattle.attr_index.specs.Index.{list_of, with_posting}
 use Rattle.attr_types.specs.Value.{type_of}
 use Rattle.enum_dictionary.specs.Dictionaries.{beside_value}
-use Rattle.key_order.specs.Pairs.{lookup_pair}
-use Rattle.tree_images.specs.Trees.{tree_pairs}
+use Rattle.tree_read.specs.Pairs.{lookup_pair}
+use Rattle.tree_read.specs.Trees.{tree_pairs}
 use Rattle.posting_store.specs.Changes.{MakesWithin}
 use Rattle.store_api.specs.Calls.{RefusesOf}
 use Rattle.store_api.specs.Parts.{Owns}

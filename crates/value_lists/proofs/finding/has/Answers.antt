@@ -3,8 +3,8 @@ use Rattle.std.specs.Prelude.{IsSome}
 use Rattle.std.specs.BTreeMap.{is_at}
 use Rattle.std.specs.Map.{lookup}
 use Rattle.std.specs.Ordering.{nat_cmp}
-use Rattle.tree_images.specs.Trees.{tree_pairs}
-use Rattle.key_order.specs.Pairs.{lookup_pair}
+use Rattle.tree_read.specs.Trees.{tree_pairs}
+use Rattle.tree_read.specs.Pairs.{lookup_pair}
 use Rattle.enum_dictionary.specs.Dictionaries.{beside_value}
 use Rattle.posting_store.specs.Lists.{list_at, IsList}
 use Rattle.value_index.proofs.KeyLemmas.{pair_found}

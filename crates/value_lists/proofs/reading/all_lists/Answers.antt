@@ -1,6 +1,6 @@
 use Rattle.std.proofs.Common.{◌≡◌, ◌≢◌, ℕ, ◌++◌, List, [], ◌∷◌, map, drop, sym, ap, subst, ◌∙◌, arith, true≢false}
 use Rattle.attr_images.specs.Values.{stored_value, IsValueRecord}
-use Rattle.tree_search.specs.Places.{IsAt, pairs_from}
+use Rattle.tree_read.specs.SearchPlaces.{IsAt, pairs_from}
 use Rattle.posting_store.specs.Lists.{list_at, IsList}
 use Rattle.value_lists.specs.Holds.{as_listed}
 use Rattle.value_lists.specs.declared.reading.ValueList.{ValueList}

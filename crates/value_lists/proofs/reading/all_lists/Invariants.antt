@@ -1,5 +1,5 @@
 use Rattle.std.proofs.Common.{◌≡◌, ◌++◌, map, length}
-use Rattle.tree_search.specs.Places.{IsAt, pairs_from}
+use Rattle.tree_read.specs.SearchPlaces.{IsAt, pairs_from}
 use Rattle.attr_images.specs.Postings.{index_of}
 use Rattle.value_lists.specs.Holds.{as_listed}
 use Rattle.value_lists.proofs.ListLemmas.{listed, ArePairs}

@@ -1,6 +1,6 @@
 use Rattle.std.proofs.Common.{sym, subst, ◌∙◌, arith}
-use Rattle.tree_images.specs.Trees.{tree_pairs}
-use Rattle.key_order.specs.Pairs.{lookup_pair}
+use Rattle.tree_read.specs.Trees.{tree_pairs}
+use Rattle.tree_read.specs.Pairs.{lookup_pair}
 use Rattle.enum_dictionary.specs.Dictionaries.{beside_value}
 use Rattle.posting_store.specs.Lists.{IsList}
 use Rattle.value_index.proofs.KeyLemmas.{pair_found}

@@ -1,6 +1,6 @@
 use Rattle.std.proofs.Common.{◌≡◌, None, sym, ap, ◌∙◌}
-use Rattle.key_order.specs.Pairs.{lookup}
-use Rattle.key_order.proofs.PairLemmas.{take_out-none}
+use Rattle.tree_read.specs.Pairs.{lookup}
+use Rattle.tree_read.proofs.PairLemmas.{take_out-none}
 use Rattle.number_tree.specs.Maps.{MapView, beside_number}
 use Rattle.number_tree.proofs.HoldLemmas.{none_of}
 use Rattle.number_tree.proofs.number_tree.NumberTree.remove.Goals as goal

@@ -1,3 +1,0 @@
-pub mod PairLemmas
-pub mod OrderLemmas
-pub mod KeyLemmas

@@ -1,0 +1,2 @@
+//! Tests of references, images, memory and the store.
+#![tactic(auto)]

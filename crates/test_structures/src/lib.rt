@@ -1,0 +1,2 @@
+//! Tests of the structures that lie in a store.
+#![tactic(auto)]

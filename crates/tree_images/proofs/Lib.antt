@@ -1,4 +1,0 @@
-pub mod TreeLemmas
-pub mod NodeLemmas
-pub mod DistinctLemmas
-pub mod ExampleLemmas

@@ -1,0 +1,11 @@
+pub mod Nodes
+pub mod Trees
+pub mod ProofsForTrees
+pub mod Laws
+pub mod Examples
+pub mod Pairs
+pub mod Keys
+pub mod Slots
+pub mod NodePlaces
+pub mod Steps
+pub mod SearchPlaces

@@ -1,0 +1,99 @@
+//! All keys of a tree, in order, a leaf's at a time.
+ghost use Rattle.std.specs.Prelude.{◌≡◌, ◌<◌, ◌≤◌, ◌++◌, ℕ, suc, List, [], OnOk};
+ghost use Rattle.std.specs.List.{AllByRecursion};
+ghost use Rattle.std.specs.Map.{keys_of};
+ghost use Rattle.tree_read.specs.Nodes.{used_of, node_keys};
+ghost use Rattle.tree_read.specs.Trees.{pairs_below, tree_pairs, IsNode, IsRootNode};
+
+use entry_ref::EntryRef;
+use arena_api::Frozen;
+use std::alloc::AllocError;
+use crate::{FIRST_KEY, FIRST_VALUE, MOST_SLOTS, NODE_WORDS, read_head, read_words, used_in};
+
+/// What takes the keys of a tree.
+pub trait TakesKeys {
+    /// Which keys it can take.
+    ghost can_take: { ℕ → Type 0 };
+
+    /// What it becomes by these keys.
+    ghost takes: { Self → List ℕ → Self → Type 0 };
+
+    fn take(&mut self, keys: &[u64]) -> Result<(), AllocError>
+        requires { AllByRecursion can_take keys.now }
+        ensures { OnOk result (takes self.old keys.now self.new) };
+
+    ghost none: { (taker : Self) → takes taker [] taker };
+
+    ghost joins: { (a b c : Self) (xs ys : List ℕ) → takes a xs b → takes b ys c → takes a (xs ++ ys) c };
+}
+
+/// The keys of the used slots, by the words before the values.
+fn used_keys(words: &[u64; FIRST_VALUE]) -> &[u64]
+    requires { used_of words.now ≤ MOST_SLOTS }
+    ensures { result.now ≡ node_keys words.now }
+{
+    &words[FIRST_KEY..FIRST_KEY + used_in(words)]
+}
+
+/// The keys of a leaf.
+fn take_leaf<const OFFSET_BITS: u32, F: Frozen<OFFSET_BITS>, T: TakesKeys>(
+    frozen: &mut F,
+    leaf: EntryRef<OFFSET_BITS>,
+    taker: &mut T,
+) -> Result<(), AllocError>
+    requires node { IsNode (F.records frozen.old) 1 0 leaf }
+    requires keys { AllByRecursion (λ p. T.can_take p.0) (pairs_below (F.records frozen.old) 0 leaf) }
+    ensures takes { OnOk result (T.takes taker.old (keys_of (pairs_below (F.records frozen.old) 0 leaf.entry)) taker.new) }
+    ensures same { frozen.new ≡ frozen.old }
+{
+    let mut words = [0; FIRST_VALUE];
+    frozen.read(leaf, 0, &mut words);
+    taker.take(used_keys(&words))
+}
+
+/// The keys below a node above the leaves, by its level less one.
+fn take_below<const OFFSET_BITS: u32, F: Frozen<OFFSET_BITS>, T: TakesKeys>(
+    frozen: &mut F,
+    node: EntryRef<OFFSET_BITS>,
+    below: u64,
+    taker: &mut T,
+) -> Result<(), AllocError>
+    requires node { IsNode (F.records frozen.old) 1 (suc below) node }
+    requires keys { AllByRecursion (λ p. T.can_take p.0) (pairs_below (F.records frozen.old) (suc below) node) }
+    ensures takes { OnOk result (T.takes taker.old (keys_of (pairs_below (F.records frozen.old) (suc below) node.entry)) taker.new) }
+    ensures same { frozen.new ≡ frozen.old }
+{
+    let mut words = [0; NODE_WORDS];
+    read_words(frozen, node, &mut words);
+    for slot in 0..used_in(&words) {
+        let child = EntryRef::from_raw(words[FIRST_VALUE + slot] as u32);
+        if below == 0 {
+            take_leaf(frozen, child, taker)?;
+        } else {
+            take_below(frozen, child, below - 1, taker)?;
+        }
+    }
+    Ok(())
+}
+
+/// All keys of the tree of a root.
+pub fn take_keys<const OFFSET_BITS: u32, F: Frozen<OFFSET_BITS>, T: TakesKeys>(
+    frozen: &mut F,
+    root: EntryRef<OFFSET_BITS>,
+    taker: &mut T,
+) -> Result<(), AllocError>
+    requires tree { 0 < root → IsRootNode (F.records frozen.old) root }
+    requires keys { AllByRecursion (λ p. T.can_take p.0) (tree_pairs (F.records frozen.old) root) }
+    ensures takes { OnOk result (T.takes taker.old (keys_of (tree_pairs (F.records frozen.old) root.entry)) taker.new) }
+    ensures same { frozen.new ≡ frozen.old }
+{
+    if !root.valid() {
+        return Ok(());
+    }
+    let level = read_head(frozen, root).level;
+    if level == 0 {
+        take_leaf(frozen, root, taker)
+    } else {
+        take_below(frozen, root, level - 1, taker)
+    }
+}

@@ -1,0 +1,71 @@
+ghost use Rattle.std.specs.Prelude.{◌≡◌, ◌<◌, ℕ, List, [], ◌∷◌, length, reverse, IfSome, IfNone};
+
+use arrayvec::ArrayVec;
+use entry_ref::EntryRef;
+use std::marker::Model;
+
+/// A node above the leaves, with the slot of one of its children.
+#[derive(Clone, Copy, Debug, Drop)]
+pub struct Step<const OFFSET_BITS: u32> {
+    pub node: EntryRef<OFFSET_BITS>,
+    pub slot: u32,
+}
+
+impl<const OFFSET_BITS: u32> Model for Step<OFFSET_BITS> {
+    ghost use Rattle.tree_read.specs.Steps.{Step as OneStep};
+
+    ghost Value = { OneStep };
+
+    ghost view = { λ step. record { node = step.node; slot = step.slot } };
+
+    ghost inverse = { λ step. record { node = step.node; slot = step.slot } };
+}
+
+impl<const OFFSET_BITS: u32> Default for Step<OFFSET_BITS> {
+    fn default() -> Self {
+        Step {
+            node: EntryRef::from_raw(0),
+            slot: 0,
+        }
+    }
+}
+
+/// The steps from a root down. Contracts see the list of them from the lowest up.
+#[derive(Drop)]
+pub struct Path<const OFFSET_BITS: u32> {
+    steps: ArrayVec<Step<OFFSET_BITS>, 8>,
+}
+
+impl<const OFFSET_BITS: u32> Model for Path<OFFSET_BITS> {
+    ghost use Rattle.std.specs.Prelude.{List, reverse};
+    ghost use Rattle.tree_read.specs.Steps.{Step as OneStep};
+
+    ghost Value = { List OneStep };
+
+    ghost view = { λ path. reverse path.steps.items };
+}
+
+impl<const OFFSET_BITS: u32> Path<OFFSET_BITS> {
+    pub fn new() -> Self
+        ensures { result ≡ [] }
+    {
+        Path {
+            steps: ArrayVec::new(),
+        }
+    }
+
+    pub fn push(&mut self, node: EntryRef<OFFSET_BITS>, slot: u32)
+        requires { length self.old < 8 }
+        ensures { self.new ≡ record { node = node.entry; slot = slot } ∷ self.old }
+    {
+        self.steps.push(Step { node, slot });
+    }
+
+    pub fn pop(&mut self) -> Option<Step<OFFSET_BITS>>
+        ensures some { IfSome result (λ step. self.old ≡ step ∷ self.new) }
+        ensures none { IfNone result (self.old ≡ []) }
+        ensures empty { IfNone result (self.new ≡ []) }
+    {
+        self.steps.pop()
+    }
+}

@@ -1,4 +1,0 @@
-use Rattle.tree_search.proofs.search.+find_below.Given as goal
-
-abbrev pub decreases-find_below : goal.decreases-find_below
-decreases-find_below g l = l.level
