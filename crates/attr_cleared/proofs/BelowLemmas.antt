@@ -9,8 +9,8 @@ use Rattle.tree_read.proofs.TreeLemmas.{IsNode-form}
 use Rattle.tree_read.specs.Nodes.{level_of, node_values}
 use Rattle.tree_read.specs.ProofsForTrees.{pairs-same, tree_nodes-same, IsRootNode-same}
 use Rattle.tree_read.specs.Trees.{nodes_below, pairs_below, root_least, root_level, tree_nodes, IsNode, IsRootNode}
-use Rattle.tree_ways.proofs.WayLemmas.{find_child, keys_flat}
-use Rattle.tree_ways.specs.Ways.{keys_below, tree_keys}
+use Rattle.frozen_btree.proofs.WayLemmas.{find_child, keys_flat}
+use Rattle.frozen_btree.specs.Ways.{keys_below, tree_keys}
 use Rattle.attr_cleared.specs.Cleared.{NodesAreCleared}
 
 abbrev keys : List (ℕ × ℕ) → List ℕ

@@ -7,7 +7,7 @@ use Rattle.entry_ref.specs.References.{buffer_of}
 use Rattle.entry_ref.specs.Records.{Records, SameAt, Among}
 use Rattle.tree_read.specs.ProofsForTrees.{SameAt-left, SameAt-right, all-same, tree_pairs-same}
 use Rattle.tree_read.specs.Trees.{tree_nodes, tree_pairs}
-use Rattle.tree_ways.specs.Ways.{tree_keys}
+use Rattle.frozen_btree.specs.Ways.{tree_keys}
 use Rattle.attr_images.specs.Postings.{ListForm, short, tree, vector, dictionary_reach, list_form, postings_reach, IsDictionaryEntry, IsPostingList}
 use Rattle.attr_images.specs.Values.{stored_value, value_of}
 use Rattle.attr_types.specs.declared.kind.ValueType.{ValueType}

@@ -11,7 +11,7 @@ use Rattle.store_api.proofs.Times.{among-times}
 use Rattle.store_api.proofs.Uses.{in-uses}
 use Rattle.tree_read.specs.ProofsForTrees.{SameAt-left, SameAt-right, all-same, tree_pairs-same}
 use Rattle.tree_read.specs.Trees.{tree_nodes, tree_pairs}
-use Rattle.tree_touch.specs.Paths.{NoneIn}
+use Rattle.frozen_btree.specs.Paths.{NoneIn}
 use Rattle.attr_cleared.specs.Cleared.{IsVisited, ListIsCleared, NodesAreCleared}
 use Rattle.attr_compaction.specs.Places.{PlanPlace}
 use Rattle.attr_compaction.specs.declared.plan.PlanKey.{PlanKey}

@@ -9,7 +9,7 @@ use Rattle.list_facts.proofs.Each.{AllByRecursion-and}
 use Rattle.entry_ref.specs.References.{buffer_of}
 use Rattle.entry_ref.specs.Records.{Records, Among}
 use Rattle.tree_read.specs.Trees.{by_number, tree_nodes, tree_pairs, IsTree}
-use Rattle.tree_ways.proofs.WayLemmas.{have_keys}
+use Rattle.frozen_btree.proofs.WayLemmas.{have_keys}
 use Rattle.attr_images.specs.Documents.{documents_reach, items_reach}
 use Rattle.attr_images.specs.Postings.{ListForm, short, tree, vector, dictionary_reach, list_form, postings_reach, IsDictionaryEntry, IsPostingList}
 use Rattle.attr_images.specs.Values.{stored_value}

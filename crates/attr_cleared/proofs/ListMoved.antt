@@ -14,9 +14,9 @@ use Rattle.store_api.specs.Ledgers.{Ledger}
 use Rattle.store_api.specs.Parts.{Owns}
 use Rattle.store_api.specs.Statuses.{in_use}
 use Rattle.tree_read.specs.Trees.{by_number, tree_nodes, tree_pairs}
-use Rattle.tree_touch.specs.Paths.{path_nodes, NoneIn}
-use Rattle.tree_ways.proofs.WayLemmas.{stand_on_ways}
-use Rattle.tree_ways.specs.Ways.{keys_below, tree_keys}
+use Rattle.frozen_btree.specs.Paths.{path_nodes, NoneIn}
+use Rattle.frozen_btree.proofs.WayLemmas.{stand_on_ways}
+use Rattle.frozen_btree.specs.Ways.{keys_below, tree_keys}
 use Rattle.attr_cleared.specs.Cleared.{IsClearedField, IsVisited, ListIsCleared, NodesAreCleared}
 use Rattle.attr_compaction.specs.Places.{doc_in, key_cmp, value_in, PlanPlace}
 use Rattle.attr_compaction.specs.declared.plan.PlanKey.{PlanKey}

@@ -15,9 +15,9 @@ use Rattle.store_api.proofs.Times.{among-times, times-among, times-append}
 use Rattle.store_api.proofs.Uses.{in-uses, uses-in}
 use Rattle.tree_read.specs.ProofsForTrees.{all-same}
 use Rattle.tree_read.specs.Trees.{by_number, tree_nodes, tree_pairs}
-use Rattle.tree_touch.specs.Paths.{path_nodes}
-use Rattle.tree_ways.proofs.WayLemmas.{stand_on_ways}
-use Rattle.tree_ways.specs.Ways.{keys_below, tree_keys}
+use Rattle.frozen_btree.specs.Paths.{path_nodes}
+use Rattle.frozen_btree.proofs.WayLemmas.{stand_on_ways}
+use Rattle.frozen_btree.specs.Ways.{keys_below, tree_keys}
 use Rattle.doc_vector.specs.Documents.{beside_document}
 use Rattle.attr_images.specs.Tables.{AttributeTrees}
 use Rattle.attr_images.specs.Values.{stored_value}

@@ -13,9 +13,9 @@ use Rattle.store_api.specs.Statuses.{in_use}
 use Rattle.store_api.proofs.Times.{among-times, times-among}
 use Rattle.store_api.proofs.Uses.{uses-in}
 use Rattle.tree_read.specs.Trees.{tree_nodes, tree_pairs, IsTree}
-use Rattle.tree_touch.specs.Paths.{path_nodes}
-use Rattle.tree_ways.proofs.WayLemmas.{stand_on_ways}
-use Rattle.tree_ways.specs.Ways.{keys_below, tree_keys}
+use Rattle.frozen_btree.specs.Paths.{path_nodes}
+use Rattle.frozen_btree.proofs.WayLemmas.{stand_on_ways}
+use Rattle.frozen_btree.specs.Ways.{keys_below, tree_keys}
 use Rattle.attr_cleared.specs.Cleared.{IsClearedField, IsVisited, ListIsCleared, NodesAreCleared}
 use Rattle.attr_compaction.specs.Places.{key_cmp, value_in, PlanPlace}
 use Rattle.attr_compaction.specs.declared.plan.PlanKey.{PlanKey}

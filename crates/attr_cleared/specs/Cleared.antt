@@ -5,7 +5,7 @@ use Rattle.std.specs.declared.cmp.Ordering.TheVariants.{Greater}
 use Rattle.entry_ref.specs.References.{buffer_of}
 use Rattle.entry_ref.specs.Records.{Records, Among}
 use Rattle.tree_read.specs.Trees.{tree_nodes, tree_pairs}
-use Rattle.tree_ways.specs.Ways.{keys_below}
+use Rattle.frozen_btree.specs.Ways.{keys_below}
 use Rattle.attr_compaction.specs.Places.{place_cmp, PlanPlace}
 use Rattle.attr_compaction.specs.declared.plan.PlanKey.{PlanKey}
 use Rattle.attr_compaction.specs.declared.plan.PlanKey.TheVariants as plan

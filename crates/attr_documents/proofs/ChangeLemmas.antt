@@ -17,7 +17,7 @@ use Rattle.store_api.specs.Parts.{Part, After, Owns, Turns, count_in, entries, t
 use Rattle.store_api.specs.Units.{MayDo}
 use Rattle.store_api.proofs.PartLemmas.{after, owns-some, owns-then, turns-as, turns-then}
 use Rattle.store_api.proofs.Times.{times-append, among-times, times-among}
-use Rattle.tree_make.specs.Changes.{tree}
+use Rattle.frozen_btree.specs.Changes.{tree}
 use Rattle.doc_vector.proofs.DocumentLemmas.{map_stays}
 use Rattle.doc_vector.specs.Documents.{beside_document, IsDocumentMap, MakesMap}
 use Rattle.attr_images.specs.Documents.{weighted, items_at, column_at, IsItemsRecord}

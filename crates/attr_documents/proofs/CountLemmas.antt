@@ -5,7 +5,7 @@ use Rattle.arena_api.specs.Works.{Sizes}
 use Rattle.store_api.specs.Ledgers.{Ledger, capacity}
 use Rattle.store_api.specs.Units.{MakesAtMost, MayDo}
 use Rattle.store_api.proofs.Counts.{at_most-none, at_most-then, at_most-more}
-use Rattle.tree_make.specs.Makes.{CountsNodes}
+use Rattle.frozen_btree.specs.Makes.{CountsNodes}
 use Rattle.array_store.specs.Adding.{MakesOneOf}
 use Rattle.attr_images.specs.Words.{class_of}
 use Rattle.posting_store.specs.Changes.{MakesWithin}

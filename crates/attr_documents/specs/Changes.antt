@@ -7,7 +7,7 @@ use Rattle.tree_read.specs.Trees.{tree_nodes, tree_pairs}
 use Rattle.tree_read.specs.declared.node_format.TheConstants.{NODE_WORDS}
 use Rattle.store_api.specs.Ledgers.{Ledger}
 use Rattle.store_api.specs.Parts.{Part, Owns, Turns, count_in, entries, uses}
-use Rattle.tree_make.specs.Changes.{tree}
+use Rattle.frozen_btree.specs.Changes.{tree}
 use Rattle.doc_vector.specs.Documents.{beside_document, IsDocumentMap}
 use Rattle.attr_images.specs.Documents.{column_at}
 use Rattle.attr_images.specs.Values.{stored_value, IsValueRecord}

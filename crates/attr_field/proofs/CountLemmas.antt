@@ -7,8 +7,8 @@ use Rattle.store_api.specs.Units.{MayDo}
 use Rattle.store_api.proofs.May.{may_do-then}
 use Rattle.array_store.proofs.ClassLemmas.{class_no_node}
 use Rattle.tree_read.specs.Trees.{tree_pairs}
-use Rattle.tree_make.specs.Changes.{levels}
-use Rattle.tree_make.specs.Makes.{CountsNodes}
+use Rattle.frozen_btree.specs.Changes.{levels}
+use Rattle.frozen_btree.specs.Makes.{CountsNodes}
 use Rattle.attr_documents.specs.Changes.{documents_most}
 use Rattle.attr_documents.specs.Documents.{IsDocuments}
 use Rattle.attr_images.specs.Documents.{column_at, items_at}

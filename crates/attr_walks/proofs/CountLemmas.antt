@@ -12,7 +12,7 @@ use Rattle.store_api.specs.Units.{MayDo}
 use Rattle.array_store.proofs.ClassLemmas.{class_no_node}
 use Rattle.tree_read.specs.Pairs.{lookup}
 use Rattle.tree_read.specs.Trees.{tree_pairs}
-use Rattle.tree_make.specs.Changes.{levels}
+use Rattle.frozen_btree.specs.Changes.{levels}
 use Rattle.attr_images.specs.Postings.{ListForm, short, tree, vector, list_form}
 use Rattle.attr_images.specs.Values.{value_words}
 use Rattle.attr_images.specs.Words.{class_of}

@@ -10,7 +10,7 @@ use Rattle.tree_read.proofs.PairLemmas.{lookup-of_pair}
 use Rattle.tree_read.specs.Nodes.{level_of}
 use Rattle.tree_read.specs.Trees.{tree_pairs, IsRootNode}
 use Rattle.tree_read.proofs.TreeLemmas.{many_pairs}
-use Rattle.tree_make.specs.Changes.{levels}
+use Rattle.frozen_btree.specs.Changes.{levels}
 use Rattle.attr_images.specs.Postings.{ListForm, short, tree, vector, index_of, list_form, postings_at, IsPostingList}
 use Rattle.attr_images.specs.Values.{stored_value}
 use Rattle.attr_images.specs.Words.{weight_in_bits}

@@ -9,7 +9,7 @@ use Rattle.store_api.proofs.May.{may_do-same, may_do-then}
 use Rattle.store_api.proofs.PartLemmas.{turns-same, turns-then}
 use Rattle.store_api.proofs.Times.{times-append}
 use Rattle.store_api.proofs.UnitLemmas.{turns-accept}
-use Rattle.tree_make.specs.Changes.{DropsEntries}
+use Rattle.frozen_btree.specs.Changes.{DropsEntries}
 use Rattle.bench_work.specs.Units.{HoldsRoot, Made}
 use Rattle.bench_work.proofs.RootLemmas.{holds-after}
 

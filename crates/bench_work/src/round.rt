@@ -4,7 +4,7 @@ ghost use Rattle.bench_work.specs.Units.{HoldsRoot, Made};
 use entry_ref::EntryRef;
 use store_api::{Store, StoreError, make_entry};
 use tree_read::NODE_WORDS;
-use tree_make::drop_nodes;
+use frozen_btree::drop_nodes;
 
 /// One unit: makes `count` entries of 34 words, drops them all, and is accepted.
 pub fn run_unit<const OFFSET_BITS: u32, S: Store<OFFSET_BITS>>(

@@ -12,9 +12,9 @@ use Rattle.entry_ref.specs.Records.{Among, Records}
 use Rattle.tree_read.specs.Keys.{seen_by}
 use Rattle.tree_read.specs.Pairs.{seek}
 use Rattle.tree_read.specs.Trees.{by_number, last_key, tree_nodes, tree_pairs}
-use Rattle.tree_touch.specs.Paths.{path_nodes, NoneIn}
-use Rattle.tree_ways.proofs.WayLemmas.{stand_on_ways}
-use Rattle.tree_ways.specs.Ways.{keys_below, tree_keys}
+use Rattle.frozen_btree.specs.Paths.{path_nodes, NoneIn}
+use Rattle.frozen_btree.proofs.WayLemmas.{stand_on_ways}
+use Rattle.frozen_btree.specs.Ways.{keys_below, tree_keys}
 use Rattle.attr_cleared.specs.Cleared.{IsClearedField}
 use Rattle.attr_cleared.specs.Visits.{place_at_key, IsAmongKeys}
 use Rattle.attr_cleared.proofs.BelowLemmas.{keys_of_tree}

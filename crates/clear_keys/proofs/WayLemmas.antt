@@ -13,9 +13,9 @@ use Rattle.tree_read.proofs.ChildLemmas.{child-seek, get_or-node_keys, get_or-no
 use Rattle.tree_read.specs.NodePlaces.{IsSlot}
 use Rattle.tree_read.proofs.SeekLemmas.{first-words, IsFirstSlot}
 use Rattle.tree_read.specs.SearchPlaces.{first_key}
-use Rattle.tree_touch.proofs.PathLemmas.{path-leaf, path-over, path_nodes-is}
-use Rattle.tree_touch.specs.Paths.{path_below, NoneIn}
-use Rattle.tree_ways.proofs.WayLemmas.{flat_up, way_goes}
+use Rattle.frozen_btree.proofs.PathLemmas.{path-leaf, path-over, path_nodes-is}
+use Rattle.frozen_btree.specs.Paths.{path_below, NoneIn}
+use Rattle.frozen_btree.proofs.WayLemmas.{flat_up, way_goes}
 use Rattle.attr_cleared.proofs.IndexPairs.{InPairs, at_pair, each_pair, pair_key}
 use Rattle.clear_keys.specs.Sights.{IsRun}
 use Rattle.clear_keys.specs.Ways.{IsWay, IsWayApart, IsWayBelow}

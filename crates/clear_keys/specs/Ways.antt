@@ -6,7 +6,7 @@ use Rattle.entry_ref.specs.Records.{Records}
 use Rattle.tree_read.specs.Keys.{seen_by}
 use Rattle.tree_read.specs.Pairs.{seek}
 use Rattle.tree_read.specs.SearchPlaces.{first_key}
-use Rattle.tree_touch.specs.Paths.{path_below, path_nodes, NoneIn}
+use Rattle.frozen_btree.specs.Paths.{path_below, path_nodes, NoneIn}
 use Rattle.clear_keys.specs.Sights.{IsRun}
 
 -- no node on the way to a pair's key lies in the buffer: from a node of a level down, or in a tree

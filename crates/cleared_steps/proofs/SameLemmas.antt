@@ -9,7 +9,7 @@ use Rattle.entry_ref.specs.References.{buffer_of}
 use Rattle.entry_ref.specs.Records.{Records, Among, SameAt}
 use Rattle.tree_read.specs.ProofsForTrees.{tree_nodes-same, tree_pairs-same}
 use Rattle.tree_read.specs.Trees.{by_number, tree_nodes, tree_pairs, IsTree}
-use Rattle.tree_ways.specs.Ways.{tree_keys}
+use Rattle.frozen_btree.specs.Ways.{tree_keys}
 use Rattle.store_api.specs.Parts.{AllStay}
 use Rattle.attr_compaction.specs.Places.{PlanPlace}
 use Rattle.attr_compaction.specs.declared.plan.PlanKey.TheVariants as plan

@@ -11,8 +11,8 @@ use Rattle.tree_read.specs.Nodes.{level_of, node_values}
 use Rattle.tree_read.specs.ProofsForTrees.{pairs-same}
 use Rattle.tree_read.specs.Trees.{nodes_below, pairs_below, root_least, root_level, tree_nodes, IsNode, IsTree}
 use Rattle.tree_read.specs.declared.node_format.TheConstants.{NODE_WORDS}
-use Rattle.tree_ways.proofs.WayLemmas.{keys_flat}
-use Rattle.tree_ways.specs.Ways.{keys_below, tree_keys}
+use Rattle.frozen_btree.proofs.WayLemmas.{keys_flat}
+use Rattle.frozen_btree.specs.Ways.{keys_below, tree_keys}
 use Rattle.cleared_steps.proofs.StepsLists.{same_flat}
 
 abbrev keys : List (ℕ × ℕ) → List ℕ

@@ -161,7 +161,7 @@ module _ {H : Type 0} (bits victim field : ℕ) (at : PlanPlace) (old new : Ledg
 
     -- a list's node was one of that list's
     node_next : (root : ℕ) → IsTree nat_cmp by_number n root → ((q : ℕ) → Among q (tree_nodes n root) → Used q) → Among r (tree_nodes n root) → (key : ℕ)
-        → Among key (Rattle.tree_ways.specs.Ways.keys_below n r) → IsVisited at field LISTS (plan.Pair v key) → ⊥
+        → Among key (Rattle.frozen_btree.specs.Ways.keys_below n r) → IsVisited at field LISTS (plan.Pair v key) → ⊥
     node_next root is_then after there key below visited = elim (form_of o.pair.1 o.is_pair.plain) [
       | is_short e ↦ elim (subst (λ form. Among r (postings_reach m form)) e o.among) [
         | inl same ↦ short_size (m r) (subst (λ x. IsStoredList 8 (m x)) (sym same) (subst (IsPostingList m) e old_form))

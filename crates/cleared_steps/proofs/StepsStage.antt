@@ -7,7 +7,7 @@ use Rattle.list_facts.proofs.Each.{AllByRecursion-slice_get}
 use Rattle.entry_ref.specs.References.{buffer_of}
 use Rattle.entry_ref.specs.Records.{Records, Among}
 use Rattle.tree_read.specs.Trees.{by_number, tree_pairs}
-use Rattle.tree_ways.specs.Ways.{tree_keys}
+use Rattle.frozen_btree.specs.Ways.{tree_keys}
 use Rattle.attr_compaction.specs.Places.{is_start, place_after, PlanPlace}
 use Rattle.attr_compaction.specs.declared.plan.PlanKey.{PlanKey}
 use Rattle.attr_compaction.specs.declared.plan.PlanKey.TheVariants as plan

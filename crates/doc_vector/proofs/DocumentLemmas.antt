@@ -18,7 +18,7 @@ use Rattle.store_api.specs.Parts.{Owns, Turns}
 use Rattle.store_api.specs.declared.store.StoreError.{StoreError}
 use Rattle.tree_read.specs.ProofsForTrees.{tree_pairs-same, IsTree-same}
 use Rattle.tree_read.specs.Trees.{tree_nodes, tree_pairs, by_number}
-use Rattle.tree_make.specs.Changes.{tree}
+use Rattle.frozen_btree.specs.Changes.{tree}
 use Rattle.doc_vector.specs.Documents.{IsDocumentMap, IsDocumentPair, MakesMap}
 
 -- a tree whose keys are numbers, as the calls of trees ask for it

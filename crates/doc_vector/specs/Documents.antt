@@ -7,7 +7,7 @@ use Rattle.entry_ref.specs.Records.{Records}
 use Rattle.store_api.specs.Ledgers.{Ledger}
 use Rattle.store_api.specs.Parts.{Owns, Turns}
 use Rattle.tree_read.specs.Trees.{tree_pairs, by_number, IsTree}
-use Rattle.tree_make.specs.Changes.{tree}
+use Rattle.frozen_btree.specs.Changes.{tree}
 use Rattle.attr_types.specs.Lawful.{IsDocNumber}
 
 -- a stored document beside the one sought

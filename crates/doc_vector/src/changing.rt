@@ -4,8 +4,8 @@ ghost use Rattle.tree_read.specs.Pairs.{lookup, put, take_out};
 ghost use Rattle.store_api.specs.Calls.{Refuses};
 ghost use Rattle.store_api.specs.Parts.{Owns};
 ghost use Rattle.store_api.specs.Units.{MayDo};
-ghost use Rattle.tree_make.specs.Changes.{levels, tree};
-ghost use Rattle.tree_make.specs.Makes.{CountsNodes};
+ghost use Rattle.frozen_btree.specs.Changes.{levels, tree};
+ghost use Rattle.frozen_btree.specs.Makes.{CountsNodes};
 ghost use Rattle.doc_vector.specs.Documents.{beside_document, IsDocumentMap, MakesMap};
 
 use attr_types::Doc;

@@ -9,9 +9,9 @@ use Rattle.store_api.specs.declared.store.StoreError.{StoreError}
 use Rattle.store_api.proofs.PartLemmas.{after, owns-some}
 use Rattle.store_api.proofs.Times.{times-append}
 use Rattle.tree_read.specs.Trees.{tree_nodes, tree_pairs}
-use Rattle.tree_make.specs.Changes.{tree}
-use Rattle.tree_touch.specs.Paths.{path_nodes, NoneIn}
-use Rattle.tree_touch.proofs.TreeLemmas.{none-apart}
+use Rattle.frozen_btree.specs.Changes.{tree}
+use Rattle.frozen_btree.specs.Paths.{path_nodes, NoneIn}
+use Rattle.frozen_btree.proofs.TouchTreeLemmas.{none-apart}
 use Rattle.doc_vector.proofs.DocumentLemmas.{IsNumberTree}
 use Rattle.doc_vector.specs.Documents.{beside_document, IsDocumentPair}
 use Rattle.attr_images.specs.Documents.{items_at}

@@ -18,7 +18,7 @@ use Rattle.store_api.proofs.PartLemmas.{owns-some, turns-same}
 use Rattle.store_api.proofs.Times.{all_from_times, among-times, times-among, times-append}
 use Rattle.store_api.proofs.Uses.{in-uses, uses-in}
 use Rattle.tree_read.specs.Trees.{tree_nodes, tree_pairs}
-use Rattle.tree_touch.specs.Paths.{NoneIn}
+use Rattle.frozen_btree.specs.Paths.{NoneIn}
 use Rattle.doc_vector.specs.Documents.{beside_document}
 use Rattle.attr_images.proofs.ImageLemmas.{value_typed}
 use Rattle.attr_images.specs.Documents.{weighted, column_at, items_at}

@@ -6,7 +6,7 @@ use Rattle.std.specs.Map.{lookup as lookup_in}
 use Rattle.std.specs.Ordering.{nat_cmp}
 use Rattle.std.specs.Prelude.{pos}
 use Rattle.list_facts.proofs.Options.{same_Some}
-use Rattle.tree_make.proofs.UsedLemmas.{node_used}
+use Rattle.frozen_btree.proofs.UsedLemmas.{node_used}
 use Rattle.attr_images.proofs.RootLemmas.{length-filled}
 use Rattle.entry_ref.specs.Records.{Among, Records}
 use Rattle.tree_read.specs.Pairs.{lookup}
@@ -16,7 +16,7 @@ use Rattle.store_api.specs.Parts.{Owns, Part, times}
 use Rattle.store_api.proofs.Times.{among-times, times-append}
 use Rattle.store_api.proofs.Uses.{in-uses}
 use Rattle.tree_read.specs.Trees.{tree_nodes, tree_pairs}
-use Rattle.tree_make.specs.Changes.{tree}
+use Rattle.frozen_btree.specs.Changes.{tree}
 use Rattle.doc_vector.specs.Documents.{beside_document}
 use Rattle.attr_images.specs.Documents.{column_at, items_at, IsItemsRecord}
 use Rattle.attr_images.specs.Words.{class_of, stored_items, unpacked, IsStoredList}

@@ -6,8 +6,8 @@ use Rattle.tree_read.specs.Pairs.{take_out}
 use Rattle.store_api.specs.Ledgers.{Ledger}
 use Rattle.store_api.specs.Parts.{Owns, Turns}
 use Rattle.tree_read.specs.Trees.{tree_pairs}
-use Rattle.tree_make.specs.Changes.{tree}
-use Rattle.tree_touch.specs.Paths.{path_nodes, NoneIn}
+use Rattle.frozen_btree.specs.Changes.{tree}
+use Rattle.frozen_btree.specs.Paths.{path_nodes, NoneIn}
 use Rattle.doc_vector.specs.Documents.{beside_document}
 use Rattle.attr_images.specs.Documents.{column_at}
 use Rattle.attr_images.specs.Postings.{index_of}

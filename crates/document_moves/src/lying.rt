@@ -10,7 +10,7 @@ ghost use Rattle.attr_documents.specs.Flows.{reference_at};
 ghost use Rattle.attr_documents.specs.Items.{word_entry};
 ghost use Rattle.document_moves.specs.Moves.{AreItemsApart};
 ghost use Rattle.entry_ref.specs.References.{buffer_of};
-ghost use Rattle.tree_touch.specs.Paths.{NoneIn};
+ghost use Rattle.frozen_btree.specs.Paths.{NoneIn};
 
 use crate::WEIGHT_BASE;
 use array_store::{count, get as array_item};

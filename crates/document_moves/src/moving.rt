@@ -4,7 +4,7 @@ ghost use Rattle.std.specs.Map.{lookup};
 ghost use Rattle.std.specs.Ordering.{nat_cmp};
 ghost use Rattle.store_api.specs.Calls.{IsUsedWidth, RefusesOf};
 ghost use Rattle.store_api.specs.Units.{MayDo};
-ghost use Rattle.tree_make.specs.Changes.{levels};
+ghost use Rattle.frozen_btree.specs.Changes.{levels};
 ghost use Rattle.attr_images.specs.Documents.{column_at};
 ghost use Rattle.attr_index.specs.Columns.{items_of};
 ghost use Rattle.posting_store.specs.Changes.{MakesWithin};

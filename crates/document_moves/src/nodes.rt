@@ -2,8 +2,8 @@ ghost use Rattle.std.specs.Prelude.{◌≡◌, ◌∷◌, [], true, IfOk, IfErr,
 ghost use Rattle.store_api.specs.Calls.{IsUsedWidth, Refuses};
 ghost use Rattle.store_api.specs.Parts.{Owns};
 ghost use Rattle.store_api.specs.Units.{MayDo};
-ghost use Rattle.tree_make.specs.Changes.{levels};
-ghost use Rattle.tree_make.specs.Makes.{CountsNodes};
+ghost use Rattle.frozen_btree.specs.Changes.{levels};
+ghost use Rattle.frozen_btree.specs.Makes.{CountsNodes};
 ghost use Rattle.attr_documents.specs.Changes.{AreBeside};
 ghost use Rattle.attr_documents.specs.Documents.{documents_part, documents_refer, IsDocuments};
 ghost use Rattle.document_moves.specs.Moves.{MovesDocumentNodes};

@@ -16,7 +16,7 @@ use Rattle.store_api.specs.Parts.{Owns, Turns}
 use Rattle.store_api.specs.declared.store.StoreError.{StoreError}
 use Rattle.tree_read.specs.ProofsForTrees.{tree_pairs-same}
 use Rattle.tree_read.specs.Trees.{tree_nodes, tree_pairs}
-use Rattle.tree_make.specs.Changes.{tree}
+use Rattle.frozen_btree.specs.Changes.{tree}
 use Rattle.attr_images.specs.Values.{stored_value, IsValueRecord}
 use Rattle.attr_types.specs.ProofsForOrder.{value_cmp_total}
 use Rattle.attr_types.specs.Value.{type_of, value_cmp}

@@ -10,7 +10,7 @@ use Rattle.store_api.proofs.PartLemmas.{after, owns-some, turns-as}
 use Rattle.store_api.proofs.Times.{times-append}
 use Rattle.tree_read.specs.ProofsForTrees.{SameAt-left, SameAt-right}
 use Rattle.tree_read.specs.Trees.{tree_nodes, tree_pairs}
-use Rattle.tree_make.specs.Changes.{tree}
+use Rattle.frozen_btree.specs.Changes.{tree}
 use Rattle.attr_documents.specs.Changes.{pairs_own}
 use Rattle.attr_documents.specs.Documents.{documents_own, documents_part, documents_refer, items_own, items_refer, IsDocuments}
 use Rattle.attr_documents.specs.Laws.{DocumentsStay}

@@ -6,8 +6,8 @@ use Rattle.entry_ref.specs.Records.{Records}
 use Rattle.tree_read.specs.Pairs.{lookup}
 use Rattle.store_api.specs.Ledgers.{Ledger}
 use Rattle.tree_read.specs.Trees.{tree_pairs}
-use Rattle.tree_make.specs.Changes.{levels}
-use Rattle.tree_make.specs.Makes.{CountsNodes}
+use Rattle.frozen_btree.specs.Changes.{levels}
+use Rattle.frozen_btree.specs.Makes.{CountsNodes}
 use Rattle.array_store.proofs.ClassLemmas.{class_no_node}
 use Rattle.attr_images.specs.Postings.{list_form}
 use Rattle.attr_images.specs.Values.{value_words}

@@ -19,7 +19,7 @@ use Rattle.store_api.proofs.PartLemmas.{turns-then}
 use Rattle.store_api.proofs.Times.{among-times, times-among}
 use Rattle.store_api.proofs.Uses.{uses-few, uses-in}
 use Rattle.tree_read.specs.Trees.{tree_pairs}
-use Rattle.tree_make.specs.Changes.{levels}
+use Rattle.frozen_btree.specs.Changes.{levels}
 use Rattle.value_index.specs.Changes.{nodes_most}
 use Rattle.attr_images.specs.Postings.{list_form, postings_reach, IsPostingList}
 use Rattle.attr_images.specs.Values.{stored_value, value_of}

@@ -10,9 +10,9 @@ use Rattle.store_api.specs.declared.store.StoreError.{StoreError}
 use Rattle.store_api.proofs.PartLemmas.{after, owns-some}
 use Rattle.tree_read.specs.ProofsForTrees.{all-same}
 use Rattle.tree_read.specs.Trees.{tree_pairs}
-use Rattle.tree_make.specs.Changes.{tree}
-use Rattle.tree_touch.specs.Paths.{path_nodes, NoneIn}
-use Rattle.tree_touch.proofs.TreeLemmas.{none-apart}
+use Rattle.frozen_btree.specs.Changes.{tree}
+use Rattle.frozen_btree.specs.Paths.{path_nodes, NoneIn}
+use Rattle.frozen_btree.proofs.TouchTreeLemmas.{none-apart}
 use Rattle.attr_images.specs.Postings.{dictionary_reach}
 use Rattle.attr_images.specs.Values.{stored_value}
 use Rattle.attr_types.specs.Value.{type_of, value_cmp}

@@ -11,7 +11,7 @@ use Rattle.store_api.specs.Parts.{Part, After, AllStay, Owns, Turns, count_in, e
 use Rattle.store_api.proofs.PartLemmas.{after, owns-some, turns-as}
 use Rattle.tree_read.specs.ProofsForTrees.{all-same}
 use Rattle.tree_read.specs.Trees.{tree_pairs, tree_nodes}
-use Rattle.tree_make.specs.Changes.{tree}
+use Rattle.frozen_btree.specs.Changes.{tree}
 use Rattle.attr_images.specs.Postings.{index_of}
 use Rattle.attr_images.specs.Values.{stored_value, value_of, IsValueRecord}
 use Rattle.attr_types.specs.Value.{type_of, value_cmp}

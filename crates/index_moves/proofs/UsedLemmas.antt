@@ -1,7 +1,7 @@
 -- A refused move is one of a width of which a record was in use as it began: the value's, the list's, or a node.
 use Rattle.std.proofs.Common.{◌≡◌, ℕ, zero, suc, ◌+◌, ◌*◌, ◌/◌, ◌%◌, ◌<◌, [], ◌∷◌, length, Some, inl, refl, ap, ◌∙◌, arith}
 use Rattle.tree_read.proofs.TreeLemmas.{root_of_many}
-use Rattle.tree_make.proofs.UsedLemmas.{node_used, used_at}
+use Rattle.frozen_btree.proofs.UsedLemmas.{node_used, used_at}
 use Rattle.attr_images.proofs.RootLemmas.{length-filled}
 use Rattle.entry_ref.specs.Records.{Records}
 use Rattle.tree_read.specs.Pairs.{lookup_pair}
@@ -10,7 +10,7 @@ use Rattle.store_api.specs.Ledgers.{Ledger}
 use Rattle.store_api.specs.Parts.{Owns, entry}
 use Rattle.store_api.proofs.PartLemmas.{owns-some}
 use Rattle.tree_read.specs.Trees.{tree_pairs}
-use Rattle.tree_make.specs.Changes.{tree}
+use Rattle.frozen_btree.specs.Changes.{tree}
 use Rattle.attr_images.specs.Values.{value_of, value_words}
 use Rattle.attr_images.specs.Words.{class_of, stored_items}
 use Rattle.attr_types.specs.Value.{type_of}

@@ -11,10 +11,10 @@ use Rattle.store_api.specs.Parts.{Owns, Turns, count_in, entry, times}
 use Rattle.store_api.specs.Units.{MakesAtMost, MayDo}
 use Rattle.store_api.proofs.PartLemmas.{after, owns-some, turns-as}
 use Rattle.tree_read.specs.Trees.{tree_pairs, by_number, IsTree}
-use Rattle.tree_make.specs.Changes.{levels, tree as tree_part}
-use Rattle.tree_make.specs.Makes.{CountsNodes}
-use Rattle.tree_touch.specs.Paths.{path_nodes, NoneIn}
-use Rattle.tree_touch.proofs.TreeLemmas.{path_nodes-same}
+use Rattle.frozen_btree.specs.Changes.{levels, tree as tree_part}
+use Rattle.frozen_btree.specs.Makes.{CountsNodes}
+use Rattle.frozen_btree.specs.Paths.{path_nodes, NoneIn}
+use Rattle.frozen_btree.proofs.TouchTreeLemmas.{path_nodes-same}
 use Rattle.array_store.specs.Adding.{AddsRecord, MakesOneOf}
 use Rattle.attr_images.specs.Postings.{ListForm, short, tree, vector, list_form, postings_reach, IsPostingList}
 use Rattle.attr_images.specs.Words.{class_of, stored_items, unpacked, IsStoredList}

@@ -10,8 +10,8 @@ use Rattle.store_api.specs.Parts.{Owns, Turns, entries}
 use Rattle.store_api.specs.Statuses.{in_use}
 use Rattle.tree_read.specs.Trees.{tree_pairs}
 use Rattle.tree_read.specs.declared.node_format.TheConstants.{NODE_WORDS}
-use Rattle.tree_make.specs.Changes.{levels, tree as tree_part}
-use Rattle.tree_touch.specs.Paths.{path_nodes, NoneIn}
+use Rattle.frozen_btree.specs.Changes.{levels, tree as tree_part}
+use Rattle.frozen_btree.specs.Paths.{path_nodes, NoneIn}
 use Rattle.attr_images.specs.Postings.{ListForm, short, tree, vector, dictionary_reach, index_of, list_form, postings_reach}
 use Rattle.attr_images.specs.Words.{class_of}
 use Rattle.attr_images.specs.declared.TheConstants.{MOST_SHORT}

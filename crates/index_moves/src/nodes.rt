@@ -2,8 +2,8 @@ ghost use Rattle.std.specs.Prelude.{◌≡◌, ◌∷◌, [], true, IfOk, IfErr,
 ghost use Rattle.store_api.specs.Calls.{IsUsedWidth, Refuses};
 ghost use Rattle.store_api.specs.Parts.{Owns};
 ghost use Rattle.store_api.specs.Units.{MayDo};
-ghost use Rattle.tree_make.specs.Changes.{levels};
-ghost use Rattle.tree_make.specs.Makes.{CountsNodes};
+ghost use Rattle.frozen_btree.specs.Changes.{levels};
+ghost use Rattle.frozen_btree.specs.Makes.{CountsNodes};
 ghost use Rattle.attr_types.specs.Value.{type_of};
 ghost use Rattle.value_index.specs.Indexes.{index_part, IsIndex};
 ghost use Rattle.index_moves.specs.Moves.{MovesNodes};

@@ -23,7 +23,7 @@ use Rattle.store_api.proofs.CommitLemmas.{whole-from, commit-same, commit-owns}
 use Rattle.store_api.proofs.PartLemmas.{all-owns, all-then}
 use Rattle.store_api.proofs.UnitLemmas.{unit-accepts, accept-stays, undone}
 use Rattle.store_api.proofs.Uses.{uses-out}
-use Rattle.tree_make.specs.Changes.{tree}
+use Rattle.frozen_btree.specs.Changes.{tree}
 use Rattle.number_tree.specs.Maps.{HoldsTree, IsRefusal}
 
 -- a number is read from nothing

@@ -9,7 +9,7 @@ use Rattle.store_api.specs.Ledgers.{Ledger}
 use Rattle.store_api.specs.Parts.{OwnsAll}
 use Rattle.store_api.specs.declared.store.StoreError.{StoreError}
 use Rattle.store_api.specs.declared.store.StoreError.TheVariants.{Full, Memory}
-use Rattle.tree_make.specs.Changes.{tree}
+use Rattle.frozen_btree.specs.Changes.{tree}
 
 -- the pairs of a tree, its root, how many commits were made of those that can be, and the buffers of its store
 pub record MapView : Type 0 where

@@ -17,8 +17,8 @@ use Rattle.store_api.specs.Units.{MakesAtMost}
 use Rattle.store_api.proofs.Counts.{at_most-none, at_most-then, at_most-more}
 use Rattle.store_api.proofs.PartLemmas.{after, turns-as, turns-then, owns-some}
 use Rattle.tree_read.specs.Trees.{tree_pairs, by_number, IsTree}
-use Rattle.tree_make.specs.Changes.{tree as tree_part}
-use Rattle.tree_make.specs.Makes.{CountsNodes}
+use Rattle.frozen_btree.specs.Changes.{tree as tree_part}
+use Rattle.frozen_btree.specs.Makes.{CountsNodes}
 use Rattle.posting_store.specs.Lists.{list_at, IsList, IsPlain, AreDocuments}
 use Rattle.posting_store.specs.ProofsForLists.{IsList-same, list_at-same}
 use Rattle.posting_store.specs.Changes.{list_part, list_most, IsListWidth, MakesList, MakesWithin}

@@ -17,8 +17,8 @@ use Rattle.tree_read.proofs.PairLemmas.{All-put, All-take_out}
 use Rattle.store_api.specs.Ledgers.{Ledger}
 use Rattle.store_api.specs.Parts.{count_in, times, Owns, Turns}
 use Rattle.tree_read.specs.Trees.{tree_pairs, by_number, IsTree}
-use Rattle.tree_make.specs.Changes.{levels, tree}
-use Rattle.tree_make.specs.Makes.{CountsNodes}
+use Rattle.frozen_btree.specs.Changes.{levels, tree}
+use Rattle.frozen_btree.specs.Makes.{CountsNodes}
 use Rattle.attr_images.specs.Words.{unpacked, weight_in_bits}
 use Rattle.attr_types.specs.Lawful.{IsDocNumber}
 use Rattle.posting_store.specs.Lists.{list_at, list_levels, IsList, IsPlain, AreDocuments}

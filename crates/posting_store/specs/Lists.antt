@@ -5,7 +5,7 @@ use Rattle.std.specs.List.Sorted.{IsStrictlySortedBy}
 use Rattle.std.specs.Map.{keys_of}
 use Rattle.std.specs.Ordering.{nat_cmp}
 use Rattle.entry_ref.specs.Records.{Records}
-use Rattle.tree_make.specs.Changes.{levels}
+use Rattle.frozen_btree.specs.Changes.{levels}
 use Rattle.attr_types.specs.Lawful.{IsDocNumber}
 use Rattle.attr_images.specs.declared.TheConstants.{FIRST_VECTOR}
 use Rattle.attr_images.specs.Postings.{ListForm, short, tree, vector, list_form, postings_at, postings_reach, IsPostingList}

@@ -13,7 +13,7 @@ use Rattle.store_api.specs.Parts.{Owns, times, uses}
 use Rattle.number_tree.proofs.HoldLemmas.{begun_owns, begun_tree}
 use Rattle.number_tree.specs.Maps.{HoldsTree}
 use Rattle.tree_read.specs.Trees.{by_number, tree_nodes, IsTree}
-use Rattle.tree_make.specs.Changes.{tree}
+use Rattle.frozen_btree.specs.Changes.{tree}
 
 -- numbers that ascend, all of them below one
 pub record Ascending (numbers : List ℕ) (end : ℕ) : Type 0 where

@@ -5,7 +5,7 @@ use Rattle.entry_ref.specs.Records.{Records}
 use Rattle.tree_read.specs.Keys.{IsKeyedTree}
 use Rattle.store_api.specs.Ledgers.{Ledger}
 use Rattle.store_api.specs.Parts.{Owns}
-use Rattle.tree_make.specs.Changes.{tree}
+use Rattle.frozen_btree.specs.Changes.{tree}
 
 -- a key is the number of its tens
 abbrev pub by_tens : Records → ℕ → ℕ

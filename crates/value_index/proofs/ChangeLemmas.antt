@@ -14,7 +14,7 @@ use Rattle.store_api.specs.Units.{MayDo}
 use Rattle.store_api.proofs.PartLemmas.{after, owns-some, turns-as, turns-then}
 use Rattle.tree_read.specs.ProofsForTrees.{SameAt-right, all-same, tree_nodes-same}
 use Rattle.tree_read.specs.Trees.{tree_nodes, tree_pairs}
-use Rattle.tree_make.specs.Changes.{tree}
+use Rattle.frozen_btree.specs.Changes.{tree}
 use Rattle.attr_images.specs.Postings.{list_form, postings_reach, index_of}
 use Rattle.attr_images.specs.ProofsForImages.{postings_at-same}
 use Rattle.attr_images.specs.Values.{stored_value, value_of}

@@ -2,7 +2,7 @@
 use Rattle.std.proofs.Common.{◌≡◌, ◌≢◌, ℕ, ◌+◌, ◌*◌, ◌≤◌, Bool, true, false, cond, nat_eq, Option, None, Some, option_map, refl, sym, ap, subst, ◌∙◌, arith}
 use Rattle.std.proofs.lemmas.Bool.{eqb-true, eqb-false}
 use Rattle.std.specs.Option.{is_some, unwrap_or}
-use Rattle.tree_make.proofs.TopLemmas.{levels-same}
+use Rattle.frozen_btree.proofs.TopLemmas.{levels-same}
 use Rattle.entry_ref.specs.Records.{Records, SameAt}
 use Rattle.tree_read.specs.Pairs.{lookup, lookup_pair}
 use Rattle.tree_read.proofs.PairLemmas.{lookup-of_pair}
@@ -10,8 +10,8 @@ use Rattle.store_api.specs.Ledgers.{Ledger, capacity}
 use Rattle.store_api.specs.Units.{MayDo, MakesAtMost}
 use Rattle.store_api.proofs.Counts.{at_most-more, at_most-none, at_most-then}
 use Rattle.tree_read.specs.Trees.{tree_nodes, tree_pairs}
-use Rattle.tree_make.specs.Changes.{levels}
-use Rattle.tree_make.specs.Makes.{CountsNodes}
+use Rattle.frozen_btree.specs.Changes.{levels}
+use Rattle.frozen_btree.specs.Makes.{CountsNodes}
 use Rattle.array_store.specs.Adding.{MakesOneOf}
 use Rattle.attr_types.specs.declared.value.Value.{Value}
 use Rattle.enum_dictionary.specs.Dictionaries.{beside_value}

@@ -10,7 +10,7 @@ use Rattle.store_api.proofs.PartLemmas.{after, owns-some, turns-as, turns-same, 
 use Rattle.store_api.proofs.Times.{times-append}
 use Rattle.tree_read.specs.ProofsForTrees.{SameAt-left, SameAt-right, flat_map-same, tree_nodes-same, tree_pairs-same}
 use Rattle.tree_read.specs.Trees.{tree_pairs, tree_nodes}
-use Rattle.tree_make.specs.Changes.{tree}
+use Rattle.frozen_btree.specs.Changes.{tree}
 use Rattle.array_store.specs.Adding.{AddsRecord}
 use Rattle.attr_images.specs.Postings.{list_form, postings_reach, dictionary_reach}
 use Rattle.attr_images.specs.ProofsForImages.{postings_reach-same}

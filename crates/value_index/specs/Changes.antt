@@ -7,7 +7,7 @@ use Rattle.store_api.specs.Parts.{Owns, Turns}
 use Rattle.tree_read.specs.Pairs.{lookup}
 use Rattle.tree_read.specs.declared.node_format.TheConstants.{NODE_WORDS}
 use Rattle.tree_read.specs.Trees.{tree_pairs}
-use Rattle.tree_make.specs.Changes.{levels}
+use Rattle.frozen_btree.specs.Changes.{levels}
 use Rattle.attr_images.specs.Postings.{index_of}
 use Rattle.attr_images.specs.Values.{stored_value, value_words}
 use Rattle.attr_images.specs.Words.{class_of}

@@ -9,8 +9,8 @@ use Rattle.attr_images.specs.Documents.{column_at}
 use Rattle.attr_index.specs.Columns.{with_change}
 use Rattle.attr_documents.specs.Changes.{AreBeside, MakesDocuments}
 use Rattle.attr_documents.specs.Documents.{documents_part, documents_refer, IsDocuments}
-use Rattle.tree_make.specs.Changes.{levels}
-use Rattle.tree_make.specs.Makes.{CountsNodes}
+use Rattle.frozen_btree.specs.Changes.{levels}
+use Rattle.frozen_btree.specs.Makes.{CountsNodes}
 use Rattle.attr_documents.proofs.CountLemmas.{nodes-then}
 use Rattle.attr_documents.proofs.ChangeLemmas.{owns_tree, owns_old, changes_pair, makes_out, there_in_map}
 use Rattle.attr_documents.proofs.changing.remove_document.Goals as goal

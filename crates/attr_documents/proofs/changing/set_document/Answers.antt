@@ -1,14 +1,14 @@
 use Rattle.std.proofs.Common.{◌+◌, ◌*◌, subst, ◌<◌, ℕ, length, refl, arith, ◌∙◌, inl, inr}
 use Rattle.std.proofs.lemmas.Result.{err_from_is_err_and}
 use Rattle.std.proofs.Math.Nat.{pos_of_div-pos}
-use Rattle.tree_make.proofs.TopLemmas.{levels-same}
+use Rattle.frozen_btree.proofs.TopLemmas.{levels-same}
 use Rattle.entry_ref.specs.References.{buffer_limit}
 use Rattle.store_api.proofs.May.{may_do-same}
 use Rattle.posting_store.proofs.RefusalLemmas.{if_one, of_more}
 use Rattle.attr_documents.specs.Changes.{IsDocumentWidth}
 use Rattle.attr_documents.specs.Items.{entries_by_key, IsItemsWidth}
-use Rattle.tree_make.specs.Changes.{levels}
-use Rattle.tree_make.specs.Makes.{CountsNodes}
+use Rattle.frozen_btree.specs.Changes.{levels}
+use Rattle.frozen_btree.specs.Makes.{CountsNodes}
 use Rattle.attr_documents.proofs.CountLemmas.{counts-one, counts-both}
 use Rattle.attr_documents.proofs.ChangeLemmas.{nodes_stay, still_map, still_owned, made_documents, set_documents}
 use Rattle.attr_documents.proofs.KeyLemmas.{keys_length, keys_there}

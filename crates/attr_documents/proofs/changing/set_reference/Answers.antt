@@ -7,8 +7,8 @@ use Rattle.store_api.specs.Parts.{Owns}
 use Rattle.doc_vector.specs.Documents.{beside_document, IsDocumentMap}
 use Rattle.attr_documents.specs.Changes.{ChangesPair}
 use Rattle.attr_documents.specs.Documents.{documents_part}
-use Rattle.tree_make.specs.Changes.{levels}
-use Rattle.tree_make.specs.Makes.{CountsNodes}
+use Rattle.frozen_btree.specs.Changes.{levels}
+use Rattle.frozen_btree.specs.Makes.{CountsNodes}
 use Rattle.attr_documents.proofs.CountLemmas.{nodes-then}
 use Rattle.attr_documents.proofs.ChangeLemmas.{owns_tree, owns_old, changes_pair}
 use Rattle.attr_documents.proofs.changing.set_reference.Goals as goal

@@ -10,7 +10,7 @@ use Rattle.attr_images.specs.Postings.{index_of}
 use Rattle.attr_index.specs.Columns.{with_change}
 use Rattle.store_api.specs.Calls.{RefusesOf}
 use Rattle.attr_walks.specs.Counts.{MakesFew}
-use Rattle.tree_make.specs.Changes.{levels as levels_of}
+use Rattle.frozen_btree.specs.Changes.{levels as levels_of}
 use Rattle.value_index.specs.Indexes.{IsKey}
 use Rattle.attr_field.specs.Steps.{StepsField}
 use Rattle.attr_walks.proofs.CountLemmas.{few_none}

@@ -1,7 +1,7 @@
 use Rattle.std.proofs.Common.{◌<◌, ◌≡◌, [], ◌∷◌, refl, sym, subst, arith}
 use Rattle.store_api.specs.Parts.{Owns, Turns}
 use Rattle.store_api.proofs.PartLemmas.{turns-same}
-use Rattle.tree_make.proofs.Results.{not_valid}
+use Rattle.frozen_btree.proofs.Results.{not_valid}
 use Rattle.bench_work.proofs.RootLemmas.{root-some, root-none}
 use Rattle.bench_work.proofs.commit.drop_root.Goals as goal
 

@@ -1,6 +1,6 @@
 use Rattle.std.proofs.Common.{[], ◌∷◌, ap, sym, subst, ◌∙◌, arith}
 use Rattle.store_api.specs.Parts.{Owns, entries}
-use Rattle.tree_make.specs.Changes.{DropsEntries}
+use Rattle.frozen_btree.specs.Changes.{DropsEntries}
 use Rattle.bench_work.proofs.MadeLemmas.{made-owns, unit-holds}
 use Rattle.bench_work.proofs.round.run_unit.Goals as goal
 

@@ -2,7 +2,7 @@ use Rattle.std.proofs.Common.{◌≡◌, ◌≢◌, ◌<◌, ◌+◌, ℕ, suc, 
 use Rattle.std.proofs.lemmas.List.{take_all}
 use Rattle.list_facts.proofs.Each.{AllByRecursion-at}
 use Rattle.entry_ref.specs.References.{buffer_of}
-use Rattle.tree_touch.specs.Paths.{NoneIn}
+use Rattle.frozen_btree.specs.Paths.{NoneIn}
 use Rattle.array_store.specs.Arrays.{IsArray}
 use Rattle.attr_images.specs.Values.{IsValueRecord}
 use Rattle.attr_images.specs.Words.{stored_items}

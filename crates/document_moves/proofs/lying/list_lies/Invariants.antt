@@ -1,5 +1,5 @@
 use Rattle.std.proofs.Common.{◌≡◌, map, take}
-use Rattle.tree_touch.specs.Paths.{NoneIn}
+use Rattle.frozen_btree.specs.Paths.{NoneIn}
 use Rattle.attr_images.specs.Words.{stored_items}
 use Rattle.document_moves.proofs.LyingLemmas.{record_of}
 use Rattle.document_moves.proofs.lying.list_lies.Given as goal

@@ -6,7 +6,7 @@ use Rattle.std.specs.Ordering.{nat_cmp}
 use Rattle.store_api.specs.Calls.{IsUsedWidth, RefusesOf}
 use Rattle.store_api.specs.Units.{MayDo}
 use Rattle.store_api.proofs.May.{may_do-same}
-use Rattle.tree_make.specs.Changes.{levels}
+use Rattle.frozen_btree.specs.Changes.{levels}
 use Rattle.attr_images.specs.Documents.{column_at}
 use Rattle.attr_index.specs.Columns.{items_of}
 use Rattle.posting_store.specs.Changes.{MakesWithin}

@@ -1,11 +1,11 @@
 use Rattle.std.proofs.Common.{ℕ, subst, arith}
 use Rattle.std.specs.Prelude.{IfOk}
-use Rattle.tree_make.proofs.UsedLemmas.{node_used}
-use Rattle.tree_make.proofs.MakesLemmas.{counts-none}
+use Rattle.frozen_btree.proofs.UsedLemmas.{node_used}
+use Rattle.frozen_btree.proofs.MakesLemmas.{counts-none}
 use Rattle.store_api.proofs.May.{may_do-same}
-use Rattle.tree_make.specs.Changes.{levels}
-use Rattle.tree_make.proofs.Results.{is_valid, not_valid, on_err}
-use Rattle.tree_touch.specs.Paths.{path_nodes, NoneIn}
+use Rattle.frozen_btree.specs.Changes.{levels}
+use Rattle.frozen_btree.proofs.Results.{is_valid, not_valid, on_err}
+use Rattle.frozen_btree.specs.Paths.{path_nodes, NoneIn}
 use Rattle.doc_vector.specs.Documents.{beside_document}
 use Rattle.doc_vector.proofs.DocumentLemmas.{number_keyed}
 use Rattle.document_moves.proofs.NodeLemmas.{nodes_moved_by, nodes_owned, nodes_unmoved}

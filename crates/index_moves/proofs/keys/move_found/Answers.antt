@@ -8,7 +8,7 @@ use Rattle.entry_ref.specs.References.{buffer_of}
 use Rattle.store_api.specs.Calls.{IsUsedWidth}
 use Rattle.store_api.specs.Parts.{entry}
 use Rattle.store_api.proofs.May.{may_do-same, may_do-then}
-use Rattle.tree_make.specs.Changes.{levels}
+use Rattle.frozen_btree.specs.Changes.{levels}
 use Rattle.posting_store.proofs.RefusalLemmas.{if_one, of_one}
 use Rattle.value_index.specs.Changes.{nodes_most, record_most}
 use Rattle.value_index.proofs.CountLemmas.{within_more, within_none, within_record, within_then, within_tree}

@@ -9,7 +9,7 @@ use Rattle.posting_store.proofs.RefusalLemmas.{if_one}
 use Rattle.store_api.specs.Calls.{IsUsedWidth}
 use Rattle.store_api.proofs.May.{may_do-then}
 use Rattle.tree_read.specs.Trees.{tree_pairs}
-use Rattle.tree_make.specs.Changes.{levels}
+use Rattle.frozen_btree.specs.Changes.{levels}
 use Rattle.value_index.specs.Changes.{nodes_most}
 use Rattle.value_index.proofs.CountLemmas.{within_more, within_then, within_tree}
 use Rattle.value_index.proofs.KeyLemmas.{pair_found, reads_found}

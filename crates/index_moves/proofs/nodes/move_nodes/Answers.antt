@@ -1,9 +1,9 @@
 use Rattle.std.proofs.Common.{◌≡◌, arith, ap}
-use Rattle.tree_make.proofs.UsedLemmas.{node_used}
-use Rattle.tree_make.proofs.MakesLemmas.{counts-none}
+use Rattle.frozen_btree.proofs.UsedLemmas.{node_used}
+use Rattle.frozen_btree.proofs.MakesLemmas.{counts-none}
 use Rattle.store_api.proofs.May.{may_do-same}
-use Rattle.tree_make.specs.Changes.{levels}
-use Rattle.tree_make.proofs.Results.{is_valid, not_valid, on_err}
+use Rattle.frozen_btree.specs.Changes.{levels}
+use Rattle.frozen_btree.proofs.Results.{is_valid, not_valid, on_err}
 use Rattle.attr_types.specs.Value.{type_of}
 use Rattle.attr_types.specs.declared.kind.ValueType.TheVariants as types
 use Rattle.enum_dictionary.proofs.DictionaryLemmas.{dictionary_keyed, of_type}

@@ -10,7 +10,7 @@ use Rattle.attr_images.specs.Values.{value_words}
 use Rattle.attr_images.specs.Words.{class_of}
 use Rattle.attr_index.specs.Index.{list_of}
 use Rattle.attr_types.specs.Value.{type_of}
-use Rattle.tree_make.specs.Changes.{levels}
+use Rattle.frozen_btree.specs.Changes.{levels}
 use Rattle.posting_store.specs.Changes.{list_most, IsListWidth, MakesList, MakesWithin}
 use Rattle.posting_store.proofs.ListLemmas.{nothing_is}
 use Rattle.posting_store.proofs.RefusalLemmas.{if_one, of_more, of_one}

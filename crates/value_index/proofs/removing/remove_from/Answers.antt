@@ -6,7 +6,7 @@ use Rattle.std.specs.Ordering.{nat_cmp}
 use Rattle.attr_images.specs.Postings.{index_of}
 use Rattle.attr_index.specs.Index.{list_of}
 use Rattle.attr_types.specs.Value.{type_of}
-use Rattle.tree_make.specs.Changes.{levels}
+use Rattle.frozen_btree.specs.Changes.{levels}
 use Rattle.posting_store.specs.Changes.{list_most, IsListWidth, MakesWithin}
 use Rattle.posting_store.specs.Lists.{list_at, list_levels}
 use Rattle.posting_store.proofs.RefusalLemmas.{if_one, of_more, of_one}

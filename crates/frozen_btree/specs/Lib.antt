@@ -1,0 +1,11 @@
+pub mod Words
+pub mod Makes
+pub mod Changes
+pub mod Parts
+pub mod Inserts
+pub mod Settles
+pub mod Removes
+pub mod Builds
+pub mod Paths
+pub mod Touches
+pub mod Ways

@@ -1,0 +1,101 @@
+ghost use Rattle.std.specs.Prelude.{◌≡◌, ◌<◌, ◌≤◌, ◌+◌, ◌^◌, ◌∷◌, [], true, length, IsSome, IfOk, IfErr, OnErr};
+ghost use Rattle.tree_read.specs.Nodes.{level_of, node_keys, node_values};
+ghost use Rattle.tree_read.specs.Trees.{tree_pairs, IsTree, Keeps};
+ghost use Rattle.tree_read.specs.Keys.{seen_by, AllReadable, KeepsOthers, IsKeyedTree};
+ghost use Rattle.tree_read.specs.Pairs.{lookup, take_out};
+ghost use Rattle.store_api.specs.Calls.{Refuses};
+ghost use Rattle.store_api.specs.Parts.{Owns, Turns};
+ghost use Rattle.store_api.specs.Units.{MayDo};
+ghost use Rattle.frozen_btree.specs.Changes.{Rebuilds, levels, tree};
+ghost use Rattle.frozen_btree.specs.Makes.{CountsNodes, MakesNodes, MakesRoot};
+ghost use Rattle.frozen_btree.specs.Words.{AreWords};
+ghost use Rattle.tree_read.specs.Slots.{slot_pairs, IsInHand};
+
+use crate::remove_below::remove_below;
+use arrayvec::ArrayVec;
+use entry_ref::EntryRef;
+use tree_read::{KeyOrder, NODE_WORDS, slots_of, used_in};
+use store_api::{Store, StoreError};
+use crate::{drop_nodes, make_root, make_words};
+
+/// The root of words in hand: none where no slot is left, and above the leaves the child of a single one.
+fn make_top<const OFFSET_BITS: u32, S: Store<OFFSET_BITS>>(
+    store: &mut S,
+    words: &[u64; NODE_WORDS],
+) -> Result<EntryRef<OFFSET_BITS>, StoreError>
+    requires unit { (S.ledger store.old).unit ≡ true }
+    requires low { level_of words.now ≤ 7 }
+    requires are { AreWords (level_of words.now)
+        (length (slot_pairs (S.records store.old) (level_of words.now) (node_keys words.now) (node_values words.now)))
+        (node_keys words.now) (node_values words.now) words.now }
+    requires hand { IsInHand (S.records store.old) (level_of words.now) (node_keys words.now) (node_values words.now) }
+    requires some { 0 < level_of words.now → 0 < length (node_keys words.now) }
+    requires few { length (slot_pairs (S.records store.old) (level_of words.now) (node_keys words.now) (node_values words.now)) < 2 ^ 32 }
+    ensures root { IfOk result (MakesRoot (S.ledger store.old) (S.ledger store.new) (S.records store.old) (S.records store.new)
+        (level_of words.now) (node_keys words.now) (node_values words.now)) }
+    ensures refuses { IfErr result (Refuses (S.ledger store.old) (S.ledger store.new) NODE_WORDS) }
+    ensures makes { MakesNodes (S.ledger store.old) (S.ledger store.new) (S.records store.old) (S.records store.new) 1 }
+{
+    if used_in(words) < 2 {
+        return make_root(store, &slots_of(words));
+    }
+    let part = make_words(store, words)?;
+    Ok(EntryRef::from_raw(part.node))
+}
+
+/// Makes the tree without a pair, with the nodes of the old one that it lacks added to those that are replaced.
+fn rebuild<const OFFSET_BITS: u32, S: Store<OFFSET_BITS>, K: KeyOrder<OFFSET_BITS>>(
+    store: &mut S,
+    root: EntryRef<OFFSET_BITS>,
+    key: &K,
+    replaced: &mut ArrayVec<u32, 16>,
+) -> Result<EntryRef<OFFSET_BITS>, StoreError>
+    requires unit { (S.ledger store.old).unit ≡ true }
+    requires tree { IsTree K.order K.read (S.records store.old) root }
+    requires some { 0 < root }
+    requires readable { AllReadable K.can_read (S.records store.old) (tree_pairs (S.records store.old) root) }
+    requires there { IsSome (lookup (seen_by K.read K.order (K.sought key.now) (S.records store.old))
+        (tree_pairs (S.records store.old) root)) }
+    requires replaced { replaced.old.items ≡ [] }
+    ensures rebuilds { IfOk result (λ r. Rebuilds (S.ledger store.old) (S.ledger store.new) (S.records store.old) (S.records store.new)
+        root.entry r replaced.new.items (take_out (seen_by K.read K.order (K.sought key.now) (S.records store.old))
+        (tree_pairs (S.records store.old) root.entry))) }
+    ensures refuses { IfErr result (Refuses (S.ledger store.old) (S.ledger store.new) NODE_WORDS) }
+    ensures makes { MakesNodes (S.ledger store.old) (S.ledger store.new) (S.records store.old) (S.records store.new)
+        (levels (S.records store.old) root.entry + 1) }
+{
+    let level = store.word(root, 0) / 256;
+    let mut words = [0; NODE_WORDS];
+    remove_below(store, root, level, key, replaced, &mut words)?;
+    make_top(store, &words)
+}
+
+/// Takes out the pair of a key that is there. The answer is the new root, 0 where no pair is left; the nodes
+/// of the old tree that are not in the new one are dropped.
+pub fn remove<const OFFSET_BITS: u32, S: Store<OFFSET_BITS>, K: KeyOrder<OFFSET_BITS>>(
+    store: &mut S,
+    root: EntryRef<OFFSET_BITS>,
+    key: &K,
+) -> Result<EntryRef<OFFSET_BITS>, StoreError>
+    requires unit { (S.ledger store.old).unit ≡ true }
+    requires keyed { IsKeyedTree K.order K.read K.can_read K.reads_from (S.records store.old) root }
+    requires there { IsSome (lookup (seen_by K.read K.order (K.sought key.now) (S.records store.old))
+        (tree_pairs (S.records store.old) root)) }
+    requires owns { Owns (S.ledger store.old) (S.records store.old) (tree root ∷ []) }
+    ensures keyed { IfOk result (IsKeyedTree K.order K.read K.can_read K.reads_from (S.records store.new)) }
+    ensures owns { IfOk result (λ r. Owns (S.ledger store.new) (S.records store.new) (tree r ∷ [])) }
+    ensures pairs { IfOk result (λ r. tree_pairs (S.records store.new) r
+        ≡ take_out (seen_by K.read K.order (K.sought key.now) (S.records store.old)) (tree_pairs (S.records store.old) root.entry)) }
+    ensures turns { IfOk result (λ r. Turns (S.ledger store.old) (S.ledger store.new) (S.records store.old) (S.records store.new)
+        (tree root.entry ∷ []) (tree r ∷ [])) }
+    ensures others { KeepsOthers (S.records store.old) (S.records store.new) }
+    ensures counts { CountsNodes (S.ledger store.old) (S.ledger store.new) (levels (S.records store.old) root.entry + 1) }
+    ensures left { OnErr result (Keeps (S.records store.old) (S.records store.new)) }
+    ensures refuses { IfErr result (Refuses (S.ledger store.old) (S.ledger store.new) NODE_WORDS) }
+    ensures may { MayDo (S.ledger store.old) (S.ledger store.new) }
+{
+    let mut replaced = ArrayVec::new();
+    let next = rebuild(store, root, key, &mut replaced)?;
+    drop_nodes(store, &replaced);
+    Ok(next)
+}

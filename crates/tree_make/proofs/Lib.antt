@@ -1,9 +1,0 @@
-pub mod Results
-pub mod MakesLemmas
-pub mod MadeLemmas
-pub mod RootLemmas
-pub mod DropLemmas
-pub mod ChangeLemmas
-pub mod UsedLemmas
-pub mod TopLemmas
-pub mod WordLemmas

@@ -1,2 +1,0 @@
-pub mod Settles
-pub mod Removes

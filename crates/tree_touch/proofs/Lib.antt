@@ -1,4 +1,0 @@
-pub mod PathLemmas
-pub mod CopyLemmas
-pub mod TouchLemmas
-pub mod TreeLemmas

@@ -1,4 +1,0 @@
-use Rattle.tree_touch.proofs.below.+touch_below.Given as goal
-
-abbrev pub decreases-touch_below : goal.decreases-touch_below
-decreases-touch_below g l = l.level
