@@ -3,12 +3,11 @@ ghost use Rattle.std.specs.Prelude.{◌≡◌, ◌≤◌, ◌<◌, ◌++◌, ◌
 ghost use Rattle.attr_answers.specs.Lines.{line_of, lines_from};
 ghost use Rattle.attr_images.specs.Images.{operations_at, table_of, IsLawfulImage};
 ghost use Rattle.attr_images.specs.Shapes.{shape_of, types_of};
-ghost use Rattle.attr_scores.specs.Scores.{ask_tree, answer_on, documents, scored};
+ghost use Rattle.attr_types.specs.Scores.{ask_tree, answer_on, documents, scored};
 ghost use Rattle.attr_types.specs.declared.field.TheConstants.{MOST_FIELDS};
 
 use attr_report::{push_count, push_documents, push_scores};
-use attr_scores::{Ask, Score};
-use attr_types::{Doc, Fields};
+use attr_types::{Ask, Doc, Fields, Score};
 use entry_ref::EntryRef;
 use arena_api::Frozen;
 use query_eval::{hits, scores};

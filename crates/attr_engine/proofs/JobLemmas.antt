@@ -12,7 +12,7 @@ use Rattle.gen_core.specs.Views.{last_number}
 use Rattle.word_arena.specs.Ruled.{reader_of}
 use Rattle.attr_images.specs.Images.{IsLawfulImage}
 use Rattle.attr_images.specs.declared.layout.AttrLayout.{AttrLayout}
-use Rattle.attr_scores.specs.Scores.{ask_tree}
+use Rattle.attr_types.specs.Scores.{ask_tree}
 use Rattle.attr_rounds.specs.Rounds.{MakesRounds}
 use Rattle.attr_rounds.specs.declared.job.Job.{Job}
 use Rattle.attr_rounds.specs.declared.rounds.Reading.{Reading}

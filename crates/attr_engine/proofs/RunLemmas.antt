@@ -11,7 +11,7 @@ use Rattle.gen_core.specs.declared.views.WriterView.{WriterView}
 use Rattle.gen_core.specs.Views.{last_number}
 use Rattle.attr_images.specs.Images.{table_of}
 use Rattle.attr_images.specs.Shapes.{shape_of, types_of}
-use Rattle.attr_scores.specs.Scores.{AskTree}
+use Rattle.attr_types.specs.Scores.{AskTree}
 use Rattle.std.specs.List.{AllByRecursion}
 use Rattle.list_facts.proofs.Each.{AllByRecursion-weaker}
 use Rattle.attr_column.specs.Columns.{TellsColumn}

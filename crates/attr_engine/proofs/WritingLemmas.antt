@@ -3,7 +3,7 @@ use Rattle.std.proofs.Common.{◌≡◌, ◌∙◌, refl, sym, ap, ap₂, subst,
 use Rattle.std.specs.Prelude.{true, false, Option, Some, None, is_some, All, Vec, IfSome}
 use Rattle.std.specs.Global.{Global}
 use Rattle.std.specs.List.{AllByRecursion}
-use Rattle.attr_scores.specs.Scores.{AskTree, answer_on, documents_in}
+use Rattle.attr_types.specs.Scores.{AskTree, answer_on, documents_in}
 use Rattle.attr_types.specs.Table.{Table, IsCommitPoint}
 use Rattle.attr_types.specs.declared.op.Op.{Op}
 use Rattle.attr_rounds.specs.declared.rounds.Round.{Round}

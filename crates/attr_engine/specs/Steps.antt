@@ -13,7 +13,7 @@ use Rattle.gen_core.specs.Views.{last_number}
 use Rattle.word_arena.specs.Knows.{view_of}
 use Rattle.attr_images.specs.Images.{operations_at, table_of, IsLawfulImage}
 use Rattle.attr_images.specs.Shapes.{shape_of, types_of}
-use Rattle.attr_scores.specs.Scores.{AskTree}
+use Rattle.attr_types.specs.Scores.{AskTree}
 use Rattle.attr_types.specs.Table.{skipped}
 use Rattle.attr_types.specs.declared.field.Field.{Field}
 use Rattle.attr_types.specs.declared.field.TheConstants.{MOST_FIELDS}

@@ -5,7 +5,7 @@ ghost use Rattle.gen_core.specs.Views.{last_number};
 ghost use Rattle.word_arena.specs.Ruled.{reader_of, writer_of};
 ghost use Rattle.attr_answers.specs.Lines.{CanAsk};
 ghost use Rattle.attr_images.specs.Shapes.{shape_of, types_of};
-ghost use Rattle.attr_scores.specs.Scores.{ask_tree};
+ghost use Rattle.attr_types.specs.Scores.{ask_tree};
 ghost use Rattle.attr_types.specs.declared.field.TheConstants.{MOST_FIELDS};
 ghost use Rattle.attr_engine.specs.Steps.{operations_of, saves_of, KeepsWriter, IsReader, IsReading, IsTakenFrom, AreRoundsOf};
 ghost use Rattle.attr_engine.specs.Steps.{IsLastAnswer};

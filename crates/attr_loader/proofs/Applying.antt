@@ -4,8 +4,8 @@ use Rattle.std.specs.Prelude.{Result, Ok, Err, IfOk}
 use Rattle.std.proofs.lemmas.List.{length_push}
 use Rattle.entry_ref.specs.Images.{words_at}
 use Rattle.store_api.specs.Ledgers.{Ledger}
-use Rattle.attr_changes.specs.declared.applied.Applied.{Applied}
-use Rattle.attr_changes.specs.declared.applied.Applied.TheVariants.{Changed, Skipped}
+use Rattle.attr_types.specs.declared.applied.Applied.{Applied}
+use Rattle.attr_types.specs.declared.applied.Applied.TheVariants.{Changed, Skipped}
 use Rattle.attr_images.specs.Images.{IsLawfulImage, table_of}
 use Rattle.attr_images.specs.Shapes.{shape_of, types_of}
 use Rattle.attr_types.specs.Table.{Table, after_op, is_skipped, after_ops, skipped_ops}

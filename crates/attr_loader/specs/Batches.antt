@@ -4,8 +4,8 @@ use Rattle.entry_ref.specs.declared.images.Image.{Image}
 use Rattle.entry_ref.specs.Images.{words_at}
 use Rattle.arena_api.specs.Calls.{told_after}
 use Rattle.store_api.specs.Ledgers.{Ledger}
-use Rattle.attr_changes.specs.declared.applied.Applied.{Applied}
-use Rattle.attr_changes.specs.declared.applied.Applied.TheVariants.{Changed, Skipped}
+use Rattle.attr_types.specs.declared.applied.Applied.{Applied}
+use Rattle.attr_types.specs.declared.applied.Applied.TheVariants.{Changed, Skipped}
 use Rattle.attr_images.specs.Images.{IsLawfulImage, table_of, operations_at}
 use Rattle.attr_images.specs.Shapes.{shape_of, types_of}
 use Rattle.attr_types.specs.Table.{after_ops, skipped_ops}

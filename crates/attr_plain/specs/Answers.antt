@@ -3,8 +3,8 @@ use Rattle.std.specs.Prelude.{if◌then◌else◌}
 use Rattle.attr_types.specs.Table.{after_op, is_skipped}
 use Rattle.attr_types.specs.declared.op.Op.{Op}
 use Rattle.attr_plain.specs.Plain.{Plain}
-use Rattle.attr_changes.specs.declared.applied.Applied.{Applied}
-use Rattle.attr_changes.specs.declared.applied.Applied.TheVariants.{Changed, Skipped}
+use Rattle.attr_types.specs.declared.applied.Applied.{Applied}
+use Rattle.attr_types.specs.declared.applied.Applied.TheVariants.{Changed, Skipped}
 
 abbrev pub plain_after : Plain → Op → Plain
 plain_after plain op = record plain { table = after_op plain.fields plain.table op }

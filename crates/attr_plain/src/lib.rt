@@ -5,5 +5,5 @@
 mod matching;
 mod table;
 
-pub use attr_changes::Applied;
+pub use attr_types::Applied;
 pub use table::PlainTable;

@@ -6,7 +6,7 @@ use Rattle.std.specs.Prelude.{List, [], ◌∷◌, ◌++◌, filter, length, All
 use Rattle.std.specs.List.{flat_map, filter_map}
 use Rattle.std.specs.List.Sorted.{IsNonDecreasing}
 use Rattle.attr_types.specs.declared.op.Op.{Op}
-use Rattle.attr_scores.specs.Scores.{Answer}
+use Rattle.attr_types.specs.Scores.{Answer}
 use Rattle.attr_types.specs.Table.{IsCommitPoint}
 use Rattle.attr_report.specs.Run.{Run, Progress, answers_of}
 

@@ -1,7 +1,7 @@
 -- Laws of the history of a run.
 use Rattle.std.specs.Prelude.{ℕ, List, ◌∷◌, length}
 use Rattle.attr_types.specs.declared.op.Op.{Op}
-use Rattle.attr_scores.specs.Scores.{Answer}
+use Rattle.attr_types.specs.Scores.{Answer}
 use Rattle.attr_report.specs.Run.{Run, Progress}
 use Rattle.attr_report.specs.History.{RunEvent, Round, IsRounds, IsLegalHistory, history}
 

@@ -4,8 +4,8 @@ use Rattle.std.specs.List.{flat_map}
 use Rattle.std.specs.Fmt.{decimal, signed_decimal}
 use Rattle.attr_saver.specs.Bytes.{saved_bytes}
 use Rattle.attr_saver.specs.Lawful.{save_of}
-use Rattle.attr_scores.specs.Scores.{AskTree, Answer, documents, scored, answer_on, documents_in}
-use Rattle.attr_scores.specs.declared.score.Score.{Score}
+use Rattle.attr_types.specs.Scores.{AskTree, Answer, documents, scored, answer_on, documents_in}
+use Rattle.attr_types.specs.declared.score.Score.{Score}
 use Rattle.attr_types.specs.Table.{Table}
 use Rattle.attr_types.specs.declared.field.Field.{Field}
 use Rattle.attr_types.specs.declared.op.Op.{Op}

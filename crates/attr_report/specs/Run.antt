@@ -1,6 +1,6 @@
 -- A run that was asked for, how far it came, and its table on the way.
 use Rattle.std.specs.Prelude.{ℕ, Bool, List, map, Option}
-use Rattle.attr_scores.specs.Scores.{AskTree, Answer, ask_tree, answer_on}
+use Rattle.attr_types.specs.Scores.{AskTree, Answer, ask_tree, answer_on}
 use Rattle.attr_types.specs.declared.field.Field.{Field}
 use Rattle.attr_types.specs.declared.op.Op.{Op}
 use Rattle.attr_types.specs.Table.{Table, after, skipped}

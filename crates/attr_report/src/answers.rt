@@ -1,10 +1,9 @@
 //! Answers, as lines of a report and as counts.
 ghost use Rattle.std.specs.Prelude.{◌≡◌, ◌++◌, OnOk, string_bytes};
-ghost use Rattle.attr_scores.specs.Scores.{documents, scored};
+ghost use Rattle.attr_types.specs.Scores.{documents, scored};
 ghost use Rattle.attr_report.specs.Report.{answer_line, count_line, score_text};
 
-use attr_scores::Score;
-use attr_types::Doc;
+use attr_types::{Doc, Score};
 use std::alloc::AllocError;
 
 /// Writes the line of documents.

@@ -1,5 +1,4 @@
-use attr_scores::Asks;
-use attr_types::Fields;
+use attr_types::{Asks, Fields};
 
 /// Operations that are made from a number in place of a feed.
 #[derive(Clone, Copy, Debug)]

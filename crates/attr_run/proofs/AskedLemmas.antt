@@ -10,7 +10,7 @@ use Rattle.attr_words.specs.Reading.{AskForHelp, AreRefused}
 use Rattle.attr_words.specs.Settings.{Given, Says as SaysOfWords, settings_in}
 use Rattle.attr_words.specs.declared.reading.WordsError.{WordsError}
 use Rattle.attr_words.specs.declared.reading.WordsError.TheVariants as words
-use Rattle.attr_scores.specs.Scores.{AskTree}
+use Rattle.attr_types.specs.Scores.{AskTree}
 use Rattle.query_text.specs.Asks.{ask_of}
 use Rattle.attr_report.specs.Run.{Run, run_in}
 use Rattle.attr_run.specs.Run.{◌>>=◌, given_or_refused, ask_or_refused, asks_from, run_of, asked}

@@ -3,7 +3,7 @@ use Rattle.std.proofs.Common.{◌≡◌, ◌∙◌, sym, ap, refl, ℕ, ◌+◌,
 use Rattle.std.proofs.Common.{append_assoc, append-nil}
 use Rattle.clap.specs.Walk.{Text}
 use Rattle.attr_types.specs.declared.field.Field.{Field}
-use Rattle.attr_scores.specs.Scores.{AskTree}
+use Rattle.attr_types.specs.Scores.{AskTree}
 use Rattle.query_text.specs.Asks.{ask_of}
 use Rattle.attr_run.specs.Run.{◌>>=◌, ask_or_refused, asks_from}
 use Rattle.attr_run.specs.Steps.{Says}

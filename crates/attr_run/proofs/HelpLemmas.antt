@@ -8,7 +8,7 @@ use Rattle.clap.specs.Kinds.{Kinds}
 use Rattle.clap.specs.declared.error.kind.ErrorKind.{ErrorKind}
 use Rattle.clap.specs.declared.error.kind.ErrorKind.TheVariants as kinds
 use Rattle.attr_types.specs.declared.field.Field.{Field}
-use Rattle.attr_names.specs.Names.{kind_named, value_named}
+use Rattle.attr_types.specs.Names.{kind_named, value_named}
 use Rattle.attr_words.specs.CommandLine.{attr_app}
 use Rattle.attr_words.specs.Reading.{Said, said_by, AskForHelp, AreRefused}
 use Rattle.attr_words.specs.Also.{◌>>=◌, Piece, pieces, part_at, new_name, or_broken, or_surplus, field_of_parts}

@@ -6,7 +6,7 @@ use Rattle.clap.specs.Walk.{Text}
 use Rattle.attr_types.specs.declared.error.QueryError.{QueryError}
 use Rattle.attr_types.specs.declared.field.Field.{Field}
 use Rattle.attr_words.specs.Settings.{Given, settings_in}
-use Rattle.attr_scores.specs.Scores.{AskTree}
+use Rattle.attr_types.specs.Scores.{AskTree}
 use Rattle.query_text.specs.Asks.{ask_of}
 use Rattle.query_text.specs.Grammar.{any_word, Answers}
 use Rattle.query_text.specs.Laws.{ReadsByGrammar, AnswersOnce}

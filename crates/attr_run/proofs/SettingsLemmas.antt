@@ -11,7 +11,7 @@ use Rattle.attr_words.specs.CommandLine.{make, seed}
 use Rattle.attr_words.specs.Reading.{IsWithin}
 use Rattle.attr_words.specs.Settings.{Given, settings_in, IsLawful, SettingsAreLawful}
 use Rattle.attr_words.specs.declared.reading.WordsError.{WordsError}
-use Rattle.attr_scores.specs.Scores.{AskTree}
+use Rattle.attr_types.specs.Scores.{AskTree}
 use Rattle.query_text.specs.Asks.{ask_of}
 use Rattle.query_text.specs.Grammar.{any_word, Answers}
 use Rattle.query_text.specs.Laws.{ReadsByGrammar}

@@ -10,7 +10,7 @@ use Rattle.attr_types.specs.declared.error.QueryError.{QueryError}
 use Rattle.attr_words.specs.Settings.{Given, settings_in}
 use Rattle.attr_words.specs.declared.reading.WordsError.{WordsError}
 use Rattle.attr_words.specs.declared.reading.WordsError.TheVariants as words
-use Rattle.attr_scores.specs.Scores.{AskTree}
+use Rattle.attr_types.specs.Scores.{AskTree}
 use Rattle.query_text.specs.Asks.{ask_of}
 use Rattle.made_ops.specs.Made.{made}
 use Rattle.feed_reader.specs.Feed.{feed_of, most_bytes}

@@ -9,7 +9,7 @@ use Rattle.attr_types.specs.declared.field.Field.{Field}
 use Rattle.attr_words.specs.CommandLine.{batch, readers, rounds, buffers, words, make, seed}
 use Rattle.attr_words.specs.Reading.{IsWithin}
 use Rattle.attr_words.specs.Settings.{Given, settings_in, are_too_many}
-use Rattle.attr_scores.specs.Scores.{AskTree}
+use Rattle.attr_types.specs.Scores.{AskTree}
 use Rattle.query_text.specs.Grammar.{any_word, Answers}
 use Rattle.attr_report.specs.Run.{Run}
 use Rattle.attr_report.specs.declared.request.Make.{Make}

@@ -5,3 +5,6 @@ pub mod DocumentLemmas
 pub mod TableLemmas
 pub mod HitLemmas
 pub mod FitLemmas
+pub mod WeightLemmas
+pub mod DocumentSteps
+pub mod ScoreLemmas

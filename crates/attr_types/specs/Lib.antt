@@ -6,3 +6,7 @@ pub mod Table
 pub mod Lawful
 pub mod Fitting
 pub mod Laws
+pub mod Weights
+pub mod Names
+pub mod Scores
+pub mod ScoresLaws

@@ -9,7 +9,7 @@ use Rattle.clap.specs.Simple.{matches_of}
 use Rattle.clap.specs.Faults.{fault_of}
 use Rattle.clap.specs.declared.error.kind.ErrorKind.TheVariants as kinds
 use Rattle.attr_types.specs.declared.field.Field.{Field}
-use Rattle.attr_names.specs.Names.{kind_named, value_named}
+use Rattle.attr_types.specs.Names.{kind_named, value_named}
 use Rattle.attr_words.specs.CommandLine.{attr_app}
 use Rattle.attr_words.specs.Reading.{Said, said_by, IsInRange}
 use Rattle.attr_words.specs.Also.{◌>>=◌, Piece, field_in, next_field, fields_from, named_fields}

@@ -4,7 +4,7 @@ use Rattle.std.specs.Prelude.{if◌then◌else◌, slice_get, unwrap_or, Option,
 use Rattle.std.specs.List.{slice_split}
 use Rattle.clap.specs.Walk.{Text}
 use Rattle.attr_types.specs.declared.field.Field.{Field}
-use Rattle.attr_names.specs.Names.{is_name, field_named, kind_named, value_named}
+use Rattle.attr_types.specs.Names.{is_name, field_named, kind_named, value_named}
 use Rattle.attr_words.specs.declared.also.Part.{Part}
 use Rattle.attr_words.specs.declared.reading.WordsError.{WordsError}
 use Rattle.attr_words.specs.declared.reading.WordsError.TheVariants.{Also}

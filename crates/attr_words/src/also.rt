@@ -1,15 +1,14 @@
 //! The attributes that `--field` and `--also` name.
 ghost use Rattle.std.specs.Prelude.{◌≡◌, ◌≤◌, ◌+◌, ◌<◌, ◌^◌, ◌==◌, ◌∷◌, [], IfOk, length, map};
 ghost use Rattle.std.specs.List.{AllByRecursion, slice_split};
-ghost use Rattle.attr_names.specs.Names.{kind_named, value_named};
+ghost use Rattle.attr_types.specs.Names.{kind_named, value_named};
 ghost use Rattle.attr_words.specs.Also.{EndsBefore, piece_of, pieces, placed, span, part_at, new_name, or_broken};
 ghost use Rattle.attr_words.specs.Also.{field_in, next_field, fields_from, named_fields};
 ghost use Rattle.attr_words.specs.Reading.{text_option};
 ghost use Rattle.attr_words.specs.Settings.{Says};
 
 use crate::reading::WordsError;
-use attr_names::{field_named, is_name, kind_named, value_named};
-use attr_types::{Field, Fields, Kind, MOST_FIELDS, Name, ValueType};
+use attr_types::{Field, Fields, Kind, MOST_FIELDS, Name, ValueType, field_named, is_name, kind_named, value_named};
 use std::alloc::{AllocError, Global};
 
 /// A piece of a text, and the offset at which it begins.

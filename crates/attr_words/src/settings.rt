@@ -1,6 +1,6 @@
 //! The settings of a run.
 ghost use Rattle.std.specs.Prelude.{◌≡◌};
-ghost use Rattle.attr_names.specs.Names.{kind_named, value_named};
+ghost use Rattle.attr_types.specs.Names.{kind_named, value_named};
 ghost use Rattle.attr_words.specs.Reading.{options_said};
 ghost use Rattle.attr_words.specs.Settings.{Says, are_too_many, given_by, if_room, or_refused, settings_by};
 ghost use Rattle.attr_words.specs.declared.reading.WordsError.TheVariants as errors;
@@ -8,8 +8,7 @@ ghost use Rattle.attr_words.specs.declared.reading.WordsError.TheVariants as err
 use crate::also::fields_of;
 use crate::options::Options;
 use crate::reading::WordsError;
-use attr_names::{kind_named, value_named};
-use attr_types::{Field, Fields, Kind, Name, ValueType};
+use attr_types::{Field, Fields, Kind, Name, ValueType, kind_named, value_named};
 use std::alloc::Global;
 
 /// What the words say of a run. The queries are texts as they were given.

@@ -4,8 +4,8 @@ use Rattle.std.specs.Prelude.{is_none, if◌then◌else◌, unwrap_or}
 use Rattle.store_api.specs.Ledgers.{Ledger}
 use Rattle.store_api.specs.declared.store.StoreError.{StoreError}
 use Rattle.store_api.specs.declared.store.StoreError.TheVariants.{Full, Memory}
-use Rattle.attr_changes.specs.declared.applied.Applied.{Applied}
-use Rattle.attr_changes.specs.declared.applied.Applied.TheVariants.{Changed, Skipped}
+use Rattle.attr_types.specs.declared.applied.Applied.{Applied}
+use Rattle.attr_types.specs.declared.applied.Applied.TheVariants.{Changed, Skipped}
 use Rattle.attr_types.specs.Table.{Table, after_op, step}
 use Rattle.attr_types.specs.declared.field.Field.{Field}
 use Rattle.attr_types.specs.declared.op.Op.{Op}

@@ -6,8 +6,8 @@ use Rattle.arena_api.specs.Works.{free_count, last_image}
 use Rattle.arena_api.specs.declared.answers.Oldest.{Oldest}
 use Rattle.store_api.specs.Calls.{StoresCommit}
 use Rattle.store_api.specs.Ledgers.{Ledger}
-use Rattle.attr_changes.specs.declared.applied.Applied.{Applied}
-use Rattle.attr_changes.specs.declared.applied.Applied.TheVariants.{Changed, Skipped}
+use Rattle.attr_types.specs.declared.applied.Applied.{Applied}
+use Rattle.attr_types.specs.declared.applied.Applied.TheVariants.{Changed, Skipped}
 use Rattle.attr_images.specs.Images.{IsLawfulImage, table_of, operations_at}
 use Rattle.attr_images.specs.Shapes.{shape_of, types_of}
 use Rattle.attr_images.specs.Words.{class_of}

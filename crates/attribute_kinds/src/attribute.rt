@@ -2,7 +2,7 @@ ghost use Rattle.std.specs.Prelude.{◌≡◌, ◌<◌, ◌≤◌, ◌+◌, ◌-
 ghost use Rattle.entry_ref.specs.Images.{words_at};
 ghost use Rattle.arena_api.specs.Calls.{IsFresh, told_after};
 ghost use Rattle.arena_api.specs.Works.{last_image};
-ghost use Rattle.attr_changes.specs.declared.applied.Applied.TheVariants.{Skipped};
+ghost use Rattle.attr_types.specs.declared.applied.Applied.TheVariants.{Skipped};
 ghost use Rattle.attr_images.specs.Images.{IsLawfulImage, table_of, operations_at};
 ghost use Rattle.attr_images.specs.Shapes.{shape_of, types_of};
 ghost use Rattle.attr_types.specs.Lawful.{OpFits};
@@ -20,12 +20,11 @@ ghost use Rattle.attribute_kinds.specs.declared.answers.Compacted.TheVariants.{I
 
 use crate::answers::{AttrError, CommitInfo, Compacted, Published, has_finished, refusal, told};
 use arena_api::{Frozen, Work};
-use attr_changes::Applied;
+use attr_types::{Applied, Fields, Op};
 use attr_compaction::Plan;
 use attr_field::{FieldRoots, field_law};
 use attr_images::AttrLayout;
 use attr_steps::{commit_attributes, step};
-use attr_types::{Fields, Op};
 use compact_steps::{compact, same_law, step_law};
 use entry_ref::EntryRef;
 use entry_store::{EntryStore, NoMemory};

@@ -32,9 +32,9 @@ use Rattle.attr_images.proofs.ImageLemmas.{table_lawful}
 use Rattle.attr_images.proofs.RootLemmas.{root_has_words}
 use Rattle.attr_index.proofs.OfLemmas.{all_found}
 use Rattle.attr_index.proofs.PartLemmas.{lookup_front}
-use Rattle.attr_scores.specs.Scores.{has_value, is_scored, score_of, scores}
-use Rattle.attr_scores.specs.declared.part.Part.{Part}
-use Rattle.attr_scores.specs.declared.score.Score.{Score}
+use Rattle.attr_types.specs.Scores.{has_value, is_scored, score_of, scores}
+use Rattle.attr_types.specs.declared.part.Part.{Part}
+use Rattle.attr_types.specs.declared.score.Score.{Score}
 use Rattle.doc_set.proofs.BitLemmas.{by_cases}
 use Rattle.doc_set.proofs.DocLemmas.{ascends_from_sorted}
 use Rattle.doc_set.specs.Sets.{has, Holds}

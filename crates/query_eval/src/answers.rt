@@ -1,7 +1,7 @@
 //! What an image answers.
 ghost use Rattle.attr_images.specs.Images.{table_of, IsLawfulImage};
 ghost use Rattle.attr_images.specs.Shapes.{shape_of, types_of};
-ghost use Rattle.attr_scores.specs.Scores.{scores};
+ghost use Rattle.attr_types.specs.Scores.{scores};
 ghost use Rattle.attr_types.specs.Query.{tree_of};
 ghost use Rattle.attr_types.specs.Table.{hits};
 ghost use Rattle.attr_types.specs.declared.field.TheConstants.{MOST_FIELDS};
@@ -9,8 +9,7 @@ ghost use Rattle.std.specs.Prelude.{◌≡◌, ◌≤◌, length, IfOk};
 
 use crate::image::{dictionaries_of, root_at};
 use crate::queries::matching;
-use attr_scores::{Parts, ScoreList};
-use attr_types::{DocList, Fields, Query};
+use attr_types::{DocList, Fields, Parts, Query, ScoreList};
 use entry_ref::EntryRef;
 use arena_api::Frozen;
 use query_scores::scored;

@@ -6,7 +6,7 @@ use Rattle.std.proofs.lemmas.List.{map-append, length-map, length-take-le}
 use Rattle.attr_types.specs.declared.query.Query.{Query}
 use Rattle.attr_types.specs.declared.field.Field.{Field}
 use Rattle.attr_types.specs.Query.{QueryTree, trees, tree_of}
-use Rattle.attr_scores.specs.declared.part.Part.{Part}
+use Rattle.attr_types.specs.declared.part.Part.{Part}
 use Rattle.query_text.specs.Grammar.{tree_text, list_text, others_text, part_text, parts_text}
 use Rattle.query_print.specs.Printing.{named, named_list, comma_after}
 

@@ -5,7 +5,7 @@ use Rattle.std.specs.Option.{unwrap_or}
 use Rattle.std.proofs.lemmas.Bool.Decides.{nat_tests}
 use Rattle.attr_types.specs.declared.field.Field.{Field}
 use Rattle.attr_types.specs.Query.{QueryTree, QueryTrees, one, and, or, no_trees, tree}
-use Rattle.attr_scores.specs.Scores.{AskTree, hits_of, dot_of}
+use Rattle.attr_types.specs.Scores.{AskTree, hits_of, dot_of}
 use Rattle.query_text.specs.Grammar.{word_text, first_found, unknown_if, unknown_in, unknown_list, unknown_others, unknown_at, resolved, resolved_list, asked_by, has_types, has_range}
 use Rattle.query_text.specs.Grammar.{word_levels, unless_unknown, checked_by, judged}
 use Rattle.query_text.specs.Laws.{ask_by, ReadsBack}

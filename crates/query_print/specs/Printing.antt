@@ -4,7 +4,7 @@ use Rattle.std.specs.Prelude.{if◌then◌else◌, Option, Some, None, option_ma
 use Rattle.attr_types.specs.declared.field.Field.{Field}
 use Rattle.attr_types.specs.Query.{QueryTree}
 use Rattle.attr_types.specs.Query as trees
-use Rattle.attr_scores.specs.Scores.{AskTree, hits_of, dot_of}
+use Rattle.attr_types.specs.Scores.{AskTree, hits_of, dot_of}
 use Rattle.query_text.specs.Grammar.{NamedTree, NamedTrees, one, and, or, no_trees, tree, Words, Word, whole_query, dot_product}
 use Rattle.query_text.specs.Grammar.{IsAmong, IsFormedWord, field_of, has_types, has_range, word_levels}
 use Rattle.query_text.specs.Laws.{ask_by}

@@ -1,12 +1,11 @@
 ghost use Rattle.std.specs.Prelude.{◌≡◌, ◌++◌, IfOk, OnOk, string_bytes};
-ghost use Rattle.attr_scores.specs.Scores.{hits_of, dot_of, ask_tree};
+ghost use Rattle.attr_types.specs.Scores.{hits_of, dot_of, ask_tree};
 ghost use Rattle.attr_types.specs.Query.{tree_of, query_trees};
 ghost use Rattle.query_text.specs.Grammar.{name_text, tree_text, list_text, part_text, parts_text, word_text};
 ghost use Rattle.query_print.specs.Printing.{name_at, named, named_list, named_word, ReadsBackAs, comma_after};
 
 use crate::leaf::{push_leaf, push_number, push_value};
-use attr_scores::{Ask, Part};
-use attr_types::{Field, Query};
+use attr_types::{Ask, Field, Part, Query};
 use query_text::grammar_law;
 use std::alloc::{AllocError, Global};
 

@@ -1,7 +1,7 @@
 -- One score more.
 use Rattle.std.proofs.Common.{◌≡◌, ◌<◌, ◌+◌, ◌++◌, ℕ, List, [], ◌∷◌, length, map, drop, get_or, sym, ap, ◌∙◌}
 use Rattle.std.proofs.lemmas.List.{at_drop_more, append_assoc}
-use Rattle.attr_scores.specs.declared.score.Score.{Score}
+use Rattle.attr_types.specs.declared.score.Score.{Score}
 
 pub one_more : (f : ℕ → Score) (docs : List ℕ) (k doc : ℕ) (list new whole : List Score) (item : Score) → k < length docs → doc ≡ get_or docs k doc
     → new ≡ list ++ item ∷ [] → item ≡ f doc → list ++ map f (drop k docs) ≡ whole → new ++ map f (drop (k + 1) docs) ≡ whole

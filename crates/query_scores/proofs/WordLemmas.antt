@@ -12,7 +12,7 @@ use Rattle.attr_images.specs.Postings.{list_form, postings_at, index_of}
 use Rattle.attr_images.specs.Values.{stored_value}
 use Rattle.attr_index.specs.Changes.{HasItems}
 use Rattle.attr_index.specs.Index.{Index, list_of, weight_in}
-use Rattle.attr_scores.specs.Scores.{weight_of}
+use Rattle.attr_types.specs.Scores.{weight_of}
 use Rattle.attr_types.specs.Fitting.{is_of_type}
 use Rattle.attr_types.specs.ProofsForOrder.{value_cmp_total}
 use Rattle.attr_types.specs.Value.{type_of, value_cmp}

@@ -7,7 +7,7 @@ use Rattle.std.specs.Ordering.{nat_cmp}
 use Rattle.entry_ref.specs.Records.{Records}
 use Rattle.attr_images.specs.Postings.{list_form, postings_at, IsPostingList}
 use Rattle.attr_index.specs.Index.{Index, list_of}
-use Rattle.attr_scores.specs.declared.part.Part.{Part}
+use Rattle.attr_types.specs.declared.part.Part.{Part}
 use Rattle.doc_set.specs.Postings.{HaveDocNumbers}
 use Rattle.doc_set.specs.Sets.{has}
 

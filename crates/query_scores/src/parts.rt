@@ -4,7 +4,7 @@ ghost use Rattle.std.specs.Int.RustNames.{unsigned_abs};
 ghost use Rattle.attr_images.specs.Postings.{index_of};
 ghost use Rattle.attr_index.specs.Changes.{HasItems};
 ghost use Rattle.attr_index.specs.Index.{list_of};
-ghost use Rattle.attr_scores.specs.Scores.{score_of, weight_of};
+ghost use Rattle.attr_types.specs.Scores.{score_of, weight_of};
 ghost use Rattle.attr_types.specs.declared.items.Item.{Item as AnyItem};
 ghost use Rattle.doc_set.specs.Gathers.{is_gathered};
 ghost use Rattle.doc_set.specs.Sets.{has, Holds};
@@ -13,8 +13,7 @@ ghost use Rattle.query_leaves.specs.Parts.{IsIndexed};
 ghost use Rattle.query_scores.specs.Weights.{word_list, IsListWord, is_found};
 
 use crate::weights::weight_at;
-use attr_scores::{Part, Score, ScoreList};
-use attr_types::{Doc, DocList, Value, ValueType};
+use attr_types::{Doc, DocList, Part, Score, ScoreList, Value, ValueType};
 use doc_set::Gathered;
 use entry_ref::EntryRef;
 use enum_dictionary::find;

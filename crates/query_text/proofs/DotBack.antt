@@ -6,7 +6,7 @@ use Rattle.std.proofs.lemmas.Bool.{and_parts}
 use Rattle.std.proofs.lemmas.Bool.Decides.{nat_tests}
 use Rattle.std.proofs.lemmas.List.{length-append}
 use Rattle.attr_types.specs.declared.value.Value.TheVariants as values
-use Rattle.attr_scores.specs.declared.part.Part.{Part}
+use Rattle.attr_types.specs.declared.part.Part.{Part}
 use Rattle.query_text.specs.Grammar.{dot_product, number_text, value_text, part_text, parts_text, word_text, IsFormedName, is_in_range, fits_weight, parts_in_range}
 use Rattle.query_text.specs.Reading.{◌>>=◌, after_byte, after_name, mark_front}
 use Rattle.query_text.specs.Dot.{if_weight, part_front, with_part, part_listed, parts_front}

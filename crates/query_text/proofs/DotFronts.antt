@@ -11,8 +11,8 @@ use Rattle.query_text.proofs.ListLemmas.{append-middle}
 use Rattle.attr_types.specs.declared.kind.ValueType.{ValueType}
 use Rattle.attr_types.specs.declared.value.Value.{Value}
 use Rattle.attr_types.specs.declared.value.Value.TheVariants as values
-use Rattle.attr_scores.specs.declared.part.Part.{Part}
-use Rattle.attr_names.specs.Names.{begins_name, continues_name, is_name}
+use Rattle.attr_types.specs.declared.part.Part.{Part}
+use Rattle.attr_types.specs.Names.{begins_name, continues_name, is_name}
 use Rattle.query_text.specs.declared.mode.Role.{Role}
 use Rattle.query_text.specs.declared.mode.Role.TheVariants as roles
 use Rattle.query_text.specs.declared.mode.Spell.{Spell}

@@ -6,8 +6,8 @@ use Rattle.std.specs.Str.{IsUtf8}
 use Rattle.attr_types.specs.declared.field.Field.{Field}
 use Rattle.attr_types.specs.declared.error.QueryError.{QueryError}
 use Rattle.attr_types.specs.declared.error.QueryError.TheVariants.{WrongType, OutOfRange}
-use Rattle.attr_scores.specs.Scores.{AskTree, dot_of}
-use Rattle.attr_scores.specs.declared.part.Part.{Part}
+use Rattle.attr_types.specs.Scores.{AskTree, dot_of}
+use Rattle.attr_types.specs.declared.part.Part.{Part}
 use Rattle.query_text.specs.declared.mode.Mode.TheVariants as modes
 use Rattle.query_text.specs.declared.survey.Survey.{Survey}
 use Rattle.query_text.specs.declared.dot.survey.DotMode.{DotMode}

@@ -13,8 +13,8 @@ use Rattle.attr_types.specs.declared.kind.ValueType.TheVariants as types
 use Rattle.attr_types.specs.declared.value.Value.{Value}
 use Rattle.attr_types.specs.declared.value.Value.TheVariants as values
 use Rattle.attr_types.specs.Fitting.{is_of_type}
-use Rattle.attr_scores.specs.declared.part.Part.{Part}
-use Rattle.attr_names.specs.Names.{begins_name, continues_name, is_name, field_named}
+use Rattle.attr_types.specs.declared.part.Part.{Part}
+use Rattle.attr_types.specs.Names.{begins_name, continues_name, is_name, field_named}
 use Rattle.query_text.specs.declared.mode.Role.{Role}
 use Rattle.query_text.specs.declared.mode.Role.TheVariants as roles
 use Rattle.query_text.specs.declared.mode.Spell.{Spell}

@@ -8,7 +8,7 @@ use Rattle.std.proofs.lemmas.List.{map-append}
 use Rattle.attr_types.specs.declared.kind.ValueType.{ValueType}
 use Rattle.attr_types.specs.declared.kind.ValueType.TheVariants as types
 use Rattle.attr_types.specs.declared.query.Leaf.{Leaf}
-use Rattle.attr_names.specs.Names.{is_name}
+use Rattle.attr_types.specs.Names.{is_name}
 use Rattle.query_text.specs.declared.mode.Role.{Role}
 use Rattle.query_text.specs.declared.mode.Role.TheVariants as roles
 use Rattle.query_text.specs.declared.mode.Spell.{Spell}

@@ -7,8 +7,8 @@ use Rattle.attr_types.specs.declared.field.Field.{Field}
 use Rattle.attr_types.specs.declared.query.Query.{Query}
 use Rattle.attr_types.specs.declared.error.QueryError.{QueryError}
 use Rattle.attr_types.specs.declared.error.QueryError.TheVariants.{Syntax, NoField, WrongType, OutOfRange, TooDeep, Memory}
-use Rattle.attr_scores.specs.Scores.{AskTree}
-use Rattle.attr_scores.specs.declared.ask.Ask.{Ask}
+use Rattle.attr_types.specs.Scores.{AskTree}
+use Rattle.attr_types.specs.declared.ask.Ask.{Ask}
 use Rattle.query_text.specs.Grammar.{Words, any_word, queries, Word, whole_query, dot_product, tree_text, word_text, IsAmong, IsFormedWord, IsWordText, judged, Continues, BreaksAt, Answers, AnswersAs, AnswersQuery}
 use Rattle.query_text.specs.Survey.{surveyed}
 use Rattle.query_text.specs.declared.dot.survey.DotSurvey.{DotSurvey}

@@ -1,6 +1,6 @@
 -- Reading the parts of a dot product one by one.
 use Rattle.std.proofs.Common.{◌≡◌, ◌<◌, ◌≤◌, ◌+◌, ◌-◌, ℕ, zero, suc, List, [], ◌∷◌, ◌++◌, true, false, Option, Some, None, refl, sym, ap, ◌∙◌, append_assoc, arith}
-use Rattle.attr_scores.specs.declared.part.Part.{Part}
+use Rattle.attr_types.specs.declared.part.Part.{Part}
 use Rattle.query_text.specs.Reading.{mark_front}
 use Rattle.query_text.specs.Dot.{part_front, parts_front, part_listed, part_marked, with_part}
 

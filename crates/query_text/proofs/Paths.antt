@@ -13,7 +13,7 @@ use Rattle.std.proofs.lemmas.List.{map-append}
 use Rattle.attr_types.specs.declared.kind.ValueType.{ValueType}
 use Rattle.attr_types.specs.declared.kind.ValueType.TheVariants as types
 use Rattle.attr_types.specs.Fitting.{is_of_type}
-use Rattle.attr_names.specs.Names.{begins_name, continues_name, is_name}
+use Rattle.attr_types.specs.Names.{begins_name, continues_name, is_name}
 use Rattle.query_text.specs.declared.mode.Role.{Role}
 use Rattle.query_text.specs.declared.mode.Role.TheVariants as roles
 use Rattle.query_text.specs.declared.mode.Spell.{Spell}

@@ -6,7 +6,7 @@ use Rattle.std.proofs.lemmas.Bool.Decides.{nat_tests}
 use Rattle.attr_types.specs.declared.field.Field.{Field}
 use Rattle.attr_types.specs.declared.error.QueryError.{QueryError}
 use Rattle.attr_types.specs.declared.error.QueryError.TheVariants.{WrongType, OutOfRange, TooDeep}
-use Rattle.attr_scores.specs.Scores.{AskTree, hits_of}
+use Rattle.attr_types.specs.Scores.{AskTree, hits_of}
 use Rattle.query_text.specs.declared.mode.Mode.{Mode}
 use Rattle.query_text.specs.declared.survey.Survey.{Survey}
 use Rattle.query_text.specs.Grammar.{NamedTree, whole_query, tree_text, IsFormed, resolved, unknown_in, tree_has_types, tree_in_range, levels_of, unless_unknown, checked_by, judged}

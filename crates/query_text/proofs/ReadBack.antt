@@ -16,7 +16,7 @@ use Rattle.attr_types.specs.declared.query.Leaf.TheVariants as leaves
 use Rattle.attr_types.specs.declared.field.Field.{Field}
 use Rattle.attr_types.specs.Query.{QueryTree}
 use Rattle.attr_types.specs.Query as query
-use Rattle.attr_names.specs.Names.{begins_name, continues_name, is_name}
+use Rattle.attr_types.specs.Names.{begins_name, continues_name, is_name}
 use Rattle.query_text.specs.Grammar.{NamedTree, NamedTrees, one, and, or, no_trees, tree, numeral, number_text, escaped, quoted, value_text, option_text, leaf_text, tree_text, list_text, others_text}
 use Rattle.query_text.specs.Grammar.{IsFormedName, IsFormed, IsFormedList, field_number, resolved, resolved_list, is_in_range, levels_of, list_levels}
 use Rattle.query_text.specs.Modes.{is_digit, capped}

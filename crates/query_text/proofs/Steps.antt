@@ -10,7 +10,7 @@ use Rattle.attr_types.specs.declared.kind.ValueType.TheVariants as types
 use Rattle.attr_types.specs.declared.value.Value.TheVariants as values
 use Rattle.attr_types.specs.declared.query.Leaf.TheVariants as leaves
 use Rattle.attr_types.specs.declared.query.Leaf.{Leaf}
-use Rattle.attr_names.specs.Names.{begins_name, continues_name, is_name}
+use Rattle.attr_types.specs.Names.{begins_name, continues_name, is_name}
 use Rattle.query_text.specs.declared.mode.Role.{Role}
 use Rattle.query_text.specs.declared.mode.Role.TheVariants as roles
 use Rattle.query_text.specs.declared.mode.Spell.{Spell}

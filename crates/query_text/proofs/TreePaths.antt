@@ -14,7 +14,7 @@ use Rattle.attr_types.specs.declared.value.Value.TheVariants as values
 use Rattle.attr_types.specs.declared.query.Leaf.{Leaf}
 use Rattle.attr_types.specs.declared.query.Leaf.TheVariants.{Is, Prefix, Range, Below, Above}
 use Rattle.attr_types.specs.Fitting.{is_of_type}
-use Rattle.attr_names.specs.Names.{is_name, field_named}
+use Rattle.attr_types.specs.Names.{is_name, field_named}
 use Rattle.query_text.specs.declared.mode.Mode.{Mode}
 use Rattle.query_text.specs.declared.mode.Mode.TheVariants as modes
 use Rattle.query_text.specs.declared.mode.Spell.{Spell}

@@ -5,9 +5,9 @@ use Rattle.attr_types.specs.declared.error.QueryError.{QueryError}
 use Rattle.attr_types.specs.declared.error.QueryError.TheVariants.{Syntax, NoField, WrongType, OutOfRange, TooDeep, Memory}
 use Rattle.attr_types.specs.declared.query.Query.{Query}
 use Rattle.attr_types.specs.Query.{QueryTree, tree_of}
-use Rattle.attr_scores.specs.Scores.{AskTree, hits_of, dot_of, ask_tree}
-use Rattle.attr_scores.specs.declared.ask.Ask.{Ask}
-use Rattle.attr_scores.specs.declared.part.Part.{Part}
+use Rattle.attr_types.specs.Scores.{AskTree, hits_of, dot_of, ask_tree}
+use Rattle.attr_types.specs.declared.ask.Ask.{Ask}
+use Rattle.attr_types.specs.declared.part.Part.{Part}
 use Rattle.query_text.specs.declared.survey.Survey.{Survey}
 use Rattle.query_text.specs.declared.dot.survey.DotSurvey.{DotSurvey}
 use Rattle.query_text.specs.Dot.{dot_surveyed, parts_front}

@@ -3,8 +3,8 @@ use Rattle.std.specs.Prelude.{ℕ, zero, suc, ◌^◌, ◌==◌, Bool, true, fal
 use Rattle.std.specs.Prelude.{List, [], ◌∷◌, take, if◌then◌else◌, Option, Some, None, option_map, unwrap_or, Result}
 use Rattle.attr_types.specs.declared.field.Field.{Field}
 use Rattle.attr_types.specs.declared.kind.ValueType.{ValueType}
-use Rattle.attr_names.specs.Names.{begins_name, continues_name, field_named}
-use Rattle.attr_scores.specs.declared.part.Part.{Part}
+use Rattle.attr_types.specs.Names.{begins_name, continues_name, field_named}
+use Rattle.attr_types.specs.declared.part.Part.{Part}
 use Rattle.query_text.specs.declared.mode.Role.TheVariants as roles
 use Rattle.query_text.specs.declared.mode.Spell.{Spell}
 use Rattle.query_text.specs.declared.mode.Spell.TheVariants as spells

@@ -19,10 +19,10 @@ use Rattle.attr_types.specs.declared.value.Value.{Value}
 use Rattle.attr_types.specs.declared.value.Value.TheVariants.{Long, Text}
 use Rattle.attr_types.specs.declared.query.Leaf.{Leaf}
 use Rattle.attr_types.specs.declared.query.Leaf.TheVariants.{Is, Prefix, Range, Below, Above}
-use Rattle.attr_names.specs.Names.{is_name, field_named}
-use Rattle.attr_scores.specs.Scores.{AskTree, hits_of, dot_of, ask_tree}
-use Rattle.attr_scores.specs.declared.ask.Ask.{Ask}
-use Rattle.attr_scores.specs.declared.part.Part.{Part}
+use Rattle.attr_types.specs.Names.{is_name, field_named}
+use Rattle.attr_types.specs.Scores.{AskTree, hits_of, dot_of, ask_tree}
+use Rattle.attr_types.specs.declared.ask.Ask.{Ask}
+use Rattle.attr_types.specs.declared.part.Part.{Part}
 
 -- ---- what is written
 

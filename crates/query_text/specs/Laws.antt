@@ -3,7 +3,7 @@ use Rattle.std.specs.Prelude.{◌≡◌, List, ℕ, Result, Ok}
 use Rattle.std.specs.Str.{IsUtf8}
 use Rattle.attr_types.specs.declared.field.Field.{Field}
 use Rattle.attr_types.specs.declared.error.QueryError.{QueryError}
-use Rattle.attr_scores.specs.Scores.{AskTree}
+use Rattle.attr_types.specs.Scores.{AskTree}
 use Rattle.query_text.specs.Grammar.{Words, any_word, queries, Word, word_text, IsAmong, IsFormedWord, judged, Answers}
 use Rattle.query_text.specs.Asks.{ask_of, query_of}
 

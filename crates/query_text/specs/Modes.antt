@@ -1,7 +1,7 @@
 -- What may follow in the text of a query: the mode after each byte, by the mode before it.
 use Rattle.std.specs.Prelude.{ℕ, ◌+◌, ◌-◌, ◌*◌, ◌^◌, ◌==◌, Bool, true, false, ◌&&◌, ◌||◌, not, nat_le, min, if◌then◌else◌, Option, Some}
 use Rattle.std.specs.Prelude.{None}
-use Rattle.attr_names.specs.Names.{begins_name, continues_name}
+use Rattle.attr_types.specs.Names.{begins_name, continues_name}
 use Rattle.query_text.specs.declared.mode.Role.{Role}
 use Rattle.query_text.specs.declared.mode.Role.TheVariants as roles
 use Rattle.query_text.specs.declared.mode.Spell.{Spell}

@@ -10,7 +10,7 @@ use Rattle.attr_types.specs.declared.query.Leaf.{Leaf}
 use Rattle.attr_types.specs.declared.query.Leaf.TheVariants as leaves
 use Rattle.attr_types.specs.declared.field.Field.{Field}
 use Rattle.attr_types.specs.Query.{QueryTree, one, and, or, trees}
-use Rattle.attr_names.specs.Names.{begins_name, continues_name}
+use Rattle.attr_types.specs.Names.{begins_name, continues_name}
 use Rattle.query_text.specs.declared.read.ReadError.{ReadError}
 use Rattle.query_text.specs.declared.read.ReadError.TheVariants as errors
 use Rattle.query_text.specs.Grammar.{field_number}

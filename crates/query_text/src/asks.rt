@@ -9,8 +9,7 @@ use crate::dot::survey::{DotSurvey, dot_survey_of};
 use crate::list::query_in;
 use crate::read::ReadError;
 use crate::survey::{Survey, survey_of};
-use attr_scores::Ask;
-use attr_types::{Field, Kind, Query, QueryError};
+use attr_types::{Ask, Field, Kind, Query, QueryError};
 use std::alloc::Global;
 
 /// How many levels a query has at most. A leaf has one level.

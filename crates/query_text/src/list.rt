@@ -6,8 +6,7 @@ ghost use Rattle.query_text.specs.Reading.{query_with, query_front};
 
 use crate::name::{after_name, name_at_front};
 use crate::read::{ReadError, after, leaf_in};
-use attr_names::field_named;
-use attr_types::{Field, Queries, Query};
+use attr_types::{Field, Queries, Query, field_named};
 use std::alloc::Global;
 
 /// What follows `and(` at the front.

@@ -5,7 +5,7 @@ ghost use Rattle.query_text.specs.Modes.{spell_begun, spell_next, opens_list, na
 ghost use Rattle.query_text.specs.Modes.{text_next, escape_next};
 ghost use Rattle.query_text.specs.Modes.{low_next, high_next, high_number_next, high_text_next, letter_next, next_mode};
 
-use attr_names::{begins_name, continues_name};
+use attr_types::{begins_name, continues_name};
 
 /// What the value that is being read is in its leaf.
 #[derive(Clone, Copy, Debug, PartialEq, Eq)]

@@ -3,7 +3,7 @@ ghost use Rattle.std.specs.List.{position};
 ghost use Rattle.query_text.specs.Reading.{ends_name, name_end, name_at_front, begins_so, after_name};
 
 use crate::read::after;
-use attr_names::{begins_name, continues_name};
+use attr_types::{begins_name, continues_name};
 
 fn ends_name(byte: u8) -> bool
     ensures { result ≡ ends_name byte }

@@ -4,8 +4,7 @@ ghost use Rattle.query_text.specs.Survey.{is_right, is_in_size, ends_value, ends
 ghost use Rattle.query_text.specs.Survey.{wanted_after, start, name_before, entered_by, entered, surveyed_after, surveyed};
 
 use crate::mode::{Mode, Role};
-use attr_names::field_named;
-use attr_types::{Field, ValueType};
+use attr_types::{Field, ValueType, field_named};
 
 /// What the front of a text has shown.
 #[derive(Clone, Copy, Debug, PartialEq, Eq)]

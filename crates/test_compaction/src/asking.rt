@@ -5,8 +5,7 @@ ghost use Rattle.attr_images.specs.Shapes.{shape_of, types_of};
 ghost use Rattle.attr_types.specs.declared.field.TheConstants.{MOST_FIELDS};
 
 use attr_column::first_documents;
-use attr_scores::{Part, Parts};
-use attr_types::{Doc, Field, FieldItems, Fields, Items, Leaf, Query, Value, compare};
+use attr_types::{Doc, Field, FieldItems, Fields, Items, Leaf, Part, Parts, Query, Value, compare};
 use entry_ref::EntryRef;
 use arena_api::Frozen;
 use query_eval::{hits, scores};

@@ -2,8 +2,7 @@
 use crate::make::Sizes;
 use crate::random::Random;
 use crate::values::value_at;
-use attr_scores::{Part, Parts};
-use attr_types::{Field, Leaf, Query, Text, Value, ValueType};
+use attr_types::{Field, Leaf, Part, Parts, Query, Text, Value, ValueType};
 use std::alloc::{AllocError, Global};
 
 /// The type of an attribute's values, and that of texts for one that is not there.

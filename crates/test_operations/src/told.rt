@@ -1,7 +1,6 @@
 //! What a worked row came to, as text.
 use crate::turn::{Answer, Committed};
-use attr_changes::Applied;
-use attr_types::{Doc, FieldItems, Item, Items, Value};
+use attr_types::{Applied, Doc, FieldItems, Item, Items, Value};
 use std::alloc::AllocError;
 
 pub fn push_answer(told: &mut String, answer: Answer) -> Result<(), AllocError> {

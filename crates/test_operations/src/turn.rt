@@ -6,10 +6,9 @@ ghost use Rattle.attr_images.specs.Shapes.{shape_of, types_of};
 ghost use Rattle.attr_types.specs.declared.field.TheConstants.{MOST_FIELDS};
 
 use arena_api::{Frozen, Work};
-use attr_changes::Applied;
+use attr_types::{Applied, Fields, Op, fits};
 use attr_images::{AttrLayout, shape_of};
 use attr_plain::PlainTable;
-use attr_types::{Fields, Op, fits};
 use attribute_kinds::{AttrError, Attribute, Published, committed_work};
 use entry_store::EntryStore;
 use mem_work::MemWork;

@@ -1,5 +1,4 @@
-use attr_scores::{Ask, Part};
-use attr_types::{Field, QueryError, Value};
+use attr_types::{Ask, Field, Part, QueryError, Value};
 use query_text::{parse_ask, parse_query};
 use std::alloc::{AllocError, Global};
 

@@ -6,7 +6,7 @@ ghost use Rattle.query_text.specs.Reading.{Finds};
 use crate::list::mark_in;
 use crate::name::after_name;
 use crate::read::{ReadError, after, number_in, value_in};
-use attr_scores::{Part, Parts};
+use attr_types::{Part, Parts};
 use std::alloc::Global;
 
 fn weight_of(number: i64) -> Option<i32>

@@ -5,8 +5,7 @@ ghost use Rattle.query_text.specs.Dot.{wanted_by, dot_entered, dot_after, has_en
 
 use crate::mode::{Mode, Role, Spell, number_begun, value_begun};
 use crate::survey::{ends_query, is_right, is_small, type_at};
-use attr_names::{begins_name, continues_name, field_named};
-use attr_types::{Field, ValueType};
+use attr_types::{Field, ValueType, begins_name, continues_name, field_named};
 
 /// Where the text of a dot product stands between two of its bytes.
 #[derive(Clone, Copy, Debug, PartialEq, Eq)]

@@ -1,7 +1,7 @@
 use Rattle.std.proofs.Common.{◌≡◌, ◌+◌, ◌++◌, drop, map, string_bytes}
 use Rattle.attr_answers.specs.Lines.{lines_from}
 use Rattle.attr_images.specs.Images.{table_of}
-use Rattle.attr_scores.specs.Scores.{ask_tree}
+use Rattle.attr_types.specs.Scores.{ask_tree}
 use Rattle.attr_answers.proofs.lines.push_lines.Given as goal
 
 -- what is written, before the lines of what is left

@@ -8,7 +8,7 @@ use Rattle.std.specs.declared.alloc.AllocError.{AllocError}
 use Rattle.list_facts.proofs.Pairs.{AllZip-push}
 use Rattle.word_arena.specs.Ruled.{reader_of, writer_of}
 use Rattle.attr_images.specs.declared.layout.AttrLayout.{AttrLayout}
-use Rattle.attr_scores.specs.Scores.{ask_tree}
+use Rattle.attr_types.specs.Scores.{ask_tree}
 use Rattle.attr_rounds.specs.declared.rounds.Reading.{Reading}
 use Rattle.attr_rounds.specs.declared.rounds.Round.{Round}
 use Rattle.attr_answers.specs.declared.asked.Told.{Told}

@@ -3,7 +3,7 @@ use Rattle.std.specs.Prelude.{IfOk, IsOkAnd}
 use Rattle.std.specs.Vec.Iter.{into_iter_items}
 use Rattle.std.specs.List.{AllByRecursion, AllZip}
 use Rattle.word_arena.specs.Ruled.{reader_of, writer_of}
-use Rattle.attr_scores.specs.Scores.{ask_tree}
+use Rattle.attr_types.specs.Scores.{ask_tree}
 use Rattle.attr_engine.specs.Steps.{KeepsWriter, IsReading, IsTakenFrom}
 use Rattle.attr_engine.proofs.readers.take_all.Given as goal
 

@@ -3,7 +3,7 @@ use Rattle.std.specs.List.{AllByRecursion}
 use Rattle.gen_core.specs.Views.{last_number}
 use Rattle.gen_core.specs.declared.views.WriterView.{WriterView}
 use Rattle.word_arena.specs.Ruled.{writer_of}
-use Rattle.attr_scores.specs.Scores.{ask_tree}
+use Rattle.attr_types.specs.Scores.{ask_tree}
 use Rattle.attr_engine.specs.Steps.{AreRoundsOf}
 use Rattle.attr_engine.proofs.JobLemmas.{all_read, all_taken}
 use Rattle.attr_engine.proofs.WriterLemmas.{loads_kept}

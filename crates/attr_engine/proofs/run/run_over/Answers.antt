@@ -3,7 +3,7 @@ use Rattle.std.specs.Prelude.{is_some}
 use Rattle.std.proofs.lemmas.Option.{IfSome_then}
 use Rattle.gen_core.specs.Views.{last_number}
 use Rattle.word_arena.specs.Ruled.{writer_of}
-use Rattle.attr_scores.specs.Scores.{ask_tree}
+use Rattle.attr_types.specs.Scores.{ask_tree}
 use Rattle.attr_types.specs.declared.field.Field.{Field}
 use Rattle.attr_report.specs.Run.{run_in}
 use Rattle.attr_engine.specs.Steps.{operations_of, tells_of, saves_of, LoadsInto}

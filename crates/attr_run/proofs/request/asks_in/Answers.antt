@@ -4,8 +4,8 @@ use Rattle.std.proofs.Math.Seq.{drop-length}
 use Rattle.std.proofs.lemmas.List.{map-append}
 use Rattle.std.proofs.lemmas.Result.{err_from_is_err_and}
 use Rattle.list_facts.proofs.Places.{drop-read}
-use Rattle.attr_scores.specs.Scores.{AskTree, ask_tree}
-use Rattle.attr_scores.specs.declared.ask.Ask.{Ask}
+use Rattle.attr_types.specs.Scores.{AskTree, ask_tree}
+use Rattle.attr_types.specs.declared.ask.Ask.{Ask}
 use Rattle.attr_run.specs.Run.{asks_from}
 use Rattle.attr_run.proofs.AsksLemmas.{after_front, after_front-next, after_front-end}
 use Rattle.attr_run.proofs.AsksLemmas.{says-stopped}

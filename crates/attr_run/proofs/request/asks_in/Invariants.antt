@@ -1,5 +1,5 @@
 use Rattle.std.proofs.Common.{◌≡◌, ◌+◌, map, drop, string_bytes}
-use Rattle.attr_scores.specs.Scores.{ask_tree}
+use Rattle.attr_types.specs.Scores.{ask_tree}
 use Rattle.attr_run.specs.Run.{asks_from}
 use Rattle.attr_run.proofs.AsksLemmas.{after_front}
 use Rattle.attr_run.proofs.request.asks_in.Given as goal

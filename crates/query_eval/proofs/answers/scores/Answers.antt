@@ -5,8 +5,8 @@ use Rattle.std.specs.Prelude.{slice_get}
 use Rattle.attr_types.specs.declared.field.Field.{Field}
 use Rattle.attr_images.specs.Images.{table_of, IsLawfulImage}
 use Rattle.attr_images.specs.Postings.{index_of}
-use Rattle.attr_scores.specs.Scores.{scores}
-use Rattle.attr_scores.specs.declared.part.Part.{Part}
+use Rattle.attr_types.specs.Scores.{scores}
+use Rattle.attr_types.specs.declared.part.Part.{Part}
 use Rattle.query_leaves.specs.Parts.{IsIndexed}
 use Rattle.query_eval.proofs.ImageLemmas.{is_indexed}
 use Rattle.query_eval.proofs.ScoreLemmas.{AreScored, image_scores, no_scores, has_root}

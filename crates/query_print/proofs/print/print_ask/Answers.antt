@@ -1,6 +1,6 @@
 use Rattle.std.proofs.Common.{rules, ◌≡◌, string_bytes}
 use Rattle.std.proofs.lemmas.Str.{IsUtf8-string_bytes}
-use Rattle.attr_scores.specs.Scores.{ask_tree}
+use Rattle.attr_types.specs.Scores.{ask_tree}
 use Rattle.query_text.specs.Grammar.{word_text}
 use Rattle.query_print.specs.Printing.{named_word}
 use Rattle.query_print.proofs.ReadBackLemmas.{reads_back_as}

@@ -1,7 +1,7 @@
 use Rattle.std.proofs.Common.{rules, ◌≡◌, string_bytes}
 use Rattle.std.proofs.lemmas.Str.{IsUtf8-string_bytes}
 use Rattle.attr_types.specs.Query.{tree_of}
-use Rattle.attr_scores.specs.Scores.{hits_of}
+use Rattle.attr_types.specs.Scores.{hits_of}
 use Rattle.query_text.specs.Grammar.{tree_text}
 use Rattle.query_print.specs.Printing.{named}
 use Rattle.query_print.proofs.ReadBackLemmas.{reads_back_as}

@@ -6,9 +6,9 @@ use Rattle.std.specs.Int.RustNames.{FitsSigned, unsigned_abs}
 use Rattle.list_facts.proofs.Places.{drop-read}
 use Rattle.attr_images.specs.Postings.{index_of}
 use Rattle.attr_index.specs.Changes.{HasItems}
-use Rattle.attr_scores.proofs.ScoreLemmas.{product_shown, product_shown-bound, sum_fits, sum_bound, sum_step}
-use Rattle.attr_scores.specs.Scores.{score_of, weight_of}
-use Rattle.attr_scores.specs.declared.part.Part.{Part}
+use Rattle.attr_types.proofs.ScoreLemmas.{product_shown, product_shown-bound, sum_fits, sum_bound, sum_step}
+use Rattle.attr_types.specs.Scores.{score_of, weight_of}
+use Rattle.attr_types.specs.declared.part.Part.{Part}
 use Rattle.query_scores.proofs.parts.score_at.Goals as goal
 
 pub overflow_add-score : goal.overflow_add-score

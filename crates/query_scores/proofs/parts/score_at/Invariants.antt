@@ -2,7 +2,7 @@ use Rattle.std.proofs.Common.{◌≡◌, ◌≤◌, ◌*◌, ◌^◌, List, drop
 use Rattle.std.specs.Int.RustNames.{unsigned_abs}
 use Rattle.attr_images.specs.Postings.{index_of}
 use Rattle.attr_index.specs.Changes.{HasItems}
-use Rattle.attr_scores.specs.Scores.{score_of}
+use Rattle.attr_types.specs.Scores.{score_of}
 use Rattle.attr_types.specs.declared.items.Item.{Item}
 use Rattle.query_scores.proofs.parts.score_at.Given as goal
 

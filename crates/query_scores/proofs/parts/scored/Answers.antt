@@ -2,8 +2,8 @@ use Rattle.std.proofs.Common.{ℕ, List, map, sym, ap, subst, ◌∙◌}
 use Rattle.std.proofs.lemmas.Result.{IfOk-weaker}
 use Rattle.attr_images.specs.Postings.{index_of}
 use Rattle.attr_index.specs.Changes.{HasItems}
-use Rattle.attr_scores.specs.Scores.{score_of}
-use Rattle.attr_scores.specs.declared.score.Score.{Score}
+use Rattle.attr_types.specs.Scores.{score_of}
+use Rattle.attr_types.specs.declared.score.Score.{Score}
 use Rattle.doc_set.proofs.DocLemmas.{same_ascending}
 use Rattle.query_scores.proofs.parts.scored.Goals as goal
 

@@ -5,8 +5,8 @@ use Rattle.std.specs.Int.{w128}
 use Rattle.std.specs.Int.RustNames.{FitsSigned}
 use Rattle.attr_images.specs.Postings.{index_of}
 use Rattle.attr_index.specs.Changes.{HasItems}
-use Rattle.attr_scores.specs.Scores.{score_of}
-use Rattle.attr_scores.specs.declared.score.Score.{Score}
+use Rattle.attr_types.specs.Scores.{score_of}
+use Rattle.attr_types.specs.declared.score.Score.{Score}
 use Rattle.query_scores.proofs.ListLemmas.{one_more}
 use Rattle.query_scores.proofs.parts.scores_of.Goals as goal
 

@@ -1,6 +1,6 @@
 use Rattle.std.proofs.Common.{◌∙◌, ap}
 use Rattle.std.specs.Option.{unwrap_or}
-use Rattle.attr_names.specs.Names.{field_named}
+use Rattle.attr_types.specs.Names.{field_named}
 use Rattle.query_text.proofs.list.named_at_front.Goals as goal
 
 pub returns-clause-value : goal.returns-clause-value

@@ -1,2 +1,0 @@
-pub mod WeightLemmas
-pub mod DocumentSteps

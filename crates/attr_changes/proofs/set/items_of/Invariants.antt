@@ -1,6 +1,0 @@
-use Rattle.std.proofs.Common.{◌≡◌, ◌++◌}
-use Rattle.attr_changes.specs.Weights.{weights_of}
-use Rattle.attr_changes.proofs.set.items_of.Given as goal
-
-abbrev pub invariant-loop-value : goal.invariant-loop-value
-invariant-loop-value l = weights_of l.items ++ l.value-iterator ≡ l.fn.weights.entries

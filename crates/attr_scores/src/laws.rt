@@ -1,8 +1,0 @@
-//! Laws of what a table answers. Each function does nothing: its contract is the law.
-ghost use Rattle.attr_scores.specs.Laws.{ScoresFit, ScoresAscend};
-
-/// No score leaves 128 signed bits, and scores ascend by document.
-pub fn scores_law()
-    ensures fit { ScoresFit }
-    ensures ascend { ScoresAscend }
-{}

@@ -1,0 +1,8 @@
+//! Laws of what a table answers. Each function does nothing: its contract is the law.
+ghost use Rattle.attr_types.specs.ScoresLaws.{ScoresFit, ScoresAscend};
+
+/// No score leaves 128 signed bits, and scores ascend by document.
+pub fn scores_law()
+    ensures fit { ScoresFit }
+    ensures ascend { ScoresAscend }
+{}
