@@ -5,8 +5,8 @@ use Rattle.std.proofs.lemmas.Bool.{ne_eqb, eq-eqb, eqb-true, eqb-false, cases_lt
 use Rattle.std.specs.List.{range_with_len, AllByRecursion}
 use Rattle.attr_images.specs.Postings.{block_documents}
 use Rattle.attr_images.specs.declared.TheConstants.{BLOCK_DOCUMENTS}
-use Rattle.doc_set.proofs.BitLemmas.{by_cases}
-use Rattle.doc_set.specs.Sets.{has, in_words, IsAscending}
+use Rattle.attr_index.proofs.BitLemmas.{by_cases}
+use Rattle.attr_index.specs.Sets.{has, in_words, IsAscending}
 
 -- those of `n` numbers from `s` on that pass, each as one from `a` on
 module _ (t : ℕ → Bool) (a : ℕ) where

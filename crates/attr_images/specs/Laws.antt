@@ -29,7 +29,7 @@ use Rattle.attr_types.specs.declared.kind.Kind.{Kind}
 use Rattle.attr_types.specs.declared.kind.ValueType.{ValueType}
 use Rattle.attr_types.specs.declared.kind.ValueType.TheVariants as types
 use Rattle.attr_types.specs.declared.value.Value.TheVariants as values
-use Rattle.doc_set.specs.Sets.{has, in_words, IsAscending}
+use Rattle.attr_index.specs.Sets.{has, in_words, IsAscending}
 
 -- ---- shapes
 -- a shape tells the kinds and value types that it was made of

@@ -10,7 +10,7 @@ use Rattle.attr_images.specs.Values.{stored_value, IsValueRecord}
 use Rattle.attr_images.specs.Words.{stored_items, unpacked, weight_in_bits, IsStoredList}
 use Rattle.attr_types.specs.declared.kind.ValueType.{ValueType}
 use Rattle.attr_types.specs.declared.value.Value.{Value}
-use Rattle.doc_set.specs.Sets.{in_words}
+use Rattle.attr_index.specs.Sets.{in_words}
 
 -- the form of a posting list: the record of a short one, or the root of a tree or of a bit vector
 pub data ListForm : Type 0 where

@@ -9,3 +9,8 @@ pub mod MiddleLemmas
 pub mod BoundLemmas
 pub mod BetweenLemmas
 pub mod MapLemmas
+pub mod BitLemmas
+pub mod DocLemmas
+pub mod WordLemmas
+pub mod RunLemmas
+pub mod FoundLemmas

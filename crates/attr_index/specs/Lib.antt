@@ -2,3 +2,9 @@ pub mod Columns
 pub mod Index
 pub mod Changes
 pub mod Laws
+pub mod Sets
+pub mod Gathers
+pub mod Postings
+pub mod Leaves
+pub mod Found
+pub mod IndexLaws

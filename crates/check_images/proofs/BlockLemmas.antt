@@ -8,7 +8,7 @@ use Rattle.std.specs.List.{range_with_len, flat_map, AllByRecursion}
 use Rattle.entry_ref.specs.Records.{Records}
 use Rattle.attr_images.specs.Postings.{block_documents, IsBlock}
 use Rattle.attr_images.specs.declared.TheConstants.{BLOCK_DOCUMENTS}
-use Rattle.doc_set.specs.Sets.{in_words}
+use Rattle.attr_index.specs.Sets.{in_words}
 
 -- a document with weight 1
 abbrev pub weighed : ℕ → ℕ × ℤ

@@ -1,7 +1,7 @@
 ghost use Rattle.std.specs.Prelude.{◌≡◌, ◌<◌, ◌^◌, ◌++◌, ℕ, pos, map, OnOk, IfOk, IfErr};
 ghost use Rattle.std.specs.List.{flat_map, AllByRecursion};
 ghost use Rattle.attr_images.specs.Postings.{block_documents, IsBlock};
-ghost use Rattle.doc_set.specs.Sets.{in_words};
+ghost use Rattle.attr_index.specs.Sets.{in_words};
 ghost use Rattle.entry_ref.specs.Maps.{seen};
 ghost use Rattle.check_trees.specs.Refutations.{Refutes};
 

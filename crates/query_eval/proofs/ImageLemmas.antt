@@ -18,10 +18,10 @@ use Rattle.attr_images.specs.Shapes.{shape_of, types_of}
 use Rattle.attr_images.specs.Values.{stored_value}
 use Rattle.attr_images.proofs.ImageLemmas.{table_lawful, field_is_there, roots_there}
 use Rattle.attr_images.proofs.RootLemmas.{root_has_words}
-use Rattle.doc_set.specs.Postings.{HaveDocNumbers}
-use Rattle.doc_set.specs.Sets.{Holds}
-use Rattle.query_index.proofs.FoundLemmas.{found_are_hits, index_lists_documents}
-use Rattle.query_index.specs.Found.{found, AreIndexesFrom}
+use Rattle.attr_index.specs.Postings.{HaveDocNumbers}
+use Rattle.attr_index.specs.Sets.{Holds}
+use Rattle.attr_index.proofs.FoundLemmas.{found_are_hits, index_lists_documents}
+use Rattle.attr_index.specs.Found.{found, AreIndexesFrom}
 use Rattle.query_leaves.specs.Parts.{AreIndexPairs, IsIndexed}
 use Rattle.query_eval.specs.Indexes.{AreIndexed, HasDictionaries, dictionaries_at, indexes_in}
 

@@ -7,8 +7,8 @@ use Rattle.list_facts.proofs.Options.{same_Some}
 use Rattle.attr_index.specs.Index.{Index}
 use Rattle.attr_types.specs.Query.{and, tree_of, query_trees}
 use Rattle.attr_types.specs.declared.query.Query.{Query}
-use Rattle.doc_set.specs.Sets.{has, Holds}
-use Rattle.query_index.specs.Found.{found, found_all, is_listed}
+use Rattle.attr_index.specs.Sets.{has, Holds}
+use Rattle.attr_index.specs.Found.{found, found_all, is_listed}
 use Rattle.query_eval.specs.Indexes.{AreMatched, IsMatched}
 
 module _ (indexes : List Index) (doc : ℕ) where

@@ -35,9 +35,9 @@ use Rattle.attr_index.proofs.PartLemmas.{lookup_front}
 use Rattle.attr_types.specs.Scores.{has_value, is_scored, score_of, scores}
 use Rattle.attr_types.specs.declared.part.Part.{Part}
 use Rattle.attr_types.specs.declared.score.Score.{Score}
-use Rattle.doc_set.proofs.BitLemmas.{by_cases}
-use Rattle.doc_set.proofs.DocLemmas.{ascends_from_sorted}
-use Rattle.doc_set.specs.Sets.{has, Holds}
+use Rattle.attr_index.proofs.BitLemmas.{by_cases}
+use Rattle.attr_index.proofs.DocLemmas.{ascends_from_sorted}
+use Rattle.attr_index.specs.Sets.{has, Holds}
 use Rattle.query_scores.specs.Weights.{is_found}
 use Rattle.query_eval.proofs.ImageLemmas.{field_at, small}
 

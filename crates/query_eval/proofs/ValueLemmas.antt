@@ -16,7 +16,7 @@ use Rattle.attr_types.specs.Value.{value_cmp}
 use Rattle.attr_types.specs.declared.kind.ValueType.{ValueType}
 use Rattle.attr_types.specs.declared.query.Leaf.TheVariants.{Is}
 use Rattle.attr_types.specs.declared.value.Value.{Value}
-use Rattle.query_index.specs.Leaves.{listed, meeting}
+use Rattle.attr_index.specs.Leaves.{listed, meeting}
 use Rattle.query_leaves.proofs.PartLemmas.{keys_are}
 use Rattle.query_leaves.specs.Parts.{IsIndexed}
 

@@ -8,8 +8,8 @@ use Rattle.attr_index.specs.Index.{Index}
 use Rattle.attr_types.specs.Query.{tree_of}
 use Rattle.attr_types.specs.declared.field.Field.{Field}
 use Rattle.attr_types.specs.declared.query.Query.{Query}
-use Rattle.doc_set.specs.Sets.{has}
-use Rattle.query_index.specs.Found.{found}
+use Rattle.attr_index.specs.Sets.{has}
+use Rattle.attr_index.specs.Found.{found}
 use Rattle.query_leaves.specs.Parts.{IsIndexed}
 use Rattle.query_eval.specs.declared.dictionary.Dictionary.{Dictionary}
 

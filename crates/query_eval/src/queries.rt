@@ -1,10 +1,10 @@
 //! A query, by the dictionaries of the attributes.
 ghost use Rattle.std.specs.Prelude.{◌≡◌, ◌||◌, ◌&&◌, ℕ, IfOk, slice_get};
 ghost use Rattle.attr_types.specs.Query.{tree_of, query_trees, and, or, one};
-ghost use Rattle.doc_set.specs.Gathers.{is_gathered};
-ghost use Rattle.doc_set.specs.Sets.{has, Holds};
-ghost use Rattle.query_index.specs.Found.{found, found_all, is_listed};
-ghost use Rattle.query_index.specs.Leaves.{listed, meeting};
+ghost use Rattle.attr_index.specs.Gathers.{is_gathered};
+ghost use Rattle.attr_index.specs.Sets.{has, Holds};
+ghost use Rattle.attr_index.specs.Found.{found, found_all, is_listed};
+ghost use Rattle.attr_index.specs.Leaves.{listed, meeting};
 ghost use Rattle.query_leaves.specs.Parts.{IsIndexed};
 ghost use Rattle.attr_images.specs.Postings.{index_of};
 ghost use Rattle.query_eval.specs.Indexes.{AreIndexed, AreMatched, IsMatched, indexes_in};
@@ -12,7 +12,7 @@ ghost use Rattle.query_eval.specs.Indexes.{AreIndexed, AreMatched, IsMatched, in
 use crate::dictionary::Dictionary;
 use crate::sizes::shortest_of;
 use attr_types::{DocList, Leaf, Query};
-use doc_set::Gathered;
+use attr_index::Gathered;
 use arena_api::Frozen;
 use query_leaves::{gather_every, gather_leaf};
 use query_scores::{kept_with, with_value};

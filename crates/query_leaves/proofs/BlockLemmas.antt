@@ -5,8 +5,8 @@ use Rattle.std.specs.List.{AllByRecursion}
 use Rattle.attr_images.specs.Postings.{block_documents}
 use Rattle.attr_images.proofs.BlockLemmas.{block_has_bits}
 use Rattle.attr_types.specs.Lawful.{IsDocNumber}
-use Rattle.doc_set.proofs.BitLemmas.{by_cases}
-use Rattle.doc_set.specs.Sets.{has, in_words}
+use Rattle.attr_index.proofs.BitLemmas.{by_cases}
+use Rattle.attr_index.specs.Sets.{has, in_words}
 
 -- a document of a block is that of its bit
 pub has_at : (k i : ℕ) (ws : List ℕ) → i < 4096 → has (block_documents k ws) (4096 * k + i) ≡ in_words ws i

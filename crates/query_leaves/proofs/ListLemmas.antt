@@ -11,7 +11,7 @@ use Rattle.attr_images.specs.Postings.{vector, list_form, block_documents, IsBlo
 use Rattle.attr_images.specs.Words.{weight_in_bits}
 use Rattle.attr_images.specs.declared.TheConstants.{FIRST_VECTOR}
 use Rattle.attr_types.specs.Lawful.{IsDocNumber}
-use Rattle.doc_set.specs.Postings.{HaveDocNumbers}
+use Rattle.attr_index.specs.Postings.{HaveDocNumbers}
 use Rattle.query_leaves.specs.Blocks.{IsDocumentBlock, documents_of}
 use Rattle.query_leaves.proofs.BlockLemmas.{block_small, all_has}
 

@@ -22,9 +22,9 @@ use Rattle.attr_types.specs.declared.value.Value.{Value}
 use Rattle.attr_types.specs.declared.value.Value.TheVariants as values
 use Rattle.enum_dictionary.specs.Dictionaries.{IsDictionary, beside_value}
 use Rattle.enum_dictionary.proofs.BehindLemmas.{All-seek}
-use Rattle.query_index.proofs.RunLemmas.{run_is_filter, sought_is_filter}
-use Rattle.query_index.specs.Leaves.{from, stands_beyond, listed, meeting, run, from_value, sought, from_sought}
-use Rattle.doc_set.specs.Sets.{has}
+use Rattle.attr_index.proofs.RunLemmas.{run_is_filter, sought_is_filter}
+use Rattle.attr_index.specs.Leaves.{from, stands_beyond, listed, meeting, run, from_value, sought, from_sought}
+use Rattle.attr_index.specs.Sets.{has}
 use Rattle.query_leaves.specs.Parts.{IsIndexPair, AreIndexPairs, IsIndexed, index_of_pairs}
 
 pub type_is : (type : ValueType) (value : Value) → is_of_type type value ≡ true → type_of value ≡ type

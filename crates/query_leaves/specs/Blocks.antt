@@ -4,7 +4,7 @@ use Rattle.std.specs.List.{flat_map}
 use Rattle.entry_ref.specs.Records.{Records}
 use Rattle.attr_images.specs.Postings.{block_documents, IsBlock}
 use Rattle.attr_types.specs.Lawful.{IsDocNumber}
-use Rattle.doc_set.specs.Sets.{has}
+use Rattle.attr_index.specs.Sets.{has}
 
 -- a block of documents alone
 pub record IsDocumentBlock (m : Records) (p : ℕ × ℕ) : Type 0 where

@@ -8,7 +8,7 @@ use Rattle.attr_images.specs.Values.{stored_value}
 use Rattle.attr_index.specs.Index.{Index}
 use Rattle.attr_types.specs.Value.{value_cmp}
 use Rattle.attr_types.specs.declared.kind.ValueType.{ValueType}
-use Rattle.doc_set.specs.Postings.{HaveDocNumbers}
+use Rattle.attr_index.specs.Postings.{HaveDocNumbers}
 
 -- the values of some pairs of a dictionary, each with its list
 abbrev pub index_of_pairs : ValueType → Records → List (ℕ × ℕ) → Index

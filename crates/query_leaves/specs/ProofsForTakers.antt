@@ -1,7 +1,7 @@
 -- Nobody has to read this: lemmas on documents that come in parts, for the laws of what takes keys.
 use Rattle.std.proofs.Common.{◌≡◌, ℕ, Bool, true, false, ◌||◌, ◌&&◌, List, [], ◌++◌, refl, sym, ap, subst, ◌∙◌, nat_eq}
 use Rattle.std.proofs.lemmas.List.Folds.{list_any-append}
-use Rattle.doc_set.specs.Sets.{has, in_words}
+use Rattle.attr_index.specs.Sets.{has, in_words}
 use Rattle.query_leaves.specs.Takers.{Adds, AddsMeeting}
 
 nothing : (a : Bool) → a ≡ (a || false)

@@ -1,6 +1,6 @@
 -- What the keys of a tree add to documents.
 use Rattle.std.specs.Prelude.{◌≡◌, ℕ, Bool, ◌||◌, ◌&&◌, List}
-use Rattle.doc_set.specs.Sets.{has}
+use Rattle.attr_index.specs.Sets.{has}
 
 -- these documents are new, and no others
 abbrev pub Adds : (ℕ → Bool) → List ℕ → (ℕ → Bool) → Type 0

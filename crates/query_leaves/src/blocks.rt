@@ -5,14 +5,14 @@ ghost use Rattle.std.specs.Map.{keys_of};
 ghost use Rattle.tree_read.specs.SearchPlaces.{IsAt, pairs_from};
 ghost use Rattle.attr_types.specs.Lawful.{IsDocNumber};
 ghost use Rattle.attr_images.specs.Postings.{block_documents, postings_at, vector, IsPostingList};
-ghost use Rattle.doc_set.specs.Gathers.{is_gathered};
-ghost use Rattle.doc_set.specs.Postings.{HaveDocNumbers};
-ghost use Rattle.doc_set.specs.Sets.{has, in_words};
+ghost use Rattle.attr_index.specs.Gathers.{is_gathered};
+ghost use Rattle.attr_index.specs.Postings.{HaveDocNumbers};
+ghost use Rattle.attr_index.specs.Sets.{has, in_words};
 ghost use Rattle.query_leaves.specs.Blocks.{IsDocumentBlock, documents_of};
 
 use attr_images::BLOCK_WORDS;
 use attr_types::Doc;
-use doc_set::{DocSet, Gathered};
+use attr_index::{DocSet, Gathered};
 use entry_ref::EntryRef;
 use arena_api::Frozen;
 use frozen_btree::Cursor;

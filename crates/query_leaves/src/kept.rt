@@ -4,8 +4,8 @@ ghost use Rattle.std.specs.List.{AllByRecursion};
 ghost use Rattle.std.specs.Map.{keys_of};
 ghost use Rattle.attr_types.specs.Lawful.{IsDocNumber};
 ghost use Rattle.attr_images.specs.Postings.{postings_at, tree, IsPostingList};
-ghost use Rattle.doc_set.specs.Postings.{HaveDocNumbers};
-ghost use Rattle.doc_set.specs.Sets.{has, in_words};
+ghost use Rattle.attr_index.specs.Postings.{HaveDocNumbers};
+ghost use Rattle.attr_index.specs.Sets.{has, in_words};
 ghost use Rattle.query_leaves.specs.Takers.{AddsMeeting};
 
 use attr_types::{Doc, DocList};

@@ -2,11 +2,11 @@
 ghost use Rattle.std.specs.Prelude.{OnOk};
 ghost use Rattle.std.specs.List.{AllByRecursion};
 ghost use Rattle.attr_types.specs.Lawful.{IsDocNumber};
-ghost use Rattle.doc_set.specs.Sets.{has, in_words};
+ghost use Rattle.attr_index.specs.Sets.{has, in_words};
 ghost use Rattle.query_leaves.specs.Takers.{Adds};
 
 use attr_types::Doc;
-use doc_set::DocSet;
+use attr_index::DocSet;
 use std::alloc::AllocError;
 use tree_read::TakesKeys;
 

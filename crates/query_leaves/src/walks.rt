@@ -2,16 +2,16 @@
 ghost use Rattle.std.specs.Prelude.{◌≡◌, ◌||◌, ℕ, IfOk, OnOk};
 ghost use Rattle.tree_read.specs.SearchPlaces.{IsAt, pairs_from};
 ghost use Rattle.attr_images.specs.Postings.{index_of};
-ghost use Rattle.doc_set.specs.Gathers.{is_gathered};
-ghost use Rattle.doc_set.specs.Sets.{has};
-ghost use Rattle.query_index.specs.Leaves.{from, listed, meeting, run};
+ghost use Rattle.attr_index.specs.Gathers.{is_gathered};
+ghost use Rattle.attr_index.specs.Sets.{has};
+ghost use Rattle.attr_index.specs.Leaves.{from, listed, meeting, run};
 ghost use Rattle.query_leaves.specs.Parts.{IsIndexed, AreIndexPairs, index_of_pairs};
 
 use crate::lists::gather_list;
 use crate::starts::start_of;
 use crate::values::{is_before_at, is_beyond_at};
 use attr_types::{Leaf, ValueType};
-use doc_set::Gathered;
+use attr_index::Gathered;
 use entry_ref::EntryRef;
 use arena_api::Frozen;
 use frozen_btree::Cursor;

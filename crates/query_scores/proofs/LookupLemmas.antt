@@ -14,8 +14,8 @@ use Rattle.std.proofs.lemmas.Cmp.{tied_itself, nat_cmp_total}
 use Rattle.list_facts.proofs.Options.{same_Some}
 use Rattle.tree_read.specs.Pairs.{choose, lookup_pair}
 use Rattle.attr_types.proofs.EntryLemmas.{nat_cmp_apart}
-use Rattle.doc_set.proofs.BitLemmas.{by_cases}
-use Rattle.doc_set.specs.Sets.{has}
+use Rattle.attr_index.proofs.BitLemmas.{by_cases}
+use Rattle.attr_index.specs.Sets.{has}
 use Rattle.query_scores.specs.Weights.{weight_in_list}
 
 module _ {V X : Type 0} (order : V → V → Ordering) (total : IsTotalOrder order) (reads : ℕ → V) (g : ℕ → X) (s : V) where

@@ -12,7 +12,7 @@ use Rattle.entry_ref.specs.Records.{Records}
 use Rattle.tree_read.specs.Pairs.{choose, lookup_pair}
 use Rattle.attr_images.proofs.BlockLemmas.{block_has_bits}
 use Rattle.attr_images.specs.Postings.{block_documents}
-use Rattle.doc_set.specs.Sets.{has, in_words}
+use Rattle.attr_index.specs.Sets.{has, in_words}
 use Rattle.query_leaves.specs.Blocks.{documents_of}
 
 equal_not : (o : Ordering) → o ≡ Equal → o ≢ Greater

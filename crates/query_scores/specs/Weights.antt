@@ -8,8 +8,8 @@ use Rattle.entry_ref.specs.Records.{Records}
 use Rattle.attr_images.specs.Postings.{list_form, postings_at, IsPostingList}
 use Rattle.attr_index.specs.Index.{Index, list_of}
 use Rattle.attr_types.specs.declared.part.Part.{Part}
-use Rattle.doc_set.specs.Postings.{HaveDocNumbers}
-use Rattle.doc_set.specs.Sets.{has}
+use Rattle.attr_index.specs.Postings.{HaveDocNumbers}
+use Rattle.attr_index.specs.Sets.{has}
 
 -- the weight of a document in a list, 0 where it is not there
 abbrev pub weight_in_list : ℕ → List (ℕ × ℤ) → ℤ

@@ -6,15 +6,15 @@ ghost use Rattle.attr_index.specs.Changes.{HasItems};
 ghost use Rattle.attr_index.specs.Index.{list_of};
 ghost use Rattle.attr_types.specs.Scores.{score_of, weight_of};
 ghost use Rattle.attr_types.specs.declared.items.Item.{Item as AnyItem};
-ghost use Rattle.doc_set.specs.Gathers.{is_gathered};
-ghost use Rattle.doc_set.specs.Sets.{has, Holds};
+ghost use Rattle.attr_index.specs.Gathers.{is_gathered};
+ghost use Rattle.attr_index.specs.Sets.{has, Holds};
 ghost use Rattle.std.specs.Map.{keys_of};
 ghost use Rattle.query_leaves.specs.Parts.{IsIndexed};
 ghost use Rattle.query_scores.specs.Weights.{word_list, IsListWord, is_found};
 
 use crate::weights::weight_at;
 use attr_types::{Doc, DocList, Part, Score, ScoreList, Value, ValueType};
-use doc_set::Gathered;
+use attr_index::Gathered;
 use entry_ref::EntryRef;
 use enum_dictionary::find;
 use arena_api::Frozen;

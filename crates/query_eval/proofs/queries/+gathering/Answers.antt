@@ -3,9 +3,9 @@ use Rattle.std.proofs.lemmas.Result.{IfOk-weaker}
 use Rattle.std.specs.Prelude.{slice_get}
 use Rattle.attr_types.specs.Query.{tree_of, query_trees}
 use Rattle.attr_types.specs.declared.query.Query.{Query}
-use Rattle.doc_set.specs.Gathers.{is_gathered}
-use Rattle.doc_set.specs.Sets.{has, Holds}
-use Rattle.query_index.specs.Found.{found, found_all, is_listed}
+use Rattle.attr_index.specs.Gathers.{is_gathered}
+use Rattle.attr_index.specs.Sets.{has, Holds}
+use Rattle.attr_index.specs.Found.{found, found_all, is_listed}
 use Rattle.query_eval.specs.Indexes.{AreMatched, IsMatched, indexes_in}
 use Rattle.query_eval.proofs.QueryLemmas.{common_of, none_found, one_more, kept_known, query_there, all_members, none_left}
 use Rattle.query_eval.proofs.queries.+gathering.Goals as goal

@@ -4,8 +4,8 @@ use Rattle.std.specs.Map.{keys_of}
 use Rattle.attr_images.specs.Postings.{index_of}
 use Rattle.attr_index.specs.Index.{list_of}
 use Rattle.attr_types.specs.declared.query.Leaf.{Leaf}
-use Rattle.doc_set.specs.Sets.{has}
-use Rattle.query_index.specs.Leaves.{listed, meeting}
+use Rattle.attr_index.specs.Sets.{has}
+use Rattle.attr_index.specs.Leaves.{listed, meeting}
 use Rattle.query_eval.proofs.ValueLemmas.{value_listed}
 use Rattle.query_eval.proofs.queries.kept_meeting.Goals as goal
 

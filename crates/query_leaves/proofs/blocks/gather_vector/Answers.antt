@@ -3,7 +3,7 @@ use Rattle.std.specs.List.{AllByRecursion}
 use Rattle.tree_read.specs.Trees.{tree_pairs}
 use Rattle.tree_read.specs.SearchPlaces.{IsAt, pairs_from}
 use Rattle.attr_images.specs.Postings.{vector_documents}
-use Rattle.doc_set.specs.Sets.{has, in_words}
+use Rattle.attr_index.specs.Sets.{has, in_words}
 use Rattle.query_leaves.specs.Blocks.{IsDocumentBlock, documents_of}
 use Rattle.query_leaves.proofs.ListLemmas.{blocks_are, vector_numbers, vector_keys}
 use Rattle.query_leaves.proofs.blocks.gather_vector.Goals as goal

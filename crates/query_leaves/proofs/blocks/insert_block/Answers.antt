@@ -1,6 +1,6 @@
 use Rattle.std.proofs.Common.{ℕ, arith, ◌≡◌, ◌||◌, ◌&&◌, ◌+◌, ◌*◌, nat_lt, subst}
 use Rattle.attr_images.specs.Postings.{block_documents}
-use Rattle.doc_set.specs.Sets.{has, in_words}
+use Rattle.attr_index.specs.Sets.{has, in_words}
 use Rattle.query_leaves.proofs.BlockLemmas.{none_yet, one_more, all_there}
 use Rattle.query_leaves.proofs.blocks.insert_block.Goals as goal
 

@@ -1,7 +1,7 @@
 use Rattle.std.proofs.Common.{◌≡◌, ◌||◌, ◌&&◌, ◌+◌, ◌*◌, ℕ}
 use Rattle.std.specs.Prelude.{nat_lt}
 use Rattle.attr_images.specs.Postings.{block_documents}
-use Rattle.doc_set.specs.Sets.{has, in_words}
+use Rattle.attr_index.specs.Sets.{has, in_words}
 use Rattle.query_leaves.proofs.blocks.insert_block.Given as goal
 
 -- those of the bits so far are there

@@ -1,7 +1,7 @@
 use Rattle.std.proofs.Common.{◌≡◌, ◌||◌, ℕ, List, take, true, arith, ap, subst, ◌∙◌}
 use Rattle.std.proofs.lemmas.List.{take_all}
 use Rattle.attr_images.specs.Postings.{block_documents}
-use Rattle.doc_set.specs.Sets.{has, in_words}
+use Rattle.attr_index.specs.Sets.{has, in_words}
 use Rattle.query_leaves.proofs.blocks.insert_next.Goals as goal
 
 pub insert_block-requires-clause-documents : goal.insert_block-requires-clause-documents

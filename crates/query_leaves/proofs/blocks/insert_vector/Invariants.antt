@@ -1,7 +1,7 @@
 use Rattle.std.proofs.Common.{◌≡◌, ◌||◌, ℕ, length}
 use Rattle.std.specs.List.{AllByRecursion}
 use Rattle.tree_read.specs.SearchPlaces.{IsAt, pairs_from}
-use Rattle.doc_set.specs.Sets.{has, in_words}
+use Rattle.attr_index.specs.Sets.{has, in_words}
 use Rattle.query_leaves.specs.Blocks.{IsDocumentBlock, documents_of}
 use Rattle.query_leaves.proofs.blocks.insert_vector.Given as goal
 

@@ -1,7 +1,7 @@
 use Rattle.std.proofs.Common.{◌≡◌, ◌||◌, ◌&&◌, ℕ, drop}
 use Rattle.std.specs.List.{AllByRecursion}
 use Rattle.attr_types.specs.Lawful.{IsDocNumber}
-use Rattle.doc_set.specs.Sets.{has, in_words}
+use Rattle.attr_index.specs.Sets.{has, in_words}
 use Rattle.query_leaves.proofs.kept.keep_keys.Given as goal
 
 -- those that were kept, and those that are still to come

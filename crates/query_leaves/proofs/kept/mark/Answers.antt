@@ -1,6 +1,6 @@
 use Rattle.std.proofs.Common.{◌<◌, ◌/◌, ◌||◌, ℕ, length, get_or, nat_eq, arith, refl, ap, ◌∙◌}
-use Rattle.doc_set.proofs.BitLemmas.{insert_words}
-use Rattle.doc_set.specs.Sets.{in_words}
+use Rattle.attr_index.proofs.BitLemmas.{insert_words}
+use Rattle.attr_index.specs.Sets.{in_words}
 use Rattle.query_leaves.proofs.kept.mark.Goals as goal
 
 pub returns : goal.returns

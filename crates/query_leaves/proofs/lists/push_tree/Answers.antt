@@ -1,6 +1,6 @@
 use Rattle.std.proofs.Common.{◌||◌, ℕ, List, arith, ap, ◌∙◌}
 use Rattle.tree_read.specs.Trees.{tree_pairs}
-use Rattle.doc_set.specs.Sets.{has}
+use Rattle.attr_index.specs.Sets.{has}
 use Rattle.query_leaves.proofs.ListLemmas.{tree_documents, tree_keys}
 use Rattle.query_leaves.proofs.lists.push_tree.Goals as goal
 

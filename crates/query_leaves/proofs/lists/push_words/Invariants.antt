@@ -1,7 +1,7 @@
 use Rattle.std.proofs.Common.{◌≡◌, ◌++◌, map, drop}
 use Rattle.std.specs.Map.{keys_of}
 use Rattle.attr_images.specs.Words.{unpacked}
-use Rattle.doc_set.specs.Postings.{HaveDocNumbers}
+use Rattle.attr_index.specs.Postings.{HaveDocNumbers}
 use Rattle.query_leaves.proofs.lists.push_words.Given as goal
 
 abbrev pub invariant-loop-word : goal.invariant-loop-word

@@ -3,9 +3,9 @@ use Rattle.std.specs.Map.{keys_of}
 use Rattle.tree_read.specs.Trees.{tree_pairs}
 use Rattle.tree_read.specs.SearchPlaces.{IsAt, pairs_from}
 use Rattle.attr_images.specs.Postings.{list_form, postings_at}
-use Rattle.doc_set.specs.Gathers.{is_gathered}
-use Rattle.doc_set.specs.Sets.{has}
-use Rattle.query_index.specs.Leaves.{listed}
+use Rattle.attr_index.specs.Gathers.{is_gathered}
+use Rattle.attr_index.specs.Sets.{has}
+use Rattle.attr_index.specs.Leaves.{listed}
 use Rattle.query_leaves.specs.Parts.{IsIndexPair, AreIndexPairs, index_of_pairs}
 use Rattle.query_leaves.proofs.PartLemmas.{all_drop, all_goes}
 use Rattle.query_leaves.proofs.walks.gather_every.Goals as goal

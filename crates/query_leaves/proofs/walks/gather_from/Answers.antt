@@ -3,9 +3,9 @@ use Rattle.std.specs.Map.{keys_of}
 use Rattle.tree_read.specs.SearchPlaces.{IsAt, first_key, pairs_from}
 use Rattle.attr_images.specs.Postings.{list_form, postings_at}
 use Rattle.attr_images.specs.Values.{stored_value}
-use Rattle.doc_set.specs.Gathers.{is_gathered}
-use Rattle.doc_set.specs.Sets.{has}
-use Rattle.query_index.specs.Leaves.{listed, stands_beyond, run}
+use Rattle.attr_index.specs.Gathers.{is_gathered}
+use Rattle.attr_index.specs.Sets.{has}
+use Rattle.attr_index.specs.Leaves.{listed, stands_beyond, run}
 use Rattle.query_leaves.specs.Parts.{IsIndexPair, AreIndexPairs, index_of_pairs}
 use Rattle.query_leaves.proofs.PartLemmas.{all_drop, run_goes}
 use Rattle.query_leaves.proofs.walks.gather_from.Goals as goal

@@ -1,6 +1,6 @@
 use Rattle.std.proofs.Common.{◌≡◌, length}
 use Rattle.tree_read.specs.SearchPlaces.{IsAt, pairs_from}
-use Rattle.query_index.specs.Leaves.{from}
+use Rattle.attr_index.specs.Leaves.{from}
 use Rattle.query_leaves.specs.Parts.{AreIndexPairs, index_of_pairs}
 use Rattle.query_leaves.proofs.walks.skip_before.Given as goal
 

@@ -4,8 +4,8 @@ use Rattle.std.specs.Map.{keys_of}
 use Rattle.attr_images.specs.Postings.{index_of}
 use Rattle.attr_index.specs.Index.{list_of}
 use Rattle.attr_types.specs.declared.part.Part.{Part}
-use Rattle.doc_set.specs.Gathers.{is_gathered}
-use Rattle.doc_set.specs.Sets.{has}
+use Rattle.attr_index.specs.Gathers.{is_gathered}
+use Rattle.attr_index.specs.Sets.{has}
 use Rattle.query_scores.specs.Weights.{is_found}
 use Rattle.query_scores.proofs.parts.gather_parts.Goals as goal
 

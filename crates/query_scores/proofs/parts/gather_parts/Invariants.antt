@@ -1,6 +1,6 @@
 use Rattle.std.proofs.Common.{◌≡◌, ◌||◌, ℕ, drop}
 use Rattle.attr_images.specs.Postings.{index_of}
-use Rattle.doc_set.specs.Gathers.{is_gathered}
+use Rattle.attr_index.specs.Gathers.{is_gathered}
 use Rattle.query_scores.specs.Weights.{is_found}
 use Rattle.query_scores.proofs.parts.gather_parts.Given as goal
 

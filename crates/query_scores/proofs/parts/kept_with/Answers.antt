@@ -1,6 +1,6 @@
 use Rattle.std.proofs.Common.{◌≡◌, ℕ, ℤ, Bool, true, false, ◌&&◌, List, refl, ap, ◌∙◌}
 use Rattle.std.specs.Map.{keys_of}
-use Rattle.doc_set.specs.Sets.{has}
+use Rattle.attr_index.specs.Sets.{has}
 use Rattle.query_scores.proofs.parts.kept_with.Goals as goal
 
 never : (a : Bool) → false ≡ (a && false)

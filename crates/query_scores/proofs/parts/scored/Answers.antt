@@ -4,7 +4,7 @@ use Rattle.attr_images.specs.Postings.{index_of}
 use Rattle.attr_index.specs.Changes.{HasItems}
 use Rattle.attr_types.specs.Scores.{score_of}
 use Rattle.attr_types.specs.declared.score.Score.{Score}
-use Rattle.doc_set.proofs.DocLemmas.{same_ascending}
+use Rattle.attr_index.proofs.DocLemmas.{same_ascending}
 use Rattle.query_scores.proofs.parts.scored.Goals as goal
 
 pub returns-clause-scores : goal.returns-clause-scores

@@ -1,0 +1,95 @@
+//! A bit vector of documents.
+ghost use Rattle.std.specs.Prelude.{◌≡◌, ◌+◌, ◌*◌, ◌<◌, ◌||◌, ℕ, length, nat_eq, false, IfOk, OnOk};
+ghost use Rattle.attr_index.specs.Sets.{in_words, Holds, HoldsBelow};
+
+use attr_types::{Doc, DocList};
+use std::alloc::{AllocError, Global};
+use std::marker::Model;
+
+/// How many words have a bit for each document.
+const WORDS: usize = 16_384;
+
+/// A set of documents, seen as its words.
+#[derive(Drop)]
+pub struct DocSet {
+    words: Vec<u64>,
+}
+
+impl Model for DocSet {
+    ghost use Rattle.std.specs.Prelude.{◌≡◌, ℕ, List, length, false};
+    ghost use Rattle.attr_index.specs.Sets.{in_words};
+
+    ghost Value = { List ℕ };
+
+    ghost view = { λ s. s.words.items };
+
+    ghost invariant = { λ s. (length s.words.items ≡ 16384) × (in_words s.words.items 0 ≡ false) };
+}
+
+impl DocSet {
+    /// No documents.
+    pub fn new(alloc: Global) -> Result<DocSet, AllocError>
+        ensures { IfOk result (λ set. (doc : ℕ) → in_words set doc ≡ false) }
+    {
+        Ok(DocSet {
+            words: vec![in alloc; 0; WORDS]?,
+        })
+    }
+
+    /// One document more.
+    pub fn insert(&mut self, doc: Doc)
+        ensures { (other : ℕ) → in_words self.new other ≡ (in_words self.old other || nat_eq other doc) }
+    {
+        let number = doc.number();
+        let place = (number / 64) as usize;
+        self.words[place] |= 1 << (number % 64);
+    }
+
+    /// Whether a document is in the set.
+    pub fn contains(&self, doc: Doc) -> bool
+        ensures { result ≡ in_words self.now doc }
+    {
+        let number = doc.number();
+        let place = (number / 64) as usize;
+        (self.words[place] >> (number % 64)) & 1 == 1
+    }
+
+    /// The documents, ascending.
+    pub fn to_list(&self, alloc: Global) -> Result<DocList, AllocError>
+        ensures { IfOk result (λ docs. Holds docs (in_words self.now)) }
+    {
+        list_of(alloc, self.words.as_slice())
+    }
+}
+
+fn list_of(alloc: Global, words: &[u64]) -> Result<DocList, AllocError>
+    requires size { length words.now ≡ 16384 }
+    requires zero { in_words words.now 0 ≡ false }
+    ensures { IfOk result (λ docs. Holds docs (in_words words.now)) }
+{
+    let mut docs = DocList::new(alloc);
+    for place in 0..WORDS {
+        if words[place] != 0 {
+            push_word(&mut docs, words, place)?;
+        }
+    }
+    Ok(docs)
+}
+
+fn push_word(docs: &mut DocList, words: &[u64], place: usize) -> Result<(), AllocError>
+    requires place { place < 16384 }
+    requires size { length words.now ≡ 16384 }
+    requires zero { in_words words.now 0 ≡ false }
+    requires before { HoldsBelow docs.old (64 * place) (in_words words.now) }
+    ensures { OnOk result (HoldsBelow docs.new (64 * place + 64) (in_words words.now)) }
+{
+    let mut left = words[place];
+    let mut next = 0;
+    while left != 0 {
+        let bit = left.trailing_zeros();
+        docs.push(Doc::new(place as u32 * 64 + bit))?;
+        left &= !(1 << bit);
+        next = bit + 1;
+    }
+    Ok(())
+}

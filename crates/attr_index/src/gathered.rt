@@ -1,0 +1,260 @@
+//! Documents gathered in any order: few in a list that is sorted at the end, many in a bit vector.
+ghost use Rattle.std.specs.Prelude.{◌≡◌, ◌≤◌, ◌||◌, ◌&&◌, ◌++◌, ℕ, false, true, length, filter, IfOk, OnOk};
+ghost use Rattle.std.specs.List.{All};
+ghost use Rattle.std.specs.Map.{keys_of};
+ghost use Rattle.attr_types.specs.Lawful.{IsDocNumber};
+ghost use Rattle.attr_index.specs.Gathers.{is_gathered};
+ghost use Rattle.attr_index.specs.Sets.{has, in_words, IsAscending, AreBelow, IsPlaceOf, Holds};
+
+use crate::bits::DocSet;
+use attr_types::{Doc, DocList};
+use std::alloc::{AllocError, Global};
+
+/// How many documents a list takes before it becomes a bit vector.
+const FEW: usize = 1024;
+
+/// A list that is this many times as long as the documents that are sought in it is searched for each.
+const MUCH_LONGER: usize = 8;
+
+/// Documents in any order.
+#[derive(Drop)]
+pub enum Gathered {
+    Few(Vec<Doc>),
+    Many(DocSet),
+}
+
+/// Whether documents ascend already, each once, as those of one list of the index do.
+fn is_sorted(docs: &[Doc]) -> bool
+    ensures { result ≡ true → IsAscending docs.now }
+{
+    for place in 1..docs.len() {
+        if docs[place - 1] >= docs[place] {
+            return false;
+        }
+    }
+    true
+}
+
+/// The documents of a list, ascending, each once.
+pub fn sorted_list(mut docs: Vec<Doc>) -> DocList
+    ensures { Holds result (has docs.items) }
+{
+    if is_sorted(docs.as_slice()) {
+        return DocList::from_vec(docs);
+    }
+    docs.sort_unstable();
+    docs.dedup();
+    DocList::from_vec(docs)
+}
+
+fn push_list(docs: &mut Vec<Doc>, list: &[(u32, i32)]) -> Result<(), AllocError>
+    requires { All (λ p. IsDocNumber p.0) list.now }
+    ensures { OnOk result (docs.new.items ≡ docs.old.items ++ keys_of list.now) }
+{
+    for posting in list {
+        docs.push(Doc::new(posting.0))?;
+    }
+    Ok(())
+}
+
+fn insert_list(set: &mut DocSet, list: &[(u32, i32)])
+    requires { All (λ p. IsDocNumber p.0) list.now }
+    ensures { (doc : ℕ) → in_words set.new doc ≡ (in_words set.old doc || has (keys_of list.now) doc) }
+{
+    for posting in list {
+        set.insert(Doc::new(posting.0));
+    }
+}
+
+fn insert_each(set: &mut DocSet, docs: &[Doc])
+    ensures { (doc : ℕ) → in_words set.new doc ≡ (in_words set.old doc || has docs.now doc) }
+{
+    for doc in docs {
+        set.insert(*doc);
+    }
+}
+
+fn is_listed(docs: &[Doc], doc: Doc) -> bool
+    requires { IsAscending docs.now }
+    ensures { result ≡ has docs.now doc }
+{
+    docs.binary_search(&doc).is_ok()
+}
+
+fn kept_searched(alloc: Global, docs: &DocList, list: &DocList) -> Result<DocList, AllocError>
+    requires { IsAscending list.now }
+    ensures { IfOk result (λ kept. kept ≡ filter (has list.now) docs.now) }
+{
+    let mut kept = DocList::new(alloc);
+    for doc in docs.as_slice() {
+        if is_listed(list.as_slice(), *doc) {
+            kept.push(*doc)?;
+        }
+    }
+    Ok(kept)
+}
+
+/// Where a walk to a document begins: at a place that all before are below the document, else at the start.
+fn start_near(list: &[Doc], from: usize, doc: Doc) -> usize
+    requires ascends { IsAscending list.now }
+    requires within { from ≤ length list.now }
+    ensures { AreBelow list.now doc result }
+{
+    if from > 0 && list[from - 1] >= doc {
+        return 0;
+    }
+    from
+}
+
+/// The place of the first document that is not below a document, sought from a place on.
+fn place_near(list: &[Doc], from: usize, doc: Doc) -> usize
+    requires ascends { IsAscending list.now }
+    requires within { from ≤ length list.now }
+    ensures { IsPlaceOf list.now doc result }
+{
+    let mut place = start_near(list, from, doc);
+    while place < list.len() && list[place] < doc {
+        place += 1;
+    }
+    place
+}
+
+fn is_at(list: &[Doc], place: usize, doc: Doc) -> bool
+    requires ascends { IsAscending list.now }
+    requires place { IsPlaceOf list.now doc place }
+    ensures { result ≡ has list.now doc }
+{
+    place < list.len() && list[place] == doc
+}
+
+fn kept_walked(alloc: Global, docs: &DocList, list: &DocList) -> Result<DocList, AllocError>
+    requires { IsAscending list.now }
+    ensures { IfOk result (λ kept. kept ≡ filter (has list.now) docs.now) }
+{
+    let mut kept = DocList::new(alloc);
+    let mut place = 0;
+    for doc in docs.as_slice() {
+        place = place_near(list.as_slice(), place, *doc);
+        if is_at(list.as_slice(), place, *doc) {
+            kept.push(*doc)?;
+        }
+    }
+    Ok(kept)
+}
+
+/// Those of some documents that are in a list. A list that is much the longer is searched, another is walked along.
+fn kept_listed(alloc: Global, docs: &DocList, list: &DocList) -> Result<DocList, AllocError>
+    requires { IsAscending list.now }
+    ensures { IfOk result (λ kept. kept ≡ filter (has list.now) docs.now) }
+{
+    if list.as_slice().len() / MUCH_LONGER > docs.as_slice().len() {
+        kept_searched(alloc, docs, list)
+    } else {
+        kept_walked(alloc, docs, list)
+    }
+}
+
+fn kept_in(alloc: Global, docs: &DocList, set: &DocSet) -> Result<DocList, AllocError>
+    ensures { IfOk result (λ kept. kept ≡ filter (in_words set.now) docs.now) }
+{
+    let mut kept = DocList::new(alloc);
+    for doc in docs.as_slice() {
+        if set.contains(*doc) {
+            kept.push(*doc)?;
+        }
+    }
+    Ok(kept)
+}
+
+impl Gathered {
+    /// No documents.
+    pub fn new(alloc: Global) -> Gathered
+        ensures { (doc : ℕ) → is_gathered result doc ≡ false }
+    {
+        Gathered::Few(Vec::new(alloc))
+    }
+
+    /// The documents with those of a list.
+    pub fn with_list(self, alloc: Global, list: &[(u32, i32)]) -> Result<Gathered, AllocError>
+        requires { All (λ p. IsDocNumber p.0) list.now }
+        ensures { IfOk result (λ more. (doc : ℕ) → is_gathered more doc ≡ (is_gathered self doc || has (keys_of list.now) doc)) }
+    {
+        match self {
+            Gathered::Few(mut docs) => {
+                if docs.len() <= FEW && list.len() <= FEW {
+                    push_list(&mut docs, list)?;
+                    Ok(Gathered::Few(docs))
+                } else {
+                    let mut set = DocSet::new(alloc)?;
+                    insert_each(&mut set, docs.as_slice());
+                    insert_list(&mut set, list);
+                    Ok(Gathered::Many(set))
+                }
+            }
+            Gathered::Many(mut set) => {
+                insert_list(&mut set, list);
+                Ok(Gathered::Many(set))
+            }
+        }
+    }
+
+    /// The documents with others.
+    pub fn with_docs(self, alloc: Global, more: &[Doc]) -> Result<Gathered, AllocError>
+        ensures { IfOk result (λ all. (doc : ℕ) → is_gathered all doc ≡ (is_gathered self doc || has more.now doc)) }
+    {
+        match self {
+            Gathered::Few(mut docs) => {
+                if docs.len() <= FEW && more.len() <= FEW {
+                    docs.extend_from_slice(more)?;
+                    Ok(Gathered::Few(docs))
+                } else {
+                    let mut set = DocSet::new(alloc)?;
+                    insert_each(&mut set, docs.as_slice());
+                    insert_each(&mut set, more);
+                    Ok(Gathered::Many(set))
+                }
+            }
+            Gathered::Many(mut set) => {
+                insert_each(&mut set, more);
+                Ok(Gathered::Many(set))
+            }
+        }
+    }
+
+    /// The documents in a bit vector.
+    pub fn into_set(self, alloc: Global) -> Result<DocSet, AllocError>
+        ensures { IfOk result (λ set. (doc : ℕ) → in_words set doc ≡ is_gathered self doc) }
+    {
+        match self {
+            Gathered::Few(docs) => {
+                let mut set = DocSet::new(alloc)?;
+                insert_each(&mut set, docs.as_slice());
+                Ok(set)
+            }
+            Gathered::Many(set) => Ok(set),
+        }
+    }
+
+    /// The documents, ascending.
+    pub fn into_list(self, alloc: Global) -> Result<DocList, AllocError>
+        ensures { IfOk result (λ docs. Holds docs (is_gathered self)) }
+    {
+        match self {
+            Gathered::Few(docs) => Ok(sorted_list(docs)),
+            Gathered::Many(set) => set.to_list(alloc),
+        }
+    }
+
+    /// Those of a list's documents that were gathered.
+    pub fn kept_of(self, alloc: Global, docs: &DocList) -> Result<DocList, AllocError>
+        ensures { IfOk result (λ kept. (doc : ℕ) → has kept doc ≡ (has docs.now doc && is_gathered self doc)) }
+    {
+        match self {
+            Gathered::Few(list) => {
+                let list = sorted_list(list);
+                kept_listed(alloc, docs, &list)
+            }
+            Gathered::Many(set) => kept_in(alloc, docs, &set),
+        }
+    }
+}

@@ -1,3 +1,0 @@
-pub mod BitLemmas
-pub mod DocLemmas
-pub mod WordLemmas
