@@ -19,9 +19,9 @@ use Rattle.attr_types.specs.declared.value.Value.{Value}
 use Rattle.posting_store.specs.Changes.{MakesWithin}
 use Rattle.value_index.proofs.CountLemmas.{within_nodes}
 use Rattle.value_index.specs.Changes.{nodes_most}
-use Rattle.attr_walks.specs.Counts.{value_nodes, MakesFew, record_sum, gone_count}
-use Rattle.attr_walks.proofs.CountLemmas.{few_more, few_then, levels_few, no_node, one_of}
-use Rattle.attr_walks.proofs.LevelLemmas.{levels_low}
+use Rattle.value_index.specs.Counts.{value_nodes, MakesFew, record_sum, gone_count}
+use Rattle.value_index.proofs.WalksCountLemmas.{few_more, few_then, levels_few, no_node, one_of}
+use Rattle.value_index.proofs.LevelLemmas.{levels_low}
 use Rattle.attr_field.specs.Counts.{field_nodes, field_records, lost_values, low_nodes, new_values, entry_weight}
 
 abbrev one_if : Bool → ℕ

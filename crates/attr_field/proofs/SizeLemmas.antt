@@ -22,7 +22,7 @@ use Rattle.attr_index.proofs.StayLemmas.{some-remove}
 use Rattle.attr_index.specs.Changes.{settled, IsBetween}
 use Rattle.attr_index.specs.Columns.{Column, documents_with}
 use Rattle.attr_index.specs.Index.{Index, IsIndexOf, list_of}
-use Rattle.attr_walks.specs.Counts.{AddsLow, IsLow, RemovesLow}
+use Rattle.value_index.specs.Counts.{AddsLow, IsLow, RemovesLow}
 use Rattle.attr_field.specs.Counts.{StaysLow}
 use Rattle.attr_field.proofs.ChangeLemmas.{weights}
 

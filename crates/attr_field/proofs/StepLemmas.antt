@@ -22,7 +22,7 @@ use Rattle.attr_index.specs.Index.{Index, IsIndexOf, list_of}
 use Rattle.attr_types.specs.declared.kind.Kind.{Kind}
 use Rattle.attr_types.specs.declared.kind.ValueType.{ValueType}
 use Rattle.attr_types.specs.declared.value.Value.{Value}
-use Rattle.attr_walks.proofs.KeyLemmas.{settled_long}
+use Rattle.value_index.proofs.WalksKeyLemmas.{settled_long}
 use Rattle.value_index.specs.Changes.{KeepsKeys}
 use Rattle.value_index.specs.Flows.{FlowsIndex}
 use Rattle.value_index.specs.Indexes.{index_part, index_reach, IsIndex, IsKey}

@@ -87,7 +87,7 @@ all_weighed (item ∷ items) = (
 -- the values that were added have documents
 insert_some : (o : Option ℤ) (doc : ℕ) (docs : List (ℕ × ℤ)) → IsSome o → 0 < length (settled o None doc docs)
 insert_some None doc docs some = cc
-insert_some (Some weight) doc docs some = Rattle.attr_walks.proofs.KeyLemmas.insert_long doc weight docs
+insert_some (Some weight) doc docs some = Rattle.value_index.proofs.WalksKeyLemmas.insert_long doc weight docs
 
 pub items_listed : (start index : Index) (doc : ℕ) (added : Value → Option ℤ) (items : List Item) → ((value : Value) → added value ≡ weight_in value items)
     → IsBetween start doc added (λ v. None) index → AllByRecursion (λ (item : Item). 0 < length (list_of item.value index)) items

@@ -17,7 +17,7 @@ use Rattle.attr_types.specs.declared.items.Item.{Item}
 use Rattle.attr_types.specs.declared.kind.Kind.{Kind}
 use Rattle.attr_types.specs.declared.value.Value.{Value}
 use Rattle.value_index.specs.Changes.{IsValueWidth}
-use Rattle.attr_walks.specs.Widths.{IsWalkWidth}
+use Rattle.value_index.specs.Widths.{IsWalkWidth}
 use Rattle.attr_field.specs.Widths.{IsFieldWidth}
 use Rattle.attr_field.proofs.ChangeLemmas.{weights}
 use Rattle.attr_field.proofs.WeightLemmas.{weights_are}

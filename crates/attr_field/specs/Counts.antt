@@ -6,7 +6,7 @@ use Rattle.attr_index.specs.Columns.{Column}
 use Rattle.attr_index.specs.Index.{Index, IsIndexOf}
 use Rattle.attr_types.specs.Value.{value_cmp}
 use Rattle.attr_types.specs.declared.value.Value.{Value}
-use Rattle.attr_walks.specs.Counts.{added_count, gone_count, value_nodes}
+use Rattle.value_index.specs.Counts.{added_count, gone_count, value_nodes}
 
 -- the weight of a value among entries
 abbrev pub entry_weight : List (Value × ℤ) → Value → Option ℤ

@@ -13,7 +13,7 @@ ghost use Rattle.attr_images.specs.Documents.{column_at};
 ghost use Rattle.attr_index.specs.Changes.{first_weights};
 ghost use Rattle.attr_index.specs.Columns.{items_of, with_change};
 ghost use Rattle.attr_types.specs.Lawful.{ItemsFit};
-ghost use Rattle.attr_walks.specs.Counts.{MakesFew};
+ghost use Rattle.value_index.specs.Counts.{MakesFew};
 
 use crate::comparing::has_already;
 use crate::roots::FieldRoots;

@@ -18,18 +18,17 @@ ghost use Rattle.attr_index.specs.Index.{Index, IsIndexOf, list_of};
 ghost use Rattle.attr_types.specs.Lawful.{ItemsFit};
 ghost use Rattle.attr_types.specs.Value.{value_cmp, AreOfType};
 ghost use Rattle.attr_types.specs.declared.value.Value.{Value as OneValue};
-ghost use Rattle.attr_walks.specs.Counts.{added_count, gone_count, value_nodes, AddsLow, MakesFew, RemovesLow};
-ghost use Rattle.attr_walks.specs.Widths.{IsWalkWidth};
+ghost use Rattle.value_index.specs.Counts.{added_count, gone_count, value_nodes, AddsLow, MakesFew, RemovesLow};
+ghost use Rattle.value_index.specs.Widths.{IsWalkWidth};
 
 use crate::keys::keys_of;
 use attr_documents::{documents_law, remove_document, set_document};
 use attr_types::{Doc, Item, Kind, Value, ValueType};
-use attr_walks::{add_all, remove_all};
+use value_index::{add_all, index_law, key_law, remove_all};
 use entry_ref::EntryRef;
 use std::alloc::Global;
 use std::collections::BTreeMap;
 use store_api::{Store, StoreError};
-use value_index::{index_law, key_law};
 
 /// Puts the document into the lists of its new values. The answer is the root of the new index.
 #[tactic(none)]

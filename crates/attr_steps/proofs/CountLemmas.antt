@@ -17,8 +17,8 @@ use Rattle.attr_types.specs.Table.{Table}
 use Rattle.attr_types.specs.Value.{Document}
 use Rattle.attr_types.specs.declared.items.Item.{Item}
 use Rattle.attr_types.specs.declared.value.Value.{Value}
-use Rattle.attr_walks.specs.Counts.{MakesFew}
-use Rattle.attr_walks.proofs.CountLemmas.{few_more, few_none, few_then}
+use Rattle.value_index.specs.Counts.{MakesFew}
+use Rattle.value_index.proofs.WalksCountLemmas.{few_more, few_none, few_then}
 use Rattle.posting_store.specs.Changes.{MakesWithin}
 use Rattle.attr_steps.specs.Counts.{document_nodes, document_records, items_if_there, low_document, of_width, weights_at, MakesDocument, SparesAtMost}
 

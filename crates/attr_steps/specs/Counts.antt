@@ -14,7 +14,7 @@ use Rattle.attr_types.specs.declared.field.Field.{Field}
 use Rattle.attr_types.specs.declared.items.Item.{Item}
 use Rattle.attr_types.specs.declared.op.Op.{Op}
 use Rattle.attr_types.specs.declared.value.Value.{Value}
-use Rattle.attr_walks.specs.Counts.{MakesFew}
+use Rattle.value_index.specs.Counts.{MakesFew}
 
 -- the items that a document has in the attribute of this number, none where it is not there; and their values, with first weights
 abbrev pub items_if_there : Option Document → ℕ → List Item

@@ -17,7 +17,7 @@ ghost use Rattle.attr_index.specs.Columns.{items_of as items_had, with_change};
 ghost use Rattle.attr_types.specs.Lawful.{IsDocNumber, ItemsFit};
 ghost use Rattle.attr_types.specs.Query.{items_in};
 ghost use Rattle.attr_types.specs.Table.{document_at};
-ghost use Rattle.attr_walks.specs.Counts.{MakesFew};
+ghost use Rattle.value_index.specs.Counts.{MakesFew};
 ghost use Rattle.attr_steps.specs.Counts.{MakesDocument};
 ghost use Rattle.attr_steps.specs.Fields.{AreFields, ChangesFields, FitsFields, OwnsFields, table_with, trees_of};
 ghost use Rattle.attr_steps.specs.Views.{table_at};

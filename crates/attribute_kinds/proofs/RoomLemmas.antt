@@ -20,7 +20,7 @@ use Rattle.attr_types.specs.declared.field.Field.{Field}
 use Rattle.attr_types.specs.declared.items.Item.{Item}
 use Rattle.attr_types.specs.declared.op.Op.{Op}
 use Rattle.attr_types.specs.declared.value.Value.{Value}
-use Rattle.attr_walks.specs.Counts.{MakesFew, is_added, is_gone}
+use Rattle.value_index.specs.Counts.{MakesFew, is_added, is_gone}
 use Rattle.attr_steps.specs.Calls.{KeepsStore, RefusesUnit}
 use Rattle.attr_steps.specs.Counts.{document_after, document_before, document_nodes, document_records, items_if_there, of_width}
 use Rattle.attr_steps.specs.Counts.{operation_nodes, operation_records, weights_at}

@@ -23,7 +23,7 @@ use Rattle.tree_read.specs.declared.node_format.TheConstants.{NODE_WORDS}
 use Rattle.index_moves.specs.Moves.{IsKeyIn}
 use Rattle.attr_documents.specs.Documents.{documents_refer}
 use Rattle.attr_images.specs.Documents.{column_at}
-use Rattle.attr_walks.specs.Counts.{MakesFew}
+use Rattle.value_index.specs.Counts.{MakesFew}
 use Rattle.attr_field.specs.Fields.{field_part, IsField}
 use Rattle.attr_cleared.specs.Cleared.{IsCleared, IsClearedField}
 use Rattle.cleared_steps.specs.StepsLaws.{OthersStayCleared, StayLeavesCleared}

@@ -14,8 +14,8 @@ use Rattle.attr_images.specs.Values.{value_words}
 use Rattle.attr_images.specs.Words.{class_of}
 use Rattle.attr_types.specs.declared.value.Value.{Value}
 use Rattle.enum_dictionary.specs.Dictionaries.{beside_value}
-use Rattle.attr_walks.specs.Counts.{MakesFew, record_sum}
-use Rattle.attr_walks.proofs.CountLemmas.{levels_few, no_node, one_of, form_few}
+use Rattle.value_index.specs.Counts.{MakesFew, record_sum}
+use Rattle.value_index.proofs.WalksCountLemmas.{levels_few, no_node, one_of, form_few}
 use Rattle.index_moves.specs.Moves.{key_most, move_most}
 use Rattle.posting_store.specs.Changes.{MakesWithin}
 use Rattle.value_index.proofs.CountLemmas.{within_nodes}

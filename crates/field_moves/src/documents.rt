@@ -5,7 +5,7 @@ ghost use Rattle.store_api.specs.Calls.{IsUsedWidth, RefusesOf};
 ghost use Rattle.store_api.specs.Units.{MayDo};
 ghost use Rattle.attr_compaction.specs.declared.plan.TheConstants.{DOCUMENTS, NODES};
 ghost use Rattle.attr_compaction.specs.declared.plan.PlanKey.TheVariants as keys;
-ghost use Rattle.attr_walks.specs.Counts.{MakesFew};
+ghost use Rattle.value_index.specs.Counts.{MakesFew};
 ghost use Rattle.field_moves.specs.Steps.{CanMove, Moved};
 
 use attr_cleared::{can_law, items_law, keys_law, leaves_law, map_law};

@@ -6,7 +6,7 @@ ghost use Rattle.attr_cleared.specs.Cleared.{trees_of_roots, IsClearedField};
 ghost use Rattle.attr_compaction.specs.declared.plan.TheConstants.{PHASES};
 ghost use Rattle.attr_compaction.specs.declared.plan.PlanKey.TheVariants as keys;
 ghost use Rattle.attr_field.specs.Fields.{field_part, IsField, RefersBeside};
-ghost use Rattle.attr_walks.specs.Counts.{MakesFew};
+ghost use Rattle.value_index.specs.Counts.{MakesFew};
 ghost use Rattle.field_moves.specs.Moves.{HasBegun, MovesField};
 ghost use Rattle.field_moves.specs.Steps.{CanMove, Moved};
 ghost use Rattle.plan_keys.specs.PhaseKeys.{key_past, phase_keys};

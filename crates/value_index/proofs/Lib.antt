@@ -9,3 +9,9 @@ pub mod OpenFlows
 pub mod ChangeLemmas
 pub mod StepLemmas
 pub mod CountLemmas
+pub mod WalksKeyLemmas
+pub mod WalksCountLemmas
+pub mod AddLemmas
+pub mod RemoveLemmas
+pub mod LevelLemmas
+pub mod WidthLemmas

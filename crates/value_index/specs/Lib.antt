@@ -3,3 +3,6 @@ pub mod Indexes
 pub mod Flows
 pub mod Changes
 pub mod Laws
+pub mod Counts
+pub mod Walks
+pub mod Widths

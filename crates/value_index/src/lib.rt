@@ -1,12 +1,19 @@
 //! An index in a store: a map from each value to the documents that have it, with their weights.
+//!
+//! The index of an attribute in a store, while the items of one document change: it is added to the lists of its new
+//! values, and taken out of the lists of its old ones.
 #![tactic(auto)]
 
 mod adding;
 mod finding;
 mod laws;
 mod removing;
+mod walks_adding;
+mod walks_removing;
 
 pub use adding::add;
 pub use finding::key;
 pub use laws::{index_law, key_law};
 pub use removing::remove;
+pub use walks_adding::add_all;
+pub use walks_removing::remove_all;

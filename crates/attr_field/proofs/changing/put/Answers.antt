@@ -10,8 +10,8 @@ use Rattle.attr_types.specs.declared.value.Value.{Value}
 use Rattle.store_api.specs.Calls.{RefusesOf}
 use Rattle.attr_types.specs.declared.items.Item.{Item}
 use Rattle.attr_field.specs.Widths.{IsFieldWidth}
-use Rattle.attr_walks.specs.Counts.{MakesFew}
-use Rattle.attr_walks.proofs.CountLemmas.{few_none}
+use Rattle.value_index.specs.Counts.{MakesFew}
+use Rattle.value_index.proofs.WalksCountLemmas.{few_none}
 use Rattle.attr_field.specs.Changes.{MakesField}
 use Rattle.attr_field.specs.Counts.{field_nodes, field_records, low_nodes, StaysLow}
 use Rattle.attr_field.specs.Fields.{field_part, IsField, RefersBeside}

@@ -8,8 +8,8 @@ use Rattle.attr_types.specs.declared.items.Item.{Item}
 use Rattle.attr_field.specs.Widths.{IsFieldWidth}
 use Rattle.attr_index.specs.Changes.{first_weights}
 use Rattle.attr_types.specs.declared.value.Value.{Value}
-use Rattle.attr_walks.specs.Counts.{MakesFew}
-use Rattle.attr_walks.proofs.CountLemmas.{few_none}
+use Rattle.value_index.specs.Counts.{MakesFew}
+use Rattle.value_index.proofs.WalksCountLemmas.{few_none}
 use Rattle.attr_field.specs.Counts.{field_nodes, field_records, low_nodes}
 use Rattle.attr_field.proofs.changing.remove.Goals as goal
 

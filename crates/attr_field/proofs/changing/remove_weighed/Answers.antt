@@ -7,7 +7,7 @@ use Rattle.attr_index.specs.Changes.{IsBetween}
 use Rattle.attr_index.specs.Columns.{Column, items_of, with_change}
 use Rattle.attr_index.specs.Index.{Index, IsIndexOf}
 use Rattle.attr_types.specs.declared.value.Value.{Value}
-use Rattle.attr_walks.specs.Widths.{IsWalkWidth}
+use Rattle.value_index.specs.Widths.{IsWalkWidth}
 use Rattle.posting_store.proofs.RefusalLemmas.{of_more, of_one}
 use Rattle.attr_field.specs.Widths.{IsFieldWidth}
 use Rattle.attr_field.proofs.WidthLemmas.{removed_width}

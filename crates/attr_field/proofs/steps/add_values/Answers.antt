@@ -4,7 +4,7 @@ use Rattle.attr_images.specs.Documents.{column_at}
 use Rattle.attr_images.specs.Postings.{index_of}
 use Rattle.attr_index.specs.Changes.{IsBetween}
 use Rattle.attr_types.specs.Value.{value_cmp}
-use Rattle.attr_walks.specs.Walks.{WalksIndex}
+use Rattle.value_index.specs.Walks.{WalksIndex}
 use Rattle.attr_field.specs.Steps.{StepsField}
 use Rattle.attr_field.proofs.RefLemmas.{owns_index, if_ok}
 use Rattle.attr_field.proofs.StepLemmas.{index_steps, added_listed}

@@ -9,11 +9,11 @@ use Rattle.attr_images.specs.Documents.{column_at}
 use Rattle.attr_images.specs.Postings.{index_of}
 use Rattle.attr_index.specs.Columns.{with_change}
 use Rattle.store_api.specs.Calls.{RefusesOf}
-use Rattle.attr_walks.specs.Counts.{MakesFew}
+use Rattle.value_index.specs.Counts.{MakesFew}
 use Rattle.frozen_btree.specs.Changes.{levels as levels_of}
 use Rattle.value_index.specs.Indexes.{IsKey}
 use Rattle.attr_field.specs.Steps.{StepsField}
-use Rattle.attr_walks.proofs.CountLemmas.{few_none}
+use Rattle.value_index.proofs.WalksCountLemmas.{few_none}
 use Rattle.attr_field.proofs.CountLemmas.{documents_low, few_entry, low_entry}
 use Rattle.attr_field.proofs.RefLemmas.{owns_documents, if_ok}
 use Rattle.attr_field.proofs.StepLemmas.{documents_steps, documents_index_same, refer_beside, keys_beside}

@@ -4,7 +4,7 @@ use Rattle.attr_cleared.specs.Cleared.{trees_of_roots}
 use Rattle.attr_field.proofs.CountLemmas.{few_entry}
 use Rattle.attr_images.specs.Documents.{column_at}
 use Rattle.attr_index.specs.Columns.{items_of}
-use Rattle.attr_walks.proofs.CountLemmas.{few_more}
+use Rattle.value_index.proofs.WalksCountLemmas.{few_more}
 use Rattle.document_moves.specs.Moves.{CanMoveItems, MovesItems}
 use Rattle.field_moves.proofs.MoveLemmas.{items_can, items_done}
 use Rattle.field_moves.proofs.documents.move_document_items.Goals as goal

@@ -21,8 +21,8 @@ use Rattle.value_index.specs.Flows.{FlowsIndex}
 use Rattle.value_index.specs.Indexes.{index_part, IsIndex}
 use Rattle.value_index.specs.Laws.{KeyIsRead}
 use Rattle.value_index.proofs.IndexFlows.{flows_same, flows_then}
-use Rattle.attr_walks.specs.Walks.{WalksIndex}
-use Rattle.attr_walks.proofs.KeyLemmas.{typed_at, keeps_same, keeps_then, settled_long}
+use Rattle.value_index.specs.Walks.{WalksIndex}
+use Rattle.value_index.proofs.WalksKeyLemmas.{typed_at, keeps_same, keeps_then, settled_long}
 
 -- the entries before the rest are added
 pub record AddsSoFar {H : Type 0} (type : ValueType) (begun now : Ledger H) (k m : Records) (first root doc : ℕ) (entries rest : List (Value × ℤ)) : Type 0 where

@@ -10,14 +10,14 @@ use Rattle.attr_types.specs.Value.{type_of, value_cmp}
 use Rattle.attr_types.specs.declared.kind.ValueType.{ValueType}
 use Rattle.value_index.specs.Changes.{IsChangeWidth, MakesIndex}
 use Rattle.value_index.specs.Indexes.{IsIndex}
-use Rattle.attr_walks.specs.Counts.{is_gone, value_nodes, IsLow}
-use Rattle.attr_walks.proofs.CountLemmas.{few_gone, low_gone, gone_grows, gone_records, counts_begin, counts_put, counts_pass, counts_end}
-use Rattle.attr_walks.proofs.RemoveLemmas.{removes_begin, removes_typed, removes_there, removes_take, removes_stay, removes_end, IsThere}
-use Rattle.attr_walks.proofs.LevelLemmas.{dictionary_low, list_low}
-use Rattle.attr_walks.proofs.WidthLemmas.{take_width}
-use Rattle.attr_walks.specs.Widths.{IsWalkWidth}
+use Rattle.value_index.specs.Counts.{is_gone, value_nodes, IsLow}
+use Rattle.value_index.proofs.WalksCountLemmas.{few_gone, low_gone, gone_grows, gone_records, counts_begin, counts_put, counts_pass, counts_end}
+use Rattle.value_index.proofs.RemoveLemmas.{removes_begin, removes_typed, removes_there, removes_take, removes_stay, removes_end, IsThere}
+use Rattle.value_index.proofs.LevelLemmas.{dictionary_low, list_low}
+use Rattle.value_index.proofs.WidthLemmas.{take_width}
+use Rattle.value_index.specs.Widths.{IsWalkWidth}
 use Rattle.posting_store.proofs.RefusalLemmas.{of_more}
-use Rattle.attr_walks.proofs.removing.remove_all.Goals as goal
+use Rattle.value_index.proofs.walks_removing.remove_all.Goals as goal
 
 pub loop-value-init : goal.loop-value-init
 loop-value-init g c =

@@ -11,14 +11,14 @@ use Rattle.attr_types.specs.Value.{type_of, value_cmp}
 use Rattle.attr_types.specs.declared.kind.ValueType.{ValueType}
 use Rattle.value_index.specs.Changes.{IsChangeWidth, MakesIndex}
 use Rattle.value_index.specs.Indexes.{IsIndex}
-use Rattle.attr_walks.proofs.AddLemmas.{adds_begin, adds_typed, adds_put, adds_same, adds_end}
-use Rattle.attr_walks.specs.Counts.{is_added, value_nodes, IsLow}
-use Rattle.attr_walks.proofs.CountLemmas.{few_added, low_added, added_grows, added_records, counts_begin, counts_put, counts_pass, counts_end}
-use Rattle.attr_walks.proofs.LevelLemmas.{dictionary_low, list_low}
-use Rattle.attr_walks.proofs.WidthLemmas.{put_width}
-use Rattle.attr_walks.specs.Widths.{IsWalkWidth}
+use Rattle.value_index.proofs.AddLemmas.{adds_begin, adds_typed, adds_put, adds_same, adds_end}
+use Rattle.value_index.specs.Counts.{is_added, value_nodes, IsLow}
+use Rattle.value_index.proofs.WalksCountLemmas.{few_added, low_added, added_grows, added_records, counts_begin, counts_put, counts_pass, counts_end}
+use Rattle.value_index.proofs.LevelLemmas.{dictionary_low, list_low}
+use Rattle.value_index.proofs.WidthLemmas.{put_width}
+use Rattle.value_index.specs.Widths.{IsWalkWidth}
 use Rattle.posting_store.proofs.RefusalLemmas.{of_more}
-use Rattle.attr_walks.proofs.adding.add_all.Goals as goal
+use Rattle.value_index.proofs.walks_adding.add_all.Goals as goal
 
 pub loop-value-init : goal.loop-value-init
 loop-value-init g c =

@@ -13,7 +13,7 @@ use Rattle.attr_types.specs.ProofsForOrder.{value_cmp_total}
 use Rattle.attr_types.specs.Value.{value_cmp}
 use Rattle.attr_types.specs.declared.value.Value.{Value}
 use Rattle.value_index.specs.Changes.{IsChangeWidth, IsValueWidth}
-use Rattle.attr_walks.specs.Widths.{IsWalkWidth}
+use Rattle.value_index.specs.Widths.{IsWalkWidth}
 
 -- an entry at its place, and none of its value before it
 at_here : (P : Value × ℤ → Type 0) (done more : List (Value × ℤ)) (e : Value × ℤ) → AllByRecursion P (done ++ e ∷ more) → P e

@@ -2,10 +2,10 @@ use Rattle.std.specs.Prelude.{ℕ}
 use Rattle.std.specs.BTreeMap.{get}
 use Rattle.attr_images.specs.Postings.{index_of}
 use Rattle.attr_types.specs.Value.{value_cmp}
-use Rattle.attr_walks.specs.Counts.{is_added, value_nodes, AddsLow}
-use Rattle.attr_walks.proofs.AddLemmas.{AddsSoFar}
-use Rattle.attr_walks.proofs.CountLemmas.{CountsSoFar, added_records}
-use Rattle.attr_walks.proofs.adding.add_all.Given as goal
+use Rattle.value_index.specs.Counts.{is_added, value_nodes, AddsLow}
+use Rattle.value_index.proofs.AddLemmas.{AddsSoFar}
+use Rattle.value_index.proofs.WalksCountLemmas.{CountsSoFar, added_records}
+use Rattle.value_index.proofs.walks_adding.add_all.Given as goal
 
 -- the entries so far are added, and what that made is counted
 abbrev pub invariant-loop-value : goal.invariant-loop-value

@@ -2,10 +2,10 @@ use Rattle.std.specs.Prelude.{ℕ}
 use Rattle.std.specs.BTreeMap.{get}
 use Rattle.attr_images.specs.Postings.{index_of}
 use Rattle.attr_types.specs.Value.{value_cmp}
-use Rattle.attr_walks.specs.Counts.{is_gone, value_nodes, RemovesLow}
-use Rattle.attr_walks.proofs.CountLemmas.{CountsSoFar, gone_records}
-use Rattle.attr_walks.proofs.RemoveLemmas.{RemovesSoFar}
-use Rattle.attr_walks.proofs.removing.remove_all.Given as goal
+use Rattle.value_index.specs.Counts.{is_gone, value_nodes, RemovesLow}
+use Rattle.value_index.proofs.WalksCountLemmas.{CountsSoFar, gone_records}
+use Rattle.value_index.proofs.RemoveLemmas.{RemovesSoFar}
+use Rattle.value_index.proofs.walks_removing.remove_all.Given as goal
 
 -- the entries so far are taken out, and what that made is counted
 abbrev pub invariant-loop-value : goal.invariant-loop-value

@@ -21,8 +21,8 @@ use Rattle.value_index.specs.Changes.{KeepsKeys, MakesIndex}
 use Rattle.value_index.specs.Flows.{FlowsIndex}
 use Rattle.value_index.specs.Indexes.{index_part, IsIndex}
 use Rattle.value_index.proofs.IndexFlows.{flows_same, flows_then}
-use Rattle.attr_walks.specs.Walks.{WalksIndex}
-use Rattle.attr_walks.proofs.KeyLemmas.{typed_at, keeps_same, keeps_then, without_long}
+use Rattle.value_index.specs.Walks.{WalksIndex}
+use Rattle.value_index.proofs.WalksKeyLemmas.{typed_at, keeps_same, keeps_then, without_long}
 
 -- the entries before the rest are taken out, where they have no new weight
 pub record RemovesSoFar {H : Type 0} (type : ValueType) (begun now : Ledger H) (k m : Records) (first root doc : ℕ) (added : Value → Option ℤ)

@@ -23,7 +23,7 @@ use Rattle.posting_store.specs.Lists.{form_levels}
 use Rattle.value_index.specs.Changes.{add_most, change_most, value_levels}
 use Rattle.value_index.specs.Indexes.{key_at}
 use Rattle.value_index.proofs.CountLemmas.{within_none, within_then}
-use Rattle.attr_walks.specs.Counts.{value_nodes, MakesFew, record_sum}
+use Rattle.value_index.specs.Counts.{value_nodes, MakesFew, record_sum}
 
 -- ---- few records, by nodes and others
 pub few_more : {H : Type 0} (a b : Ledger H) (nodes records more most : ℕ) → nodes ≤ more → records ≤ most → MakesFew a b nodes records → MakesFew a b more most

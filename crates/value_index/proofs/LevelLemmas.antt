@@ -23,7 +23,7 @@ use Rattle.posting_store.proofs.FormLemmas.{form_even, form_odd}
 use Rattle.value_index.specs.Changes.{value_levels}
 use Rattle.value_index.specs.Indexes.{IsIndex}
 use Rattle.value_index.proofs.KeyLemmas.{list_found, pair_found}
-use Rattle.attr_walks.specs.Counts.{IsLow}
+use Rattle.value_index.specs.Counts.{IsLow}
 
 -- a tree of more levels has more pairs
 pub levels_low : (m : Records) (root most : ℕ) → (0 < root → IsRootNode m root) → 0 < most → length (tree_pairs m root) < 2 * 8 ^ most → levels m root ≤ most

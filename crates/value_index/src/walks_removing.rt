@@ -11,15 +11,15 @@ ghost use Rattle.attr_index.specs.Index.{list_of};
 ghost use Rattle.attr_types.specs.Value.{value_cmp, AreOfType};
 ghost use Rattle.attr_types.specs.declared.value.Value.{Value as OneValue};
 ghost use Rattle.value_index.specs.Indexes.{index_part, IsIndex};
-ghost use Rattle.attr_walks.specs.Counts.{gone_count, value_nodes, MakesFew, RemovesLow};
-ghost use Rattle.attr_walks.specs.Walks.{WalksIndex};
-ghost use Rattle.attr_walks.specs.Widths.{IsWalkWidth};
+ghost use Rattle.value_index.specs.Counts.{gone_count, value_nodes, MakesFew, RemovesLow};
+ghost use Rattle.value_index.specs.Walks.{WalksIndex};
+ghost use Rattle.value_index.specs.Widths.{IsWalkWidth};
 
 use attr_types::{Doc, Value, ValueType};
 use entry_ref::EntryRef;
 use std::collections::BTreeMap;
 use store_api::{Store, StoreError};
-use value_index::{index_law, remove};
+use crate::{index_law, remove};
 
 /// Takes a document out of the lists of its old values that the new ones lack. The answer is the root of the new index.
 #[tactic(none)]

@@ -11,15 +11,15 @@ ghost use Rattle.attr_index.specs.Index.{list_of};
 ghost use Rattle.attr_types.specs.Value.{value_cmp, AreOfType};
 ghost use Rattle.attr_types.specs.declared.value.Value.{Value as OneValue};
 ghost use Rattle.value_index.specs.Indexes.{index_part, IsIndex};
-ghost use Rattle.attr_walks.specs.Counts.{added_count, value_nodes, AddsLow, MakesFew};
-ghost use Rattle.attr_walks.specs.Walks.{WalksIndex};
-ghost use Rattle.attr_walks.specs.Widths.{IsWalkWidth};
+ghost use Rattle.value_index.specs.Counts.{added_count, value_nodes, AddsLow, MakesFew};
+ghost use Rattle.value_index.specs.Walks.{WalksIndex};
+ghost use Rattle.value_index.specs.Widths.{IsWalkWidth};
 
 use attr_types::{Doc, Value, ValueType};
 use entry_ref::EntryRef;
 use std::collections::BTreeMap;
 use store_api::{Store, StoreError};
-use value_index::{add, index_law, key_law};
+use crate::{add, index_law, key_law};
 
 /// Whether a value has this weight.
 fn has_weight(weights: &BTreeMap<Value, i32>, value: &Value, weight: i32) -> bool
