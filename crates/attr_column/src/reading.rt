@@ -7,7 +7,7 @@ ghost use Rattle.attr_images.specs.Documents.{column_at};
 ghost use Rattle.attr_index.specs.Columns.{column_of};
 ghost use Rattle.attr_types.specs.declared.items.Item.{Item};
 
-use attr_documents::items as read_items;
+use attr_documents::document_items as read_items;
 use attr_types::{Doc, FieldItems, Kind, ValueType};
 use entry_ref::EntryRef;
 use arena_api::Frozen;

@@ -8,7 +8,7 @@ mod reading;
 
 pub use changing::{remove_document, set_document};
 pub use laws::documents_law;
-pub use reading::items;
+pub use reading::document_items;
 
 /// What a reference is multiplied by in a word of a weighted set, whose low part is the weight.
-const WEIGHT_BASE: u64 = 4_294_967_296;
+pub const WEIGHT_BASE: u64 = 4_294_967_296;

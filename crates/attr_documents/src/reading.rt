@@ -120,7 +120,7 @@ fn read_items<const OFFSET_BITS: u32, F: Frozen<OFFSET_BITS>>(
 }
 
 /// The items of a document. There is no answer where it is not there.
-pub fn items<const OFFSET_BITS: u32, F: Frozen<OFFSET_BITS>>(
+pub fn document_items<const OFFSET_BITS: u32, F: Frozen<OFFSET_BITS>>(
     alloc: Global,
     frozen: &mut F,
     kind: Kind,

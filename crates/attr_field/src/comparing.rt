@@ -7,7 +7,7 @@ ghost use Rattle.attr_documents.specs.Documents.{IsDocuments};
 ghost use Rattle.attr_images.specs.Documents.{column_at};
 ghost use Rattle.attr_index.specs.Columns.{items_of};
 
-use attr_documents::items;
+use attr_documents::document_items;
 use attr_types::{Doc, Item, Kind, Value, ValueType};
 use entry_ref::EntryRef;
 use arena_api::Frozen;
@@ -68,7 +68,7 @@ fn is_there<const OFFSET_BITS: u32, F: Frozen<OFFSET_BITS>>(
         ≡ is_some (lookup (is_at (nat_cmp doc)) (column_at kind value_type (F.records frozen.old) root.entry))) }
     ensures same { frozen.new ≡ frozen.old }
 {
-    Ok(items(alloc, frozen, kind, value_type, root, doc)?.is_some())
+    Ok(document_items(alloc, frozen, kind, value_type, root, doc)?.is_some())
 }
 
 /// Whether a document has these items already, where it has those before, if it is there.

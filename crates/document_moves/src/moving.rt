@@ -14,7 +14,7 @@ ghost use Rattle.document_moves.specs.Moves.{AreItemsApart, CanMoveItems, MovesI
 
 use crate::keys::keys_of;
 use crate::lying::document_lies;
-use attr_documents::{items as read_items, set_document};
+use attr_documents::{document_items as read_items, set_document};
 use attr_types::{Doc, Item, Kind, ValueType};
 use entry_ref::EntryRef;
 use std::alloc::Global;

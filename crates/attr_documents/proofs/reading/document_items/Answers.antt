@@ -1,7 +1,7 @@
 use Rattle.std.proofs.Common.{None, Some, sym, ap, subst, ◌∙◌, arith}
 use Rattle.attr_images.specs.Documents.{items_at, AreItemRecords}
 use Rattle.attr_documents.proofs.ReadLemmas.{found_records, found_items}
-use Rattle.attr_documents.proofs.reading.items.Goals as goal
+use Rattle.attr_documents.proofs.reading.document_items.Goals as goal
 
 pub read_items-requires : goal.read_items-requires
 read_items-requires g c =
