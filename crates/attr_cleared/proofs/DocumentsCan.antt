@@ -6,8 +6,8 @@ use Rattle.entry_ref.specs.Records.{Records}
 use Rattle.store_api.specs.Ledgers.{Ledger}
 use Rattle.store_api.specs.Parts.{Owns}
 use Rattle.tree_read.specs.Trees.{tree_pairs}
-use Rattle.attr_documents.specs.Documents.{documents_part}
-use Rattle.attr_documents.specs.Laws.{DocumentsHaveValues}
+use Rattle.attr_field.specs.Documents.{documents_part}
+use Rattle.attr_field.specs.DocumentsLaws.{DocumentsHaveValues}
 use Rattle.attr_images.specs.Postings.{index_of}
 use Rattle.attr_images.specs.Tables.{AttributeTrees}
 use Rattle.attr_images.specs.Values.{stored_value}

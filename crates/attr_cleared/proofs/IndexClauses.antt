@@ -17,7 +17,7 @@ use Rattle.attr_compaction.specs.Places.{PlanPlace}
 use Rattle.attr_compaction.specs.declared.plan.PlanKey.{PlanKey}
 use Rattle.attr_compaction.specs.declared.plan.PlanKey.TheVariants as plan
 use Rattle.attr_compaction.specs.declared.plan.TheConstants.{DOCUMENTS, LISTS}
-use Rattle.attr_documents.specs.Documents.{documents_own, items_own, items_refer}
+use Rattle.attr_field.specs.Documents.{documents_own, items_own, items_refer}
 use Rattle.attr_images.specs.Postings.{ListForm, short, tree, vector, dictionary_reach, list_form, postings_reach, IsPostingList}
 use Rattle.attr_images.specs.Values.{stored_value}
 use Rattle.attr_types.specs.declared.kind.Kind.{Kind}

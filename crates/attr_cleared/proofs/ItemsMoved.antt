@@ -15,7 +15,7 @@ use Rattle.tree_read.specs.Trees.{tree_pairs}
 use Rattle.doc_vector.specs.Documents.{beside_document}
 use Rattle.attr_images.specs.Tables.{AttributeTrees}
 use Rattle.attr_images.specs.Values.{stored_value}
-use Rattle.attr_documents.specs.Documents.{items_own}
+use Rattle.attr_field.specs.Documents.{items_own}
 use Rattle.value_index.specs.Indexes.{index_reach}
 use Rattle.attr_compaction.specs.Places.{doc_in, key_cmp, PlanPlace}
 use Rattle.attr_compaction.specs.declared.plan.PlanKey.{PlanKey}

@@ -22,8 +22,8 @@ use Rattle.doc_vector.specs.Documents.{beside_document}
 use Rattle.attr_images.specs.Tables.{AttributeTrees}
 use Rattle.attr_images.specs.Values.{stored_value}
 use Rattle.attr_types.specs.declared.value.Value.{Value as AnyValue}
-use Rattle.attr_documents.specs.Changes.{pairs_own}
-use Rattle.attr_documents.specs.Documents.{documents_part, items_own}
+use Rattle.attr_field.specs.DocumentsChanges.{pairs_own}
+use Rattle.attr_field.specs.Documents.{documents_part, items_own}
 use Rattle.value_index.specs.Indexes.{index_reach}
 use Rattle.attr_compaction.specs.Places.{doc_in, key_cmp, rank_of, PlanPlace}
 use Rattle.attr_compaction.specs.declared.plan.PlanKey.{PlanKey}

@@ -21,7 +21,7 @@ use Rattle.attr_compaction.specs.Places.{key_cmp, value_in, PlanPlace}
 use Rattle.attr_compaction.specs.declared.plan.PlanKey.{PlanKey}
 use Rattle.attr_compaction.specs.declared.plan.PlanKey.TheVariants as plan
 use Rattle.attr_compaction.specs.declared.plan.TheConstants.{DOCUMENTS, KEYS, LISTS, NODES}
-use Rattle.attr_documents.specs.Documents.{documents_own}
+use Rattle.attr_field.specs.Documents.{documents_own}
 use Rattle.attr_images.specs.Postings.{list_form}
 use Rattle.attr_images.specs.Tables.{AttributeTrees}
 use Rattle.attr_images.specs.Values.{stored_value, value_of}

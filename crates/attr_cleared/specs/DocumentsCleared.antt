@@ -6,8 +6,8 @@ use Rattle.store_api.specs.Ledgers.{Ledger}
 use Rattle.store_api.specs.Parts.{Owns}
 use Rattle.store_api.specs.Statuses.{in_use}
 use Rattle.attr_images.specs.Tables.{AttributeTrees}
-use Rattle.attr_documents.specs.Changes.{AreBeside}
-use Rattle.attr_documents.specs.Documents.{documents_part, documents_refer, IsDocuments}
+use Rattle.attr_field.specs.DocumentsChanges.{AreBeside}
+use Rattle.attr_field.specs.Documents.{documents_part, documents_refer, IsDocuments}
 use Rattle.value_index.specs.Indexes.{index_reach, IsIndex}
 use Rattle.attr_compaction.specs.Places.{PlanPlace}
 use Rattle.attr_compaction.specs.declared.plan.PlanKey.{PlanKey}

@@ -7,7 +7,7 @@ use Rattle.attr_cleared.specs.Cleared.{IsClearedField}
 use Rattle.attr_compaction.specs.Places.{PlanPlace}
 use Rattle.attr_compaction.specs.declared.plan.PlanKey.TheVariants as plan
 use Rattle.attr_compaction.specs.declared.plan.TheConstants.{KEYS, LISTS, NODES}
-use Rattle.attr_documents.specs.Documents.{documents_own}
+use Rattle.attr_field.specs.Documents.{documents_own}
 use Rattle.attr_images.specs.Documents.{column_at}
 use Rattle.attr_images.specs.Postings.{index_of}
 use Rattle.attr_images.specs.Tables.{AttributeTrees}

@@ -1,7 +1,7 @@
 //! Laws of the two moves of documents. The functions do nothing: their contracts are the laws.
 ghost use Rattle.attr_cleared.specs.DocumentsCleared.{ItemsAreCleared, ItemsCanMove, MapIsCleared, NodesCanMove};
 
-use attr_documents::documents_law;
+use attr_field::documents_law;
 use store_api::Store;
 use value_index::key_law;
 

@@ -6,7 +6,7 @@ use Rattle.std.specs.Map.{keys_of}
 use Rattle.entry_ref.specs.Records.{Records}
 use Rattle.tree_read.specs.Trees.{tree_pairs}
 use Rattle.doc_vector.specs.Documents.{IsDocumentPair}
-use Rattle.attr_documents.specs.Documents.{IsDocuments, AreItemsAt}
+use Rattle.attr_field.specs.Documents.{IsDocuments, AreItemsAt}
 use Rattle.attr_images.specs.Attributes.{IsLawfulAttribute}
 use Rattle.attr_images.specs.Documents.{AreItemRecords}
 use Rattle.attr_images.specs.Images.{documents_at, IsLawfulImage}

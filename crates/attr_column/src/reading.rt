@@ -2,12 +2,12 @@ ghost use Rattle.std.specs.Prelude.{◌≡◌, ◌∷◌, [], List, Some, IfOk, 
 ghost use Rattle.std.specs.BTreeMap.{insert_entry, is_at};
 ghost use Rattle.std.specs.Map.{lookup};
 ghost use Rattle.std.specs.Ordering.{nat_cmp};
-ghost use Rattle.attr_documents.specs.Documents.{IsDocuments};
+ghost use Rattle.attr_field.specs.Documents.{IsDocuments};
 ghost use Rattle.attr_images.specs.Documents.{column_at};
 ghost use Rattle.attr_index.specs.Columns.{column_of};
 ghost use Rattle.attr_types.specs.declared.items.Item.{Item};
 
-use attr_documents::document_items as read_items;
+use attr_field::document_items as read_items;
 use attr_types::{Doc, FieldItems, Kind, ValueType};
 use entry_ref::EntryRef;
 use arena_api::Frozen;

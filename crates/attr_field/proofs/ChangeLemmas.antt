@@ -8,8 +8,8 @@ use Rattle.store_api.specs.Ledgers.{Ledger}
 use Rattle.store_api.specs.Parts.{Owns}
 use Rattle.store_api.specs.Units.{MayDo}
 use Rattle.store_api.proofs.PartLemmas.{turns-same, turns-then}
-use Rattle.attr_documents.specs.Documents.{documents_part}
-use Rattle.attr_documents.specs.Laws.{DocumentsAreLawful}
+use Rattle.attr_field.specs.Documents.{documents_part}
+use Rattle.attr_field.specs.DocumentsLaws.{DocumentsAreLawful}
 use Rattle.attr_images.specs.Documents.{column_at}
 use Rattle.attr_images.specs.Postings.{index_of}
 use Rattle.attr_index.proofs.ChangeLemmas.{ends, has_items}

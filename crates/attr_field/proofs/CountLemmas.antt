@@ -9,8 +9,8 @@ use Rattle.array_store.proofs.ClassLemmas.{class_no_node}
 use Rattle.tree_read.specs.Trees.{tree_pairs}
 use Rattle.frozen_btree.specs.Changes.{levels}
 use Rattle.frozen_btree.specs.Makes.{CountsNodes}
-use Rattle.attr_documents.specs.Changes.{documents_most}
-use Rattle.attr_documents.specs.Documents.{IsDocuments}
+use Rattle.attr_field.specs.DocumentsChanges.{documents_most}
+use Rattle.attr_field.specs.Documents.{IsDocuments}
 use Rattle.attr_images.specs.Documents.{column_at, items_at}
 use Rattle.attr_images.specs.Words.{class_of}
 use Rattle.attr_types.specs.declared.kind.Kind.{Kind}

@@ -6,9 +6,9 @@ use Rattle.entry_ref.specs.Records.{Records, SameAt}
 use Rattle.store_api.specs.Ledgers.{Ledger}
 use Rattle.store_api.specs.Units.{MayDo}
 use Rattle.tree_read.specs.Trees.{tree_nodes}
-use Rattle.attr_documents.specs.Documents.{documents_own}
-use Rattle.attr_documents.specs.Flows.{own_at, FlowsDocuments}
-use Rattle.attr_documents.proofs.FlowLemmas.{documents_flow_stay}
+use Rattle.attr_field.specs.Documents.{documents_own}
+use Rattle.attr_field.specs.DocumentsFlows.{own_at, FlowsDocuments}
+use Rattle.attr_field.proofs.DocumentsFlowLemmas.{documents_flow_stay}
 use Rattle.store_api.proofs.Flows.{began-then, comes-then}
 use Rattle.attr_types.specs.declared.kind.Kind.{Kind}
 use Rattle.attr_types.specs.declared.kind.ValueType.{ValueType}

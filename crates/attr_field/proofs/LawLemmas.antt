@@ -3,8 +3,8 @@ use Rattle.std.proofs.Common.{◌++◌, refl, sym, subst, inl, inr}
 use Rattle.entry_ref.proofs.Among.{Among-append}
 use Rattle.tree_read.specs.ProofsForTrees.{SameAt-left, SameAt-right}
 use Rattle.tree_read.specs.Trees.{tree_nodes}
-use Rattle.attr_documents.specs.Documents.{documents_own, documents_refer}
-use Rattle.attr_documents.specs.Laws.{NothingIsDocuments, DocumentsStay, DocumentsAreLawful, DocumentsReach}
+use Rattle.attr_field.specs.Documents.{documents_own, documents_refer}
+use Rattle.attr_field.specs.DocumentsLaws.{NothingIsDocuments, DocumentsStay, DocumentsAreLawful, DocumentsReach}
 use Rattle.attr_images.specs.Documents.{column_at, documents_reach}
 use Rattle.attr_images.specs.Postings.{index_of}
 use Rattle.attr_index.proofs.OfLemmas.{empty_index, has_values, has_lists}

@@ -10,3 +10,12 @@ pub mod CompareLemmas
 pub mod CountLemmas
 pub mod SizeLemmas
 pub mod WidthLemmas
+pub mod FrameLemmas
+pub mod PairLemmas
+pub mod RecordLemmas
+pub mod DocumentsFlowLemmas
+pub mod DocumentsLawLemmas
+pub mod KeyLemmas
+pub mod DocumentsChangeLemmas
+pub mod ReadLemmas
+pub mod DocumentsCountLemmas

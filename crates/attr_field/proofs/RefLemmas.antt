@@ -6,7 +6,7 @@ use Rattle.store_api.specs.Ledgers.{Ledger}
 use Rattle.store_api.specs.Parts.{Owns, Turns, count_in}
 use Rattle.store_api.proofs.PartLemmas.{owns-some, turns-as}
 use Rattle.store_api.proofs.Times.{times-append}
-use Rattle.attr_documents.specs.Documents.{documents_own, documents_part}
+use Rattle.attr_field.specs.Documents.{documents_own, documents_part}
 use Rattle.attr_types.specs.declared.kind.Kind.{Kind}
 use Rattle.value_index.specs.Indexes.{index_part, index_reach}
 use Rattle.attr_field.specs.Fields.{field_part}

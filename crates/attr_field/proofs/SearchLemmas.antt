@@ -7,7 +7,7 @@ use Rattle.list_facts.proofs.Each.{AllByRecursion-append}
 use Rattle.list_facts.proofs.Places.{take-read}
 use Rattle.list_facts.proofs.Pairs.{AllZip-push}
 use Rattle.entry_ref.specs.Records.{Records}
-use Rattle.attr_documents.specs.Changes.{AreKeysOf, IsKeyOf}
+use Rattle.attr_field.specs.DocumentsChanges.{AreKeysOf, IsKeyOf}
 use Rattle.attr_types.specs.declared.items.Item.{Item}
 use Rattle.attr_types.specs.declared.kind.ValueType.{ValueType}
 use Rattle.value_index.specs.Indexes.{key_at, IsIndex, IsKey}

@@ -9,9 +9,9 @@ use Rattle.store_api.specs.Ledgers.{Ledger}
 use Rattle.store_api.specs.Parts.{After, Turns, count_in, uses}
 use Rattle.store_api.proofs.PartLemmas.{after}
 use Rattle.store_api.proofs.Times.{among-times}
-use Rattle.attr_documents.specs.Changes.{AreBeside, MakesDocuments}
-use Rattle.attr_documents.specs.Documents.{documents_part, documents_refer, IsDocuments}
-use Rattle.attr_documents.specs.Laws.{DocumentsStay, DocumentsHaveValues}
+use Rattle.attr_field.specs.DocumentsChanges.{AreBeside, MakesDocuments}
+use Rattle.attr_field.specs.Documents.{documents_part, documents_refer, IsDocuments}
+use Rattle.attr_field.specs.DocumentsLaws.{DocumentsStay, DocumentsHaveValues}
 use Rattle.attr_images.specs.Documents.{column_at}
 use Rattle.attr_images.specs.Postings.{index_of}
 use Rattle.attr_images.specs.Values.{stored_value}

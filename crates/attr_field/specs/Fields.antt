@@ -3,7 +3,7 @@ use Rattle.std.specs.Prelude.{◌⊎◌, ℕ, ◌<◌, List, ◌++◌}
 use Rattle.entry_ref.specs.Records.{Records, Among}
 use Rattle.store_api.specs.Ledgers.{Ledger}
 use Rattle.store_api.specs.Parts.{Part, count_in, uses}
-use Rattle.attr_documents.specs.Documents.{documents_own, documents_refer, IsDocuments}
+use Rattle.attr_field.specs.Documents.{documents_own, documents_refer, IsDocuments}
 use Rattle.attr_images.specs.Documents.{column_at}
 use Rattle.attr_images.specs.Postings.{index_of}
 use Rattle.attr_index.specs.Index.{IsIndexOf}

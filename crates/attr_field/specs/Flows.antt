@@ -4,7 +4,7 @@ use Rattle.entry_ref.specs.Records.{Records, Among}
 use Rattle.store_api.specs.Ledgers.{Ledger}
 use Rattle.store_api.specs.Statuses.{in_use}
 use Rattle.tree_read.specs.Trees.{tree_nodes}
-use Rattle.attr_documents.specs.Flows.{own_at, refer_at}
+use Rattle.attr_field.specs.DocumentsFlows.{own_at, refer_at}
 use Rattle.store_api.specs.Flows.{ComesFrom}
 use Rattle.attr_types.specs.declared.kind.Kind.{Kind}
 use Rattle.attr_types.specs.declared.kind.ValueType.{ValueType}

@@ -1,7 +1,7 @@
 -- What an attribute in a store is, as laws.
 use Rattle.std.specs.Prelude.{◌≡◌, ◌↔◌, ◌⊎◌, ℕ, []}
 use Rattle.entry_ref.specs.Records.{Records, SameAt, Among}
-use Rattle.attr_documents.specs.Documents.{documents_refer}
+use Rattle.attr_field.specs.Documents.{documents_refer}
 use Rattle.attr_images.specs.Attributes.{trees_reach, IsLawfulAttribute}
 use Rattle.attr_images.specs.Documents.{column_at}
 use Rattle.attr_types.specs.declared.kind.Kind.{Kind}

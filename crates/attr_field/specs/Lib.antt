@@ -6,3 +6,9 @@ pub mod Changes
 pub mod Widths
 pub mod Steps
 pub mod Laws
+pub mod ProofsForDocuments
+pub mod Documents
+pub mod Items
+pub mod DocumentsFlows
+pub mod DocumentsChanges
+pub mod DocumentsLaws

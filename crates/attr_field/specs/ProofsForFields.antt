@@ -2,7 +2,7 @@
 use Rattle.std.proofs.Common.{◌≡◌, ℕ, ◌++◌, ap, ◌∙◌}
 use Rattle.entry_ref.specs.Records.{Records, SameAt}
 use Rattle.tree_read.specs.ProofsForTrees.{SameAt-left, SameAt-right}
-use Rattle.attr_documents.specs.Documents.{documents_own, documents_part}
+use Rattle.attr_field.specs.Documents.{documents_own, documents_part}
 use Rattle.attr_types.specs.declared.kind.Kind.{Kind}
 use Rattle.value_index.specs.Indexes.{index_part, index_reach}
 

@@ -1,6 +1,6 @@
 -- For which widths a change of a document's items may be refused.
 use Rattle.std.specs.Prelude.{◌⊎◌, ℕ, List, length, IsSome}
-use Rattle.attr_documents.specs.Changes.{IsDocumentWidth}
+use Rattle.attr_field.specs.DocumentsChanges.{IsDocumentWidth}
 use Rattle.attr_index.specs.Columns.{Column, documents_with}
 use Rattle.attr_index.specs.Index.{weight_in}
 use Rattle.attr_types.specs.declared.items.Item.{Item}

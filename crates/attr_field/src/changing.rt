@@ -18,7 +18,7 @@ ghost use Rattle.value_index.specs.Counts.{MakesFew};
 use crate::comparing::has_already;
 use crate::roots::FieldRoots;
 use crate::steps::{add_values, remove_values, set_items, take_out};
-use attr_documents::documents_law;
+use crate::documents_law;
 use attr_index::weights_of;
 use attr_types::{Doc, Item, Kind, Value, ValueType};
 use std::alloc::Global;

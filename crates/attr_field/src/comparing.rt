@@ -3,11 +3,11 @@ ghost use Rattle.std.specs.BTreeMap.{is_at};
 ghost use Rattle.std.specs.Map.{lookup};
 ghost use Rattle.std.specs.Ordering.{int_eq, is_eq, nat_cmp};
 ghost use Rattle.attr_types.specs.Value.{value_cmp};
-ghost use Rattle.attr_documents.specs.Documents.{IsDocuments};
+ghost use Rattle.attr_field.specs.Documents.{IsDocuments};
 ghost use Rattle.attr_images.specs.Documents.{column_at};
 ghost use Rattle.attr_index.specs.Columns.{items_of};
 
-use attr_documents::document_items;
+use crate::document_items;
 use attr_types::{Doc, Item, Kind, Value, ValueType};
 use entry_ref::EntryRef;
 use arena_api::Frozen;

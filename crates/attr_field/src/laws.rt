@@ -1,7 +1,7 @@
 ghost use Rattle.attr_field.specs.Laws.{NothingIsField, FieldStays, FieldIsLawful};
 ghost use Rattle.attr_field.specs.Laws.{FieldOwnsKeys, FieldReaches, FieldReachesOwn};
 
-use attr_documents::documents_law;
+use crate::documents_law;
 use value_index::{index_law, key_law};
 
 /// Roots 0 are an attribute without documents; an attribute stays where its records stay, is lawful as a part of an

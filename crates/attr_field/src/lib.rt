@@ -1,15 +1,24 @@
 //! One attribute of a collection in a store: the items of its documents, and the index of their values.
 #![tactic(auto)]
 
+mod attr_documents;
 mod changing;
 mod comparing;
+mod documents_changing;
+mod documents_laws;
+mod documents_reading;
 mod keys;
 mod laws;
+mod making;
 mod reading;
 mod roots;
 mod steps;
 
+pub use attr_documents::WEIGHT_BASE;
 pub use changing::{put, remove};
+pub use documents_changing::{remove_document, set_document};
+pub use documents_laws::documents_law;
+pub use documents_reading::document_items;
 pub use laws::field_law;
 pub use reading::items;
 pub use roots::FieldRoots;

@@ -6,7 +6,7 @@ ghost use Rattle.attr_field.specs.Fields.{IsField};
 ghost use Rattle.attr_images.specs.Documents.{column_at};
 
 use crate::roots::FieldRoots;
-use attr_documents::document_items as read_items;
+use crate::document_items as read_items;
 use attr_types::{Doc, Items, Kind, ValueType};
 use arena_api::Frozen;
 use std::alloc::{AllocError, Global};

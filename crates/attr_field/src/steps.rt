@@ -8,7 +8,7 @@ ghost use Rattle.std.specs.Ordering.{nat_cmp};
 ghost use Rattle.store_api.specs.Calls.{Refuses, RefusesOf};
 ghost use Rattle.store_api.specs.Units.{MayDo};
 ghost use Rattle.tree_read.specs.declared.node_format.TheConstants.{NODE_WORDS};
-ghost use Rattle.attr_documents.specs.Changes.{IsDocumentWidth};
+ghost use Rattle.attr_field.specs.DocumentsChanges.{IsDocumentWidth};
 ghost use Rattle.attr_field.specs.Steps.{StandsField, StepsField};
 ghost use Rattle.attr_images.specs.Documents.{column_at};
 ghost use Rattle.attr_images.specs.Postings.{index_of};
@@ -22,7 +22,7 @@ ghost use Rattle.value_index.specs.Counts.{added_count, gone_count, value_nodes,
 ghost use Rattle.value_index.specs.Widths.{IsWalkWidth};
 
 use crate::keys::keys_of;
-use attr_documents::{documents_law, remove_document, set_document};
+use crate::{documents_law, remove_document, set_document};
 use attr_types::{Doc, Item, Kind, Value, ValueType};
 use value_index::{add_all, index_law, key_law, remove_all};
 use entry_ref::EntryRef;

@@ -12,7 +12,7 @@ use Rattle.attr_images.proofs.TableLemmas.{IsTyped, table_has_columns, columns_m
 use Rattle.attr_images.proofs.ImageLemmas.{pairs_typed}
 use Rattle.attr_images.specs.Attributes.{IsLawfulAttribute}
 use Rattle.attr_images.specs.Tables.{AttributeTrees, HaveSameDocuments, columns_at}
-use Rattle.attr_documents.specs.Documents.{documents_refer}
+use Rattle.attr_field.specs.Documents.{documents_refer}
 use Rattle.attr_field.specs.Laws.{FieldIsSame}
 use Rattle.attr_field.specs.declared.roots.FieldRoots.{FieldRoots}
 use Rattle.value_index.specs.Indexes.{IsKey}

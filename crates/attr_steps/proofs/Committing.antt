@@ -21,7 +21,7 @@ use Rattle.store_api.proofs.Times.{all_from_times, among-times, times-among, tim
 use Rattle.store_api.proofs.Uses.{uses-in, in-uses, uses-few}
 use Rattle.attr_images.specs.Attributes.{trees_reach}
 use Rattle.attr_images.specs.Tables.{AttributeTrees, attributes_reach}
-use Rattle.attr_documents.specs.Documents.{documents_refer}
+use Rattle.attr_field.specs.Documents.{documents_refer}
 use Rattle.attr_field.specs.Laws.{FieldReaches}
 use Rattle.attr_steps.specs.Fields.{AllReferBeside, IsFieldAt, OwnsOutside, StillRefer, part_of, parts_of}
 use Rattle.attr_steps.proofs.Columns.{FieldLaws}

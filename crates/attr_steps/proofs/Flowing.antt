@@ -12,7 +12,7 @@ use Rattle.store_api.specs.Ledgers.{Ledger}
 use Rattle.store_api.specs.Parts.{AllStay}
 use Rattle.store_api.specs.Statuses.{Status, in_use}
 use Rattle.store_api.specs.Units.{MayDo}
-use Rattle.attr_documents.specs.Documents.{documents_own}
+use Rattle.attr_field.specs.Documents.{documents_own}
 use Rattle.store_api.proofs.Flows.{began-then}
 use Rattle.attr_field.specs.Flows.{FlowsField}
 use Rattle.attr_field.proofs.FlowLemmas.{field_flows_index, field_flows_same, field_flows_then}

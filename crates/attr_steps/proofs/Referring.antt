@@ -13,7 +13,7 @@ use Rattle.store_api.specs.Ledgers.{Ledger}
 use Rattle.store_api.specs.Parts.{Part, AllStay, count_in, times, uses}
 use Rattle.store_api.proofs.Times.{among-times}
 use Rattle.store_api.proofs.Uses.{uses-few}
-use Rattle.attr_documents.specs.Documents.{documents_refer}
+use Rattle.attr_field.specs.Documents.{documents_refer}
 use Rattle.attr_field.specs.Changes.{KeepsCopies}
 use Rattle.attr_field.specs.Fields.{RefersBeside}
 use Rattle.attr_field.specs.Laws.{FieldIsSame}

@@ -3,7 +3,7 @@ use Rattle.std.proofs.Common.{◌<◌, ◌^◌, ℕ, List, [], ◌∷◌, arith}
 use Rattle.std.specs.List.{AllByRecursion}
 use Rattle.entry_ref.specs.Records.{Records}
 use Rattle.tree_read.specs.Trees.{tree_pairs}
-use Rattle.attr_documents.specs.Documents.{AreItemsAt, IsDocuments}
+use Rattle.attr_field.specs.Documents.{AreItemsAt, IsDocuments}
 use Rattle.attr_types.specs.declared.kind.Kind.{Kind}
 use Rattle.attr_types.specs.declared.kind.ValueType.{ValueType}
 use Rattle.doc_vector.specs.Documents.{IsDocumentPair}

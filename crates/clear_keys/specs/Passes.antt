@@ -5,7 +5,7 @@ use Rattle.attr_cleared.specs.Cleared.{IsClearedField}
 use Rattle.attr_cleared.specs.Visits.{place_at_key}
 use Rattle.attr_compaction.specs.Places.{PlanPlace}
 use Rattle.attr_compaction.specs.declared.plan.PlanKey.{PlanKey}
-use Rattle.attr_documents.specs.Documents.{IsDocuments}
+use Rattle.attr_field.specs.Documents.{IsDocuments}
 use Rattle.attr_images.specs.Tables.{AttributeTrees}
 use Rattle.plan_keys.specs.PhaseKeys.{key_past, phase_keys, HasType}
 use Rattle.value_index.specs.Indexes.{IsIndex}

@@ -14,8 +14,8 @@ use Rattle.store_api.specs.Parts.{AllStay}
 use Rattle.attr_compaction.specs.Places.{PlanPlace}
 use Rattle.attr_compaction.specs.declared.plan.PlanKey.TheVariants as plan
 use Rattle.attr_compaction.specs.declared.plan.TheConstants.{DOCUMENTS, KEYS, LISTS, NODES}
-use Rattle.attr_documents.proofs.FlowLemmas.{refer_same}
-use Rattle.attr_documents.specs.Documents.{items_own}
+use Rattle.attr_field.proofs.DocumentsFlowLemmas.{refer_same}
+use Rattle.attr_field.specs.Documents.{items_own}
 use Rattle.attr_field.specs.Fields.{field_part, IsField}
 use Rattle.attr_images.specs.Postings.{short, tree, vector, list_form, postings_reach, IsPostingList, ListForm}
 use Rattle.attr_images.specs.Tables.{AttributeTrees}

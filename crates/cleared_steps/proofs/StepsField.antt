@@ -11,8 +11,8 @@ use Rattle.tree_read.specs.Trees.{by_number, tree_nodes, tree_pairs, IsTree}
 use Rattle.attr_compaction.specs.Places.{PlanPlace}
 use Rattle.attr_compaction.specs.declared.plan.PlanKey.TheVariants as plan
 use Rattle.attr_compaction.specs.declared.plan.TheConstants.{DOCUMENTS, KEYS, LISTS, NODES}
-use Rattle.attr_documents.specs.Documents.{documents_refer, items_own, items_refer}
-use Rattle.attr_documents.specs.Flows.{reference_at}
+use Rattle.attr_field.specs.Documents.{documents_refer, items_own, items_refer}
+use Rattle.attr_field.specs.DocumentsFlows.{reference_at}
 use Rattle.attr_field.specs.Fields.{field_part, IsField}
 use Rattle.attr_field.specs.Flows.{FlowsField}
 use Rattle.attr_images.proofs.ImageLemmas.{value_typed}

@@ -10,7 +10,7 @@ use Rattle.store_api.specs.Parts.{count_in, entries}
 use Rattle.store_api.specs.Statuses.{Status, in_use}
 use Rattle.store_api.proofs.Times.{among-times}
 use Rattle.store_api.proofs.Uses.{in-uses}
-use Rattle.attr_documents.specs.Documents.{documents_refer}
+use Rattle.attr_field.specs.Documents.{documents_refer}
 use Rattle.attr_field.specs.Fields.{RefersBeside}
 use Rattle.attr_images.specs.Tables.{AttributeTrees}
 use Rattle.attr_steps.specs.Fields.{part_of, parts_of, root_entries, FlowsTrees, HoldsAttributes, IsFieldAt}

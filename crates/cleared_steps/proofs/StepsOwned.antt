@@ -4,7 +4,7 @@ use Rattle.std.proofs.lemmas.List.{length-replicate}
 use Rattle.std.specs.List.{flat_map}
 use Rattle.entry_ref.specs.Records.{Records, Among}
 use Rattle.tree_read.specs.Trees.{tree_nodes, tree_pairs}
-use Rattle.attr_documents.specs.Documents.{documents_own, items_own}
+use Rattle.attr_field.specs.Documents.{documents_own, items_own}
 use Rattle.attr_field.specs.Fields.{field_part}
 use Rattle.attr_images.specs.Postings.{list_form, postings_reach, short, tree}
 use Rattle.attr_images.specs.Words.{class_of, stored_items, IsStoredList}

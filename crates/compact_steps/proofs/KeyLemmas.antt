@@ -9,7 +9,7 @@ use Rattle.plan_counts.proofs.StageLemmas.{less_is}
 use Rattle.entry_ref.specs.Records.{Records, SameAt}
 use Rattle.tree_read.specs.ProofsForTrees.{SameAt-left, SameAt-right, flat_map-same, map-same, tree_pairs-same}
 use Rattle.tree_read.specs.Trees.{tree_nodes, tree_pairs}
-use Rattle.attr_documents.specs.Documents.{documents_own, items_own}
+use Rattle.attr_field.specs.Documents.{documents_own, items_own}
 use Rattle.attr_images.specs.Postings.{ListForm, short, tree, vector, dictionary_reach, list_form, postings_reach}
 use Rattle.attr_images.specs.Tables.{AttributeTrees}
 use Rattle.attr_images.specs.Values.{stored_value, value_of}

@@ -15,7 +15,7 @@ use Rattle.store_api.proofs.PartLemmas.{after, count-stays}
 use Rattle.store_api.proofs.Times.{absent-times, among-times}
 use Rattle.store_api.proofs.UnitLemmas.{turns-accept}
 use Rattle.store_api.proofs.Uses.{uses-few}
-use Rattle.attr_documents.specs.Documents.{documents_refer}
+use Rattle.attr_field.specs.Documents.{documents_refer}
 use Rattle.attr_images.specs.Tables.{AttributeTrees, HaveSameDocuments, columns_at, table_of_columns}
 use Rattle.attr_index.specs.Columns.{Column}
 use Rattle.attr_types.specs.declared.field.Field.{Field}

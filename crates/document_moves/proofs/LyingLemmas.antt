@@ -7,9 +7,9 @@ use Rattle.attr_images.specs.Words.{stored_items}
 use Rattle.attr_types.specs.declared.kind.Kind.{Kind}
 use Rattle.attr_types.specs.declared.kind.Kind.TheVariants.{Single, Array, WeightedSet}
 use Rattle.attr_types.specs.declared.kind.ValueType.{ValueType}
-use Rattle.attr_documents.specs.Documents.{items_own, items_refer}
-use Rattle.attr_documents.specs.Items.{has_list, word_entry}
-use Rattle.attr_documents.proofs.ReadLemmas.{words_are, mapped_twice}
+use Rattle.attr_field.specs.Documents.{items_own, items_refer}
+use Rattle.attr_field.specs.Items.{has_list, word_entry}
+use Rattle.attr_field.proofs.ReadLemmas.{words_are, mapped_twice}
 use Rattle.document_moves.specs.Moves.{AreItemsApart}
 
 -- the record in a word

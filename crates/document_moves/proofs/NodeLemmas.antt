@@ -17,11 +17,11 @@ use Rattle.doc_vector.specs.Documents.{beside_document, IsDocumentPair}
 use Rattle.attr_images.specs.Documents.{items_at}
 use Rattle.attr_types.specs.declared.kind.Kind.{Kind}
 use Rattle.attr_types.specs.declared.kind.ValueType.{ValueType}
-use Rattle.attr_documents.specs.Changes.{pairs_own, AreBeside}
-use Rattle.attr_documents.specs.Documents.{documents_part, documents_refer, AreItemsAt, IsDocuments}
-use Rattle.attr_documents.proofs.FrameLemmas.{beside-same}
-use Rattle.attr_documents.proofs.PairLemmas.{columned, columned-same}
-use Rattle.attr_documents.proofs.RecordLemmas.{all-on, pairs-stay, same-on}
+use Rattle.attr_field.specs.DocumentsChanges.{pairs_own, AreBeside}
+use Rattle.attr_field.specs.Documents.{documents_part, documents_refer, AreItemsAt, IsDocuments}
+use Rattle.attr_field.proofs.FrameLemmas.{beside-same}
+use Rattle.attr_field.proofs.PairLemmas.{columned, columned-same}
+use Rattle.attr_field.proofs.RecordLemmas.{all-on, pairs-stay, same-on}
 use Rattle.document_moves.specs.Moves.{MovesDocumentNodes}
 use Rattle.document_moves.proofs.SetLemmas.{same_self}
 

@@ -34,13 +34,13 @@ use Rattle.attr_types.specs.declared.items.Item.{Item}
 use Rattle.attr_types.specs.declared.kind.Kind.{Kind}
 use Rattle.attr_types.specs.declared.kind.ValueType.{ValueType}
 use Rattle.attr_types.specs.declared.value.Value.{Value}
-use Rattle.attr_documents.specs.Changes.{pairs_own, AreBeside, MakesDocuments, SetsItems}
-use Rattle.attr_documents.specs.Documents.{documents_own, documents_part, items_own, items_refer}
-use Rattle.attr_documents.specs.Flows.{own_at, reference_at}
-use Rattle.attr_documents.specs.Items.{item_of}
-use Rattle.attr_documents.proofs.FlowLemmas.{among_left, among_right}
-use Rattle.attr_documents.proofs.LawLemmas.{documents_lawful}
-use Rattle.attr_documents.proofs.PairLemmas.{columned, columned-found, found, found-or, times-out}
+use Rattle.attr_field.specs.DocumentsChanges.{pairs_own, AreBeside, MakesDocuments, SetsItems}
+use Rattle.attr_field.specs.Documents.{documents_own, documents_part, items_own, items_refer}
+use Rattle.attr_field.specs.DocumentsFlows.{own_at, reference_at}
+use Rattle.attr_field.specs.Items.{item_of}
+use Rattle.attr_field.proofs.DocumentsFlowLemmas.{among_left, among_right}
+use Rattle.attr_field.proofs.DocumentsLawLemmas.{documents_lawful}
+use Rattle.attr_field.proofs.PairLemmas.{columned, columned-found, found, found-or, times-out}
 use Rattle.value_index.specs.Indexes.{index_part, index_reach, IsKey}
 use Rattle.value_index.specs.Laws.{KeyIsRead}
 use Rattle.document_moves.specs.Moves.{AreItemsApart, CanMoveItems, MovesItems}

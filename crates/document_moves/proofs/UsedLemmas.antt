@@ -25,11 +25,11 @@ use Rattle.attr_types.specs.declared.items.Item.{Item}
 use Rattle.attr_types.specs.declared.kind.Kind.{Kind}
 use Rattle.attr_types.specs.declared.kind.Kind.TheVariants.{Single, Array, WeightedSet}
 use Rattle.attr_types.specs.declared.kind.ValueType.{ValueType}
-use Rattle.attr_documents.specs.Changes.{pairs_own, IsDocumentWidth}
-use Rattle.attr_documents.specs.Documents.{documents_own, documents_part, items_own, IsDocuments}
-use Rattle.attr_documents.specs.Items.{has_list, item_of}
-use Rattle.attr_documents.proofs.PairLemmas.{found, times-out}
-use Rattle.attr_documents.proofs.ReadLemmas.{found_items, found_records}
+use Rattle.attr_field.specs.DocumentsChanges.{pairs_own, IsDocumentWidth}
+use Rattle.attr_field.specs.Documents.{documents_own, documents_part, items_own, IsDocuments}
+use Rattle.attr_field.specs.Items.{has_list, item_of}
+use Rattle.attr_field.proofs.PairLemmas.{found, times-out}
+use Rattle.attr_field.proofs.ReadLemmas.{found_items, found_records}
 
 -- ---- what is owned is in use
 used_at : {H : Type 0} (a : Ledger H) (m : Records) (part : Part) (r width : ℕ) → Owns a m (part ∷ []) → 0 < times r (part.reach m) → length (m r) ≡ width → IsUsedWidth a m width

@@ -15,9 +15,9 @@ use Rattle.attr_images.specs.Values.{stored_value}
 use Rattle.attr_index.specs.Index.{list_of}
 use Rattle.attr_types.specs.declared.kind.Kind.{Kind}
 use Rattle.attr_types.specs.declared.kind.ValueType.{ValueType}
-use Rattle.attr_documents.specs.Changes.{pairs_own, AreBeside}
-use Rattle.attr_documents.specs.Documents.{documents_part, documents_refer, items_own, items_refer, IsDocuments}
-use Rattle.attr_documents.specs.Flows.{reference_at}
+use Rattle.attr_field.specs.DocumentsChanges.{pairs_own, AreBeside}
+use Rattle.attr_field.specs.Documents.{documents_part, documents_refer, items_own, items_refer, IsDocuments}
+use Rattle.attr_field.specs.DocumentsFlows.{reference_at}
 use Rattle.value_index.specs.Indexes.{index_part, IsIndex, IsKey}
 
 -- neither the record that a document's items have of their own nor one that they refer to lies in the buffer

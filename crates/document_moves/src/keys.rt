@@ -1,6 +1,6 @@
 ghost use Rattle.std.specs.Prelude.{◌≡◌, ◌<◌, length, IfOk};
 ghost use Rattle.std.specs.List.{AllByRecursion};
-ghost use Rattle.attr_documents.specs.Changes.{AreKeysOf, IsKeyOf};
+ghost use Rattle.attr_field.specs.DocumentsChanges.{AreKeysOf, IsKeyOf};
 ghost use Rattle.attr_images.specs.Postings.{index_of};
 ghost use Rattle.attr_index.specs.Index.{list_of};
 ghost use Rattle.attr_types.specs.Value.{type_of, values_of, AreOfType};

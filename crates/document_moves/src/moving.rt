@@ -8,13 +8,13 @@ ghost use Rattle.frozen_btree.specs.Changes.{levels};
 ghost use Rattle.attr_images.specs.Documents.{column_at};
 ghost use Rattle.attr_index.specs.Columns.{items_of};
 ghost use Rattle.posting_store.specs.Changes.{MakesWithin};
-ghost use Rattle.attr_documents.specs.Changes.{documents_most};
-ghost use Rattle.attr_documents.specs.Flows.{reference_at};
+ghost use Rattle.attr_field.specs.DocumentsChanges.{documents_most};
+ghost use Rattle.attr_field.specs.DocumentsFlows.{reference_at};
 ghost use Rattle.document_moves.specs.Moves.{AreItemsApart, CanMoveItems, MovesItems};
 
 use crate::keys::keys_of;
 use crate::lying::document_lies;
-use attr_documents::{document_items as read_items, set_document};
+use attr_field::{document_items as read_items, set_document};
 use attr_types::{Doc, Item, Kind, ValueType};
 use entry_ref::EntryRef;
 use std::alloc::Global;

@@ -4,8 +4,8 @@ ghost use Rattle.store_api.specs.Parts.{Owns};
 ghost use Rattle.store_api.specs.Units.{MayDo};
 ghost use Rattle.frozen_btree.specs.Changes.{levels};
 ghost use Rattle.frozen_btree.specs.Makes.{CountsNodes};
-ghost use Rattle.attr_documents.specs.Changes.{AreBeside};
-ghost use Rattle.attr_documents.specs.Documents.{documents_part, documents_refer, IsDocuments};
+ghost use Rattle.attr_field.specs.DocumentsChanges.{AreBeside};
+ghost use Rattle.attr_field.specs.Documents.{documents_part, documents_refer, IsDocuments};
 ghost use Rattle.document_moves.specs.Moves.{MovesDocumentNodes};
 
 use attr_types::{Doc, Kind, ValueType};

@@ -11,10 +11,10 @@ use Rattle.store_api.proofs.Times.{times-append}
 use Rattle.tree_read.specs.ProofsForTrees.{SameAt-left, SameAt-right}
 use Rattle.tree_read.specs.Trees.{tree_nodes, tree_pairs}
 use Rattle.frozen_btree.specs.Changes.{tree}
-use Rattle.attr_documents.specs.Changes.{pairs_own}
-use Rattle.attr_documents.specs.Documents.{documents_own, documents_part, documents_refer, items_own, items_refer, IsDocuments}
-use Rattle.attr_documents.specs.Laws.{DocumentsStay}
-use Rattle.attr_documents.proofs.RecordLemmas.{weighted-on}
+use Rattle.attr_field.specs.DocumentsChanges.{pairs_own}
+use Rattle.attr_field.specs.Documents.{documents_own, documents_part, documents_refer, items_own, items_refer, IsDocuments}
+use Rattle.attr_field.specs.DocumentsLaws.{DocumentsStay}
+use Rattle.attr_field.proofs.RecordLemmas.{weighted-on}
 use Rattle.attr_field.proofs.RefLemmas.{field_count}
 use Rattle.attr_field.specs.Fields.{field_part, IsField, RefersBeside}
 use Rattle.attr_images.specs.Documents.{column_at}

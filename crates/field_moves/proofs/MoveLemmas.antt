@@ -8,9 +8,9 @@ use Rattle.attr_cleared.specs.Cleared.{IsClearedField}
 use Rattle.attr_compaction.specs.Places.{PlanView}
 use Rattle.attr_compaction.specs.declared.plan.PlanKey.{PlanKey}
 use Rattle.attr_compaction.specs.declared.plan.PlanKey.TheVariants.{Start, Value, Doc, Pair}
-use Rattle.attr_documents.specs.Changes.{AreBeside}
-use Rattle.attr_documents.specs.Documents.{documents_part, documents_refer}
-use Rattle.attr_documents.specs.Laws.{DocumentsStay}
+use Rattle.attr_field.specs.DocumentsChanges.{AreBeside}
+use Rattle.attr_field.specs.Documents.{documents_part, documents_refer}
+use Rattle.attr_field.specs.DocumentsLaws.{DocumentsStay}
 use Rattle.attr_field.specs.Fields.{field_part, IsField, RefersBeside}
 use Rattle.attr_images.specs.Postings.{index_of}
 use Rattle.attr_images.specs.Tables.{AttributeTrees}

@@ -10,8 +10,7 @@ ghost use Rattle.field_moves.specs.Steps.{CanMove, Moved};
 
 use attr_cleared::{keys_law, leaves_law, moved_law};
 use attr_compaction::Plan;
-use attr_documents::documents_law;
-use attr_field::FieldRoots;
+use attr_field::{FieldRoots, documents_law};
 use attr_types::{Field, Value};
 use index_moves::{move_key, move_list, move_nodes};
 use store_api::{Store, StoreError};

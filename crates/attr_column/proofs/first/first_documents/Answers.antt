@@ -1,6 +1,6 @@
 use Rattle.std.proofs.Common.{ℕ, arith, sym, ap, subst, ◌∙◌}
 use Rattle.std.proofs.lemmas.Result.{IfOk-weaker}
-use Rattle.attr_documents.specs.Documents.{IsDocuments}
+use Rattle.attr_field.specs.Documents.{IsDocuments}
 use Rattle.attr_images.specs.Documents.{column_at}
 use Rattle.attr_images.specs.Images.{table_of, IsLawfulImage}
 use Rattle.attr_index.specs.Columns.{column_of}

@@ -6,7 +6,7 @@ use Rattle.attr_images.specs.Postings.{index_of}
 use Rattle.attr_index.specs.Changes.{IsBetween}
 use Rattle.attr_index.specs.Columns.{Column, items_of, with_change}
 use Rattle.attr_index.specs.Index.{Index, IsIndexOf}
-use Rattle.attr_documents.specs.Changes.{IsDocumentWidth}
+use Rattle.attr_field.specs.DocumentsChanges.{IsDocumentWidth}
 use Rattle.value_index.specs.Widths.{IsWalkWidth}
 use Rattle.posting_store.proofs.RefusalLemmas.{of_more}
 use Rattle.attr_field.specs.Widths.{IsFieldWidth}

@@ -1,5 +1,5 @@
 use Rattle.std.proofs.Common.{◌≡◌, [], None, arith}
-use Rattle.attr_documents.specs.Changes.{MakesDocuments}
+use Rattle.attr_field.specs.DocumentsChanges.{MakesDocuments}
 use Rattle.attr_images.specs.Documents.{column_at}
 use Rattle.attr_images.specs.Postings.{index_of}
 use Rattle.attr_index.specs.Columns.{with_change}

@@ -7,7 +7,7 @@ use Rattle.attr_index.specs.Index.{list_of}
 use Rattle.attr_types.specs.Value.{type_of}
 use Rattle.attr_types.specs.declared.items.Item.{Item}
 use Rattle.value_index.specs.Indexes.{IsIndex, IsKey}
-use Rattle.attr_documents.specs.Changes.{IsKeyOf}
+use Rattle.attr_field.specs.DocumentsChanges.{IsKeyOf}
 use Rattle.document_moves.proofs.SearchLemmas.{KeysSoFar, keys_begin, keys_more, keys_end}
 use Rattle.document_moves.proofs.keys.keys_of.Goals as goal
 

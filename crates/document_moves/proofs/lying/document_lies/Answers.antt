@@ -1,7 +1,7 @@
 use Rattle.std.proofs.Common.{ℕ, Option, sym, ap, subst, ◌∙◌, arith}
 use Rattle.std.specs.Prelude.{unwrap_or}
 use Rattle.attr_images.specs.Documents.{AreItemRecords}
-use Rattle.attr_documents.proofs.ReadLemmas.{found_records}
+use Rattle.attr_field.proofs.ReadLemmas.{found_records}
 use Rattle.document_moves.specs.Moves.{AreItemsApart}
 use Rattle.document_moves.proofs.lying.document_lies.Goals as goal
 

@@ -1,6 +1,6 @@
 use Rattle.std.proofs.Common.{rules, ◌≡◌, ◌<◌, ap, ◌∙◌, sym, arith}
-use Rattle.attr_documents.specs.Items.{has_list}
-use Rattle.attr_documents.proofs.ReadLemmas.{array_at, values_at}
+use Rattle.attr_field.specs.Items.{has_list}
+use Rattle.attr_field.proofs.ReadLemmas.{array_at, values_at}
 use Rattle.document_moves.proofs.LyingLemmas.{apart_none, apart_single, lies_here, list_apart, list_found}
 use Rattle.document_moves.proofs.lying.items_lie.Goals as goal
 

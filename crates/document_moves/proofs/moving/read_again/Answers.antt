@@ -11,7 +11,7 @@ use Rattle.attr_images.specs.Documents.{column_at}
 use Rattle.attr_index.specs.Columns.{items_of}
 use Rattle.posting_store.specs.Changes.{MakesWithin}
 use Rattle.value_index.proofs.CountLemmas.{within_none}
-use Rattle.attr_documents.specs.Changes.{documents_most}
+use Rattle.attr_field.specs.DocumentsChanges.{documents_most}
 use Rattle.document_moves.specs.Moves.{CanMoveItems, MovesItems}
 use Rattle.document_moves.proofs.SetLemmas.{none_unmoved}
 use Rattle.document_moves.proofs.moving.read_again.Goals as goal

@@ -12,8 +12,8 @@ use Rattle.posting_store.specs.Changes.{MakesWithin}
 use Rattle.posting_store.proofs.RefusalLemmas.{if_more}
 use Rattle.value_index.specs.Indexes.{IsKey}
 use Rattle.value_index.proofs.CountLemmas.{within_none}
-use Rattle.attr_documents.specs.Changes.{documents_most, AreBeside, AreKeysOf, IsDocumentWidth, MakesDocuments, SetsItems}
-use Rattle.attr_documents.specs.Documents.{documents_part, documents_refer, IsDocuments}
+use Rattle.attr_field.specs.DocumentsChanges.{documents_most, AreBeside, AreKeysOf, IsDocumentWidth, MakesDocuments, SetsItems}
+use Rattle.attr_field.specs.Documents.{documents_part, documents_refer, IsDocuments}
 use Rattle.document_moves.proofs.SetLemmas.{items_lawful, items_listed, items_typed, keys_beside, moved_by, owns_documents}
 use Rattle.document_moves.proofs.UsedLemmas.{document_used}
 use Rattle.document_moves.proofs.moving.set_again.Goals as goal

@@ -1,9 +1,0 @@
-pub mod FrameLemmas
-pub mod PairLemmas
-pub mod RecordLemmas
-pub mod FlowLemmas
-pub mod LawLemmas
-pub mod KeyLemmas
-pub mod ChangeLemmas
-pub mod ReadLemmas
-pub mod CountLemmas

@@ -1,6 +1,0 @@
-use Rattle.std.proofs.Common.{◌≡◌, map, take}
-use Rattle.attr_documents.specs.Items.{entries_by_key, word_entry}
-use Rattle.attr_documents.proofs.making.words_of.Given as goal
-
-abbrev pub invariant-loop-i : goal.invariant-loop-i
-invariant-loop-i g l = map (word_entry l.kind) l.words.items ≡ entries_by_key (take l.i l.keys) (take l.i l.items)

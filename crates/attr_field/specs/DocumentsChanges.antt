@@ -1,0 +1,75 @@
+-- What a change of one document asks for, and what it leaves.
+use Rattle.std.specs.Prelude.{◌≡◌, ◌⊎◌, ℕ, ◌+◌, ◌<◌, nat_eq, if◌then◌else◌, List, [], ◌∷◌}
+use Rattle.std.specs.List.{flat_map, AllZip}
+use Rattle.entry_ref.specs.Records.{Records, Among, SameAt}
+use Rattle.tree_read.specs.Pairs.{take_out}
+use Rattle.tree_read.specs.Trees.{tree_nodes, tree_pairs}
+use Rattle.tree_read.specs.declared.node_format.TheConstants.{NODE_WORDS}
+use Rattle.store_api.specs.Ledgers.{Ledger}
+use Rattle.store_api.specs.Parts.{Part, Owns, Turns, count_in, entries, uses}
+use Rattle.frozen_btree.specs.Changes.{tree}
+use Rattle.doc_vector.specs.Documents.{beside_document, IsDocumentMap}
+use Rattle.attr_images.specs.Documents.{column_at}
+use Rattle.attr_images.specs.Values.{stored_value, IsValueRecord}
+use Rattle.attr_images.specs.Words.{class_of}
+use Rattle.attr_index.specs.Columns.{Column}
+use Rattle.attr_types.specs.declared.items.Item.{Item}
+use Rattle.attr_types.specs.declared.kind.Kind.{Kind}
+use Rattle.attr_types.specs.declared.kind.ValueType.{ValueType}
+use Rattle.attr_types.specs.declared.value.Value.{Value}
+use Rattle.attr_field.specs.Documents.{documents_part, documents_refer, items_own, IsDocuments}
+use Rattle.attr_field.specs.DocumentsFlows.{own_at, refer_at, FlowsDocuments}
+use Rattle.attr_field.specs.Items.{IsItemsWidth}
+use Rattle.store_api.specs.Flows.{ComesFrom}
+
+-- these records are in use, and the parts own none of them
+pub record AreBeside {H : Type 0} (ledger : Ledger H) (m : Records) (parts : List Part) (refs : List ℕ) : Type 0 where
+  pub each : (r : ℕ) → Among r refs → count_in r m parts < uses ledger r
+
+-- the record of a value
+pub record IsKeyOf (type : ValueType) (m : Records) (value : Value) (key : ℕ) : Type 0 where
+  pub record_is : IsValueRecord type (m key)
+  pub value_is : stored_value type m key ≡ value
+
+-- the records of the items' values, one for each item
+abbrev pub AreKeysOf : ValueType → Records → List ℕ → List Item → Type 0
+AreKeysOf type m keys items = AllZip (λ key item. IsKeyOf type m item.value key) keys items
+
+-- documents stand in place of others, with this column; the values that they refer to are those of before, or these
+pub record MakesDocuments {H : Type 0} (kind : Kind) (type : ValueType) (old new : Ledger H) (m n : Records) (root : ℕ) (keys : List ℕ)
+    (column : Column) (next : ℕ) : Type 0 where
+  pub documents_are : IsDocuments kind type n next
+  pub column_is : column_at kind type n next ≡ column
+  pub refers : (r : ℕ) → Among r (documents_refer kind n next) → Among r (documents_refer kind m root) ⊎ Among r keys
+  pub flows : FlowsDocuments kind old m n root keys next
+  pub owns : Owns new n (documents_part kind next ∷ [])
+  pub turns : Turns old new m n (documents_part kind root ∷ []) (documents_part kind next ∷ [])
+
+-- at most one record of so many words, and so many nodes
+abbrev pub documents_most : ℕ → ℕ → ℕ → ℕ
+documents_most words nodes width = (if nat_eq width (class_of words) then 1 else 0) + (if nat_eq width NODE_WORDS then nodes else 0)
+
+-- the records that pairs' references have of their own
+abbrev pub pairs_own : Kind → List (ℕ × ℕ) → List ℕ
+pairs_own kind pairs = flat_map (λ p. items_own kind p.1) pairs
+
+-- one document's reference was changed: the records of the others stay
+pub record ChangesPair {H : Type 0} (kind : Kind) (old new : Ledger H) (m n : Records) (root : ℕ) (others pairs : List (ℕ × ℕ))
+    (next : ℕ) : Type 0 where
+  pub map_is : IsDocumentMap n next
+  pub pairs_are : tree_pairs n next ≡ pairs
+  pub stay : SameAt (pairs_own kind others) m n
+  pub nodes : ComesFrom old (tree_nodes n next) (tree_nodes m root)
+  pub turns : Turns old new m n (documents_part kind root ∷ []) (tree next ∷ entries (pairs_own kind others) ∷ [])
+
+-- a document's items were set: a record that it has of its own is new, and it refers to exactly these. All others have the references that
+-- they had, and the records that they own are as they were
+pub record SetsItems {H : Type 0} (kind : Kind) (old : Ledger H) (m n : Records) (root doc : ℕ) (keys : List ℕ) (next : ℕ) : Type 0 where
+  pub fresh : (r : ℕ) → Among r (own_at kind n next doc) → uses old r ≡ 0
+  pub refer : refer_at kind n next doc ≡ keys
+  pub others : take_out (beside_document doc) (tree_pairs n next) ≡ take_out (beside_document doc) (tree_pairs m root)
+  pub stay : SameAt (pairs_own kind (take_out (beside_document doc) (tree_pairs m root))) m n
+
+-- a width for which a change of a document may be refused, by how many items it has then: of nodes, or of the record of its items
+abbrev pub IsDocumentWidth : Kind → ℕ → ℕ → Type 0
+IsDocumentWidth kind count width = (width ≡ NODE_WORDS) ⊎ IsItemsWidth kind count width

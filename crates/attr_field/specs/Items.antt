@@ -1,0 +1,53 @@
+-- The items of one document: its references of values with weights, as words of a record.
+use Rattle.std.specs.Prelude.{◌≡◌, ℕ, ℤ, ◌+◌, ◌<◌, pos, Bool, true, false, List, [], ◌∷◌}
+use Rattle.entry_ref.specs.Records.{Records}
+use Rattle.store_api.specs.Ledgers.{Ledger}
+use Rattle.store_api.specs.Parts.{Turns, entries}
+use Rattle.attr_images.specs.Documents.{weighted, IsItemsRecord}
+use Rattle.attr_images.specs.Values.{stored_value}
+use Rattle.attr_images.specs.Words.{class_of, unpacked}
+use Rattle.attr_types.specs.declared.items.Item.{Item}
+use Rattle.attr_types.specs.declared.kind.Kind.{Kind}
+use Rattle.attr_types.specs.declared.kind.Kind.TheVariants.{Single, Array, WeightedSet}
+use Rattle.attr_types.specs.declared.kind.ValueType.{ValueType}
+use Rattle.attr_field.specs.Documents.{items_own}
+
+-- an array or a weighted set has a record of its own
+abbrev pub has_list : Kind → Bool
+has_list Single = false
+has_list Array = true
+has_list WeightedSet = true
+
+-- the reference of a value and its weight, by a word of that record
+abbrev pub word_entry : Kind → ℕ → ℕ × ℤ
+word_entry Single word = (word, pos 1)
+word_entry Array word = (word, pos 1)
+word_entry WeightedSet word = unpacked word
+
+-- a weight is 1 but in a weighted set
+abbrev pub IsWeightOf : Kind → ℤ → Type 0
+IsWeightOf Single weight = weight ≡ pos 1
+IsWeightOf Array weight = weight ≡ pos 1
+IsWeightOf WeightedSet weight = Unit {0}
+
+-- the item of a reference with a weight
+abbrev pub item_of : ValueType → Records → ℕ × ℤ → Item
+item_of type m e = record { value = stored_value type m e.0; weight = e.1 }
+
+-- references of values with the weights of items
+abbrev pub entries_by_key : List ℕ → List Item → List (ℕ × ℤ)
+entries_by_key [] items = []
+entries_by_key (key ∷ keys) [] = []
+entries_by_key (key ∷ keys) (item ∷ items) = (key, item.weight) ∷ entries_by_key keys items
+
+-- a document's reference was made of these, and nothing else is changed
+pub record MakesItems {H : Type 0} (kind : Kind) (old new : Ledger H) (m n : Records) (list : List (ℕ × ℤ)) (ref : ℕ) : Type 0 where
+  pub form : IsItemsRecord kind ref (n ref)
+  pub weighted_are : weighted kind ref (n ref) ≡ list
+  pub turns : Turns old new m n [] (entries (items_own kind ref) ∷ [])
+
+-- a width is that of the record of a document with so many items: an array or a weighted set that has some
+pub record IsItemsWidth (kind : Kind) (count width : ℕ) : Type 0 where
+  pub list : has_list kind ≡ true
+  pub some : 0 < count
+  pub width_is : width ≡ class_of (1 + count)
