@@ -31,7 +31,7 @@ use Rattle.posting_store.proofs.FormLemmas.{form_even, form_odd}
 use Rattle.value_index.specs.Indexes.{index_part, index_reach, key_at}
 use Rattle.value_index.proofs.IndexLemmas.{pair_reach}
 use Rattle.value_index.proofs.KeyLemmas.{among_left, among_right}
-use Rattle.plan_keys.specs.PhaseKeys.{form_docs, keys_of_pairs}
+use Rattle.attr_compaction.specs.PhaseKeys.{form_docs, keys_of_pairs}
 use Rattle.attr_cleared.specs.Visits.{IsAmongKeys}
 use Rattle.attr_cleared.proofs.PlanVisits.{none_behind}
 use Rattle.attr_cleared.proofs.BelowLemmas.{nodes_stay}

@@ -19,8 +19,8 @@ use Rattle.attr_compaction.specs.declared.plan.PlanKey.TheVariants.{Value, Doc, 
 use Rattle.posting_store.specs.Lists.{list_at, IsList, IsPlain}
 use Rattle.posting_store.proofs.FormLemmas.{at_form, short_few, tree_at, tree_form}
 use Rattle.value_index.specs.Indexes.{IsValuePair}
-use Rattle.plan_keys.specs.PhaseKeys.{document_keys, form_docs, keys_of_pairs, pair_keys, value_keys}
-use Rattle.plan_keys.proofs.ListLemmas.{short_docs, tree_docs}
+use Rattle.attr_compaction.specs.PhaseKeys.{document_keys, form_docs, keys_of_pairs, pair_keys, value_keys}
+use Rattle.attr_compaction.proofs.ListLemmas.{short_docs, tree_docs}
 use Rattle.attr_cleared.specs.IndexLaws.{KeysAreSame}
 
 abbrev Docs : Type 0

@@ -21,8 +21,8 @@ use Rattle.attr_compaction.specs.Places.{doc_in, key_cmp, PlanPlace}
 use Rattle.attr_compaction.specs.declared.plan.PlanKey.{PlanKey}
 use Rattle.attr_compaction.specs.declared.plan.PlanKey.TheVariants.{Value, Doc}
 use Rattle.attr_compaction.specs.declared.plan.TheConstants.{DOCUMENTS, KEYS, LISTS, NODES}
-use Rattle.plan_keys.proofs.OrderLemmas.{phase_ascends}
-use Rattle.plan_keys.specs.PhaseKeys.{document_keys, key_past, phase_keys}
+use Rattle.attr_compaction.proofs.OrderLemmas.{phase_ascends}
+use Rattle.attr_compaction.specs.PhaseKeys.{document_keys, key_past, phase_keys}
 use Rattle.document_moves.specs.Moves.{AreItemsApart, MovesItems}
 use Rattle.attr_cleared.specs.Cleared.{IsClearedField, IsVisited}
 use Rattle.attr_cleared.proofs.PlanVisits.{all_keys_of, next_visited, none_behind, others_visited}

@@ -20,8 +20,8 @@ use Rattle.document_moves.specs.Moves.{AreItemsApart}
 use Rattle.enum_dictionary.specs.Dictionaries.{beside_value}
 use Rattle.index_moves.specs.Moves.{MovesKey}
 use Rattle.index_moves.proofs.KeyLemmas.{key_of}
-use Rattle.plan_keys.proofs.OrderLemmas.{phase_ascends}
-use Rattle.plan_keys.specs.PhaseKeys.{value_keys}
+use Rattle.attr_compaction.proofs.OrderLemmas.{phase_ascends}
+use Rattle.attr_compaction.specs.PhaseKeys.{value_keys}
 use Rattle.attr_cleared.proofs.PlanVisits.{next_visited, none_behind}
 use Rattle.value_index.specs.Indexes.{IsValuePair}
 use Rattle.value_index.proofs.IndexLemmas.{pair_reach}

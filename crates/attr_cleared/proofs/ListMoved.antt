@@ -34,8 +34,8 @@ use Rattle.attr_types.specs.declared.value.Value.{Value}
 use Rattle.enum_dictionary.specs.Dictionaries.{beside_value}
 use Rattle.index_moves.specs.Moves.{FormIsApart, MovesList}
 use Rattle.index_moves.proofs.KeyLemmas.{key_of}
-use Rattle.plan_keys.proofs.OrderLemmas.{phase_ascends}
-use Rattle.plan_keys.specs.PhaseKeys.{form_docs, pair_keys}
+use Rattle.attr_compaction.proofs.OrderLemmas.{phase_ascends}
+use Rattle.attr_compaction.specs.PhaseKeys.{form_docs, pair_keys}
 use Rattle.attr_cleared.specs.Visits.{place_at_key, IsAmongKeys}
 use Rattle.attr_cleared.proofs.PlanVisits.{all_before, next_visited}
 use Rattle.posting_store.specs.Lists.{list_at, list_reach}

@@ -29,8 +29,8 @@ use Rattle.attr_compaction.specs.Places.{doc_in, key_cmp, rank_of, PlanPlace}
 use Rattle.attr_compaction.specs.declared.plan.PlanKey.{PlanKey}
 use Rattle.attr_compaction.specs.declared.plan.PlanKey.TheVariants.{Value, Doc}
 use Rattle.attr_compaction.specs.declared.plan.TheConstants.{DOCUMENTS, KEYS, LISTS, NODES}
-use Rattle.plan_keys.proofs.OrderLemmas.{phase_ascends}
-use Rattle.plan_keys.specs.PhaseKeys.{document_keys, key_past, node_phase_keys, phase_keys, value_keys}
+use Rattle.attr_compaction.proofs.OrderLemmas.{phase_ascends}
+use Rattle.attr_compaction.specs.PhaseKeys.{document_keys, key_past, node_phase_keys, phase_keys, value_keys}
 use Rattle.document_moves.specs.Moves.{AreItemsApart, MovesDocumentNodes}
 use Rattle.attr_cleared.specs.Cleared.{IsClearedField, IsVisited}
 use Rattle.attr_cleared.proofs.PlanVisits.{next_visited, others_visited}

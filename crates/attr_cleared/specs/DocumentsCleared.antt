@@ -13,7 +13,7 @@ use Rattle.attr_compaction.specs.Places.{PlanPlace}
 use Rattle.attr_compaction.specs.declared.plan.PlanKey.{PlanKey}
 use Rattle.attr_compaction.specs.declared.plan.PlanKey.TheVariants.{Doc}
 use Rattle.attr_compaction.specs.declared.plan.TheConstants.{DOCUMENTS, NODES}
-use Rattle.plan_keys.specs.PhaseKeys.{key_past, phase_keys}
+use Rattle.attr_compaction.specs.PhaseKeys.{key_past, phase_keys}
 use Rattle.document_moves.specs.Moves.{CanMoveItems, MovesDocumentNodes, MovesItems}
 use Rattle.attr_cleared.specs.Cleared.{IsClearedField}
 use Rattle.attr_cleared.specs.Visits.{place_at_key}

@@ -16,7 +16,7 @@ use Rattle.attr_types.specs.declared.kind.Kind.{Kind}
 use Rattle.attr_types.specs.declared.kind.ValueType.{ValueType}
 use Rattle.attr_types.specs.declared.value.Value.{Value}
 use Rattle.index_moves.specs.Moves.{MovesKey, MovesList, MovesNodes}
-use Rattle.plan_keys.specs.PhaseKeys.{phase_keys}
+use Rattle.attr_compaction.specs.PhaseKeys.{phase_keys}
 use Rattle.value_index.specs.Indexes.{index_part, IsIndex}
 use Rattle.attr_cleared.specs.IndexTurns.{IsTurn, LeavesBuffer}
 use Rattle.attr_cleared.specs.Visits.{place_at_key}

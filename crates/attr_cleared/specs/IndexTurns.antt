@@ -8,7 +8,7 @@ use Rattle.attr_compaction.specs.Places.{PlanPlace}
 use Rattle.attr_compaction.specs.declared.plan.PlanKey.{PlanKey}
 use Rattle.attr_images.specs.Tables.{AttributeTrees}
 use Rattle.doc_vector.specs.Documents.{IsDocumentMap}
-use Rattle.plan_keys.specs.PhaseKeys.{key_past, phase_keys}
+use Rattle.attr_compaction.specs.PhaseKeys.{key_past, phase_keys}
 use Rattle.value_index.specs.Indexes.{IsIndex}
 
 -- the place stands in this phase of the attribute of this number, and this key is the next

@@ -6,7 +6,7 @@ use Rattle.attr_compaction.specs.Places.{is_start, key_cmp, place_after, PlanPla
 use Rattle.attr_compaction.specs.declared.plan.PlanKey.{PlanKey}
 use Rattle.attr_compaction.specs.declared.plan.PlanKey.TheVariants.{Start}
 use Rattle.attr_compaction.specs.declared.plan.TheConstants.{PHASES}
-use Rattle.plan_keys.specs.PhaseKeys.{key_past}
+use Rattle.attr_compaction.specs.PhaseKeys.{key_past}
 
 -- it is one of these keys
 abbrev pub IsAmongKeys : PlanKey → List PlanKey → Type 0

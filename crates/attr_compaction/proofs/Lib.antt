@@ -1,1 +1,6 @@
 pub mod PlaceLemmas
+pub mod NextLemmas
+pub mod ListLemmas
+pub mod OrderLemmas
+pub mod StageLemmas
+pub mod CountLemmas

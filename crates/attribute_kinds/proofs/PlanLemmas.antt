@@ -12,7 +12,7 @@ use Rattle.attr_images.specs.Tables.{AttributeTrees}
 use Rattle.attr_types.specs.declared.field.Field.{Field}
 use Rattle.attr_types.specs.declared.kind.ValueType.{ValueType}
 use Rattle.attr_types.specs.declared.op.Op.{Op}
-use Rattle.plan_keys.specs.PhaseKeys.{HasType}
+use Rattle.attr_compaction.specs.PhaseKeys.{HasType}
 use Rattle.attr_steps.specs.Calls.{KeepsStore}
 use Rattle.attr_steps.specs.Commits.{CommitsAttributes}
 use Rattle.attr_steps.specs.Fields.{FlowsTrees, HoldsAttributes}

@@ -12,7 +12,7 @@ use Rattle.attr_images.specs.Tables.{attributes_reach}
 use Rattle.attr_steps.specs.Calls.{IsOutOfRoom, LeavesEntries}
 use Rattle.compact_steps.specs.Compactions.{place_of_plan, IsUnderPlan}
 use Rattle.compact_steps.specs.Units.{IsActiveWidth}
-use Rattle.plan_counts.specs.Counts.{keys_between}
+use Rattle.attr_compaction.specs.Counts.{keys_between}
 use Rattle.attribute_kinds.specs.Views.{AttributeView}
 use Rattle.attribute_kinds.specs.declared.answers.AttrError.{AttrError}
 use Rattle.attribute_kinds.specs.declared.answers.AttrError.TheVariants.{Full, CommitsSpent, Memory}

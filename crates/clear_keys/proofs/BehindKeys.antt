@@ -18,9 +18,9 @@ use Rattle.attr_compaction.specs.Places.{key_cmp}
 use Rattle.attr_compaction.specs.declared.plan.PlanKey.{PlanKey}
 use Rattle.attr_compaction.specs.declared.plan.PlanKey.TheVariants.{Value, Doc, Pair}
 use Rattle.enum_dictionary.specs.Dictionaries.{behind, beside_value}
-use Rattle.plan_keys.proofs.ListLemmas.{beside_pair, short_docs}
-use Rattle.plan_keys.proofs.NextLemmas.{lt_cmp, past_number}
-use Rattle.plan_keys.specs.PhaseKeys.{form_docs, keys_of_pairs, IsListPair}
+use Rattle.attr_compaction.proofs.ListLemmas.{beside_pair, short_docs}
+use Rattle.attr_compaction.proofs.NextLemmas.{lt_cmp, past_number}
+use Rattle.attr_compaction.specs.PhaseKeys.{form_docs, keys_of_pairs, IsListPair}
 use Rattle.clear_keys.specs.Sights.{IsRecordApart}
 use Rattle.clear_keys.proofs.Through.{keys_behind, past, whole_behind}
 

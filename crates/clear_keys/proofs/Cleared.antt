@@ -29,8 +29,8 @@ use Rattle.attr_types.specs.Value.{value_cmp}
 use Rattle.attr_types.specs.declared.value.Value.{Value as AnyValue}
 use Rattle.document_moves.specs.Moves.{AreItemsApart}
 use Rattle.enum_dictionary.specs.Dictionaries.{behind}
-use Rattle.plan_keys.proofs.OrderLemmas.{phase_ascends}
-use Rattle.plan_keys.specs.PhaseKeys.{document_keys, form_docs, pair_keys, phase_keys, value_keys}
+use Rattle.attr_compaction.proofs.OrderLemmas.{phase_ascends}
+use Rattle.attr_compaction.specs.PhaseKeys.{document_keys, form_docs, pair_keys, phase_keys, value_keys}
 use Rattle.value_index.specs.Indexes.{IsIndex, IsValuePair}
 use Rattle.clear_keys.specs.Passes.{GoesThrough}
 use Rattle.clear_keys.specs.Sights.{IsRecordApart}

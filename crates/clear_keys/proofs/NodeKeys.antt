@@ -33,7 +33,7 @@ use Rattle.attr_types.specs.declared.kind.ValueType.{ValueType}
 use Rattle.attr_types.specs.declared.value.Value.{Value as AnyValue}
 use Rattle.enum_dictionary.proofs.BehindLemmas.{behind_apart, behind_equal}
 use Rattle.enum_dictionary.specs.Dictionaries.{behind, beside_value}
-use Rattle.plan_keys.specs.PhaseKeys.{document_keys, node_phase_keys, phase_keys, value_keys}
+use Rattle.attr_compaction.specs.PhaseKeys.{document_keys, node_phase_keys, phase_keys, value_keys}
 use Rattle.value_index.specs.Indexes.{IsIndex}
 use Rattle.clear_keys.specs.Passes.{CanPass, GoesThrough, Passes}
 use Rattle.clear_keys.specs.Sights.{IsRun}

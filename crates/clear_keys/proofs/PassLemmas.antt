@@ -12,9 +12,9 @@ use Rattle.attr_images.specs.Tables.{AttributeTrees}
 use Rattle.attr_images.specs.Values.{stored_value}
 use Rattle.attr_types.specs.declared.value.Value.{Value as AnyValue}
 use Rattle.enum_dictionary.specs.Dictionaries.{behind, beside_value}
-use Rattle.plan_keys.proofs.ListLemmas.{list_pairs}
-use Rattle.plan_keys.proofs.OrderLemmas.{phase_ascends}
-use Rattle.plan_keys.specs.PhaseKeys.{document_keys, keys_of_pairs, pair_keys, phase_keys, value_keys}
+use Rattle.attr_compaction.proofs.ListLemmas.{list_pairs}
+use Rattle.attr_compaction.proofs.OrderLemmas.{phase_ascends}
+use Rattle.attr_compaction.specs.PhaseKeys.{document_keys, keys_of_pairs, pair_keys, phase_keys, value_keys}
 use Rattle.clear_keys.specs.Passes.{CanPass, GoesThrough, Passes}
 use Rattle.clear_keys.specs.Sights.{StandsApart, IsRun}
 use Rattle.clear_keys.specs.declared.sights.Sight.TheVariants as sights

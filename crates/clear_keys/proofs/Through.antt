@@ -12,7 +12,7 @@ use Rattle.attr_compaction.proofs.PlaceLemmas.{key_total}
 use Rattle.attr_compaction.specs.Places.{key_cmp, PlanPlace}
 use Rattle.attr_compaction.specs.declared.plan.PlanKey.{PlanKey}
 use Rattle.attr_compaction.specs.declared.plan.PlanKey.TheVariants.{Start}
-use Rattle.plan_keys.specs.PhaseKeys.{first_item, key_past}
+use Rattle.attr_compaction.specs.PhaseKeys.{first_item, key_past}
 use Rattle.clear_keys.specs.Passes.{GoesThrough}
 
 abbrev pub Up : List PlanKey → Type 0

@@ -7,7 +7,7 @@ use Rattle.attr_compaction.specs.Places.{PlanPlace}
 use Rattle.attr_compaction.specs.declared.plan.PlanKey.{PlanKey}
 use Rattle.attr_field.specs.Documents.{IsDocuments}
 use Rattle.attr_images.specs.Tables.{AttributeTrees}
-use Rattle.plan_keys.specs.PhaseKeys.{key_past, phase_keys, HasType}
+use Rattle.attr_compaction.specs.PhaseKeys.{key_past, phase_keys, HasType}
 use Rattle.value_index.specs.Indexes.{IsIndex}
 
 -- each of these keys is the next one past the one before it, and the last is this one; where there are none it is the first

@@ -9,7 +9,7 @@ ghost use Rattle.attr_field.specs.Fields.{IsField};
 ghost use Rattle.attr_images.specs.Values.{stored_value, IsValueRecord};
 ghost use Rattle.attr_types.specs.Value.{type_of};
 ghost use Rattle.enum_dictionary.specs.Dictionaries.{beside_value, IsDictionary};
-ghost use Rattle.plan_keys.specs.PhaseKeys.{HasType};
+ghost use Rattle.attr_compaction.specs.PhaseKeys.{HasType};
 ghost use Rattle.clear_keys.specs.Passes.{CanPass, Passes};
 
 use crate::nodes::{pass_map_nodes, pass_value_nodes};

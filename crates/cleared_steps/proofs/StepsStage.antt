@@ -22,7 +22,7 @@ use Rattle.attr_types.specs.declared.kind.Kind.{Kind}
 use Rattle.attr_types.specs.declared.kind.ValueType.{ValueType}
 use Rattle.attr_types.specs.declared.value.Value.{Value}
 use Rattle.document_moves.specs.Moves.{AreItemsApart}
-use Rattle.plan_keys.specs.PhaseKeys.{document_keys, form_docs, key_past, keys_of_pairs, phase_keys, value_keys}
+use Rattle.attr_compaction.specs.PhaseKeys.{document_keys, form_docs, key_past, keys_of_pairs, phase_keys, value_keys}
 use Rattle.attr_cleared.proofs.PlanVisits.{end_visited, others_visited, stage_visited}
 use Rattle.attr_cleared.proofs.IndexClauses.{key_left, key_right}
 use Rattle.attr_cleared.specs.Visits.{place_at_key, IsAmongKeys}

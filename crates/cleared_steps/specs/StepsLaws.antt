@@ -14,7 +14,7 @@ use Rattle.attr_compaction.specs.Places.{first_place, place_after, PlanPlace}
 use Rattle.attr_compaction.specs.declared.plan.PlanKey.{PlanKey}
 use Rattle.attr_compaction.specs.declared.plan.PlanKey.TheVariants.{Start}
 use Rattle.attr_compaction.specs.declared.plan.TheConstants.{PHASES}
-use Rattle.plan_keys.specs.PhaseKeys.{key_past, phase_keys}
+use Rattle.attr_compaction.specs.PhaseKeys.{key_past, phase_keys}
 use Rattle.attr_cleared.specs.Visits.{place_at_key}
 use Rattle.attr_cleared.specs.Cleared.{IsCleared, IsClearedField}
 

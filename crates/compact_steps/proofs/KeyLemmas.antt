@@ -5,7 +5,7 @@ use Rattle.std.specs.List.{find, flat_map, AllByRecursion}
 use Rattle.attr_images.proofs.ImageLemmas.{value_typed}
 use Rattle.list_facts.proofs.Each.{AllByRecursion-append}
 use Rattle.list_facts.proofs.Options.{same_Some}
-use Rattle.plan_counts.proofs.StageLemmas.{less_is}
+use Rattle.attr_compaction.proofs.StageLemmas.{less_is}
 use Rattle.entry_ref.specs.Records.{Records, SameAt}
 use Rattle.tree_read.specs.ProofsForTrees.{SameAt-left, SameAt-right, flat_map-same, map-same, tree_pairs-same}
 use Rattle.tree_read.specs.Trees.{tree_nodes, tree_pairs}
@@ -20,7 +20,7 @@ use Rattle.attr_compaction.specs.declared.plan.PlanKey.{PlanKey}
 use Rattle.attr_compaction.specs.declared.plan.PlanKey.TheVariants.{Value, Doc, Pair}
 use Rattle.attr_compaction.specs.declared.plan.TheConstants.{DOCUMENTS, KEYS, LISTS, PHASES}
 use Rattle.value_index.specs.Indexes.{index_reach}
-use Rattle.plan_keys.specs.PhaseKeys.{document_keys, form_docs, key_past, keys_of_pairs, pair_keys, value_keys, HasType}
+use Rattle.attr_compaction.specs.PhaseKeys.{document_keys, form_docs, key_past, keys_of_pairs, pair_keys, value_keys, HasType}
 use Rattle.attr_steps.specs.Fields.{part_of}
 use Rattle.compact_steps.specs.Units.{keys_at, KeepKeys}
 

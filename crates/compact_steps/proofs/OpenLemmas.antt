@@ -21,8 +21,8 @@ use Rattle.attr_steps.specs.Fields.{HoldsAttributes, parts_of, root_entries}
 use Rattle.attr_steps.specs.Views.{table_at}
 use Rattle.store_api.specs.Parts.{entries}
 use Rattle.compact_steps.specs.Units.{IsUnderWay}
-use Rattle.plan_keys.specs.PhaseKeys.{HasType}
-use Rattle.plan_counts.specs.Counts.{keys_between}
+use Rattle.attr_compaction.specs.PhaseKeys.{HasType}
+use Rattle.attr_compaction.specs.Counts.{keys_between}
 use Rattle.cleared_steps.specs.StepsLaws.{FirstIsCleared}
 use Rattle.compact_steps.proofs.WalkLemmas.{keeps_then, refused_since}
 use Rattle.compact_steps.specs.Compactions.{Empties, GoesTo, IsUnderPlan, KeepsStoreBut, OpensPlan, RefusesStep, Went}

@@ -23,11 +23,11 @@ use Rattle.attr_types.specs.declared.field.Field.{Field}
 use Rattle.attr_steps.specs.Fields.{IsFieldAt}
 use Rattle.clear_keys.specs.Passes.{GoesThrough}
 use Rattle.cleared_steps.specs.StepsLaws.{OthersStayCleared}
-use Rattle.plan_counts.proofs.CountLemmas.{next_more, same_between}
-use Rattle.plan_counts.proofs.StageLemmas.{under}
-use Rattle.plan_counts.specs.Counts.{keys_between}
-use Rattle.plan_keys.proofs.OrderLemmas.{phase_ascends}
-use Rattle.plan_keys.specs.PhaseKeys.{HasType}
+use Rattle.attr_compaction.proofs.CountLemmas.{next_more, same_between}
+use Rattle.attr_compaction.proofs.StageLemmas.{under}
+use Rattle.attr_compaction.specs.Counts.{keys_between}
+use Rattle.attr_compaction.proofs.OrderLemmas.{phase_ascends}
+use Rattle.attr_compaction.specs.PhaseKeys.{HasType}
 use Rattle.compact_steps.proofs.KeyLemmas.{next_fits}
 use Rattle.compact_steps.proofs.TurnLemmas.{place_is, plan_is}
 use Rattle.compact_steps.proofs.WalkLemmas.{found_past, stages_left}

@@ -17,7 +17,7 @@ use Rattle.attr_compaction.specs.declared.plan.TheConstants.{PHASES}
 use Rattle.attr_field.specs.declared.roots.FieldRoots.{FieldRoots}
 use Rattle.attr_images.specs.Tables.{AttributeTrees}
 use Rattle.attr_types.specs.declared.field.Field.{Field}
-use Rattle.plan_keys.specs.PhaseKeys.{key_past, HasType}
+use Rattle.attr_compaction.specs.PhaseKeys.{key_past, HasType}
 use Rattle.attr_steps.specs.Calls.{KeepsStore, LeavesEntries}
 use Rattle.attr_steps.specs.Fields.{HoldsAttributes, IsFieldAt, trees_of, trees_of_field}
 use Rattle.attr_steps.specs.Views.{table_at}

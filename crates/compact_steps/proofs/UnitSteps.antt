@@ -35,7 +35,7 @@ use Rattle.attr_types.specs.declared.field.Field.{Field}
 use Rattle.attr_types.specs.declared.kind.Kind.{Kind}
 use Rattle.attr_types.specs.declared.kind.ValueType.{ValueType}
 use Rattle.attr_field.proofs.CopyLemmas.{refers_some}
-use Rattle.plan_keys.specs.PhaseKeys.{key_past, phase_keys, HasType}
+use Rattle.attr_compaction.specs.PhaseKeys.{key_past, phase_keys, HasType}
 use Rattle.attr_steps.specs.Calls.{KeepsStore}
 use Rattle.attr_steps.specs.Counts.{SparesAtMost}
 use Rattle.attr_steps.specs.Fields.{AllReferBeside, HoldsAttributes, IsFieldAt, part_of, parts_of, root_entries}

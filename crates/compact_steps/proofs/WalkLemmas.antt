@@ -31,11 +31,11 @@ use Rattle.compact_steps.specs.declared.unit.Turn.{Turn}
 use Rattle.compact_steps.specs.declared.unit.Turn.TheVariants.{Moved, PhaseOver}
 use Rattle.compact_steps.specs.Walks.{HasLastField, RefusesNext, Visits, Walks}
 use Rattle.compact_steps.specs.declared.walk.Walk.TheVariants.{Visited}
-use Rattle.plan_counts.proofs.CountLemmas.{end_no_more, next_more, none_between, same_between}
-use Rattle.plan_counts.proofs.StageLemmas.{less_is, under}
-use Rattle.plan_counts.specs.Counts.{keys_between}
-use Rattle.plan_keys.proofs.OrderLemmas.{phase_ascends}
-use Rattle.plan_keys.specs.PhaseKeys.{key_past}
+use Rattle.attr_compaction.proofs.CountLemmas.{end_no_more, next_more, none_between, same_between}
+use Rattle.attr_compaction.proofs.StageLemmas.{less_is, under}
+use Rattle.attr_compaction.specs.Counts.{keys_between}
+use Rattle.attr_compaction.proofs.OrderLemmas.{phase_ascends}
+use Rattle.attr_compaction.specs.PhaseKeys.{key_past}
 
 -- ---- what is kept
 pub keeps_then : {H : Type 0} (a b c : Ledger H) → KeepsStore a b → KeepsStore b c → KeepsStore a c

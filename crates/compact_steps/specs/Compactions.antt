@@ -17,7 +17,7 @@ use Rattle.compact_steps.specs.Units.{IsUnderWay}
 use Rattle.compact_steps.specs.Walks.{HasLastField, RefusesNext, Stops}
 use Rattle.compact_steps.specs.declared.stepping.Step.{Step}
 use Rattle.compact_steps.specs.declared.stepping.Step.TheVariants.{Idle, Moved, Finished}
-use Rattle.plan_counts.specs.Counts.{keys_between}
+use Rattle.attr_compaction.specs.Counts.{keys_between}
 
 -- where a compaction stands; one that is not begun yet stands before the first key
 abbrev pub place_of_plan : Option PlanView → PlanPlace

@@ -14,7 +14,7 @@ use Rattle.attr_compaction.specs.declared.plan.PlanKey.{PlanKey}
 use Rattle.attr_compaction.specs.declared.plan.PlanKey.TheVariants.{Start}
 use Rattle.attr_images.specs.Tables.{AttributeTrees}
 use Rattle.attr_types.specs.declared.field.Field.{Field}
-use Rattle.plan_keys.specs.PhaseKeys.{key_past, phase_keys, HasType}
+use Rattle.attr_compaction.specs.PhaseKeys.{key_past, phase_keys, HasType}
 use Rattle.clear_keys.specs.Passes.{GoesThrough}
 use Rattle.attr_steps.specs.Fields.{HoldsAttributes}
 use Rattle.attr_steps.specs.Views.{table_at}

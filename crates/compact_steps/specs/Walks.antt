@@ -14,7 +14,7 @@ use Rattle.attr_steps.specs.Views.{table_at}
 use Rattle.compact_steps.specs.Units.{HasActive, IsUnderWay, KeepKeys, SparesBelow}
 use Rattle.compact_steps.specs.declared.walk.Walk.{Walk}
 use Rattle.compact_steps.specs.declared.walk.Walk.TheVariants.{Visited, Over}
-use Rattle.plan_counts.specs.Counts.{keys_between}
+use Rattle.attr_compaction.specs.Counts.{keys_between}
 
 -- past the last phase the plan is in its last attribute
 pub record HasLastField (plan : PlanView) : Type 0 where

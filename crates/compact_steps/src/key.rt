@@ -2,17 +2,16 @@ ghost use Rattle.std.specs.Prelude.{◌≡◌, ◌<◌, set, slice_get, Some, If
 ghost use Rattle.attr_compaction.specs.declared.plan.TheConstants.{PHASES};
 ghost use Rattle.attr_steps.specs.Calls.{KeepsStore, LeavesEntries, RefusesUnit};
 ghost use Rattle.attr_steps.specs.Fields.{HoldsAttributes, IsFieldAt, trees_of, trees_of_field};
-ghost use Rattle.plan_keys.specs.PhaseKeys.{key_past, HasType};
+ghost use Rattle.attr_compaction.specs.PhaseKeys.{key_past, HasType};
 ghost use Rattle.compact_steps.specs.Units.{keys_at, plan_at, CompactsTo, HasActive, IsUnderWay, SparesBelow};
 
-use attr_compaction::{Plan, PlanKey};
+use attr_compaction::{Plan, PlanKey, next_key};
 use attr_field::{FieldRoots, field_law};
 use attr_types::Field;
 use cleared_steps::{same_law, stage_law};
 use entry_ref::EntryRef;
 use field_moves::move_one;
 use arena_api::Frozen;
-use plan_keys::next_key;
 use std::alloc::{AllocError, Global};
 use store_api::{Store, StoreError};
 

@@ -23,7 +23,7 @@ use Rattle.attr_index.specs.Index.{IsIndexOf}
 use Rattle.attr_types.specs.declared.kind.Kind.{Kind}
 use Rattle.attr_types.specs.declared.kind.ValueType.{ValueType}
 use Rattle.index_moves.specs.Moves.{IsKeyIn}
-use Rattle.plan_keys.specs.PhaseKeys.{phase_keys}
+use Rattle.attr_compaction.specs.PhaseKeys.{phase_keys}
 use Rattle.value_index.specs.Indexes.{index_part, index_reach, IsIndex, IsKey}
 use Rattle.value_index.specs.Laws.{IndexStays}
 use Rattle.value_index.proofs.IndexLemmas.{keys_same, pair_reach}

@@ -19,7 +19,7 @@ use Rattle.attr_types.specs.Value.{type_of}
 use Rattle.attr_types.specs.declared.value.Value.{Value as AnyValue}
 use Rattle.document_moves.specs.Moves.{CanMoveItems, MovesDocumentNodes, MovesItems}
 use Rattle.index_moves.specs.Moves.{MovesKey, MovesList, MovesNodes}
-use Rattle.plan_keys.specs.PhaseKeys.{key_past, phase_keys}
+use Rattle.attr_compaction.specs.PhaseKeys.{key_past, phase_keys}
 use Rattle.value_index.specs.Indexes.{index_part, IsIndex, IsKey}
 use Rattle.value_index.specs.Laws.{IndexStays}
 use Rattle.attr_cleared.specs.DocumentsCleared.{IsNext, AreTrees, ItemsAreCleared, ItemsCanMove, MapIsCleared, NodesCanMove}

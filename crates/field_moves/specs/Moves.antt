@@ -11,7 +11,7 @@ use Rattle.attr_images.specs.Documents.{column_at}
 use Rattle.attr_types.specs.declared.kind.Kind.{Kind}
 use Rattle.attr_types.specs.declared.kind.ValueType.{ValueType}
 use Rattle.index_moves.specs.Moves.{IsKeyIn}
-use Rattle.plan_keys.specs.PhaseKeys.{phase_keys}
+use Rattle.attr_compaction.specs.PhaseKeys.{phase_keys}
 use Rattle.value_index.specs.Indexes.{IsKey}
 
 -- a unit has just begun: what is in use was so when it began

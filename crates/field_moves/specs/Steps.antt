@@ -9,7 +9,7 @@ use Rattle.attr_compaction.specs.declared.plan.PlanKey.{PlanKey}
 use Rattle.attr_field.specs.Fields.{field_part, IsField, RefersBeside}
 use Rattle.attr_images.specs.Tables.{AttributeTrees}
 use Rattle.field_moves.specs.Moves.{HasBegun, MovesField}
-use Rattle.plan_keys.specs.PhaseKeys.{key_past, phase_keys}
+use Rattle.attr_compaction.specs.PhaseKeys.{key_past, phase_keys}
 
 -- in a unit that has just begun an attribute stands, cleared up to the plan's place, and the key is the next of the phase
 pub record CanMove {H : Type 0} (bits : ℕ) (ledger : Ledger H) (m : Records) (a : AttributeTrees) (plan : PlanView) (phase : ℕ)

@@ -9,7 +9,7 @@ ghost use Rattle.attr_field.specs.Fields.{field_part, IsField, RefersBeside};
 ghost use Rattle.value_index.specs.Counts.{MakesFew};
 ghost use Rattle.field_moves.specs.Moves.{HasBegun, MovesField};
 ghost use Rattle.field_moves.specs.Steps.{CanMove, Moved};
-ghost use Rattle.plan_keys.specs.PhaseKeys.{key_past, phase_keys};
+ghost use Rattle.attr_compaction.specs.PhaseKeys.{key_past, phase_keys};
 
 use crate::documents::{move_document_items, move_map_nodes};
 use crate::indexes::{move_value_key, move_value_list, move_value_nodes};

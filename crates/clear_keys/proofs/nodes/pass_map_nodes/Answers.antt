@@ -3,7 +3,7 @@ use Rattle.attr_cleared.specs.Cleared.{trees_of_roots}
 use Rattle.tree_read.specs.Pairs.{seek}
 use Rattle.tree_read.specs.Trees.{by_number, tree_pairs}
 use Rattle.enum_dictionary.proofs.BehindLemmas.{All-seek}
-use Rattle.plan_keys.proofs.NextLemmas.{unit_all}
+use Rattle.attr_compaction.proofs.NextLemmas.{unit_all}
 use Rattle.clear_keys.specs.Sights.{IsRun}
 use Rattle.clear_keys.specs.Ways.{IsWayApart}
 use Rattle.clear_keys.proofs.NodeKeys.{map_nodes_pass}

@@ -1,6 +1,6 @@
 use Rattle.std.proofs.Common.{refl, sym, subst, ◌∙◌, arith}
 use Rattle.attr_compaction.specs.declared.plan.PlanKey.{PlanKey}
-use Rattle.plan_keys.specs.PhaseKeys.{HasType}
+use Rattle.attr_compaction.specs.PhaseKeys.{HasType}
 use Rattle.clear_keys.proofs.passing.pass_clear.Goals as goal
 
 pub returns-in-Start-clause-same : goal.returns-in-Start-clause-same

@@ -5,7 +5,7 @@ use Rattle.tree_read.specs.Pairs.{seek}
 use Rattle.tree_read.specs.Trees.{tree_pairs}
 use Rattle.tree_read.specs.SearchPlaces.{pairs_from, IsAt}
 use Rattle.enum_dictionary.proofs.BehindLemmas.{All-seek}
-use Rattle.plan_keys.proofs.NextLemmas.{unit_all}
+use Rattle.attr_compaction.proofs.NextLemmas.{unit_all}
 use Rattle.clear_keys.specs.Sights.{HasItemRecords, StandsApart, IsRun}
 use Rattle.clear_keys.specs.declared.sights.Sight.TheVariants as sights
 use Rattle.clear_keys.proofs.PairLemmas.{all_items, all_numbers}

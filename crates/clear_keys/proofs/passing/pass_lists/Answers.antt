@@ -8,7 +8,7 @@ use Rattle.attr_images.specs.Values.{stored_value, IsValueRecord}
 use Rattle.attr_types.specs.Value.{type_of}
 use Rattle.attr_types.specs.declared.kind.ValueType.{ValueType}
 use Rattle.enum_dictionary.specs.Dictionaries.{behind, beside_value, IsDictionary}
-use Rattle.plan_keys.proofs.NextLemmas.{all_behind}
+use Rattle.attr_compaction.proofs.NextLemmas.{all_behind}
 use Rattle.posting_store.specs.Lists.{IsPlain}
 use Rattle.clear_keys.specs.Passes.{Passes}
 use Rattle.clear_keys.specs.Sights.{StandsApart, IsRun}

@@ -2,7 +2,7 @@ use Rattle.std.proofs.Common.{◌≡◌, refl, Some, sym, ap, subst, ◌∙◌, 
 use Rattle.entry_ref.specs.Records.{Records}
 use Rattle.store_api.specs.Calls.{IsUsedWidth, RefusesOf}
 use Rattle.store_api.specs.Units.{MayDo}
-use Rattle.plan_keys.specs.PhaseKeys.{key_past}
+use Rattle.attr_compaction.specs.PhaseKeys.{key_past}
 use Rattle.attr_steps.specs.Fields.{trees_of, trees_of_field}
 use Rattle.attr_steps.proofs.FieldSteps.{laws_of}
 use Rattle.attr_steps.proofs.Units.{left_unit, refused_among, keeps_unit}

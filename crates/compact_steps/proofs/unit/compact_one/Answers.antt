@@ -1,7 +1,7 @@
 use Rattle.std.proofs.Common.{◌≡◌, refl, sym, ap, subst, ◌∙◌, arith, None, Some, inl, rules}
 use Rattle.std.proofs.lemmas.Result.{err_from_is_err_and}
 use Rattle.std.specs.Prelude.{set}
-use Rattle.plan_keys.specs.PhaseKeys.{key_past}
+use Rattle.attr_compaction.specs.PhaseKeys.{key_past}
 use Rattle.attr_steps.specs.Calls.{KeepsStore, LeavesEntries, RefusesUnit}
 use Rattle.attr_steps.specs.Fields.{HoldsAttributes, trees_of, trees_of_field}
 use Rattle.attr_steps.specs.Views.{table_at}

@@ -1,0 +1,60 @@
+ghost use Rattle.std.specs.Prelude.{◌≡◌, ◌<◌, ◌/◌, ◌%◌, true, false, nat_lt};
+ghost use Rattle.std.specs.List.{find};
+ghost use Rattle.attr_images.specs.Postings.{list_form};
+ghost use Rattle.posting_store.specs.Lists.{IsList, IsPlain};
+ghost use Rattle.attr_compaction.specs.PhaseKeys.{first_item, form_docs};
+
+use crate::numbers::{first_number, number_past};
+use entry_ref::EntryRef;
+use arena_api::Frozen;
+
+/// Whether a list is one record.
+fn is_short(list: u64) -> bool
+    ensures even { result ≡ true → list % 2 ≡ 0 }
+    ensures odd { result ≡ false → list % 2 ≡ 1 }
+{
+    list % 2 == 0
+}
+
+/// The root of a list that is a tree.
+fn root_of<const OFFSET_BITS: u32>(list: u64) -> EntryRef<OFFSET_BITS>
+    requires { IsPlain list }
+    ensures { result ≡ list / 2 }
+{
+    EntryRef::from_raw((list / 2) as u32)
+}
+
+/// The first document of a list, as a key has it: 0 of a list that is one record.
+pub fn first_in_list<const OFFSET_BITS: u32, F: Frozen<OFFSET_BITS>>(
+    frozen: &mut F,
+    list: u64,
+) -> Option<u32>
+    requires list { IsList (F.records frozen.old) list }
+    requires plain { IsPlain list }
+    requires some { 0 < list }
+    ensures first { result ≡ first_item (form_docs (F.records frozen.old) (list_form list)) }
+    ensures same { frozen.new ≡ frozen.old }
+{
+    if is_short(list) {
+        return Some(0);
+    }
+    first_number(frozen, root_of(list))
+}
+
+/// The first document of a list that is above another, as keys have them.
+pub fn past_in_list<const OFFSET_BITS: u32, F: Frozen<OFFSET_BITS>>(
+    frozen: &mut F,
+    list: u64,
+    doc: u32,
+) -> Option<u32>
+    requires list { IsList (F.records frozen.old) list }
+    requires plain { IsPlain list }
+    requires some { 0 < list }
+    ensures next { result ≡ find (nat_lt doc) (form_docs (F.records frozen.old) (list_form list)) }
+    ensures same { frozen.new ≡ frozen.old }
+{
+    if is_short(list) {
+        return None;
+    }
+    number_past(frozen, root_of(list), doc)
+}

@@ -1,2 +1,0 @@
-pub mod PhaseKeys
-pub mod Laws
