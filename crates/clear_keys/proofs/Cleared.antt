@@ -10,12 +10,12 @@ use Rattle.entry_ref.specs.References.{buffer_of}
 use Rattle.entry_ref.specs.Records.{Among, Records}
 use Rattle.tree_read.specs.Pairs.{choose, seek}
 use Rattle.tree_read.specs.Trees.{tree_pairs}
-use Rattle.attr_cleared.specs.Cleared.{IsClearedField, IsVisited, ListIsCleared, NodesAreCleared}
-use Rattle.attr_cleared.specs.Visits.{place_at_key, IsAmongKeys}
-use Rattle.attr_cleared.proofs.BelowLemmas.{keys_of_tree}
-use Rattle.attr_cleared.proofs.IndexClauses.{pair_in}
-use Rattle.attr_cleared.proofs.IndexPairs.{InPairs, at_pair, each_pair}
-use Rattle.attr_cleared.proofs.PlanVisits.{others_visited}
+use Rattle.compaction_moves.specs.Cleared.{IsClearedField, IsVisited, ListIsCleared, NodesAreCleared}
+use Rattle.compaction_moves.specs.Visits.{place_at_key, IsAmongKeys}
+use Rattle.compaction_moves.proofs.BelowLemmas.{keys_of_tree}
+use Rattle.compaction_moves.proofs.IndexClauses.{pair_in}
+use Rattle.compaction_moves.proofs.IndexPairs.{InPairs, at_pair, each_pair}
+use Rattle.compaction_moves.proofs.PlanVisits.{others_visited}
 use Rattle.attr_compaction.specs.Places.{doc_in, value_in, PlanPlace}
 use Rattle.attr_compaction.specs.declared.plan.PlanKey.{PlanKey}
 use Rattle.attr_compaction.specs.declared.plan.PlanKey.TheVariants as plan
@@ -27,7 +27,7 @@ use Rattle.attr_images.specs.Values.{stored_value}
 use Rattle.attr_types.specs.ProofsForOrder.{value_cmp_total}
 use Rattle.attr_types.specs.Value.{value_cmp}
 use Rattle.attr_types.specs.declared.value.Value.{Value as AnyValue}
-use Rattle.document_moves.specs.Moves.{AreItemsApart}
+use Rattle.compaction_moves.specs.DocumentMoves.{AreItemsApart}
 use Rattle.enum_dictionary.specs.Dictionaries.{behind}
 use Rattle.attr_compaction.proofs.OrderLemmas.{phase_ascends}
 use Rattle.attr_compaction.specs.PhaseKeys.{document_keys, form_docs, pair_keys, phase_keys, value_keys}

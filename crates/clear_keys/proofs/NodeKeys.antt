@@ -15,11 +15,11 @@ use Rattle.tree_read.specs.Trees.{by_number, last_key, tree_nodes, tree_pairs}
 use Rattle.frozen_btree.specs.Paths.{path_nodes, NoneIn}
 use Rattle.frozen_btree.proofs.WayLemmas.{stand_on_ways}
 use Rattle.frozen_btree.specs.Ways.{keys_below, tree_keys}
-use Rattle.attr_cleared.specs.Cleared.{IsClearedField}
-use Rattle.attr_cleared.specs.Visits.{place_at_key, IsAmongKeys}
-use Rattle.attr_cleared.proofs.BelowLemmas.{keys_of_tree}
-use Rattle.attr_cleared.proofs.IndexClauses.{key_right, value_in_keys, key_left}
-use Rattle.attr_cleared.proofs.IndexPairs.{InPairs}
+use Rattle.compaction_moves.specs.Cleared.{IsClearedField}
+use Rattle.compaction_moves.specs.Visits.{place_at_key, IsAmongKeys}
+use Rattle.compaction_moves.proofs.BelowLemmas.{keys_of_tree}
+use Rattle.compaction_moves.proofs.IndexClauses.{key_right, value_in_keys, key_left}
+use Rattle.compaction_moves.proofs.IndexPairs.{InPairs}
 use Rattle.attr_compaction.specs.Places.{doc_in, value_in, PlanPlace}
 use Rattle.attr_compaction.specs.declared.plan.PlanKey.{PlanKey}
 use Rattle.attr_compaction.specs.declared.plan.PlanKey.TheVariants as plan

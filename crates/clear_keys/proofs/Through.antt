@@ -5,9 +5,9 @@ use Rattle.std.specs.Prelude.{Some}
 use Rattle.std.specs.List.{find, AllByRecursion}
 use Rattle.std.specs.List.Sorted.{IsStrictlySortedBy}
 use Rattle.std.specs.Ordering.{ordering_reverse}
-use Rattle.attr_cleared.specs.Cleared.{IsVisited}
-use Rattle.attr_cleared.specs.Visits.{place_at_key, IsAmongKeys}
-use Rattle.attr_cleared.proofs.PlanVisits.{next_visited, all_of}
+use Rattle.compaction_moves.specs.Cleared.{IsVisited}
+use Rattle.compaction_moves.specs.Visits.{place_at_key, IsAmongKeys}
+use Rattle.compaction_moves.proofs.PlanVisits.{next_visited, all_of}
 use Rattle.attr_compaction.proofs.PlaceLemmas.{key_total}
 use Rattle.attr_compaction.specs.Places.{key_cmp, PlanPlace}
 use Rattle.attr_compaction.specs.declared.plan.PlanKey.{PlanKey}

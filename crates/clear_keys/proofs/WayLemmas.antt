@@ -16,7 +16,7 @@ use Rattle.tree_read.specs.SearchPlaces.{first_key}
 use Rattle.frozen_btree.proofs.PathLemmas.{path-leaf, path-over, path_nodes-is}
 use Rattle.frozen_btree.specs.Paths.{path_below, NoneIn}
 use Rattle.frozen_btree.proofs.WayLemmas.{flat_up, way_goes}
-use Rattle.attr_cleared.proofs.IndexPairs.{InPairs, at_pair, each_pair, pair_key}
+use Rattle.compaction_moves.proofs.IndexPairs.{InPairs, at_pair, each_pair, pair_key}
 use Rattle.clear_keys.specs.Sights.{IsRun}
 use Rattle.clear_keys.specs.Ways.{IsWay, IsWayApart, IsWayBelow}
 use Rattle.clear_keys.proofs.Cleared.{seek_in, take_in}

@@ -1,8 +1,8 @@
 -- Keys of a phase that are passed at once.
 use Rattle.std.specs.Prelude.{◌≡◌, ℕ, ◌<◌, List, [], ◌∷◌, length, Some}
 use Rattle.entry_ref.specs.Records.{Records}
-use Rattle.attr_cleared.specs.Cleared.{IsClearedField}
-use Rattle.attr_cleared.specs.Visits.{place_at_key}
+use Rattle.compaction_moves.specs.Cleared.{IsClearedField}
+use Rattle.compaction_moves.specs.Visits.{place_at_key}
 use Rattle.attr_compaction.specs.Places.{PlanPlace}
 use Rattle.attr_compaction.specs.declared.plan.PlanKey.{PlanKey}
 use Rattle.attr_field.specs.Documents.{IsDocuments}

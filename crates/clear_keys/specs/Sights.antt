@@ -10,7 +10,7 @@ use Rattle.attr_images.specs.Values.{IsValueRecord}
 use Rattle.attr_types.specs.declared.kind.Kind.{Kind}
 use Rattle.attr_types.specs.declared.kind.ValueType.{ValueType}
 use Rattle.posting_store.specs.Lists.{IsPlain}
-use Rattle.document_moves.specs.Moves.{AreItemsApart}
+use Rattle.compaction_moves.specs.DocumentMoves.{AreItemsApart}
 use Rattle.clear_keys.specs.declared.sights.Sight.{Sight}
 use Rattle.clear_keys.specs.declared.sights.Sight.TheVariants as sights
 

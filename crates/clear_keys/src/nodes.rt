@@ -1,7 +1,7 @@
 //! Keys of the last phase that are passed: no node on the ways to them lies in the victim.
 ghost use Rattle.std.specs.Prelude.{◌≡◌, ◌<◌, ◌≤◌, ◌-◌, true, IfSome, if◌then◌else◌};
 ghost use Rattle.tree_read.specs.Trees.{tree_pairs};
-ghost use Rattle.attr_cleared.specs.Cleared.{trees_of_roots};
+ghost use Rattle.compaction_moves.specs.Cleared.{trees_of_roots};
 ghost use Rattle.attr_compaction.specs.declared.plan.TheConstants.{NODES};
 ghost use Rattle.attr_compaction.specs.declared.plan.PlanKey.TheVariants as keys;
 ghost use Rattle.attr_images.specs.Values.{stored_value};

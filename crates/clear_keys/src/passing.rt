@@ -2,7 +2,7 @@
 ghost use Rattle.std.specs.Prelude.{◌≡◌, ◌<◌, ◌≤◌, ◌%◌, ℕ, false, Some, IfSome};
 ghost use Rattle.tree_read.specs.Trees.{tree_pairs};
 ghost use Rattle.tree_read.specs.Pairs.{lookup_pair};
-ghost use Rattle.attr_cleared.specs.Cleared.{trees_of_roots, IsClearedField};
+ghost use Rattle.compaction_moves.specs.Cleared.{trees_of_roots, IsClearedField};
 ghost use Rattle.attr_compaction.specs.declared.plan.TheConstants.{DOCUMENTS, KEYS, LISTS};
 ghost use Rattle.attr_compaction.specs.declared.plan.PlanKey.TheVariants as keys;
 ghost use Rattle.attr_field.specs.Fields.{IsField};

@@ -4,11 +4,11 @@ ghost use Rattle.entry_ref.specs.References.{buffer_of};
 ghost use Rattle.attr_images.specs.Postings.{list_form};
 ghost use Rattle.posting_store.specs.Lists.{IsPlain};
 ghost use Rattle.attr_images.specs.Documents.{AreItemRecords};
-ghost use Rattle.document_moves.specs.Moves.{AreItemsApart};
+ghost use Rattle.compaction_moves.specs.DocumentMoves.{AreItemsApart};
 ghost use Rattle.clear_keys.specs.Sights.{StandsApart, IsPairOf, IsRecordApart};
 
 use attr_types::{Kind, ValueType};
-use document_moves::items_lie;
+use compaction_moves::items_lie;
 use entry_ref::EntryRef;
 use arena_api::Frozen;
 

@@ -25,8 +25,8 @@ use Rattle.attr_types.specs.Value.{value_cmp}
 use Rattle.attr_types.specs.declared.kind.Kind.{Kind}
 use Rattle.attr_types.specs.declared.kind.ValueType.{ValueType}
 use Rattle.attr_types.specs.declared.value.Value.{Value}
-use Rattle.document_moves.specs.Moves.{AreItemsApart}
-use Rattle.attr_cleared.specs.Cleared.{IsClearedField, IsVisited, ListIsCleared, NodesAreCleared}
+use Rattle.compaction_moves.specs.DocumentMoves.{AreItemsApart}
+use Rattle.compaction_moves.specs.Cleared.{IsClearedField, IsVisited, ListIsCleared, NodesAreCleared}
 use Rattle.cleared_steps.specs.StepsLaws.{AllStayLeavesCleared, StayLeavesCleared}
 use Rattle.cleared_steps.proofs.StepsBelow.{keys_in_tree, keys_stay}
 use Rattle.cleared_steps.proofs.StepsLists.{all_in, all_pairs, IsIn}

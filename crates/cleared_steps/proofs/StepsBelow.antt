@@ -4,7 +4,7 @@ use Rattle.std.specs.declared.cmp.Ordering.{Ordering}
 use Rattle.std.specs.List.{flat_map, AllByRecursion}
 use Rattle.entry_ref.proofs.Pairs.{same-from}
 use Rattle.entry_ref.proofs.Among.{Among-all, Among-append, SameAt-among}
-use Rattle.attr_cleared.proofs.BelowLemmas.{among_flat}
+use Rattle.compaction_moves.proofs.BelowLemmas.{among_flat}
 use Rattle.entry_ref.specs.Records.{Records, Among, SameAt}
 use Rattle.tree_read.proofs.TreeLemmas.{IsNode-form}
 use Rattle.tree_read.specs.Nodes.{level_of, node_values}

@@ -20,9 +20,9 @@ use Rattle.attr_steps.specs.Fields.{IsFieldAt}
 use Rattle.attr_types.specs.declared.kind.Kind.{Kind}
 use Rattle.attr_types.specs.declared.kind.ValueType.{ValueType}
 use Rattle.value_index.specs.Indexes.{IsValuePair}
-use Rattle.attr_cleared.proofs.LeftLemmas.{nothing_left}
-use Rattle.attr_cleared.proofs.VisitLemmas.{nothing_visited}
-use Rattle.attr_cleared.specs.Cleared.{IsClearedField, ListIsCleared}
+use Rattle.compaction_moves.proofs.LeftLemmas.{nothing_left}
+use Rattle.compaction_moves.proofs.VisitLemmas.{nothing_visited}
+use Rattle.compaction_moves.specs.Cleared.{IsClearedField, ListIsCleared}
 use Rattle.cleared_steps.specs.StepsLaws.{FirstIsCleared, NothingIsReached}
 use Rattle.cleared_steps.proofs.StepsLists.{all_in, all_pairs, IsIn}
 use Rattle.cleared_steps.proofs.StepsOwned.{form_of, is_short, is_tree}

@@ -26,14 +26,14 @@ use Rattle.attr_types.specs.declared.kind.Kind.{Kind}
 use Rattle.attr_types.specs.declared.kind.ValueType.{ValueType}
 use Rattle.attr_types.specs.declared.value.Value.{Value}
 use Rattle.doc_vector.specs.Documents as docs
-use Rattle.document_moves.specs.Moves.{AreItemsApart}
+use Rattle.compaction_moves.specs.DocumentMoves.{AreItemsApart}
 use Rattle.enum_dictionary.specs.Dictionaries.{beside_value}
-use Rattle.attr_cleared.proofs.PlanVisits.{earlier_visited}
+use Rattle.compaction_moves.proofs.PlanVisits.{earlier_visited}
 use Rattle.posting_store.proofs.FormLemmas.{reach_form}
 use Rattle.posting_store.specs.Lists.{list_reach}
 use Rattle.value_index.specs.Flows.{list_word}
 use Rattle.value_index.specs.Indexes.{IsValuePair}
-use Rattle.attr_cleared.specs.Cleared.{IsClearedField, IsVisited, ListIsCleared, NodesAreCleared}
+use Rattle.compaction_moves.specs.Cleared.{IsClearedField, IsVisited, ListIsCleared, NodesAreCleared}
 use Rattle.cleared_steps.proofs.StepsBelow.{keys_both, keys_in_tree, node_size}
 use Rattle.cleared_steps.proofs.StepsLists.{all_in, all_keys, all_pairs, all_refs, flat_in, key_in, lookup_in, pair_found, Found, IsIn}
 use Rattle.cleared_steps.proofs.StepsOwned.{form_of, is_short, is_tree, item_owned, key_is_owned, key_owned, list_owned, map_node_owned, short_size, value_node_owned}

@@ -16,7 +16,7 @@ use Rattle.attr_images.specs.Tables.{AttributeTrees}
 use Rattle.attr_steps.specs.Fields.{part_of, parts_of, root_entries, FlowsTrees, HoldsAttributes, IsFieldAt}
 use Rattle.attr_types.specs.declared.kind.Kind.{Kind}
 use Rattle.attr_types.specs.declared.kind.ValueType.{ValueType}
-use Rattle.attr_cleared.specs.Cleared.{IsClearedField}
+use Rattle.compaction_moves.specs.Cleared.{IsClearedField}
 use Rattle.cleared_steps.specs.StepsLaws.{OperationLeavesCleared}
 use Rattle.cleared_steps.proofs.StepsField.{field_next}
 use Rattle.cleared_steps.proofs.StepsOwned.{key_is_owned}

@@ -21,13 +21,13 @@ use Rattle.attr_types.specs.Value.{value_cmp}
 use Rattle.attr_types.specs.declared.kind.Kind.{Kind}
 use Rattle.attr_types.specs.declared.kind.ValueType.{ValueType}
 use Rattle.attr_types.specs.declared.value.Value.{Value}
-use Rattle.document_moves.specs.Moves.{AreItemsApart}
+use Rattle.compaction_moves.specs.DocumentMoves.{AreItemsApart}
 use Rattle.attr_compaction.specs.PhaseKeys.{document_keys, form_docs, key_past, keys_of_pairs, phase_keys, value_keys}
-use Rattle.attr_cleared.proofs.PlanVisits.{end_visited, others_visited, stage_visited}
-use Rattle.attr_cleared.proofs.IndexClauses.{key_left, key_right}
-use Rattle.attr_cleared.specs.Visits.{place_at_key, IsAmongKeys}
+use Rattle.compaction_moves.proofs.PlanVisits.{end_visited, others_visited, stage_visited}
+use Rattle.compaction_moves.proofs.IndexClauses.{key_left, key_right}
+use Rattle.compaction_moves.specs.Visits.{place_at_key, IsAmongKeys}
 use Rattle.value_index.specs.Indexes.{IsValuePair}
-use Rattle.attr_cleared.specs.Cleared.{IsClearedField, IsVisited, ListIsCleared}
+use Rattle.compaction_moves.specs.Cleared.{IsClearedField, IsVisited, ListIsCleared}
 use Rattle.cleared_steps.specs.StepsLaws.{OthersStayCleared, PhaseEndLeavesCleared}
 use Rattle.cleared_steps.proofs.StepsBelow.{keys_in_tree}
 use Rattle.cleared_steps.proofs.StepsLists.{all_in, all_pairs, IsIn}

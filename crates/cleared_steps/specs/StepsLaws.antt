@@ -15,8 +15,8 @@ use Rattle.attr_compaction.specs.declared.plan.PlanKey.{PlanKey}
 use Rattle.attr_compaction.specs.declared.plan.PlanKey.TheVariants.{Start}
 use Rattle.attr_compaction.specs.declared.plan.TheConstants.{PHASES}
 use Rattle.attr_compaction.specs.PhaseKeys.{key_past, phase_keys}
-use Rattle.attr_cleared.specs.Visits.{place_at_key}
-use Rattle.attr_cleared.specs.Cleared.{IsCleared, IsClearedField}
+use Rattle.compaction_moves.specs.Visits.{place_at_key}
+use Rattle.compaction_moves.specs.Cleared.{IsCleared, IsClearedField}
 
 -- where the records that an attribute owns stay, what was cleared of it is so still
 abbrev pub StayLeavesCleared : Type 0

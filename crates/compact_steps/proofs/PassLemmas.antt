@@ -12,7 +12,7 @@ use Rattle.list_facts.proofs.Options.{same_Some}
 use Rattle.list_facts.proofs.Each.{AllByRecursion-slice_get}
 use Rattle.entry_ref.specs.Records.{Records}
 use Rattle.store_api.specs.Ledgers.{Ledger}
-use Rattle.attr_cleared.specs.Cleared.{IsCleared, IsClearedField}
+use Rattle.compaction_moves.specs.Cleared.{IsCleared, IsClearedField}
 use Rattle.attr_compaction.proofs.PlaceLemmas.{key_total, place_total, stage_total}
 use Rattle.attr_compaction.specs.Places.{key_cmp, place_after, place_cmp, IsPast, PlanPlace, PlanView}
 use Rattle.attr_compaction.specs.declared.plan.PlanKey.{PlanKey}

@@ -7,7 +7,7 @@ use Rattle.std.specs.Option.{IfSome, option_and_then}
 use Rattle.list_facts.proofs.Each.{AllByRecursion-slice_get}
 use Rattle.entry_ref.specs.Records.{Records}
 use Rattle.store_api.specs.Ledgers.{Ledger}
-use Rattle.attr_cleared.specs.Cleared.{IsCleared}
+use Rattle.compaction_moves.specs.Cleared.{IsCleared}
 use Rattle.cleared_steps.specs.StepsLaws.{PhaseEndLeavesCleared}
 use Rattle.attr_compaction.proofs.PlaceLemmas.{not_start}
 use Rattle.attr_compaction.specs.Places.{next_stage, place_after, place_cmp, IsPast, PlanPlace, PlanView}

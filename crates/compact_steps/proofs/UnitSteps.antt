@@ -20,12 +20,12 @@ use Rattle.store_api.specs.declared.store.StoreError.TheVariants.{Full, Memory}
 use Rattle.store_api.proofs.PartLemmas.{owns-some}
 use Rattle.store_api.proofs.Uses.{used_has}
 use Rattle.tree_read.specs.declared.node_format.TheConstants.{NODE_WORDS}
-use Rattle.index_moves.specs.Moves.{IsKeyIn}
+use Rattle.compaction_moves.specs.IndexMoves.{IsKeyIn}
 use Rattle.attr_field.specs.Documents.{documents_refer}
 use Rattle.attr_images.specs.Documents.{column_at}
 use Rattle.value_index.specs.Counts.{MakesFew}
 use Rattle.attr_field.specs.Fields.{field_part, IsField}
-use Rattle.attr_cleared.specs.Cleared.{IsCleared, IsClearedField}
+use Rattle.compaction_moves.specs.Cleared.{IsCleared, IsClearedField}
 use Rattle.cleared_steps.specs.StepsLaws.{OthersStayCleared, StayLeavesCleared}
 use Rattle.attr_compaction.specs.Places.{PlanPlace, PlanView}
 use Rattle.attr_compaction.specs.declared.plan.PlanKey.{PlanKey}
@@ -44,7 +44,7 @@ use Rattle.attr_steps.proofs.CountLemmas.{spares_among}
 use Rattle.attr_steps.proofs.PartLists.{count_at}
 use Rattle.attr_steps.proofs.Referring.{RefersAt, all_weaker}
 use Rattle.attr_steps.proofs.TreeLists.{get_set-same, set_length}
-use Rattle.field_moves.specs.Moves.{HasBegun, MovesField}
+use Rattle.compaction_moves.specs.FieldMoves.{HasBegun, MovesField}
 use Rattle.compact_steps.specs.Units.{keys_at, CompactsTo, HasActive, IsUnderWay, SparesBelow}
 use Rattle.compact_steps.proofs.KeyLemmas.{all_keep, keys_stay, next_fits}
 use Rattle.compact_steps.proofs.Moving.{MovesPart, all_stay, mid_are, new_holds, new_table, other_stays}

@@ -8,7 +8,7 @@ use Rattle.arena_api.specs.Works.{active_width}
 use Rattle.store_api.specs.Ledgers.{Ledger}
 use Rattle.store_api.specs.declared.store.StoreError.{StoreError}
 use Rattle.store_api.specs.declared.store.StoreError.TheVariants as errors
-use Rattle.attr_cleared.specs.Cleared.{IsCleared}
+use Rattle.compaction_moves.specs.Cleared.{IsCleared}
 use Rattle.attr_compaction.specs.Places.{place_after, place_cmp, PlanPlace, PlanView}
 use Rattle.attr_compaction.specs.declared.plan.PlanKey.{PlanKey}
 use Rattle.attr_compaction.specs.declared.plan.PlanKey.TheVariants.{Start}

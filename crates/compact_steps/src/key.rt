@@ -10,7 +10,7 @@ use attr_field::{FieldRoots, field_law};
 use attr_types::Field;
 use cleared_steps::{same_law, stage_law};
 use entry_ref::EntryRef;
-use field_moves::move_one;
+use compaction_moves::move_one;
 use arena_api::Frozen;
 use std::alloc::{AllocError, Global};
 use store_api::{Store, StoreError};

@@ -1,5 +1,5 @@
 use Rattle.std.proofs.Common.{◌+◌, ◌<◌, ◌^◌, ℕ, nat_cmp, refl, sym, subst, arith}
-use Rattle.attr_cleared.specs.Cleared.{trees_of_roots}
+use Rattle.compaction_moves.specs.Cleared.{trees_of_roots}
 use Rattle.tree_read.specs.Pairs.{seek}
 use Rattle.tree_read.specs.Trees.{by_number, tree_pairs}
 use Rattle.enum_dictionary.proofs.BehindLemmas.{All-seek}

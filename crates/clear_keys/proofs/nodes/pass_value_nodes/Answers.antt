@@ -1,6 +1,6 @@
 use Rattle.std.proofs.Common.{◌≡◌, ◌<◌, ◌≤◌, ◌-◌, ℕ, Bool, true, false, cond, refl, sym, ap, subst, ◌∙◌, arith}
 use Rattle.tree_read.specs.Trees.{tree_pairs}
-use Rattle.attr_cleared.specs.Cleared.{trees_of_roots}
+use Rattle.compaction_moves.specs.Cleared.{trees_of_roots}
 use Rattle.attr_compaction.specs.declared.plan.PlanKey.TheVariants.{Value}
 use Rattle.attr_images.specs.Values.{stored_value, IsValueRecord}
 use Rattle.attr_types.specs.Value.{value_cmp}

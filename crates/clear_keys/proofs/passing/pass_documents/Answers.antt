@@ -1,6 +1,6 @@
 use Rattle.std.proofs.Common.{◌+◌, ◌<◌, ◌^◌, ℕ, nat_cmp, sym, subst, ◌∙◌, arith}
 use Rattle.std.specs.List.{AllByRecursion}
-use Rattle.attr_cleared.specs.Cleared.{trees_of_roots}
+use Rattle.compaction_moves.specs.Cleared.{trees_of_roots}
 use Rattle.tree_read.specs.Pairs.{seek}
 use Rattle.tree_read.specs.Trees.{tree_pairs}
 use Rattle.tree_read.specs.SearchPlaces.{pairs_from, IsAt}

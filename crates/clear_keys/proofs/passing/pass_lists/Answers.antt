@@ -1,7 +1,7 @@
 use Rattle.std.proofs.Common.{◌≡◌, ℕ, sym, ap, subst, ◌∙◌, arith}
 use Rattle.std.specs.List.{AllByRecursion}
 use Rattle.tree_read.specs.Trees.{tree_pairs}
-use Rattle.attr_cleared.specs.Cleared.{trees_of_roots}
+use Rattle.compaction_moves.specs.Cleared.{trees_of_roots}
 use Rattle.tree_read.specs.SearchPlaces.{pairs_from, IsAt}
 use Rattle.attr_compaction.specs.declared.plan.PlanKey.TheVariants.{Pair}
 use Rattle.attr_images.specs.Values.{stored_value, IsValueRecord}

@@ -1,0 +1,167 @@
+-- A list made anew, of the same documents.
+use Rattle.std.proofs.Common.{◌≡◌, ◌≢◌, ℕ, ℤ, ◌+◌, ◌*◌, ◌/◌, ◌%◌, ◌<◌, ◌≤◌, Bool, cond, nat_eq, List, [], ◌∷◌, map, length, true, false, true≢false, refl, sym, ap, subst, ◌∙◌, arith}
+use Rattle.std.proofs.lemmas.Bool.{eqb-false, eqb-true, le-leb, lt-leb}
+use Rattle.std.proofs.lemmas.List.{length-map}
+use Rattle.std.specs.Ordering.{nat_cmp}
+use Rattle.std.specs.List.{AllByRecursion}
+use Rattle.entry_ref.specs.References.{buffer_of}
+use Rattle.entry_ref.specs.Records.{Records, SameAt}
+use Rattle.store_api.specs.Ledgers.{Ledger, capacity}
+use Rattle.store_api.specs.Parts.{Owns, Turns, count_in, entry, times}
+use Rattle.store_api.specs.Units.{MakesAtMost, MayDo}
+use Rattle.store_api.proofs.PartLemmas.{after, owns-some, turns-as}
+use Rattle.tree_read.specs.Trees.{tree_pairs, by_number, IsTree}
+use Rattle.frozen_btree.specs.Changes.{levels, tree as tree_part}
+use Rattle.frozen_btree.specs.Makes.{CountsNodes}
+use Rattle.frozen_btree.specs.Paths.{path_nodes, NoneIn}
+use Rattle.frozen_btree.proofs.TouchTreeLemmas.{path_nodes-same}
+use Rattle.array_store.specs.Adding.{AddsRecord, MakesOneOf}
+use Rattle.attr_images.specs.Postings.{ListForm, short, tree, vector, list_form, postings_reach, IsPostingList}
+use Rattle.attr_images.specs.Words.{class_of, stored_items, unpacked, IsStoredList}
+use Rattle.posting_store.specs.Changes.{list_part, list_most, MakesList, MakesWithin}
+use Rattle.posting_store.specs.Lists.{list_at, list_levels, list_reach, AreDocuments, IsList, IsPlain}
+use Rattle.posting_store.proofs.ChangeLemmas.{counts_short, makes_short, makes_tree, replaces}
+use Rattle.posting_store.proofs.FormLemmas.{form_short, form_tree, short_at, short_few, short_reach, tree_at, tree_form, tree_levels, tree_reach}
+use Rattle.posting_store.proofs.PairLemmas.{weighed, weighed-length}
+use Rattle.value_index.proofs.CountLemmas.{within_more}
+use Rattle.compaction_moves.specs.IndexMoves.{word_most, FormIsApart}
+
+are_documents : (m : Records) (word : ℕ) → IsList m word → AreDocuments (list_at m word)
+are_documents m word list = record { ascends = list.ascends; numbers = list.numbers }
+
+-- ---- how many records are made
+short_most : (levels count : ℕ) → count ≤ 8 → (w : ℕ) → list_most 0 count w ≤ word_most levels count w
+short_most levels count few w =
+    subst (λ b. cond b (cond (nat_eq w (class_of (1 + count))) 1 0) (cond (nat_eq w 34) (2 * 0 + 1) 0) ≤ cond b (cond (nat_eq w (class_of (1 + count))) 1 0) (cond (nat_eq w 34) levels 0))
+    (sym (le-leb count 8 few)) (omega arith)
+
+tree_within : {H : Type 0} (a b : Ledger H) (levels count : ℕ) → 8 < count → CountsNodes a b levels → MakesWithin a b (word_most levels count)
+tree_within a b levels count many made = record {
+  each = λ w. subst (λ t. MakesAtMost (capacity a.work.sizes.words w) (cond t (cond (nat_eq w (class_of (1 + count))) 1 0) (cond (nat_eq w 34) levels 0)) (a.of_width w) (b.of_width w))
+      (sym (lt-leb count 8 many)) (told w (nat_eq w 34) refl);
+}
+  where
+    told : (w : ℕ) (t : Bool) → nat_eq w 34 ≡ t → MakesAtMost (capacity a.work.sizes.words w) (cond t levels 0) (a.of_width w) (b.of_width w)
+    told w true is = subst (λ x. MakesAtMost (capacity a.work.sizes.words x) levels (a.of_width x) (b.of_width x)) (sym (eqb-true w 34 is)) made.nodes
+    told w false is = made.others (capacity a.work.sizes.words w) w (eqb-false w 34 is)
+
+-- ---- nothing is done
+pub list_kept : {H : Type 0} (a : Ledger H) (m : Records) (word : ℕ) → IsList m word → IsPlain word → Owns a m (list_part word ∷ [])
+    → MakesList a a m m word (list_at m word) word
+list_kept a m word list plain owns = record {
+  list_is = list;
+  plain = plain;
+  docs_are = refl;
+  owns = owns;
+  turns = record { kept = λ r h. refl; balance = λ r. refl };
+}
+
+-- ---- a short list
+module _ (m : Records) (word ref : ℕ) (list : IsList m word) (plain : IsPlain word) (some : 0 < word) (even : word % 2 ≡ 0) (at : ref ≡ word / 2) where
+  word_is : word ≡ 2 * ref
+  word_is = omega arith
+
+  there : 0 < ref
+  there = omega arith
+
+  pub short_stored : IsStoredList 8 (m ref)
+  short_stored = subst (λ (form : ListForm). IsPostingList m form) (form_short word ref plain word_is) (list.form some)
+
+  pub short_docs : list_at m word ≡ map unpacked (stored_items (m ref))
+  short_docs = short_at m word ref plain word_is there
+
+  pub short_size : length (list_at m word) ≡ length (stored_items (m ref))
+  short_size = ap length short_docs ∙ length-map (stored_items (m ref)) unpacked
+
+  pub short_owned : {H : Type 0} (a : Ledger H) → Owns a m (list_part word ∷ []) → Owns a m (entry ref ∷ [])
+  short_owned a owns = owns-some a m (list_part word ∷ []) (entry ref ∷ []) owns
+      (λ r. let e : count_in r m (list_part word ∷ []) ≡ count_in r m (entry ref ∷ []) = ap (λ rs. times r rs + 0) (short_reach m word ref plain word_is there) in omega arith)
+
+  pub short_apart : (bits buffer doc : ℕ) → (buffer_of bits ref ≡ buffer → ⊥) → FormIsApart bits buffer doc m (list_form word)
+  short_apart bits buffer doc apart = subst (FormIsApart bits buffer doc m) (sym (form_short word ref plain word_is)) apart
+
+  -- its record was made anew, and dropped
+  module _ {H : Type 0} (bits : ℕ) (a b : Ledger H) (n : Records) (copy : ℕ) (owns : Owns a m (list_part word ∷ []))
+      (adds : AddsRecord bits a b m n (length (stored_items (m ref)) ∷ stored_items (m ref)) copy) (reads : stored_items (n copy) ≡ stored_items (m ref)) where
+    pub copied : (next : ℕ) → next ≡ 2 * copy → IsPlain next → MakesList a b m n 0 (map unpacked (stored_items (m ref))) next
+    copied next next_is next_plain =
+        let stored = short_stored in
+        makes_short a b m n bits next copy (stored_items (m ref)) next_is next_plain stored.some stored.few
+        (subst AreDocuments short_docs (are_documents m word list)) reads adds
+
+    added : Turns a b m n [] (entry copy ∷ [])
+    added = adds.turns
+
+    pub old_record : Owns b n (entry ref ∷ [])
+    old_record =
+        let own = short_owned a owns in
+        owns-some b n (entry copy ∷ entry ref ∷ []) (entry ref ∷ [])
+        (after a b m n [] (entry copy ∷ []) (entry ref ∷ []) (entry ref ∷ []) (entry copy ∷ entry ref ∷ []) own added (λ k r. omega arith) (λ k r. omega arith)).owns
+        (λ r. omega arith)
+
+    module _ (c : Ledger H) (o : Records) (dropped : Turns b c n o (entry ref ∷ []) []) where
+      old_reach : SameAt (list_reach m word) m n
+      old_reach = (after a b m n [] (entry copy ∷ []) (list_part word ∷ []) (list_part word ∷ []) (entry copy ∷ list_part word ∷ []) owns added (λ k r. omega arith) (λ k r. omega arith)).stay.0
+
+      same_list : list_reach n word ≡ list_reach m word
+      same_list = (list_part word).stays m n old_reach
+
+      dropped_list : Turns b c n o (list_part word ∷ []) []
+      dropped_list = turns-as b c n o (entry ref ∷ []) [] (list_part word ∷ []) [] dropped
+          (λ r. ap (λ rs. times r rs + 0) (same_list ∙ short_reach m word ref plain word_is there)) (λ r. refl)
+
+      pub short_moved : (next : ℕ) → next ≡ 2 * copy → IsPlain next → MakesList a c m o word (list_at m word) next
+      short_moved next next_is next_plain =
+          subst (λ (docs : List (ℕ × ℤ)). MakesList a c m o word docs next) (sym short_docs)
+          (replaces a b c m n o word next (map unpacked (stored_items (m ref))) owns (copied next next_is next_plain) dropped_list)
+
+      pub copy_apart : (buffer doc next : ℕ) → next ≡ 2 * copy → IsPlain next → MayDo a b → a.sealed buffer ≡ true → FormIsApart bits buffer doc o (list_form next)
+      copy_apart buffer doc next next_is next_plain may sealed =
+          subst (FormIsApart bits buffer doc o) (sym (form_short next copy next_plain next_is)) elsewhere
+        where
+          elsewhere : buffer_of bits copy ≢ buffer
+          elsewhere here = true≢false (sym (ap (λ (s : ℕ → _). s buffer) may.sealed ∙ sealed) ∙ sym (ap b.sealed here) ∙ adds.unsealed)
+
+  pub short_counts : {H : Type 0} (a b : Ledger H) → MakesOneOf (class_of (1 + length (stored_items (m ref)))) a b → MakesWithin a b (word_most (list_levels m word) (length (list_at m word)))
+  short_counts a b one =
+      let few = short_few m word plain even list in
+      let made : MakesOneOf (class_of (1 + length (list_at m word))) a b = subst (λ k. MakesOneOf (class_of (1 + k)) a b) (sym short_size) one in
+      within_more a b (list_most 0 (length (list_at m word))) (word_most (list_levels m word) (length (list_at m word))) (short_most (list_levels m word) (length (list_at m word)) few)
+      (counts_short a b (length (list_at m word)) few made)
+
+-- ---- a list that is a tree
+module _ {H : Type 0} (a b : Ledger H) (m n : Records) (word root : ℕ) (list : IsList m word) (plain : IsPlain word) (odd : word % 2 ≡ 1) (at : root ≡ word / 2) where
+  tree_is_word : word ≡ 2 * root + 1
+  tree_is_word = omega arith
+
+  many : 8 < length (list_at m word)
+  many =
+      let more = (tree_form m word root plain tree_is_word list).1 in
+      let size = weighed-length (tree_pairs m root) in
+      let whole = ap length (tree_at m word root plain tree_is_word) in
+      omega arith
+
+  pub tree_moved : (next top : ℕ) → next ≡ 2 * top + 1 → IsPlain next → IsTree nat_cmp by_number n top → tree_pairs n top ≡ tree_pairs m root
+      → Owns b n (tree_part top ∷ []) → Turns a b m n (tree_part root ∷ []) (tree_part top ∷ []) → MakesList a b m n word (list_at m word) next
+  tree_moved next top made next_plain tree_is pairs owns turns =
+      makes_tree a b m n word next top (list_at m word) (tree_part root ∷ []) made next_plain tree_is
+      (subst (AllByRecursion (λ p. p.1 < 4294967296)) (sym pairs) (tree_form m word root plain tree_is_word list).2)
+      many (ap weighed pairs ∙ sym (tree_at m word root plain tree_is_word)) (are_documents m word list) owns turns
+      (λ r. ap (λ rs. times r rs + 0) (tree_reach m word root plain tree_is_word))
+
+  pub tree_counts : CountsNodes a b (levels m root) → MakesWithin a b (word_most (list_levels m word) (length (list_at m word)))
+  tree_counts made =
+      subst (λ h. MakesWithin a b (word_most h (length (list_at m word)))) (sym (tree_levels m word root plain tree_is_word))
+      (tree_within a b (levels m root) (length (list_at m word)) many made)
+
+pub tree_apart : (bits buffer doc : ℕ) (n : Records) (next top : ℕ) → next ≡ 2 * top + 1 → IsPlain next
+    → NoneIn bits buffer (path_nodes n (λ key. nat_cmp key doc) top) → FormIsApart bits buffer doc n (list_form next)
+tree_apart bits buffer doc n next top is plain apart = subst (FormIsApart bits buffer doc n) (sym (form_tree next top plain is)) apart
+
+-- ---- apart still where its records stay
+pub form_same : (bits buffer doc : ℕ) (m n : Records) (form : ListForm) → SameAt (postings_reach m form) m n → IsPostingList m form
+    → FormIsApart bits buffer doc m form → FormIsApart bits buffer doc n form
+form_same bits buffer doc m n (short ref) same is apart = apart
+form_same bits buffer doc m n (tree root) same is apart =
+    subst (NoneIn bits buffer) (sym (path_nodes-same m n (λ key. nat_cmp key doc) root same (λ some. is.0.node some))) apart
+form_same bits buffer doc m n (vector root) same is apart = apart

@@ -1,0 +1,55 @@
+-- What a compaction has cleared of its victim so far: of what attributes reach, all up to the plan's place lies elsewhere.
+use Rattle.std.specs.Prelude.{◌≡◌, ◌≢◌, ℕ, List, Some, slice_get}
+use Rattle.std.specs.List.{AllByRecursion}
+use Rattle.std.specs.declared.cmp.Ordering.TheVariants.{Greater}
+use Rattle.entry_ref.specs.References.{buffer_of}
+use Rattle.entry_ref.specs.Records.{Records, Among}
+use Rattle.tree_read.specs.Trees.{tree_nodes, tree_pairs}
+use Rattle.frozen_btree.specs.Ways.{keys_below}
+use Rattle.attr_compaction.specs.Places.{place_cmp, PlanPlace}
+use Rattle.attr_compaction.specs.declared.plan.PlanKey.{PlanKey}
+use Rattle.attr_compaction.specs.declared.plan.PlanKey.TheVariants as plan
+use Rattle.attr_compaction.specs.declared.plan.TheConstants.{DOCUMENTS, KEYS, LISTS, NODES}
+use Rattle.attr_field.specs.declared.roots.FieldRoots.{FieldRoots}
+use Rattle.attr_images.specs.Postings.{ListForm, short, tree, vector, list_form}
+use Rattle.attr_images.specs.Tables.{AttributeTrees}
+use Rattle.attr_images.specs.Values.{stored_value}
+use Rattle.attr_types.specs.declared.field.Field.{Field}
+use Rattle.attr_types.specs.declared.value.Value.{Value}
+use Rattle.compaction_moves.specs.DocumentMoves.{AreItemsApart}
+
+-- the trees of an attribute, from its field and its roots
+abbrev pub trees_of_roots : {bits : ℕ} → Field → FieldRoots bits → AttributeTrees
+trees_of_roots field roots = record { kind = field.kind; type = field.value; documents = roots.documents; dictionary = roots.dictionary }
+
+-- a key of a phase of the attribute of this number was visited: it is not past the place
+abbrev pub IsVisited : PlanPlace → ℕ → ℕ → PlanKey → Type 0
+IsVisited at field phase key = place_cmp (record { stage = record { field = field; phase = phase }; key = key }) at ≢ Greater
+
+-- each node that lies in the victim has only keys below it that were not visited
+abbrev pub NodesAreCleared : ℕ → ℕ → Records → (ℕ → Type 0) → ℕ → Type 0
+NodesAreCleared bits victim m visited root = (node : ℕ) → Among node (tree_nodes m root) → buffer_of bits node ≡ victim → (key : ℕ)
+    → Among key (keys_below m node) → visited key → ⊥
+
+-- a value's list: its record lies elsewhere, or its nodes on the ways to documents that were visited. It is said of no bit vector
+abbrev pub ListIsCleared : ℕ → ℕ → PlanPlace → ℕ → Records → Value → ListForm → Type 0
+ListIsCleared bits victim at field m value (short ref) = IsVisited at field LISTS (plan.Pair value 0) → buffer_of bits ref ≢ victim
+ListIsCleared bits victim at field m value (tree root) =
+    NodesAreCleared bits victim m (λ doc. IsVisited at field LISTS (plan.Pair value doc)) root
+ListIsCleared bits victim at field m value (vector root) = ⊥
+
+-- one attribute, by its number among all: its keys, its documents with what they refer to, its lists, and the nodes of its two trees
+pub record IsClearedField (bits victim : ℕ) (at : PlanPlace) (field : ℕ) (m : Records) (a : AttributeTrees) : Type 0 where
+  pub keys : AllByRecursion (λ p. IsVisited at field KEYS (plan.Value (stored_value a.type m p.0)) → buffer_of bits p.0 ≢ victim)
+      (tree_pairs m a.dictionary)
+  pub documents : AllByRecursion (λ p. IsVisited at field DOCUMENTS (plan.Doc p.0) → AreItemsApart bits victim a.kind m p.1)
+      (tree_pairs m a.documents)
+  pub lists : AllByRecursion (λ p. ListIsCleared bits victim at field m (stored_value a.type m p.0) (list_form p.1))
+      (tree_pairs m a.dictionary)
+  pub values : NodesAreCleared bits victim m (λ r. IsVisited at field NODES (plan.Value (stored_value a.type m r))) a.dictionary
+  pub map : NodesAreCleared bits victim m (λ doc. IsVisited at field NODES (plan.Doc doc)) a.documents
+
+-- all attributes. Past the last place nothing that they reach lies in the victim
+abbrev pub IsCleared : ℕ → ℕ → PlanPlace → Records → List AttributeTrees → Type 0
+IsCleared bits victim at m trees = (field : ℕ) (a : AttributeTrees) → slice_get trees field ≡ Some a
+    → IsClearedField bits victim at field m a

@@ -1,0 +1,55 @@
+-- What moves in an index clear, as laws.
+use Rattle.std.specs.Prelude.{◌≡◌, ℕ, [], ◌∷◌}
+use Rattle.entry_ref.specs.Records.{Records, SameAt}
+use Rattle.store_api.specs.Ledgers.{Ledger}
+use Rattle.store_api.specs.Parts.{Owns}
+use Rattle.compaction_moves.specs.Cleared.{IsClearedField}
+use Rattle.attr_compaction.specs.Places.{PlanPlace}
+use Rattle.attr_compaction.specs.declared.plan.PlanKey.TheVariants as plan
+use Rattle.attr_compaction.specs.declared.plan.TheConstants.{KEYS, LISTS, NODES}
+use Rattle.attr_field.specs.Documents.{documents_own}
+use Rattle.attr_images.specs.Documents.{column_at}
+use Rattle.attr_images.specs.Postings.{index_of}
+use Rattle.attr_images.specs.Tables.{AttributeTrees}
+use Rattle.attr_types.specs.Value.{type_of}
+use Rattle.attr_types.specs.declared.kind.Kind.{Kind}
+use Rattle.attr_types.specs.declared.kind.ValueType.{ValueType}
+use Rattle.attr_types.specs.declared.value.Value.{Value}
+use Rattle.compaction_moves.specs.IndexMoves.{MovesKey, MovesList, MovesNodes}
+use Rattle.attr_compaction.specs.PhaseKeys.{phase_keys}
+use Rattle.value_index.specs.Indexes.{index_part, IsIndex}
+use Rattle.compaction_moves.specs.IndexTurns.{IsTurn, LeavesBuffer}
+use Rattle.compaction_moves.specs.Visits.{place_at_key}
+
+-- a value's key was moved: what was cleared is so still, and the key too
+abbrev pub KeyMoveClears : Type 0 → Type 0
+KeyMoveClears H = (bits victim field next : ℕ) (at : PlanPlace) (value : Value) (old new : Ledger H) (m n : Records) (a : AttributeTrees)
+    → type_of value ≡ a.type → IsTurn at field KEYS m a (plan.Value value) → MovesKey bits victim value old new m n a.dictionary next
+    → IsClearedField bits victim at field m a
+    → IsClearedField bits victim (place_at_key at (plan.Value value)) field n (record a { dictionary = next })
+
+-- a value's list was moved as far as a document leads: what was cleared is so still, and the list that far
+abbrev pub ListMoveClears : Type 0 → Type 0
+ListMoveClears H = (bits victim field doc next : ℕ) (at : PlanPlace) (value : Value) (old new : Ledger H) (m n : Records)
+    (a : AttributeTrees)
+    → type_of value ≡ a.type → IsTurn at field LISTS m a (plan.Pair value doc)
+    → MovesList bits victim doc value old new m n a.dictionary next
+    → LeavesBuffer bits victim old new m n → Owns old m (index_part a.dictionary ∷ []) → SameAt (documents_own a.kind m a.documents) m n
+    → IsClearedField bits victim at field m a
+    → IsClearedField bits victim (place_at_key at (plan.Pair value doc)) field n (record a { dictionary = next })
+
+-- the nodes on the way to a value were moved: what was cleared is so still, and these nodes too
+abbrev pub NodeMoveClears : Type 0 → Type 0
+NodeMoveClears H = (bits victim field next : ℕ) (at : PlanPlace) (value : Value) (old new : Ledger H) (m n : Records) (a : AttributeTrees)
+    → type_of value ≡ a.type → IsTurn at field NODES m a (plan.Value value) → MovesNodes bits victim value old new m n a.dictionary next
+    → LeavesBuffer bits victim old new m n → Owns old m (index_part a.dictionary ∷ []) → SameAt (documents_own a.kind m a.documents) m n
+    → IsClearedField bits victim at field m a
+    → IsClearedField bits victim (place_at_key at (plan.Value value)) field n (record a { dictionary = next })
+
+-- the keys of each phase are the same where the index reads the same, and the column of the documents: whether a list is one record is
+-- told by its length
+abbrev pub KeysAreSame : Type 0
+KeysAreSame = (kind : Kind) (type : ValueType) (m n : Records) (documents dictionary next_documents next_dictionary phase : ℕ)
+    → IsIndex type m dictionary → IsIndex type n next_dictionary → index_of type n next_dictionary ≡ index_of type m dictionary
+    → column_at kind type n next_documents ≡ column_at kind type m documents
+    → phase_keys type n next_documents next_dictionary phase ≡ phase_keys type m documents dictionary phase

@@ -1,0 +1,10 @@
+pub mod IndexMoves
+pub mod DocumentMoves
+pub mod FieldMoves
+pub mod Steps
+pub mod Cleared
+pub mod Laws
+pub mod Visits
+pub mod IndexTurns
+pub mod IndexLaws
+pub mod DocumentsCleared

@@ -1,0 +1,31 @@
+-- What a move of one key finds, and what it leaves, for each phase alike.
+use Rattle.std.specs.Prelude.{◌≡◌, ℕ, true, Some, [], ◌∷◌}
+use Rattle.entry_ref.specs.Records.{Records}
+use Rattle.store_api.specs.Ledgers.{Ledger}
+use Rattle.store_api.specs.Parts.{Owns}
+use Rattle.compaction_moves.specs.Cleared.{IsClearedField}
+use Rattle.attr_compaction.specs.Places.{PlanView}
+use Rattle.attr_compaction.specs.declared.plan.PlanKey.{PlanKey}
+use Rattle.attr_field.specs.Fields.{field_part, IsField, RefersBeside}
+use Rattle.attr_images.specs.Tables.{AttributeTrees}
+use Rattle.compaction_moves.specs.FieldMoves.{HasBegun, MovesField}
+use Rattle.attr_compaction.specs.PhaseKeys.{key_past, phase_keys}
+
+-- in a unit that has just begun an attribute stands, cleared up to the plan's place, and the key is the next of the phase
+pub record CanMove {H : Type 0} (bits : ℕ) (ledger : Ledger H) (m : Records) (a : AttributeTrees) (plan : PlanView) (phase : ℕ)
+    (key : PlanKey) : Type 0 where
+  pub unit : ledger.unit ≡ true
+  pub begun : HasBegun ledger
+  pub sealed : ledger.sealed plan.victim ≡ true
+  pub phase_is : plan.place.stage.phase ≡ phase
+  pub field : IsField a.kind a.type m a.documents a.dictionary
+  pub owns : Owns ledger m (field_part a.kind a.documents a.dictionary ∷ [])
+  pub refers : RefersBeside ledger a.kind m a.documents a.dictionary (field_part a.kind a.documents a.dictionary ∷ [])
+  pub next : key_past plan.place.key (phase_keys a.type m a.documents a.dictionary phase) ≡ Some key
+  pub cleared : IsClearedField bits plan.victim plan.place plan.place.stage.field m a
+
+-- another stands in its place, cleared up to the key
+pub record Moved {H : Type 0} (bits : ℕ) (plan : PlanView) (key : PlanKey) (old new : Ledger H) (m n : Records) (a b : AttributeTrees)
+    : Type 0 where
+  pub moves : MovesField bits plan.victim a.kind a.type old new m n a.documents a.dictionary b.documents b.dictionary
+  pub cleared : IsClearedField bits plan.victim (record { stage = plan.place.stage; key = key }) plan.place.stage.field n b

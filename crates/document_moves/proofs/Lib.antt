@@ -1,5 +1,0 @@
-pub mod SearchLemmas
-pub mod LyingLemmas
-pub mod SetLemmas
-pub mod NodeLemmas
-pub mod UsedLemmas

@@ -1,4 +1,0 @@
-pub mod KeyLemmas
-pub mod FieldLemmas
-pub mod MakeLemmas
-pub mod MoveLemmas
