@@ -23,7 +23,7 @@ use Rattle.store_api.specs.Parts.{entries}
 use Rattle.compact_steps.specs.Units.{IsUnderWay}
 use Rattle.attr_compaction.specs.PhaseKeys.{HasType}
 use Rattle.attr_compaction.specs.Counts.{keys_between}
-use Rattle.cleared_steps.specs.StepsLaws.{FirstIsCleared}
+use Rattle.compact_steps.specs.StepsLaws.{FirstIsCleared}
 use Rattle.compact_steps.proofs.WalkLemmas.{keeps_then, refused_since}
 use Rattle.compact_steps.specs.Compactions.{Empties, GoesTo, IsUnderPlan, KeepsStoreBut, OpensPlan, RefusesStep, Went}
 use Rattle.compact_steps.specs.Walks.{HasLastField, IsOver, RefusesFirst, RefusesNext, Stops, Visits}

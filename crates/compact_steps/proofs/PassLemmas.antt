@@ -21,8 +21,8 @@ use Rattle.attr_compaction.specs.declared.plan.TheConstants.{PHASES}
 use Rattle.attr_images.specs.Tables.{AttributeTrees}
 use Rattle.attr_types.specs.declared.field.Field.{Field}
 use Rattle.attr_steps.specs.Fields.{IsFieldAt}
-use Rattle.clear_keys.specs.Passes.{GoesThrough}
-use Rattle.cleared_steps.specs.StepsLaws.{OthersStayCleared}
+use Rattle.compact_steps.specs.Passes.{GoesThrough}
+use Rattle.compact_steps.specs.StepsLaws.{OthersStayCleared}
 use Rattle.attr_compaction.proofs.CountLemmas.{next_more, same_between}
 use Rattle.attr_compaction.proofs.StageLemmas.{under}
 use Rattle.attr_compaction.specs.Counts.{keys_between}

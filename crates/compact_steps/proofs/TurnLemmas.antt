@@ -8,7 +8,7 @@ use Rattle.list_facts.proofs.Each.{AllByRecursion-slice_get}
 use Rattle.entry_ref.specs.Records.{Records}
 use Rattle.store_api.specs.Ledgers.{Ledger}
 use Rattle.compaction_moves.specs.Cleared.{IsCleared}
-use Rattle.cleared_steps.specs.StepsLaws.{PhaseEndLeavesCleared}
+use Rattle.compact_steps.specs.StepsLaws.{PhaseEndLeavesCleared}
 use Rattle.attr_compaction.proofs.PlaceLemmas.{not_start}
 use Rattle.attr_compaction.specs.Places.{next_stage, place_after, place_cmp, IsPast, PlanPlace, PlanView}
 use Rattle.attr_compaction.specs.declared.plan.PlanKey.{PlanKey}

@@ -26,7 +26,7 @@ use Rattle.attr_images.specs.Documents.{column_at}
 use Rattle.value_index.specs.Counts.{MakesFew}
 use Rattle.attr_field.specs.Fields.{field_part, IsField}
 use Rattle.compaction_moves.specs.Cleared.{IsCleared, IsClearedField}
-use Rattle.cleared_steps.specs.StepsLaws.{OthersStayCleared, StayLeavesCleared}
+use Rattle.compact_steps.specs.StepsLaws.{OthersStayCleared, StayLeavesCleared}
 use Rattle.attr_compaction.specs.Places.{PlanPlace, PlanView}
 use Rattle.attr_compaction.specs.declared.plan.PlanKey.{PlanKey}
 use Rattle.attr_compaction.specs.declared.plan.TheConstants.{PHASES}

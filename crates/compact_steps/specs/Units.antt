@@ -15,7 +15,7 @@ use Rattle.attr_compaction.specs.declared.plan.PlanKey.TheVariants.{Start}
 use Rattle.attr_images.specs.Tables.{AttributeTrees}
 use Rattle.attr_types.specs.declared.field.Field.{Field}
 use Rattle.attr_compaction.specs.PhaseKeys.{key_past, phase_keys, HasType}
-use Rattle.clear_keys.specs.Passes.{GoesThrough}
+use Rattle.compact_steps.specs.Passes.{GoesThrough}
 use Rattle.attr_steps.specs.Fields.{HoldsAttributes}
 use Rattle.attr_steps.specs.Views.{table_at}
 use Rattle.compact_steps.specs.declared.unit.Turn.{Turn}

@@ -11,7 +11,7 @@ ghost use Rattle.compact_steps.specs.Walks.{HasLastField};
 use attr_compaction::Plan;
 use attr_field::FieldRoots;
 use attr_types::Field;
-use cleared_steps::stage_law;
+use crate::stage_law;
 use entry_ref::EntryRef;
 use store_api::Store;
 

@@ -8,7 +8,7 @@ ghost use Rattle.compact_steps.specs.Units.{keys_at, plan_at, CompactsTo, HasAct
 use attr_compaction::{Plan, PlanKey, next_key};
 use attr_field::{FieldRoots, field_law};
 use attr_types::Field;
-use cleared_steps::{same_law, stage_law};
+use crate::{same_law, stage_law};
 use entry_ref::EntryRef;
 use compaction_moves::move_one;
 use arena_api::Frozen;

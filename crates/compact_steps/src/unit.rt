@@ -9,7 +9,7 @@ use crate::key::{move_unit, next_of};
 use attr_compaction::{Plan, PlanKey};
 use attr_field::FieldRoots;
 use attr_types::Field;
-use cleared_steps::stage_law;
+use crate::stage_law;
 use entry_ref::EntryRef;
 use std::alloc::Global;
 use store_api::{Store, StoreError};

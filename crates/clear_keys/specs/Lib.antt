@@ -1,3 +1,0 @@
-pub mod Sights
-pub mod Passes
-pub mod Ways

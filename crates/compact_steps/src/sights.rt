@@ -1,0 +1,80 @@
+//! Whether what stands under a key lies apart from a buffer.
+ghost use Rattle.std.specs.Prelude.{◌≡◌, ◌≢◌, ◌<◌, ◌^◌, true};
+ghost use Rattle.entry_ref.specs.References.{buffer_of};
+ghost use Rattle.attr_images.specs.Postings.{list_form};
+ghost use Rattle.posting_store.specs.Lists.{IsPlain};
+ghost use Rattle.attr_images.specs.Documents.{AreItemRecords};
+ghost use Rattle.compaction_moves.specs.DocumentMoves.{AreItemsApart};
+ghost use Rattle.compact_steps.specs.Sights.{StandsApart, IsPairOf, IsRecordApart};
+
+use attr_types::{Kind, ValueType};
+use compaction_moves::items_lie;
+use entry_ref::EntryRef;
+use arena_api::Frozen;
+
+/// What stands under a key, by its phase: the record of a value, a document's items, or a value's list.
+#[derive(Clone, Copy, Drop)]
+pub enum Sight {
+    Key,
+    Items,
+    List,
+}
+
+/// Whether a record lies apart from the buffer.
+fn is_apart<const OFFSET_BITS: u32>(reference: u64, buffer: u32) -> bool
+    requires { reference < 2 ^ 32 }
+    ensures { result ≡ true → buffer_of OFFSET_BITS reference ≢ buffer }
+{
+    EntryRef::<OFFSET_BITS>::from_raw(reference as u32).buffer() != buffer
+}
+
+/// Whether a list is one record, which lies apart from the buffer.
+fn list_is_apart<const OFFSET_BITS: u32>(list: u64, buffer: u32) -> bool
+    requires { IsPlain list }
+    ensures { result ≡ true → IsRecordApart OFFSET_BITS buffer (list_form list) }
+{
+    if list % 2 == 1 {
+        return false;
+    }
+    is_apart::<OFFSET_BITS>(list / 2, buffer)
+}
+
+/// Whether the items behind a reference lie apart from the buffer.
+fn items_are_apart<const OFFSET_BITS: u32, F: Frozen<OFFSET_BITS>>(
+    frozen: &mut F,
+    kind: Kind,
+    value_type: ValueType,
+    word: u64,
+    buffer: u32,
+) -> bool
+    requires few { word < 2 ^ 32 }
+    requires records { AreItemRecords kind value_type (F.records frozen.old) word }
+    ensures apart { result ≡ true → AreItemsApart OFFSET_BITS buffer kind (F.records frozen.old) word }
+    ensures same { frozen.new ≡ frozen.old }
+{
+    let reference = EntryRef::from_raw(word as u32);
+    !items_lie(frozen, kind, value_type, reference, buffer)
+}
+
+/// Whether what stands under a pair's key lies apart from the buffer.
+#[tactic(none)]
+pub fn pair_is_apart<const OFFSET_BITS: u32, F: Frozen<OFFSET_BITS>>(
+    frozen: &mut F,
+    sight: Sight,
+    kind: Kind,
+    value_type: ValueType,
+    key: u64,
+    word: u64,
+    buffer: u32,
+) -> bool
+    requires pair { IsPairOf kind value_type (F.records frozen.old) sight (key, word) }
+    ensures apart { result ≡ true → StandsApart OFFSET_BITS buffer kind (F.records frozen.old) sight (key, word) }
+    ensures same { frozen.new ≡ frozen.old }
+{
+    let _ = frozen;
+    match sight {
+        Sight::Key => is_apart::<OFFSET_BITS>(key, buffer),
+        Sight::Items => items_are_apart(frozen, kind, value_type, word, buffer),
+        Sight::List => list_is_apart::<OFFSET_BITS>(word, buffer),
+    }
+}
