@@ -22,7 +22,7 @@ use Rattle.attr_index.specs.Postings.{HaveDocNumbers}
 use Rattle.attr_index.specs.Sets.{Holds}
 use Rattle.attr_index.proofs.FoundLemmas.{found_are_hits, index_lists_documents}
 use Rattle.attr_index.specs.Found.{found, AreIndexesFrom}
-use Rattle.query_leaves.specs.Parts.{AreIndexPairs, IsIndexed}
+use Rattle.query_eval.specs.Parts.{AreIndexPairs, IsIndexed}
 use Rattle.query_eval.specs.Indexes.{AreIndexed, HasDictionaries, dictionaries_at, indexes_in}
 
 are_pairs : (type : ValueType) (m : Records) (ps : List (ℕ × ℕ)) → AllByRecursion (IsDictionaryEntry type m) ps

@@ -3,3 +3,11 @@ pub mod ImageLemmas
 pub mod CountLemmas
 pub mod ScoreLemmas
 pub mod ValueLemmas
+pub mod PartLemmas
+pub mod BlockLemmas
+pub mod LeafListLemmas
+pub mod LookupLemmas
+pub mod WordLemmas
+pub mod VectorLemmas
+pub mod WeightLemmas
+pub mod ScoreListLemmas

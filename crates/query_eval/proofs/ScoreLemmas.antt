@@ -38,7 +38,7 @@ use Rattle.attr_types.specs.declared.score.Score.{Score}
 use Rattle.attr_index.proofs.BitLemmas.{by_cases}
 use Rattle.attr_index.proofs.DocLemmas.{ascends_from_sorted}
 use Rattle.attr_index.specs.Sets.{has, Holds}
-use Rattle.query_scores.specs.Weights.{is_found}
+use Rattle.query_eval.specs.Weights.{is_found}
 use Rattle.query_eval.proofs.ImageLemmas.{field_at, small}
 
 -- a document is in a list where it is looked up there

@@ -17,8 +17,8 @@ use Rattle.attr_types.specs.declared.kind.ValueType.{ValueType}
 use Rattle.attr_types.specs.declared.query.Leaf.TheVariants.{Is}
 use Rattle.attr_types.specs.declared.value.Value.{Value}
 use Rattle.attr_index.specs.Leaves.{listed, meeting}
-use Rattle.query_leaves.proofs.PartLemmas.{keys_are}
-use Rattle.query_leaves.specs.Parts.{IsIndexed}
+use Rattle.query_eval.proofs.PartLemmas.{keys_are}
+use Rattle.query_eval.specs.Parts.{IsIndexed}
 
 module _ (v : Value) where
   above : (w : Value) (vs : List Value) → value_cmp v w ≡ Equal → AllByRecursion (λ x. value_cmp w x ≡ Less) vs → AllByRecursion (λ x. value_cmp v x ≡ Less) vs

@@ -10,7 +10,7 @@ use Rattle.attr_types.specs.declared.field.Field.{Field}
 use Rattle.attr_types.specs.declared.query.Query.{Query}
 use Rattle.attr_index.specs.Sets.{has}
 use Rattle.attr_index.specs.Found.{found}
-use Rattle.query_leaves.specs.Parts.{IsIndexed}
+use Rattle.query_eval.specs.Parts.{IsIndexed}
 use Rattle.query_eval.specs.declared.dictionary.Dictionary.{Dictionary}
 
 -- each dictionary with its lists has its form

@@ -1,1 +1,6 @@
 pub mod Indexes
+pub mod Parts
+pub mod Blocks
+pub mod Takers
+pub mod ProofsForTakers
+pub mod Weights

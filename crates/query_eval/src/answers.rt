@@ -12,7 +12,7 @@ use crate::queries::matching;
 use attr_types::{DocList, Fields, Parts, Query, ScoreList};
 use entry_ref::EntryRef;
 use arena_api::Frozen;
-use query_scores::scored;
+use crate::scored;
 use std::alloc::{AllocError, Global};
 
 /// The documents of an image that a query matches, ascending.

@@ -1,11 +1,28 @@
 //! The documents that a query matches, and their scores by a dot product, from the records of an image.
+//!
+//! The documents of a leaf, or of all values, by a walk over a dictionary and its lists.
+//!
+//! Scores of documents by a dot product of weights, by the dictionary and the lists of an attribute.
 #![tactic(auto)]
 
 mod answers;
+mod blocks;
 mod dictionary;
 mod image;
+mod kept;
+mod lists;
+mod parts;
 mod queries;
 mod sizes;
+mod starts;
+mod takers;
+mod values;
+mod walks;
+mod weights;
 
 pub use answers::{hits, scores};
 pub use image::documents;
+pub use lists::{gather_list, keep_list};
+pub use parts::{kept_with, scored, with_value, word_of};
+pub use values::is_of_type;
+pub use walks::{gather_every, gather_leaf};

@@ -5,7 +5,7 @@ ghost use Rattle.attr_index.specs.Gathers.{is_gathered};
 ghost use Rattle.attr_index.specs.Sets.{has, Holds};
 ghost use Rattle.attr_index.specs.Found.{found, found_all, is_listed};
 ghost use Rattle.attr_index.specs.Leaves.{listed, meeting};
-ghost use Rattle.query_leaves.specs.Parts.{IsIndexed};
+ghost use Rattle.query_eval.specs.Parts.{IsIndexed};
 ghost use Rattle.attr_images.specs.Postings.{index_of};
 ghost use Rattle.query_eval.specs.Indexes.{AreIndexed, AreMatched, IsMatched, indexes_in};
 
@@ -14,8 +14,7 @@ use crate::sizes::shortest_of;
 use attr_types::{DocList, Leaf, Query};
 use attr_index::Gathered;
 use arena_api::Frozen;
-use query_leaves::{gather_every, gather_leaf};
-use query_scores::{kept_with, with_value};
+use crate::{gather_every, gather_leaf, kept_with, with_value};
 use std::alloc::{AllocError, Global};
 
 /// The documents with those that have some value in some attribute.

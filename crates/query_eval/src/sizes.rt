@@ -1,7 +1,7 @@
 //! Which member of an And has the fewest documents, as far as dictionaries and the heads of lists tell.
 ghost use Rattle.std.specs.Prelude.{◌≡◌, ◌<◌, length};
 ghost use Rattle.attr_images.specs.Postings.{list_form, IsPostingList};
-ghost use Rattle.query_leaves.specs.Parts.{IsIndexed};
+ghost use Rattle.query_eval.specs.Parts.{IsIndexed};
 ghost use Rattle.query_eval.specs.Indexes.{AreIndexed};
 
 use crate::dictionary::Dictionary;
@@ -11,7 +11,7 @@ use attr_types::{Leaf, Query, Value, ValueType};
 use entry_ref::EntryRef;
 use arena_api::Frozen;
 use frozen_btree::total;
-use query_scores::word_of;
+use crate::word_of;
 
 /// How many documents a list has, and of a bit vector how many it may have.
 fn size_of_list<const OFFSET_BITS: u32, F: Frozen<OFFSET_BITS>>(frozen: &mut F, list: u64) -> u64

@@ -7,7 +7,7 @@ use Rattle.attr_images.specs.Images.{table_of, IsLawfulImage}
 use Rattle.attr_images.specs.Postings.{index_of}
 use Rattle.attr_types.specs.Scores.{scores}
 use Rattle.attr_types.specs.declared.part.Part.{Part}
-use Rattle.query_leaves.specs.Parts.{IsIndexed}
+use Rattle.query_eval.specs.Parts.{IsIndexed}
 use Rattle.query_eval.proofs.ImageLemmas.{is_indexed}
 use Rattle.query_eval.proofs.ScoreLemmas.{AreScored, image_scores, no_scores, has_root}
 use Rattle.query_eval.proofs.answers.scores.Goals as goal

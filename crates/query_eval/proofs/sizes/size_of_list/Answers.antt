@@ -1,5 +1,5 @@
 use Rattle.std.proofs.Common.{arith, ◌-◌}
-use Rattle.query_leaves.proofs.ListLemmas.{vector_root}
+use Rattle.query_eval.proofs.LeafListLemmas.{vector_root}
 use Rattle.query_eval.proofs.sizes.size_of_list.Goals as goal
 
 pub overflow_cast-list : goal.overflow_cast-list

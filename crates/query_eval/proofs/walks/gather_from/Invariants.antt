@@ -1,0 +1,22 @@
+use Rattle.std.proofs.Common.{◌≡◌, ◌||◌, ℕ, length}
+use Rattle.tree_read.specs.SearchPlaces.{IsAt, pairs_from}
+use Rattle.attr_index.specs.Gathers.{is_gathered}
+use Rattle.attr_index.specs.Sets.{has}
+use Rattle.attr_index.specs.Leaves.{listed, run}
+use Rattle.query_eval.specs.Parts.{AreIndexPairs, index_of_pairs}
+use Rattle.query_eval.proofs.walks.gather_from.Given as goal
+
+-- what is there, and what is still to come
+abbrev pub invariant-loop-alloc : goal.invariant-loop-alloc
+invariant-loop-alloc g l =
+    let m = g.F.Frozen.records l.fn.frozen in
+    record {
+      same : l.frozen ≡ l.fn.frozen;
+      at : IsAt m l.cursor;
+      pairs : AreIndexPairs l.value_type m (pairs_from m l.cursor);
+      whole : (doc : ℕ) → (is_gathered l.all doc || has (listed (run l.leaf (index_of_pairs l.value_type m (pairs_from m l.cursor)))) doc)
+          ≡ (is_gathered l.fn.gathered doc || has (listed (run l.leaf (index_of_pairs l.value_type m (pairs_from m l.fn.cursor)))) doc);
+    }
+
+abbrev pub decreases-loop-alloc : goal.decreases-loop-alloc
+decreases-loop-alloc g l = length (pairs_from (g.F.Frozen.records l.fn.frozen) l.cursor)

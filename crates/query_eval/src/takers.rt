@@ -1,0 +1,83 @@
+//! What takes the keys of a posting tree, which are its documents.
+ghost use Rattle.std.specs.Prelude.{OnOk};
+ghost use Rattle.std.specs.List.{AllByRecursion};
+ghost use Rattle.attr_types.specs.Lawful.{IsDocNumber};
+ghost use Rattle.attr_index.specs.Sets.{has, in_words};
+ghost use Rattle.query_eval.specs.Takers.{Adds};
+
+use attr_types::Doc;
+use attr_index::DocSet;
+use std::alloc::AllocError;
+use tree_read::TakesKeys;
+
+fn push_keys(docs: &mut Vec<Doc>, keys: &[u64]) -> Result<(), AllocError>
+    requires { AllByRecursion IsDocNumber keys.now }
+    ensures { OnOk result (Adds (has docs.old.items) keys.now (has docs.new.items)) }
+{
+    for key in keys {
+        docs.push(Doc::new(*key as u32))?;
+    }
+    Ok(())
+}
+
+fn insert_keys(set: &mut DocSet, keys: &[u64])
+    requires { AllByRecursion IsDocNumber keys.now }
+    ensures { Adds (in_words set.old) keys.now (in_words set.new) }
+{
+    for key in keys {
+        set.insert(Doc::new(*key as u32));
+    }
+}
+
+/// Documents in a list, to which those of a tree come.
+#[derive(Drop)]
+pub struct Pushed {
+    pub docs: Vec<Doc>,
+}
+
+impl TakesKeys for Pushed {
+    ghost use Rattle.query_eval.specs.ProofsForTakers.{adds_none, adds_joined};
+
+    ghost can_take = { IsDocNumber };
+
+    ghost takes = { λ old keys new. Adds (has old.docs.items) keys (has new.docs.items) };
+
+    fn take(&mut self, keys: &[u64]) -> Result<(), AllocError>
+        requires { AllByRecursion IsDocNumber keys.now }
+        ensures { OnOk result (Adds (has self.old.docs.items) keys.now (has self.new.docs.items)) }
+    {
+        push_keys(&mut self.docs, keys)
+    }
+
+    ghost none = { λ taker. adds_none (has taker.docs.items) };
+
+    ghost joins = { λ a b c xs ys first second.
+        adds_joined (has a.docs.items) (has b.docs.items) (has c.docs.items) xs ys first second };
+}
+
+/// Documents in a bit vector, to which those of a tree come.
+#[derive(Drop)]
+pub struct Inserted {
+    pub set: DocSet,
+}
+
+impl TakesKeys for Inserted {
+    ghost use Rattle.query_eval.specs.ProofsForTakers.{adds_none, adds_joined};
+
+    ghost can_take = { IsDocNumber };
+
+    ghost takes = { λ old keys new. Adds (in_words old.set) keys (in_words new.set) };
+
+    fn take(&mut self, keys: &[u64]) -> Result<(), AllocError>
+        requires { AllByRecursion IsDocNumber keys.now }
+        ensures { OnOk result (Adds (in_words self.old.set) keys.now (in_words self.new.set)) }
+    {
+        insert_keys(&mut self.set, keys);
+        Ok(())
+    }
+
+    ghost none = { λ taker. adds_none (in_words taker.set) };
+
+    ghost joins = { λ a b c xs ys first second.
+        adds_joined (in_words a.set) (in_words b.set) (in_words c.set) xs ys first second };
+}

@@ -1,0 +1,111 @@
+//! The documents of the values from a place in a dictionary on.
+ghost use Rattle.std.specs.Prelude.{◌≡◌, ◌||◌, ℕ, IfOk, OnOk};
+ghost use Rattle.tree_read.specs.SearchPlaces.{IsAt, pairs_from};
+ghost use Rattle.attr_images.specs.Postings.{index_of};
+ghost use Rattle.attr_index.specs.Gathers.{is_gathered};
+ghost use Rattle.attr_index.specs.Sets.{has};
+ghost use Rattle.attr_index.specs.Leaves.{from, listed, meeting, run};
+ghost use Rattle.query_eval.specs.Parts.{IsIndexed, AreIndexPairs, index_of_pairs};
+
+use crate::lists::gather_list;
+use crate::starts::start_of;
+use crate::values::{is_before_at, is_beyond_at};
+use attr_types::{Leaf, ValueType};
+use attr_index::Gathered;
+use entry_ref::EntryRef;
+use arena_api::Frozen;
+use frozen_btree::Cursor;
+use std::alloc::{AllocError, Global};
+
+/// Goes on behind the values before the leaf's.
+fn skip_before<const OFFSET_BITS: u32, F: Frozen<OFFSET_BITS>>(
+    alloc: Global,
+    frozen: &mut F,
+    cursor: &mut Cursor<OFFSET_BITS>,
+    value_type: ValueType,
+    leaf: &Leaf,
+) -> Result<(), AllocError>
+    requires at { IsAt (F.records frozen.old) cursor.old }
+    requires pairs { AreIndexPairs value_type (F.records frozen.old) (pairs_from (F.records frozen.old) cursor.old) }
+    ensures at { OnOk result (IsAt (F.records frozen.old) cursor.new) }
+    ensures pairs { OnOk result (AreIndexPairs value_type (F.records frozen.old) (pairs_from (F.records frozen.old) cursor.new)) }
+    ensures part { OnOk result (index_of_pairs value_type (F.records frozen.old) (pairs_from (F.records frozen.old) cursor.new)
+        ≡ from leaf.now (index_of_pairs value_type (F.records frozen.old) (pairs_from (F.records frozen.old) cursor.old))) }
+    ensures same { frozen.new ≡ frozen.old }
+{
+    while !cursor.at_end() {
+        if !is_before_at(alloc, frozen, cursor.key(), value_type, leaf)? {
+            return Ok(());
+        }
+        cursor.next(frozen);
+    }
+    Ok(())
+}
+
+/// The documents with those of the values from here on, up to the first that is beyond the leaf's.
+fn gather_from<const OFFSET_BITS: u32, F: Frozen<OFFSET_BITS>>(
+    alloc: Global,
+    frozen: &mut F,
+    cursor: &mut Cursor<OFFSET_BITS>,
+    value_type: ValueType,
+    leaf: &Leaf,
+    gathered: Gathered,
+) -> Result<Gathered, AllocError>
+    requires at { IsAt (F.records frozen.old) cursor.old }
+    requires pairs { AreIndexPairs value_type (F.records frozen.old) (pairs_from (F.records frozen.old) cursor.old) }
+    ensures docs { IfOk result (λ all. (doc : ℕ) → is_gathered all doc ≡ (is_gathered gathered doc
+        || has (listed (run leaf.now (index_of_pairs value_type (F.records frozen.old) (pairs_from (F.records frozen.old) cursor.old))))
+        doc)) }
+    ensures same { frozen.new ≡ frozen.old }
+{
+    let mut all = gathered;
+    while !cursor.at_end() {
+        if is_beyond_at(alloc, frozen, cursor.key(), value_type, leaf)? {
+            return Ok(all);
+        }
+        all = gather_list(alloc, frozen, cursor.value(), all)?;
+        cursor.next(frozen);
+    }
+    Ok(all)
+}
+
+/// The documents with those of the values that meet a leaf.
+pub fn gather_leaf<const OFFSET_BITS: u32, F: Frozen<OFFSET_BITS>>(
+    alloc: Global,
+    frozen: &mut F,
+    root: EntryRef<OFFSET_BITS>,
+    value_type: ValueType,
+    leaf: &Leaf,
+    gathered: Gathered,
+) -> Result<Gathered, AllocError>
+    requires { IsIndexed value_type (F.records frozen.old) root }
+    ensures docs { IfOk result (λ all. (doc : ℕ) → is_gathered all doc ≡ (is_gathered gathered doc
+        || has (listed (meeting leaf.now (index_of value_type (F.records frozen.old) root.entry))) doc)) }
+    ensures same { frozen.new ≡ frozen.old }
+{
+    let mut cursor = start_of(frozen, root, value_type, leaf)?;
+    skip_before(alloc, frozen, &mut cursor, value_type, leaf)?;
+    gather_from(alloc, frozen, &mut cursor, value_type, leaf, gathered)
+}
+
+/// The documents with those of all values.
+pub fn gather_every<const OFFSET_BITS: u32, F: Frozen<OFFSET_BITS>>(
+    alloc: Global,
+    frozen: &mut F,
+    root: EntryRef<OFFSET_BITS>,
+    value_type: ValueType,
+    gathered: Gathered,
+) -> Result<Gathered, AllocError>
+    requires { IsIndexed value_type (F.records frozen.old) root }
+    ensures docs { IfOk result (λ all. (doc : ℕ) → is_gathered all doc ≡ (is_gathered gathered doc
+        || has (listed (index_of value_type (F.records frozen.old) root.entry)) doc)) }
+    ensures same { frozen.new ≡ frozen.old }
+{
+    let mut all = gathered;
+    let mut cursor = Cursor::first(frozen, root);
+    while !cursor.at_end() {
+        all = gather_list(alloc, frozen, cursor.value(), all)?;
+        cursor.next(frozen);
+    }
+    Ok(all)
+}

@@ -1,4 +1,0 @@
-pub mod Parts
-pub mod Blocks
-pub mod Takers
-pub mod ProofsForTakers

@@ -1,5 +1,0 @@
-pub mod LookupLemmas
-pub mod WordLemmas
-pub mod VectorLemmas
-pub mod WeightLemmas
-pub mod ListLemmas

@@ -1,7 +1,0 @@
-use Rattle.std.proofs.Common.{◌≡◌, map, drop}
-use Rattle.attr_images.specs.Words.{unpacked}
-use Rattle.query_scores.specs.Weights.{weight_in_list}
-use Rattle.query_scores.proofs.weights.weight_among.Given as goal
-
-abbrev pub invariant-loop-word : goal.invariant-loop-word
-invariant-loop-word l = weight_in_list l.doc (map unpacked (drop l.word-index l.words)) ≡ weight_in_list l.doc (map unpacked l.words)
