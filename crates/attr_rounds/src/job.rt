@@ -4,8 +4,7 @@ ghost use Rattle.attr_rounds.specs.Rounds.{MakesRounds};
 
 use crate::question::Question;
 use crate::rounds::{Reading, go_round};
-use attr_io::Gate;
-use attr_threads::Task;
+use attr_io::{Gate, Task};
 use entry_ref::Layout;
 use std::alloc::{AllocError, Global};
 use word_arena::Reader;
