@@ -13,7 +13,7 @@ use Rattle.attr_types.specs.Table.{IsCommitPoint}
 use Rattle.attr_types.specs.declared.op.Op.{Op}
 use Rattle.attr_loader.specs.Loading.{commit_point}
 use Rattle.attr_rounds.specs.declared.rounds.Round.{Round}
-use Rattle.attr_answers.specs.declared.asked.Told.{Told}
+use Rattle.attr_rounds.specs.declared.asked.Told.{Told}
 use Rattle.attr_report.specs.Run.{Run}
 use Rattle.attr_report.specs.History.{IsRounds, IsAfterwards}
 use Rattle.attr_engine.specs.declared.came.Came.{Came}

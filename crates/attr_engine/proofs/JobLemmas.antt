@@ -17,9 +17,9 @@ use Rattle.attr_rounds.specs.Rounds.{MakesRounds}
 use Rattle.attr_rounds.specs.declared.job.Job.{Job}
 use Rattle.attr_rounds.specs.declared.rounds.Reading.{Reading}
 use Rattle.attr_rounds.specs.declared.rounds.Round.{Round}
-use Rattle.attr_answers.specs.Lines.{CanAsk}
-use Rattle.attr_answers.specs.declared.asked.Asked.{Asked}
-use Rattle.attr_answers.specs.declared.asked.Told.{Told}
+use Rattle.attr_rounds.specs.Lines.{CanAsk}
+use Rattle.attr_rounds.specs.declared.asked.Asked.{Asked}
+use Rattle.attr_rounds.specs.declared.asked.Told.{Told}
 use Rattle.attr_engine.specs.Steps.{operations_of, tells_of, KeepsWriter, IsReader, HasRead, IsReading, IsTakenFrom, AreRoundsOf}
 use Rattle.attr_engine.proofs.ReaderLemmas.{AllOf, zip_all, zip_length, zip_each, reading_of, taken_of}
 

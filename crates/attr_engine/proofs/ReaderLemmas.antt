@@ -15,7 +15,7 @@ use Rattle.attr_types.specs.Scores.{AskTree}
 use Rattle.gen_core.specs.Events.{joined}
 use Rattle.attr_rounds.specs.Rounds.{IsOfCommit, MakesRounds}
 use Rattle.attr_rounds.specs.declared.rounds.Round.{Round}
-use Rattle.attr_answers.specs.declared.asked.Told.{Told}
+use Rattle.attr_rounds.specs.declared.asked.Told.{Told}
 use Rattle.attr_engine.specs.Rounds.{commits_of}
 use Rattle.attr_engine.specs.Steps.{operations_of, tells_of, KeepsWriter, IsReader, HasRead, IsReading, IsTakenFrom, AreRoundsOf, IsLastAnswer}
 

@@ -14,7 +14,7 @@ use Rattle.attr_images.specs.Shapes.{shape_of, types_of}
 use Rattle.attr_types.specs.Scores.{AskTree}
 use Rattle.std.specs.List.{AllByRecursion}
 use Rattle.list_facts.proofs.Each.{AllByRecursion-weaker}
-use Rattle.attr_column.specs.Columns.{TellsColumn}
+use Rattle.attr_rounds.specs.Columns.{TellsColumn}
 use Rattle.attr_types.specs.Table.{Table, after}
 use Rattle.attr_types.specs.declared.items.Item.{Item}
 use Rattle.attr_types.specs.declared.op.Op.{Op}
@@ -23,8 +23,8 @@ use Rattle.attr_loader.specs.declared.loaded.Loaded.{Loaded}
 use Rattle.attr_loader.specs.declared.loaded.NoRoom.{NoRoom}
 use Rattle.attr_rounds.specs.Rounds.{IsOfCommit}
 use Rattle.attr_rounds.specs.declared.rounds.Round.{Round}
-use Rattle.attr_answers.specs.declared.asked.Told.{Told}
-use Rattle.attr_answers.specs.Lines.{TellsTable}
+use Rattle.attr_rounds.specs.declared.asked.Told.{Told}
+use Rattle.attr_rounds.specs.Lines.{TellsTable}
 use Rattle.attr_report.specs.Run.{Run, table_after}
 use Rattle.attr_report.specs.History.{IsLoaded}
 use Rattle.attr_engine.specs.Run.{full_of}

@@ -7,8 +7,8 @@ use Rattle.attr_types.specs.Scores.{AskTree, answer_on, documents_in}
 use Rattle.attr_types.specs.Table.{Table, IsCommitPoint}
 use Rattle.attr_types.specs.declared.op.Op.{Op}
 use Rattle.attr_rounds.specs.declared.rounds.Round.{Round}
-use Rattle.attr_answers.specs.declared.asked.Told.{Told}
-use Rattle.attr_answers.specs.Lines.{TellsTable, lines_from}
+use Rattle.attr_rounds.specs.declared.asked.Told.{Told}
+use Rattle.attr_rounds.specs.Lines.{TellsTable, lines_from}
 use Rattle.attr_report.specs.Run.{Run, Progress, table_after}
 use Rattle.attr_report.specs.Report.{answer_line, answers_from, answers_at, count_line, counts_from, reader_line, rounds_from, readers_from, final_line, full_line}
 use Rattle.attr_report.specs.Report.{done_line, report, made_line, documents_line, summary, told_by, written, saved_text}

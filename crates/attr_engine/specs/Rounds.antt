@@ -5,9 +5,9 @@ use Rattle.std.specs.List.Sorted.{IsNonDecreasing}
 use Rattle.attr_types.specs.declared.op.Op.{Op}
 use Rattle.attr_loader.specs.Loading.{commit_point}
 use Rattle.attr_rounds.specs.declared.rounds.Round.{Round}
-use Rattle.attr_answers.specs.declared.asked.Told.{Told}
-use Rattle.attr_answers.specs.Lines.{TellsTable}
-use Rattle.attr_column.specs.Columns.{TellsColumn}
+use Rattle.attr_rounds.specs.declared.asked.Told.{Told}
+use Rattle.attr_rounds.specs.Lines.{TellsTable}
+use Rattle.attr_rounds.specs.Columns.{TellsColumn}
 use Rattle.attr_report.specs.Run.{Run, Progress, table_after, skipped_at}
 use Rattle.attr_report.specs.History.{IsLoaded}
 use Rattle.attr_engine.specs.declared.came.Came.{Came}

@@ -23,9 +23,9 @@ use Rattle.attr_loader.specs.Loading.{AreCommits, EndsAt, commit_point}
 use Rattle.attr_loader.specs.declared.loaded.Loaded.{Loaded}
 use Rattle.attr_rounds.specs.Rounds.{AreSeen, IsOfCommit, MakesRounds}
 use Rattle.attr_rounds.specs.declared.rounds.Round.{Round}
-use Rattle.attr_answers.specs.declared.asked.Told.{Told}
-use Rattle.attr_answers.specs.Lines.{TellsTable}
-use Rattle.attr_column.specs.Columns.{TellsColumn}
+use Rattle.attr_rounds.specs.declared.asked.Told.{Told}
+use Rattle.attr_rounds.specs.Lines.{TellsTable}
+use Rattle.attr_rounds.specs.Columns.{TellsColumn}
 use Rattle.attr_report.specs.Run.{Run}
 use Rattle.attr_engine.specs.Rounds.{commits_of}
 

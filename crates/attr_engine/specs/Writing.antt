@@ -2,7 +2,7 @@
 use Rattle.std.specs.Prelude.{◌≡◌, ℕ, ◌+◌, List, [], ◌∷◌, ◌++◌, map, string_bytes, Option, Some, None, Vec}
 use Rattle.std.specs.Global.{Global}
 use Rattle.attr_rounds.specs.declared.rounds.Round.{Round}
-use Rattle.attr_answers.specs.declared.asked.Told.{Told}
+use Rattle.attr_rounds.specs.declared.asked.Told.{Told}
 use Rattle.attr_loader.specs.declared.loaded.Loaded.{Loaded}
 use Rattle.attr_report.specs.Report.{reader_line, final_line, full_line, done_line, made_line, documents_line, saved_text}
 use Rattle.attr_report.specs.Run.{Run, table_after}

@@ -3,7 +3,7 @@ ghost use Rattle.std.specs.Prelude.{◌≡◌, ◌<◌, ◌^◌, length, map, If
 ghost use Rattle.std.specs.List.{AllByRecursion, AllZip};
 ghost use Rattle.word_arena.specs.Knows.{view_of};
 ghost use Rattle.word_arena.specs.Ruled.{reader_of, writer_of};
-ghost use Rattle.attr_answers.specs.Lines.{CanAsk};
+ghost use Rattle.attr_rounds.specs.Lines.{CanAsk};
 ghost use Rattle.attr_images.specs.Shapes.{shape_of, types_of};
 ghost use Rattle.attr_types.specs.Scores.{ask_tree};
 ghost use Rattle.attr_types.specs.Lawful.{OpFits};
@@ -11,11 +11,10 @@ ghost use Rattle.attr_loader.specs.Loading.{CanLoad, IsAtStart, Loads};
 ghost use Rattle.attr_engine.specs.Steps.{HasRead, IsNewWriter, LoadsInto};
 
 use crate::readers::jobs_of;
-use attr_answers::{Asked, Told};
+use attr_rounds::{Asked, Reading, Told};
 use attr_images::{AttrLayout, image_law};
 use attr_io::{Gate, Task, run_beside};
 use attr_loader::{Attribute, Loaded, Loading};
-use attr_rounds::Reading;
 use attr_types::{Fields, Op};
 use entry_store::EntryStore;
 use std::alloc::{AllocError, Global};

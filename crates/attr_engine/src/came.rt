@@ -1,6 +1,5 @@
-use attr_answers::Told;
+use attr_rounds::{Round, Told};
 use attr_loader::Loaded;
-use attr_rounds::Round;
 use attr_types::{Doc, FieldItems};
 use std::collections::BTreeMap;
 

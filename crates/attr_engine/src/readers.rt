@@ -3,18 +3,16 @@ ghost use Rattle.std.specs.Prelude.{◌≡◌, ◌<◌, ◌≤◌, length, map, 
 ghost use Rattle.std.specs.List.{AllByRecursion, AllZip};
 ghost use Rattle.gen_core.specs.Views.{last_number};
 ghost use Rattle.word_arena.specs.Ruled.{reader_of, writer_of};
-ghost use Rattle.attr_answers.specs.Lines.{CanAsk};
+ghost use Rattle.attr_rounds.specs.Lines.{CanAsk};
 ghost use Rattle.attr_images.specs.Shapes.{shape_of, types_of};
 ghost use Rattle.attr_types.specs.Scores.{ask_tree};
 ghost use Rattle.attr_types.specs.declared.field.TheConstants.{MOST_FIELDS};
 ghost use Rattle.attr_engine.specs.Steps.{operations_of, saves_of, KeepsWriter, IsReader, IsReading, IsTakenFrom, AreRoundsOf};
 ghost use Rattle.attr_engine.specs.Steps.{IsLastAnswer};
 
-use attr_answers::{Asked, Told};
-use attr_column::Saving;
+use attr_rounds::{Asked, Job, Question, Reading, Round, Saving, Told, go_round, take_in};
 use attr_images::AttrLayout;
 use attr_io::{Gate, NoGate, run_each};
-use attr_rounds::{Job, Question, Reading, Round, go_round, take_in};
 use attr_types::{Doc, FieldItems, Fields};
 use std::alloc::{AllocError, Global};
 use std::collections::BTreeMap;

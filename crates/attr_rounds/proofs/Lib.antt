@@ -1,2 +1,4 @@
 pub mod RoundLemmas
 pub mod Commits
+pub mod ColumnLemmas
+pub mod ImageLemmas

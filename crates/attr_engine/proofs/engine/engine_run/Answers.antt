@@ -1,7 +1,7 @@
 use Rattle.std.proofs.Common.{◌∙◌, sym, ap, subst}
 use Rattle.std.specs.Prelude.{Option, is_some, IfSome}
 use Rattle.std.proofs.lemmas.Result.{IfOk-weaker}
-use Rattle.attr_column.specs.Columns.{TellsColumn}
+use Rattle.attr_rounds.specs.Columns.{TellsColumn}
 use Rattle.attr_report.specs.Run.{run_in, table_after}
 use Rattle.attr_engine.proofs.RunLemmas.{Documents}
 use Rattle.attr_engine.proofs.WritingLemmas.{run_of, saved_alike}

@@ -11,7 +11,7 @@ use Rattle.attr_images.specs.declared.layout.AttrLayout.{AttrLayout}
 use Rattle.attr_types.specs.Scores.{ask_tree}
 use Rattle.attr_rounds.specs.declared.rounds.Reading.{Reading}
 use Rattle.attr_rounds.specs.declared.rounds.Round.{Round}
-use Rattle.attr_answers.specs.declared.asked.Told.{Told}
+use Rattle.attr_rounds.specs.declared.asked.Told.{Told}
 use Rattle.attr_engine.specs.Steps.{IsReading, IsTakenFrom}
 use Rattle.attr_engine.proofs.ReaderLemmas.{taken_in, keeps_joined}
 use Rattle.attr_engine.proofs.WriterLemmas.{keeps_on}

@@ -1,6 +1,6 @@
 use Rattle.std.proofs.Common.{◌∙◌, refl, ap, List, map, Vec, Global}
 use Rattle.attr_rounds.specs.declared.rounds.Round.{Round}
-use Rattle.attr_answers.specs.declared.asked.Told.{Told}
+use Rattle.attr_rounds.specs.declared.asked.Told.{Told}
 use Rattle.attr_report.specs.Run.{run_in}
 use Rattle.attr_engine.specs.Writing.{operations_of_rounds}
 use Rattle.attr_engine.proofs.WritingLemmas.{saved_run_of}

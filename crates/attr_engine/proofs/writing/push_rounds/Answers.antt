@@ -2,7 +2,7 @@ use Rattle.std.proofs.Common.{◌≡◌, ◌+◌, ◌∙◌, sym, ap, string_byt
 use Rattle.std.proofs.Math.Seq.{drop-length}
 use Rattle.list_facts.proofs.Places.{drop-read}
 use Rattle.attr_rounds.specs.declared.rounds.Round.{Round}
-use Rattle.attr_answers.specs.declared.asked.Told.{Told}
+use Rattle.attr_rounds.specs.declared.asked.Told.{Told}
 use Rattle.attr_engine.specs.Writing.{rounds_text}
 use Rattle.attr_engine.proofs.WritingLemmas.{rounds_text-next}
 use Rattle.attr_engine.proofs.writing.push_rounds.Goals as goal

@@ -1,6 +1,6 @@
 //! The lines of the answers of an image.
 ghost use Rattle.std.specs.Prelude.{◌≡◌, ◌≤◌, ◌<◌, ◌++◌, ◌^◌, length, map, OnOk, string_bytes};
-ghost use Rattle.attr_answers.specs.Lines.{line_of, lines_from};
+ghost use Rattle.attr_rounds.specs.Lines.{line_of, lines_from};
 ghost use Rattle.attr_images.specs.Images.{operations_at, table_of, IsLawfulImage};
 ghost use Rattle.attr_images.specs.Shapes.{shape_of, types_of};
 ghost use Rattle.attr_types.specs.Scores.{ask_tree, answer_on, documents, scored};

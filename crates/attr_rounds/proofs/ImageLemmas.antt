@@ -23,7 +23,7 @@ use Rattle.attr_types.specs.declared.kind.Kind.TheVariants.{Single, Array, Weigh
 use Rattle.attr_types.specs.declared.kind.ValueType.{ValueType}
 use Rattle.attr_types.specs.declared.value.Value.{Value}
 use Rattle.attr_types.specs.declared.value.Value.TheVariants as values
-use Rattle.attr_column.proofs.ColumnLemmas.{read_pairs}
+use Rattle.attr_rounds.proofs.ColumnLemmas.{read_pairs}
 
 value_filled : (v : Value) → 0 < length (filled (value_words v))
 value_filled (values.Long number) = omega arith

@@ -1,11 +1,11 @@
 ghost use Rattle.std.specs.Prelude.{◌≡◌, length, map, IfOk};
-ghost use Rattle.attr_answers.specs.Lines.{CanAsk, TellsTable};
+ghost use Rattle.attr_rounds.specs.Lines.{CanAsk, TellsTable};
 ghost use Rattle.attr_images.specs.Images.{operations_at, table_of, IsLawfulImage};
 ghost use Rattle.attr_types.specs.Scores.{ask_tree};
 
 use crate::lines::{operations_in, push_lines};
 use attr_images::AttrLayout;
-use attr_rounds::Question;
+use crate::Question;
 use attr_types::{Ask, Fields};
 use entry_ref::EntryRef;
 use arena_api::Frozen;

@@ -4,8 +4,8 @@ use Rattle.tree_read.specs.SearchPlaces.{IsAt, pairs_from}
 use Rattle.attr_images.specs.Documents.{column_at}
 use Rattle.attr_index.specs.Columns.{column_of}
 use Rattle.doc_vector.specs.Documents.{IsDocumentPair}
-use Rattle.attr_column.proofs.ColumnLemmas.{read_pairs}
-use Rattle.attr_column.proofs.reading.documents_in.Given as goal
+use Rattle.attr_rounds.proofs.ColumnLemmas.{read_pairs}
+use Rattle.attr_rounds.proofs.reading.documents_in.Given as goal
 
 abbrev pub invariant-loop-alloc : goal.invariant-loop-alloc
 invariant-loop-alloc g l =

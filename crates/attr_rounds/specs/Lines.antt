@@ -6,7 +6,7 @@ use Rattle.attr_types.specs.Table.{Table}
 use Rattle.attr_types.specs.declared.field.Field.{Field}
 use Rattle.attr_types.specs.declared.field.TheConstants.{MOST_FIELDS}
 use Rattle.attr_report.specs.Report.{answer_line, count_line}
-use Rattle.attr_answers.specs.declared.asked.Told.{Told}
+use Rattle.attr_rounds.specs.declared.asked.Told.{Told}
 
 -- a line of a report, or of a summary, which counts the documents
 abbrev pub line_of : Bool → ℕ → Answer → List ℕ

@@ -1,8 +1,8 @@
 use Rattle.std.proofs.Common.{◌≡◌, ◌+◌, ◌++◌, drop, map, string_bytes}
-use Rattle.attr_answers.specs.Lines.{lines_from}
+use Rattle.attr_rounds.specs.Lines.{lines_from}
 use Rattle.attr_images.specs.Images.{table_of}
 use Rattle.attr_types.specs.Scores.{ask_tree}
-use Rattle.attr_answers.proofs.lines.push_lines.Given as goal
+use Rattle.attr_rounds.proofs.lines.push_lines.Given as goal
 
 -- what is written, before the lines of what is left
 abbrev pub invariant-loop-ask : goal.invariant-loop-ask

@@ -9,8 +9,8 @@ use Rattle.doc_vector.specs.Documents.{IsDocumentPair}
 use Rattle.attr_images.specs.Documents.{column_at}
 use Rattle.attr_index.specs.Columns.{column_of}
 use Rattle.attr_types.specs.declared.items.Item.{Item}
-use Rattle.attr_column.proofs.ColumnLemmas.{put_more, column_ascends, first_number, others, read_pairs}
-use Rattle.attr_column.proofs.reading.documents_in.Goals as goal
+use Rattle.attr_rounds.proofs.ColumnLemmas.{put_more, column_ascends, first_number, others, read_pairs}
+use Rattle.attr_rounds.proofs.reading.documents_in.Goals as goal
 
 pub loop-alloc-preserved : goal.loop-alloc-preserved
 loop-alloc-preserved g c =

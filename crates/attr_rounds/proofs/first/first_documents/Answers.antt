@@ -6,8 +6,8 @@ use Rattle.attr_images.specs.Images.{table_of, IsLawfulImage}
 use Rattle.attr_index.specs.Columns.{column_of}
 use Rattle.attr_images.proofs.ImageLemmas.{field_is_there}
 use Rattle.query_eval.proofs.CountLemmas.{has_documents}
-use Rattle.attr_column.proofs.ImageLemmas.{first_are}
-use Rattle.attr_column.proofs.first.first_documents.Goals as goal
+use Rattle.attr_rounds.proofs.ImageLemmas.{first_are}
+use Rattle.attr_rounds.proofs.first.first_documents.Goals as goal
 
 pub root_at-tree-requires : goal.root_at-tree-requires
 root_at-tree-requires g c =
