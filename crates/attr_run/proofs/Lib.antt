@@ -6,3 +6,4 @@ pub mod TaskLemmas
 pub mod AnswerLemmas
 pub mod SettingsLemmas
 pub mod RefusalLemmas
+pub mod MadeLemmas

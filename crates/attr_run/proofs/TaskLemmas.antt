@@ -12,7 +12,7 @@ use Rattle.feed_reader.specs.declared.refusal.Refusal.{Refusal}
 use Rattle.feed_reader.specs.declared.refusal.Refusal.TheVariants as refusals
 use Rattle.feed_reader.specs.declared.error.FeedError.{FeedError}
 use Rattle.feed_reader.specs.declared.error.FeedError.TheVariants as errors
-use Rattle.made_ops.specs.Made.{made}
+use Rattle.attr_run.specs.Made.{made}
 use Rattle.attr_report.specs.Run.{Run, Progress}
 use Rattle.attr_report.specs.declared.request.Make.{Make}
 use Rattle.attr_run.specs.Run.{Task, asked, ReadsFeed, refusal_number, ops_or_refused, ops_in, fed_by, fed}

@@ -3,3 +3,5 @@ pub mod Settings
 pub mod Texts
 pub mod Answers
 pub mod Steps
+pub mod Made
+pub mod Laws

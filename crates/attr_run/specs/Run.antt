@@ -12,7 +12,7 @@ use Rattle.attr_words.specs.declared.reading.WordsError.{WordsError}
 use Rattle.attr_words.specs.declared.reading.WordsError.TheVariants as words
 use Rattle.attr_types.specs.Scores.{AskTree}
 use Rattle.query_text.specs.Asks.{ask_of}
-use Rattle.made_ops.specs.Made.{made}
+use Rattle.attr_run.specs.Made.{made}
 use Rattle.feed_reader.specs.Feed.{feed_of, most_bytes}
 use Rattle.feed_reader.specs.declared.refusal.Refusal.{Refusal}
 use Rattle.feed_reader.specs.declared.refusal.Refusal.TheVariants as refusals

@@ -5,7 +5,7 @@ ghost use Rattle.std.specs.Io.KnownBytes.{IsAtEnd};
 ghost use Rattle.attr_io.specs.Bytes.{ReadsPieces};
 ghost use Rattle.attr_types.specs.Lawful.{OpFits};
 ghost use Rattle.feed_reader.specs.Feed.{most_bytes};
-ghost use Rattle.made_ops.specs.Made.{made};
+ghost use Rattle.attr_run.specs.Made.{made};
 ghost use Rattle.attr_report.specs.Run.{run_in};
 ghost use Rattle.attr_run.specs.Run.{fed, ops_in as ops_of};
 ghost use Rattle.attr_run.specs.Answers.{ReadsAsAsked};
@@ -17,7 +17,7 @@ use attr_io::Source;
 use attr_report::Request;
 use attr_types::{Fields, Ops};
 use feed_reader::read_feed;
-use made_ops::make_ops;
+use crate::make_ops;
 use std::alloc::Global;
 
 fn read_in<S: Source>(alloc: Global, source: &mut S, fields: &Fields) -> Result<Ops, Stop>

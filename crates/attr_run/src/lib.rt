@@ -1,17 +1,25 @@
 //! The whole run of `attr`: from the words of its command line and the bytes of its feed to the
 //! bytes that it writes.
+//!
+//! Operations that are made from a number, in place of a feed.
 #![tactic(auto)]
 
+mod draw;
 mod feed;
 mod laws;
+mod made_laws;
+mod make;
 mod outcome;
 mod request;
 mod run;
 mod stop;
 mod texts;
+mod value;
 mod words;
 
 pub use laws::settings_law;
+pub use made_laws::made_law;
+pub use make::make_ops;
 pub use outcome::{FeedFault, Outcome, Status, UsageCause};
 pub use run::attr_main;
 pub use words::Words;

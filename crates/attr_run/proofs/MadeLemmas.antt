@@ -15,9 +15,9 @@ use Rattle.attr_types.specs.declared.kind.Kind.TheVariants.{Single, Array, Weigh
 use Rattle.attr_types.specs.declared.kind.ValueType.{ValueType}
 use Rattle.attr_types.specs.declared.kind.ValueType.TheVariants as types
 use Rattle.attr_types.specs.declared.op.Op.{Op}
-use Rattle.made_ops.specs.Laws.{MadeOpsFit}
-use Rattle.made_ops.specs.Made.{next_draw, second_draw, third_draw, value_by, items_by, change_of_kind, put_items}
-use Rattle.made_ops.specs.Made.{update_changes, op_by, made_from, made}
+use Rattle.attr_run.specs.Laws.{MadeOpsFit}
+use Rattle.attr_run.specs.Made.{next_draw, second_draw, third_draw, value_by, items_by, change_of_kind, put_items}
+use Rattle.attr_run.specs.Made.{update_changes, op_by, made_from, made}
 
 -- a text with a number of 32 bits is short
 pub short_text : (bytes : List ℕ) (n : ℕ) → bytes ≡ codes "t" ++ decimal n → n < 2 ^ 32 → length bytes ≤ 1024

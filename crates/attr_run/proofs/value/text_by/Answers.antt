@@ -1,7 +1,7 @@
 use Rattle.std.proofs.Common.{◌∙◌, ◌++◌, ◌≤◌, sym, ap, subst, string_bytes}
 use Rattle.std.specs.Fmt.{decimal}
-use Rattle.made_ops.proofs.MadeLemmas.{short_text}
-use Rattle.made_ops.proofs.value.text_by.Goals as goal
+use Rattle.attr_run.proofs.MadeLemmas.{short_text}
+use Rattle.attr_run.proofs.value.text_by.Goals as goal
 
 pub new-requires : goal.new-requires
 new-requires c = subst (λ n. n ≤ 1024) (sym c.write.new.self.bytes.ok.0)

@@ -1,7 +1,7 @@
 //! Values and items by draws.
 ghost use Rattle.std.specs.Prelude.{◌≡◌, ◌<◌, ◌++◌, ◌∷◌, [], IfOk, pos, codes};
 ghost use Rattle.std.specs.Fmt.{decimal};
-ghost use Rattle.made_ops.specs.Made.{value_by, items_by, change_of_kind};
+ghost use Rattle.attr_run.specs.Made.{value_by, items_by, change_of_kind};
 
 use attr_types::{Change, Field, Item, Items, Kind, Text, Value, ValueType};
 use std::alloc::{AllocError, Global};

@@ -2,10 +2,10 @@ ghost use Rattle.std.specs.Prelude.{◌≡◌, ◌<◌, ◌++◌, [], IfOk, leng
 ghost use Rattle.std.specs.List.{AllByRecursion};
 ghost use Rattle.attr_types.specs.Lawful.{OpFits};
 ghost use Rattle.attr_types.specs.declared.change.Change.TheVariants.{Keep};
-ghost use Rattle.made_ops.specs.Made.{put_items, update_changes, op_by, made};
+ghost use Rattle.attr_run.specs.Made.{put_items, update_changes, op_by, made};
 
 use crate::draw::next_draw;
-use crate::laws::made_law;
+use crate::made_laws::made_law;
 use crate::value::{change_by, items_by};
 use attr_types::{Change, Doc, Field, FieldChanges, FieldItems, Fields, Items, Op, Ops};
 use std::alloc::{AllocError, Global};

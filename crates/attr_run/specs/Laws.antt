@@ -3,7 +3,7 @@ use Rattle.std.specs.Prelude.{ℕ, List}
 use Rattle.std.specs.List.{AllByRecursion}
 use Rattle.attr_types.specs.Lawful.{OpFits}
 use Rattle.attr_types.specs.declared.field.Field.{Field}
-use Rattle.made_ops.specs.Made.{made}
+use Rattle.attr_run.specs.Made.{made}
 
 -- made operations fit the attributes, whatever the seed
 abbrev pub MadeOpsFit : Type 0

@@ -1,5 +1,5 @@
 //! Laws of made operations. The function does nothing: its contract is the law.
-ghost use Rattle.made_ops.specs.Laws.{MadeOpsFit};
+ghost use Rattle.attr_run.specs.Laws.{MadeOpsFit};
 
 /// Made operations fit the attributes, whatever the seed.
 pub fn made_law()

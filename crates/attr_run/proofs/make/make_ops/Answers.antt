@@ -3,9 +3,9 @@ use Rattle.std.specs.List.{AllByRecursion}
 use Rattle.attr_types.specs.Lawful.{OpFits}
 use Rattle.attr_types.specs.declared.field.Field.{Field}
 use Rattle.attr_types.specs.declared.op.Op.{Op}
-use Rattle.made_ops.specs.Made.{op_by, made}
-use Rattle.made_ops.proofs.MadeLemmas.{made-more, made-end, made-length}
-use Rattle.made_ops.proofs.make.make_ops.Goals as goal
+use Rattle.attr_run.specs.Made.{op_by, made}
+use Rattle.attr_run.proofs.MadeLemmas.{made-more, made-end, made-length}
+use Rattle.attr_run.proofs.make.make_ops.Goals as goal
 
 pub loop-preserved : goal.loop-preserved
 loop-preserved c =

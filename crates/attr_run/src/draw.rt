@@ -1,5 +1,5 @@
 ghost use Rattle.std.specs.Prelude.{◌≡◌, ◌<◌};
-ghost use Rattle.made_ops.specs.Made.{next_draw};
+ghost use Rattle.attr_run.specs.Made.{next_draw};
 
 /// The draw after a draw, or the first one after the seed.
 pub fn next_draw(x: u32) -> u32

@@ -1,6 +1,6 @@
 use Rattle.std.proofs.Common.{◌≡◌, ◌++◌, ◌-◌}
-use Rattle.made_ops.specs.Made.{made_from}
-use Rattle.made_ops.proofs.make.make_ops.Given as goal
+use Rattle.attr_run.specs.Made.{made_from}
+use Rattle.attr_run.proofs.make.make_ops.Given as goal
 
 -- the operations so far, and those of the draws after the last one, are all
 abbrev pub invariant-loop : goal.invariant-loop
