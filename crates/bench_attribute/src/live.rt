@@ -1,6 +1,6 @@
 //! The words of the records that an image reaches.
 use attr_types::{Field, Kind};
-use check_trees::{CheckFault, Keys, check_tree};
+use check_images::{CheckFault, Keys, check_tree};
 use entry_ref::{word_in, words_at};
 use std::alloc::Global;
 use std::collections::BTreeMap;

@@ -11,9 +11,9 @@ use Rattle.attr_images.specs.Tables.{table_of_columns, columns_at, AreLawfulAttr
 use Rattle.attr_types.specs.Table.{Table}
 use Rattle.attr_types.specs.declared.field.Field.{Field}
 use Rattle.attr_types.specs.declared.field.TheConstants.{MOST_FIELDS}
-use Rattle.check_trees.proofs.Walks.{refuted_by}
-use Rattle.check_trees.specs.Refutations.{Refutes}
-use Rattle.check_trees.specs.declared.fault.CheckFault.{CheckFault}
+use Rattle.check_images.proofs.Walks.{refuted_by}
+use Rattle.check_images.specs.Refutations.{Refutes}
+use Rattle.check_images.specs.declared.fault.CheckFault.{CheckFault}
 
 words_here : (m : Records) (root : ℕ) → 0 < root → root_words m root ≡ m root
 words_here m zero some = absurd (omega arith)

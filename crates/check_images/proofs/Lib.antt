@@ -7,3 +7,9 @@ pub mod BlockLemmas
 pub mod TableLemmas
 pub mod LawfulLemmas
 pub mod IndexLemmas
+pub mod Walks
+pub mod KeyLemmas
+pub mod TreePairLemmas
+pub mod WalkLemmas
+pub mod NodeSteps
+pub mod RootLemmas

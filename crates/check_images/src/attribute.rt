@@ -10,14 +10,14 @@ ghost use Rattle.attr_images.specs.Postings.{list_form, postings_at, IsDictionar
 ghost use Rattle.attr_images.specs.Values.{stored_value};
 ghost use Rattle.attr_types.specs.Value.{value_cmp};
 ghost use Rattle.entry_ref.specs.Maps.{seen};
-ghost use Rattle.check_trees.specs.Refutations.{Refutes};
+ghost use Rattle.check_images.specs.Refutations.{Refutes};
 
 use crate::coverage::have_all_values;
 use crate::dictionary::read_dictionary;
 use crate::documents::are_lawful_documents;
 use crate::items::read_documents;
 use attr_types::{Items, Kind, Value, ValueType};
-use check_trees::{CheckFault, Keys, check_tree};
+use crate::{CheckFault, Keys, check_tree};
 use std::alloc::Global;
 use std::collections::BTreeMap;
 

@@ -3,10 +3,10 @@ ghost use Rattle.std.specs.List.{flat_map, AllByRecursion};
 ghost use Rattle.attr_images.specs.Postings.{block_documents, IsBlock};
 ghost use Rattle.attr_index.specs.Sets.{in_words};
 ghost use Rattle.entry_ref.specs.Maps.{seen};
-ghost use Rattle.check_trees.specs.Refutations.{Refutes};
+ghost use Rattle.check_images.specs.Refutations.{Refutes};
 
 use attr_images::{BLOCK_DOCUMENTS, BLOCK_WORDS};
-use check_trees::CheckFault;
+use crate::CheckFault;
 use entry_ref::{word_in, words_at};
 use std::alloc::{AllocError, Global};
 use std::collections::BTreeMap;

@@ -7,12 +7,12 @@ ghost use Rattle.attr_images.specs.Values.{stored_value};
 ghost use Rattle.attr_types.specs.Value.{value_cmp};
 ghost use Rattle.attr_types.specs.declared.items.Item.{Item};
 ghost use Rattle.entry_ref.specs.Maps.{seen};
-ghost use Rattle.check_trees.specs.Refutations.{Refutes};
+ghost use Rattle.check_images.specs.Refutations.{Refutes};
 
 use crate::postings::read_postings;
 use crate::values::read_value;
 use attr_types::{Item, Items, Value, ValueType, compare};
-use check_trees::CheckFault;
+use crate::CheckFault;
 use entry_ref::words_at;
 use std::alloc::{AllocError, Global};
 use std::collections::BTreeMap;

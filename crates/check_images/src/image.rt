@@ -4,13 +4,13 @@ ghost use Rattle.attr_images.specs.Images.{attributes_from, table_of, IsRootReco
 ghost use Rattle.attr_images.specs.Shapes.{shape_of, types_of};
 ghost use Rattle.attr_images.specs.Tables.{table_of_columns, columns_at, AreLawfulAttributes};
 ghost use Rattle.entry_ref.specs.Maps.{seen};
-ghost use Rattle.check_trees.specs.Refutations.{Refutes};
+ghost use Rattle.check_images.specs.Refutations.{Refutes};
 
 use crate::attribute::check_attribute;
 use crate::tables::{have_same_documents, put_beside, table_of_column};
 use crate::words::class_of;
 use attr_types::{Field, FieldItems, Fields, MOST_FIELDS};
-use check_trees::CheckFault;
+use crate::CheckFault;
 use entry_ref::{word_in, words_at};
 use std::alloc::Global;
 use std::collections::BTreeMap;

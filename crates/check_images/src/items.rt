@@ -3,14 +3,14 @@ ghost use Rattle.std.specs.List.{AllByRecursion};
 ghost use Rattle.attr_images.specs.Documents.{weighted, IsItemsRecord, items_at, AreItemRecords};
 ghost use Rattle.attr_images.specs.Values.{stored_value, IsValueRecord};
 ghost use Rattle.entry_ref.specs.Maps.{seen};
-ghost use Rattle.check_trees.specs.Refutations.{Refutes};
+ghost use Rattle.check_images.specs.Refutations.{Refutes};
 ghost use Rattle.check_images.specs.Told.{Tells};
 ghost use Rattle.check_images.specs.Weights.{weights};
 
 use crate::values::read_value;
 use crate::words::{read_list, unpack_all};
 use attr_types::{Item, Items, Kind, MOST_ITEMS, ValueType};
-use check_trees::CheckFault;
+use crate::CheckFault;
 use entry_ref::words_at;
 use std::alloc::{AllocError, Global};
 use std::collections::BTreeMap;

@@ -1,4 +1,6 @@
 //! A slow checker of whole images: its contract is the definitions of attr_images.
+//!
+//! A slow checker of trees: its contract is the definitions of tree_images.
 #![tactic(auto)]
 
 mod attribute;
@@ -6,11 +8,22 @@ mod blocks;
 mod coverage;
 mod dictionary;
 mod documents;
+mod fault;
 mod image;
 mod items;
+mod keys;
+mod node;
+mod pairs;
 mod postings;
+mod read;
 mod tables;
+mod tree;
 mod values;
 mod words;
 
+pub use fault::CheckFault;
 pub use image::check_image;
+pub use keys::{Keys, stored_long, stored_text};
+pub use node::is_node_form;
+pub use read::rest_of;
+pub use tree::check_tree;

@@ -3,13 +3,13 @@ ghost use Rattle.std.specs.List.{AllByRecursion};
 ghost use Rattle.attr_images.specs.Postings.{list_form, tree, vector, postings_at, IsPostingList};
 ghost use Rattle.attr_images.specs.Words.{weight_in_bits};
 ghost use Rattle.entry_ref.specs.Maps.{seen};
-ghost use Rattle.check_trees.specs.Refutations.{Refutes};
+ghost use Rattle.check_images.specs.Refutations.{Refutes};
 ghost use Rattle.check_images.specs.Told.{Tells};
 
 use crate::blocks::read_blocks;
 use crate::words::{read_list, unpack_all};
 use attr_images::{FIRST_VECTOR, MOST_SHORT};
-use check_trees::{CheckFault, Keys, check_tree};
+use crate::{CheckFault, Keys, check_tree};
 use entry_ref::words_at;
 use std::alloc::{AllocError, Global};
 use std::collections::BTreeMap;

@@ -4,7 +4,7 @@ ghost use Rattle.check_images.specs.Told.{Tells};
 
 use crate::words::is_filled;
 use attr_types::{Text, Value, ValueType};
-use check_trees::{stored_long, stored_text};
+use crate::{stored_long, stored_text};
 use std::alloc::{AllocError, Global};
 
 /// The first eight bytes, with zeros where there are fewer.

@@ -2,7 +2,7 @@ ghost use Rattle.std.specs.Prelude.{◌≡◌, ◌↔◌, ◌≤◌, ◌∷◌, 
 ghost use Rattle.attr_images.specs.Words.{class_of, filled, stored_items, unpacked, IsStoredList};
 ghost use Rattle.check_images.specs.Told.{Tells};
 
-use check_trees::rest_of;
+use crate::rest_of;
 use entry_ref::word_in;
 use std::alloc::{AllocError, Global};
 

@@ -1,6 +1,6 @@
 //! Which records attributes reach in which buffer, by what they are.
 use attr_types::{Field, Kind, ValueType};
-use check_trees::{CheckFault, Keys, check_tree};
+use check_images::{CheckFault, Keys, check_tree};
 use entry_ref::{word_in, words_at};
 use std::alloc::{AllocError, Global};
 use std::collections::BTreeMap;

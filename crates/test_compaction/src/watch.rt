@@ -5,7 +5,7 @@ use crate::script::{Script, follow_one};
 use crate::table::{is_lawful, reads_as};
 use attr_plain::PlainTable;
 use attr_types::Fields;
-use check_trees::CheckFault;
+use check_images::CheckFault;
 use entry_ref::{word_in, words_at};
 use std::alloc::{AllocError, Global};
 use std::collections::BTreeMap;

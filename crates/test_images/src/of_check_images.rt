@@ -1,8 +1,7 @@
 use crate::made::{Row, node, one_field, records_of, root, run, two_fields};
 use attr_images::shape_of;
 use attr_types::{FieldItems, Item, Kind, Value, ValueType};
-use check_images::check_image;
-use check_trees::CheckFault;
+use check_images::{CheckFault, check_image};
 use std::alloc::{AllocError, Global};
 
 #[test]

@@ -1,6 +1,6 @@
 use crate::made::{Row, node, records_of, root, run};
 use attr_types::ValueType;
-use check_trees::{CheckFault, Keys, check_tree, is_node_form};
+use check_images::{CheckFault, Keys, check_tree, is_node_form};
 use std::alloc::{AllocError, Global};
 
 /// Whether words are a node's with another word at a place, if it is one of theirs.

@@ -2,7 +2,7 @@ use crate::plain::Plain;
 use crate::run::{Load, differs_on, root_of};
 use crate::{new_memory, noted_lists};
 use attr_types::{Value, ValueType};
-use check_trees::{CheckFault, Keys, check_tree};
+use check_images::{CheckFault, Keys, check_tree};
 use entry_store::EntryStore;
 use entry_ref::words_at;
 use mem_work::{MemWork, OneRecord};

@@ -6,7 +6,7 @@ ghost use Rattle.number_tree.specs.Maps.{HoldsTree};
 use crate::changes::scrambled;
 use crate::texts::{number_at, push_mark};
 use crate::trees::records_of;
-use check_trees::{Keys, check_tree};
+use check_images::{Keys, check_tree};
 use entry_ref::{EntryRef, word_in, words_at};
 use arena_api::Frozen;
 use frozen_btree::{NumberKey, touch};

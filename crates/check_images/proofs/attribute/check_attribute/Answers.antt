@@ -11,7 +11,7 @@ use Rattle.attr_images.specs.Values.{stored_value}
 use Rattle.attr_types.specs.declared.items.Item.{Item}
 use Rattle.attr_types.specs.declared.value.Value.{Value}
 use Rattle.entry_ref.specs.Maps.{seen}
-use Rattle.check_trees.proofs.Walks.{refuted_by}
+use Rattle.check_images.proofs.Walks.{refuted_by}
 use Rattle.check_images.proofs.IndexLemmas.{to_lists, from_lists, has_values, values_cover}
 use Rattle.check_images.proofs.attribute.check_attribute.Goals as goal
 

@@ -5,7 +5,7 @@ use Rattle.attr_images.specs.Documents.{items_at, AreItemRecords}
 use Rattle.attr_types.specs.Lawful.{IsDocNumber, IsLawfulItems}
 use Rattle.attr_types.specs.declared.items.Item.{Item}
 use Rattle.entry_ref.specs.Maps.{seen}
-use Rattle.check_trees.proofs.Walks.{refuted_by}
+use Rattle.check_images.proofs.Walks.{refuted_by}
 use Rattle.check_images.proofs.IndexLemmas.{lawful_column, lawful_rows}
 use Rattle.check_images.proofs.attribute.read_column.Goals as goal
 

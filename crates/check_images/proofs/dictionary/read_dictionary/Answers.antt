@@ -5,7 +5,7 @@ use Rattle.attr_index.specs.Columns.{documents_with}
 use Rattle.attr_images.specs.Postings.{list_form, postings_at, IsDictionaryEntry}
 use Rattle.attr_images.specs.Values.{stored_value}
 use Rattle.entry_ref.specs.Maps.{seen}
-use Rattle.check_trees.proofs.Walks.{refuted_by}
+use Rattle.check_images.proofs.Walks.{refuted_by}
 use Rattle.check_images.proofs.dictionary.read_dictionary.Goals as goal
 
 pub returns-in_err-value-clause-exact : goal.returns-in_err-value-clause-exact

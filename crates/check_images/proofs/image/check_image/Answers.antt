@@ -8,7 +8,7 @@ use Rattle.attr_images.specs.Tables.{table_of_columns, columns_at, AreLawfulAttr
 use Rattle.attr_types.specs.Value.{Document}
 use Rattle.attr_types.specs.declared.field.Field.{Field}
 use Rattle.entry_ref.specs.Maps.{seen}
-use Rattle.check_trees.specs.Refutations.{Refutes}
+use Rattle.check_images.specs.Refutations.{Refutes}
 use Rattle.check_images.proofs.LawfulLemmas.{lawful_image, image_record, image_attributes, image_table, refuted_then, no_table}
 use Rattle.check_images.proofs.image.check_image.Goals as goal
 

@@ -1,0 +1,65 @@
+ghost use Rattle.std.specs.Prelude.{◌≡◌, IfOk, slice_index};
+ghost use Rattle.std.specs.Int.{cast_signed, w64};
+ghost use Rattle.attr_images.specs.Values.{stored_text};
+ghost use Rattle.check_images.specs.Keys.{stored_cmp};
+ghost use Rattle.entry_ref.specs.Maps.{seen};
+
+use crate::read::rest_of;
+use attr_types::ValueType;
+use entry_ref::{word_in, words_at};
+use std::alloc::{AllocError, Global};
+use std::cmp::Ordering;
+use std::collections::BTreeMap;
+
+/// What the keys of a tree are.
+#[derive(Clone, Copy, Debug, PartialEq, Eq)]
+pub enum Keys {
+    /// Each key is a number, and stands for itself.
+    Numbers,
+    /// Each key is the reference of a value of this type.
+    Values(ValueType),
+}
+
+/// The number that words read as.
+pub fn stored_long(words: &[u64]) -> i64
+    ensures { result ≡ cast_signed w64 (slice_index words.now 1) }
+{
+    word_in(words, 1).cast_signed()
+}
+
+/// The bytes of the text that words read as: as many as the first word says.
+pub fn stored_text(alloc: Global, words: &[u64]) -> Result<Vec<u8>, AllocError>
+    ensures { IfOk result (λ bytes. bytes.items ≡ stored_text words.now) }
+{
+    let mut bytes = Vec::new(alloc);
+    let rest = rest_of(words);
+    for word in rest {
+        bytes.extend_from_slice(&word.to_be_bytes())?;
+    }
+    bytes.truncate(word_in(words, 0) as usize);
+    Ok(bytes)
+}
+
+/// Compares two stored keys by what they read as.
+pub fn compare_keys(
+    alloc: Global,
+    keys: Keys,
+    records: &BTreeMap<u32, Vec<u64>>,
+    a: u64,
+    b: u64,
+) -> Result<Ordering, AllocError>
+    ensures { IfOk result (λ order. order ≡ stored_cmp keys (seen records.now) a b) }
+{
+    match keys {
+        Keys::Numbers => Ok(a.cmp(&b)),
+        Keys::Values(ValueType::Long) => {
+            let first = stored_long(words_at(records, a));
+            Ok(first.cmp(&stored_long(words_at(records, b))))
+        }
+        Keys::Values(ValueType::Text) => {
+            let first = stored_text(alloc, words_at(records, a))?;
+            let second = stored_text(alloc, words_at(records, b))?;
+            Ok(first.as_slice().cmp(second.as_slice()))
+        }
+    }
+}

@@ -1,6 +1,0 @@
-use Rattle.std.proofs.Common.{sym}
-use Rattle.check_trees.proofs.PairLemmas.{last_is}
-use Rattle.check_trees.proofs.pairs.last_of.Goals as goal
-
-pub returns-in-Some : goal.returns-in-Some
-returns-in-Some c = record { last = sym (last_is c.args.pairs.now c.in-Some.pair.now c.in-Some.ensures.value) }

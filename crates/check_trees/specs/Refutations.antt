@@ -1,8 +1,0 @@
--- What an answer that gives nothing says.
-use Rattle.check_trees.specs.declared.fault.CheckFault.{CheckFault}
-use Rattle.check_trees.specs.declared.fault.CheckFault.TheVariants.{Broken, Memory}
-
--- a fact is false, unless there was no memory
-abbrev pub Refutes : Type 0 → CheckFault → Type 0
-Refutes P Broken = ¬ P
-Refutes P Memory = Unit {0}
