@@ -1,6 +1,6 @@
 //! Guards by many readers, beside a writer or not; reads of a node under one guard.
 use arena_api::Work;
-use node_turns::{Held, OneNode, commit, pass, tried, turn};
+use test_kit::{Held, OneNode, commit, pass, tried, turn};
 use std::alloc::{AllocError, Global};
 use std::thread::{Threads, map_vec};
 use word_arena::{Again, Arena, Config, Limits, Reader, Writer};

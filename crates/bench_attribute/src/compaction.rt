@@ -14,7 +14,7 @@ use attribute_kinds::{AttrError, Attribute, Compacted, committed_work};
 use entry_ref::EntryRef;
 use entry_store::EntryStore;
 use mem_work::MemWork;
-use noted_work::NotedWork;
+use test_kit::NotedWork;
 use std::alloc::{AllocError, Global};
 use store_api::Store;
 

@@ -16,7 +16,7 @@ use mem_work::{MemWork, OneRecord};
 use std::alloc::{AllocError, Global};
 use std::io;
 use std::process::ExitCode;
-use value_lists::ValueLists;
+use test_kit::ValueLists;
 
 /// An index over a memory without readers.
 type Lists = ValueLists<22, EntryStore<22, MemWork<22, OneRecord>>>;

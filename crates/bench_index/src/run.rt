@@ -4,7 +4,7 @@ use attr_types::{Doc, Text, Value, ValueType};
 use entry_store::EntryStore;
 use std::alloc::{AllocError, Global};
 use store_api::Store;
-use value_lists::ValueLists;
+use test_kit::ValueLists;
 
 /// Postings of so many values are drawn; the first of them are added, and the first of those removed.
 #[derive(Clone, Copy)]

@@ -4,7 +4,7 @@ use Rattle.std.proofs.lemmas.Bool.{eq-eqb, ne_eqb}
 use Rattle.entry_ref.specs.References.{buffer_of}
 use Rattle.entry_ref.specs.Images.{image_of, words_at}
 use Rattle.entry_ref.specs.Records.{Records, SameAt, AllThere, Among}
-use Rattle.node_turns.specs.OneNode.{node_reaches, IsNodeRecord}
+use Rattle.test_kit.specs.OneNode.{node_reaches, IsNodeRecord}
 use Rattle.store_api.specs.Statuses.{in_use}
 use Rattle.store_api.specs.Ledgers.{Ledger, IsNew, IsSettled, is_this}
 use Rattle.store_api.specs.Units.{MayDo}

@@ -4,7 +4,7 @@ use Rattle.entry_ref.specs.References.{buffer_of}
 use Rattle.entry_ref.specs.Records.{Records}
 use Rattle.store_api.specs.Ledgers.{Ledger, is_this}
 use Rattle.store_api.specs.Parts.{OwnsAll, entries}
-use Rattle.node_turns.specs.OneNode.{IsNodeRecord}
+use Rattle.test_kit.specs.OneNode.{IsNodeRecord}
 use Rattle.test_arena.specs.declared.keeping.Keeping.{Keeping}
 
 -- the records of a root: itself, or none where it is 0

@@ -2,7 +2,7 @@
 use Rattle.std.specs.Prelude.{IfSome}
 use Rattle.arena_api.specs.Works.{WorkView}
 use Rattle.arena_api.specs.Generations.{MayRetire}
-use Rattle.node_turns.specs.Turns.{IsActive}
+use Rattle.test_kit.specs.Turns.{IsActive}
 use Rattle.test_arena.specs.declared.writing.Past.{Past}
 
 -- the buffer of the last node is active, and the buffer that was claimed may be put on hold

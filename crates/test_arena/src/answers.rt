@@ -1,6 +1,6 @@
 //! What a call of a row comes to, and how a row says it.
 use arena_api::{Advance, Oldest};
-use node_turns::{Committed, Look};
+use test_kit::{Committed, Look};
 use std::alloc::AllocError;
 use store_api::StoreError;
 

@@ -11,7 +11,7 @@ use crate::marks::Marks;
 use crate::playing::Seat;
 use crate::steps::Task;
 use entry_ref::EntryRef;
-use node_turns::{Committed, NODE, OneNode, words_of};
+use test_kit::{Committed, NODE, OneNode, words_of};
 use store_api::{Store, StoreError, drop_one, make_entry};
 
 /// The last commit, the root, 0 for none, and the buffers that were sealed and finished since.

@@ -9,7 +9,7 @@ use crate::reading::Stand;
 use crate::steps::{Setting, Step};
 use crate::writing::{Past, write_on};
 use entry_store::EntryStore;
-use node_turns::OneNode;
+use test_kit::OneNode;
 use std::alloc::{AllocError, Global};
 use std::sync::atomic::{AtomicU64, Ordering};
 use std::thread::{Threads, map_vec};

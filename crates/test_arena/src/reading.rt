@@ -4,7 +4,7 @@ ghost use Rattle.std.specs.Prelude.{◌≡◌, ◌<◌};
 use crate::answers::Answer;
 use crate::playing::Seat;
 use crate::steps::Task;
-use node_turns::{Held, OneNode, guarded, raised, tried};
+use test_kit::{Held, OneNode, guarded, raised, tried};
 use std::marker::Brand;
 use std::mem::replace;
 use std::sync::ledger::{Blank, Ledger};

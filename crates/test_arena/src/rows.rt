@@ -7,7 +7,7 @@ use crate::steps::{Setting, Step, setting_in, step_in};
 use std::alloc::{AllocError, Global};
 use std::io;
 use std::thread::Threads;
-use test_tally::Tally;
+use test_kit::Tally;
 
 /// Counts what a step came to. One that differs prints itself.
 fn judge(

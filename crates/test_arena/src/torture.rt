@@ -1,9 +1,9 @@
 //! Many readers beside a writer that goes round its buffers.
 ghost use Rattle.std.specs.Prelude.{IfSome};
-ghost use Rattle.node_turns.specs.Turns.{IsActive};
+ghost use Rattle.test_kit.specs.Turns.{IsActive};
 
 use arena_api::Work;
-use node_turns::{Look, OneNode, pass, raised, turn};
+use test_kit::{Look, OneNode, pass, raised, turn};
 use std::alloc::{AllocError, Global};
 use std::sync::atomic::{AtomicU64, Ordering};
 use std::thread::{Threads, map_vec, yield_now};

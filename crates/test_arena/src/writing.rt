@@ -7,7 +7,7 @@ ghost use Rattle.test_arena.specs.Pasts.{IsOfPast};
 use crate::answers::Answer;
 use crate::steps::Task;
 use arena_api::Work;
-use node_turns::{Committed, OneNode, claim, commit, pass, turn};
+use test_kit::{Committed, OneNode, claim, commit, pass, turn};
 use word_arena::Writer;
 
 /// The last commit, the buffer of its node, if it has one, and the buffer that the last step claimed.

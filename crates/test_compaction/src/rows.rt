@@ -8,7 +8,7 @@ use crate::script::Script;
 use attr_types::{Field, Fields, Kind, MOST_FIELDS, Name, ValueType};
 use std::alloc::{AllocError, Global};
 use std::io;
-use test_tally::Tally;
+use test_kit::Tally;
 
 fn number_at(row: &str, place: usize) -> u32 {
     match row.split(' ').skip(place).next() {

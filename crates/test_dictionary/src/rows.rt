@@ -4,7 +4,7 @@ use crate::seeking::{Asked, shows};
 use attr_types::{Text, Value};
 use std::alloc::{AllocError, Global};
 use std::io;
-use test_tally::Tally;
+use test_kit::Tally;
 
 fn text_in(alloc: Global, word: &str) -> Result<Text, AllocError> {
     if word == "\"\"" || word.len() > Text::MAX_LEN {

@@ -4,7 +4,7 @@ use crate::fed::{answer_to, table_after};
 use crate::field::fields_in;
 use std::alloc::{AllocError, Global};
 use std::io;
-use test_tally::Tally;
+use test_kit::Tally;
 
 /// A number and what follows a space after it.
 fn numbered(line: &str) -> (u32, &str) {

@@ -5,7 +5,7 @@ use crate::attributes::NoRoom;
 use crate::run::{Load, Told, run, tell};
 use std::alloc::AllocError;
 use std::io;
-use test_tally::Tally;
+use test_kit::Tally;
 
 fn number_at(row: &str, place: usize) -> u32 {
     match row.split(' ').skip(place).next() {

@@ -6,10 +6,9 @@ use check_images::{CheckFault, Keys, check_tree};
 use entry_store::EntryStore;
 use entry_ref::words_at;
 use mem_work::{MemWork, OneRecord};
-use noted_work::NotedWork;
+use test_kit::{NotedWork, ValueLists};
 use std::alloc::{AllocError, Global};
 use std::collections::BTreeMap;
-use value_lists::ValueLists;
 
 /// An index over a memory beside which the words of each record are kept.
 type Lists = ValueLists<22, EntryStore<22, NotedWork<22, MemWork<22, OneRecord>>>>;

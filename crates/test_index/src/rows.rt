@@ -10,7 +10,7 @@ use crate::{new_lists, new_memory};
 use attr_types::{Value, ValueType};
 use std::alloc::{AllocError, Global};
 use std::io;
-use test_tally::Tally;
+use test_kit::Tally;
 
 fn number_at(row: &str, place: usize) -> u32 {
     match row.split(' ').skip(place).next() {

@@ -9,7 +9,7 @@ use crate::run::{Load, Told, run};
 use attr_types::MOST_FIELDS;
 use std::alloc::{AllocError, Global};
 use std::io;
-use test_tally::Tally;
+use test_kit::Tally;
 
 fn load_in(row: &str) -> Load {
     Load {

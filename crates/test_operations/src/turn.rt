@@ -12,7 +12,7 @@ use attr_plain::PlainTable;
 use attribute_kinds::{AttrError, Attribute, Published, committed_work};
 use entry_store::EntryStore;
 use mem_work::MemWork;
-use noted_work::NotedWork;
+use test_kit::NotedWork;
 use std::alloc::{AllocError, Global};
 use std::collections::BTreeMap;
 use store_api::Store;

@@ -4,7 +4,7 @@ use attr_io::{FakeSink, FakeSource};
 use std::alloc::{AllocError, Global};
 use std::io;
 use std::thread::Threads;
-use test_tally::Tally;
+use test_kit::Tally;
 
 const WORDS: &str = "--kind single --value long --readers 0 --buffers 8 --words 8192 5";
 

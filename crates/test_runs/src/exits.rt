@@ -1,6 +1,6 @@
 use attr_run::{FeedFault, Status, UsageCause};
 use std::io;
-use test_tally::Tally;
+use test_kit::Tally;
 
 /// The exit status of each answer, beside the number that it must be.
 pub fn compare(rt: &HostRuntime) -> io::Result<()> {

@@ -5,7 +5,7 @@ use std::env::FillError;
 use std::io;
 use std::rt::Env;
 use std::thread::Threads;
-use test_tally::Tally;
+use test_kit::Tally;
 
 #[derive(Clone, Copy)]
 struct Program<'a> {

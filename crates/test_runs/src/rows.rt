@@ -14,7 +14,7 @@ use crate::run::{room, saved, told, words_in};
 use std::alloc::{AllocError, Global};
 use std::io;
 use std::thread::Threads;
-use test_tally::Tally;
+use test_kit::Tally;
 
 /// How many bytes a run may write.
 const ROOM: usize = 65_536;

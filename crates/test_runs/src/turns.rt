@@ -6,7 +6,7 @@ use std::alloc::{AllocError, Global};
 use std::sync::atomic::{AtomicU64, Ordering};
 use std::thread::Threads;
 use std::{io, thread};
-use test_tally::Tally;
+use test_kit::Tally;
 
 /// How often a thread looks whether the others have come.
 const TURNS: u64 = 50_000_000;

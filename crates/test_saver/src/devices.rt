@@ -5,7 +5,7 @@ use attr_plain::PlainTable;
 use attr_saver::{LoadError, SaveError, column_law, save};
 use std::alloc::{AllocError, Global};
 use std::io;
-use test_tally::Tally;
+use test_kit::Tally;
 
 const BYTES: [u8; 28] = [
     0x41, 0x54, 0x53, 0x31, 0, 0, 0, 0, 0, 1, 0, 0, 0, 1, 0, 0, 0, 1, 0, 1, 0, 0, 0, 0, 0, 0, 0, 5,

@@ -1,6 +1,6 @@
 //! Queries and dot products that are written, and read back.
 use attr_types::{Field, Fields, Kind, Leaf, Name, Query, Text, Value, ValueType};
-use query_print::{print_ask, print_query};
+use test_kit::{print_ask, print_query};
 use query_text::{parse_ask, parse_query};
 use std::alloc::{AllocError, Global};
 use std::process::Abort;

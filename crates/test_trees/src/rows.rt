@@ -10,7 +10,7 @@ use number_tree::{NumberTree, TreeLayout};
 use std::alloc::{AllocError, Global};
 use std::io;
 use store_api::Store;
-use test_tally::Tally;
+use test_kit::Tally;
 
 /// What a row does, and over how many buffers.
 #[derive(Clone, Copy)]

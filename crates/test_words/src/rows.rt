@@ -5,7 +5,7 @@ use crate::{asks, words};
 use attr_types::{Field, Fields};
 use std::alloc::{AllocError, Global};
 use std::io;
-use test_tally::Tally;
+use test_kit::Tally;
 
 /// What a row is read as; nothing where it is a remark.
 fn told(

@@ -1,6 +1,6 @@
 use Rattle.std.proofs.Common.{rules, ◌≡◌, ℕ, sym, subst, arith}
 use Rattle.entry_ref.specs.Images.{image_of, words_at}
-use Rattle.node_turns.specs.OneNode.{node_reaches, IsNodeRecord}
+use Rattle.test_kit.specs.OneNode.{node_reaches, IsNodeRecord}
 use Rattle.store_api.specs.Calls.{IsWhole, StoresCommit}
 use Rattle.test_arena.proofs.KeepLemmas.{whole-root, commit-keeps}
 use Rattle.test_arena.proofs.keeping.commit_root.Goals as goal

@@ -1,5 +1,5 @@
 use Rattle.std.specs.Prelude.{IfSome}
-use Rattle.node_turns.specs.Turns.{IsActive}
+use Rattle.test_kit.specs.Turns.{IsActive}
 use Rattle.test_arena.proofs.torture.place.Given as goal
 
 abbrev pub invariant-loop-wait : goal.invariant-loop-wait

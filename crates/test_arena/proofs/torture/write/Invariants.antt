@@ -1,5 +1,5 @@
 use Rattle.std.specs.Prelude.{IfSome}
-use Rattle.node_turns.specs.Turns.{IsActive}
+use Rattle.test_kit.specs.Turns.{IsActive}
 use Rattle.test_arena.proofs.torture.write.Given as goal
 
 abbrev pub invariant-loop-number : goal.invariant-loop-number

@@ -1,3 +1,0 @@
-pub mod OneNode
-pub mod ProofsForOneNode
-pub mod Turns

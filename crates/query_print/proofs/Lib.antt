@@ -1,4 +1,0 @@
-pub mod CharLemmas
-pub mod ListLemmas
-pub mod NumberLemmas
-pub mod ReadBackLemmas

@@ -1,0 +1,17 @@
+use Rattle.std.proofs.Common.{sym, subst, arith}
+use Rattle.value_index.specs.Indexes.{IsIndex}
+use Rattle.std.specs.Prelude.{IsSome, IsTrue}
+use Rattle.std.specs.BTreeMap.{is_at}
+use Rattle.std.specs.Map.{lookup}
+use Rattle.std.specs.Ordering.{nat_cmp}
+use Rattle.attr_images.specs.Postings.{index_of}
+use Rattle.attr_index.specs.Index.{list_of}
+use Rattle.test_kit.proofs.typed.has_typed.Goals as goal
+
+pub has-requires : goal.has-requires
+has-requires g c =
+    (omega arith, subst (λ t. IsIndex t (g.F.Frozen.records c.args.frozen.now) c.args.root) (sym c.requires.typed) c.requires.index)
+
+pub returns-clause-has : goal.returns-clause-has
+returns-clause-has g c =
+    subst (λ t. IsTrue c.has.result → IsSome (lookup (is_at (nat_cmp c.args.doc)) (list_of c.args.value.now (index_of t (g.F.Frozen.records c.args.frozen.now) c.args.root)))) c.requires.typed c.has.ensures.has

@@ -1,0 +1,79 @@
+//! A guard of a commit that is empty or one node.
+ghost use Rattle.std.specs.Prelude.{◌≡◌};
+ghost use Rattle.entry_ref.specs.Images.{words_at};
+ghost use Rattle.word_arena.specs.Ruled.{reader_of, seen_image};
+ghost use Rattle.test_kit.specs.OneNode.{IsNodeRecord};
+
+use crate::node::{OneNode, are_of};
+use arena_api::Frozen;
+use std::sync::ledger::Ledger;
+use word_arena::{Again, Aimed, Guarded, Reader, Steps};
+
+#[derive(Drop)]
+pub struct Held<'a> {
+    guard: Guarded<'a, 22, OneNode>,
+    ghost node: { IsNodeRecord (reader_of guard.place.me.0).sizes.shape (words_at (seen_image (reader_of guard.place.me.0)))
+        (seen_image (reader_of guard.place.me.0)).root },
+}
+
+/// A commit as its reader has it, and whether every word of its node is as the commit stored it, if it has a node.
+#[derive(Clone, Copy, Drop)]
+pub struct Look {
+    pub commit: u32,
+    pub whole: Option<bool>,
+}
+
+impl<'a> Held<'a> {
+    pub fn commit(&self) -> u32 {
+        self.guard.commit()
+    }
+
+    /// Reads the node, if there is one.
+    pub fn read(&mut self, into: &mut [u64; 34]) -> bool {
+        let root = self.guard.root();
+        if !root.valid() {
+            return false;
+        }
+        self.guard.read(root, 0, into);
+        true
+    }
+
+    pub fn look(&mut self) -> Look {
+        let commit = self.guard.commit();
+        let mut words = [0; 34];
+        let whole = if self.read(&mut words) {
+            Some(are_of(&words, commit))
+        } else {
+            None
+        };
+        Look { commit, whole }
+    }
+
+    pub fn release(self) -> Reader<'a, 22, OneNode> {
+        let Held { guard } = self;
+        guard.release()
+    }
+}
+
+/// A guard, or the reader again and the count that it found.
+pub fn raised<'a>(aimed: Aimed<'a, 22, OneNode>) -> Result<Held<'a>, Again<'a, 22, OneNode>> {
+    match aimed.try_raise() {
+        Ok(guard) => Ok(Held { guard }),
+        Err(again) => Err(again),
+    }
+}
+
+/// The same from an aim on.
+pub fn tried<'a>(reader: Reader<'a, 22, OneNode>) -> Result<Held<'a>, Again<'a, 22, OneNode>> {
+    match reader.try_guard() {
+        Ok(guard) => Ok(Held { guard }),
+        Err(again) => Err(again),
+    }
+}
+
+/// A guard after as many tries as it takes.
+pub fn guarded<'a, C: Ledger>(reader: Reader<'a, 22, OneNode>, tries: &mut Steps<C>) -> Held<'a> {
+    Held {
+        guard: reader.guard(tries),
+    }
+}

@@ -1,3 +1,0 @@
-pub mod HoldLemmas
-pub mod FindLemmas
-pub mod ListLemmas
