@@ -1,0 +1,138 @@
+ghost use Rattle.std.specs.Prelude.{◌≡◌, ◌≤◌};
+ghost use Rattle.store_api.specs.Ledgers.{IsNew};
+
+use crate::steps::{form_of, walk_of};
+use crate::postings_stores::new_store;
+use arena_api::Work;
+use entry_store::EntryStore;
+use std::alloc::{AllocError, Global};
+use std::test::Fail;
+use store_api::Store;
+
+/// What the list of these documents comes to in a store that is new, and how many records of width 16 were made.
+fn made_in<const OFFSET_BITS: u32, W: Work<OFFSET_BITS>>(
+    store: &mut EntryStore<OFFSET_BITS, W>,
+    first: u32,
+    last: u32,
+    weight: i32,
+    again: bool,
+) -> Result<((bool, u64, u64), u64), AllocError>
+    requires new { IsNew (⟦<EntryStore<OFFSET_BITS, W> as Store<OFFSET_BITS>>⟧.ledger store.old) }
+    requires first { 1 ≤ first }
+    requires last { last ≤ 1000 }
+{
+    let form = form_of(store, first, last, weight, again)?;
+    Ok((form, store.made(16)))
+}
+
+/// The same in a store of its own.
+fn made(
+    alloc: Global,
+    first: u32,
+    last: u32,
+    weight: i32,
+    again: bool,
+) -> Result<((bool, u64, u64), u64), AllocError>
+    requires first { 1 ≤ first }
+    requires last { last ≤ 1000 }
+{
+    let mut store = new_store(alloc)?;
+    made_in::<22, _>(&mut store, first, last, weight, again)
+}
+
+/// Whether this is what the list of these documents comes to, or where `again` says so, the list after the document behind the last was put
+/// in and taken out.
+fn is_made(
+    alloc: Global,
+    (first, last): (u32, u32),
+    weight: i32,
+    again: bool,
+    wanted: ((bool, u64, u64), u64),
+) -> Result<bool, AllocError> {
+    Ok(made(alloc, first.max(1), last.min(1000), weight, again)? == wanted)
+}
+
+#[test]
+fn a_list_is_a_record_up_to_eight(rt: HostRuntime) -> Result<(), Fail> {
+    let alloc = rt.alloc();
+    let rows = [
+        ((1, 8), false, ((false, 8, 4_294_967_297), 1)),
+        ((1, 9), false, ((true, 9, 9), 1)),
+        ((1, 8), true, ((false, 8, 4_294_967_297), 2)),
+        ((1, 9), true, ((true, 9, 9), 1)),
+    ];
+    for (docs, again, wanted) in rows {
+        let is_right = is_made(alloc, docs, 1, again, wanted)?;
+        assert!(rt; is_right, "{} documents", docs.1);
+    }
+    Ok(())
+}
+
+#[test]
+fn a_weight_has_32_bits(rt: HostRuntime) -> Result<(), Fail> {
+    let alloc = rt.alloc();
+    let rows = [
+        ((7, 7), -3, false, ((false, 1, 34_359_738_365), 0)),
+        ((1, 8), i32::MIN, true, ((false, 8, 6_442_450_944), 2)),
+        ((1, 8), i32::MAX, true, ((false, 8, 6_442_450_943), 2)),
+    ];
+    for (docs, weight, again, wanted) in rows {
+        let is_right = is_made(alloc, docs, weight, again, wanted)?;
+        assert!(rt; is_right, "{weight}");
+    }
+    Ok(())
+}
+
+/// The documents from one to another, each with this weight, as a cursor tells them of the list in a store that is new.
+fn walked_in<const OFFSET_BITS: u32, W: Work<OFFSET_BITS>>(
+    alloc: Global,
+    store: &mut EntryStore<OFFSET_BITS, W>,
+    first: u32,
+    last: u32,
+    weight: i32,
+) -> Result<Vec<(u32, i32)>, AllocError>
+    requires new { IsNew (⟦<EntryStore<OFFSET_BITS, W> as Store<OFFSET_BITS>>⟧.ledger store.old) }
+    requires first { 1 ≤ first }
+    requires last { last ≤ 1000 }
+{
+    walk_of(alloc, store, first, last, weight)
+}
+
+/// The same in a store of its own.
+fn walked(alloc: Global, first: u32, last: u32, weight: i32) -> Result<Vec<(u32, i32)>, AllocError>
+    requires first { 1 ≤ first }
+    requires last { last ≤ 1000 }
+{
+    let mut store = new_store(alloc)?;
+    walked_in::<22, _>(alloc, &mut store, first, last, weight)
+}
+
+/// Whether a walk of the list of these documents has so many, from one document with its weight to another.
+fn is_walked(
+    alloc: Global,
+    (first, last): (u32, u32),
+    weight: i32,
+    many: usize,
+    ends: [Option<(u32, i32)>; 2],
+) -> Result<bool, AllocError> {
+    let docs = walked(alloc, first.max(1), last.min(1000), weight)?;
+    Ok(docs.len() == many && [docs.first().copied(), docs.last().copied()] == ends)
+}
+
+#[test]
+fn a_walk_has_each_document_with_its_weight(rt: HostRuntime) -> Result<(), Fail> {
+    let alloc = rt.alloc();
+    let of_record = [Some((7, i32::MIN)), Some((8, i32::MIN))];
+    // a tree, of which the last document is the ninth
+    let of_tree = [Some((992, i32::MAX)), Some((1000, i32::MAX))];
+    let rows = [
+        ((7, 8), i32::MIN, 2, of_record),
+        ((992, 1000), i32::MAX, 9, of_tree),
+        ((9, 8), 1, 0, [None, None]),
+    ];
+    for (docs, weight, many, ends) in rows {
+        let is_right = is_walked(alloc, docs, weight, many, ends)?;
+        assert!(rt; is_right, "{many} documents");
+    }
+    Ok(())
+}

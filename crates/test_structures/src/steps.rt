@@ -1,0 +1,141 @@
+ghost use Rattle.std.specs.Prelude.{◌≡◌, ◌≤◌, true, IfOk};
+ghost use Rattle.posting_store.specs.Lists.{IsList, IsPlain};
+ghost use Rattle.store_api.specs.Ledgers.{IsNew};
+ghost use Rattle.test_structures.specs.Held.{HoldsList};
+
+use attr_types::Doc;
+use entry_ref::EntryRef;
+use arena_api::Frozen;
+use posting_store::{Posting, add, list_law, remove, walk};
+use std::alloc::{AllocError, Global};
+use store_api::Store;
+
+/// Puts a document in.
+fn put<const OFFSET_BITS: u32, S: Store<OFFSET_BITS>>(
+    store: &mut S,
+    list: Posting,
+    doc: Doc,
+    weight: i32,
+) -> Result<Posting, AllocError>
+    requires { HoldsList (S.ledger store.old) (S.records store.old) list }
+    ensures { IfOk result (HoldsList (S.ledger store.new) (S.records store.new)) }
+{
+    match add(store, list, doc, weight, false, 1000) {
+        Ok(next) => Ok(next),
+        Err(_) => Err(AllocError),
+    }
+}
+
+/// Puts a document in and takes it out.
+fn put_and_take<const OFFSET_BITS: u32, S: Store<OFFSET_BITS>>(
+    store: &mut S,
+    list: Posting,
+    doc: Doc,
+    weight: i32,
+) -> Result<Posting, AllocError>
+    requires { HoldsList (S.ledger store.old) (S.records store.old) list }
+    ensures { IfOk result (HoldsList (S.ledger store.new) (S.records store.new)) }
+{
+    let Ok(more) = add(store, list, doc, weight, false, 1000) else {
+        return Err(AllocError);
+    };
+    match remove(store, more, doc, false, 1000) {
+        Ok(next) => Ok(next),
+        Err(_) => Err(AllocError),
+    }
+}
+
+/// The list of the documents from one to another, each with this weight.
+fn listed<const OFFSET_BITS: u32, S: Store<OFFSET_BITS>>(
+    store: &mut S,
+    first: u32,
+    last: u32,
+    weight: i32,
+) -> Result<Posting, AllocError>
+    requires unit { (S.ledger store.old).unit ≡ true }
+    requires first { 1 ≤ first }
+    requires last { last ≤ 1000 }
+    ensures { IfOk result (HoldsList (S.ledger store.new) (S.records store.new)) }
+{
+    list_law();
+    let mut list = Posting::EMPTY;
+    for number in first..last + 1 {
+        list = put(store, list, Doc::new(number), weight)?;
+    }
+    Ok(list)
+}
+
+/// Whether a list is a tree, and the first two words of its record or its root.
+fn words_of<const OFFSET_BITS: u32, S: Store<OFFSET_BITS>>(
+    store: &mut S,
+    list: Posting,
+) -> (bool, u64, u64)
+    requires { HoldsList (S.ledger store.old) (S.records store.old) list }
+{
+    if list.word() == 0 {
+        return (false, 0, 0);
+    }
+    let top = EntryRef::from_raw((list.word() / 2) as u32);
+    let first = store.word(top, 0);
+    let second = store.word(top, 1);
+    (list.word() % 2 == 1, first, second)
+}
+
+/// The documents of a list with their weights, as its cursor tells them.
+fn walked<const OFFSET_BITS: u32, F: Frozen<OFFSET_BITS>>(
+    alloc: Global,
+    frozen: &mut F,
+    list: Posting,
+) -> Result<Vec<(u32, i32)>, AllocError>
+    requires list { IsList (F.records frozen.old) list }
+    requires plain { IsPlain list }
+{
+    let mut postings = Vec::new(alloc);
+    let mut cursor = walk(frozen, list);
+    while !cursor.at_end() {
+        let doc = cursor.doc(frozen);
+        let weight = cursor.weight(frozen);
+        postings.push((doc.number(), weight))?;
+        cursor.next(frozen);
+    }
+    Ok(postings)
+}
+
+/// What the list of the documents from one to another comes to in a store that is new, as `words_of` tells it; or where `again` says so,
+/// the list after the document behind the last was put in and taken out.
+pub fn form_of<const OFFSET_BITS: u32, S: Store<OFFSET_BITS>>(
+    store: &mut S,
+    first: u32,
+    last: u32,
+    weight: i32,
+    again: bool,
+) -> Result<(bool, u64, u64), AllocError>
+    requires new { IsNew (S.ledger store.old) }
+    requires first { 1 ≤ first }
+    requires last { last ≤ 1000 }
+{
+    store.begin();
+    let list = listed(store, first, last, weight)?;
+    if !again {
+        return Ok(words_of(store, list));
+    }
+    let list = put_and_take(store, list, Doc::new(last + 1), weight)?;
+    Ok(words_of(store, list))
+}
+
+/// The documents from one to another with their weights, as a cursor tells them of the list in a store that is new.
+pub fn walk_of<const OFFSET_BITS: u32, S: Store<OFFSET_BITS>>(
+    alloc: Global,
+    store: &mut S,
+    first: u32,
+    last: u32,
+    weight: i32,
+) -> Result<Vec<(u32, i32)>, AllocError>
+    requires new { IsNew (S.ledger store.old) }
+    requires first { 1 ≤ first }
+    requires last { last ≤ 1000 }
+{
+    store.begin();
+    let list = listed(store, first, last, weight)?;
+    walked(alloc, store, list)
+}
