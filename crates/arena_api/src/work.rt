@@ -10,9 +10,9 @@ ghost use Rattle.arena_api.specs.Generations.{IsQueue, IsHeldUnder, MayRetire, r
 ghost use Rattle.arena_api.specs.Calls.{IsWithinLimits, IsInOrder, IsKept, InNoCommit, IsWordIn, MayStore, FitsEntry, IsLowestFree};
 ghost use Rattle.arena_api.specs.Calls.{AddsCommit, with_stored, padded, handed_out, next_image, published};
 
+use crate::Frozen;
 use crate::answers::{Advance, Oldest};
 use entry_ref::{EntryRef, Layout};
-use crate::Frozen;
 
 /// Buffers of words, over which records are made and roots are published.
 ///

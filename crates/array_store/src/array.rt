@@ -7,8 +7,8 @@ ghost use Rattle.array_store.specs.Arrays.{IsArray};
 
 use crate::record::make_record;
 use crate::{MOST_ITEMS, MOST_WORDS};
-use entry_ref::EntryRef;
 use arena_api::Frozen;
+use entry_ref::EntryRef;
 use store_api::{Store, StoreError};
 
 /// Writes the record of an array.

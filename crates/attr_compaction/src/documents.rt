@@ -4,10 +4,10 @@ ghost use Rattle.attr_compaction.specs.declared.plan.PlanKey.TheVariants as keys
 ghost use Rattle.doc_vector.specs.Documents.{IsDocumentMap};
 ghost use Rattle.attr_compaction.specs.PhaseKeys.{document_keys, key_past};
 
-use crate::numbers::{first_number, number_past};
 use crate::PlanKey;
-use entry_ref::EntryRef;
+use crate::numbers::{first_number, number_past};
 use arena_api::Frozen;
+use entry_ref::EntryRef;
 
 /// The key of a document.
 fn document_key(number: Option<u32>) -> Option<PlanKey>

@@ -5,8 +5,8 @@ ghost use Rattle.posting_store.specs.Lists.{IsList, IsPlain};
 ghost use Rattle.attr_compaction.specs.PhaseKeys.{first_item, form_docs};
 
 use crate::numbers::{first_number, number_past};
-use entry_ref::EntryRef;
 use arena_api::Frozen;
+use entry_ref::EntryRef;
 
 /// Whether a list is one record.
 fn is_short(list: u64) -> bool

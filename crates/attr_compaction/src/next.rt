@@ -8,9 +8,9 @@ use crate::documents::document_after;
 use crate::pairs::pair_after;
 use crate::values::value_after;
 use crate::{DOCUMENTS, KEYS, LISTS, PlanKey};
+use arena_api::Frozen;
 use attr_types::ValueType;
 use entry_ref::EntryRef;
-use arena_api::Frozen;
 use std::alloc::{AllocError, Global};
 
 /// The first key past another of the last phase: a value, or where none follows a document.

@@ -8,8 +8,8 @@ ghost use Rattle.tree_read.specs.SearchPlaces.{pairs_from, IsAt};
 ghost use Rattle.attr_types.specs.Lawful.{IsDocNumber};
 ghost use Rattle.attr_compaction.specs.PhaseKeys.{first_item};
 
-use entry_ref::EntryRef;
 use arena_api::Frozen;
+use entry_ref::EntryRef;
 use frozen_btree::{Cursor, NumberKey};
 
 /// The document of the pair that follows, where one does.

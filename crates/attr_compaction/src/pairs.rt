@@ -10,12 +10,12 @@ ghost use Rattle.enum_dictionary.specs.Dictionaries.{behind, beside_value};
 ghost use Rattle.value_index.specs.Indexes.{IsIndex};
 ghost use Rattle.attr_compaction.specs.PhaseKeys.{first_item, key_past, keys_of_pairs, next_in_list, pair_keys, HasType, IsListPair};
 
-use crate::lists::{first_in_list, past_in_list};
 use crate::PlanKey;
+use crate::lists::{first_in_list, past_in_list};
+use arena_api::Frozen;
 use attr_types::{Value, ValueType};
 use entry_ref::EntryRef;
 use enum_dictionary::{find, upper};
-use arena_api::Frozen;
 use frozen_btree::Cursor;
 use std::alloc::{AllocError, Global};
 use unique_store::get;

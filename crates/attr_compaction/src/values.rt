@@ -9,10 +9,10 @@ ghost use Rattle.enum_dictionary.specs.Dictionaries.{IsDictionary};
 ghost use Rattle.attr_compaction.specs.PhaseKeys.{first_item, key_past, value_keys, HasType};
 
 use crate::PlanKey;
+use arena_api::Frozen;
 use attr_types::{Value, ValueType};
 use entry_ref::EntryRef;
 use enum_dictionary::upper;
-use arena_api::Frozen;
 use frozen_btree::Cursor;
 use std::alloc::{AllocError, Global};
 use unique_store::get;

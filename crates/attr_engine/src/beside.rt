@@ -11,10 +11,10 @@ ghost use Rattle.attr_loader.specs.Loading.{CanLoad, IsAtStart, Loads};
 ghost use Rattle.attr_engine.specs.Steps.{HasRead, IsNewWriter, LoadsInto};
 
 use crate::readers::jobs_of;
-use attr_rounds::{Asked, Reading, Told};
 use attr_images::{AttrLayout, image_law};
 use attr_io::{Gate, Task, run_beside};
 use attr_loader::{Attribute, Loaded, Loading};
+use attr_rounds::{Asked, Reading, Told};
 use attr_types::{Fields, Op};
 use entry_store::EntryStore;
 use std::alloc::{AllocError, Global};

@@ -1,5 +1,5 @@
-use attr_rounds::{Round, Told};
 use attr_loader::Loaded;
+use attr_rounds::{Round, Told};
 use attr_types::{Doc, FieldItems};
 use std::collections::BTreeMap;
 

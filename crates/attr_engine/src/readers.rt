@@ -10,9 +10,9 @@ ghost use Rattle.attr_types.specs.declared.field.TheConstants.{MOST_FIELDS};
 ghost use Rattle.attr_engine.specs.Steps.{operations_of, saves_of, KeepsWriter, IsReader, IsReading, IsTakenFrom, AreRoundsOf};
 ghost use Rattle.attr_engine.specs.Steps.{IsLastAnswer};
 
-use attr_rounds::{Asked, Job, Question, Reading, Round, Saving, Told, go_round, take_in};
 use attr_images::AttrLayout;
 use attr_io::{Gate, NoGate, run_each};
+use attr_rounds::{Asked, Job, Question, Reading, Round, Saving, Told, go_round, take_in};
 use attr_types::{Doc, FieldItems, Fields};
 use std::alloc::{AllocError, Global};
 use std::collections::BTreeMap;

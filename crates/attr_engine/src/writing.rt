@@ -8,9 +8,9 @@ ghost use Rattle.attr_engine.specs.Writing.{IsWrittenOf};
 
 use crate::came::Came;
 use crate::written::Written;
-use attr_rounds::{Round, Told};
 use attr_loader::{Loaded, NoRoom};
 use attr_report::{Make, push_documents_line, push_done_line, push_final_line, push_made_line};
+use attr_rounds::{Round, Told};
 use attr_types::{RoundCounts, RoundList};
 use std::alloc::{AllocError, Global};
 

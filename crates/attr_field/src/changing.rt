@@ -16,9 +16,9 @@ ghost use Rattle.attr_types.specs.Lawful.{ItemsFit};
 ghost use Rattle.value_index.specs.Counts.{MakesFew};
 
 use crate::comparing::has_already;
+use crate::documents_law;
 use crate::roots::FieldRoots;
 use crate::steps::{add_values, remove_values, set_items, take_out};
-use crate::documents_law;
 use attr_index::weights_of;
 use attr_types::{Doc, Item, Kind, Value, ValueType};
 use std::alloc::Global;

@@ -8,9 +8,9 @@ ghost use Rattle.attr_images.specs.Documents.{column_at};
 ghost use Rattle.attr_index.specs.Columns.{items_of};
 
 use crate::document_items;
+use arena_api::Frozen;
 use attr_types::{Doc, Item, Kind, Value, ValueType};
 use entry_ref::EntryRef;
-use arena_api::Frozen;
 use std::alloc::{AllocError, Global};
 
 /// Whether two values are the same.

@@ -20,10 +20,10 @@ ghost use Rattle.attr_field.specs.DocumentsChanges.{SetsItems};
 ghost use Rattle.attr_field.specs.Documents.{documents_part, documents_refer, IsDocuments};
 
 use crate::making::{drop_items, make_items};
+use arena_api::Frozen;
 use attr_types::{Doc, Item, Kind, ValueType};
 use doc_vector::{get, remove, set};
 use entry_ref::EntryRef;
-use arena_api::Frozen;
 use std::alloc::Global;
 use store_api::{Store, StoreError};
 

@@ -7,9 +7,9 @@ ghost use Rattle.attr_index.specs.Index.{list_of};
 ghost use Rattle.attr_types.specs.Value.{type_of, values_of, AreOfType};
 ghost use Rattle.value_index.specs.Indexes.{IsIndex, IsKey};
 
+use arena_api::Frozen;
 use attr_types::{Item, Value, ValueType};
 use entry_ref::EntryRef;
-use arena_api::Frozen;
 use std::alloc::{AllocError, Global};
 use value_index::{key, key_law};
 

@@ -5,10 +5,10 @@ ghost use Rattle.std.specs.Ordering.{nat_cmp};
 ghost use Rattle.attr_field.specs.Fields.{IsField};
 ghost use Rattle.attr_images.specs.Documents.{column_at};
 
-use crate::roots::FieldRoots;
 use crate::document_items as read_items;
-use attr_types::{Doc, Items, Kind, ValueType};
+use crate::roots::FieldRoots;
 use arena_api::Frozen;
+use attr_types::{Doc, Items, Kind, ValueType};
 use std::alloc::{AllocError, Global};
 
 /// The items of a document, if it is there.

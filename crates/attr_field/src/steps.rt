@@ -24,11 +24,11 @@ ghost use Rattle.value_index.specs.Widths.{IsWalkWidth};
 use crate::keys::keys_of;
 use crate::{documents_law, remove_document, set_document};
 use attr_types::{Doc, Item, Kind, Value, ValueType};
-use value_index::{add_all, index_law, key_law, remove_all};
 use entry_ref::EntryRef;
 use std::alloc::Global;
 use std::collections::BTreeMap;
 use store_api::{Store, StoreError};
+use value_index::{add_all, index_law, key_law, remove_all};
 
 /// Puts the document into the lists of its new values. The answer is the root of the new index.
 #[tactic(none)]

@@ -1,8 +1,5 @@
 //! Documents gathered in any order: few in a list that is sorted at the end, many in a bit vector.
-ghost use Rattle.std.specs.Prelude.{◌≡◌, ◌≤◌, ◌||◌, ◌&&◌, ◌++◌, ℕ, false, true, length, filter, IfOk, OnOk};
-ghost use Rattle.std.specs.List.{All};
-ghost use Rattle.std.specs.Map.{keys_of};
-ghost use Rattle.attr_types.specs.Lawful.{IsDocNumber};
+ghost use Rattle.std.specs.Prelude.{◌≡◌, ◌≤◌, ◌||◌, ◌&&◌, ℕ, false, true, length, filter, IfOk};
 ghost use Rattle.attr_index.specs.Gathers.{is_gathered};
 ghost use Rattle.attr_index.specs.Sets.{has, in_words, IsAscending, AreBelow, IsPlaceOf, Holds};
 
@@ -45,25 +42,6 @@ pub fn sorted_list(mut docs: Vec<Doc>) -> DocList
     docs.sort_unstable();
     docs.dedup();
     DocList::from_vec(docs)
-}
-
-fn push_list(docs: &mut Vec<Doc>, list: &[(u32, i32)]) -> Result<(), AllocError>
-    requires { All (λ p. IsDocNumber p.0) list.now }
-    ensures { OnOk result (docs.new.items ≡ docs.old.items ++ keys_of list.now) }
-{
-    for posting in list {
-        docs.push(Doc::new(posting.0))?;
-    }
-    Ok(())
-}
-
-fn insert_list(set: &mut DocSet, list: &[(u32, i32)])
-    requires { All (λ p. IsDocNumber p.0) list.now }
-    ensures { (doc : ℕ) → in_words set.new doc ≡ (in_words set.old doc || has (keys_of list.now) doc) }
-{
-    for posting in list {
-        set.insert(Doc::new(posting.0));
-    }
 }
 
 fn insert_each(set: &mut DocSet, docs: &[Doc])
@@ -174,37 +152,13 @@ impl Gathered {
         Gathered::Few(Vec::new(alloc))
     }
 
-    /// The documents with those of a list.
-    pub fn with_list(self, alloc: Global, list: &[(u32, i32)]) -> Result<Gathered, AllocError>
-        requires { All (λ p. IsDocNumber p.0) list.now }
-        ensures { IfOk result (λ more. (doc : ℕ) → is_gathered more doc ≡ (is_gathered self doc || has (keys_of list.now) doc)) }
-    {
-        match self {
-            Gathered::Few(mut docs) => {
-                if docs.len() <= FEW && list.len() <= FEW {
-                    push_list(&mut docs, list)?;
-                    Ok(Gathered::Few(docs))
-                } else {
-                    let mut set = DocSet::new(alloc)?;
-                    insert_each(&mut set, docs.as_slice());
-                    insert_list(&mut set, list);
-                    Ok(Gathered::Many(set))
-                }
-            }
-            Gathered::Many(mut set) => {
-                insert_list(&mut set, list);
-                Ok(Gathered::Many(set))
-            }
-        }
-    }
-
     /// The documents with others.
     pub fn with_docs(self, alloc: Global, more: &[Doc]) -> Result<Gathered, AllocError>
         ensures { IfOk result (λ all. (doc : ℕ) → is_gathered all doc ≡ (is_gathered self doc || has more.now doc)) }
     {
         match self {
             Gathered::Few(mut docs) => {
-                if docs.len() <= FEW && more.len() <= FEW {
+                if docs.is_empty() || (docs.len() <= FEW && more.len() <= FEW) {
                     docs.extend_from_slice(more)?;
                     Ok(Gathered::Few(docs))
                 } else {

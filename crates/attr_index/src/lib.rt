@@ -1,5 +1,5 @@
 //! The index of an attribute, from each value to the documents that have it, and how it changes where one document's
-//! items change: laws, and two walks over any index.
+//! items change: laws.
 //!
 //! Sets of documents: few in a list, many in a bit vector, gathered in any order and listed ascending.
 //!
@@ -8,18 +8,14 @@
 
 mod bits;
 mod gathered;
-mod index;
 mod index_laws;
 mod laws;
 mod leaf;
-mod postings;
 mod weights;
 
 pub use bits::DocSet;
 pub use gathered::{Gathered, sorted_list};
-pub use index::ValueIndex;
 pub use index_laws::query_law;
 pub use laws::{bound_law, column_law, index_law, middle_law, value_law, walk_law};
 pub use leaf::{is_before, is_beyond};
-pub use postings::{Postings, with_postings};
-pub use weights::{add_weights, remove_weights, weights_of};
+pub use weights::weights_of;

@@ -5,9 +5,9 @@ ghost use Rattle.attr_types.specs.Lawful.{OpFits};
 ghost use Rattle.attr_loader.specs.Batches.{skips_of, AppliesBatch, CommitsBatch, KeepsTable, LoadsBatch};
 
 use arena_api::Work;
-use attr_types::{Applied, Op};
 use attr_images::AttrLayout;
 use attr_io::{Gate, Point};
+use attr_types::{Applied, Op};
 use attribute_kinds::{AttrError, Attribute};
 use std::alloc::{AllocError, Global};
 use store_api::Store;

@@ -6,7 +6,9 @@ ghost use Rattle.attr_types.specs.Table.{hits as hits_of, updated, to_update, do
 ghost use Rattle.attr_plain.specs.Answers.{plain_after, answer_to};
 
 use crate::matching::matches_document;
-use attr_types::{Applied, Doc, DocList, FieldChanges, FieldItems, Fields, Op, Query, updated_document};
+use attr_types::{
+    Applied, Doc, DocList, FieldChanges, FieldItems, Fields, Op, Query, updated_document,
+};
 use std::alloc::{AllocError, Global};
 use std::collections::BTreeMap;
 use std::marker::Model;

@@ -3,12 +3,12 @@ ghost use Rattle.attr_rounds.specs.Lines.{CanAsk, TellsTable};
 ghost use Rattle.attr_images.specs.Images.{operations_at, table_of, IsLawfulImage};
 ghost use Rattle.attr_types.specs.Scores.{ask_tree};
 
-use crate::lines::{operations_in, push_lines};
-use attr_images::AttrLayout;
 use crate::Question;
+use crate::lines::{operations_in, push_lines};
+use arena_api::Frozen;
+use attr_images::AttrLayout;
 use attr_types::{Ask, Fields};
 use entry_ref::EntryRef;
-use arena_api::Frozen;
 use query_eval::documents;
 use std::alloc::{AllocError, Global};
 

@@ -5,9 +5,9 @@ ghost use Rattle.attr_index.specs.Columns.{column_of};
 ghost use Rattle.attr_types.specs.declared.field.TheConstants.{MOST_FIELDS};
 
 use crate::reading::documents_in;
+use arena_api::Frozen;
 use attr_types::{Doc, Field, FieldItems, Fields};
 use entry_ref::EntryRef;
-use arena_api::Frozen;
 use std::alloc::{AllocError, Global};
 use std::collections::BTreeMap;
 

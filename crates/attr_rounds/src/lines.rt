@@ -6,10 +6,10 @@ ghost use Rattle.attr_images.specs.Shapes.{shape_of, types_of};
 ghost use Rattle.attr_types.specs.Scores.{ask_tree, answer_on, documents, scored};
 ghost use Rattle.attr_types.specs.declared.field.TheConstants.{MOST_FIELDS};
 
+use arena_api::Frozen;
 use attr_report::{push_count, push_documents, push_scores};
 use attr_types::{Ask, Doc, Fields, Score};
 use entry_ref::EntryRef;
-use arena_api::Frozen;
 use query_eval::{hits, scores};
 use std::alloc::{AllocError, Global};
 

@@ -1,8 +1,8 @@
 ghost use Rattle.std.specs.Prelude.{◌≡◌, ℕ, IfOk};
 ghost use Rattle.entry_ref.specs.Records.{Records};
 
-use entry_ref::{EntryRef, Layout};
 use arena_api::Frozen;
+use entry_ref::{EntryRef, Layout};
 use std::alloc::{AllocError, Global};
 
 /// What is asked of a commit in each round.

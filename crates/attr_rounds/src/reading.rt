@@ -7,10 +7,10 @@ ghost use Rattle.attr_images.specs.Documents.{column_at};
 ghost use Rattle.attr_index.specs.Columns.{column_of};
 ghost use Rattle.attr_types.specs.declared.items.Item.{Item};
 
+use arena_api::Frozen;
 use attr_field::document_items as read_items;
 use attr_types::{Doc, FieldItems, Kind, ValueType};
 use entry_ref::EntryRef;
-use arena_api::Frozen;
 use frozen_btree::Cursor;
 use std::alloc::{AllocError, Global};
 use std::collections::BTreeMap;

@@ -2,12 +2,12 @@ ghost use Rattle.std.specs.Prelude.{◌≡◌, IfOk};
 ghost use Rattle.attr_rounds.specs.Columns.{CanSave, TellsColumn};
 ghost use Rattle.attr_images.specs.Images.{operations_at, table_of, IsLawfulImage};
 
-use crate::first::first_documents;
-use attr_images::AttrLayout;
 use crate::Question;
+use crate::first::first_documents;
+use arena_api::Frozen;
+use attr_images::AttrLayout;
 use attr_types::{Doc, Field, FieldItems, Fields};
 use entry_ref::EntryRef;
-use arena_api::Frozen;
 use std::alloc::{AllocError, Global};
 use std::collections::BTreeMap;
 

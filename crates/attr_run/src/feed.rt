@@ -12,12 +12,12 @@ ghost use Rattle.attr_run.specs.Answers.{ReadsAsAsked};
 ghost use Rattle.attr_run.specs.Steps.{IsFeedStop, IsUnfed, IsProperStop};
 ghost use Rattle.attr_run.specs.declared.stop.Stop.TheVariants as stops;
 
+use crate::make_ops;
 use crate::stop::Stop;
 use attr_io::Source;
 use attr_report::Request;
 use attr_types::{Fields, Ops};
 use feed_reader::read_feed;
-use crate::make_ops;
 use std::alloc::Global;
 
 fn read_in<S: Source>(alloc: Global, source: &mut S, fields: &Fields) -> Result<Ops, Stop>

@@ -23,9 +23,9 @@ ghost use Rattle.attr_steps.specs.Fields.{AreFields, ChangesFields, FitsFields, 
 ghost use Rattle.attr_steps.specs.Views.{table_at};
 ghost use Rattle.attr_steps.specs.Widths.{IsChangedWidth};
 
+use arena_api::Frozen;
 use attr_field::{FieldRoots, field_law, items, put, remove};
 use attr_types::{Doc, Field, FieldItems, Item};
-use arena_api::Frozen;
 use std::alloc::{AllocError, Global};
 use store_api::{Store, StoreError, may_do_law};
 

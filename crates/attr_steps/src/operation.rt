@@ -12,8 +12,8 @@ ghost use Rattle.attr_steps.specs.Widths.{IsFullAmong, IsOperationWidth};
 
 use crate::document::read_document;
 use crate::unit::change_unit;
-use attr_types::{Change, Doc, Field, FieldItems, Op, updated_document};
 use attr_field::{FieldRoots, field_law};
+use attr_types::{Change, Doc, Field, FieldItems, Op, updated_document};
 use std::alloc::Global;
 use store_api::{Store, StoreError};
 

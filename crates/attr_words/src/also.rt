@@ -8,7 +8,10 @@ ghost use Rattle.attr_words.specs.Reading.{text_option};
 ghost use Rattle.attr_words.specs.Settings.{Says};
 
 use crate::reading::WordsError;
-use attr_types::{Field, Fields, Kind, MOST_FIELDS, Name, ValueType, field_named, is_name, kind_named, value_named};
+use attr_types::{
+    Field, Fields, Kind, MOST_FIELDS, Name, ValueType, field_named, is_name, kind_named,
+    value_named,
+};
 use std::alloc::{AllocError, Global};
 
 /// A piece of a text, and the offset at which it begins.

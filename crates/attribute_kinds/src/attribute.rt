@@ -20,11 +20,11 @@ ghost use Rattle.attribute_kinds.specs.declared.answers.Compacted.TheVariants.{I
 
 use crate::answers::{AttrError, CommitInfo, Compacted, Published, has_finished, refusal, told};
 use arena_api::{Frozen, Work};
-use attr_types::{Applied, Fields, Op};
 use attr_compaction::Plan;
 use attr_field::{FieldRoots, field_law};
 use attr_images::AttrLayout;
 use attr_steps::{commit_attributes, step};
+use attr_types::{Applied, Fields, Op};
 use compact_steps::{compact, same_law, step_law};
 use entry_ref::EntryRef;
 use entry_store::{EntryStore, NoMemory};

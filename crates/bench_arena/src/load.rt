@@ -1,8 +1,8 @@
 //! Guards by many readers, beside a writer or not; reads of a node under one guard.
 use arena_api::Work;
-use test_kit::{Held, OneNode, commit, pass, tried, turn};
 use std::alloc::{AllocError, Global};
 use std::thread::{Threads, map_vec};
+use test_kit::{Held, OneNode, commit, pass, tried, turn};
 use word_arena::{Again, Arena, Config, Limits, Reader, Writer};
 
 /// What is run.

@@ -14,9 +14,9 @@ use attribute_kinds::{AttrError, Attribute, Compacted, committed_work};
 use entry_ref::EntryRef;
 use entry_store::EntryStore;
 use mem_work::MemWork;
-use test_kit::NotedWork;
 use std::alloc::{AllocError, Global};
 use store_api::Store;
+use test_kit::NotedWork;
 
 type Memory = NotedWork<22, MemWork<22, AttrLayout>>;
 

@@ -6,8 +6,8 @@ ghost use Rattle.attr_types.specs.declared.field.TheConstants.{MOST_FIELDS};
 ghost use Rattle.store_api.specs.Ledgers.{is_width};
 
 use arena_api::{Frozen, Work};
-use attr_types::{Applied, Field, Fields, Kind, Name, Op, ValueType, fits};
 use attr_images::{AttrLayout, shape_of};
+use attr_types::{Applied, Field, Fields, Kind, Name, Op, ValueType, fits};
 use attribute_kinds::Attribute;
 use entry_store::EntryStore;
 use mem_work::MemWork;

@@ -7,8 +7,8 @@ use crate::memory::{
     Kinds, apply_one, commit_one, new_attribute, new_memory, one_field, words_made,
 };
 use arena_api::Work;
-use attr_types::{Applied, FieldItems, Fields, Kind, Op, ValueType};
 use attr_images::AttrLayout;
+use attr_types::{Applied, FieldItems, Fields, Kind, Op, ValueType};
 use attribute_kinds::Attribute;
 use entry_store::EntryStore;
 use std::alloc::{AllocError, Global};

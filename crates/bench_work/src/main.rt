@@ -11,8 +11,8 @@ mod tree_run;
 
 use crate::store_run::{StoreLoad, run_store};
 use crate::tree_run::{Order, TreeCounts, TreeLoad, run_tree};
-use entry_store::EntryStore;
 use entry_ref::Layout;
+use entry_store::EntryStore;
 use mem_work::{MemWork, OneRecord};
 use number_tree::{NumberTree, TreeLayout};
 use std::alloc::{AllocError, Global};

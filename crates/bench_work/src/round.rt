@@ -2,9 +2,9 @@ ghost use Rattle.std.specs.Prelude.{◌≡◌, ℕ, true, false, OnOk};
 ghost use Rattle.bench_work.specs.Units.{HoldsRoot, Made};
 
 use entry_ref::EntryRef;
+use frozen_btree::drop_nodes;
 use store_api::{Store, StoreError, make_entry};
 use tree_read::NODE_WORDS;
-use frozen_btree::drop_nodes;
 
 /// One unit: makes `count` entries of 34 words, drops them all, and is accepted.
 pub fn run_unit<const OFFSET_BITS: u32, S: Store<OFFSET_BITS>>(

@@ -1,8 +1,8 @@
 ghost use Rattle.std.specs.Prelude.{◌≡◌, ◌<◌, ◌≤◌, ◌+◌, length, IfOk, OnOk};
 ghost use Rattle.tree_read.specs.Trees.{IsRootNode};
 
-use entry_ref::EntryRef;
 use arena_api::Frozen;
+use entry_ref::EntryRef;
 use frozen_btree::Cursor;
 use number_tree::{NumberTree, TreeLayout};
 use store_api::{Store, StoreError};

@@ -16,8 +16,8 @@ use crate::coverage::have_all_values;
 use crate::dictionary::read_dictionary;
 use crate::documents::are_lawful_documents;
 use crate::items::read_documents;
-use attr_types::{Items, Kind, Value, ValueType};
 use crate::{CheckFault, Keys, check_tree};
+use attr_types::{Items, Kind, Value, ValueType};
 use std::alloc::Global;
 use std::collections::BTreeMap;
 

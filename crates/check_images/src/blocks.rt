@@ -5,8 +5,8 @@ ghost use Rattle.attr_index.specs.Sets.{in_words};
 ghost use Rattle.entry_ref.specs.Maps.{seen};
 ghost use Rattle.check_images.specs.Refutations.{Refutes};
 
-use attr_images::{BLOCK_DOCUMENTS, BLOCK_WORDS};
 use crate::CheckFault;
+use attr_images::{BLOCK_DOCUMENTS, BLOCK_WORDS};
 use entry_ref::{word_in, words_at};
 use std::alloc::{AllocError, Global};
 use std::collections::BTreeMap;

@@ -9,10 +9,10 @@ ghost use Rattle.attr_types.specs.declared.items.Item.{Item};
 ghost use Rattle.entry_ref.specs.Maps.{seen};
 ghost use Rattle.check_images.specs.Refutations.{Refutes};
 
+use crate::CheckFault;
 use crate::postings::read_postings;
 use crate::values::read_value;
 use attr_types::{Item, Items, Value, ValueType, compare};
-use crate::CheckFault;
 use entry_ref::words_at;
 use std::alloc::{AllocError, Global};
 use std::collections::BTreeMap;

@@ -6,11 +6,11 @@ ghost use Rattle.attr_images.specs.Tables.{table_of_columns, columns_at, AreLawf
 ghost use Rattle.entry_ref.specs.Maps.{seen};
 ghost use Rattle.check_images.specs.Refutations.{Refutes};
 
+use crate::CheckFault;
 use crate::attribute::check_attribute;
 use crate::tables::{have_same_documents, put_beside, table_of_column};
 use crate::words::class_of;
 use attr_types::{Field, FieldItems, Fields, MOST_FIELDS};
-use crate::CheckFault;
 use entry_ref::{word_in, words_at};
 use std::alloc::Global;
 use std::collections::BTreeMap;

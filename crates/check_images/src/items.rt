@@ -7,10 +7,10 @@ ghost use Rattle.check_images.specs.Refutations.{Refutes};
 ghost use Rattle.check_images.specs.Told.{Tells};
 ghost use Rattle.check_images.specs.Weights.{weights};
 
+use crate::CheckFault;
 use crate::values::read_value;
 use crate::words::{read_list, unpack_all};
 use attr_types::{Item, Items, Kind, MOST_ITEMS, ValueType};
-use crate::CheckFault;
 use entry_ref::words_at;
 use std::alloc::{AllocError, Global};
 use std::collections::BTreeMap;

@@ -8,8 +8,8 @@ ghost use Rattle.check_images.specs.Told.{Tells};
 
 use crate::blocks::read_blocks;
 use crate::words::{read_list, unpack_all};
-use attr_images::{FIRST_VECTOR, MOST_SHORT};
 use crate::{CheckFault, Keys, check_tree};
+use attr_images::{FIRST_VECTOR, MOST_SHORT};
 use entry_ref::words_at;
 use std::alloc::{AllocError, Global};
 use std::collections::BTreeMap;

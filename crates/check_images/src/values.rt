@@ -3,8 +3,8 @@ ghost use Rattle.attr_images.specs.Values.{packed_bytes, value_words, value_of, 
 ghost use Rattle.check_images.specs.Told.{Tells};
 
 use crate::words::is_filled;
-use attr_types::{Text, Value, ValueType};
 use crate::{stored_long, stored_text};
+use attr_types::{Text, Value, ValueType};
 use std::alloc::{AllocError, Global};
 
 /// The first eight bytes, with zeros where there are fewer.

@@ -5,13 +5,13 @@ ghost use Rattle.attr_steps.specs.Fields.{HoldsAttributes, IsFieldAt, trees_of, 
 ghost use Rattle.attr_compaction.specs.PhaseKeys.{key_past, HasType};
 ghost use Rattle.compact_steps.specs.Units.{keys_at, plan_at, CompactsTo, HasActive, IsUnderWay, SparesBelow};
 
+use crate::{same_law, stage_law};
+use arena_api::Frozen;
 use attr_compaction::{Plan, PlanKey, next_key};
 use attr_field::{FieldRoots, field_law};
 use attr_types::Field;
-use crate::{same_law, stage_law};
-use entry_ref::EntryRef;
 use compaction_moves::move_one;
-use arena_api::Frozen;
+use entry_ref::EntryRef;
 use std::alloc::{AllocError, Global};
 use store_api::{Store, StoreError};
 

@@ -12,12 +12,12 @@ ghost use Rattle.compact_steps.specs.Ways.{IsWay, IsWayApart};
 
 use crate::clear_passing::{Passed, value_at};
 use crate::ways::{Way, way_of};
+use arena_api::Frozen;
 use attr_compaction::{Plan, PlanKey};
 use attr_field::FieldRoots;
 use attr_types::{Field, Value};
 use entry_ref::EntryRef;
 use enum_dictionary::{LongKey, TextKey};
-use arena_api::Frozen;
 use frozen_btree::NumberKey;
 use std::alloc::Global;
 

@@ -6,10 +6,10 @@ ghost use Rattle.compact_steps.specs.Units.{IsUnderWay};
 ghost use Rattle.compact_steps.specs.Walks.{HasLastField};
 ghost use Rattle.compact_steps.specs.Compactions.{BeginsNone, OpensPlan};
 
+use crate::stage_law;
 use attr_compaction::Plan;
 use attr_field::FieldRoots;
 use attr_types::Field;
-use crate::stage_law;
 use entry_ref::EntryRef;
 use store_api::Store;
 

@@ -3,10 +3,10 @@ ghost use Rattle.attr_compaction.specs.declared.plan.TheConstants.{PHASES};
 ghost use Rattle.attr_steps.specs.Fields.{HoldsAttributes, trees_of};
 ghost use Rattle.compact_steps.specs.Units.{IsUnderWay, PassesKeys};
 
+use crate::{Passed, pass_clear, stage_law};
 use attr_compaction::Plan;
 use attr_field::FieldRoots;
 use attr_types::Field;
-use crate::{Passed, pass_clear, stage_law};
 use entry_ref::EntryRef;
 use std::alloc::Global;
 use store_api::Store;

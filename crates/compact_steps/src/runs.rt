@@ -5,8 +5,8 @@ ghost use Rattle.tree_read.specs.SearchPlaces.{first_key, first_value, pairs_fro
 ghost use Rattle.compact_steps.specs.Sights.{StandsApart, IsPairOf, IsRun};
 
 use crate::sights::{Sight, pair_is_apart};
-use attr_types::{Kind, ValueType};
 use arena_api::Frozen;
+use attr_types::{Kind, ValueType};
 use frozen_btree::Cursor;
 
 /// So many pairs, and the key of the last of them.

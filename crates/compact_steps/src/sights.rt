@@ -7,10 +7,10 @@ ghost use Rattle.attr_images.specs.Documents.{AreItemRecords};
 ghost use Rattle.compaction_moves.specs.DocumentMoves.{AreItemsApart};
 ghost use Rattle.compact_steps.specs.Sights.{StandsApart, IsPairOf, IsRecordApart};
 
+use arena_api::Frozen;
 use attr_types::{Kind, ValueType};
 use compaction_moves::items_lie;
 use entry_ref::EntryRef;
-use arena_api::Frozen;
 
 /// What stands under a key, by its phase: the record of a value, a document's items, or a value's list.
 #[derive(Clone, Copy, Drop)]

@@ -6,10 +6,10 @@ ghost use Rattle.attr_steps.specs.Views.{table_at};
 ghost use Rattle.compact_steps.specs.Units.{next_at, GoesOn, HasActive, IsUnderWay, KeepKeys, LeavesAtEnd, SparesBelow};
 
 use crate::key::{move_unit, next_of};
+use crate::stage_law;
 use attr_compaction::{Plan, PlanKey};
 use attr_field::FieldRoots;
 use attr_types::Field;
-use crate::stage_law;
 use entry_ref::EntryRef;
 use std::alloc::Global;
 use store_api::{Store, StoreError};

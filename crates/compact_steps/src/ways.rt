@@ -5,8 +5,8 @@ ghost use Rattle.tree_read.specs.Trees.{pairs_below, tree_pairs, IsNode, IsTree}
 ghost use Rattle.tree_read.specs.Keys.{Ascends, AllReadable, seen_by};
 ghost use Rattle.compact_steps.specs.Ways.{IsWay, IsWayApart, IsWayBelow};
 
-use entry_ref::EntryRef;
 use arena_api::Frozen;
+use entry_ref::EntryRef;
 use frozen_btree::KeyOrder;
 use tree_read::{FIRST_VALUE, NODE_WORDS, Spot, read_head, used_in, visit};
 

@@ -13,11 +13,11 @@ ghost use Rattle.entry_ref.specs.References.{buffer_of};
 ghost use Rattle.frozen_btree.specs.Paths.{NoneIn};
 
 use crate::document_moves::WEIGHT_BASE;
+use arena_api::Frozen;
 use array_store::{count, get as array_item};
 use attr_types::{Doc, Kind, ValueType};
 use doc_vector::get;
 use entry_ref::EntryRef;
-use arena_api::Frozen;
 use unique_store::value_law;
 
 /// The record of the value in a word of a document's record.

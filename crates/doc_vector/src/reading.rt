@@ -4,9 +4,9 @@ ghost use Rattle.tree_read.specs.Pairs.{lookup, seek};
 ghost use Rattle.tree_read.specs.SearchPlaces.{IsAt, pairs_from};
 ghost use Rattle.doc_vector.specs.Documents.{beside_document, IsDocumentMap};
 
+use arena_api::Frozen;
 use attr_types::Doc;
 use entry_ref::EntryRef;
-use arena_api::Frozen;
 use frozen_btree::{Cursor, NumberKey, find};
 
 /// The reference of a document's items, 0 where it has none. There is no answer where the document is not there.

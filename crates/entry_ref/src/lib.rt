@@ -4,12 +4,11 @@
 mod images;
 mod maps;
 
-pub use images::{Image, Layout, images_law, place_of, places_law};
-pub use maps::{word_in, words_at};
-
 ghost use Rattle.std.specs.Prelude.{◌≡◌, ◌↔◌, ◌<◌, ℕ, IsTrue};
 ghost use Rattle.entry_ref.specs.References.{offset_limit, buffer_limit, packed, offset_of, buffer_of};
 
+pub use images::{Image, Layout, images_law, place_of, places_law};
+pub use maps::{word_in, words_at};
 use std::marker::Model;
 
 /// An entry of a buffer, as the offset in its high `OFFSET_BITS` bits and the buffer in the others. Contracts

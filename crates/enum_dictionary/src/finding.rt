@@ -6,9 +6,9 @@ ghost use Rattle.attr_types.specs.Value.{type_of};
 ghost use Rattle.enum_dictionary.specs.Dictionaries.{IsDictionary, beside_value, entry_of};
 
 use crate::keys::{LongKey, TextKey};
+use arena_api::Frozen;
 use attr_types::Value;
 use entry_ref::EntryRef;
-use arena_api::Frozen;
 use frozen_btree::find as find_pair;
 
 /// What stands at a value: the record that is its key, and the word of its list.

@@ -4,12 +4,12 @@ ghost use Rattle.attr_types.specs.Value.{type_of, value_cmp};
 ghost use Rattle.attr_types.specs.declared.kind.ValueType.TheVariants as types;
 ghost use Rattle.enum_dictionary.specs.ProofsForKeys.{value_total, value_stays, value_steady};
 
+use arena_api::Frozen;
 use attr_types::Value;
 use entry_ref::EntryRef;
-use arena_api::Frozen;
-use tree_read::KeyOrder;
 use std::cmp::Ordering;
 use std::marker::Model;
+use tree_read::KeyOrder;
 use unique_store::compare as compare_stored;
 
 /// A long that is sought: stored keys are records, and read as longs.

@@ -9,11 +9,11 @@ ghost use Rattle.frozen_btree.specs.Inserts.{Inserts};
 
 use crate::insert_leaf::put_pair;
 use crate::parts::{Parts, count_parts, put_parts};
+use arena_api::Frozen;
 use arrayvec::ArrayVec;
 use entry_ref::EntryRef;
-use arena_api::Frozen;
-use tree_read::{FIRST_VALUE, KeyOrder, NODE_WORDS, used_in, visit};
 use store_api::{Store, StoreError};
+use tree_read::{FIRST_VALUE, KeyOrder, NODE_WORDS, used_in, visit};
 
 /// Makes a leaf anew with a pair put in.
 fn insert_in_leaf<const OFFSET_BITS: u32, S: Store<OFFSET_BITS>, K: KeyOrder<OFFSET_BITS>>(

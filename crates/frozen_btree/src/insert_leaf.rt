@@ -5,9 +5,9 @@ ghost use Rattle.frozen_btree.specs.Makes.{MakesNodes};
 ghost use Rattle.frozen_btree.specs.Parts.{MakesParts, put_at};
 
 use crate::parts::{Parts, make_one, put_slot};
+use crate::set_slot;
 use store_api::{Store, StoreError};
 use tree_read::{NODE_WORDS, Spot, used_in};
-use crate::set_slot;
 
 /// Puts a pair among the slots of a leaf in hand, where its key was sought, and makes it, or two of one that was full.
 pub fn put_pair<const OFFSET_BITS: u32, S: Store<OFFSET_BITS>>(

@@ -12,11 +12,11 @@ ghost use Rattle.frozen_btree.specs.Parts.{AreParts, IsRootOver, part_nodes};
 
 use crate::insert_below::insert_below;
 use crate::parts::Parts;
+use crate::{drop_nodes, make_leaf, make_part};
 use arrayvec::ArrayVec;
 use entry_ref::EntryRef;
-use tree_read::{KeyOrder, NODE_WORDS, Slots};
 use store_api::{Store, StoreError};
-use crate::{drop_nodes, make_leaf, make_part};
+use tree_read::{KeyOrder, NODE_WORDS, Slots};
 
 /// The root over parts of a level: one part alone, or a node of the next level with both.
 fn root_over<const OFFSET_BITS: u32, S: Store<OFFSET_BITS>>(

@@ -10,12 +10,12 @@ ghost use Rattle.frozen_btree.specs.Makes.{CountsNodes, MakesNodes};
 ghost use Rattle.tree_read.specs.Slots.{slot_pairs, IsInHand};
 ghost use Rattle.frozen_btree.specs.Builds.{nodes_above, nodes_of, BuildsTree};
 
+use crate::make_root;
 use crate::rows::{make_row, slots_of};
 use entry_ref::EntryRef;
-use tree_read::{KeyOrder, MOST_SLOTS, NODE_WORDS};
 use std::alloc::Global;
 use store_api::{Store, StoreError};
-use crate::make_root;
+use tree_read::{KeyOrder, MOST_SLOTS, NODE_WORDS};
 
 /// Makes the tree over slots of a level, level by level.
 fn build_over<const OFFSET_BITS: u32, S: Store<OFFSET_BITS>>(

@@ -50,6 +50,5 @@ pub use node_parts::{add_slot, set_slot};
 pub use remove_tree::remove;
 pub use root::{make_leaf, make_root};
 pub use touch_tree::touch;
-pub use tree_read::{Cursor, find, total};
-pub use tree_read::{KeyOrder, NumberKey};
+pub use tree_read::{Cursor, KeyOrder, NumberKey, find, total};
 pub use whole_leaf::build_leaf;

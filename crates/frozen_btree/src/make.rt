@@ -5,9 +5,9 @@ ghost use Rattle.tree_read.specs.Slots.{slot_pairs, IsInHand};
 ghost use Rattle.frozen_btree.specs.Makes.{MakesNodes, MakesPart};
 ghost use Rattle.frozen_btree.specs.Words.{AreWords};
 
+use arena_api::Frozen;
 use arrayvec::ArrayVec;
 use entry_ref::EntryRef;
-use arena_api::Frozen;
 use store_api::{Store, StoreError};
 use tree_read::{MOST_SLOTS, NODE_WORDS, Slots, append, used_in};
 

@@ -4,9 +4,9 @@ ghost use Rattle.frozen_btree.specs.Makes.{MakesNodes};
 ghost use Rattle.tree_read.specs.Slots.{slot_pairs, slot_nodes, IsInHand};
 ghost use Rattle.frozen_btree.specs.Settles.{SettlesSlots};
 
+use crate::{Part, make_part};
 use store_api::{Store, StoreError};
 use tree_read::{LEAST_SLOTS, MOST_SLOTS, NODE_WORDS, Slots, append};
-use crate::{Part, make_part};
 
 /// Appends the slots of the right neighbour.
 fn join(left: &mut Slots, right: &Slots)

@@ -8,12 +8,12 @@ ghost use Rattle.frozen_btree.specs.Removes.{IsChild, PutsBack, spliced};
 
 use crate::neighbours::make_neighbours;
 use crate::remove_words::write_slots;
+use crate::{make_words, set_slot};
+use arena_api::Frozen;
 use arrayvec::ArrayVec;
 use entry_ref::EntryRef;
-use arena_api::Frozen;
 use store_api::{Store, StoreError};
 use tree_read::{LEAST_SLOTS, MOST_SLOTS, NODE_WORDS, Slots, read_node, slots_of, used_in};
-use crate::{make_words, set_slot};
 
 /// Reads a child of a node in hand, and adds it to the nodes that are replaced.
 fn read_child<const OFFSET_BITS: u32, F: Frozen<OFFSET_BITS>>(

@@ -7,12 +7,12 @@ ghost use Rattle.frozen_btree.specs.Makes.{MakesNodes};
 ghost use Rattle.frozen_btree.specs.Words.{AreWords};
 ghost use Rattle.frozen_btree.specs.Parts.{MakesParts, part_keys, part_nodes, parts_count};
 
+use crate::{Part, add_slot, make_part, make_words, set_slot};
+use arena_api::Frozen;
 use arrayvec::ArrayVec;
 use entry_ref::EntryRef;
-use arena_api::Frozen;
 use store_api::{Store, StoreError};
 use tree_read::{MOST_SLOTS, NODE_WORDS, Slots, append, slots_of, used_in};
-use crate::{Part, add_slot, make_part, make_words, set_slot};
 
 /// What is made in place of a node: one node, or two.
 #[derive(Clone, Copy, Debug, Drop)]

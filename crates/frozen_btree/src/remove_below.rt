@@ -12,11 +12,11 @@ ghost use Rattle.frozen_btree.specs.Removes.{IsStep, Removes};
 
 use crate::parent::put_child;
 use crate::remove_words::take_slot;
+use arena_api::Frozen;
 use arrayvec::ArrayVec;
 use entry_ref::EntryRef;
-use arena_api::Frozen;
-use tree_read::{FIRST_VALUE, KeyOrder, NODE_WORDS, visit};
 use store_api::{Store, StoreError};
+use tree_read::{FIRST_VALUE, KeyOrder, NODE_WORDS, visit};
 
 /// The child of a node above the leaves under which a key is.
 #[derive(Clone, Copy, Drop)]

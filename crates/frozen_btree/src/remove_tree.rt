@@ -12,11 +12,11 @@ ghost use Rattle.frozen_btree.specs.Words.{AreWords};
 ghost use Rattle.tree_read.specs.Slots.{slot_pairs, IsInHand};
 
 use crate::remove_below::remove_below;
+use crate::{drop_nodes, make_root, make_words};
 use arrayvec::ArrayVec;
 use entry_ref::EntryRef;
-use tree_read::{KeyOrder, NODE_WORDS, slots_of, used_in};
 use store_api::{Store, StoreError};
-use crate::{drop_nodes, make_root, make_words};
+use tree_read::{KeyOrder, NODE_WORDS, slots_of, used_in};
 
 /// The root of words in hand: none where no slot is left, and above the leaves the child of a single one.
 fn make_top<const OFFSET_BITS: u32, S: Store<OFFSET_BITS>>(

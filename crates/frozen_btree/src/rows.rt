@@ -5,11 +5,11 @@ ghost use Rattle.frozen_btree.specs.Makes.{MakesNodes};
 ghost use Rattle.tree_read.specs.Slots.{slot_pairs, IsInHand};
 ghost use Rattle.frozen_btree.specs.Builds.{groups, group_start, AddsPart, MakesRow};
 
+use crate::make_part;
 use arrayvec::ArrayVec;
 use std::alloc::Global;
 use store_api::{Store, StoreError};
 use tree_read::{MOST_SLOTS, NODE_WORDS, Slots, append};
-use crate::make_part;
 
 /// Nodes of one level, as the slots of the next are to hold them.
 #[derive(Drop)]

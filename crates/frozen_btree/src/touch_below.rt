@@ -11,8 +11,8 @@ ghost use Rattle.frozen_btree.specs.Touches.{Touches};
 use crate::copies::{copy_of, copy_with};
 use arrayvec::ArrayVec;
 use entry_ref::EntryRef;
-use tree_read::{KeyOrder, NODE_WORDS, place_of, read_node};
 use store_api::{Store, StoreError};
+use tree_read::{KeyOrder, NODE_WORDS, place_of, read_node};
 
 /// Makes a leaf anew where it lies in the buffer.
 fn touch_leaf<const OFFSET_BITS: u32, S: Store<OFFSET_BITS>>(

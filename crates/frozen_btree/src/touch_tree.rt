@@ -8,12 +8,12 @@ ghost use Rattle.frozen_btree.specs.Changes.{Rebuilds, levels, tree};
 ghost use Rattle.frozen_btree.specs.Makes.{CountsNodes, MakesNodes};
 ghost use Rattle.frozen_btree.specs.Paths.{NoneIn, path_nodes};
 
+use crate::drop_nodes;
 use crate::touch_below::touch_below;
 use arrayvec::ArrayVec;
 use entry_ref::EntryRef;
-use tree_read::{KeyOrder, NODE_WORDS, read_head};
 use store_api::{Store, StoreError};
-use crate::drop_nodes;
+use tree_read::{KeyOrder, NODE_WORDS, read_head};
 
 /// Makes the tree without nodes of the buffer on a key's way, with the nodes of the old one that it lacks
 /// added to those that are replaced.

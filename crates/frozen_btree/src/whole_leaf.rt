@@ -8,11 +8,11 @@ ghost use Rattle.store_api.specs.Units.{MayDo};
 ghost use Rattle.frozen_btree.specs.Changes.{tree};
 ghost use Rattle.frozen_btree.specs.Makes.{CountsNodes};
 
+use crate::make_root;
 use arrayvec::ArrayVec;
 use entry_ref::EntryRef;
-use tree_read::{KeyOrder, MOST_SLOTS, NODE_WORDS, Slots, append};
 use store_api::{Store, StoreError};
-use crate::make_root;
+use tree_read::{KeyOrder, MOST_SLOTS, NODE_WORDS, Slots, append};
 
 /// Makes a tree of up to 16 pairs, whose keys ascend, as one leaf. Of no pair the root is 0.
 pub fn build_leaf<const OFFSET_BITS: u32, S: Store<OFFSET_BITS>, K: KeyOrder<OFFSET_BITS>>(

@@ -4,8 +4,8 @@ ghost use Rattle.tree_read.specs.Trees.{tree_pairs, by_number, IsRootNode, IsTre
 ghost use Rattle.tree_read.specs.Pairs.{seek};
 ghost use Rattle.number_tree.specs.Maps.{beside_number, first_of};
 
-use entry_ref::EntryRef;
 use arena_api::Frozen;
+use entry_ref::EntryRef;
 use frozen_btree::{Cursor, NumberKey};
 use std::alloc::{AllocError, Global};
 

@@ -4,9 +4,9 @@ ghost use Rattle.posting_store.specs.Lists.{list_at, IsList, IsPlain};
 ghost use Rattle.posting_store.specs.Walks.{postings_from, first_doc, first_weight, HasPosting, IsListPlace};
 
 use crate::posting::Posting;
+use arena_api::Frozen;
 use attr_types::Doc;
 use entry_ref::EntryRef;
-use arena_api::Frozen;
 use frozen_btree::{Cursor, total};
 
 /// A place before a document of a list, or at the end of it.

@@ -8,9 +8,9 @@ ghost use Rattle.posting_store.specs.Lists.{list_at, IsList, IsPlain};
 use crate::ITEM_BASE;
 use crate::cursor::walk;
 use crate::posting::Posting;
+use arena_api::Frozen;
 use arrayvec::ArrayVec;
 use attr_types::Doc;
-use arena_api::Frozen;
 
 /// The items of a short list, and of one with a document more.
 pub type Items = ArrayVec<u64, 9>;

@@ -9,10 +9,10 @@ ghost use Rattle.std.specs.Prelude.{◌≡◌, ◌≤◌, length, IfOk};
 
 use crate::image::{dictionaries_of, root_at};
 use crate::queries::matching;
+use crate::scored;
+use arena_api::Frozen;
 use attr_types::{DocList, Fields, Parts, Query, ScoreList};
 use entry_ref::EntryRef;
-use arena_api::Frozen;
-use crate::scored;
 use std::alloc::{AllocError, Global};
 
 /// The documents of an image that a query matches, ascending.

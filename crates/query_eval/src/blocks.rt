@@ -10,11 +10,11 @@ ghost use Rattle.attr_index.specs.Postings.{HaveDocNumbers};
 ghost use Rattle.attr_index.specs.Sets.{has, in_words};
 ghost use Rattle.query_eval.specs.Blocks.{IsDocumentBlock, documents_of};
 
-use attr_images::BLOCK_WORDS;
-use attr_types::Doc;
-use attr_index::{DocSet, Gathered};
-use entry_ref::EntryRef;
 use arena_api::Frozen;
+use attr_images::BLOCK_WORDS;
+use attr_index::{DocSet, Gathered};
+use attr_types::Doc;
+use entry_ref::EntryRef;
 use frozen_btree::Cursor;
 use std::alloc::{AllocError, Global};
 

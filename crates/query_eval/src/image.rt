@@ -5,9 +5,9 @@ ghost use Rattle.attr_types.specs.declared.field.TheConstants.{MOST_FIELDS};
 ghost use Rattle.query_eval.specs.Indexes.{HasDictionaries, dictionaries_at};
 
 use crate::dictionary::Dictionary;
+use arena_api::Frozen;
 use attr_types::Field;
 use entry_ref::EntryRef;
-use arena_api::Frozen;
 use frozen_btree::total;
 use std::alloc::{AllocError, Global};
 

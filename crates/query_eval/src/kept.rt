@@ -8,9 +8,9 @@ ghost use Rattle.attr_index.specs.Postings.{HaveDocNumbers};
 ghost use Rattle.attr_index.specs.Sets.{has, in_words};
 ghost use Rattle.query_eval.specs.Takers.{AddsMeeting};
 
+use arena_api::Frozen;
 use attr_types::{Doc, DocList};
 use entry_ref::EntryRef;
-use arena_api::Frozen;
 use std::alloc::{AllocError, Global};
 use tree_read::{TakesKeys, take_keys};
 

@@ -11,12 +11,12 @@ ghost use Rattle.attr_index.specs.Sets.{has, in_words};
 use crate::blocks::gather_vector;
 use crate::kept::{keep_marked, marks_of};
 use crate::takers::{Inserted, Pushed};
+use arena_api::Frozen;
 use array_store::count;
 use attr_images::{FIRST_VECTOR, MOST_SHORT};
-use attr_types::{Doc, DocList};
 use attr_index::{DocSet, Gathered};
+use attr_types::{Doc, DocList};
 use entry_ref::EntryRef;
-use arena_api::Frozen;
 use frozen_btree::total;
 use std::alloc::{AllocError, Global};
 use tree_read::take_keys;
@@ -141,7 +141,7 @@ fn with_tree<const OFFSET_BITS: u32, F: Frozen<OFFSET_BITS>>(
     ensures same { frozen.new ≡ frozen.old }
 {
     let count = total(frozen, root) as usize;
-    if docs.len().max(count) <= MOST_FEW {
+    if docs.is_empty() || docs.len().max(count) <= MOST_FEW {
         docs.reserve(count)?;
         return push_tree(frozen, root, docs);
     }

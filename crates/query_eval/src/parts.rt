@@ -13,12 +13,12 @@ ghost use Rattle.query_eval.specs.Parts.{IsIndexed};
 ghost use Rattle.query_eval.specs.Weights.{word_list, IsListWord, is_found};
 
 use crate::weights::weight_at;
-use attr_types::{Doc, DocList, Part, Score, ScoreList, Value, ValueType};
+use crate::{gather_list, is_of_type, keep_list};
+use arena_api::Frozen;
 use attr_index::Gathered;
+use attr_types::{Doc, DocList, Part, Score, ScoreList, Value, ValueType};
 use entry_ref::EntryRef;
 use enum_dictionary::find;
-use arena_api::Frozen;
-use crate::{gather_list, is_of_type, keep_list};
 use std::alloc::{AllocError, Global};
 
 /// The word of a value's list, where the dictionary has the value.

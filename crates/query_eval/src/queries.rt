@@ -11,10 +11,10 @@ ghost use Rattle.query_eval.specs.Indexes.{AreIndexed, AreMatched, IsMatched, in
 
 use crate::dictionary::Dictionary;
 use crate::sizes::shortest_of;
-use attr_types::{DocList, Leaf, Query};
-use attr_index::Gathered;
-use arena_api::Frozen;
 use crate::{gather_every, gather_leaf, kept_with, with_value};
+use arena_api::Frozen;
+use attr_index::Gathered;
+use attr_types::{DocList, Leaf, Query};
 use std::alloc::{AllocError, Global};
 
 /// The documents with those that have some value in some attribute.

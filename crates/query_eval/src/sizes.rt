@@ -5,13 +5,13 @@ ghost use Rattle.query_eval.specs.Parts.{IsIndexed};
 ghost use Rattle.query_eval.specs.Indexes.{AreIndexed};
 
 use crate::dictionary::Dictionary;
+use crate::word_of;
+use arena_api::Frozen;
 use array_store::count;
 use attr_images::FIRST_VECTOR;
 use attr_types::{Leaf, Query, Value, ValueType};
 use entry_ref::EntryRef;
-use arena_api::Frozen;
 use frozen_btree::total;
-use crate::word_of;
 
 /// How many documents a list has, and of a bit vector how many it may have.
 fn size_of_list<const OFFSET_BITS: u32, F: Frozen<OFFSET_BITS>>(frozen: &mut F, list: u64) -> u64

@@ -9,10 +9,10 @@ ghost use Rattle.attr_index.specs.Leaves.{from, meeting, run, sought};
 ghost use Rattle.query_eval.specs.Parts.{IsIndexed, AreIndexPairs, index_of_pairs};
 
 use crate::values::is_of_type;
+use arena_api::Frozen;
 use attr_types::{Leaf, Text, Value, ValueType};
 use entry_ref::EntryRef;
 use enum_dictionary::lower;
-use arena_api::Frozen;
 use frozen_btree::Cursor;
 use std::alloc::{AllocError, Global};
 

@@ -5,8 +5,8 @@ ghost use Rattle.attr_types.specs.Lawful.{IsDocNumber};
 ghost use Rattle.attr_index.specs.Sets.{has, in_words};
 ghost use Rattle.query_eval.specs.Takers.{Adds};
 
-use attr_types::Doc;
 use attr_index::DocSet;
+use attr_types::Doc;
 use std::alloc::AllocError;
 use tree_read::TakesKeys;
 

@@ -4,10 +4,10 @@ ghost use Rattle.attr_images.specs.Values.{stored_value, IsValueRecord};
 ghost use Rattle.attr_types.specs.Fitting.{is_of_type as fits_type};
 ghost use Rattle.attr_index.specs.Leaves.{stands_before, stands_beyond};
 
-use attr_types::{Leaf, Value, ValueType};
-use entry_ref::EntryRef;
 use arena_api::Frozen;
 use attr_index::{is_before, is_beyond};
+use attr_types::{Leaf, Value, ValueType};
+use entry_ref::EntryRef;
 use std::alloc::{AllocError, Global};
 use unique_store::get;
 

@@ -10,10 +10,10 @@ ghost use Rattle.query_eval.specs.Parts.{IsIndexed, AreIndexPairs, index_of_pair
 use crate::lists::gather_list;
 use crate::starts::start_of;
 use crate::values::{is_before_at, is_beyond_at};
-use attr_types::{Leaf, ValueType};
-use attr_index::Gathered;
-use entry_ref::EntryRef;
 use arena_api::Frozen;
+use attr_index::Gathered;
+use attr_types::{Leaf, ValueType};
+use entry_ref::EntryRef;
 use frozen_btree::Cursor;
 use std::alloc::{AllocError, Global};
 

@@ -5,10 +5,10 @@ ghost use Rattle.attr_images.specs.Postings.{list_form, postings_at, short, tree
 ghost use Rattle.attr_images.specs.Words.{unpacked};
 ghost use Rattle.query_eval.specs.Weights.{weight_in_list};
 
+use arena_api::Frozen;
 use array_store::count;
 use attr_images::{FIRST_VECTOR, MOST_SHORT};
 use entry_ref::EntryRef;
-use arena_api::Frozen;
 use frozen_btree::{NumberKey, find};
 
 fn weight_among(words: &[u64], doc: u32) -> i32

@@ -1,8 +1,8 @@
 //! What a call of a row comes to, and how a row says it.
 use arena_api::{Advance, Oldest};
-use test_kit::{Committed, Look};
 use std::alloc::AllocError;
 use store_api::StoreError;
+use test_kit::{Committed, Look};
 
 #[derive(Clone, Copy, Drop)]
 pub enum Answer {

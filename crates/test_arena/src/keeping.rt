@@ -11,8 +11,8 @@ use crate::marks::Marks;
 use crate::playing::Seat;
 use crate::steps::Task;
 use entry_ref::EntryRef;
-use test_kit::{Committed, NODE, OneNode, words_of};
 use store_api::{Store, StoreError, drop_one, make_entry};
+use test_kit::{Committed, NODE, OneNode, words_of};
 
 /// The last commit, the root, 0 for none, and the buffers that were sealed and finished since.
 #[derive(Clone, Copy, Drop)]

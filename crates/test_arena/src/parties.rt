@@ -9,10 +9,10 @@ use crate::reading::Stand;
 use crate::steps::{Setting, Step};
 use crate::writing::{Past, write_on};
 use entry_store::EntryStore;
-use test_kit::OneNode;
 use std::alloc::{AllocError, Global};
 use std::sync::atomic::{AtomicU64, Ordering};
 use std::thread::{Threads, map_vec};
+use test_kit::OneNode;
 use word_arena::{Arena, Config, Limits, Reader, Writer};
 
 /// The writer's seat of a new memory.

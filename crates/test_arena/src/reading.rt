@@ -4,10 +4,10 @@ ghost use Rattle.std.specs.Prelude.{◌≡◌, ◌<◌};
 use crate::answers::Answer;
 use crate::playing::Seat;
 use crate::steps::Task;
-use test_kit::{Held, OneNode, guarded, raised, tried};
 use std::marker::Brand;
 use std::mem::replace;
 use std::sync::ledger::{Blank, Ledger};
+use test_kit::{Held, OneNode, guarded, raised, tried};
 use word_arena::{Again, Aimed, Reader, Steps};
 
 /// What a reader's seat stands at.

@@ -3,10 +3,10 @@ ghost use Rattle.std.specs.Prelude.{IfSome};
 ghost use Rattle.test_kit.specs.Turns.{IsActive};
 
 use arena_api::Work;
-use test_kit::{Look, OneNode, pass, raised, turn};
 use std::alloc::{AllocError, Global};
 use std::sync::atomic::{AtomicU64, Ordering};
 use std::thread::{Threads, map_vec, yield_now};
+use test_kit::{Look, OneNode, pass, raised, turn};
 use word_arena::{Again, Aimed, Arena, Config, Limits, Reader, Writer};
 
 pub const READERS: u32 = 8;

@@ -4,10 +4,10 @@ ghost use Rattle.attr_images.specs.Images.{IsLawfulImage};
 ghost use Rattle.attr_images.specs.Shapes.{shape_of, types_of};
 ghost use Rattle.attr_types.specs.declared.field.TheConstants.{MOST_FIELDS};
 
+use arena_api::Frozen;
 use attr_rounds::first_documents;
 use attr_types::{Doc, Field, FieldItems, Fields, Items, Leaf, Part, Parts, Query, Value, compare};
 use entry_ref::EntryRef;
-use arena_api::Frozen;
 use query_eval::{hits, scores};
 use std::alloc::{AllocError, Global};
 use std::collections::BTreeMap;

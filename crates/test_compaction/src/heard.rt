@@ -3,8 +3,8 @@ ghost use Rattle.std.specs.Prelude.{◌≡◌, ◌<◌, ◌≤◌, ◌+◌, ◌^
 ghost use Rattle.entry_ref.specs.Records.{HasWord, word_at};
 
 use crate::words::Words;
-use entry_ref::EntryRef;
 use arena_api::Frozen;
+use entry_ref::EntryRef;
 use std::alloc::Global;
 use std::marker::Model;
 

@@ -6,10 +6,10 @@ ghost use Rattle.tree_read.specs.SearchPlaces.{IsAt};
 
 use crate::filling::{fill, is_like};
 use crate::new_store;
+use arena_api::Frozen;
 use attr_types::Value;
 use entry_ref::EntryRef;
 use enum_dictionary::{find, lower, upper};
-use arena_api::Frozen;
 use frozen_btree::Cursor;
 use std::alloc::{AllocError, Global};
 use store_api::Store;

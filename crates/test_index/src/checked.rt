@@ -3,12 +3,12 @@ use crate::run::{Load, differs_on, root_of};
 use crate::{new_memory, noted_lists};
 use attr_types::{Value, ValueType};
 use check_images::{CheckFault, Keys, check_tree};
-use entry_store::EntryStore;
 use entry_ref::words_at;
+use entry_store::EntryStore;
 use mem_work::{MemWork, OneRecord};
-use test_kit::{NotedWork, ValueLists};
 use std::alloc::{AllocError, Global};
 use std::collections::BTreeMap;
+use test_kit::{NotedWork, ValueLists};
 
 /// An index over a memory beside which the words of each record are kept.
 type Lists = ValueLists<22, EntryStore<22, NotedWork<22, MemWork<22, OneRecord>>>>;

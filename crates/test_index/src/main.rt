@@ -15,9 +15,9 @@ use arena_api::Work;
 use attr_types::ValueType;
 use entry_store::EntryStore;
 use mem_work::{MemWork, OneRecord};
-use test_kit::{NotedWork, ValueLists};
 use std::alloc::{AllocError, Global};
 use std::io;
+use test_kit::{NotedWork, ValueLists};
 
 /// A memory of buffers of 8,192 words, of which nothing is handed out yet.
 fn new_memory(alloc: Global, buffers: u32) -> Result<MemWork<22, OneRecord>, AllocError>

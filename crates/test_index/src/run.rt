@@ -3,9 +3,9 @@ use crate::random::Random;
 use arena_api::Work;
 use attr_types::{Doc, Value};
 use entry_store::EntryStore;
-use test_kit::{NotedWork, ValueList, ValueLists};
 use std::alloc::{AllocError, Global};
 use store_api::{Store, StoreError};
+use test_kit::{NotedWork, ValueList, ValueLists};
 
 /// What a run is: so many changes of so many documents, of which three in four are additions in one period and removals in
 /// the next, and a comparison after each `every`.

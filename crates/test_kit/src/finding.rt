@@ -9,10 +9,10 @@ ghost use Rattle.posting_store.specs.Lists.{list_at, IsList, IsPlain};
 ghost use Rattle.posting_store.specs.Walks.{postings_from, first_doc, HasPosting, IsListPlace};
 ghost use Rattle.value_index.specs.Indexes.{IsIndex};
 
+use arena_api::Frozen;
 use attr_types::{Doc, Value};
 use entry_ref::EntryRef;
 use enum_dictionary::find;
-use arena_api::Frozen;
 use frozen_btree::{NumberKey, find as find_pair};
 use posting_store::{Posting, PostingCursor, walk};
 

@@ -7,10 +7,10 @@ ghost use Rattle.posting_store.specs.Lists.{list_at, IsList, IsPlain};
 ghost use Rattle.value_index.specs.Indexes.{IsIndex};
 ghost use Rattle.test_kit.specs.Holds.{as_listed};
 
+use arena_api::Frozen;
 use attr_types::{Value, ValueType};
 use entry_ref::EntryRef;
 use enum_dictionary::find;
-use arena_api::Frozen;
 use frozen_btree::Cursor;
 use posting_store::{Posting, walk};
 use std::alloc::{AllocError, Global};

@@ -11,9 +11,9 @@ use crate::turn::{
     Answer, Committed, Noted, apply_one, apply_plain, close, commit_one, new_attribute, new_plain,
 };
 use arena_api::Work;
-use attr_types::{Applied, Fields, Op};
 use attr_images::AttrLayout;
 use attr_plain::PlainTable;
+use attr_types::{Applied, Fields, Op};
 use attribute_kinds::{Attribute, Published};
 use std::alloc::{AllocError, Global};
 use store_api::Store;

@@ -6,16 +6,16 @@ ghost use Rattle.attr_images.specs.Shapes.{shape_of, types_of};
 ghost use Rattle.attr_types.specs.declared.field.TheConstants.{MOST_FIELDS};
 
 use arena_api::{Frozen, Work};
-use attr_types::{Applied, Fields, Op, fits};
 use attr_images::{AttrLayout, shape_of};
 use attr_plain::PlainTable;
+use attr_types::{Applied, Fields, Op, fits};
 use attribute_kinds::{AttrError, Attribute, Published, committed_work};
 use entry_store::EntryStore;
 use mem_work::MemWork;
-use test_kit::NotedWork;
 use std::alloc::{AllocError, Global};
 use std::collections::BTreeMap;
 use store_api::Store;
+use test_kit::NotedWork;
 
 /// A memory without readers, and beside it the words of each record as they were stored.
 pub type Memory = NotedWork<22, MemWork<22, AttrLayout>>;

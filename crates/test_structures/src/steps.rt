@@ -3,9 +3,9 @@ ghost use Rattle.posting_store.specs.Lists.{IsList, IsPlain};
 ghost use Rattle.store_api.specs.Ledgers.{IsNew};
 ghost use Rattle.test_structures.specs.Held.{HoldsList};
 
+use arena_api::Frozen;
 use attr_types::Doc;
 use entry_ref::EntryRef;
-use arena_api::Frozen;
 use posting_store::{Posting, add, list_law, remove, walk};
 use std::alloc::{AllocError, Global};
 use store_api::Store;

@@ -1,10 +1,10 @@
 //! Queries and dot products that are written, and read back.
 use attr_types::{Field, Fields, Kind, Leaf, Name, Query, Text, Value, ValueType};
-use test_kit::{print_ask, print_query};
 use query_text::{parse_ask, parse_query};
 use std::alloc::{AllocError, Global};
 use std::process::Abort;
 use std::test::Fail;
+use test_kit::{print_ask, print_query};
 
 fn text(rt: &impl Abort, alloc: Global, text: &str) -> Result<Text, AllocError> {
     assert!(rt; text.len() <= Text::MAX_LEN);

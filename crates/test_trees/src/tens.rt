@@ -4,8 +4,8 @@ ghost use Rattle.std.specs.Ordering.{nat_cmp};
 ghost use Rattle.std.specs.Cmp.{nat_cmp_total};
 ghost use Rattle.test_trees.specs.Tens.{by_tens, HoldsTens};
 
-use entry_ref::EntryRef;
 use arena_api::Frozen;
+use entry_ref::EntryRef;
 use frozen_btree::{KeyOrder, insert};
 use std::cmp::Ordering;
 use store_api::{Store, StoreError};

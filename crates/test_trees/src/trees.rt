@@ -3,10 +3,10 @@ ghost use Rattle.std.specs.Prelude.{◌≡◌, ◌≤◌, ◌<◌};
 ghost use Rattle.entry_ref.specs.References.{offset_limit, buffer_limit};
 ghost use Rattle.tree_read.specs.Trees.{IsNode, IsRootNode};
 
+use arena_api::Frozen;
 use check_images::{Keys, check_tree};
 use entry_ref::{EntryRef, word_in, words_at};
 use entry_store::EntryStore;
-use arena_api::Frozen;
 use mem_work::MemWork;
 use number_tree::{NumberTree, TreeLayout};
 use std::alloc::{AllocError, Global};

@@ -7,9 +7,12 @@ ghost use Rattle.tree_read.specs.Pairs.{seek};
 ghost use Rattle.tree_read.specs.SearchPlaces.{Leads, pairs_behind, pairs_from, IsAt, HasPair, first_key, first_value};
 
 use crate::path::Path;
-use entry_ref::EntryRef;
+use crate::{
+    FIRST_KEY, FIRST_VALUE, KeyOrder, MOST_SLOTS, NODE_WORDS, child_at, read_head, read_words,
+    visit,
+};
 use arena_api::Frozen;
-use crate::{FIRST_KEY, FIRST_VALUE, KeyOrder, MOST_SLOTS, NODE_WORDS, child_at, read_head, read_words, visit};
+use entry_ref::EntryRef;
 use std::marker::Model;
 
 /// A place before a pair of a tree, or at the end of it.

@@ -6,9 +6,9 @@ ghost use Rattle.tree_read.specs.Keys.{AllReadable, Ascends, seen_by};
 ghost use Rattle.tree_read.specs.Pairs.{lookup, lookup_pair};
 ghost use Rattle.tree_read.specs.NodePlaces.{IsSlot, IsFound, IsLacking};
 
-use entry_ref::EntryRef;
-use arena_api::Frozen;
 use crate::{FIRST_KEY, FIRST_VALUE, KeyOrder, read_head};
+use arena_api::Frozen;
+use entry_ref::EntryRef;
 use std::cmp::Ordering;
 
 /// The key of a slot beside the one sought.

@@ -5,10 +5,10 @@ ghost use Rattle.std.specs.Map.{keys_of};
 ghost use Rattle.tree_read.specs.Nodes.{used_of, node_keys};
 ghost use Rattle.tree_read.specs.Trees.{pairs_below, tree_pairs, IsNode, IsRootNode};
 
-use entry_ref::EntryRef;
-use arena_api::Frozen;
-use std::alloc::AllocError;
 use crate::{FIRST_KEY, FIRST_VALUE, MOST_SLOTS, NODE_WORDS, read_head, read_words, used_in};
+use arena_api::Frozen;
+use entry_ref::EntryRef;
+use std::alloc::AllocError;
 
 /// What takes the keys of a tree.
 pub trait TakesKeys {

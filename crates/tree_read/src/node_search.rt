@@ -8,9 +8,9 @@ ghost use Rattle.tree_read.specs.Keys.{seen_by};
 ghost use Rattle.tree_read.specs.NodePlaces.{IsSlot, IsFound, IsLacking, IsPlace};
 
 use crate::read::{keys_in, read_words};
-use entry_ref::EntryRef;
-use arena_api::Frozen;
 use crate::{FIRST_VALUE, KeyOrder, MOST_SLOTS, NODE_WORDS};
+use arena_api::Frozen;
+use entry_ref::EntryRef;
 use std::cmp::Ordering;
 
 /// Where a key stands among keys: the first that is not below it, or past them all.

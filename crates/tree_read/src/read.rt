@@ -3,10 +3,10 @@ ghost use Rattle.entry_ref.specs.Records.{HasWord};
 ghost use Rattle.tree_read.specs.Nodes.{level_of, used_of, node_keys, node_values};
 
 use crate::slots::{Slots, append};
+use crate::{FIRST_KEY, FIRST_VALUE, MOST_SLOTS, NODE_WORDS};
+use arena_api::Frozen;
 use arrayvec::ArrayVec;
 use entry_ref::EntryRef;
-use arena_api::Frozen;
-use crate::{FIRST_KEY, FIRST_VALUE, MOST_SLOTS, NODE_WORDS};
 
 /// Reads all words of a node.
 pub fn read_words<const OFFSET_BITS: u32, F: Frozen<OFFSET_BITS>>(

@@ -6,9 +6,9 @@ ghost use Rattle.attr_types.specs.Value.{type_of, value_cmp};
 ghost use Rattle.attr_types.specs.declared.kind.ValueType.TheVariants as types;
 
 use crate::bytes::{behind_eight, first_word};
+use arena_api::Frozen;
 use attr_types::Value;
 use entry_ref::EntryRef;
-use arena_api::Frozen;
 use std::cmp::Ordering;
 
 /// Compares a stored text with bytes. Its words are read as far as they are equal, and no further.

@@ -3,9 +3,9 @@ ghost use Rattle.std.specs.Int.{to_be_bytes, w64};
 ghost use Rattle.attr_images.specs.Values.{stored_text, stored_value, IsValueRecord};
 ghost use Rattle.attr_types.specs.declared.kind.ValueType.TheVariants as types;
 
+use arena_api::Frozen;
 use attr_types::{Text, Value, ValueType};
 use entry_ref::EntryRef;
-use arena_api::Frozen;
 use std::alloc::{AllocError, Global};
 
 /// Appends the bytes of a word, the highest first.

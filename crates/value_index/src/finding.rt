@@ -2,10 +2,10 @@ ghost use Rattle.std.specs.Prelude.{◌≡◌};
 ghost use Rattle.attr_types.specs.Value.{type_of};
 ghost use Rattle.value_index.specs.Indexes.{key_at, IsIndex};
 
+use arena_api::Frozen;
 use attr_types::Value;
 use entry_ref::EntryRef;
 use enum_dictionary::find;
-use arena_api::Frozen;
 
 /// The key of a value, which is its record, where a document has the value.
 pub fn key<const OFFSET_BITS: u32, F: Frozen<OFFSET_BITS>>(

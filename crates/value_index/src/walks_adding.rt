@@ -15,11 +15,11 @@ ghost use Rattle.value_index.specs.Counts.{added_count, value_nodes, AddsLow, Ma
 ghost use Rattle.value_index.specs.Walks.{WalksIndex};
 ghost use Rattle.value_index.specs.Widths.{IsWalkWidth};
 
+use crate::{add, index_law, key_law};
 use attr_types::{Doc, Value, ValueType};
 use entry_ref::EntryRef;
 use std::collections::BTreeMap;
 use store_api::{Store, StoreError};
-use crate::{add, index_law, key_law};
 
 /// Whether a value has this weight.
 fn has_weight(weights: &BTreeMap<Value, i32>, value: &Value, weight: i32) -> bool

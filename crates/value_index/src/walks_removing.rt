@@ -15,11 +15,11 @@ ghost use Rattle.value_index.specs.Counts.{gone_count, value_nodes, MakesFew, Re
 ghost use Rattle.value_index.specs.Walks.{WalksIndex};
 ghost use Rattle.value_index.specs.Widths.{IsWalkWidth};
 
+use crate::{index_law, remove};
 use attr_types::{Doc, Value, ValueType};
 use entry_ref::EntryRef;
 use std::collections::BTreeMap;
 use store_api::{Store, StoreError};
-use crate::{index_law, remove};
 
 /// Takes a document out of the lists of its old values that the new ones lack. The answer is the root of the new index.
 #[tactic(none)]

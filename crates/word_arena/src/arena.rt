@@ -8,8 +8,8 @@ ghost use Rattle.word_arena.specs.Knows.{IsToken, core_sizes};
 use crate::config::Config;
 use crate::rule::{Place, Words};
 use atomic_table::Table;
-use gen_core::{Buffer, Sizes};
 use entry_ref::Layout;
+use gen_core::{Buffer, Sizes};
 use std::alloc::{AllocError, Global};
 
 #[derive(Drop)]

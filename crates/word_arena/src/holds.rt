@@ -12,9 +12,9 @@ use crate::buffers::{unused_tag, width_of};
 use crate::plays::{Close, FreeBuffer, Morph, Probe, PutOnHold, Reopen, StoreNewest};
 use crate::writer::Writer;
 use arena_api::Advance;
+use entry_ref::Layout;
 use gen_core::{Buffer, Tag};
 use generation_handler::HOLDS;
-use entry_ref::Layout;
 
 impl<'a, const OFFSET_BITS: u32, L: Layout> Writer<'a, OFFSET_BITS, L> {
     // Puts a buffer on hold that the last commit has no record in, under the current generation and that commit.

@@ -8,8 +8,8 @@ ghost use Rattle.gen_core.specs.declared.views.View.TheVariants.{Reader};
 ghost use Rattle.gen_core.specs.Views.{spent};
 
 use atomic_table::{Join, Play, Split};
-use gen_core::View;
 use entry_ref::Layout;
+use gen_core::View;
 use std::marker::PhantomData;
 
 pub(crate) struct HandOut<L> {

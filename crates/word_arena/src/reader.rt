@@ -12,8 +12,8 @@ use crate::arena::Arena;
 use crate::plays::{Bounce, LoadNewest, LoadRoot, LoadWord, Raise, Release};
 use crate::rule::Place;
 use crate::steps::Steps;
-use entry_ref::{EntryRef, Layout, place_of};
 use arena_api::Frozen;
+use entry_ref::{EntryRef, Layout, place_of};
 use gen_core::Sizes;
 use std::sync::ledger::Ledger;
 

@@ -4,8 +4,8 @@ ghost use Rattle.gen_core.specs.Events.{opening_view};
 ghost use Rattle.word_arena.specs.Ruled.{Ruled};
 
 use atomic_table::{Seat, Table, TableRule};
-use gen_core::{Sizes, View};
 use entry_ref::Layout;
+use gen_core::{Sizes, View};
 use std::alloc::Global;
 use std::marker::PhantomData;
 

@@ -15,8 +15,8 @@ use crate::arena::{Arena, Token};
 use crate::plays::{Cut, Glue, LoadOwn};
 use crate::reader::Reader;
 use crate::rule::Place;
-use entry_ref::{EntryRef, Layout, place_of};
 use arena_api::Frozen;
+use entry_ref::{EntryRef, Layout, place_of};
 use gen_core::{Buffer, Sizes};
 use generation_handler::Holds;
 
