@@ -1,4 +1,4 @@
-//! Rows of standard input. `read HEX WANTED`: what becomes of bytes. `tell HEX WANTED`: what they tell. `base HEX`:
+//! Rows. `read HEX WANTED`: what becomes of bytes. `tell HEX WANTED`: what they tell. `base HEX`:
 //! the bytes that the rows after it change. `cut FROM TO WANTED`: what becomes of so many of its first bytes.
 //! `change PLACE FROM TO WANTED`: what becomes of it with each byte from FROM to TO at a place. Numbers are decimal.
 //! Other lines are remarks.
@@ -140,20 +140,27 @@ fn compare_line(
     }
 }
 
-fn take(rt: &HostRuntime, tally: &mut Tally, base: &mut Vec<u8>, line: &str) -> io::Result<()> {
-    if let Some(hex) = line.strip_prefix("base ") {
-        *base = bytes_of(rt.alloc(), hex);
-        return Ok(());
-    }
-    let words = words_of(rt.alloc(), line)?;
-    compare_line(rt, tally, base, words.as_slice())
+/// The bytes that rows change, and the rows so far.
+#[derive(Drop)]
+pub struct SaveRows {
+    base: Vec<u8>,
+    pub tally: Tally,
 }
 
-pub fn compare(rt: &HostRuntime) -> io::Result<()> {
-    let mut tally = Tally::default();
-    let mut base = Vec::new(rt.alloc());
-    for line in rt.lines(rt.alloc()) {
-        take(rt, &mut tally, &mut base, line?.as_str())?;
+impl SaveRows {
+    pub fn new(alloc: Global) -> SaveRows {
+        SaveRows {
+            base: Vec::new(alloc),
+            tally: Tally::default(),
+        }
     }
-    tally.print(rt, "saves")
+
+    pub fn take(&mut self, rt: &HostRuntime, line: &str) -> io::Result<()> {
+        if let Some(hex) = line.strip_prefix("base ") {
+            self.base = bytes_of(rt.alloc(), hex);
+            return Ok(());
+        }
+        let words = words_of(rt.alloc(), line)?;
+        compare_line(rt, &mut self.tally, &self.base, words.as_slice())
+    }
 }

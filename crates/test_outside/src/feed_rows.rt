@@ -1,7 +1,7 @@
 //! Rows: `fields ..` begins one, `feed LINE`, `part TEXT`, `times N TEXT`, `lines N` and `byte N` make its feed, `read ..`
 //! and `table ..` say what must be read of it and what the table must be after it. Other lines are remarks.
-use crate::fed::{answer_to, table_after};
-use crate::field::fields_in;
+use crate::feeds::{answer_to, table_after};
+use crate::fields::fields_in;
 use std::alloc::{AllocError, Global};
 use std::io;
 use test_kit::Tally;
@@ -48,15 +48,15 @@ fn push_line(alloc: Global, feed: &mut Vec<u8>, line: &str) -> Result<(), AllocE
 
 /// A row so far, and those before it.
 #[derive(Drop)]
-struct Rows {
+pub struct FeedRows {
     fields: String,
     feed: Vec<u8>,
-    tally: Tally,
+    pub tally: Tally,
 }
 
-impl Rows {
-    fn new(alloc: Global) -> Rows {
-        Rows {
+impl FeedRows {
+    pub fn new(alloc: Global) -> FeedRows {
+        FeedRows {
             fields: String::new(alloc),
             feed: Vec::new(alloc),
             tally: Tally::default(),
@@ -81,7 +81,7 @@ impl Rows {
         table_after(alloc, &self.feed, fields)
     }
 
-    fn take(&mut self, rt: &HostRuntime, line: &str) -> io::Result<()> {
+    pub fn take(&mut self, rt: &HostRuntime, line: &str) -> io::Result<()> {
         let alloc = rt.alloc();
         let (kind, rest) = line.split_once(' ').unwrap_or((line, ""));
         match kind {
@@ -97,12 +97,4 @@ impl Rows {
             _ => Ok(push_line(alloc, &mut self.feed, line)?),
         }
     }
-}
-
-pub fn compare(rt: &HostRuntime) -> io::Result<()> {
-    let mut rows = Rows::new(rt.alloc());
-    for line in rt.lines(rt.alloc()) {
-        rows.take(rt, line?.as_str())?;
-    }
-    rows.tally.print(rt, "rows")
 }

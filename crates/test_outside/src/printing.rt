@@ -1,15 +1,10 @@
 //! Queries and dot products that are written, and read back.
-use attr_types::{Field, Fields, Kind, Leaf, Name, Query, Text, Value, ValueType};
+use crate::build::field;
+use attr_types::{Field, Fields, Kind, Leaf, Query, Value, ValueType};
 use query_text::{parse_ask, parse_query};
 use std::alloc::{AllocError, Global};
-use std::process::Abort;
-use std::test::Fail;
-use test_kit::{print_ask, print_query};
-
-fn text(rt: &impl Abort, alloc: Global, text: &str) -> Result<Text, AllocError> {
-    assert!(rt; text.len() <= Text::MAX_LEN);
-    Text::from_str(alloc, text)
-}
+use std::io;
+use test_kit::{Tally, print_ask, print_query, text_of};
 
 fn one(leaf: Leaf) -> Query {
     Query::One { field: 0, leaf }
@@ -17,11 +12,6 @@ fn one(leaf: Leaf) -> Query {
 
 fn long(number: i64) -> Query {
     one(Leaf::Is(Value::Long(number)))
-}
-
-fn field(alloc: Global, name: &str, kind: Kind, value: ValueType) -> Result<Field, AllocError> {
-    let name = Name::from_str(alloc, name)?;
-    Ok(Field { name, kind, value })
 }
 
 /// Attribute 0 of this value type, and a weighted set of texts.
@@ -70,13 +60,13 @@ fn range(low: Option<Value>, high: Option<Value>) -> Query {
     one(Leaf::Range { low, high })
 }
 
-fn prefix(rt: &impl Abort, alloc: Global, bytes: &str) -> Result<Query, AllocError> {
-    Ok(one(Leaf::Prefix(text(rt, alloc, bytes)?)))
+fn prefix(alloc: Global, bytes: &str) -> Result<Query, AllocError> {
+    Ok(one(Leaf::Prefix(text_of(alloc, bytes)?)))
 }
 
 /// A text in an attribute.
-fn is_text(rt: &impl Abort, alloc: Global, field: u32, bytes: &str) -> Result<Query, AllocError> {
-    let leaf = Leaf::Is(Value::Text(text(rt, alloc, bytes)?));
+fn is_text(alloc: Global, field: u32, bytes: &str) -> Result<Query, AllocError> {
+    let leaf = Leaf::Is(Value::Text(text_of(alloc, bytes)?));
     Ok(Query::One { field, leaf })
 }
 
@@ -85,8 +75,8 @@ fn nested(alloc: Global) -> Result<Query, AllocError> {
     Ok(Query::And(vec![in alloc; inner, long(3)]?))
 }
 
-fn with_name(rt: &impl Abort, alloc: Global) -> Result<Query, AllocError> {
-    let named = is_text(rt, alloc, 1, "a")?;
+fn with_name(alloc: Global) -> Result<Query, AllocError> {
+    let named = is_text(alloc, 1, "a")?;
     Ok(Query::And(vec![in alloc; named, long(3)]?))
 }
 
@@ -104,33 +94,34 @@ enum Asked {
     Marks,
 }
 
-fn query_of(rt: &impl Abort, alloc: Global, asked: Asked) -> Result<Query, AllocError> {
+fn query_of(alloc: Global, asked: Asked) -> Result<Query, AllocError> {
     match asked {
         Asked::Least => Ok(long(i64::MIN)),
         Asked::Above => Ok(one(Leaf::Above(Value::Long(i64::MAX)))),
         Asked::Below => Ok(one(Leaf::Below(Value::Long(0)))),
         Asked::Bounds => Ok(range(Some(Value::Long(-15)), Some(Value::Long(30)))),
         Asked::Nested => nested(alloc),
-        Asked::WithName => with_name(rt, alloc),
+        Asked::WithName => with_name(alloc),
         Asked::Unbounded => Ok(range(None, None)),
-        Asked::Prefix => prefix(rt, alloc, "te"),
-        Asked::Marks => is_text(rt, alloc, 0, "é\"\\,"),
+        Asked::Prefix => prefix(alloc, "te"),
+        Asked::Marks => is_text(alloc, 0, "é\"\\,"),
     }
 }
 
-fn is_printed(
-    rt: &impl Abort,
-    alloc: Global,
+/// Compares a query with the text that it is written as, and that is read as it.
+fn compare_one(
+    rt: &HostRuntime,
+    tally: &mut Tally,
     asked: Asked,
     fields: &[Field],
     text: &str,
-) -> Result<bool, AllocError> {
-    let query = query_of(rt, alloc, asked)?;
-    is_same(alloc, &query, fields, text)
+) -> io::Result<()> {
+    let query = query_of(rt.alloc(), asked)?;
+    let is_right = is_same(rt.alloc(), &query, fields, text)?;
+    tally.judge(rt, text, is_right)
 }
 
-#[test]
-fn a_query_of_longs_is_printed_and_read_back(rt: HostRuntime) -> Result<(), Fail> {
+fn compare_longs(rt: &HostRuntime, tally: &mut Tally) -> io::Result<()> {
     let fields = two_fields(rt.alloc(), ValueType::Long)?;
     let rows = [
         (Asked::Least, "-9223372036854775808"),
@@ -141,14 +132,12 @@ fn a_query_of_longs_is_printed_and_read_back(rt: HostRuntime) -> Result<(), Fail
         (Asked::WithName, "and(and:\"a\",3)"),
     ];
     for (asked, text) in rows {
-        let is_right = is_printed(&rt, rt.alloc(), asked, fields.as_slice(), text)?;
-        assert!(rt; is_right, "{text}");
+        compare_one(rt, tally, asked, fields.as_slice(), text)?;
     }
     Ok(())
 }
 
-#[test]
-fn a_query_of_texts_is_printed_and_read_back(rt: HostRuntime) -> Result<(), Fail> {
+fn compare_texts(rt: &HostRuntime, tally: &mut Tally) -> io::Result<()> {
     let fields = two_fields(rt.alloc(), ValueType::Text)?;
     let rows = [
         (Asked::Unbounded, "[;]"),
@@ -156,8 +145,7 @@ fn a_query_of_texts_is_printed_and_read_back(rt: HostRuntime) -> Result<(), Fail
         (Asked::Marks, "\"é\\\"\\\\,\""),
     ];
     for (asked, text) in rows {
-        let is_right = is_printed(&rt, rt.alloc(), asked, fields.as_slice(), text)?;
-        assert!(rt; is_right, "{text}");
+        compare_one(rt, tally, asked, fields.as_slice(), text)?;
     }
     Ok(())
 }
@@ -173,14 +161,7 @@ fn written_again(alloc: Global, text: &str, fields: &[Field]) -> Result<String, 
     }
 }
 
-/// Whether an ask is read, and written again as it was.
-fn is_written_again(alloc: Global, text: &str, fields: &[Field]) -> Result<bool, AllocError> {
-    let again = written_again(alloc, text, fields)?;
-    Ok(again.as_str() == text)
-}
-
-#[test]
-fn what_is_asked_is_read_and_printed_again(rt: HostRuntime) -> Result<(), Fail> {
+fn compare_asks(rt: &HostRuntime, tally: &mut Tally) -> io::Result<()> {
     let fields = two_fields(rt.alloc(), ValueType::Long)?;
     let rows = [
         "and:dot(\"a:\":-2147483648,\"\":0)",
@@ -188,8 +169,16 @@ fn what_is_asked_is_read_and_printed_again(rt: HostRuntime) -> Result<(), Fail> 
         "or(and:\"a\"*,and(>5,[;]))",
     ];
     for text in &rows {
-        let is_right = is_written_again(rt.alloc(), text, fields.as_slice())?;
-        assert!(rt; is_right, "{text}");
+        let again = written_again(rt.alloc(), text, fields.as_slice())?;
+        tally.note(rt, "an ask that is read and written again", &again, text)?;
     }
     Ok(())
+}
+
+pub fn compare(rt: &HostRuntime) -> io::Result<()> {
+    let mut tally = Tally::default();
+    compare_longs(rt, &mut tally)?;
+    compare_texts(rt, &mut tally)?;
+    compare_asks(rt, &mut tally)?;
+    tally.print(rt, "queries printed and read back")
 }

@@ -1,4 +1,4 @@
-//! Rows of standard input: `words LINE`, `ask QUERY`, `query QUERY` without dot products, `takes QUERY`, or
+//! Rows: `words LINE`, `ask QUERY`, `query QUERY` without dot products, `takes QUERY`, or
 //! `many COUNT FRONT MIDDLE BACK`, and then `said LINE`, what it must be read as. `on LINE` gives the words that name the attributes
 //! of the rows after it. Other lines are remarks.
 use crate::{asks, words};
@@ -26,16 +26,16 @@ fn told(
 
 /// The attributes of the rows, the last row, and those before it.
 #[derive(Drop)]
-struct Rows {
+pub struct WordRows {
     fields: Fields,
     case: String,
     found: String,
-    tally: Tally,
+    pub tally: Tally,
 }
 
-impl Rows {
-    fn new(alloc: Global) -> Rows {
-        Rows {
+impl WordRows {
+    pub fn new(alloc: Global) -> WordRows {
+        WordRows {
             fields: Fields::new(alloc),
             case: String::new(alloc),
             found: String::new(alloc),
@@ -51,7 +51,7 @@ impl Rows {
         Ok(())
     }
 
-    fn take(&mut self, rt: &HostRuntime, line: &str) -> io::Result<()> {
+    pub fn take(&mut self, rt: &HostRuntime, line: &str) -> io::Result<()> {
         let alloc = rt.alloc();
         let (kind, row) = line.split_once(' ').unwrap_or((line, ""));
         match kind {
@@ -61,12 +61,4 @@ impl Rows {
         }
         Ok(())
     }
-}
-
-pub fn compare(rt: &HostRuntime) -> io::Result<()> {
-    let mut rows = Rows::new(rt.alloc());
-    for line in rt.lines(rt.alloc()) {
-        rows.take(rt, line?.as_str())?;
-    }
-    rows.tally.print(rt, "rows")
 }

@@ -1,10 +1,10 @@
 //! Operations and queries on one attribute, as the rows of tests name them.
 use attr_types::{
     Act, Change, Doc, Field, FieldChanges, FieldItems, Fields, Item, Items, Kind, Leaf, Name, Op,
-    Text, Value, ValueType, Values, WeightAct,
+    Value, ValueType, Values, WeightAct,
 };
 use std::alloc::{AllocError, Global};
-use std::process::Abort;
+use test_kit::text_of;
 
 /// An operation on a document: values by number, each with its weight.
 #[derive(Clone, Copy)]
@@ -48,120 +48,89 @@ fn word(number: i64) -> &'static str {
     }
 }
 
-pub fn text(rt: &impl Abort, alloc: Global, text: &str) -> Result<Text, AllocError> {
-    assert!(rt; text.len() <= Text::MAX_LEN);
-    Text::from_str(alloc, text)
-}
-
-pub fn doc(rt: &impl Abort, number: u32) -> Doc {
-    assert!(rt; 1 <= number && number <= Doc::LAST);
-    Doc::new(number)
+/// The document of a number, which is that of a row.
+pub fn doc(number: u32) -> Doc {
+    Doc::new(number.max(1).min(Doc::LAST))
 }
 
 /// The value of a number: itself, or its word.
-pub fn value(
-    rt: &impl Abort,
-    alloc: Global,
-    value_type: ValueType,
-    number: i64,
-) -> Result<Value, AllocError> {
+pub fn value(alloc: Global, value_type: ValueType, number: i64) -> Result<Value, AllocError> {
     Ok(match value_type {
         ValueType::Long => Value::Long(number),
-        ValueType::Text => Value::Text(text(rt, alloc, word(number))?),
+        ValueType::Text => Value::Text(text_of(alloc, word(number))?),
     })
 }
 
 pub fn items(
-    rt: &impl Abort,
     alloc: Global,
     value_type: ValueType,
     rows: &[(i64, i32)],
 ) -> Result<Items, AllocError> {
     let mut items = Items::new(alloc);
     for (number, weight) in rows {
-        let value = value(rt, alloc, value_type, *number)?;
+        let value = value(alloc, value_type, *number)?;
         let weight = *weight;
         items.push(Item { value, weight })?;
     }
     Ok(items)
 }
 
-fn fives(
-    rt: &impl Abort,
-    alloc: Global,
-    value_type: ValueType,
-    count: u32,
-) -> Result<Items, AllocError> {
+fn fives(alloc: Global, value_type: ValueType, count: u32) -> Result<Items, AllocError> {
     let mut items = Items::new(alloc);
     for _ in 0..count {
-        let value = value(rt, alloc, value_type, 5)?;
+        let value = value(alloc, value_type, 5)?;
         items.push(Item { value, weight: 1 })?;
     }
     Ok(items)
 }
 
-fn take(
-    rt: &impl Abort,
-    alloc: Global,
-    value_type: ValueType,
-    name: i64,
-) -> Result<Change, AllocError> {
-    let name = value(rt, alloc, value_type, name)?;
+fn take(alloc: Global, value_type: ValueType, name: i64) -> Result<Change, AllocError> {
+    let name = value(alloc, value_type, name)?;
     Ok(Change::Take(Values::of_one(alloc, name)?))
 }
 
 fn set_at(
-    rt: &impl Abort,
     alloc: Global,
     value_type: ValueType,
     index: u32,
     number: i64,
 ) -> Result<Change, AllocError> {
-    let act = Act::Set(value(rt, alloc, value_type, number)?);
+    let act = Act::Set(value(alloc, value_type, number)?);
     Ok(Change::At { index, act })
 }
 
 fn weigh(
-    rt: &impl Abort,
     alloc: Global,
     value_type: ValueType,
     name: i64,
     act: WeightAct,
 ) -> Result<Change, AllocError> {
-    let value = value(rt, alloc, value_type, name)?;
+    let value = value(alloc, value_type, name)?;
     Ok(Change::Of { value, act })
 }
 
 /// What an update does; a put or a remove is none.
-pub fn change(
-    rt: &impl Abort,
-    alloc: Global,
-    value_type: ValueType,
-    step: Step,
-) -> Result<Change, AllocError> {
+pub fn change(alloc: Global, value_type: ValueType, step: Step) -> Result<Change, AllocError> {
     match step {
         Step::Keep | Step::Put(_) | Step::PutFives(_) | Step::Remove => Ok(Change::Keep),
-        Step::Assign(rows) => Ok(Change::Assign(items(rt, alloc, value_type, rows)?)),
-        Step::Add(rows) => Ok(Change::Add(items(rt, alloc, value_type, rows)?)),
-        Step::Take(name) => take(rt, alloc, value_type, name),
+        Step::Assign(rows) => Ok(Change::Assign(items(alloc, value_type, rows)?)),
+        Step::Add(rows) => Ok(Change::Add(items(alloc, value_type, rows)?)),
+        Step::Take(name) => take(alloc, value_type, name),
         Step::Shift(amount) => Ok(Change::Shift(amount)),
-        Step::SetAt(index, number) => set_at(rt, alloc, value_type, index, number),
+        Step::SetAt(index, number) => set_at(alloc, value_type, index, number),
         Step::ShiftAt(index, amount) => Ok(Change::At {
             index,
             act: Act::Shift(amount),
         }),
-        Step::SetWeight(name, weight) => {
-            weigh(rt, alloc, value_type, name, WeightAct::Set(weight))
-        }
+        Step::SetWeight(name, weight) => { weigh(alloc, value_type, name, WeightAct::Set(weight)) }
         Step::ShiftWeight(name, amount) => {
-            weigh(rt, alloc, value_type, name, WeightAct::Shift(amount))
+            weigh(alloc, value_type, name, WeightAct::Shift(amount))
         }
     }
 }
 
 /// The operation on one attribute.
 pub fn op(
-    rt: &impl Abort,
     alloc: Global,
     value_type: ValueType,
     doc: Doc,
@@ -170,16 +139,16 @@ pub fn op(
 ) -> Result<Op, AllocError> {
     Ok(match step {
         Step::Put(rows) => {
-            let items = FieldItems::of_one(alloc, items(rt, alloc, value_type, rows)?)?;
+            let items = FieldItems::of_one(alloc, items(alloc, value_type, rows)?)?;
             Op::Put { doc, items }
         }
         Step::PutFives(count) => {
-            let items = FieldItems::of_one(alloc, fives(rt, alloc, value_type, count)?)?;
+            let items = FieldItems::of_one(alloc, fives(alloc, value_type, count)?)?;
             Op::Put { doc, items }
         }
         Step::Remove => Op::Remove { doc },
         step => {
-            let change = change(rt, alloc, value_type, step)?;
+            let change = change(alloc, value_type, step)?;
             let change = FieldChanges::of_one(alloc, change)?;
             Op::Update {
                 doc,
@@ -191,32 +160,26 @@ pub fn op(
 }
 
 fn bound(
-    rt: &impl Abort,
     alloc: Global,
     value_type: ValueType,
     number: Option<i64>,
 ) -> Result<Option<Value>, AllocError> {
     Ok(match number {
-        Some(number) => Some(value(rt, alloc, value_type, number)?),
+        Some(number) => Some(value(alloc, value_type, number)?),
         None => None,
     })
 }
 
-pub fn leaf(
-    rt: &impl Abort,
-    alloc: Global,
-    value_type: ValueType,
-    ask: Ask,
-) -> Result<Leaf, AllocError> {
+pub fn leaf(alloc: Global, value_type: ValueType, ask: Ask) -> Result<Leaf, AllocError> {
     Ok(match ask {
-        Ask::Is(number) => Leaf::Is(value(rt, alloc, value_type, number)?),
-        Ask::Prefix(number) => Leaf::Prefix(text(rt, alloc, word(number))?),
+        Ask::Is(number) => Leaf::Is(value(alloc, value_type, number)?),
+        Ask::Prefix(number) => Leaf::Prefix(text_of(alloc, word(number))?),
         Ask::Range(low, high) => Leaf::Range {
-            low: bound(rt, alloc, value_type, low)?,
-            high: bound(rt, alloc, value_type, high)?,
+            low: bound(alloc, value_type, low)?,
+            high: bound(alloc, value_type, high)?,
         },
-        Ask::Below(number) => Leaf::Below(value(rt, alloc, value_type, number)?),
-        Ask::Above(number) => Leaf::Above(value(rt, alloc, value_type, number)?),
+        Ask::Below(number) => Leaf::Below(value(alloc, value_type, number)?),
+        Ask::Above(number) => Leaf::Above(value(alloc, value_type, number)?),
     })
 }
 

@@ -1,3 +1,4 @@
+//! Sources and sinks: those that fail where they are told to, those in memory, and standard input and output.
 use attr_io::{
     FakeSink, FakeSource, Gate, NoGate, Point, ReadError, Sink, SliceSource, Source, StdSink,
     StdSource, VecSink, read_all, write_all, write_and_flush,
@@ -5,7 +6,7 @@ use attr_io::{
 use std::alloc::{AllocError, Global};
 use std::io;
 use std::io::{ErrorKind, Write};
-use std::test::Fail;
+use test_kit::Tally;
 
 /// Whether a source that gives at most so many bytes a call gives all five, or tells its fault at this call or the ninth.
 fn is_read(alloc: Global, step: usize, call: u64, all: bool) -> Result<bool, AllocError> {
@@ -17,8 +18,19 @@ fn is_read(alloc: Global, step: usize, call: u64, all: bool) -> Result<bool, All
     Ok(is_right && source.faults() == u64::from(!all))
 }
 
-#[test]
-fn a_fake_source_fails_at_the_calls_listed(rt: HostRuntime) -> Result<(), Fail> {
+fn compare_source(
+    rt: &HostRuntime,
+    tally: &mut Tally,
+    step: usize,
+    call: u64,
+    all: bool,
+) -> io::Result<()> {
+    let is_right = is_read(rt.alloc(), step, call, all)?;
+    let case = format!(in rt.alloc(); "a source of {step} bytes a call that fails at call {call}")?;
+    tally.judge(rt, &case, is_right)
+}
+
+fn compare_sources(rt: &HostRuntime, tally: &mut Tally) -> io::Result<()> {
     // the most that a call gives, the call that fails, whether all five bytes are read
     let rows = [
         (1, 1, false),
@@ -32,8 +44,7 @@ fn a_fake_source_fails_at_the_calls_listed(rt: HostRuntime) -> Result<(), Fail> 
         (9, 3, true),
     ];
     for (step, call, all) in rows {
-        let is_right = is_read(rt.alloc(), step, call, all)?;
-        assert!(rt; is_right, "at {step}, {call}");
+        compare_source(rt, tally, step, call, all)?;
     }
     Ok(())
 }
@@ -53,8 +64,22 @@ fn is_taken(
     Ok(is_right && failed == (taken.len() < line.len()))
 }
 
-#[test]
-fn a_fake_sink_fails_at_the_calls_listed_and_where_it_is_full(rt: HostRuntime) -> Result<(), Fail> {
+fn compare_sink(
+    rt: &HostRuntime,
+    tally: &mut Tally,
+    room: usize,
+    step: usize,
+    call: u64,
+    taken: &str,
+) -> io::Result<()> {
+    let is_right = is_taken(rt.alloc(), room, step, call, taken)?;
+    let case = format!(in rt.alloc();
+        "a sink of {room} bytes, {step} a call, that fails at call {call}"
+    )?;
+    tally.judge(rt, &case, is_right)
+}
+
+fn compare_sinks(rt: &HostRuntime, tally: &mut Tally) -> io::Result<()> {
     // its room, the most that a call takes, the call that fails, what is taken
     let rows = [
         (9, 1, 1, ""),
@@ -67,8 +92,7 @@ fn a_fake_sink_fails_at_the_calls_listed_and_where_it_is_full(rt: HostRuntime) -
         (0, 9, 9, ""),
     ];
     for (room, step, call, taken) in rows {
-        let is_right = is_taken(rt.alloc(), room, step, call, taken)?;
-        assert!(rt; is_right, "at {room}, {step}, {call}");
+        compare_sink(rt, tally, room, step, call, taken)?;
     }
     Ok(())
 }
@@ -78,15 +102,14 @@ fn takes(sink: &mut VecSink, piece: &[u8], wanted: Option<usize>) -> bool {
     !piece.is_empty() && sink.faults() == 0 && sink.write(piece).ok() == wanted
 }
 
-#[test]
-fn a_sink_in_memory_takes_what_fits(rt: HostRuntime) -> Result<(), Fail> {
-    let mut sink = VecSink::create(rt.alloc(), 7)?;
+/// Whether a sink in memory takes what fits, and then fails.
+fn is_filled(alloc: Global) -> Result<bool, AllocError> {
+    let mut sink = VecSink::create(alloc, 7)?;
     let first = takes(&mut sink, b"final", Some(5));
     let second = takes(&mut sink, b" at", Some(2));
     let third = takes(&mut sink, b"t", None);
-    assert!(rt; first && second && third);
-    assert!(rt; sink.taken() == b"final a".as_slice() && sink.faults() == 1);
-    Ok(())
+    let is_right = first && second && third;
+    Ok(is_right && sink.taken() == b"final a".as_slice() && sink.faults() == 1)
 }
 
 /// Whether bytes are read whole, or refused as more than the limit.
@@ -98,8 +121,7 @@ fn is_read_or_refused(alloc: Global, bytes: &[u8], limit: usize, fits: bool) -> 
     }
 }
 
-#[test]
-fn a_source_is_read_to_its_end_or_refused_past_the_limit(rt: HostRuntime) -> Result<(), Fail> {
+fn compare_limits(rt: &HostRuntime, tally: &mut Tally) -> io::Result<()> {
     // more than three of the pieces by which a source is read
     let bytes = vec![in rt.alloc(); 7u8; 200_000]?;
     for (limit, fits) in [
@@ -109,31 +131,13 @@ fn a_source_is_read_to_its_end_or_refused_past_the_limit(rt: HostRuntime) -> Res
         (usize::MAX, true),
     ] {
         let is_right = is_read_or_refused(rt.alloc(), &bytes, limit, fits);
-        assert!(rt; is_right, "at {limit}");
+        tally.judge(
+            rt,
+            "a source is read to its end, or refused past the limit",
+            is_right,
+        )?;
     }
     Ok(())
-}
-
-#[test]
-fn a_gate_that_does_nothing_returns() {
-    NoGate.pass(Point::Committed {
-        commit: 1,
-        operations: 1,
-    });
-}
-
-#[test]
-fn an_empty_standard_input_is_at_its_end(rt: HostRuntime) {
-    let mut source = StdSource::new(&rt);
-    let mut piece = [7u8; 4];
-    assert_eq!(rt; source.read(&mut piece), Ok(0));
-}
-
-#[test]
-fn standard_output_takes_a_short_line(rt: HostRuntime) {
-    let line = b"a short line\n";
-    let mut sink = StdSink::new(&rt);
-    assert_eq!(rt; sink.write(line), Ok(line.len()));
 }
 
 /// A writer that takes at most `most` bytes, and whose flush may fail.
@@ -156,10 +160,42 @@ impl Write for Pipe {
     }
 }
 
-#[test]
-fn a_write_that_takes_nothing_or_is_not_flushed_fails(rt: HostRuntime) {
+fn compare_pipes(rt: &HostRuntime, tally: &mut Tally) -> io::Result<()> {
     for (most, can_flush, want) in [(2, true, Some(2)), (0, true, None), (2, false, None)] {
         let answer = write_and_flush(&mut Pipe { most, can_flush }, b"line");
-        assert_eq!(rt; answer.ok(), want, "at {most}, {can_flush}");
+        let is_right = answer.ok() == want;
+        tally.judge(
+            rt,
+            "a write that takes nothing or is not flushed fails",
+            is_right,
+        )?;
     }
+    Ok(())
+}
+
+/// Standard input is at its end, and standard output takes a line.
+fn compare_standard(rt: &HostRuntime, tally: &mut Tally) -> io::Result<()> {
+    let mut piece = [7u8; 4];
+    let at_end = StdSource::new(rt).read(&mut piece) == Ok(0);
+    tally.judge(rt, "standard input is at its end", at_end)?;
+    let line = b"a short line\n";
+    let is_right = StdSink::new(rt).write(line) == Ok(line.len());
+    tally.judge(rt, "standard output takes a short line", is_right)
+}
+
+pub fn compare(rt: &HostRuntime) -> io::Result<()> {
+    let mut tally = Tally::default();
+    compare_sources(rt, &mut tally)?;
+    compare_sinks(rt, &mut tally)?;
+    let filled = is_filled(rt.alloc())?;
+    tally.judge(rt, "a sink in memory takes what fits", filled)?;
+    compare_limits(rt, &mut tally)?;
+    compare_pipes(rt, &mut tally)?;
+    compare_standard(rt, &mut tally)?;
+    // it does nothing, and returns
+    NoGate.pass(Point::Committed {
+        commit: 1,
+        operations: 1,
+    });
+    tally.print(rt, "sources and sinks")
 }

@@ -1,12 +1,13 @@
-use crate::build::{Step, doc, field, items, one_field, op, text};
+//! The order of values, lists that hold what was pushed, and which operations fit which attributes.
+use crate::build::{Step, doc, field, items, one_field, op};
 use attr_types::{
     Change, Doc, FieldChanges, FieldItems, Fields, Item, Items, Kind, Name, Op, Value, ValueType,
-    compare, fits,
+    compare as order_of, fits,
 };
 use std::alloc::{AllocError, Global};
 use std::cmp::Ordering;
-use std::process::Abort;
-use std::test::Fail;
+use std::io;
+use test_kit::{Tally, text_of};
 
 /// Whether a value is equal to its copy.
 fn is_its_copy(value: &Value) -> Result<bool, AllocError> {
@@ -14,22 +15,14 @@ fn is_its_copy(value: &Value) -> Result<bool, AllocError> {
     Ok(*value == copy)
 }
 
-fn check_order(
-    rt: &impl Abort,
-    alloc: Global,
-    a: &str,
-    b: &str,
-    wanted: Ordering,
-) -> Result<(), AllocError> {
-    let a = Value::Text(text(rt, alloc, a)?);
-    let b = Value::Text(text(rt, alloc, b)?);
-    let is_right = is_its_copy(&b)? && compare(&a, &b) == wanted && (a == b) == wanted.is_eq();
-    assert!(rt; is_right);
-    Ok(())
+/// Whether two texts have this order.
+fn is_order(alloc: Global, a: &str, b: &str, wanted: Ordering) -> Result<bool, AllocError> {
+    let a = Value::Text(text_of(alloc, a)?);
+    let b = Value::Text(text_of(alloc, b)?);
+    Ok(is_its_copy(&b)? && order_of(&a, &b) == wanted && (a == b) == wanted.is_eq())
 }
 
-#[test]
-fn values_have_an_order(rt: HostRuntime) -> Result<(), Fail> {
+fn compare_longs(rt: &HostRuntime, tally: &mut Tally) -> io::Result<()> {
     let longs = [
         (-1, 0, Ordering::Less),
         (7, 7, Ordering::Equal),
@@ -37,25 +30,25 @@ fn values_have_an_order(rt: HostRuntime) -> Result<(), Fail> {
         (i64::MIN, i64::MAX, Ordering::Less),
     ];
     for (a, b, wanted) in longs {
-        let found = compare(&Value::Long(a), &Value::Long(b));
-        assert!(rt; found == wanted);
-    }
-    let texts = [
-        ("", "t", Ordering::Less),
-        ("t", "tea", Ordering::Less),
-        ("tea", "ten", Ordering::Less),
-        ("ten", "ten", Ordering::Equal),
-        ("z", "é", Ordering::Less),
-    ];
-    for (a, b, wanted) in texts {
-        check_order(&rt, rt.alloc(), a, b, wanted)?;
+        let found = order_of(&Value::Long(a), &Value::Long(b));
+        tally.judge(rt, "the order of two longs", found == wanted)?;
     }
     Ok(())
 }
 
+fn compare_texts(rt: &HostRuntime, tally: &mut Tally) -> io::Result<()> {
+    let alloc = rt.alloc();
+    let case = "the order of two texts";
+    tally.judge(rt, case, is_order(alloc, "", "t", Ordering::Less)?)?;
+    tally.judge(rt, case, is_order(alloc, "t", "tea", Ordering::Less)?)?;
+    tally.judge(rt, case, is_order(alloc, "tea", "ten", Ordering::Less)?)?;
+    tally.judge(rt, case, is_order(alloc, "ten", "ten", Ordering::Equal)?)?;
+    tally.judge(rt, case, is_order(alloc, "z", "é", Ordering::Less)?)
+}
+
 /// Whether a copy of items holds these numbers with their weights.
-fn is_copied(rt: &impl Abort, alloc: Global, numbers: &[(i64, i32)]) -> Result<bool, AllocError> {
-    let copy = items(rt, alloc, ValueType::Long, numbers)?.clone()?;
+fn is_copied(alloc: Global, numbers: &[(i64, i32)]) -> Result<bool, AllocError> {
+    let copy = items(alloc, ValueType::Long, numbers)?.clone()?;
     Ok(copy.is_empty() == numbers.is_empty() && are_numbers(copy.as_slice(), numbers))
 }
 
@@ -68,16 +61,19 @@ fn are_numbers(items: &[Item], numbers: &[(i64, i32)]) -> bool {
     items.len() == numbers.len()
 }
 
-#[test]
-fn a_list_holds_what_was_pushed(rt: HostRuntime) -> Result<(), Fail> {
-    let alloc = rt.alloc();
-    let is_right = is_copied(&rt, alloc, &[(5, 1), (7, -2), (9, 3)])?;
-    assert!(rt; is_right);
-    let empty = is_copied(&rt, alloc, &[])? && Items::new(alloc).is_empty();
-    assert!(rt; empty);
+/// Whether a copy of a name is the name.
+fn is_name_copied(alloc: Global) -> Result<bool, AllocError> {
     let name = Name::from_str(alloc, "fé")?.clone()?;
-    assert!(rt; name.as_str() == "fé");
-    Ok(())
+    Ok(name.as_str() == "fé")
+}
+
+fn compare_lists(rt: &HostRuntime, tally: &mut Tally) -> io::Result<()> {
+    let alloc = rt.alloc();
+    let is_right = is_copied(alloc, &[(5, 1), (7, -2), (9, 3)])?;
+    tally.judge(rt, "items hold what was pushed", is_right)?;
+    let is_right = is_copied(alloc, &[])? && Items::new(alloc).is_empty();
+    tally.judge(rt, "no items", is_right)?;
+    tally.judge(rt, "a name", is_name_copied(alloc)?)
 }
 
 /// Whether each operation fits an attribute of each kind, of whole numbers and then of texts.
@@ -154,13 +150,12 @@ fn fitting() -> [(Step, [bool; 3], [bool; 3]); 18] {
 
 /// Whether an operation fits an attribute of each kind as is told.
 fn fits_as(
-    rt: &impl Abort,
     alloc: Global,
     value_type: ValueType,
     step: Step,
     wanted: [bool; 3],
 ) -> Result<bool, AllocError> {
-    let op = op(rt, alloc, value_type, doc(rt, Doc::LAST), false, step)?;
+    let op = op(alloc, value_type, doc(Doc::LAST), false, step)?;
     let single = fits_in(alloc, Kind::Single, value_type, &op)?;
     let array = fits_in(alloc, Kind::Array, value_type, &op)?;
     let set = fits_in(alloc, Kind::WeightedSet, value_type, &op)?;
@@ -172,41 +167,50 @@ fn fits_in(alloc: Global, kind: Kind, value: ValueType, op: &Op) -> Result<bool,
     Ok(fits(&fields, op))
 }
 
-#[test]
-fn an_operation_fits_by_kind_and_value_type(rt: HostRuntime) -> Result<(), Fail> {
+fn compare_fit(
+    rt: &HostRuntime,
+    tally: &mut Tally,
+    row: u32,
+    step: Step,
+    of_longs: [bool; 3],
+    of_texts: [bool; 3],
+) -> io::Result<()> {
+    let longs = fits_as(rt.alloc(), ValueType::Long, step, of_longs)?;
+    let texts = fits_as(rt.alloc(), ValueType::Text, step, of_texts)?;
+    let case = format!(in rt.alloc(); "operation {row} fits by kind and value type")?;
+    tally.judge(rt, &case, longs && texts)
+}
+
+fn compare_fits(rt: &HostRuntime, tally: &mut Tally) -> io::Result<()> {
     let mut row = 0u32;
     for (step, of_longs, of_texts) in fitting() {
-        let longs = fits_as(&rt, rt.alloc(), ValueType::Long, step, of_longs)?;
-        let texts = fits_as(&rt, rt.alloc(), ValueType::Text, step, of_texts)?;
-        assert!(rt; longs && texts, "row {row}");
+        compare_fit(rt, tally, row, step, of_longs, of_texts)?;
         row = row.saturating_add(1);
     }
     Ok(())
 }
 
 /// Whether no operation with values of the other type fits.
-fn fits_none(rt: &impl Abort, alloc: Global, kind: Kind, step: Step) -> Result<bool, AllocError> {
-    let numbers = op(rt, alloc, ValueType::Long, doc(rt, 1), true, step)?;
-    let words = op(rt, alloc, ValueType::Text, doc(rt, 1), true, step)?;
+fn fits_none(alloc: Global, kind: Kind, step: Step) -> Result<bool, AllocError> {
+    let numbers = op(alloc, ValueType::Long, doc(1), true, step)?;
+    let words = op(alloc, ValueType::Text, doc(1), true, step)?;
     let fits_texts = fits_in(alloc, kind, ValueType::Text, &numbers)?;
     let fits_longs = fits_in(alloc, kind, ValueType::Long, &words)?;
     Ok(!fits_texts && !fits_longs)
 }
 
-fn check_type(rt: &impl Abort, alloc: Global, kind: Kind, step: Step) -> Result<(), AllocError> {
-    let is_right = fits_none(rt, alloc, kind, step)?;
-    assert!(rt; is_right);
-    Ok(())
-}
-
-#[test]
-fn values_are_of_the_attributes_type(rt: HostRuntime) -> Result<(), Fail> {
-    let alloc = rt.alloc();
-    check_type(&rt, alloc, Kind::Single, Step::Put(&[(5, 1)]))?;
-    check_type(&rt, alloc, Kind::WeightedSet, Step::Add(&[(5, 1)]))?;
-    check_type(&rt, alloc, Kind::WeightedSet, Step::Take(5))?;
-    check_type(&rt, alloc, Kind::Array, Step::SetAt(0, 5))?;
-    check_type(&rt, alloc, Kind::WeightedSet, Step::SetWeight(5, 7))?;
+fn compare_types(rt: &HostRuntime, tally: &mut Tally) -> io::Result<()> {
+    let rows = [
+        (Kind::Single, Step::Put(&[(5, 1)])),
+        (Kind::WeightedSet, Step::Add(&[(5, 1)])),
+        (Kind::WeightedSet, Step::Take(5)),
+        (Kind::Array, Step::SetAt(0, 5)),
+        (Kind::WeightedSet, Step::SetWeight(5, 7)),
+    ];
+    for (kind, step) in rows {
+        let is_right = fits_none(rt.alloc(), kind, step)?;
+        tally.judge(rt, "values are of the attribute's type", is_right)?;
+    }
     Ok(())
 }
 
@@ -228,13 +232,8 @@ fn keeps(alloc: Global, count: u32) -> Result<FieldChanges, AllocError> {
 }
 
 /// Whether a put of so many lists fits, if it fits as an update of so many changes does.
-fn fits_with(
-    rt: &impl Abort,
-    alloc: Global,
-    fields: &Fields,
-    count: u32,
-) -> Result<Option<bool>, AllocError> {
-    let doc = doc(rt, 1);
+fn fits_with(alloc: Global, fields: &Fields, count: u32) -> Result<Option<bool>, AllocError> {
+    let doc = doc(1);
     let items = lists(alloc, count)?;
     let puts = fits(fields, &Op::Put { doc, items });
     let create = true;
@@ -250,14 +249,29 @@ fn fits_with(
     Ok(if puts == updates { Some(puts) } else { None })
 }
 
-#[test]
-fn an_operation_fits_with_one_list_an_attribute(rt: HostRuntime) -> Result<(), Fail> {
-    let alloc = rt.alloc();
-    let mut fields = one_field(alloc, Kind::Single, ValueType::Long)?;
-    fields.push(field(alloc, "g", Kind::Array, ValueType::Long)?)?;
+fn compare_counts(rt: &HostRuntime, tally: &mut Tally, fields: &Fields) -> io::Result<()> {
     for (count, wanted) in [(0, false), (1, false), (2, true), (3, false)] {
-        let found = fits_with(&rt, alloc, &fields, count)?;
-        assert!(rt; found == Some(wanted), "{count} lists");
+        let found = fits_with(rt.alloc(), fields, count)?;
+        tally.judge(rt, "one list an attribute", found == Some(wanted))?;
     }
     Ok(())
+}
+
+/// Two attributes.
+fn two_fields(alloc: Global) -> Result<Fields, AllocError> {
+    let mut fields = one_field(alloc, Kind::Single, ValueType::Long)?;
+    fields.push(field(alloc, "g", Kind::Array, ValueType::Long)?)?;
+    Ok(fields)
+}
+
+pub fn compare(rt: &HostRuntime) -> io::Result<()> {
+    let mut tally = Tally::default();
+    compare_longs(rt, &mut tally)?;
+    compare_texts(rt, &mut tally)?;
+    compare_lists(rt, &mut tally)?;
+    compare_fits(rt, &mut tally)?;
+    compare_types(rt, &mut tally)?;
+    let fields = two_fields(rt.alloc())?;
+    compare_counts(rt, &mut tally, &fields)?;
+    tally.print(rt, "values and operations")
 }
