@@ -6,7 +6,7 @@ use Rattle.tree_read.proofs.PlaceLemmas.{leads-root, step-room, step-size}
 use Rattle.attr_images.specs.Postings.{tree, IsPostingList}
 
 root_some : (m : Records) (root : ℕ) → IsPostingList m (tree root) → 0 < root
-root_some m zero list = absurd (omega (arith, list.1.0))
+root_some m zero list = absurd (omega (arith, list.1))
 root_some m (suc root) list = omega arith
 
 pub root_form : (m : Records) (root : ℕ) → IsPostingList m (tree root) → (length (m root) ≡ 34) × (used_of (m root) ≤ 16)

@@ -11,12 +11,14 @@ use Rattle.query_eval.proofs.marks.marks_of_tree.Goals as goal
 pub take_keys-requires : goal.take_keys-requires
 take_keys-requires g c =
     let root = c.args.root in
-    let same = sym (c.total.ensures.same ∙ c.last_key.ensures.same) in
-    (omega arith, (
-      subst (λ (f : g.row.F.Denot). 0 < root → IsRootNode (g.F.Frozen.records f) root) same c.requires.form.0.node,
-      subst (λ (f : g.row.F.Denot). AllByRecursion (λ p. IsDocNumber p.0) (tree_pairs (g.F.Frozen.records f) root)) same
-          (tree_documents (tree_pairs (g.F.Frozen.records c.args.frozen.now) root) c.requires.documents),
-    ))
+    let same = sym (c.total.ensures.same ∙ c.last_key.ensures.same) in (
+      omega arith,
+      (
+        subst (λ (f : g.row.F.Denot). 0 < root → IsRootNode (g.F.Frozen.records f) root) same c.requires.form.0.node,
+        subst (λ (f : g.row.F.Denot). AllByRecursion (λ p. IsDocNumber p.0) (tree_pairs (g.F.Frozen.records f) root)) same
+            (tree_documents (tree_pairs (g.F.Frozen.records c.args.frozen.now) root) c.requires.documents),
+      ),
+    )
 
 pub returns-then-marked-clause-marks : goal.returns-then-marked-clause-marks
 returns-then-marked-clause-marks g c = λ doc.
