@@ -1,0 +1,21 @@
+//! The engine, for C: one writer, and readers in threads of C's own. `include/attr.h` is what C sees of it.
+#![tactic(auto)]
+
+mod answer;
+mod asking;
+mod attributes;
+mod codes;
+mod commit_exports;
+mod feeding;
+mod guarding;
+mod handles;
+mod loose;
+mod messages;
+mod open_exports;
+mod opening;
+mod raw;
+mod read_exports;
+mod split;
+mod state;
+mod told;
+mod writing;

@@ -1,0 +1,77 @@
+//! What the handles hold.
+ghost use Rattle.std.specs.Prelude.{◌≡◌, ◌≤◌, length};
+ghost use Rattle.attr_images.specs.Shapes.{shape_of, types_of};
+ghost use Rattle.attr_types.specs.declared.field.TheConstants.{MOST_FIELDS};
+ghost use Rattle.word_arena.specs.Ruled.{reader_of};
+
+use crate::answer::Answer;
+use crate::told::Sizes;
+use attr_images::AttrLayout;
+use attr_types::Fields;
+use attribute_kinds::Attribute;
+use entry_store::EntryStore;
+use word_arena::{Reader, Writer};
+
+/// Attributes over running memory that is never given up.
+pub type Running<const OFFSET_BITS: u32> =
+    Attribute<OFFSET_BITS, EntryStore<OFFSET_BITS, Writer<'static, OFFSET_BITS, AttrLayout>>>;
+
+/// A reader with the attributes that it is asked of.
+#[derive(Drop)]
+pub struct Waiting<const OFFSET_BITS: u32> {
+    pub fields: Fields,
+    pub reader: Reader<'static, OFFSET_BITS, AttrLayout>,
+    ghost few: { length fields ≤ MOST_FIELDS },
+    ghost shaped: { (reader_of reader.place.me.0).sizes.shape ≡ shape_of (types_of fields) },
+}
+
+/// Counts for a monitor.
+#[derive(Clone, Copy, Drop)]
+pub struct Counts {
+    pub sizes: Sizes,
+    pub skipped: u64,
+    pub commit: u32,
+    pub committed: u32,
+    /// The commit that was the last one when each hold became the newest.
+    pub since: [u32; 16],
+    pub oldest: u32,
+    pub is_held: u32,
+    pub active: u32,
+    pub held: u32,
+}
+
+/// The attributes, and the readers that are still to be given away.
+#[derive(Drop)]
+pub struct Open<const OFFSET_BITS: u32> {
+    pub fields: Fields,
+    pub attribute: Running<OFFSET_BITS>,
+    pub pool: Vec<Waiting<OFFSET_BITS>>,
+    pub counts: Counts,
+    ghost same: { attribute.fields ≡ fields },
+}
+
+/// By how many bits a reference tells the words of a buffer apart.
+#[derive(Drop)]
+pub enum AnyOpen {
+    Narrow(Open<22>),
+    Wide(Open<19>),
+}
+
+#[derive(Drop)]
+pub enum AnyReader {
+    Narrow(Waiting<22>),
+    Wide(Waiting<19>),
+}
+
+/// What the writer's handle holds.
+#[derive(Drop)]
+pub struct Engine {
+    pub open: AnyOpen,
+}
+
+/// What a reader's handle holds: the reader, and its last answer.
+#[derive(Drop)]
+pub struct Seat {
+    pub reader: Option<AnyReader>,
+    pub answer: Answer,
+}

@@ -1,0 +1,68 @@
+//! What calls tell beside their codes.
+
+/// How large a new engine is.
+#[repr(C)]
+#[derive(Clone, Copy, Drop)]
+pub struct Sizes {
+    /// How many buffers the words lie in.
+    pub buffers: u32,
+    /// How many words a buffer has.
+    pub words: u32,
+    /// How many readers are made, 64 at most.
+    pub readers: u32,
+    /// 1 for references of 19 and 13 bits in place of 22 and 10.
+    pub wide: u32,
+}
+
+/// What the calls of the writer tell.
+#[repr(C)]
+#[derive(Clone, Copy, Drop)]
+pub struct Told {
+    /// How many operations the call applied, the skipped ones counted.
+    pub operations: u32,
+    /// How many of these changed nothing.
+    pub skipped: u32,
+    /// The number of the line that the call came to, from 1.
+    pub line: u32,
+    /// The number of the last commit.
+    pub commit: u32,
+    /// Where that line begins, and where the next one does.
+    pub place: u64,
+    pub next: u64,
+    /// A full store: for which width, and how many buffers are in use and wait for readers.
+    pub width: u32,
+    pub active: u32,
+    pub held: u32,
+    /// The commit since which the reader that holds most may stand, and whether there is such a reader.
+    pub oldest: u32,
+    pub is_held: u32,
+    /// A step of a compaction: how many keys it visited, whether it emptied a buffer, and which.
+    pub keys: u32,
+    pub finished: u32,
+    pub buffer: u32,
+}
+
+/// What the calls of a reader tell.
+#[repr(C)]
+#[derive(Clone, Copy, Drop)]
+pub struct Answered {
+    /// The commit that answered.
+    pub commit: u32,
+    /// How many operations it has.
+    pub operations: u32,
+    /// How many documents, items or bytes the answer has.
+    pub count: u64,
+    /// Where a text that asks for nothing breaks off.
+    pub place: u64,
+}
+
+/// A document with its score.
+#[repr(C)]
+#[derive(Clone, Copy, Drop)]
+pub struct Scored {
+    /// The score, or the nearest number of 64 bits where it is larger.
+    pub score: i64,
+    pub doc: u32,
+    /// 1 where the score is exact.
+    pub exact: u32,
+}
