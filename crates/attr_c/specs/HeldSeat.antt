@@ -2,10 +2,10 @@
 use base.Fml.{Fml}
 use denote.Ref.{MutBor}
 use denote.Follow.{follows}
-use Rattle.attr_c.specs.declared.state.Seat.{Seat}
+use Rattle.attr_c.specs.declared.seat.Seat.{Seat}
 use Rattle.attr_c.specs.declared.handles.HeldSeat.{HeldSeat}
 use Rattle.attr_c.specs.contracts.handles.HeldSeat.{the_row as held_row}
-use Rattle.attr_c.specs.contracts.state.Seat.{the_row as engine_row}
+use Rattle.attr_c.specs.contracts.seat.Seat.{the_row as engine_row}
 
 abbrev pub with_value : HeldSeat → Seat → HeldSeat
 with_value h x = record h { value = x }

@@ -1,20 +1,16 @@
-//! One answer of a reader.
-ghost use Rattle.std.specs.Prelude.{◌≡◌, ◌≤◌, ◌<◌, ◌^◌, length, IfOk};
-ghost use Rattle.attr_images.specs.Images.{operations_at, table_of, IsLawfulImage};
-ghost use Rattle.attr_images.specs.Shapes.{shape_of, types_of};
-ghost use Rattle.attr_types.specs.declared.field.TheConstants.{MOST_FIELDS};
+//! What a reader is asked, at the commit of its guard.
+ghost use Rattle.std.specs.Prelude.{◌≡◌, ◌<◌, ◌^◌, length};
 
 use crate::answer::Answer;
-use crate::codes::{MEMORY, NO_FIELD, OUT_OF_RANGE, SYNTAX, TOO_DEEP, WRONG_TYPE};
-use crate::guarding::guarded;
-use crate::state::{AnyReader, Waiting};
+use crate::codes::{
+    BOUNDS, MEMORY, NO_DOCUMENT, NO_FIELD, OUT_OF_RANGE, SYNTAX, TOO_DEEP, WRONG_TYPE,
+};
+use crate::kept::Kept;
+use crate::seat::AnyKept;
 use crate::told::Answered;
-use arena_api::Frozen;
-use attr_types::{Ask, Fields, QueryError};
-use entry_ref::EntryRef;
-use query_eval::{hits, scores};
+use attr_types::{Ask, Doc, Fields, Items, QueryError};
 use query_text::parse_ask;
-use std::alloc::{AllocError, Global};
+use std::alloc::Global;
 
 fn code_of(error: QueryError, told: &mut Answered) -> i32 {
     match error {
@@ -43,96 +39,103 @@ fn ask_in(alloc: Global, text: &str, fields: &Fields, told: &mut Answered) -> Re
     }
 }
 
-/// How many operations an image has.
-fn operations_in<const OFFSET_BITS: u32, F: Frozen<OFFSET_BITS>>(
-    frozen: &mut F,
-    root: EntryRef<OFFSET_BITS>,
-) -> u32
-    requires image { IsLawfulImage (F.shape frozen.old) (F.records frozen.old) root }
-    ensures count { result ≡ operations_at (F.records frozen.old) root.entry }
-    ensures same { frozen.new ≡ frozen.old }
-{
-    if root.valid() {
-        frozen.word(root, 0) as u32
-    } else {
-        0
-    }
+/// Which commit answers.
+fn tell_commit<const OFFSET_BITS: u32>(kept: &mut Kept<OFFSET_BITS>, told: &mut Answered) {
+    told.commit = kept.commit();
+    told.operations = kept.operations();
 }
 
-/// What an image answers.
-fn answer_at<const OFFSET_BITS: u32, F: Frozen<OFFSET_BITS>>(
+/// The answer to a text, or the code of its refusal.
+fn answer_of<const OFFSET_BITS: u32>(
     alloc: Global,
-    frozen: &mut F,
-    root: EntryRef<OFFSET_BITS>,
-    fields: &Fields,
-    ask: &Ask,
-) -> Result<Answer, AllocError>
-    requires few { length fields.now ≤ MOST_FIELDS }
-    requires shape { F.shape frozen.old ≡ shape_of (types_of fields.now) }
-    requires image { IsLawfulImage (F.shape frozen.old) (F.records frozen.old) root }
-    ensures same { frozen.new ≡ frozen.old }
-{
-    match ask {
-        Ask::Hits(query) => Ok(Answer::Hits(hits(alloc, frozen, root, fields, query)?)),
-        Ask::Dot { field, parts } => Ok(Answer::Scores(scores(
-            alloc, frozen, root, fields, *field, parts,
-        )?)),
-    }
-}
-
-/// An answer by one guard.
-fn answered<const OFFSET_BITS: u32>(
-    alloc: Global,
-    waiting: Waiting<OFFSET_BITS>,
-    ask: &Ask,
-    told: &mut Answered,
-) -> (Waiting<OFFSET_BITS>, Result<Answer, AllocError>) {
-    let Waiting { fields, reader } = waiting;
-    let mut guard = guarded(reader);
-    let root = guard.root();
-    told.commit = guard.commit();
-    told.operations = operations_in(&mut guard, root);
-    let answer = answer_at(alloc, &mut guard, root, &fields, ask);
-    let reader = guard.release();
-    (Waiting { fields, reader }, answer)
-}
-
-/// What a text asks for, answered by one guard; or the code of its refusal.
-fn asked<const OFFSET_BITS: u32>(
-    alloc: Global,
-    waiting: Waiting<OFFSET_BITS>,
+    kept: &mut Kept<OFFSET_BITS>,
     text: &str,
     told: &mut Answered,
-) -> (Waiting<OFFSET_BITS>, Result<Answer, i32>) {
-    let ask = match ask_in(alloc, text, &waiting.fields, told) {
-        Ok(ask) => ask,
-        Err(code) => return (waiting, Err(code)),
-    };
-    let (waiting, answer) = answered(alloc, waiting, &ask, told);
-    match answer {
+) -> Result<Answer, i32> {
+    let ask = ask_in(alloc, text, kept.fields(), told)?;
+    tell_commit(kept, told);
+    match kept.answer(alloc, &ask) {
         Ok(answer) => {
             told.count = answer.len() as u64;
-            (waiting, Ok(answer))
+            Ok(answer)
         }
-        Err(_) => (waiting, Err(MEMORY)),
+        Err(_) => Err(MEMORY),
     }
 }
 
-/// The same of a reader of either width.
-pub fn ask_any(
+/// The items of a document, or the code of a refusal.
+fn items_of<const OFFSET_BITS: u32>(
     alloc: Global,
-    reader: AnyReader,
+    kept: &mut Kept<OFFSET_BITS>,
+    doc: u32,
+    field: u32,
+    told: &mut Answered,
+) -> Result<Items, i32> {
+    if field as usize >= kept.fields().len() || doc < 1 || doc > Doc::LAST {
+        return Err(BOUNDS);
+    }
+    tell_commit(kept, told);
+    match kept.items(alloc, field, Doc::new(doc)) {
+        Ok(Some(items)) => {
+            told.count = items.len() as u64;
+            Ok(items)
+        }
+        Ok(None) => Err(NO_DOCUMENT),
+        Err(_) => Err(MEMORY),
+    }
+}
+
+/// The bytes of a save, or the code of a refusal.
+fn save_of<const OFFSET_BITS: u32>(
+    alloc: Global,
+    kept: &mut Kept<OFFSET_BITS>,
+    told: &mut Answered,
+) -> Result<Vec<u8>, i32> {
+    tell_commit(kept, told);
+    match kept.saved(alloc) {
+        Ok(bytes) => {
+            told.count = bytes.len() as u64;
+            Ok(bytes)
+        }
+        Err(_) => Err(MEMORY),
+    }
+}
+
+pub fn tell_any(kept: &mut AnyKept, told: &mut Answered) {
+    match kept {
+        AnyKept::Narrow(kept) => tell_commit(kept, told),
+        AnyKept::Wide(kept) => tell_commit(kept, told),
+    }
+}
+
+pub fn answer_any(
+    alloc: Global,
+    kept: &mut AnyKept,
     text: &str,
     told: &mut Answered,
-) -> (AnyReader, Result<Answer, i32>) {
-    match reader {
-        AnyReader::Narrow(waiting) => {
-            let (waiting, answer) = asked(alloc, waiting, text, told);
-            (AnyReader::Narrow(waiting), answer)
-        }
-        AnyReader::Wide(waiting) => {
-            let (waiting, answer) = asked(alloc, waiting, text, told);
-            (AnyReader::Wide(waiting), answer)
-        }
+) -> Result<Answer, i32> {
+    match kept {
+        AnyKept::Narrow(kept) => answer_of(alloc, kept, text, told),
+        AnyKept::Wide(kept) => answer_of(alloc, kept, text, told),
+    }
+}
+
+pub fn items_any(
+    alloc: Global,
+    kept: &mut AnyKept,
+    doc: u32,
+    field: u32,
+    told: &mut Answered,
+) -> Result<Items, i32> {
+    match kept {
+        AnyKept::Narrow(kept) => items_of(alloc, kept, doc, field, told),
+        AnyKept::Wide(kept) => items_of(alloc, kept, doc, field, told),
+    }
+}
+
+pub fn save_any(alloc: Global, kept: &mut AnyKept, told: &mut Answered) -> Result<Vec<u8>, i32> {
+    match kept {
+        AnyKept::Narrow(kept) => save_of(alloc, kept, told),
+        AnyKept::Wide(kept) => save_of(alloc, kept, told),
     }
 }

@@ -30,7 +30,7 @@ fn code_of(error: FeedError) -> i32 {
 }
 
 /// Applies an operation.
-fn feed_operation<const OFFSET_BITS: u32>(
+pub fn feed_operation<const OFFSET_BITS: u32>(
     alloc: Global,
     open: &mut Open<OFFSET_BITS>,
     op: &Op,

@@ -1,10 +1,11 @@
 //! What a code means, in words.
 
 use crate::codes::{
-    ATTRIBUTES, BAD_ID, BAD_VALUE, BOUNDS, COMMITS_SPENT, FULL, LINE_TOO_LONG, LOST, MEMORY,
-    NO_FIELD, NO_OPERATION, NO_READER, NO_TEXT, NOT_JSON, OK, OPERATIONS_SPENT, OUT_OF_RANGE,
+    ATTRIBUTES, BAD_ID, BAD_SAVE, BAD_VALUE, BOUNDS, COMMITS_SPENT, FULL, LINE_TOO_LONG, LOST, MEMORY,
+    NO_DOCUMENT, NO_FIELD, NO_OPERATION, NO_READER, NO_TEXT, NOT_JSON, OK, OPERATIONS_SPENT, OTHER_SAVE, OUT_OF_RANGE,
     SYNTAX, TOO_DEEP, TOO_MANY_ITEMS, UNSUPPORTED, WRONG_TYPE,
 };
+use crate::copying::copy_bytes;
 
 fn call_message(code: i32) -> &'static str {
     match code {
@@ -14,7 +15,8 @@ fn call_message(code: i32) -> &'static str {
         ATTRIBUTES => "no attribute of the form name:kind:value",
         NO_TEXT => "the text is not UTF-8",
         NO_READER => "all readers are given away",
-        LOST => "the reader was lost",
+        LOST => "no such reader",
+        NO_DOCUMENT => "the document is not there",
         FULL => "the store is full",
         COMMITS_SPENT => "no commit is left",
         OPERATIONS_SPENT => "no operation is left",
@@ -42,6 +44,8 @@ fn line_message(code: i32) -> &'static str {
         UNSUPPORTED => "the line asks for what its attribute has not",
         TOO_MANY_ITEMS => "a document would have more than 1,023 items",
         LINE_TOO_LONG => "the line has more than 16,777,216 bytes",
+        BAD_SAVE => "the bytes are no save",
+        OTHER_SAVE => "the save is of another kind or value type, or there are several attributes",
         _ => "unknown code",
     }
 }
@@ -55,13 +59,6 @@ pub fn message_of(code: i32) -> &'static str {
     } else {
         line_message(code)
     }
-}
-
-/// Copies the front of a list of bytes, as far as there is room, and says how many that were.
-pub fn copy_bytes(from: &[u8], into: &mut [u8]) -> usize {
-    let count = into.len().min(from.len());
-    into[..count].copy_from_slice(&from[..count]);
-    count
 }
 
 /// Copies what a code means, and says how many bytes that are.

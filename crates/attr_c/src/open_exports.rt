@@ -1,43 +1,13 @@
 //! What C calls to open, to close, and to hand readers out.
-ghost use Rattle.std.specs.Prelude.{◌≤◌, ◌<◌, length};
-ghost use Rattle.attr_types.specs.declared.field.TheConstants.{MOST_FIELDS};
 
-use crate::answer::Answer;
 use crate::attributes::fields_in;
 use crate::codes::{BOUNDS, LOST, MEMORY, NO_READER, NO_TEXT, OK};
 use crate::handles::{HeldEngine, HeldSeat};
-use crate::opening::{may_cross, opened};
-use crate::state::{AnyOpen, AnyReader, Engine, Seat};
+use crate::opening::{may_cross, opened_in_bounds};
+use crate::seat::{Seat, reader_of};
+use crate::state::{AnyOpen, AnyReader, Engine};
 use crate::told::Sizes;
-use attr_types::Fields;
-use std::alloc::{AllocError, Global};
-
-/// A new memory of these sizes with attributes; none where the sizes are out of bounds.
-fn opened_in_bounds(
-    alloc: Global,
-    fields: Fields,
-    sizes: &Sizes,
-) -> Result<Option<AnyOpen>, AllocError>
-    requires some { 0 < length fields }
-    requires few { length fields ≤ MOST_FIELDS }
-{
-    if sizes.buffers < 1 || sizes.words < 8192 || sizes.words > 65536 || sizes.readers > 64 {
-        return Ok(None);
-    }
-    if u64::from(sizes.buffers) * u64::from(sizes.words) > 67_108_864 {
-        return Ok(None);
-    }
-    if sizes.wide == 0 {
-        if sizes.buffers > 1023 {
-            return Ok(None);
-        }
-        return Ok(Some(AnyOpen::Narrow(opened::<22>(alloc, fields, sizes)?)));
-    }
-    if sizes.buffers > 8191 {
-        return Ok(None);
-    }
-    Ok(Some(AnyOpen::Wide(opened::<19>(alloc, fields, sizes)?)))
-}
+use std::alloc::Global;
 
 /// An engine over a new memory, which has no document; or the code of a refusal.
 fn new_engine(
@@ -128,11 +98,7 @@ pub extern "C" fn attr_reader_open(alloc: Global, at: &mut HeldEngine, out: &mut
     let Some(reader) = next_reader(&mut engine.open) else {
         return NO_READER;
     };
-    let seat = Seat {
-        reader: Some(may_cross(reader)),
-        answer: Answer::new(alloc),
-    };
-    match Box::new(alloc, seat) {
+    match Box::new(alloc, may_cross(Seat::new(alloc, reader))) {
         Ok(seat) => {
             *out = Box::into_raw(seat).cast::<u8>();
             OK
@@ -141,10 +107,19 @@ pub extern "C" fn attr_reader_open(alloc: Global, at: &mut HeldEngine, out: &mut
     }
 }
 
+/// The reader of a handle, without a guard.
+fn reader_in(alloc: Global, at: HeldSeat) -> Option<AnyReader> {
+    let Seat { place, .. } = Box::into_inner(at.into_box(alloc));
+    match place {
+        Some(place) => Some(reader_of(place)),
+        None => None,
+    }
+}
+
 /// Takes a reader back, to be handed out again.
 #[unsafe(no_mangle)]
 pub extern "C" fn attr_reader_return(alloc: Global, at: &mut HeldEngine, seat: HeldSeat) -> i32 {
-    let Seat { reader, answer: _ } = Box::into_inner(seat.into_box(alloc));
+    let reader = reader_in(alloc, seat);
     let engine = at.get_mut();
     match reader {
         Some(reader) => put_back(&mut engine.open, reader),
@@ -155,5 +130,5 @@ pub extern "C" fn attr_reader_return(alloc: Global, at: &mut HeldEngine, seat: H
 /// Gives up a reader for good.
 #[unsafe(no_mangle)]
 pub extern "C" fn attr_reader_close(alloc: Global, at: HeldSeat) {
-    drop(at.into_box(alloc));
+    drop(reader_in(alloc, at));
 }

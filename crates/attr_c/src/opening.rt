@@ -1,13 +1,12 @@
 //! A new memory, which is never given up, its attributes, and its readers.
-ghost use Rattle.std.specs.Prelude.{◌≡◌, ◌≤◌, ◌<◌, ◌*◌, length, IfOk};
-ghost use Rattle.entry_ref.specs.References.{buffer_limit, offset_limit};
+ghost use Rattle.std.specs.Prelude.{◌≡◌, ◌≤◌, ◌<◌, ◌*◌, ◌^◌, length, IfOk};
 ghost use Rattle.attr_images.specs.Shapes.{shape_of, types_of};
 ghost use Rattle.attr_types.specs.declared.field.TheConstants.{MOST_FIELDS};
 ghost use Rattle.arena_api.specs.Calls.{IsFresh};
 ghost use Rattle.word_arena.specs.Knows.{view_of};
 ghost use Rattle.word_arena.specs.Ruled.{writer_of};
 
-use crate::state::{Counts, Open, Running, Waiting};
+use crate::state::{AnyOpen, Counts, Open, Running, Waiting};
 use crate::told::Sizes;
 use attr_images::{AttrLayout, shape_of};
 use attr_types::Fields;
@@ -78,34 +77,76 @@ fn no_counts(sizes: &Sizes) -> Counts {
     }
 }
 
-/// A new memory of these sizes, with attributes that have no document, and its readers.
-pub fn opened<const OFFSET_BITS: u32>(
-    alloc: Global,
-    fields: Fields,
-    sizes: &Sizes,
-) -> Result<Open<OFFSET_BITS>, AllocError>
-    requires some_fields { 0 < length fields }
-    requires few_fields { length fields ≤ MOST_FIELDS }
-    requires some_buffers { 1 ≤ sizes.now.buffers }
-    requires few_buffers { sizes.now.buffers < buffer_limit OFFSET_BITS }
-    requires some_words { 8192 ≤ sizes.now.words }
-    requires few_words { sizes.now.words ≤ 65536 }
-    requires offsets { sizes.now.words ≤ offset_limit OFFSET_BITS }
-    requires product { sizes.now.buffers * sizes.now.words ≤ 67108864 }
-    ensures fields { IfOk result (λ open. open.fields ≡ fields.entry) }
+fn config_of(fields: &Fields, sizes: &Sizes) -> Config
+    requires { length fields.now ≤ MOST_FIELDS }
+    ensures buffers { result.buffers ≡ sizes.now.buffers }
+    ensures words { result.words ≡ sizes.now.words }
+    ensures shape { result.shape ≡ shape_of (types_of fields.now) }
+    ensures generations { result.limits.generations < 2 ^ 48 }
 {
-    let config = Config {
+    Config {
         buffers: sizes.buffers,
         words: sizes.words,
-        shape: shape_of(&fields),
+        shape: shape_of(fields),
         limits: Limits {
             commits: 4_294_967_295,
             generations: 281_474_976_710_655,
         },
-    };
-    let (arena, token) = Arena::<OFFSET_BITS, AttrLayout>::create(alloc, config)?;
-    let kept: &'static Arena<OFFSET_BITS, AttrLayout> = Box::leak(Box::new(alloc, arena)?);
-    let mut writer = kept.writer(token);
+    }
+}
+
+/// The writer of a new memory that is never given up, with references of 22 and 10 bits.
+fn narrow_writer(
+    alloc: Global,
+    config: Config,
+) -> Result<Writer<'static, 22, AttrLayout>, AllocError>
+    requires some_buffers { 1 ≤ config.buffers }
+    requires few_buffers { config.buffers < 1024 }
+    requires some_words { 8192 ≤ config.words }
+    requires few_words { config.words ≤ 65536 }
+    requires product { config.buffers * config.words ≤ 67108864 }
+    requires generations { config.limits.generations < 2 ^ 48 }
+    ensures shape { IfOk result (λ w. (writer_of w.place.me.0).sizes.shape ≡ config.shape) }
+    ensures fresh { IfOk result (λ w. IsFresh (view_of w.place.table_id (writer_of w.place.me.0))) }
+{
+    let (arena, token) = Arena::<22, AttrLayout>::create(alloc, config)?;
+    let kept: &'static Arena<22, AttrLayout> = Box::leak(Box::new(alloc, arena)?);
+    Ok(kept.writer(token))
+}
+
+/// The same with references of 19 and 13 bits.
+fn wide_writer(
+    alloc: Global,
+    config: Config,
+) -> Result<Writer<'static, 19, AttrLayout>, AllocError>
+    requires some_buffers { 1 ≤ config.buffers }
+    requires few_buffers { config.buffers < 8192 }
+    requires some_words { 8192 ≤ config.words }
+    requires few_words { config.words ≤ 65536 }
+    requires product { config.buffers * config.words ≤ 67108864 }
+    requires generations { config.limits.generations < 2 ^ 48 }
+    ensures shape { IfOk result (λ w. (writer_of w.place.me.0).sizes.shape ≡ config.shape) }
+    ensures fresh { IfOk result (λ w. IsFresh (view_of w.place.table_id (writer_of w.place.me.0))) }
+{
+    let (arena, token) = Arena::<19, AttrLayout>::create(alloc, config)?;
+    let kept: &'static Arena<19, AttrLayout> = Box::leak(Box::new(alloc, arena)?);
+    Ok(kept.writer(token))
+}
+
+/// Attributes that have no document over a new memory, and its readers.
+fn opened<const OFFSET_BITS: u32>(
+    alloc: Global,
+    writer: Writer<'static, OFFSET_BITS, AttrLayout>,
+    fields: Fields,
+    sizes: &Sizes,
+) -> Result<Open<OFFSET_BITS>, AllocError>
+    requires some { 0 < length fields }
+    requires few { length fields ≤ MOST_FIELDS }
+    requires shape { (writer_of writer.place.me.0).sizes.shape ≡ shape_of (types_of fields) }
+    requires fresh { IsFresh (view_of writer.place.table_id (writer_of writer.place.me.0)) }
+    ensures { IfOk result (λ open. open.fields ≡ fields.entry) }
+{
+    let mut writer = writer;
     let pool = waiting(alloc, &mut writer, &fields, sizes.readers)?;
     let attribute = running(alloc, writer, &fields)?;
     Ok(Open {
@@ -114,4 +155,34 @@ pub fn opened<const OFFSET_BITS: u32>(
         pool,
         counts: no_counts(sizes),
     })
+}
+
+/// A new memory of these sizes with attributes that have no document, and its readers; none where the sizes are out of bounds.
+pub fn opened_in_bounds(
+    alloc: Global,
+    fields: Fields,
+    sizes: &Sizes,
+) -> Result<Option<AnyOpen>, AllocError>
+    requires some { 0 < length fields }
+    requires few { length fields ≤ MOST_FIELDS }
+{
+    if sizes.buffers < 1 || sizes.words < 8192 || sizes.words > 65536 || sizes.readers > 64 {
+        return Ok(None);
+    }
+    if u64::from(sizes.buffers) * u64::from(sizes.words) > 67_108_864 {
+        return Ok(None);
+    }
+    let config = config_of(&fields, sizes);
+    if sizes.wide == 0 {
+        if sizes.buffers > 1023 {
+            return Ok(None);
+        }
+        let writer = narrow_writer(alloc, config)?;
+        return Ok(Some(AnyOpen::Narrow(opened(alloc, writer, fields, sizes)?)));
+    }
+    if sizes.buffers > 8191 {
+        return Ok(None);
+    }
+    let writer = wide_writer(alloc, config)?;
+    Ok(Some(AnyOpen::Wide(opened(alloc, writer, fields, sizes)?)))
 }

@@ -6,7 +6,8 @@ ghost use Rattle.attr_c.specs.HeldSeat.{held_seat_follows};
 
 use crate::handles::{HeldEngine, HeldSeat};
 use crate::loose::Loose;
-use crate::state::{Engine, Seat};
+use crate::seat::Seat;
+use crate::state::Engine;
 use std::alloc::Global;
 
 impl HeldEngine {

@@ -4,7 +4,6 @@ ghost use Rattle.attr_images.specs.Shapes.{shape_of, types_of};
 ghost use Rattle.attr_types.specs.declared.field.TheConstants.{MOST_FIELDS};
 ghost use Rattle.word_arena.specs.Ruled.{reader_of};
 
-use crate::answer::Answer;
 use crate::told::Sizes;
 use attr_images::AttrLayout;
 use attr_types::Fields;
@@ -57,6 +56,7 @@ pub enum AnyOpen {
     Wide(Open<19>),
 }
 
+/// A reader of either width.
 #[derive(Drop)]
 pub enum AnyReader {
     Narrow(Waiting<22>),
@@ -67,11 +67,4 @@ pub enum AnyReader {
 #[derive(Drop)]
 pub struct Engine {
     pub open: AnyOpen,
-}
-
-/// What a reader's handle holds: the reader, and its last answer.
-#[derive(Drop)]
-pub struct Seat {
-    pub reader: Option<AnyReader>,
-    pub answer: Answer,
 }

@@ -66,3 +66,39 @@ pub struct Scored {
     /// 1 where the score is exact.
     pub exact: u32,
 }
+
+/// An item of a document.
+#[repr(C)]
+#[derive(Clone, Copy, Drop)]
+pub struct ItemTold {
+    /// The value, where it is a number.
+    pub number: i64,
+    /// How many bytes the value has, where it is a text.
+    pub length: u64,
+    pub weight: i32,
+    pub is_text: u32,
+}
+
+/// Numbers for a monitor.
+#[repr(C)]
+#[derive(Clone, Copy, Drop)]
+pub struct CountsTold {
+    /// How many operations changed nothing.
+    pub skipped: u64,
+    /// How many were applied, these counted.
+    pub operations: u32,
+    /// The last commit, and how many operations it has.
+    pub commit: u32,
+    pub committed: u32,
+    /// The commit since which the reader that holds most may stand, and whether there is such a reader, as of the last commit
+    /// or refusal.
+    pub oldest: u32,
+    pub is_held: u32,
+    /// How many buffers were in use and waited for readers when the store was full last.
+    pub active: u32,
+    pub held: u32,
+    pub buffers: u32,
+    pub words: u32,
+    /// How many readers are still to be handed out.
+    pub readers: u32,
+}

@@ -23,7 +23,7 @@ use denote.Signature.{plain, types_at}
 use denote.Steps.{nothing}
 use denote.Triple.Walked.{Stays, stay_dropped, walk_of, Goes-dropped}
 use Rattle.std.specs.Box.Ownership.{box_owns}
-use Rattle.libc.specs.Heap.{chunk}
+use Rattle.attr_c.specs.Heap.{token}
 use Rattle.std.specs.contracts.alloc.Global.{the_row as Z}
 use Rattle.std.specs.contracts.impls.GlobalAllocator.TheImpl.{ghosts}
 use Rattle.std.proofs.alloc.Global.TheLaws.{the_row_laws as LZ}
@@ -49,7 +49,7 @@ into_loose_spec 𝓤 𝓛 𝓜 𝓡 wired =
     let Post : Val → SProp 𝓤 = (walk_of 𝓛 f.ended stayed c).post z in let Run : List Val → SProp 𝓤 = λ ws. WpFn 𝓤 𝓛.H 𝓣.C 𝓣.Λ code.function ws Post in
     qed 𝓛 ((‵ ftrue ⊛ ‵ (owns (types_at f.ended.signature.params tt) z.0.3 z.0.4)) ∷ ‵ ftrue ∷ []) ∵ split ! $ drop ! $ fsplit !  $
     fsplit ! $ fpick ! (λ vss. fsplit ! $ feq_l ! (λ ev. fsplit ! $ feq_l ! (λ ep. drop ! $
-    in_a_block ! h.at (λ p. box_owns (λ ty ptr. chunk ty ptr) T p h.value) (fst∗ 𝓤 (never 𝓤) (sem 𝓛 (chunk (bare (lone T.mir)) null_ptr))) (λ b o e. move ! (1 ∷ []) $ fsplit ! $
+    in_a_block ! h.at (λ p. box_owns (token h.heap) T p h.value) (fst∗ 𝓤 (never 𝓤) (sem 𝓛 (token h.heap (bare (lone T.mir)) null_ptr))) (λ b o e. move ! (1 ∷ []) $ fsplit ! $
     handle_tells al ! a as' (λ hv ea fits.
     let w : Val = vstruct (vcons (vptr b o) vnil) in
     let ws : us ≡ w ∷ [] = subst (λ (p : Ptr). us ≡ vstruct (of_list (ptr_val p ∷ [])) ∷ []) e (subst (λ (ps : List Val). us ≡ vstruct (of_list (ps ++ [])) ∷ []) ep ev) in

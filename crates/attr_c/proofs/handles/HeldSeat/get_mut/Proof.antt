@@ -28,11 +28,11 @@ use denote.Signature.{plain, mut_ref_to}
 use denote.Steps.{nothing, opens, peeks}
 use denote.Triple.Walked.{says, Stays, stay_dropped, walk_of, ends_at, Goes-spent_ref}
 use Rattle.std.specs.Box.Ownership.{box_owns}
-use Rattle.libc.specs.Heap.{chunk}
+use Rattle.attr_c.specs.Heap.{token}
 use Rattle.attr_c.specs.HeldSeat.{with_value}
-use Rattle.attr_c.specs.declared.state.Seat.{Seat}
+use Rattle.attr_c.specs.declared.seat.Seat.{Seat}
 use Rattle.attr_c.specs.declared.handles.HeldSeat.{HeldSeat}
-use Rattle.attr_c.specs.contracts.state.Seat.{the_row as T}
+use Rattle.attr_c.specs.contracts.seat.Seat.{the_row as T}
 use Rattle.attr_c.specs.contracts.handles.HeldSeat.{the_row as R}
 use Rattle.attr_c.specs.contracts.handles.HeldSeat.{the_type}
 use Rattle.attr_c.specs.contracts.handles.HeldSeat.get_mut as f
@@ -53,13 +53,13 @@ module _ {M : Type 1} {𝓤 : Ura M} (𝓛 : Logic 𝓤) (at_mem : Memory → SP
 
   module _ (b o : ℕ) where
     abbrev Rest : Fml
-    Rest = fsep (fsep (chunk (bare (lone T.mir)) (block_ptr b o)) ((Struct (shape the_type)).own_val (h.at, tt) us)) (cell_at full_share R.mir us rb ro)
+    Rest = fsep (fsep (token h.heap (bare (lone T.mir)) (block_ptr b o)) ((Struct (shape the_type)).own_val (h.at, tt) us)) (cell_at full_share R.mir us rb ro)
 
     back : h.at ≡ block_ptr b o → (w : Seat) → ent 𝓤 (sep 𝓤 (sem 𝓛 ((mem T).own_at w b o)) (sem 𝓛 Rest)) (sem 𝓛 ((mem R).own_at (with_value h w) rb ro))
     unfolding part_of
     back e w =
         qed 𝓛 (‵ (part_at T full_share w b o) ∷ ‵ Rest ∷ []) ∵ move ! (1 ∷ []) $ fsplit ! $ fsplit ! $ move ! (3 ∷ 0 ∷ []) $ fjoin ! $
-        rewrite ! 0 (λ (p : Ptr). ‵ (box_owns (λ ty ptr. chunk ty ptr) T p w)) (sym e) refl $ move ! (1 ∷ 0 ∷ []) $ fjoin ! $ move ! (1 ∷ 0 ∷ []) $ fjoin ! $
+        rewrite ! 0 (λ (p : Ptr). ‵ (box_owns (token h.heap) T p w)) (sym e) refl $ move ! (1 ∷ 0 ∷ []) $ fjoin ! $ move ! (1 ∷ 0 ∷ []) $ fjoin ! $
         fpack ! (List Val) (λ us'. fsep (cell_at full_share R.mir us' rb ro) (R.own_val (with_value h w) us')) us $ done !
 
     exits : (γ' : GName)
@@ -83,7 +83,7 @@ get_mut_spec 𝓤 𝓛 𝓜 𝓡 wired =
     enter ! _ _ _ _ _ $ alloc_all ! (λ l. pass_all ! refl ((tt, tt), tt) $
     fsplit3 ! $ move ! (1 ∷ 2 ∷ 3 ∷ []) $ opens ! tt R b o (λ us.
     move ! (1 ∷ []) $ peeks ! R _ (shows 𝓛 R) h us (λ is. fsplit ! $ move ! (1 ∷ []) $
-    in_a_block ! h.at (λ p. box_owns (λ ty ptr. chunk ty ptr) T p h.value) (fst∗ 𝓤 (never 𝓤) (sem 𝓛 (chunk (bare (lone T.mir)) null_ptr))) (λ b' o' e. fsplit ! $
+    in_a_block ! h.at (λ p. box_owns (token h.heap) T p h.value) (fst∗ 𝓤 (never 𝓤) (sem 𝓛 (token h.heap (bare (lone T.mir)) null_ptr))) (λ b' o' e. fsplit ! $
     let word = lowers.val_is h us is ∙ ap (λ (p : Ptr). lowers.lowered (record h { at = p }) ∷ []) e in
     let Cell = λ (ws : List Val). ‵ (cell_at full_share R.mir ws b o) in
     rewrite ! 3 Cell word refl $
