@@ -15,9 +15,9 @@ class Sizes(ctypes.Structure):
 
 
 class Told(ctypes.Structure):
-    _fields_ = ([(name, ctypes.c_uint32) for name in ("operations", "skipped", "line", "commit")]
-                + [(name, ctypes.c_uint64) for name in ("place", "next")]
-                + [(name, ctypes.c_uint32) for name in ("width", "active", "held", "oldest", "is_held", "keys", "finished", "buffer")])
+    _fields_ = ([(name, ctypes.c_uint64) for name in ("line", "place", "next")]
+                + [(name, ctypes.c_uint32) for name in ("operations", "skipped", "commit", "width", "active", "held", "oldest", "is_held", "keys",
+                                                        "finished", "buffer")])
 
 
 class Answer(ctypes.Structure):

@@ -108,12 +108,12 @@ void attr_close(attr_engine engine);
 /* ---- writing: the calls of one thread ---- */
 
 struct attr_told {
-    uint32_t operations;    /* how many operations this call applied, the skipped ones counted; attr_commit: how many the commit has */
-    uint32_t skipped;       /* how many of these changed nothing */
-    uint32_t line;          /* attr_feed: the line that it came to, from 1 */
-    uint32_t commit;        /* attr_commit: its number, from 1 */
+    uint64_t line;          /* attr_feed: the line that is refused, from 1 */
     uint64_t place;         /* where that line begins; attr_load: the field of the save that is no good */
     uint64_t next;          /* where the line behind it begins */
+    uint32_t operations;    /* how many operations this call applied, the skipped ones counted; attr_commit: how many the commit has */
+    uint32_t skipped;       /* how many of these changed nothing */
+    uint32_t commit;        /* attr_commit: its number, from 1 */
     uint32_t width;         /* ATTR_FULL: the words of the entry for which there was no room */
     uint32_t active;        /* how many buffers are in use */
     uint32_t held;          /* how many wait until readers have left the commits that had them */

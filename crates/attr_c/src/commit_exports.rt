@@ -1,21 +1,23 @@
 //! What C calls with the writer's handle.
 
+use crate::codes::OK;
 use crate::feeding::feed;
 use crate::handles::HeldEngine;
 use crate::loading::load;
 use crate::state::{AnyOpen, Open};
+use crate::stop::{Stop, code_of};
 use crate::told::{CountsTold, Told};
 use crate::writing::{commit, compact};
 use std::alloc::Global;
 
 fn no_told() -> Told {
     Told {
-        operations: 0,
-        skipped: 0,
         line: 0,
-        commit: 0,
         place: 0,
         next: 0,
+        operations: 0,
+        skipped: 0,
+        commit: 0,
         width: 0,
         active: 0,
         held: 0,
@@ -25,6 +27,34 @@ fn no_told() -> Told {
         finished: 0,
         buffer: 0,
     }
+}
+
+/// What a call came to, as a code, with how many operations it applied.
+fn ended<const OFFSET_BITS: u32>(
+    open: &mut Open<OFFSET_BITS>,
+    before: u32,
+    came: Result<(), Stop>,
+    told: &mut Told,
+) -> i32 {
+    told.operations = open.attribute.operations().saturating_sub(before);
+    match came {
+        Ok(()) => OK,
+        Err(stop) => code_of(&mut open.counts, stop, told),
+    }
+}
+
+/// Feeds lines, and says what it came to.
+fn feed_told<const OFFSET_BITS: u32>(
+    alloc: Global,
+    open: &mut Open<OFFSET_BITS>,
+    bytes: &[u8],
+    told: &mut Told,
+) -> i32
+{
+    let before = open.attribute.operations();
+    let came = feed(alloc, open, bytes, told);
+    open.counts.skipped = open.counts.skipped.wrapping_add(u64::from(told.skipped));
+    ended(open, before, came, told)
 }
 
 /// Applies lines one after another, up to a line that is refused.
@@ -37,8 +67,15 @@ pub extern "C" fn attr_feed(
 ) -> i32 {
     *told = no_told();
     match &mut at.get_mut().open {
-        AnyOpen::Narrow(open) => feed(alloc, open, bytes, told),
-        AnyOpen::Wide(open) => feed(alloc, open, bytes, told),
+        AnyOpen::Narrow(open) => feed_told(alloc, open, bytes, told),
+        AnyOpen::Wide(open) => feed_told(alloc, open, bytes, told),
+    }
+}
+
+fn commit_told<const OFFSET_BITS: u32>(open: &mut Open<OFFSET_BITS>, told: &mut Told) -> i32 {
+    match commit(open, told) {
+        Ok(()) => OK,
+        Err(stop) => code_of(&mut open.counts, stop, told),
     }
 }
 
@@ -47,8 +84,20 @@ pub extern "C" fn attr_feed(
 pub extern "C" fn attr_commit(at: &mut HeldEngine, told: &mut Told) -> i32 {
     *told = no_told();
     match &mut at.get_mut().open {
-        AnyOpen::Narrow(open) => commit(open, told),
-        AnyOpen::Wide(open) => commit(open, told),
+        AnyOpen::Narrow(open) => commit_told(open, told),
+        AnyOpen::Wide(open) => commit_told(open, told),
+    }
+}
+
+fn compact_told<const OFFSET_BITS: u32>(
+    alloc: Global,
+    open: &mut Open<OFFSET_BITS>,
+    keys: u32,
+    told: &mut Told,
+) -> i32 {
+    match compact(alloc, open, keys, told) {
+        Ok(()) => OK,
+        Err(stop) => code_of(&mut open.counts, stop, told),
     }
 }
 
@@ -62,9 +111,20 @@ pub extern "C" fn attr_compact(
 ) -> i32 {
     *told = no_told();
     match &mut at.get_mut().open {
-        AnyOpen::Narrow(open) => compact(alloc, open, keys, told),
-        AnyOpen::Wide(open) => compact(alloc, open, keys, told),
+        AnyOpen::Narrow(open) => compact_told(alloc, open, keys, told),
+        AnyOpen::Wide(open) => compact_told(alloc, open, keys, told),
     }
+}
+
+fn load_told<const OFFSET_BITS: u32>(
+    alloc: Global,
+    open: &mut Open<OFFSET_BITS>,
+    bytes: &[u8],
+    told: &mut Told,
+) -> i32 {
+    let before = open.attribute.operations();
+    let came = load(alloc, open, bytes);
+    ended(open, before, came, told)
 }
 
 /// Puts the documents of a save in, one after another, up to one that is refused.
@@ -77,8 +137,8 @@ pub extern "C" fn attr_load(
 ) -> i32 {
     *told = no_told();
     match &mut at.get_mut().open {
-        AnyOpen::Narrow(open) => load(alloc, open, bytes, told),
-        AnyOpen::Wide(open) => load(alloc, open, bytes, told),
+        AnyOpen::Narrow(open) => load_told(alloc, open, bytes, told),
+        AnyOpen::Wide(open) => load_told(alloc, open, bytes, told),
     }
 }
 

@@ -1,95 +1,99 @@
 //! Lines of a feed, applied one by one.
-ghost use Rattle.std.specs.Prelude.{◌≡◌};
+ghost use Rattle.std.specs.Prelude.{◌≡◌, ◌+◌, ◌<◌, ◌∷◌, [], drop, length, OnOk, OnErr, IfErr};
 ghost use Rattle.attr_types.specs.Lawful.{OpFits};
+ghost use Rattle.attr_types.specs.Table.{after_op};
+ghost use Rattle.feed_reader.specs.Lines.{lines_of};
+ghost use Rattle.attr_c.specs.Feeding.{FedLine, FedTo, RefusesLine};
 
-use crate::codes::{
-    BAD_ID, BAD_VALUE, LINE_TOO_LONG, MEMORY, NO_OPERATION, NOT_JSON, OK, OPERATIONS_SPENT,
-    TOO_MANY_ITEMS, UNSUPPORTED,
-};
+use crate::line::operation_in;
 use crate::split::split_line;
 use crate::state::Open;
+use crate::stop::Stop;
 use crate::told::Told;
-use crate::writing::refused;
-use attr_io::SliceSource;
 use attr_types::{Applied, Op};
-use feed_reader::{FeedError, read_feed};
 use std::alloc::Global;
 
-fn code_of(error: FeedError) -> i32 {
-    match error {
-        FeedError::NotJson { .. } => NOT_JSON,
-        FeedError::NoOperation { .. } => NO_OPERATION,
-        FeedError::BadId { .. } => BAD_ID,
-        FeedError::BadValue { .. } => BAD_VALUE,
-        FeedError::Unsupported { .. } => UNSUPPORTED,
-        FeedError::TooManyItems { .. } => TOO_MANY_ITEMS,
-        FeedError::FeedTooLong => LINE_TOO_LONG,
-        FeedError::ReadFault => LINE_TOO_LONG,
-        FeedError::Memory => MEMORY,
-    }
-}
-
 /// Applies an operation.
-pub fn feed_operation<const OFFSET_BITS: u32>(
+pub fn apply<const OFFSET_BITS: u32>(
     alloc: Global,
     open: &mut Open<OFFSET_BITS>,
     op: &Op,
-    told: &mut Told,
-) -> i32
+) -> Result<Applied, Stop>
     requires { OpFits open.old.fields op.now }
+    ensures table { OnOk result (open.new.attribute.table ≡ after_op open.old.fields open.old.attribute.table op.now) }
+    ensures operations { OnOk result (open.new.attribute.operations ≡ open.old.attribute.operations + 1) }
+    ensures left { OnErr result ((open.new.attribute.table ≡ open.old.attribute.table)
+        × (open.new.attribute.operations ≡ open.old.attribute.operations)) }
+    ensures fields { open.new.fields ≡ open.old.fields }
 {
     if open.attribute.operations() == u32::MAX {
-        return OPERATIONS_SPENT;
+        return Err(Stop::Spent);
     }
     match open.attribute.apply(alloc, op) {
-        Ok(Applied::Changed) => {
-            told.operations = told.operations.wrapping_add(1);
-            OK
-        }
-        Ok(Applied::Skipped) => {
-            told.operations = told.operations.wrapping_add(1);
-            told.skipped = told.skipped.wrapping_add(1);
-            open.counts.skipped = open.counts.skipped.wrapping_add(1);
-            OK
-        }
-        Err(error) => refused(&mut open.counts, error, told),
+        Ok(applied) => Ok(applied),
+        Err(error) => Err(Stop::Store(error)),
     }
 }
 
-/// Applies the operation of a line. A blank line has none.
+/// Applies the operation of a line, if it has one.
 fn feed_line<const OFFSET_BITS: u32>(
     alloc: Global,
     open: &mut Open<OFFSET_BITS>,
     line: &[u8],
-    told: &mut Told,
-) -> i32 {
-    match read_feed(alloc, &mut SliceSource::new(line), &open.fields) {
-        Ok(ops) => match ops.as_slice() {
-            [] => OK,
-            [op, ..] => feed_operation(alloc, open, op, told),
+) -> Result<Option<Applied>, Stop>
+    requires { 0 < length line.now → lines_of line.now ≡ line.now ∷ [] }
+    ensures fed { FedLine open.old.fields line.now open.old.attribute.table open.new.attribute.table
+        open.old.attribute.operations open.new.attribute.operations result }
+    ensures fields { open.new.fields ≡ open.old.fields }
+{
+    match operation_in(alloc, &open.fields, line) {
+        Ok(Some(op)) => match apply(alloc, open, &op) {
+            Ok(applied) => Ok(Some(applied)),
+            Err(stop) => Err(stop),
         },
-        Err(error) => code_of(error),
+        Ok(None) => Ok(None),
+        Err(error) => Err(Stop::Line(error)),
     }
 }
 
-/// Applies the operations of lines, one after another, up to a line that is refused.
+fn note_skip(told: &mut Told, applied: Option<Applied>)
+    ensures line { told.new.line ≡ told.old.line }
+    ensures place { told.new.place ≡ told.old.place }
+{
+    if let Some(Applied::Skipped) = applied {
+        told.skipped = told.skipped.wrapping_add(1);
+    }
+}
+
+/// Applies the operations of lines, one after another, up to a line that is refused, which is told.
 pub fn feed<const OFFSET_BITS: u32>(
     alloc: Global,
     open: &mut Open<OFFSET_BITS>,
     bytes: &[u8],
     told: &mut Told,
-) -> i32 {
+) -> Result<(), Stop>
+    ensures whole { OnOk result ((number : ℕ) × FedTo open.old.fields bytes.now number []
+        open.old.attribute.table open.new.attribute.table open.old.attribute.operations open.new.attribute.operations) }
+    ensures front { OnErr result (FedTo open.old.fields bytes.now told.new.line (drop told.new.place bytes.now)
+        open.old.attribute.table open.new.attribute.table open.old.attribute.operations open.new.attribute.operations) }
+    ensures refused { IfErr result (RefusesLine open.old.fields bytes.now told.new.line) }
+    ensures fields { open.new.fields ≡ open.old.fields }
+{
     let mut rest = bytes;
+    let mut passed: u64 = 0;
     while !rest.is_empty() {
         let (line, after) = split_line(rest);
-        told.line = told.line.wrapping_add(1);
-        told.place = bytes.len().saturating_sub(rest.len()) as u64;
-        told.next = bytes.len().saturating_sub(after.len()) as u64;
-        let code = feed_line(alloc, open, line, told);
-        if code != OK {
-            return code;
+        match feed_line(alloc, open, line) {
+            Ok(applied) => note_skip(told, applied),
+            Err(stop) => {
+                told.line = passed + 1;
+                told.place = (bytes.len() - rest.len()) as u64;
+                told.next = (bytes.len() - after.len()) as u64;
+                return Err(stop);
+            }
         }
         rest = after;
+        passed += 1;
     }
-    OK
+    Ok(())
 }

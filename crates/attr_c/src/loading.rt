@@ -1,15 +1,15 @@
 //! The documents of a save, put in one after another.
+ghost use Rattle.std.specs.Prelude.{◌≡◌};
 
-use crate::codes::{BAD_SAVE, MEMORY, OK, OTHER_SAVE};
-use crate::feeding::feed_operation;
+use crate::feeding::apply;
 use crate::state::Open;
-use crate::told::Told;
+use crate::stop::Stop;
 use attr_io::SliceSource;
 use attr_saver::{LoadError, Saved, SavedDocument, read_saved};
 use attr_types::{Field, FieldItems, Fields, Op, fits};
 use std::alloc::{AllocError, Global};
 
-/// Whether a save is of the one attribute.
+/// Whether a save is of an attribute.
 fn is_of(field: &Field, saved: &Saved) -> bool {
     field.kind == saved.kind && field.value == saved.value
 }
@@ -32,15 +32,19 @@ fn put_document<const OFFSET_BITS: u32>(
     alloc: Global,
     open: &mut Open<OFFSET_BITS>,
     document: SavedDocument,
-    told: &mut Told,
-) -> i32 {
+) -> Result<(), Stop>
+    ensures { open.new.fields ≡ open.old.fields }
+{
     let Ok(op) = put_of(alloc, document) else {
-        return MEMORY;
+        return Err(Stop::Memory);
     };
     if !fits(&open.fields, &op) {
-        return OTHER_SAVE;
+        return Err(Stop::Other);
     }
-    feed_operation(alloc, open, &op, told)
+    match apply(alloc, open, &op) {
+        Ok(_) => Ok(()),
+        Err(stop) => Err(stop),
+    }
 }
 
 /// Puts the documents of a save in, up to one that is refused.
@@ -48,15 +52,21 @@ fn put_all<const OFFSET_BITS: u32>(
     alloc: Global,
     open: &mut Open<OFFSET_BITS>,
     documents: Vec<SavedDocument>,
-    told: &mut Told,
-) -> i32 {
+) -> Result<(), Stop> {
     for document in documents {
-        let code = put_document(alloc, open, document, told);
-        if code != OK {
-            return code;
-        }
+        put_document(alloc, open, document)?;
     }
-    OK
+    Ok(())
+}
+
+/// What bytes tell as a save.
+fn saved_in(alloc: Global, bytes: &[u8]) -> Result<Saved, Stop> {
+    match read_saved(alloc, &mut SliceSource::new(bytes)) {
+        Ok(saved) => Ok(saved),
+        Err(LoadError::BadForm { place }) => Err(Stop::Save { place }),
+        Err(LoadError::ReadFault) => Err(Stop::Save { place: 0 }),
+        Err(LoadError::Memory) => Err(Stop::Memory),
+    }
 }
 
 /// Puts the documents of a save in. The save is of the one attribute that there is.
@@ -64,20 +74,10 @@ pub fn load<const OFFSET_BITS: u32>(
     alloc: Global,
     open: &mut Open<OFFSET_BITS>,
     bytes: &[u8],
-    told: &mut Told,
-) -> i32 {
-    match read_saved(alloc, &mut SliceSource::new(bytes)) {
-        Ok(saved) => {
-            if !is_of_fields(&open.fields, &saved) {
-                return OTHER_SAVE;
-            }
-            put_all(alloc, open, saved.table.into_vec(), told)
-        }
-        Err(LoadError::BadForm { place }) => {
-            told.place = place;
-            BAD_SAVE
-        }
-        Err(LoadError::ReadFault) => BAD_SAVE,
-        Err(LoadError::Memory) => MEMORY,
+) -> Result<(), Stop> {
+    let saved = saved_in(alloc, bytes)?;
+    if !is_of_fields(&open.fields, &saved) {
+        return Err(Stop::Other);
     }
+    put_all(alloc, open, saved.table.into_vec())
 }

@@ -18,17 +18,16 @@ pub struct Sizes {
 #[repr(C)]
 #[derive(Clone, Copy, Drop)]
 pub struct Told {
+    /// The number of the line that is refused, from 1, where it begins, and where the next one does.
+    pub line: u64,
+    pub place: u64,
+    pub next: u64,
     /// How many operations the call applied, the skipped ones counted.
     pub operations: u32,
     /// How many of these changed nothing.
     pub skipped: u32,
-    /// The number of the line that the call came to, from 1.
-    pub line: u32,
     /// The number of the last commit.
     pub commit: u32,
-    /// Where that line begins, and where the next one does.
-    pub place: u64,
-    pub next: u64,
     /// A full store: for which width, and how many buffers are in use and wait for readers.
     pub width: u32,
     pub active: u32,
