@@ -12,10 +12,10 @@ use Rattle.feed_reader.specs.declared.refusal.LineError.TheVariants as line_erro
 use Rattle.feed_reader.specs.Feed.{Fault, feed_of, ops_of_lines, with_op, with_front, FeedFailsBy}
 use Rattle.feed_reader.specs.Grammar.{op_of_line}
 use Rattle.feed_reader.specs.Lines.{lines_of, is_blank}
-use Rattle.feed_reader.proofs.FeedLemmas.{lines_blank, lines_more, lines_error, lines_start}
+use Rattle.feed_reader.proofs.FeedLemmas.{lines_blank, lines_more, lines_end, lines_error, lines_start}
 use Rattle.attr_types.specs.Table.{Table, after_op, after_ops}
 use Rattle.attr_types.specs.declared.applied.Applied.{Applied}
-use Rattle.attr_c.specs.Feeding.{AppliesLine, Stays, FedLine, FedTo, RefusesLine, SaysLine, row_of}
+use Rattle.attr_c.specs.Feeding.{AppliesLine, Stays, FedLine, FedTo, Feeds, RefusesLine, row_of}
 use Rattle.attr_c.specs.declared.stop.Stop.{Stop}
 use Rattle.attr_c.specs.declared.stop.Stop.TheVariants as stops
 
@@ -83,6 +83,11 @@ after_one_more fields (first ∷ ops) op table = after_one_more fields ops op (a
 module _ (fields : List Field) (bytes : List ℕ) where
   pub fed_none : (old : Table) (before : ℕ) → FedTo fields bytes 1 bytes old old before before
   fed_none old before = record { ops = []; said = lines_start fields bytes; table = refl; operations = omega arith }
+
+  -- no line is left
+  pub fed_whole : (old new : Table) (before after number : ℕ) (rest : List ℕ) → length rest ≡ 0 → FedTo fields bytes number rest old new before after → Feeds fields bytes old new before after
+  fed_whole old new before after number rest none fed =
+      record { ops = fed.ops; said = sym fed.said ∙ lines_end fields fed.ops number rest none; table = fed.table; operations = fed.operations }
 
   module _ (old mid new : Table) (before between after : ℕ) (number : ℕ) (rest line left : List ℕ) (lines : lines_of rest ≡ line ∷ lines_of left) (fed : FedTo fields bytes number rest old mid before between) where
     said_line : with_front fed.ops (ops_of_lines fields number (line ∷ lines_of left)) ≡ feed_of fields bytes

@@ -64,3 +64,10 @@ row_of errors.Memory = None
 abbrev pub RefusesLine : List Field → List ℕ → ℕ → Stop → Type 0
 RefusesLine fields bytes number (stops.Line error) = IfSome (row_of error) (λ row. feed_of fields bytes ≡ Err (number, row))
 RefusesLine fields bytes number stop = Unit {0}
+
+-- a whole feed: each of its operations was applied, in order
+pub record Feeds (fields : List Field) (bytes : List ℕ) (old new : Table) (before after : ℕ) : Type 0 where
+  pub ops : List Op
+  pub said : feed_of fields bytes ≡ Ok ops
+  pub table : new ≡ after_ops fields old ops
+  pub operations : after ≡ before + length ops

@@ -1,10 +1,13 @@
 //! What C calls with the writer's handle.
+ghost use Rattle.std.specs.Prelude.{◌≡◌, ◌≢◌, ◌+◌, pos, drop, IsOk, IsErr};
+ghost use Rattle.attr_c.specs.Engines.{committed_of, committed_operations_of, fields_of, operations_of, table_of};
+ghost use Rattle.attr_c.specs.Feeding.{FedTo, Feeds};
 
 use crate::codes::OK;
 use crate::feeding::feed;
 use crate::handles::HeldEngine;
 use crate::loading::load;
-use crate::state::{AnyOpen, Open};
+use crate::state::{AnyOpen, Counts, Open};
 use crate::stop::{Stop, code_of};
 use crate::told::{CountsTold, Told};
 use crate::writing::{commit, compact};
@@ -29,17 +32,16 @@ fn no_told() -> Told {
     }
 }
 
-/// What a call came to, as a code, with how many operations it applied.
-fn ended<const OFFSET_BITS: u32>(
-    open: &mut Open<OFFSET_BITS>,
-    before: u32,
-    came: Result<(), Stop>,
-    told: &mut Told,
-) -> i32 {
-    told.operations = open.attribute.operations().saturating_sub(before);
+/// What a call came to, as a code.
+fn ended(counts: &mut Counts, came: Result<(), Stop>, told: &mut Told) -> i32
+    ensures ok { result ≡ pos 0 → IsOk came }
+    ensures other { result ≢ pos 0 → IsErr came }
+    ensures line { told.new.line ≡ told.old.line }
+    ensures operations { told.new.operations ≡ told.old.operations }
+{
     match came {
         Ok(()) => OK,
-        Err(stop) => code_of(&mut open.counts, stop, told),
+        Err(stop) => code_of(counts, stop, told),
     }
 }
 
@@ -50,11 +52,18 @@ fn feed_told<const OFFSET_BITS: u32>(
     bytes: &[u8],
     told: &mut Told,
 ) -> i32
+    ensures whole { result ≡ pos 0 → Feeds open.old.fields bytes.now open.old.attribute.table open.new.attribute.table
+        open.old.attribute.operations open.new.attribute.operations }
+    ensures front { result ≢ pos 0 → FedTo open.old.fields bytes.now told.new.line (drop told.new.place bytes.now)
+        open.old.attribute.table open.new.attribute.table open.old.attribute.operations open.new.attribute.operations }
+    ensures count { open.new.attribute.operations ≡ open.old.attribute.operations + told.new.operations }
+    ensures fields { open.new.fields ≡ open.old.fields }
 {
     let before = open.attribute.operations();
     let came = feed(alloc, open, bytes, told);
+    told.operations = open.attribute.operations() - before;
     open.counts.skipped = open.counts.skipped.wrapping_add(u64::from(told.skipped));
-    ended(open, before, came, told)
+    ended(&mut open.counts, came, told)
 }
 
 /// Applies lines one after another, up to a line that is refused.
@@ -64,26 +73,47 @@ pub extern "C" fn attr_feed(
     at: &mut HeldEngine,
     bytes: &[u8],
     told: &mut Told,
-) -> i32 {
+) -> i32
+    ensures whole { result ≡ pos 0 → Feeds (fields_of at.old.value) bytes.now (table_of at.old.value) (table_of at.new.value)
+        (operations_of at.old.value) (operations_of at.new.value) }
+    ensures front { result ≢ pos 0 → FedTo (fields_of at.old.value) bytes.now told.new.line (drop told.new.place bytes.now)
+        (table_of at.old.value) (table_of at.new.value) (operations_of at.old.value) (operations_of at.new.value) }
+    ensures count { operations_of at.new.value ≡ operations_of at.old.value + told.new.operations }
+    ensures fields { fields_of at.new.value ≡ fields_of at.old.value }
+{
     *told = no_told();
-    match &mut at.get_mut().open {
+    let engine = at.get_mut();
+    match &mut engine.open {
         AnyOpen::Narrow(open) => feed_told(alloc, open, bytes, told),
         AnyOpen::Wide(open) => feed_told(alloc, open, bytes, told),
     }
 }
 
-fn commit_told<const OFFSET_BITS: u32>(open: &mut Open<OFFSET_BITS>, told: &mut Told) -> i32 {
-    match commit(open, told) {
-        Ok(()) => OK,
-        Err(stop) => code_of(&mut open.counts, stop, told),
-    }
+fn commit_told<const OFFSET_BITS: u32>(open: &mut Open<OFFSET_BITS>, told: &mut Told) -> i32
+    ensures committed { result ≡ pos 0 → open.new.attribute.committed ≡ open.old.attribute.table }
+    ensures published { result ≡ pos 0 → open.new.attribute.committed_operations ≡ open.old.attribute.operations }
+    ensures told { result ≡ pos 0 → told.new.operations ≡ open.old.attribute.operations }
+    ensures table { open.new.attribute.table ≡ open.old.attribute.table }
+    ensures operations { open.new.attribute.operations ≡ open.old.attribute.operations }
+    ensures fields { open.new.fields ≡ open.old.fields }
+{
+    let came = commit(open, told);
+    ended(&mut open.counts, came, told)
 }
 
 /// Commits what was applied.
 #[unsafe(no_mangle)]
-pub extern "C" fn attr_commit(at: &mut HeldEngine, told: &mut Told) -> i32 {
+pub extern "C" fn attr_commit(at: &mut HeldEngine, told: &mut Told) -> i32
+    ensures committed { result ≡ pos 0 → committed_of at.new.value ≡ table_of at.old.value }
+    ensures published { result ≡ pos 0 → committed_operations_of at.new.value ≡ operations_of at.old.value }
+    ensures told { result ≡ pos 0 → told.new.operations ≡ operations_of at.old.value }
+    ensures table { table_of at.new.value ≡ table_of at.old.value }
+    ensures operations { operations_of at.new.value ≡ operations_of at.old.value }
+    ensures fields { fields_of at.new.value ≡ fields_of at.old.value }
+{
     *told = no_told();
-    match &mut at.get_mut().open {
+    let engine = at.get_mut();
+    match &mut engine.open {
         AnyOpen::Narrow(open) => commit_told(open, told),
         AnyOpen::Wide(open) => commit_told(open, told),
     }
@@ -94,11 +124,14 @@ fn compact_told<const OFFSET_BITS: u32>(
     open: &mut Open<OFFSET_BITS>,
     keys: u32,
     told: &mut Told,
-) -> i32 {
-    match compact(alloc, open, keys, told) {
-        Ok(()) => OK,
-        Err(stop) => code_of(&mut open.counts, stop, told),
-    }
+) -> i32
+    ensures table { open.new.attribute.table ≡ open.old.attribute.table }
+    ensures operations { open.new.attribute.operations ≡ open.old.attribute.operations }
+    ensures committed { open.new.attribute.committed ≡ open.old.attribute.committed }
+    ensures fields { open.new.fields ≡ open.old.fields }
+{
+    let came = compact(alloc, open, keys, told);
+    ended(&mut open.counts, came, told)
 }
 
 /// Goes so many keys on in a compaction.
@@ -108,9 +141,15 @@ pub extern "C" fn attr_compact(
     at: &mut HeldEngine,
     keys: u32,
     told: &mut Told,
-) -> i32 {
+) -> i32
+    ensures table { table_of at.new.value ≡ table_of at.old.value }
+    ensures operations { operations_of at.new.value ≡ operations_of at.old.value }
+    ensures committed { committed_of at.new.value ≡ committed_of at.old.value }
+    ensures fields { fields_of at.new.value ≡ fields_of at.old.value }
+{
     *told = no_told();
-    match &mut at.get_mut().open {
+    let engine = at.get_mut();
+    match &mut engine.open {
         AnyOpen::Narrow(open) => compact_told(alloc, open, keys, told),
         AnyOpen::Wide(open) => compact_told(alloc, open, keys, told),
     }
@@ -121,10 +160,13 @@ fn load_told<const OFFSET_BITS: u32>(
     open: &mut Open<OFFSET_BITS>,
     bytes: &[u8],
     told: &mut Told,
-) -> i32 {
+) -> i32
+    ensures { open.new.fields ≡ open.old.fields }
+{
     let before = open.attribute.operations();
     let came = load(alloc, open, bytes);
-    ended(open, before, came, told)
+    told.operations = open.attribute.operations().saturating_sub(before);
+    ended(&mut open.counts, came, told)
 }
 
 /// Puts the documents of a save in, one after another, up to one that is refused.
@@ -134,9 +176,12 @@ pub extern "C" fn attr_load(
     at: &mut HeldEngine,
     bytes: &[u8],
     told: &mut Told,
-) -> i32 {
+) -> i32
+    ensures { fields_of at.new.value ≡ fields_of at.old.value }
+{
     *told = no_told();
-    match &mut at.get_mut().open {
+    let engine = at.get_mut();
+    match &mut engine.open {
         AnyOpen::Narrow(open) => load_told(alloc, open, bytes, told),
         AnyOpen::Wide(open) => load_told(alloc, open, bytes, told),
     }

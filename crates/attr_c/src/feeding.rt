@@ -3,7 +3,7 @@ ghost use Rattle.std.specs.Prelude.{◌≡◌, ◌+◌, ◌<◌, ◌∷◌, [], 
 ghost use Rattle.attr_types.specs.Lawful.{OpFits};
 ghost use Rattle.attr_types.specs.Table.{after_op};
 ghost use Rattle.feed_reader.specs.Lines.{lines_of};
-ghost use Rattle.attr_c.specs.Feeding.{FedLine, FedTo, RefusesLine};
+ghost use Rattle.attr_c.specs.Feeding.{FedLine, FedTo, Feeds, RefusesLine};
 
 use crate::line::operation_in;
 use crate::split::split_line;
@@ -72,8 +72,8 @@ pub fn feed<const OFFSET_BITS: u32>(
     bytes: &[u8],
     told: &mut Told,
 ) -> Result<(), Stop>
-    ensures whole { OnOk result ((number : ℕ) × FedTo open.old.fields bytes.now number []
-        open.old.attribute.table open.new.attribute.table open.old.attribute.operations open.new.attribute.operations) }
+    ensures whole { OnOk result (Feeds open.old.fields bytes.now open.old.attribute.table open.new.attribute.table
+        open.old.attribute.operations open.new.attribute.operations) }
     ensures front { OnErr result (FedTo open.old.fields bytes.now told.new.line (drop told.new.place bytes.now)
         open.old.attribute.table open.new.attribute.table open.old.attribute.operations open.new.attribute.operations) }
     ensures refused { IfErr result (RefusesLine open.old.fields bytes.now told.new.line) }

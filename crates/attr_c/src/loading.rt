@@ -52,7 +52,9 @@ fn put_all<const OFFSET_BITS: u32>(
     alloc: Global,
     open: &mut Open<OFFSET_BITS>,
     documents: Vec<SavedDocument>,
-) -> Result<(), Stop> {
+) -> Result<(), Stop>
+    ensures { open.new.fields ≡ open.old.fields }
+{
     for document in documents {
         put_document(alloc, open, document)?;
     }
@@ -74,7 +76,9 @@ pub fn load<const OFFSET_BITS: u32>(
     alloc: Global,
     open: &mut Open<OFFSET_BITS>,
     bytes: &[u8],
-) -> Result<(), Stop> {
+) -> Result<(), Stop>
+    ensures { open.new.fields ≡ open.old.fields }
+{
     let saved = saved_in(alloc, bytes)?;
     if !is_of_fields(&open.fields, &saved) {
         return Err(Stop::Other);

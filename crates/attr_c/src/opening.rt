@@ -144,7 +144,7 @@ fn opened<const OFFSET_BITS: u32>(
     requires few { length fields ≤ MOST_FIELDS }
     requires shape { (writer_of writer.place.me.0).sizes.shape ≡ shape_of (types_of fields) }
     requires fresh { IsFresh (view_of writer.place.table_id (writer_of writer.place.me.0)) }
-    ensures { IfOk result (λ o. o.fields ≡ fields.entry) }
+    ensures { IfOk result (λ o. o.fields ≡ fields) }
 {
     let mut writer = writer;
     let pool = waiting(alloc, &mut writer, &fields, sizes.readers)?;

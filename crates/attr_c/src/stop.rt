@@ -1,5 +1,5 @@
 //! Why a call of the writer stops.
-ghost use Rattle.std.specs.Prelude.{◌≢◌, pos};
+ghost use Rattle.std.specs.Prelude.{◌≡◌, ◌≢◌, pos};
 
 use crate::codes::{
     BAD_ID, BAD_SAVE, BAD_VALUE, COMMITS_SPENT, FULL, LINE_TOO_LONG, MEMORY, NO_OPERATION, NOT_JSON,
@@ -69,7 +69,10 @@ pub fn note_advance(counts: &mut Counts, advance: Advance, commit: u32) {
 
 /// The code of the store's refusal, of which more is told.
 fn store_code(counts: &mut Counts, error: AttrError, told: &mut Told) -> i32
-    ensures { result ≢ pos 0 }
+    ensures code { result ≢ pos 0 }
+    ensures line { told.new.line ≡ told.old.line }
+    ensures place { told.new.place ≡ told.old.place }
+    ensures operations { told.new.operations ≡ told.old.operations }
 {
     match error {
         AttrError::Full {
@@ -95,7 +98,9 @@ fn store_code(counts: &mut Counts, error: AttrError, told: &mut Told) -> i32
 
 /// The code of a stop, of which more is told.
 pub fn code_of(counts: &mut Counts, stop: Stop, told: &mut Told) -> i32
-    ensures { result ≢ pos 0 }
+    ensures code { result ≢ pos 0 }
+    ensures line { told.new.line ≡ told.old.line }
+    ensures operations { told.new.operations ≡ told.old.operations }
 {
     match stop {
         Stop::Line(error) => line_code(error),
