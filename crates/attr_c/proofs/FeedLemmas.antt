@@ -125,7 +125,7 @@ module _ (fields : List Field) (bytes : List ℕ) where
         stays_at (stops.Line error) line_is = line_is.2
         stays_at (stops.Store error) line_is = line_is
         stays_at stops.Spent line_is = line_is
-        stays_at (stops.Save place) line_is = line_is
+        stays_at stops.Save line_is = line_is
         stays_at stops.Other line_is = line_is
         stays_at stops.Memory line_is = line_is
 
@@ -133,6 +133,6 @@ module _ (fields : List Field) (bytes : List ℕ) where
     fed_refused (stops.Line error) alone line_is = refused_line fields bytes fed.ops number line (lines_of left) error (alone (filled line line_is.0)) line_is.0 line_is.1 said_line
     fed_refused (stops.Store error) alone line_is = tt
     fed_refused stops.Spent alone line_is = tt
-    fed_refused (stops.Save place) alone line_is = tt
+    fed_refused stops.Save alone line_is = tt
     fed_refused stops.Other alone line_is = tt
     fed_refused stops.Memory alone line_is = tt

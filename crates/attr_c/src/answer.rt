@@ -1,4 +1,5 @@
 //! The answer that a reader keeps until it is asked again.
+ghost use Rattle.std.specs.Prelude.{◌≡◌, min, length, take};
 
 use crate::told::Scored;
 use attr_types::{Doc, DocList, Score, ScoreList};
@@ -12,11 +13,16 @@ pub enum Answer {
 }
 
 impl Answer {
+    ghost use Rattle.attr_types.specs.Scores.{documents_in};
+    ghost use Rattle.attr_c.specs.Said.{said};
+
     pub fn new(alloc: Global) -> Answer {
         Answer::Hits(DocList::new(alloc))
     }
 
-    pub fn len(&self) -> usize {
+    pub fn len(&self) -> usize
+        ensures { result ≡ documents_in (said self.now) }
+    {
         match self {
             Answer::Hits(docs) => docs.len(),
             Answer::Scores(scores) => scores.len(),
@@ -24,7 +30,10 @@ impl Answer {
     }
 }
 
-fn copy_docs(docs: &[Doc], into: &mut [u32]) -> usize {
+fn copy_docs(docs: &[Doc], into: &mut [u32]) -> usize
+    ensures count { result ≡ min (length into.old) (length docs.now) }
+    ensures front { take result into.new ≡ take result docs.now }
+{
     let count = into.len().min(docs.len());
     for i in 0..count {
         into[i] = docs[i].number();

@@ -1,5 +1,7 @@
 //! What a reader is asked, at the commit of its guard.
-ghost use Rattle.std.specs.Prelude.{◌≡◌, ◌<◌, ◌^◌, length};
+ghost use Rattle.std.specs.Prelude.{◌≡◌, ◌<◌, ◌^◌, length, IfOk, Ok};
+ghost use Rattle.query_text.specs.Asks.{ask_of, AsksAs};
+ghost use Rattle.attr_c.specs.Seats.{kept_view, AnswersText, ReadsItems, SavesTable, TellsCommit};
 
 use crate::answer::Answer;
 use crate::codes::{
@@ -32,6 +34,7 @@ fn code_of(error: QueryError, told: &mut Answered) -> i32 {
 /// What a text asks for.
 fn ask_in(alloc: Global, text: &str, fields: &Fields, told: &mut Answered) -> Result<Ask, i32>
     requires { length fields.now < 2 ^ 32 }
+    ensures { IfOk result (λ ask. AsksAs (Ok ask) (ask_of fields.now text.now)) }
 {
     match parse_ask(alloc, text, fields.as_slice()) {
         Ok(ask) => Ok(ask),
@@ -40,7 +43,10 @@ fn ask_in(alloc: Global, text: &str, fields: &Fields, told: &mut Answered) -> Re
 }
 
 /// Which commit answers.
-fn tell_commit<const OFFSET_BITS: u32>(kept: &mut Kept<OFFSET_BITS>, told: &mut Answered) {
+fn tell_commit<const OFFSET_BITS: u32>(kept: &mut Kept<OFFSET_BITS>, told: &mut Answered)
+    ensures tells { TellsCommit kept.old told.new }
+    ensures same { kept.new ≡ kept.old }
+{
     told.commit = kept.commit();
     told.operations = kept.operations();
 }
@@ -51,7 +57,10 @@ fn answer_of<const OFFSET_BITS: u32>(
     kept: &mut Kept<OFFSET_BITS>,
     text: &str,
     told: &mut Answered,
-) -> Result<Answer, i32> {
+) -> Result<Answer, i32>
+    ensures answers { IfOk result (AnswersText kept.old text.now told.new) }
+    ensures same { kept.new ≡ kept.old }
+{
     let ask = ask_in(alloc, text, kept.fields(), told)?;
     tell_commit(kept, told);
     match kept.answer(alloc, &ask) {
@@ -70,7 +79,10 @@ fn items_of<const OFFSET_BITS: u32>(
     doc: u32,
     field: u32,
     told: &mut Answered,
-) -> Result<Items, i32> {
+) -> Result<Items, i32>
+    ensures items { IfOk result (ReadsItems kept.old doc field told.new) }
+    ensures same { kept.new ≡ kept.old }
+{
     if field as usize >= kept.fields().len() || doc < 1 || doc > Doc::LAST {
         return Err(BOUNDS);
     }
@@ -90,7 +102,10 @@ fn save_of<const OFFSET_BITS: u32>(
     alloc: Global,
     kept: &mut Kept<OFFSET_BITS>,
     told: &mut Answered,
-) -> Result<Vec<u8>, i32> {
+) -> Result<Vec<u8>, i32>
+    ensures saves { IfOk result (λ bytes. SavesTable kept.old told.new bytes.items) }
+    ensures same { kept.new ≡ kept.old }
+{
     tell_commit(kept, told);
     match kept.saved(alloc) {
         Ok(bytes) => {
@@ -101,7 +116,10 @@ fn save_of<const OFFSET_BITS: u32>(
     }
 }
 
-pub fn tell_any(kept: &mut AnyKept, told: &mut Answered) {
+pub fn tell_any(kept: &mut AnyKept, told: &mut Answered)
+    ensures tells { TellsCommit (kept_view kept.old) told.new }
+    ensures same { kept_view kept.new ≡ kept_view kept.old }
+{
     match kept {
         AnyKept::Narrow(kept) => tell_commit(kept, told),
         AnyKept::Wide(kept) => tell_commit(kept, told),
@@ -113,7 +131,10 @@ pub fn answer_any(
     kept: &mut AnyKept,
     text: &str,
     told: &mut Answered,
-) -> Result<Answer, i32> {
+) -> Result<Answer, i32>
+    ensures answers { IfOk result (AnswersText (kept_view kept.old) text.now told.new) }
+    ensures same { kept_view kept.new ≡ kept_view kept.old }
+{
     match kept {
         AnyKept::Narrow(kept) => answer_of(alloc, kept, text, told),
         AnyKept::Wide(kept) => answer_of(alloc, kept, text, told),
@@ -126,14 +147,20 @@ pub fn items_any(
     doc: u32,
     field: u32,
     told: &mut Answered,
-) -> Result<Items, i32> {
+) -> Result<Items, i32>
+    ensures items { IfOk result (ReadsItems (kept_view kept.old) doc field told.new) }
+    ensures same { kept_view kept.new ≡ kept_view kept.old }
+{
     match kept {
         AnyKept::Narrow(kept) => items_of(alloc, kept, doc, field, told),
         AnyKept::Wide(kept) => items_of(alloc, kept, doc, field, told),
     }
 }
 
-pub fn save_any(alloc: Global, kept: &mut AnyKept, told: &mut Answered) -> Result<Vec<u8>, i32> {
+pub fn save_any(alloc: Global, kept: &mut AnyKept, told: &mut Answered) -> Result<Vec<u8>, i32>
+    ensures saves { IfOk result (λ bytes. SavesTable (kept_view kept.old) told.new bytes.items) }
+    ensures same { kept_view kept.new ≡ kept_view kept.old }
+{
     match kept {
         AnyKept::Narrow(kept) => save_of(alloc, kept, told),
         AnyKept::Wide(kept) => save_of(alloc, kept, told),

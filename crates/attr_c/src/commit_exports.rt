@@ -37,6 +37,7 @@ fn ended(counts: &mut Counts, came: Result<(), Stop>, told: &mut Told) -> i32
     ensures ok { result ≡ pos 0 → IsOk came }
     ensures other { result ≢ pos 0 → IsErr came }
     ensures line { told.new.line ≡ told.old.line }
+    ensures place { told.new.place ≡ told.old.place }
     ensures operations { told.new.operations ≡ told.old.operations }
 {
     match came {
@@ -164,7 +165,7 @@ fn load_told<const OFFSET_BITS: u32>(
     ensures { open.new.fields ≡ open.old.fields }
 {
     let before = open.attribute.operations();
-    let came = load(alloc, open, bytes);
+    let came = load(alloc, open, bytes, told);
     told.operations = open.attribute.operations().saturating_sub(before);
     ended(&mut open.counts, came, told)
 }

@@ -4,6 +4,7 @@ ghost use Rattle.std.specs.Prelude.{◌≡◌};
 use crate::feeding::apply;
 use crate::state::Open;
 use crate::stop::Stop;
+use crate::told::Told;
 use attr_io::SliceSource;
 use attr_saver::{LoadError, Saved, SavedDocument, read_saved};
 use attr_types::{Field, FieldItems, Fields, Op, fits};
@@ -62,11 +63,14 @@ fn put_all<const OFFSET_BITS: u32>(
 }
 
 /// What bytes tell as a save.
-fn saved_in(alloc: Global, bytes: &[u8]) -> Result<Saved, Stop> {
+fn saved_in(alloc: Global, bytes: &[u8], told: &mut Told) -> Result<Saved, Stop> {
     match read_saved(alloc, &mut SliceSource::new(bytes)) {
         Ok(saved) => Ok(saved),
-        Err(LoadError::BadForm { place }) => Err(Stop::Save { place }),
-        Err(LoadError::ReadFault) => Err(Stop::Save { place: 0 }),
+        Err(LoadError::BadForm { place }) => {
+            told.place = place;
+            Err(Stop::Save)
+        }
+        Err(LoadError::ReadFault) => Err(Stop::Save),
         Err(LoadError::Memory) => Err(Stop::Memory),
     }
 }
@@ -76,10 +80,11 @@ pub fn load<const OFFSET_BITS: u32>(
     alloc: Global,
     open: &mut Open<OFFSET_BITS>,
     bytes: &[u8],
+    told: &mut Told,
 ) -> Result<(), Stop>
     ensures { open.new.fields ≡ open.old.fields }
 {
-    let saved = saved_in(alloc, bytes)?;
+    let saved = saved_in(alloc, bytes, told)?;
     if !is_of_fields(&open.fields, &saved) {
         return Err(Stop::Other);
     }

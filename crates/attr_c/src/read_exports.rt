@@ -1,4 +1,6 @@
 //! What C calls with a reader's handle.
+ghost use Rattle.std.specs.Prelude.{◌≡◌, pos, IfOk};
+ghost use Rattle.attr_c.specs.Seats.{AnswersText, ByGuardOf, ReadsItems, SavesTable};
 
 use crate::answer::{Answer, copy_hits, copy_scores};
 use crate::asking::{answer_any, items_any, save_any, tell_any};
@@ -49,7 +51,9 @@ fn answer_in(
     seat: &mut Seat,
     text: &[u8],
     told: &mut Answered,
-) -> Result<Answer, i32> {
+) -> Result<Answer, i32>
+    ensures { IfOk result (λ answer. ByGuardOf seat.old.place seat.new.place (λ guard. AnswersText guard text.now told.new answer)) }
+{
     let Ok(text) = str::from_utf8(text) else {
         return Err(NO_TEXT);
     };
@@ -69,7 +73,10 @@ pub extern "C" fn attr_ask(
     at: &mut HeldSeat,
     text: &[u8],
     told: &mut Answered,
-) -> i32 {
+) -> i32
+    ensures { result ≡ pos 0 → ByGuardOf at.old.value.place at.new.value.place
+        (λ guard. AnswersText guard text.now told.new at.new.value.answer) }
+{
     *told = no_answer();
     let seat = at.get_mut();
     match answer_in(alloc, seat, text, told) {
@@ -116,7 +123,10 @@ pub extern "C" fn attr_items(
     doc: u32,
     field: u32,
     told: &mut Answered,
-) -> i32 {
+) -> i32
+    ensures { result ≡ pos 0 → ByGuardOf at.old.value.place at.new.value.place
+        (λ guard. ReadsItems guard doc field told.new at.new.value.items) }
+{
     *told = no_answer();
     let seat = at.get_mut();
     let Some(place) = seat.place.take() else {
@@ -148,7 +158,10 @@ pub extern "C" fn attr_item_text(at: &mut HeldSeat, number: usize, into: &mut [u
 
 /// Saves the first attribute. The reader keeps the bytes until it saves again.
 #[unsafe(no_mangle)]
-pub extern "C" fn attr_save(alloc: Global, at: &mut HeldSeat, told: &mut Answered) -> i32 {
+pub extern "C" fn attr_save(alloc: Global, at: &mut HeldSeat, told: &mut Answered) -> i32
+    ensures { result ≡ pos 0 → ByGuardOf at.old.value.place at.new.value.place
+        (λ guard. SavesTable guard told.new at.new.value.saved.items) }
+{
     *told = no_answer();
     let seat = at.get_mut();
     let Some(place) = seat.place.take() else {

@@ -1,4 +1,6 @@
 //! What a reader's handle holds.
+ghost use Rattle.std.specs.Prelude.{◌≡◌, false};
+ghost use Rattle.attr_c.specs.Seats.{is_kept, kept_view, reader_view, IsTaken, LeavesGuard, TakesGuard};
 
 use crate::answer::Answer;
 use crate::kept::Kept;
@@ -41,14 +43,18 @@ impl Seat {
     }
 }
 
-fn guarded_reader(reader: AnyReader) -> AnyKept {
+fn guarded_reader(reader: AnyReader) -> AnyKept
+    ensures { IsTaken (reader_view reader) (kept_view result) }
+{
     match reader {
         AnyReader::Narrow(waiting) => AnyKept::Narrow(Kept::new(waiting)),
         AnyReader::Wide(waiting) => AnyKept::Wide(Kept::new(waiting)),
     }
 }
 
-fn released(kept: AnyKept) -> AnyReader {
+fn released(kept: AnyKept) -> AnyReader
+    ensures { LeavesGuard false (kept_view kept) (Place.Free result) }
+{
     match kept {
         AnyKept::Narrow(kept) => AnyReader::Narrow(kept.release()),
         AnyKept::Wide(kept) => AnyReader::Wide(kept.release()),
@@ -56,7 +62,10 @@ fn released(kept: AnyKept) -> AnyReader {
 }
 
 /// A reader under a guard, and whether it was so before.
-pub fn kept_of(place: Place) -> (AnyKept, bool) {
+pub fn kept_of(place: Place) -> (AnyKept, bool)
+    ensures guard { TakesGuard place (kept_view result.0) }
+    ensures stays { result.1 ≡ is_kept place }
+{
     match place {
         Place::Free(reader) => (guarded_reader(reader), false),
         Place::Kept(kept) => (kept, true),
@@ -64,7 +73,9 @@ pub fn kept_of(place: Place) -> (AnyKept, bool) {
 }
 
 /// The reader, under the guard still or not.
-pub fn left(kept: AnyKept, stays: bool) -> Place {
+pub fn left(kept: AnyKept, stays: bool) -> Place
+    ensures { LeavesGuard stays (kept_view kept) result }
+{
     if stays {
         Place::Kept(kept)
     } else {

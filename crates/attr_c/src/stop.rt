@@ -20,8 +20,8 @@ pub enum Stop {
     Store(AttrError),
     /// There can be no more operations.
     Spent,
-    /// The bytes are no save from this offset on.
-    Save { place: u64 },
+    /// The bytes are no save.
+    Save,
     /// A save is of another attribute.
     Other,
     Memory,
@@ -100,16 +100,14 @@ fn store_code(counts: &mut Counts, error: AttrError, told: &mut Told) -> i32
 pub fn code_of(counts: &mut Counts, stop: Stop, told: &mut Told) -> i32
     ensures code { result ≢ pos 0 }
     ensures line { told.new.line ≡ told.old.line }
+    ensures place { told.new.place ≡ told.old.place }
     ensures operations { told.new.operations ≡ told.old.operations }
 {
     match stop {
         Stop::Line(error) => line_code(error),
         Stop::Store(error) => store_code(counts, error, told),
         Stop::Spent => OPERATIONS_SPENT,
-        Stop::Save { place } => {
-            told.place = place;
-            BAD_SAVE
-        }
+        Stop::Save => BAD_SAVE,
         Stop::Other => OTHER_SAVE,
         Stop::Memory => MEMORY,
     }
