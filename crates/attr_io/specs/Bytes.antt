@@ -1,6 +1,6 @@
 -- What reads take from the bytes that a source tells, and what writes add to those that a sink tells.
 -- `None` tells nothing, and nothing is then claimed.
-use Rattle.std.specs.Prelude.{ℕ, ◌+◌, ◌<◌, ◌≤◌, List, ◌++◌, length, take, Result, IfOk, IfSome}
+use Rattle.std.specs.Prelude.{◌≡◌, ℕ, ◌+◌, ◌<◌, ◌≤◌, List, ◌++◌, length, take, flat_map, All, Result, IfOk, IfSome}
 use Rattle.std.specs.declared.option.Option.{Option}
 use Rattle.std.specs.Io.KnownBytes.{Appends, Consumes}
 
@@ -16,17 +16,26 @@ AppendsFront old new text = (n : ℕ) × (n < length text) × Appends old new (t
 abbrev pub piece_bytes : ℕ
 piece_bytes = 65536
 
--- Known bytes lose their front to reads, piece by piece. All pieces but the last are `front`, and within the
--- limit: the last read was made while at most `limit` bytes were read. It gave `last`, which one piece holds, and
--- each read before it took at least one byte. Where the bytes are not known, there are still at most `limit + 1` reads.
-pub record ReadsPieces (limit piece : ℕ) (old new : Option (List ℕ)) (reads_old reads_new : ℕ) : Type 0 where
-  pub front : List ℕ
-  pub last : List ℕ
-  pub taken : Consumes old new (front ++ last)
-  pub within : length front ≤ limit
-  pub short : length last ≤ piece
-  pub each : reads_new ≤ reads_old + length front + 1
+-- pieces, one behind another
+abbrev pub joined : List (List ℕ) → List ℕ
+joined pieces = flat_map (λ got. got) pieces
 
--- known bytes are more than so many
+-- Known bytes lose their front to reads, piece by piece. Each read but the last took a byte at least: `pieces` is what these
+-- gave, and together they are within the limit, so that the last read was made while at most `limit` bytes were read. It gave
+-- `last`, which one piece holds. There are no more reads than this, whether the bytes are known or not.
+pub record ReadsPieces (limit piece : ℕ) (old new : Option (List ℕ)) (reads_old reads_new : ℕ) : Type 0 where
+  pub pieces : List (List ℕ)
+  pub last : List ℕ
+  pub taken : Consumes old new (joined pieces ++ last)
+  pub some : All (λ got. 0 < length got) pieces
+  pub within : length (joined pieces) ≤ limit
+  pub short : length last ≤ piece
+  pub count : reads_new ≤ reads_old + length pieces + 1
+
+-- there are bytes of which this holds; where the source tells its bytes, it is these
+abbrev pub OfBytes : Option (List ℕ) → (List ℕ → Type 0) → Type 0
+OfBytes left P = (bytes : List ℕ) × IfSome left (λ told. told ≡ bytes) × P bytes
+
+-- there are more bytes than so many
 abbrev pub HasMoreThan : ℕ → Option (List ℕ) → Type 0
-HasMoreThan most left = IfSome left (λ bytes. most < length bytes)
+HasMoreThan most left = OfBytes left (λ bytes. most < length bytes)

@@ -1,5 +1,5 @@
 -- Counts of faults, and what a call that failed did to one.
-use Rattle.std.specs.Prelude.{ℕ, ◌+◌, ◌-◌, ◌^◌, ◌≤◌, min, Result, OnErr}
+use Rattle.std.specs.Prelude.{◌≡◌, ℕ, ◌+◌, ◌-◌, ◌^◌, ◌≤◌, min, Result, OnOk, OnErr}
 
 -- a count of 64 bits after one more, which stands still at its last value
 abbrev pub counted_up : ℕ → ℕ
@@ -9,7 +9,8 @@ counted_up n = min (n + 1) (2 ^ 64 - 1)
 abbrev pub Rose : ℕ → ℕ → Type 0
 Rose before now = counted_up before ≤ now
 
--- the count never falls, and it has risen where the call failed
+-- the count never falls; where the call was well it stays, and where it failed it has risen
 pub record CountsFaults {T E : Type 0} (before now : ℕ) (result : Result T E) : Type 0 where
   pub later : before ≤ now
+  pub kept : OnOk result (now ≡ before)
   pub failed : OnErr result (Rose before now)

@@ -1,4 +1,4 @@
-ghost use Rattle.std.specs.Prelude.{◌≡◌, ◌<◌, ◌≤◌, length, vec_len, IfOk, IsErrOf};
+ghost use Rattle.std.specs.Prelude.{◌≡◌, ◌<◌, ◌≤◌, ◌⊎◌, length, vec_len, IfOk, IsErrOf};
 ghost use Rattle.std.specs.Io.KnownBytes.{Consumes, IsAtEnd};
 ghost use Rattle.attr_io.specs.Bytes.{HasMoreThan, ReadsPieces, piece_bytes};
 ghost use Rattle.attr_io.specs.Faults.{Rose};
@@ -41,7 +41,8 @@ const PIECE: usize = 65536;
 /// Reads a source to its end, unless it fails or has more than `limit` bytes.
 ///
 /// It reads on only while at most `limit` bytes were read: whatever the answer, the source loses at
-/// most one piece of 65,536 bytes past the limit, and is read at most `limit + 1` times.
+/// most one piece of 65,536 bytes past the limit, and each read but the last took a byte. A read that
+/// fails is the last one, and is answered.
 pub fn read_all<S: Source>(
     alloc: Global,
     source: &mut S,
@@ -53,6 +54,7 @@ pub fn read_all<S: Source>(
     ensures too_long { IsErrOf result ReadError.TooLong → HasMoreThan limit (S.left source.old) }
     ensures fault { IsErrOf result ReadError.Fault → Rose (S.faults source.old) (S.faults source.new) }
     ensures later { S.faults source.old ≤ S.faults source.new }
+    ensures answered { (S.faults source.new ≡ S.faults source.old) ⊎ IsErrOf result ReadError.Fault }
     ensures pieces { ReadsPieces limit piece_bytes
         (S.left source.old) (S.left source.new) (S.reads source.old) (S.reads source.new) }
 {
@@ -74,6 +76,7 @@ fn read_pieces<S: Source>(
     ensures too_long { IsErrOf result ReadError.TooLong → HasMoreThan limit (S.left source.old) }
     ensures fault { IsErrOf result ReadError.Fault → Rose (S.faults source.old) (S.faults source.new) }
     ensures later { S.faults source.old ≤ S.faults source.new }
+    ensures answered { (S.faults source.new ≡ S.faults source.old) ⊎ IsErrOf result ReadError.Fault }
     ensures pieces { ReadsPieces limit (length piece.old)
         (S.left source.old) (S.left source.new) (S.reads source.old) (S.reads source.new) }
 {

@@ -1,13 +1,15 @@
-use Rattle.std.proofs.Common.{◌≤◌, ◌+◌, ◌-◌, length, vec_len}
-use Rattle.attr_io.proofs.ReadLemmas.{KeepsPieces}
+use Rattle.std.proofs.Common.{◌≡◌, ◌≤◌, ◌+◌, ◌-◌, length, vec_len}
+use Rattle.attr_io.specs.Bytes.{ReadsPieces}
+use Rattle.attr_io.proofs.ReadLemmas.{TakesPieces}
 use Rattle.attr_io.proofs.reading.read_pieces.Given as goal
 
--- what is kept is what the source gave, one piece past the limit at most; the count of faults has
--- not fallen; each read so far took a byte at least
+-- what is kept is what the source gave, one piece past the limit at most; no read failed, and each so
+-- far took a byte at least
 abbrev pub invariant-loop-source : goal.invariant-loop-source
 invariant-loop-source g l = record {
-  pieces : KeepsPieces l.limit (length l.piece) l.bytes.items (g.S.Source.left l.initial.source) (g.S.Source.left l.source) (g.S.Source.reads l.initial.source) (g.S.Source.reads l.source);
-  later : g.S.Source.faults l.initial.source ≤ g.S.Source.faults l.source;
+  takes : TakesPieces l.bytes.items (g.S.Source.left l.initial.source) (g.S.Source.left l.source) (g.S.Source.reads l.initial.source) (g.S.Source.reads l.source);
+  reads : ReadsPieces l.limit (length l.piece) (g.S.Source.left l.initial.source) (g.S.Source.left l.source) (g.S.Source.reads l.initial.source) (g.S.Source.reads l.source);
+  kept : g.S.Source.faults l.source ≡ g.S.Source.faults l.initial.source;
   within : vec_len l.bytes ≤ l.limit + length l.piece;
 }
 

@@ -1,4 +1,4 @@
-use Rattle.std.proofs.Common.{arith, length-drop}
+use Rattle.std.proofs.Common.{◌∙◌, arith, length-drop}
 use Rattle.std.proofs.KnownBytes.{Appends-trans}
 use Rattle.std.proofs.Math.Seq.{take-add}
 use Rattle.std.proofs.lemmas.List.{take_rest}
@@ -12,5 +12,5 @@ loop-at-preserved g c =
     record {
       within = omega (arith, bound, length-drop c.loop-at.at c.args.text.now);
       written = rw take-add (Appends-trans _ _ _ _ _ c.loop-at.invariant.written gained);
-      later = omega (arith, c.in_ok-count.ensures.cause.later);
+      kept = c.in_ok-count.ensures.cause.kept ∙ c.loop-at.invariant.kept;
     }
