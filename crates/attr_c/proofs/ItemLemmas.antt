@@ -1,5 +1,5 @@
 -- The documents of an attribute of a lawful image.
-use Rattle.std.proofs.Common.{◌≡◌, ◌<◌, ◌≤◌, ◌^◌, ℕ, zero, suc, List, [], ◌∷◌, length, get_or, refl, sym, subst, arith, Some}
+use Rattle.std.proofs.Common.{◌≡◌, ◌<◌, ◌≤◌, ◌^◌, ℕ, zero, suc, List, [], ◌∷◌, length, map, get_or, refl, sym, subst, arith, Some}
 use Rattle.std.specs.Prelude.{slice_get}
 use Rattle.std.specs.List.{AllByRecursion}
 use Rattle.std.specs.Map.{keys_of}
@@ -9,7 +9,7 @@ use Rattle.tree_read.specs.Trees.{tree_pairs}
 use Rattle.doc_vector.specs.Documents.{IsDocumentPair}
 use Rattle.attr_field.specs.Documents.{IsDocuments, AreItemsAt}
 use Rattle.attr_images.specs.Attributes.{IsLawfulAttribute}
-use Rattle.attr_images.specs.Documents.{AreItemRecords}
+use Rattle.attr_images.specs.Documents.{items_at, AreItemRecords}
 use Rattle.attr_images.specs.Images.{documents_at, IsLawfulImage}
 use Rattle.attr_images.specs.Shapes.{shape_of, types_of}
 use Rattle.attr_images.specs.Values.{value_of, value_words, IsValueRecord}
@@ -25,11 +25,15 @@ use Rattle.attr_types.specs.declared.kind.Kind.TheVariants.{Single, Array, Weigh
 use Rattle.attr_types.specs.declared.kind.ValueType.{ValueType}
 use Rattle.attr_types.specs.declared.value.Value.{Value}
 use Rattle.attr_types.specs.declared.value.Value.TheVariants as values
-use Rattle.attr_rounds.proofs.ColumnLemmas.{read_pairs}
+use Rattle.attr_index.specs.Columns.{Column}
 
 pub field_there : (xs fields : List Field) (i : ℕ) (own : Field) → xs ≡ fields → i < length xs → own ≡ get_or xs i own → slice_get fields i ≡ Some own
 field_there xs fields i own same within is =
     subst (λ fs. slice_get fs i ≡ Some own) same (slice_get_read xs (length xs) i own refl within is)
+
+-- pairs of a document tree, as documents with their items
+abbrev read_pairs : Kind → ValueType → Records → List (ℕ × ℕ) → Column
+read_pairs kind type m ps = map (λ p. (p.0, items_at kind type m p.1)) ps
 
 value_filled : (v : Value) → 0 < length (filled (value_words v))
 value_filled (values.Long number) = omega arith

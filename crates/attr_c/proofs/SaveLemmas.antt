@@ -11,7 +11,7 @@ use Rattle.attr_types.specs.Table.{Table}
 use Rattle.attr_types.specs.declared.field.Field.{Field}
 use Rattle.attr_types.specs.declared.items.Item.{Item}
 
-as_saved : ℕ × List Item → SavedDocument
+abbrev as_saved : ℕ × List Item → SavedDocument
 as_saved e = record { doc = e.0; items = e.1 }
 
 saved_column : (table : Table) → first_column table ≡ map as_saved (column_of 0 table)
