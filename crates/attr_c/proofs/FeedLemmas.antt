@@ -1,6 +1,7 @@
 -- What one line says, and what lines say one after another.
-use Rattle.std.proofs.Common.{◌≡◌, ℕ, ◌+◌, ◌<◌, true, false, List, [], ◌∷◌, ◌++◌, length, Result, Ok, Err, Option, Some, None, refl, sym, ◌∙◌, ap, subst, arith, length-append}
+use Rattle.std.proofs.Common.{◌≡◌, ℕ, ◌+◌, ◌-◌, ◌<◌, ◌≤◌, drop, true, false, List, [], ◌∷◌, ◌++◌, length, Result, Ok, Err, Option, Some, None, refl, sym, ◌∙◌, ap, subst, arith, length-append}
 use Rattle.std.specs.List.{AllByRecursion}
+use Rattle.std.proofs.lemmas.List.{drop-drop}
 use Rattle.attr_types.specs.Lawful.{OpFits}
 use Rattle.attr_types.specs.declared.field.Field.{Field}
 use Rattle.attr_types.specs.declared.op.Op.{Op}
@@ -73,6 +74,18 @@ refused_line fields bytes front number line lines error alone blank fails said =
 pub filled : (line : List ℕ) → is_blank line ≡ false → 0 < length line
 filled [] blank = cc
 filled (b ∷ line) blank = omega arith
+
+-- ---- places
+
+pub drop_none : (bytes : List ℕ) → bytes ≡ drop (length bytes - length bytes) bytes
+drop_none bytes = let none : length bytes - length bytes ≡ 0 = omega arith in ap (λ (n : ℕ). drop n bytes) (sym none)
+
+pub drop_on : (bytes rest after : List ℕ) → rest ≡ drop (length bytes - length rest) bytes → after ≡ drop (length rest - length after) rest → length after ≤ length rest → length rest ≤ length bytes
+    → after ≡ drop (length bytes - length after) bytes
+drop_on bytes rest after at_rest at_after one two =
+    let count : (length bytes - length rest) + (length rest - length after) ≡ length bytes - length after = omega (arith, one, two) in
+    at_after ∙ ap (λ (xs : List ℕ). drop (length rest - length after) xs) at_rest ∙ drop-drop (length rest - length after) (length bytes - length rest) bytes
+    ∙ ap (λ (n : ℕ). drop n bytes) count
 
 -- ---- one line after another
 

@@ -11,7 +11,9 @@ use crate::state::{AnyOpen, Counts, Open};
 use crate::stop::{Stop, code_of};
 use crate::told::{CountsTold, Told};
 use crate::writing::{commit, compact};
+use attr_images::AttrLayout;
 use std::alloc::Global;
+use store_api::Store;
 
 fn no_told() -> Told {
     Told {
@@ -47,9 +49,9 @@ fn ended(counts: &mut Counts, came: Result<(), Stop>, told: &mut Told) -> i32
 }
 
 /// Feeds lines, and says what it came to.
-fn feed_told<const OFFSET_BITS: u32>(
+fn feed_told<const OFFSET_BITS: u32, S: Store<OFFSET_BITS, Layout = AttrLayout>>(
     alloc: Global,
-    open: &mut Open<OFFSET_BITS>,
+    open: &mut Open<OFFSET_BITS, S>,
     bytes: &[u8],
     told: &mut Told,
 ) -> i32
@@ -90,7 +92,10 @@ pub extern "C" fn attr_feed(
     }
 }
 
-fn commit_told<const OFFSET_BITS: u32>(open: &mut Open<OFFSET_BITS>, told: &mut Told) -> i32
+fn commit_told<const OFFSET_BITS: u32, S: Store<OFFSET_BITS, Layout = AttrLayout>>(
+    open: &mut Open<OFFSET_BITS, S>,
+    told: &mut Told,
+) -> i32
     ensures committed { result ≡ pos 0 → open.new.attribute.committed ≡ open.old.attribute.table }
     ensures published { result ≡ pos 0 → open.new.attribute.committed_operations ≡ open.old.attribute.operations }
     ensures told { result ≡ pos 0 → told.new.operations ≡ open.old.attribute.operations }
@@ -120,9 +125,9 @@ pub extern "C" fn attr_commit(at: &mut HeldEngine, told: &mut Told) -> i32
     }
 }
 
-fn compact_told<const OFFSET_BITS: u32>(
+fn compact_told<const OFFSET_BITS: u32, S: Store<OFFSET_BITS, Layout = AttrLayout>>(
     alloc: Global,
-    open: &mut Open<OFFSET_BITS>,
+    open: &mut Open<OFFSET_BITS, S>,
     keys: u32,
     told: &mut Told,
 ) -> i32
@@ -156,9 +161,9 @@ pub extern "C" fn attr_compact(
     }
 }
 
-fn load_told<const OFFSET_BITS: u32>(
+fn load_told<const OFFSET_BITS: u32, S: Store<OFFSET_BITS, Layout = AttrLayout>>(
     alloc: Global,
-    open: &mut Open<OFFSET_BITS>,
+    open: &mut Open<OFFSET_BITS, S>,
     bytes: &[u8],
     told: &mut Told,
 ) -> i32
@@ -188,7 +193,9 @@ pub extern "C" fn attr_load(
     }
 }
 
-fn counts_of<const OFFSET_BITS: u32>(open: &Open<OFFSET_BITS>) -> CountsTold {
+fn counts_of<const OFFSET_BITS: u32, S: Store<OFFSET_BITS, Layout = AttrLayout>>(
+    open: &Open<OFFSET_BITS, S>,
+) -> CountsTold {
     let counts = &open.counts;
     CountsTold {
         skipped: counts.skipped,

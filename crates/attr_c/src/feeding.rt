@@ -10,13 +10,15 @@ use crate::split::split_line;
 use crate::state::Open;
 use crate::stop::Stop;
 use crate::told::Told;
+use attr_images::AttrLayout;
 use attr_types::{Applied, Op};
 use std::alloc::Global;
+use store_api::Store;
 
 /// Applies an operation.
-pub fn apply<const OFFSET_BITS: u32>(
+pub fn apply<const OFFSET_BITS: u32, S: Store<OFFSET_BITS, Layout = AttrLayout>>(
     alloc: Global,
-    open: &mut Open<OFFSET_BITS>,
+    open: &mut Open<OFFSET_BITS, S>,
     op: &Op,
 ) -> Result<Applied, Stop>
     requires { OpFits open.old.fields op.now }
@@ -36,9 +38,9 @@ pub fn apply<const OFFSET_BITS: u32>(
 }
 
 /// Applies the operation of a line, if it has one.
-fn feed_line<const OFFSET_BITS: u32>(
+fn feed_line<const OFFSET_BITS: u32, S: Store<OFFSET_BITS, Layout = AttrLayout>>(
     alloc: Global,
-    open: &mut Open<OFFSET_BITS>,
+    open: &mut Open<OFFSET_BITS, S>,
     line: &[u8],
 ) -> Result<Option<Applied>, Stop>
     requires { 0 < length line.now → lines_of line.now ≡ line.now ∷ [] }
@@ -66,9 +68,9 @@ fn note_skip(told: &mut Told, applied: Option<Applied>)
 }
 
 /// Applies the operations of lines, one after another, up to a line that is refused, which is told.
-pub fn feed<const OFFSET_BITS: u32>(
+pub fn feed<const OFFSET_BITS: u32, S: Store<OFFSET_BITS, Layout = AttrLayout>>(
     alloc: Global,
-    open: &mut Open<OFFSET_BITS>,
+    open: &mut Open<OFFSET_BITS, S>,
     bytes: &[u8],
     told: &mut Told,
 ) -> Result<(), Stop>

@@ -90,7 +90,12 @@ impl<const OFFSET_BITS: u32> Kept<OFFSET_BITS> {
     }
 
     /// The items that a document has at the commit in the attribute of this number. There are none where it is not there.
-    pub fn items(&mut self, alloc: Global, field: u32, doc: Doc) -> Result<Option<Items>, AllocError>
+    pub fn items(
+        &mut self,
+        alloc: Global,
+        field: u32,
+        doc: Doc,
+    ) -> Result<Option<Items>, AllocError>
         ensures items { field < length self.old.fields → IfOk result (λ found. found ≡ items_of field doc (table_in self.old)) }
         ensures same { self.new ≡ self.old }
     {

@@ -5,10 +5,12 @@ use crate::feeding::apply;
 use crate::state::Open;
 use crate::stop::Stop;
 use crate::told::Told;
+use attr_images::AttrLayout;
 use attr_io::SliceSource;
 use attr_saver::{LoadError, Saved, SavedDocument, read_saved};
 use attr_types::{Field, FieldItems, Fields, Op, fits};
 use std::alloc::{AllocError, Global};
+use store_api::Store;
 
 /// Whether a save is of an attribute.
 fn is_of(field: &Field, saved: &Saved) -> bool {
@@ -29,9 +31,9 @@ fn put_of(alloc: Global, document: SavedDocument) -> Result<Op, AllocError> {
 }
 
 /// Puts a document in.
-fn put_document<const OFFSET_BITS: u32>(
+fn put_document<const OFFSET_BITS: u32, S: Store<OFFSET_BITS, Layout = AttrLayout>>(
     alloc: Global,
-    open: &mut Open<OFFSET_BITS>,
+    open: &mut Open<OFFSET_BITS, S>,
     document: SavedDocument,
 ) -> Result<(), Stop>
     ensures { open.new.fields ≡ open.old.fields }
@@ -49,9 +51,9 @@ fn put_document<const OFFSET_BITS: u32>(
 }
 
 /// Puts the documents of a save in, up to one that is refused.
-fn put_all<const OFFSET_BITS: u32>(
+fn put_all<const OFFSET_BITS: u32, S: Store<OFFSET_BITS, Layout = AttrLayout>>(
     alloc: Global,
-    open: &mut Open<OFFSET_BITS>,
+    open: &mut Open<OFFSET_BITS, S>,
     documents: Vec<SavedDocument>,
 ) -> Result<(), Stop>
     ensures { open.new.fields ≡ open.old.fields }
@@ -76,9 +78,9 @@ fn saved_in(alloc: Global, bytes: &[u8], told: &mut Told) -> Result<Saved, Stop>
 }
 
 /// Puts the documents of a save in. The save is of the one attribute that there is.
-pub fn load<const OFFSET_BITS: u32>(
+pub fn load<const OFFSET_BITS: u32, S: Store<OFFSET_BITS, Layout = AttrLayout>>(
     alloc: Global,
-    open: &mut Open<OFFSET_BITS>,
+    open: &mut Open<OFFSET_BITS, S>,
     bytes: &[u8],
     told: &mut Told,
 ) -> Result<(), Stop>

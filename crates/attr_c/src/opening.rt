@@ -6,11 +6,12 @@ ghost use Rattle.arena_api.specs.Calls.{IsFresh};
 ghost use Rattle.word_arena.specs.Knows.{view_of};
 ghost use Rattle.word_arena.specs.Ruled.{writer_of};
 
-use crate::state::{AnyOpen, Counts, Open, Running, Waiting};
+use crate::state::{AnyOpen, Counts, Narrow, Open, Waiting, Wide};
 use crate::told::Sizes;
 use attr_images::{AttrLayout, shape_of};
 use attr_types::Fields;
 use attribute_kinds::Attribute;
+use entry_store::EntryStore;
 use std::alloc::{AllocError, Global};
 use word_arena::{Arena, Config, Limits, Writer};
 
@@ -50,7 +51,10 @@ fn running<const OFFSET_BITS: u32>(
     alloc: Global,
     writer: Writer<'static, OFFSET_BITS, AttrLayout>,
     fields: &Fields,
-) -> Result<Running<OFFSET_BITS>, AllocError>
+) -> Result<
+    Attribute<OFFSET_BITS, EntryStore<OFFSET_BITS, Writer<'static, OFFSET_BITS, AttrLayout>>>,
+    AllocError,
+>
     requires some { 0 < length fields.now }
     requires few { length fields.now ≤ MOST_FIELDS }
     requires shape { (writer_of writer.place.me.0).sizes.shape ≡ shape_of (types_of fields.now) }
@@ -115,10 +119,7 @@ fn narrow_writer(
 }
 
 /// The same with references of 19 and 13 bits.
-fn wide_writer(
-    alloc: Global,
-    config: Config,
-) -> Result<Writer<'static, 19, AttrLayout>, AllocError>
+fn wide_writer(alloc: Global, config: Config) -> Result<Writer<'static, 19, AttrLayout>, AllocError>
     requires some_buffers { 1 ≤ config.buffers }
     requires few_buffers { config.buffers < 8192 }
     requires some_words { 8192 ≤ config.words }
@@ -133,20 +134,54 @@ fn wide_writer(
     Ok(kept.writer(token))
 }
 
-/// Attributes that have no document over a new memory, and its readers.
-fn opened<const OFFSET_BITS: u32>(
+/// Attributes that have no document over a new memory with references of 22 and 10 bits, and its readers.
+fn narrow_open(
     alloc: Global,
-    writer: Writer<'static, OFFSET_BITS, AttrLayout>,
+    config: Config,
     fields: Fields,
     sizes: &Sizes,
-) -> Result<Open<OFFSET_BITS>, AllocError>
+) -> Result<Open<22, Narrow>, AllocError>
     requires some { 0 < length fields }
     requires few { length fields ≤ MOST_FIELDS }
-    requires shape { (writer_of writer.place.me.0).sizes.shape ≡ shape_of (types_of fields) }
-    requires fresh { IsFresh (view_of writer.place.table_id (writer_of writer.place.me.0)) }
+    requires some_buffers { 1 ≤ config.buffers }
+    requires few_buffers { config.buffers < 1024 }
+    requires some_words { 8192 ≤ config.words }
+    requires few_words { config.words ≤ 65536 }
+    requires product { config.buffers * config.words ≤ 67108864 }
+    requires generations { config.limits.generations < 2 ^ 48 }
+    requires shape { config.shape ≡ shape_of (types_of fields) }
     ensures { IfOk result (λ o. o.fields ≡ fields) }
 {
-    let mut writer = writer;
+    let mut writer = narrow_writer(alloc, config)?;
+    let pool = waiting(alloc, &mut writer, &fields, sizes.readers)?;
+    let attribute = running(alloc, writer, &fields)?;
+    Ok(Open {
+        fields,
+        attribute,
+        pool,
+        counts: no_counts(sizes),
+    })
+}
+
+/// The same with references of 19 and 13 bits.
+fn wide_open(
+    alloc: Global,
+    config: Config,
+    fields: Fields,
+    sizes: &Sizes,
+) -> Result<Open<19, Wide>, AllocError>
+    requires some { 0 < length fields }
+    requires few { length fields ≤ MOST_FIELDS }
+    requires some_buffers { 1 ≤ config.buffers }
+    requires few_buffers { config.buffers < 8192 }
+    requires some_words { 8192 ≤ config.words }
+    requires few_words { config.words ≤ 65536 }
+    requires product { config.buffers * config.words ≤ 67108864 }
+    requires generations { config.limits.generations < 2 ^ 48 }
+    requires shape { config.shape ≡ shape_of (types_of fields) }
+    ensures { IfOk result (λ o. o.fields ≡ fields) }
+{
+    let mut writer = wide_writer(alloc, config)?;
     let pool = waiting(alloc, &mut writer, &fields, sizes.readers)?;
     let attribute = running(alloc, writer, &fields)?;
     Ok(Open {
@@ -177,12 +212,12 @@ pub fn opened_in_bounds(
         if sizes.buffers > 1023 {
             return Ok(None);
         }
-        let writer = narrow_writer(alloc, config)?;
-        return Ok(Some(AnyOpen::Narrow(opened(alloc, writer, fields, sizes)?)));
+        let open = narrow_open(alloc, config, fields, sizes)?;
+        return Ok(Some(AnyOpen::Narrow(open)));
     }
     if sizes.buffers > 8191 {
         return Ok(None);
     }
-    let writer = wide_writer(alloc, config)?;
-    Ok(Some(AnyOpen::Wide(opened(alloc, writer, fields, sizes)?)))
+    let open = wide_open(alloc, config, fields, sizes)?;
+    Ok(Some(AnyOpen::Wide(open)))
 }

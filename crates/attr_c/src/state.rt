@@ -9,11 +9,14 @@ use attr_images::AttrLayout;
 use attr_types::Fields;
 use attribute_kinds::Attribute;
 use entry_store::EntryStore;
+use store_api::Store;
 use word_arena::{Reader, Writer};
 
-/// Attributes over running memory that is never given up.
-pub type Running<const OFFSET_BITS: u32> =
-    Attribute<OFFSET_BITS, EntryStore<OFFSET_BITS, Writer<'static, OFFSET_BITS, AttrLayout>>>;
+/// The store of attributes over running memory that is never given up, with references of 22 and 10 bits.
+pub type Narrow = EntryStore<22, Writer<'static, 22, AttrLayout>>;
+
+/// The same with references of 19 and 13 bits.
+pub type Wide = EntryStore<19, Writer<'static, 19, AttrLayout>>;
 
 /// A reader with the attributes that it is asked of.
 #[derive(Drop)]
@@ -41,9 +44,9 @@ pub struct Counts {
 
 /// The attributes, and the readers that are still to be given away.
 #[derive(Drop)]
-pub struct Open<const OFFSET_BITS: u32> {
+pub struct Open<const OFFSET_BITS: u32, S: Store<OFFSET_BITS, Layout = AttrLayout>> {
     pub fields: Fields,
-    pub attribute: Running<OFFSET_BITS>,
+    pub attribute: Attribute<OFFSET_BITS, S>,
     pub pool: Vec<Waiting<OFFSET_BITS>>,
     pub counts: Counts,
     ghost same: { attribute.fields ≡ fields },
@@ -52,8 +55,8 @@ pub struct Open<const OFFSET_BITS: u32> {
 /// By how many bits a reference tells the words of a buffer apart.
 #[derive(Drop)]
 pub enum AnyOpen {
-    Narrow(Open<22>),
-    Wide(Open<19>),
+    Narrow(Open<22, Narrow>),
+    Wide(Open<19, Wide>),
 }
 
 /// A reader of either width.

@@ -4,12 +4,14 @@ ghost use Rattle.std.specs.Prelude.{◌≡◌, OnOk, IfOk};
 use crate::state::Open;
 use crate::stop::{Stop, note_advance, note_oldest};
 use crate::told::Told;
+use attr_images::AttrLayout;
 use attribute_kinds::Compacted;
 use std::alloc::Global;
+use store_api::Store;
 
 /// Commits what was applied.
-pub fn commit<const OFFSET_BITS: u32>(
-    open: &mut Open<OFFSET_BITS>,
+pub fn commit<const OFFSET_BITS: u32, S: Store<OFFSET_BITS, Layout = AttrLayout>>(
+    open: &mut Open<OFFSET_BITS, S>,
     told: &mut Told,
 ) -> Result<(), Stop>
     ensures committed { OnOk result (open.new.attribute.committed ≡ open.old.attribute.table) }
@@ -36,9 +38,9 @@ pub fn commit<const OFFSET_BITS: u32>(
 }
 
 /// Goes so many keys on in a compaction.
-pub fn compact<const OFFSET_BITS: u32>(
+pub fn compact<const OFFSET_BITS: u32, S: Store<OFFSET_BITS, Layout = AttrLayout>>(
     alloc: Global,
-    open: &mut Open<OFFSET_BITS>,
+    open: &mut Open<OFFSET_BITS, S>,
     keys: u32,
     told: &mut Told,
 ) -> Result<(), Stop>
@@ -53,10 +55,12 @@ pub fn compact<const OFFSET_BITS: u32>(
             told.keys = keys;
             Ok(())
         }
-        Ok(Compacted::Moved {
-            keys,
-            stop: Some(error),
-        }) => {
+        Ok(
+            Compacted::Moved {
+                keys,
+                stop: Some(error),
+            },
+        ) => {
             told.keys = keys;
             Err(Stop::Store(error))
         }

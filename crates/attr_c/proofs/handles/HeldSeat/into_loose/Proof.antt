@@ -47,7 +47,7 @@ into_loose_spec 𝓤 𝓛 𝓜 𝓡 wired =
     f.Key.name code.function (code.unfolded 𝓤 𝓛.H 𝓜 𝓡 wired) (λ z are.
     let h = z.0.3.0 in let a = z.0.3.1.0 in let us = z.0.4.0 in let as' = z.0.4.1.0 in
     let Post : Val → SProp 𝓤 = (walk_of 𝓛 f.ended stayed c).post z in let Run : List Val → SProp 𝓤 = λ ws. WpFn 𝓤 𝓛.H 𝓣.C 𝓣.Λ code.function ws Post in
-    qed 𝓛 ((‵ ftrue ⊛ ‵ (owns (types_at f.ended.signature.params tt) z.0.3 z.0.4)) ∷ ‵ ftrue ∷ []) ∵ split ! $ drop ! $ fsplit !  $
+    qed 𝓛 ((‵ ftrue ⊛ ‵ (owns (types_at f.ended.signature.params tt) z.0.3 z.0.4)) ∷ ‵ ftrue ∷ []) ∵ split ! $ drop ! $ fsplit ! $
     fsplit ! $ fpick ! (λ vss. fsplit ! $ feq_l ! (λ ev. fsplit ! $ feq_l ! (λ ep. drop ! $
     in_a_block ! h.at (λ p. box_owns (token h.heap) T p h.value) (fst∗ 𝓤 (never 𝓤) (sem 𝓛 (token h.heap (bare (lone T.mir)) null_ptr))) (λ b o e. move ! (1 ∷ []) $ fsplit ! $
     handle_tells al ! a as' (λ hv ea fits.
