@@ -4,6 +4,7 @@ use Rattle.std.proofs.Common.{false, List, length, Option, Some, None}
 use Rattle.std.proofs.Common.{option_map, Result, Ok, Err, IsOk, IfOk, IfErr, IfSome, IsOkAnd, arith}
 use Rattle.std.proofs.lemmas.Bool.Decides.{nat_tests}
 use Rattle.clap.specs.Walk.{Text}
+use Rattle.attr_io.specs.Bytes.{HasMoreThan}
 use Rattle.attr_io.specs.Faults.{Rose}
 use Rattle.attr_types.specs.declared.field.Field.{Field}
 use Rattle.attr_types.specs.declared.op.Op.{Op}
@@ -78,6 +79,11 @@ refused-long : (fields : List Field) (left : Option (List ℕ)) → IfSome left 
     → IfSome left (λ bytes. ops_in fields bytes ≡ Err (BadFeed feed.TooLong))
 refused-long fields None many = tt
 refused-long fields (Some bytes) many = ops_in-long fields bytes many
+
+-- where the source tells its bytes, it is they that are too many
+pub told-long : (limit : ℕ) (left : Option (List ℕ)) → HasMoreThan limit left → IfSome left (λ bytes. limit < length bytes)
+told-long limit None long = tt
+told-long limit (Some told) long = subst (λ (bytes : List ℕ). limit < length bytes) (sym long.1) long.2
 
 -- a feed that is refused, or a source that failed
 pub feed-stopped : (fields : List Field) (left new : Option (List ℕ)) (before now : ℕ) (e : FeedError)

@@ -11,3 +11,4 @@ pub mod WordLemmas
 pub mod VectorLemmas
 pub mod WeightLemmas
 pub mod ScoreListLemmas
+pub mod TreeLemmas

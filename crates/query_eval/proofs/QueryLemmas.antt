@@ -1,5 +1,5 @@
 -- Members of a query.
-use Rattle.std.proofs.Common.{◌≡◌, ◌≤◌, ◌<◌, ◌+◌, ℕ, Bool, true, false, zero, suc, ◌&&◌, List, [], ◌∷◌, length, drop, get_or, refl, sym, ap, subst, ◌∙◌, Some, arith}
+use Rattle.std.proofs.Common.{◌≡◌, ◌≤◌, ◌<◌, ◌+◌, ℕ, Bool, true, false, zero, suc, ◌&&◌, List, [], ◌∷◌, length, drop, get_or, refl, sym, ap, ap₂, subst, ◌∙◌, Some, arith}
 use Rattle.std.specs.Prelude.{slice_get}
 use Rattle.std.proofs.lemmas.List.{drop_all, at_drop_more}
 use Rattle.std.proofs.lemmas.Option.{slice_get_read}
@@ -44,6 +44,21 @@ module _ (indexes : List Index) (doc : ℕ) where
   common_found queries n query common docs at own is =
       is ∙ ap (λ b. b && found_all (query_trees queries) indexes doc) own
       ∙ member_found queries n query at ∙ and_found queries n query at
+
+  -- two members
+  pub two_found : (queries : List Query) (one other : Query) → 2 ≤ length queries → length queries ≤ 2 → one ≡ get_or queries 0 one
+      → other ≡ get_or queries 1 other
+      → (found (tree_of one) indexes doc && found (tree_of other) indexes doc) ≡ found (and (query_trees queries)) indexes doc
+  two_found [] one other least most first second = absurd (omega (arith, least))
+  two_found (a ∷ []) one other least most first second = absurd (omega (arith, least))
+  two_found (a ∷ b ∷ []) one other least most first second =
+      ap₂ (λ (p q : Query). found (tree_of p) indexes doc && found (tree_of q) indexes doc) first second
+      ∙ ap (λ (x : Bool). found (tree_of a) indexes doc && x) (and_true (found (tree_of b) indexes doc))
+    where
+      and_true : (x : Bool) → x ≡ (x && true)
+      and_true true = refl
+      and_true false = refl
+  two_found (a ∷ b ∷ c ∷ rest) one other least most first second = absurd (omega (arith, most))
 
   -- without members
   pub none_found : (queries : List Query) (n : ℕ) → (0 < length queries → n < length queries) → length queries ≤ n

@@ -1,5 +1,5 @@
 -- A leaf of one value is met by that value alone.
-use Rattle.std.proofs.Common.{sym, subst, ◌≡◌, ℕ, List, [], ◌∷◌, ◌++◌, Some, cond, refl, ap, ◌∙◌}
+use Rattle.std.proofs.Common.{sym, subst, ◌≡◌, ℕ, ℤ, List, [], ◌∷◌, ◌++◌, Option, Some, None, IfSome, cond, refl, ap, ◌∙◌}
 use Rattle.std.proofs.Common.{Ordering, Less, Equal, Greater, is_eq}
 use Rattle.std.proofs.lemmas.List.{append-nil}
 use Rattle.std.specs.BTreeMap.{is_at}
@@ -9,7 +9,7 @@ use Rattle.std.specs.Map.{keys_of, lookup}
 use Rattle.std.specs.Option.{unwrap_or}
 use Rattle.entry_ref.specs.Records.{Records}
 use Rattle.tree_read.specs.Trees.{tree_pairs}
-use Rattle.attr_images.specs.Postings.{index_of}
+use Rattle.attr_images.specs.Postings.{index_of, list_form, postings_at}
 use Rattle.attr_index.specs.Index.{Index, list_of}
 use Rattle.attr_types.specs.ProofsForOrder.{value_cmp_total}
 use Rattle.attr_types.specs.Value.{value_cmp}
@@ -19,6 +19,7 @@ use Rattle.attr_types.specs.declared.value.Value.{Value}
 use Rattle.attr_index.specs.Leaves.{listed, meeting}
 use Rattle.query_eval.proofs.PartLemmas.{keys_are}
 use Rattle.query_eval.specs.Parts.{IsIndexed}
+use Rattle.query_eval.specs.Weights.{word_list}
 
 module _ (v : Value) where
   above : (w : Value) (vs : List Value) → value_cmp v w ≡ Equal → AllByRecursion (λ x. value_cmp w x ≡ Less) vs → AllByRecursion (λ x. value_cmp v x ≡ Less) vs
@@ -45,3 +46,9 @@ pub value_listed : (type : ValueType) (m : Records) (root : ℕ) (value : Value)
     → listed (meeting (Is value) (index_of type m root)) ≡ keys_of (list_of value (index_of type m root))
 value_listed type m root value is =
     one_value value (index_of type m root) (subst (IsStrictlySortedBy value_cmp) (sym (keys_are type m (tree_pairs m root))) is.tree_is.ascends)
+
+-- and so are those of its word, where it has one
+pub word_listed : (m : Records) (word : Option ℕ) (list : List (ℕ × ℤ)) (docs : List ℕ) → word_list m word ≡ list → keys_of list ≡ docs
+    → IfSome word (λ w. keys_of (postings_at m (list_form w)) ≡ docs)
+word_listed m None list docs is same = tt
+word_listed m (Some w) list docs is same = ap (λ (ps : List (ℕ × ℤ)). keys_of ps) is ∙ same

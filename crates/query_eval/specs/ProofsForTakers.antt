@@ -49,3 +49,14 @@ kept_joined marks next last a b c xs ys first second = (
   second.0 ∙ first.0,
   keeps_joined (in_words marks) a b c xs ys first.1 (subst (λ (ws : List ℕ). AddsMeeting (in_words ws) b ys c) first.0 second.1),
 )
+
+-- a bit vector in which each document has a bit
+pub marks_none : (old : ℕ → Bool) (fits : Bool) → fits ≡ true → (fits ≡ true) × Adds old [] old
+marks_none old fits is = (is, adds_none old)
+
+pub marks_joined : (a b c : ℕ → Bool) (fits next last : Bool) (xs ys : List ℕ) → (next ≡ true → (fits ≡ true) × Adds a xs b)
+    → (last ≡ true → (next ≡ true) × Adds b ys c) → last ≡ true → (fits ≡ true) × Adds a (xs ++ ys) c
+marks_joined a b c fits next last xs ys first second is =
+    let after = second is in
+    let before = first after.0 in
+    (before.0, adds_joined a b c xs ys before.1 after.1)

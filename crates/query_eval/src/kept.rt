@@ -15,7 +15,7 @@ use std::alloc::{AllocError, Global};
 use tree_read::{TakesKeys, take_keys};
 
 /// How many words a document may take of the bit vector.
-const MOST_SPARSE: usize = 16;
+pub const MOST_SPARSE: usize = 16;
 
 /// How many words have a bit for each of some documents that ascend.
 fn words_for(docs: &[Doc]) -> usize {
@@ -26,7 +26,7 @@ fn words_for(docs: &[Doc]) -> usize {
 }
 
 /// Sets a document's bit, where it has one.
-fn mark(words: &mut [u64], doc: Doc) -> bool
+pub fn mark(words: &mut [u64], doc: Doc) -> bool
     ensures { result ≡ true → (other : ℕ) → in_words words.new other ≡ (in_words words.old other || nat_eq other doc) }
 {
     let number = doc.number();

@@ -7,10 +7,12 @@
 
 mod answers;
 mod blocks;
+mod common;
 mod dictionary;
 mod image;
 mod kept;
 mod lists;
+mod marks;
 mod parts;
 mod queries;
 mod sizes;

@@ -9,6 +9,7 @@ ghost use Rattle.query_eval.specs.Parts.{IsIndexed};
 ghost use Rattle.attr_images.specs.Postings.{index_of};
 ghost use Rattle.query_eval.specs.Indexes.{AreIndexed, AreMatched, IsMatched, indexes_in};
 
+use crate::common::common_of_two;
 use crate::dictionary::Dictionary;
 use crate::sizes::shortest_of;
 use crate::{gather_every, gather_leaf, kept_with, with_value};
@@ -142,7 +143,7 @@ fn gather<const OFFSET_BITS: u32, F: Frozen<OFFSET_BITS>>(
             leaf,
             gathered,
         ),
-        Query::And(queries) => gather_common(alloc, frozen, dictionaries, queries, gathered),
+        Query::And(queries) => gather_and(alloc, frozen, dictionaries, queries, gathered),
         Query::Or(queries) => gather_some(alloc, frozen, dictionaries, queries, gathered),
     }
 }
@@ -213,6 +214,27 @@ fn kept<const OFFSET_BITS: u32, F: Frozen<OFFSET_BITS>>(
             let own = gather(alloc, frozen, dictionaries, query, Gathered::new(alloc))?;
             own.kept_of(alloc, &docs)
         }
+    }
+}
+
+/// The documents with those that all members match. Two that are one value each are answered by their lists.
+#[cycle(gathering)]
+fn gather_and<const OFFSET_BITS: u32, F: Frozen<OFFSET_BITS>>(
+    alloc: Global,
+    frozen: &mut F,
+    dictionaries: &[Dictionary<OFFSET_BITS>],
+    queries: &Vec<Query>,
+    gathered: Gathered,
+) -> Result<Gathered, AllocError>
+    requires { AreIndexed OFFSET_BITS (F.records frozen.old) dictionaries.now }
+    ensures docs { IfOk result (λ all. (doc : ℕ) → is_gathered all doc
+        ≡ (is_gathered gathered doc || found (and (query_trees queries.now.items))
+        (indexes_in OFFSET_BITS (F.records frozen.old) dictionaries.now) doc)) }
+    ensures same { frozen.new ≡ frozen.old }
+{
+    match common_of_two(alloc, frozen, dictionaries, queries.as_slice())? {
+        Some(common) => gathered.with_docs(alloc, common.as_slice()),
+        None => gather_common(alloc, frozen, dictionaries, queries, gathered),
     }
 }
 

@@ -14,7 +14,10 @@ use entry_ref::EntryRef;
 use frozen_btree::total;
 
 /// How many documents a list has, and of a bit vector how many it may have.
-fn size_of_list<const OFFSET_BITS: u32, F: Frozen<OFFSET_BITS>>(frozen: &mut F, list: u64) -> u64
+pub fn size_of_list<const OFFSET_BITS: u32, F: Frozen<OFFSET_BITS>>(
+    frozen: &mut F,
+    list: u64,
+) -> u64
     requires form { IsPostingList (F.records frozen.old) (list_form list) }
     ensures same { frozen.new ≡ frozen.old }
 {

@@ -1,0 +1,199 @@
+//! An And of two values, by their two lists.
+ghost use Rattle.std.specs.Prelude.{◌≡◌, ◌&&◌, ℕ, IfOk, IfSome};
+ghost use Rattle.std.specs.Map.{keys_of};
+ghost use Rattle.attr_images.specs.Postings.{index_of, list_form, postings_at, tree, IsPostingList};
+ghost use Rattle.attr_index.specs.Found.{found};
+ghost use Rattle.attr_index.specs.Leaves.{listed, meeting};
+ghost use Rattle.attr_index.specs.Postings.{HaveDocNumbers};
+ghost use Rattle.attr_index.specs.Sets.{has};
+ghost use Rattle.attr_types.specs.Query.{tree_of, query_trees, and, one};
+ghost use Rattle.query_eval.specs.Indexes.{AreIndexed, indexes_in};
+ghost use Rattle.query_eval.specs.Parts.{IsIndexed};
+ghost use Rattle.query_eval.specs.Weights.{IsListWord};
+
+use crate::dictionary::Dictionary;
+use crate::kept::keep_marked;
+use crate::lists::{gather_list, keep_list};
+use crate::marks::marks_of_tree;
+use crate::parts::word_of;
+use crate::sizes::size_of_list;
+use arena_api::Frozen;
+use attr_images::FIRST_VECTOR;
+use attr_index::Gathered;
+use attr_types::{DocList, Leaf, Query};
+use entry_ref::EntryRef;
+use std::alloc::{AllocError, Global};
+
+/// The documents that two trees have, by the bits of the first. None where these would be many more words than documents.
+fn common_in_trees<const OFFSET_BITS: u32, F: Frozen<OFFSET_BITS>>(
+    alloc: Global,
+    frozen: &mut F,
+    first: EntryRef<OFFSET_BITS>,
+    second: EntryRef<OFFSET_BITS>,
+) -> Result<Option<DocList>, AllocError>
+    requires first { IsPostingList (F.records frozen.old) (tree first) }
+    requires documents { HaveDocNumbers (postings_at (F.records frozen.old) (tree first)) }
+    requires second { IsPostingList (F.records frozen.old) (tree second) }
+    requires others { HaveDocNumbers (postings_at (F.records frozen.old) (tree second)) }
+    ensures common { IfOk result (λ common. IfSome common (λ docs. (doc : ℕ) → has docs doc
+        ≡ (has (keys_of (postings_at (F.records frozen.old) (tree first.entry))) doc
+        && has (keys_of (postings_at (F.records frozen.old) (tree second.entry))) doc))) }
+    ensures same { frozen.new ≡ frozen.old }
+{
+    let Some(marks) = marks_of_tree(alloc, frozen, first)? else {
+        return Ok(None);
+    };
+    let common = keep_marked(alloc, frozen, second, marks)?;
+    Ok(Some(common))
+}
+
+/// The documents that two lists have which are trees. None where one is not, or where the first is not to be marked.
+fn common_by_marks<const OFFSET_BITS: u32, F: Frozen<OFFSET_BITS>>(
+    alloc: Global,
+    frozen: &mut F,
+    first: u64,
+    second: u64,
+) -> Result<Option<DocList>, AllocError>
+    requires first { IsListWord (F.records frozen.old) (Some first) }
+    requires second { IsListWord (F.records frozen.old) (Some second) }
+    ensures common { IfOk result (λ common. IfSome common (λ docs. (doc : ℕ) → has docs doc
+        ≡ (has (keys_of (postings_at (F.records frozen.old) (list_form first))) doc
+        && has (keys_of (postings_at (F.records frozen.old) (list_form second))) doc))) }
+    ensures same { frozen.new ≡ frozen.old }
+{
+    if first >= FIRST_VECTOR || first % 2 == 0 {
+        return Ok(None);
+    }
+    if second >= FIRST_VECTOR || second % 2 == 0 {
+        return Ok(None);
+    }
+    common_in_trees(
+        alloc,
+        frozen,
+        EntryRef::from_raw((first / 2) as u32),
+        EntryRef::from_raw((second / 2) as u32),
+    )
+}
+
+/// The documents that two lists have, of which the second is no shorter.
+fn common_in_order<const OFFSET_BITS: u32, F: Frozen<OFFSET_BITS>>(
+    alloc: Global,
+    frozen: &mut F,
+    first: u64,
+    second: u64,
+) -> Result<DocList, AllocError>
+    requires first { IsListWord (F.records frozen.old) (Some first) }
+    requires second { IsListWord (F.records frozen.old) (Some second) }
+    ensures common { IfOk result (λ docs. (doc : ℕ) → has docs doc
+        ≡ (has (keys_of (postings_at (F.records frozen.old) (list_form first))) doc
+        && has (keys_of (postings_at (F.records frozen.old) (list_form second))) doc)) }
+    ensures same { frozen.new ≡ frozen.old }
+{
+    if let Some(common) = common_by_marks(alloc, frozen, first, second)? {
+        return Ok(common);
+    }
+    let own = gather_list(alloc, frozen, first, Gathered::new(alloc))?;
+    let docs = own.into_list(alloc)?;
+    keep_list(alloc, frozen, second, &docs)
+}
+
+/// The documents that two lists have, by the words that a dictionary keeps for them.
+fn common_of_lists<const OFFSET_BITS: u32, F: Frozen<OFFSET_BITS>>(
+    alloc: Global,
+    frozen: &mut F,
+    one: u64,
+    other: u64,
+) -> Result<DocList, AllocError>
+    requires one { IsListWord (F.records frozen.old) (Some one) }
+    requires other { IsListWord (F.records frozen.old) (Some other) }
+    ensures common { IfOk result (λ docs. (doc : ℕ) → has docs doc
+        ≡ (has (keys_of (postings_at (F.records frozen.old) (list_form one))) doc
+        && has (keys_of (postings_at (F.records frozen.old) (list_form other))) doc)) }
+    ensures same { frozen.new ≡ frozen.old }
+{
+    if size_of_list(frozen, other) < size_of_list(frozen, one) {
+        common_in_order(alloc, frozen, other, one)
+    } else {
+        common_in_order(alloc, frozen, one, other)
+    }
+}
+
+/// The word of the list of a leaf that is one value.
+fn word_of_leaf<const OFFSET_BITS: u32, F: Frozen<OFFSET_BITS>>(
+    frozen: &mut F,
+    dictionary: Dictionary<OFFSET_BITS>,
+    leaf: &Leaf,
+) -> Option<u64>
+    requires { IsIndexed dictionary.values (F.records frozen.old) dictionary.root }
+    ensures form { IsListWord (F.records frozen.old) result }
+    ensures docs { IfSome result (λ list. keys_of (postings_at (F.records frozen.old) (list_form list))
+        ≡ listed (meeting leaf.now (index_of dictionary.entry.values (F.records frozen.old) dictionary.entry.root))) }
+    ensures same { frozen.new ≡ frozen.old }
+{
+    match leaf {
+        Leaf::Is(value) => word_of(frozen, dictionary.root, dictionary.values, value),
+        _ => None,
+    }
+}
+
+/// The word of the list of a leaf in an attribute that is one value.
+fn word_of_one<const OFFSET_BITS: u32, F: Frozen<OFFSET_BITS>>(
+    frozen: &mut F,
+    dictionaries: &[Dictionary<OFFSET_BITS>],
+    field: u32,
+    leaf: &Leaf,
+) -> Option<u64>
+    requires { AreIndexed OFFSET_BITS (F.records frozen.old) dictionaries.now }
+    ensures form { IsListWord (F.records frozen.old) result }
+    ensures docs { IfSome result (λ list. (doc : ℕ) → has (keys_of (postings_at (F.records frozen.old) (list_form list))) doc
+        ≡ found (one field leaf.now) (indexes_in OFFSET_BITS (F.records frozen.old) dictionaries.now) doc) }
+    ensures same { frozen.new ≡ frozen.old }
+{
+    match dictionaries.get(field as usize) {
+        Some(dictionary) => word_of_leaf(frozen, *dictionary, leaf),
+        None => None,
+    }
+}
+
+/// The word of the list of a member that is one value.
+fn word_of_member<const OFFSET_BITS: u32, F: Frozen<OFFSET_BITS>>(
+    frozen: &mut F,
+    dictionaries: &[Dictionary<OFFSET_BITS>],
+    query: &Query,
+) -> Option<u64>
+    requires { AreIndexed OFFSET_BITS (F.records frozen.old) dictionaries.now }
+    ensures form { IsListWord (F.records frozen.old) result }
+    ensures docs { IfSome result (λ list. (doc : ℕ) → has (keys_of (postings_at (F.records frozen.old) (list_form list))) doc
+        ≡ found (tree_of query.now) (indexes_in OFFSET_BITS (F.records frozen.old) dictionaries.now) doc) }
+    ensures same { frozen.new ≡ frozen.old }
+{
+    match query {
+        Query::One { field, leaf } => word_of_one(frozen, dictionaries, *field, leaf),
+        _ => None,
+    }
+}
+
+/// The documents that two members match which are one value each. None where there are others.
+pub fn common_of_two<const OFFSET_BITS: u32, F: Frozen<OFFSET_BITS>>(
+    alloc: Global,
+    frozen: &mut F,
+    dictionaries: &[Dictionary<OFFSET_BITS>],
+    queries: &[Query],
+) -> Result<Option<DocList>, AllocError>
+    requires { AreIndexed OFFSET_BITS (F.records frozen.old) dictionaries.now }
+    ensures docs { IfOk result (λ common. IfSome common (λ docs. (doc : ℕ) → has docs doc
+        ≡ found (and (query_trees queries.now)) (indexes_in OFFSET_BITS (F.records frozen.old) dictionaries.now) doc)) }
+    ensures same { frozen.new ≡ frozen.old }
+{
+    let [one, other] = queries else {
+        return Ok(None);
+    };
+    let Some(first) = word_of_member(frozen, dictionaries, one) else {
+        return Ok(None);
+    };
+    let Some(second) = word_of_member(frozen, dictionaries, other) else {
+        return Ok(None);
+    };
+    let common = common_of_lists(alloc, frozen, first, second)?;
+    Ok(Some(common))
+}
