@@ -8,8 +8,8 @@
  * The library starts no thread, takes no lock and opens no file. It takes memory by malloc and gives it back by free.
  * It keeps no state of its own beside the handles, so several engines may stand side by side.
  *
- * THE RULES. The library's contracts speak of callers that keep these rules, and nothing checks that C keeps them (docs/LIBRARY.md says
- * what is proved so far):
+ * THE RULES. What is proved of the library (docs/LIBRARY.md) is proved for callers that keep these rules, and nothing checks that C
+ * keeps them:
  *
  *   1. A handle is made by attr_open or attr_reader_open, is passed to calls by its address, and is passed by value to one of
  *      attr_close, attr_reader_return and attr_reader_close, once. After that neither it nor a copy of it is used.
