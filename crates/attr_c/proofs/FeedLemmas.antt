@@ -1,5 +1,5 @@
 -- What one line says, and what lines say one after another.
-use Rattle.std.proofs.Common.{◌≡◌, ℕ, ◌+◌, ◌-◌, ◌<◌, ◌≤◌, drop, true, false, List, [], ◌∷◌, ◌++◌, length, Result, Ok, Err, Option, Some, None, refl, sym, ◌∙◌, ap, subst, arith, length-append}
+use Rattle.std.proofs.Common.{◌≡◌, ℕ, ◌+◌, ◌-◌, ◌<◌, ◌≤◌, drop, slice_index_or, true, false, List, [], ◌∷◌, ◌++◌, length, Result, Ok, Err, Option, Some, None, refl, sym, ◌∙◌, ap, subst, arith, length-append}
 use Rattle.std.specs.List.{AllByRecursion}
 use Rattle.std.proofs.lemmas.List.{drop-drop}
 use Rattle.attr_types.specs.Lawful.{OpFits}
@@ -16,7 +16,7 @@ use Rattle.feed_reader.specs.Lines.{lines_of, is_blank}
 use Rattle.feed_reader.proofs.FeedLemmas.{lines_blank, lines_more, lines_end, lines_error, lines_start}
 use Rattle.attr_types.specs.Table.{Table, after_op, after_ops}
 use Rattle.attr_types.specs.declared.applied.Applied.{Applied}
-use Rattle.attr_c.specs.Feeding.{AppliesLine, Stays, FedLine, FedTo, Feeds, RefusesLine, row_of}
+use Rattle.attr_c.specs.Feeding.{AppliesLine, Stays, SaysLine, FedLine, FedTo, Feeds, IsOfNoLine, RefusesLine, row_of}
 use Rattle.attr_c.specs.declared.stop.Stop.{Stop}
 use Rattle.attr_c.specs.declared.stop.Stop.TheVariants as stops
 
@@ -46,7 +46,9 @@ says_one fields line ops alone blank says fit =
 
 one_row : (r : Result Op Refusal) (n : ℕ) (row : Refusal) → with_op 1 r (Ok []) ≡ Err (n, row) → r ≡ Err row
 one_row (Ok op) n row e = cc
-one_row (Err refusal) n row e = cc
+one_row (Err refusal) n row e =
+    let pair : (1, refusal) ≡ (n, row) = cc in
+    ap (λ (p : ℕ × Refusal). Err p.1) pair
 
 row_said : (fields : List Field) (line : List ℕ) (n : ℕ) (row : Refusal) → lines_of line ≡ line ∷ [] → is_blank line ≡ false → feed_of fields line ≡ Err (n, row) → op_of_line fields line ≡ Err row
 row_said fields line n row alone blank e = one_row (op_of_line fields line) n row (sym (alone_says fields line alone blank) ∙ e)
@@ -74,6 +76,27 @@ refused_line fields bytes front number line lines error alone blank fails said =
 pub filled : (line : List ℕ) → is_blank line ≡ false → 0 < length line
 filled [] blank = cc
 filled (b ∷ line) blank = omega arith
+
+-- what was read of a line is its one operation
+pub says_popped : (fields : List Field) (line : List ℕ) (ops items : List Op) (len : ℕ) (result : Option Op) → IsOneOp fields line ops → items ≡ ops → len ≡ length items
+    → ((d : Op) → 0 < len → result ≡ Some (slice_index_or items (len - 1) d)) → is_blank line ≡ false → SaysLine fields line (Ok result)
+says_popped fields line ops items len result one same long value blank =
+    let is : items ≡ one.op ∷ [] = same ∙ one.ops_are in
+    let count : len ≡ 1 = long ∙ ap length is in
+    let last : result ≡ Some (slice_index_or items (len - 1) one.op) = value one.op (omega (arith, count)) in
+    let at : slice_index_or items (len - 1) one.op ≡ slice_index_or (one.op ∷ []) 0 one.op =
+    ap (λ (xs : List Op). slice_index_or xs (len - 1) one.op) is ∙ ap (λ (n : ℕ). slice_index_or (one.op ∷ []) (n - 1) one.op) count in
+    let found : result ≡ Some one.op = last ∙ ap Some at in
+    subst (λ (r : Option Op). SaysLine fields line (Ok r)) (sym found) (blank, one.says, one.fits)
+
+-- a stop that is of no line left all as it was
+pub fed_stopped : (fields : List Field) (line : List ℕ) (old new : Table) (before after : ℕ) (stop : Stop) → IsOfNoLine stop → Stays old new before after → FedLine fields line old new before after (Err stop)
+fed_stopped fields line old new before after (stops.Line error) none stays = absurd none
+fed_stopped fields line old new before after (stops.Store error) none stays = stays
+fed_stopped fields line old new before after stops.Spent none stays = stays
+fed_stopped fields line old new before after stops.Save none stays = stays
+fed_stopped fields line old new before after stops.Other none stays = stays
+fed_stopped fields line old new before after stops.Memory none stays = stays
 
 -- ---- places
 

@@ -29,6 +29,11 @@ pub record AppliesLine (fields : List Field) (line : List ℕ) (old new : Table)
   pub table : new ≡ after_op fields old op
   pub operations : after ≡ before + 1
 
+-- a stop that refuses no line
+abbrev pub IsOfNoLine : Stop → Type 0
+IsOfNoLine (stops.Line error) = ⊥
+IsOfNoLine stop = Unit {0}
+
 -- tables and operations, before and after
 pub record Stays (old new : Table) (before after : ℕ) : Type 0 where
   pub table : new ≡ old

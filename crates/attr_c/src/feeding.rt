@@ -3,7 +3,7 @@ ghost use Rattle.std.specs.Prelude.{◌≡◌, ◌+◌, ◌<◌, ◌∷◌, [], 
 ghost use Rattle.attr_types.specs.Lawful.{OpFits};
 ghost use Rattle.attr_types.specs.Table.{after_op};
 ghost use Rattle.feed_reader.specs.Lines.{lines_of};
-ghost use Rattle.attr_c.specs.Feeding.{FedLine, FedTo, Feeds, RefusesLine};
+ghost use Rattle.attr_c.specs.Feeding.{FedLine, FedTo, Feeds, IsOfNoLine, RefusesLine};
 
 use crate::line::operation_in;
 use crate::split::split_line;
@@ -26,6 +26,7 @@ pub fn apply<const OFFSET_BITS: u32, S: Store<OFFSET_BITS, Layout = AttrLayout>>
     ensures operations { OnOk result (open.new.attribute.operations ≡ open.old.attribute.operations + 1) }
     ensures left { OnErr result ((open.new.attribute.table ≡ open.old.attribute.table)
         × (open.new.attribute.operations ≡ open.old.attribute.operations)) }
+    ensures kind { IfErr result IsOfNoLine }
     ensures fields { open.new.fields ≡ open.old.fields }
 {
     if open.attribute.operations() == u32::MAX {

@@ -1,5 +1,5 @@
 //! What C calls with a reader's handle.
-ghost use Rattle.std.specs.Prelude.{◌≡◌, pos, IfOk};
+ghost use Rattle.std.specs.Prelude.{◌≡◌, ◌≢◌, pos, IfOk};
 ghost use Rattle.attr_c.specs.Seats.{AnswersText, ByGuardOf, ReadsItems, SavesTable};
 
 use crate::answer::{Answer, copy_hits, copy_scores};
@@ -18,6 +18,13 @@ fn no_answer() -> Answered {
         count: 0,
         place: 0,
     }
+}
+
+/// The code of a refusal, which is none of success.
+fn refused(code: i32) -> i32
+    ensures { result ≢ pos 0 }
+{
+    if code == OK { LOST } else { code }
 }
 
 /// Takes a guard of the last commit, and keeps it until it is released. Where there is one it stays.
@@ -84,7 +91,7 @@ pub extern "C" fn attr_ask(
             seat.answer = answer;
             OK
         }
-        Err(code) => code,
+        Err(code) => refused(code),
     }
 }
 
@@ -99,7 +106,7 @@ pub extern "C" fn attr_count(
     *told = no_answer();
     match answer_in(alloc, at.get_mut(), text, told) {
         Ok(_) => OK,
-        Err(code) => code,
+        Err(code) => refused(code),
     }
 }
 
@@ -140,7 +147,7 @@ pub extern "C" fn attr_items(
             seat.items = items;
             OK
         }
-        Err(code) => code,
+        Err(code) => refused(code),
     }
 }
 
@@ -175,7 +182,7 @@ pub extern "C" fn attr_save(alloc: Global, at: &mut HeldSeat, told: &mut Answere
             seat.saved = bytes;
             OK
         }
-        Err(code) => code,
+        Err(code) => refused(code),
     }
 }
 
