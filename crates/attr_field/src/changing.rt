@@ -91,8 +91,8 @@ fn put_weighed<const OFFSET_BITS: u32, S: Store<OFFSET_BITS>>(
     })
 }
 
-/// Sets the items of a document that had `before` as its items, or did not exist. Returns the new roots. Posting
-/// lists are never made as bit vectors.
+/// Sets the items of a document, where `old` are the items that it had, or none. Returns the new roots. Posting lists
+/// are never made as bit vectors.
 #[tactic(none)]
 pub fn put<const OFFSET_BITS: u32, S: Store<OFFSET_BITS>>(
     alloc: Global,

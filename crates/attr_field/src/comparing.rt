@@ -71,7 +71,7 @@ fn is_there<const OFFSET_BITS: u32, F: Frozen<OFFSET_BITS>>(
     Ok(document_items(alloc, frozen, kind, value_type, root, doc)?.is_some())
 }
 
-/// Returns whether a document exists and already has these items. `before` are the items that it has if it exists.
+/// Returns whether a document exists and already has these items. `old` are the items that it has if it exists.
 #[tactic(none)]
 pub fn has_already<const OFFSET_BITS: u32, F: Frozen<OFFSET_BITS>>(
     alloc: Global,

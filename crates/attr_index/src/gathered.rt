@@ -7,10 +7,10 @@ use crate::bits::DocSet;
 use attr_types::{Doc, DocList};
 use std::alloc::{AllocError, Global};
 
-/// The number of documents at which a list becomes a bit vector.
+/// A list with more documents than this becomes a bit vector.
 const FEW: usize = 1024;
 
-/// If a list is this many times longer than the list of sought documents, each of them is searched in it.
+/// If a list is this many times as long as the list of sought documents, each of them is searched in it.
 const MUCH_LONGER: usize = 8;
 
 /// Documents in any order.

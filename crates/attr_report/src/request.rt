@@ -30,7 +30,7 @@ pub struct Request {
     pub make: Option<Make>,
     /// References have 19 and 13 bits instead of 22 and 10.
     pub wide: bool,
-    /// Accepted without effect: posting lists are not stored as bit vectors.
+    /// The flag `--dense`, which changes no answer.
     pub dense: bool,
     /// The table is saved instead of a report.
     pub save: bool,

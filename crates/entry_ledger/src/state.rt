@@ -8,7 +8,7 @@ pub enum State {
     Returned,
     /// Made by the open unit.
     Made,
-    /// In use. Made after commit `after` if that is the last commit; otherwise made in or before the last commit.
+    /// In use, and made while commit `after` was the last.
     InUse { after: u32 },
     /// Made since the last commit, and dropped by the open unit.
     LetGo,

@@ -20,7 +20,7 @@ use Rattle.gen_core.specs.Good.{InActive, Avoids, HasNothingIn}
 
 -- Words and buffers.
 
--- store the width of a buffer: it is active and has none yet
+-- store the width of a buffer: it is active and has no width
 pub record MayStoreWidth (w : WriterView) (b width : ℕ) : Type 0 where
   pub calm : w.queue.pending ≡ Nothing
   pub none_yet : active_in w.buffers b ≡ Some 0

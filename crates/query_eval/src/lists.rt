@@ -21,7 +21,7 @@ use frozen_btree::total;
 use std::alloc::{AllocError, Global};
 use tree_read::take_keys;
 
-/// The number of documents at which a list becomes a bit vector.
+/// A list with more documents than this becomes a bit vector.
 const MOST_FEW: usize = 1024;
 
 /// Returns the document in a word of a short list.

@@ -334,7 +334,7 @@ judged fields word = unless_unknown (unknown_at fields word)
 abbrev pub Continues : Words → List ℕ → Type 0
 Continues words front = (word : Word) × (rest : List ℕ) × IsWordText words (front ++ rest) word
 
--- the text is not a word, and no word continues with the byte at this place, or the text ends there too early
+-- the text is not a word; `place` is the first byte with which no word continues, or the text's length
 pub record BreaksAt (words : Words) (text : List ℕ) (place : ℕ) : Type 0 where
   pub within : place ≤ length text
   pub continues : Continues words (take place text)

@@ -136,7 +136,7 @@ pub trait Store<const OFFSET_BITS: u32>: Frozen<OFFSET_BITS> {
 
     ghost queue: { (s : Self) → IsQueue (ledger s).work };
 
-    // generations do not outnumber commits
+    // the current generation is at most the number of the last commit
     ghost timely: { (s : Self) → current (ledger s).work ≤ (ledger s).work.commits.last };
 
     // an entry has a record if and only if its status says so

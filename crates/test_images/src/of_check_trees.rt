@@ -47,7 +47,8 @@ fn are_ones(pairs: &[(u64, u64)], count: u64) -> bool {
     pairs.len() as u64 == count
 }
 
-/// Returns whether records from a root on are a tree with this many pairs, or, with 0, are not a tree.
+/// Returns whether records from a root on are a tree with this many pairs; with 0, whether the root is 0 or they are not a
+/// tree.
 fn has_pairs(
     alloc: Global,
     rows: &[Row],

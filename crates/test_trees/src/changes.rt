@@ -124,7 +124,7 @@ fn are_right<const OFFSET_BITS: u32, S: Store<OFFSET_BITS, Layout = TreeLayout> 
     Ok(are_seen(look(alloc, tree)?, pairs))
 }
 
-/// Returns the result of a row: rounds of 500 changes, of which `puts` of eight are puts.
+/// Returns the result of a row: for each round of 500 changes, the row says how many of eight are puts.
 pub fn answer<const OFFSET_BITS: u32, S: Store<OFFSET_BITS, Layout = TreeLayout> + Drop>(
     alloc: Global,
     tree: NumberTree<OFFSET_BITS, S>,

@@ -51,7 +51,7 @@ fn take_leaf<const OFFSET_BITS: u32, F: Frozen<OFFSET_BITS>, T: TakesKeys>(
     taker.take(used_keys(&words))
 }
 
-/// Passes on the keys below a node above the leaves. `level` is its level less one.
+/// Passes on the keys below a node above the leaves. `below` is its level less one.
 fn take_below<const OFFSET_BITS: u32, F: Frozen<OFFSET_BITS>, T: TakesKeys>(
     frozen: &mut F,
     node: EntryRef<OFFSET_BITS>,
