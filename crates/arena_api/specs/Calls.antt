@@ -78,7 +78,7 @@ padded words width = words ++ replicate (width - length words) 0
 abbrev pub nothing_stored : Stored
 nothing_stored r i = None
 
--- the free buffer of lowest number
+-- the free buffer with the lowest number
 pub record IsLowestFree (buffer : ℕ → Buffer) (count b : ℕ) : Type 0 where
   pub below : b < count
   pub free : is_free (buffer b) ≡ true

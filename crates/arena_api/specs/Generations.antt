@@ -35,7 +35,7 @@ pub record IsQueue {H : Type 0} (work : WorkView H) : Type 0 where
   pub order : AreInOrder work.queue
   pub each : AllByRecursion (IsOpenHold work) work.queue
 
--- the closed hold of lowest number
+-- the closed hold with the lowest number
 pub record IsLowestClosed (queue : List Hold) (hold : ℕ) : Type 0 where
   pub below : hold < 16
   pub closed : AllByRecursion (λ h. h.hold ≡ hold → ⊥) queue

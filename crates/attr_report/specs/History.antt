@@ -53,7 +53,7 @@ pub data RunEvent : Type 0 where
   Commit : (operations : ℕ) → RunEvent
   Round : (reader round operations : ℕ) → (answers : List Answer) → RunEvent
 
--- from 0 up
+-- the numbers from 0 to n
 unfoldable pub numbers_to : ℕ → List ℕ
 numbers_to zero = 0 ∷ []
 numbers_to (suc n) = numbers_to n ++ suc n ∷ []

@@ -1,4 +1,4 @@
-//! The fields of documents, and all fields.
+//! Reading the fields of a document, and all fields of a save.
 ghost use Rattle.std.specs.Prelude.{◌≡◌, ◌≤◌, IfOk};
 ghost use Rattle.attr_saver.specs.Answers.{Gives};
 ghost use Rattle.attr_saver.specs.Fields.{kind_of, read_kind, type_by_byte, read_type, read_count};

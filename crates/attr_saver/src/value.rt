@@ -1,4 +1,4 @@
-//! The fields of an item.
+//! Reading the fields of an item.
 ghost use Rattle.std.specs.Prelude.{◌≡◌, ◌≤◌, IfOk, None};
 ghost use Rattle.attr_saver.specs.Answers.{Gives};
 ghost use Rattle.attr_saver.specs.Fields.{read_long, read_text_len, read_text, last_value, may_follow};

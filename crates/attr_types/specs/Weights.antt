@@ -1,4 +1,4 @@
--- Items as a map from their values to their weights.
+-- Items as a map from values to weights.
 use Rattle.std.specs.Prelude.{ℤ, List, [], ◌∷◌, map}
 use Rattle.std.specs.BTreeMap.{insert_entry}
 use Rattle.attr_types.specs.Value.{value_cmp}
