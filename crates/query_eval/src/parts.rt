@@ -18,7 +18,7 @@ use attr_types::{Doc, Part, Score, ScoreList, Value, ValueType};
 use entry_ref::EntryRef;
 use std::alloc::{AllocError, Global};
 
-/// The documents with those that have the value of a part.
+/// Adds the documents that have the value of some part to those gathered.
 fn gather_parts<const OFFSET_BITS: u32, F: Frozen<OFFSET_BITS>>(
     alloc: Global,
     frozen: &mut F,
@@ -38,7 +38,7 @@ fn gather_parts<const OFFSET_BITS: u32, F: Frozen<OFFSET_BITS>>(
     Ok(all)
 }
 
-/// The weight of a document's item with a value, 0 where it has none.
+/// Returns the weight of a document's item with a value, or 0 if it has none.
 fn weight_of_value<const OFFSET_BITS: u32, F: Frozen<OFFSET_BITS>>(
     frozen: &mut F,
     root: EntryRef<OFFSET_BITS>,
@@ -64,7 +64,7 @@ fn product(weight: i32, other: i32) -> i128
     i128::from(weight) * i128::from(other)
 }
 
-/// The score of a document.
+/// Returns the score of a document.
 fn score_at<const OFFSET_BITS: u32, F: Frozen<OFFSET_BITS>>(
     frozen: &mut F,
     root: EntryRef<OFFSET_BITS>,
@@ -85,7 +85,7 @@ fn score_at<const OFFSET_BITS: u32, F: Frozen<OFFSET_BITS>>(
     score
 }
 
-/// The documents of a list, each with its score.
+/// Returns the documents of a list, each with its score.
 fn scores_of<const OFFSET_BITS: u32, F: Frozen<OFFSET_BITS>>(
     alloc: Global,
     frozen: &mut F,
@@ -108,7 +108,7 @@ fn scores_of<const OFFSET_BITS: u32, F: Frozen<OFFSET_BITS>>(
     Ok(list)
 }
 
-/// The documents that have the value of some part, ascending, each with its score.
+/// Returns the documents that have the value of some part, ascending, each with its score.
 pub fn scored<const OFFSET_BITS: u32, F: Frozen<OFFSET_BITS>>(
     alloc: Global,
     frozen: &mut F,
