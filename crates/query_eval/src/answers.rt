@@ -8,8 +8,8 @@ ghost use Rattle.attr_types.specs.declared.field.TheConstants.{MOST_FIELDS};
 ghost use Rattle.std.specs.Prelude.{◌≡◌, ◌≤◌, length, IfOk};
 
 use crate::image::{dictionaries_of, root_at};
+use crate::parts::scored;
 use crate::queries::matching;
-use crate::scored;
 use arena_api::Frozen;
 use attr_types::{DocList, Fields, Parts, Query, ScoreList};
 use entry_ref::EntryRef;

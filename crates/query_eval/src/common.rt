@@ -15,8 +15,8 @@ use crate::dictionary::Dictionary;
 use crate::kept::keep_marked;
 use crate::lists::{gather_list, keep_list};
 use crate::marks::marks_of_tree;
-use crate::parts::word_of;
 use crate::sizes::size_of_list;
+use crate::words::word_of;
 use arena_api::Frozen;
 use attr_images::FIRST_VECTOR;
 use attr_index::Gathered;
@@ -175,6 +175,16 @@ fn word_of_member<const OFFSET_BITS: u32, F: Frozen<OFFSET_BITS>>(
     }
 }
 
+fn is_one_value(query: &Query) -> bool {
+    match query {
+        Query::One { field: _, leaf } => match leaf {
+            Leaf::Is(_) => true,
+            _ => false,
+        },
+        _ => false,
+    }
+}
+
 /// Returns the documents that two members match, if each is one value. Returns `None` if there are other members.
 pub fn common_of_two<const OFFSET_BITS: u32, F: Frozen<OFFSET_BITS>>(
     alloc: Global,
@@ -190,6 +200,12 @@ pub fn common_of_two<const OFFSET_BITS: u32, F: Frozen<OFFSET_BITS>>(
     let [one, other] = queries else {
         return Ok(None);
     };
+    if !is_one_value(one) {
+        return Ok(None);
+    }
+    if !is_one_value(other) {
+        return Ok(None);
+    }
     let Some(first) = word_of_member(frozen, dictionaries, one) else {
         return Ok(None);
     };

@@ -21,10 +21,7 @@ mod takers;
 mod values;
 mod walks;
 mod weights;
+mod words;
 
 pub use answers::{hits, scores};
 pub use image::documents;
-pub use lists::{gather_list, keep_list};
-pub use parts::{kept_with, scored, with_value, word_of};
-pub use values::is_of_type;
-pub use walks::{gather_every, gather_leaf};

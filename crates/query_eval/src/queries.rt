@@ -12,7 +12,8 @@ ghost use Rattle.query_eval.specs.Indexes.{AreIndexed, AreMatched, IsMatched, in
 use crate::common::common_of_two;
 use crate::dictionary::Dictionary;
 use crate::sizes::shortest_of;
-use crate::{gather_every, gather_leaf, kept_with, with_value};
+use crate::walks::{gather_every, gather_leaf};
+use crate::words::{kept_with, with_value};
 use arena_api::Frozen;
 use attr_index::Gathered;
 use attr_types::{DocList, Leaf, Query};

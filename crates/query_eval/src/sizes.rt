@@ -5,7 +5,7 @@ ghost use Rattle.query_eval.specs.Parts.{IsIndexed};
 ghost use Rattle.query_eval.specs.Indexes.{AreIndexed};
 
 use crate::dictionary::Dictionary;
-use crate::word_of;
+use crate::words::word_of;
 use arena_api::Frozen;
 use array_store::count;
 use attr_images::FIRST_VECTOR;

@@ -6,7 +6,7 @@ use Rattle.enum_dictionary.specs.Dictionaries.{beside_value}
 use Rattle.query_eval.proofs.PartLemmas.{type_is, is_dictionary}
 use Rattle.query_eval.specs.Weights.{IsListWord}
 use Rattle.query_eval.proofs.WordLemmas.{not_there, none_there, is_there, is_word, pair_of_entry, none_of_entry}
-use Rattle.query_eval.proofs.parts.word_of.Goals as goal
+use Rattle.query_eval.proofs.words.word_of.Goals as goal
 
 pub returns-then-not-is_of_type-clause-list : goal.returns-then-not-is_of_type-clause-list
 returns-then-not-is_of_type-clause-list g c =

@@ -1,7 +1,7 @@
 use Rattle.std.proofs.Common.{◌≡◌, ℕ, ℤ, Bool, true, false, ◌&&◌, List, refl, ap, ◌∙◌}
 use Rattle.std.specs.Map.{keys_of}
 use Rattle.attr_index.specs.Sets.{has}
-use Rattle.query_eval.proofs.parts.kept_with.Goals as goal
+use Rattle.query_eval.proofs.words.kept_with.Goals as goal
 
 never : (a : Bool) → false ≡ (a && false)
 never true = refl
