@@ -23,16 +23,16 @@ pub record MapView (S : Type 0) : Type 0 where
   pub most : ℕ
   pub buffers : ℕ
 
--- a stored key beside a number
+-- compares a stored key with a number
 abbrev pub beside_number : ℕ → ℕ → Ordering
 beside_number key stored = nat_cmp stored key
 
--- the first pair, where there is one
+-- the first pair, if there is one
 abbrev pub first_of : List (ℕ × ℕ) → Option (ℕ × ℕ)
 first_of [] = None
 first_of (p ∷ ps) = Some p
 
--- the nodes of a tree by number are exactly what is in use, no unit is under way, and no buffer is to go on hold
+-- the nodes of a tree by number are exactly what is in use, no unit is open, and no buffer is about to go on hold
 pub record HoldsTree {H : Type 0} (ledger : Ledger H) (m : Records) (root : ℕ) : Type 0 where
   pub is_tree : IsTree nat_cmp by_number m root
   pub owns : OwnsAll ledger m (tree root ∷ [])
