@@ -6,11 +6,13 @@ use arena_api::{Advance, Oldest};
 use compact_steps::Step;
 use entry_ref::EntryRef;
 use store_api::StoreError;
+use thiserror::Error;
 
 /// Why an operation or a commit was refused. Everything is as it was, and the call may be repeated.
-#[derive(Clone, Copy, Drop)]
+#[derive(Clone, Copy, Debug, PartialEq, Eq, Drop, Error)]
 pub enum AttrError {
     /// The store has no space for an entry of this width: no buffer is free.
+    #[error("no room for an entry of {width} words: {active} buffers are active, {held} on hold")]
     Full {
         width: u32,
         active: u32,
@@ -18,9 +20,12 @@ pub enum AttrError {
         oldest: Oldest,
     },
     /// This commit is the last possible one.
+    #[error("commit {commit} is the last that there can be")]
     CommitsSpent {
         commit: u32,
     },
+    /// Memory ran out.
+    #[error("memory ran out")]
     Memory,
 }
 

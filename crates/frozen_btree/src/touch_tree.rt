@@ -1,4 +1,4 @@
-ghost use Rattle.std.specs.Prelude.{◌≡◌, ◌∷◌, [], true, IfOk, IfErr, OnErr};
+ghost use Rattle.std.specs.Prelude.{◌≡◌, ◌∷◌, [], true, Ok, IfOk, IfErr, OnErr};
 ghost use Rattle.tree_read.specs.Trees.{tree_pairs, IsTree, Keeps};
 ghost use Rattle.tree_read.specs.Keys.{seen_by, AllReadable, KeepsOthers, IsKeyedTree};
 ghost use Rattle.store_api.specs.Calls.{Refuses};
@@ -33,6 +33,9 @@ fn make_anew<const OFFSET_BITS: u32, S: Store<OFFSET_BITS>, K: KeyOrder<OFFSET_B
         root.entry r replaced.new.items (tree_pairs (S.records store.old) root.entry)) }
     ensures apart { IfOk result (λ r. NoneIn OFFSET_BITS buffer
         (path_nodes (S.records store.new) (seen_by K.read K.order (K.sought key.now) (S.records store.old)) r)) }
+    ensures still { NoneIn OFFSET_BITS buffer
+        (path_nodes (S.records store.old) (seen_by K.read K.order (K.sought key.now) (S.records store.old)) root.entry)
+        → (result ≡ Ok root.entry) × ((store.new ≡ store.old) × (replaced.new.items ≡ [])) }
     ensures makes { MakesNodes (S.ledger store.old) (S.ledger store.new) (S.records store.old) (S.records store.new)
         (levels (S.records store.old) root.entry) }
     ensures refuses { IfErr result (Refuses (S.ledger store.old) (S.ledger store.new) NODE_WORDS) }
@@ -62,6 +65,10 @@ pub fn touch<const OFFSET_BITS: u32, S: Store<OFFSET_BITS>, K: KeyOrder<OFFSET_B
     ensures pairs { IfOk result (λ r. tree_pairs (S.records store.new) r ≡ tree_pairs (S.records store.old) root.entry) }
     ensures apart { IfOk result (λ r. NoneIn OFFSET_BITS buffer
         (path_nodes (S.records store.new) (seen_by K.read K.order (K.sought key.now) (S.records store.old)) r)) }
+    // Where none does already, the tree stays, and nothing was made.
+    ensures still { NoneIn OFFSET_BITS buffer
+        (path_nodes (S.records store.old) (seen_by K.read K.order (K.sought key.now) (S.records store.old)) root.entry)
+        → (result ≡ Ok root.entry) × (store.new ≡ store.old) }
     ensures turns { IfOk result (λ r. Turns (S.ledger store.old) (S.ledger store.new) (S.records store.old) (S.records store.new)
         (tree root.entry ∷ []) (tree r ∷ [])) }
     ensures others { KeepsOthers (S.records store.old) (S.records store.new) }

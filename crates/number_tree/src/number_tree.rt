@@ -1,8 +1,9 @@
-ghost use Rattle.std.specs.Prelude.{◌≡◌, ◌↔◌, ◌-◌, ◌+◌, [], length, is_some, IsNone, IfSome, IfNone, IfOk, IfErr, OnOk, OnErr};
+ghost use Rattle.std.specs.Prelude.{◌≡◌, ◌↔◌, ◌-◌, ◌+◌, ◌*◌, [], length, is_some, IsNone, IfSome, IfNone, IfOk, IfErr, OnOk, OnErr};
 ghost use Rattle.tree_read.specs.Trees.{tree_pairs};
 ghost use Rattle.tree_read.specs.Pairs.{lookup, put, take_out, seek};
 ghost use Rattle.store_api.specs.Ledgers.{IsNew};
-ghost use Rattle.number_tree.specs.Maps.{HoldsTree, IsRefusal, beside_number, first_of};
+ghost use Rattle.frozen_btree.specs.Changes.{levels};
+ghost use Rattle.number_tree.specs.Maps.{HoldsTree, IsRefusal, IsSameMap, beside_number, first_of};
 
 use crate::layout::TreeLayout;
 use crate::unit::{commit_tree, insert_unit, remove_unit};
@@ -25,9 +26,10 @@ impl<const OFFSET_BITS: u32, S: Store<OFFSET_BITS, Layout = TreeLayout>> Model
     ghost use Rattle.tree_read.specs.Trees.{tree_pairs};
     ghost use Rattle.number_tree.specs.Maps.{MapView, HoldsTree};
 
-    ghost Value = { MapView };
+    ghost Value = { MapView S };
 
     ghost view = { λ t. record {
+      store = t.store;
       pairs = tree_pairs (S.records t.store) t.root;
       root = t.root;
       commits = (S.ledger t.store).work.commits.last;
@@ -45,6 +47,7 @@ impl<const OFFSET_BITS: u32, S: Store<OFFSET_BITS, Layout = TreeLayout>> NumberT
     /// Creates the empty map, in a store in which nothing was made.
     pub fn new(store: S) -> Self
         requires { IsNew (S.ledger store) }
+        ensures store { result.store ≡ store }
         ensures pairs { result.pairs ≡ [] }
         ensures root { result.root ≡ 0 }
         ensures commits { result.commits ≡ (S.ledger store).work.commits.last }
@@ -60,6 +63,7 @@ impl<const OFFSET_BITS: u32, S: Store<OFFSET_BITS, Layout = TreeLayout>> NumberT
     /// Returns the map of a tree that is all that a store has in use.
     pub fn with_root(store: S, root: EntryRef<OFFSET_BITS>) -> Self
         requires { HoldsTree (S.ledger store) (S.records store) root }
+        ensures store { result.store ≡ store }
         ensures pairs { result.pairs ≡ tree_pairs (S.records store) root.entry }
         ensures root { result.root ≡ root.entry }
         ensures commits { result.commits ≡ (S.ledger store).work.commits.last }
@@ -71,6 +75,7 @@ impl<const OFFSET_BITS: u32, S: Store<OFFSET_BITS, Layout = TreeLayout>> NumberT
 
     /// Returns the store, in which the tree is all that is in use.
     pub fn store(&self) -> &S
+        ensures store { result.now ≡ self.now.store }
         ensures holds { HoldsTree (S.ledger result.now) (S.records result.now) self.now.root }
         ensures pairs { tree_pairs (S.records result.now) self.now.root ≡ self.now.pairs }
     {
@@ -79,6 +84,7 @@ impl<const OFFSET_BITS: u32, S: Store<OFFSET_BITS, Layout = TreeLayout>> NumberT
 
     /// Returns the store and ends the map.
     pub fn into_store(self) -> S
+        ensures store { result ≡ self.store }
         ensures holds { HoldsTree (S.ledger result) (S.records result) self.root }
         ensures pairs { tree_pairs (S.records result) self.root ≡ self.pairs }
         ensures commits { (S.ledger result).work.commits.last ≡ self.commits }
@@ -95,29 +101,31 @@ impl<const OFFSET_BITS: u32, S: Store<OFFSET_BITS, Layout = TreeLayout>> NumberT
         self.root
     }
 
-    /// Puts a value at a key, in place of any value there. After an error everything is as before. The store is
-    /// `Full` if no buffer has space for a node of 34 words.
+    /// Puts a value at a key, in place of the one there. On an error the map is as before. The store is
+    /// `Full` where no buffer has room for a node of 34 words.
     pub fn put(&mut self, key: u64, value: u64) -> Result<(), StoreError>
         ensures pairs { OnOk result (self.new.pairs ≡ put (beside_number key) (key, value) self.old.pairs) }
         ensures commits { self.new.commits ≡ self.old.commits }
         ensures most { self.new.most ≡ self.old.most }
         ensures buffers { self.new.buffers ≡ self.old.buffers }
-        ensures left { OnErr result (self.new ≡ self.old) }
-        ensures refused { IfErr result (IsRefusal self.old.buffers) }
+        ensures left { OnErr result (IsSameMap self.old self.new) }
+        ensures refused { IfErr result (IsRefusal (S.ledger self.old.store) (S.ledger self.new.store) (S.records self.new.store)
+            (2 * levels (S.records self.old.store) self.old.root + 1)) }
     {
         self.root = insert_unit(&mut self.store, self.root, key, value)?;
         Ok(())
     }
 
-    /// Removes a key, and returns whether it existed. After an error everything is as before.
+    /// Takes out a key. The answer is whether it was there. On an error the map is as before.
     pub fn remove(&mut self, key: u64) -> Result<bool, StoreError>
         ensures taken { IfOk result (λ taken. taken ≡ is_some (lookup (beside_number key) self.old.pairs)) }
         ensures pairs { OnOk result (self.new.pairs ≡ take_out (beside_number key) self.old.pairs) }
         ensures commits { self.new.commits ≡ self.old.commits }
         ensures most { self.new.most ≡ self.old.most }
         ensures buffers { self.new.buffers ≡ self.old.buffers }
-        ensures left { OnErr result (self.new ≡ self.old) }
-        ensures refused { IfErr result (IsRefusal self.old.buffers) }
+        ensures left { OnErr result (IsSameMap self.old self.new) }
+        ensures refused { IfErr result (IsRefusal (S.ledger self.old.store) (S.ledger self.new.store) (S.records self.new.store)
+            (levels (S.records self.old.store) self.old.root + 1)) }
     {
         if self.get(key).is_none() {
             return Ok(false);

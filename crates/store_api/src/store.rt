@@ -17,17 +17,21 @@ ghost use Rattle.store_api.specs.Victims.{IsVictim, HasNoVictim};
 
 use arena_api::{Advance, Frozen, Oldest};
 use entry_ref::{EntryRef, Layout};
+use thiserror::Error;
 
 /// Why no entry was made.
-#[derive(Clone, Copy, Debug, PartialEq, Eq, Drop)]
+#[derive(Clone, Copy, Debug, PartialEq, Eq, Drop, Error)]
 pub enum StoreError {
     /// The width has no free entry and no space in the buffer being filled, and no buffer is free after a reclaim.
+    #[error("no room for an entry of {width} words: {active} buffers are active, {held} on hold")]
     Full {
         width: u32,
         active: u32,
         held: u32,
         oldest: Oldest,
     },
+    /// Memory ran out.
+    #[error("memory ran out")]
     Memory,
 }
 

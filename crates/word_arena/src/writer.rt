@@ -19,6 +19,7 @@ use arena_api::Frozen;
 use entry_ref::{EntryRef, Layout, place_of};
 use gen_core::{Buffer, Sizes};
 use generation_handler::Holds;
+use thiserror::Error;
 
 #[derive(Drop)]
 pub struct Writer<'a, const OFFSET_BITS: u32, L: Layout> {
@@ -33,7 +34,8 @@ pub struct Writer<'a, const OFFSET_BITS: u32, L: Layout> {
 }
 
 /// The highest number of readers was made.
-#[derive(Clone, Copy, PartialEq, Eq, Debug, Drop)]
+#[derive(Clone, Copy, PartialEq, Eq, Debug, Drop, Error)]
+#[error("{made} readers were made, and there can be no more")]
 pub struct NoSeat {
     pub made: u32,
 }
