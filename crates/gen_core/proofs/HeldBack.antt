@@ -21,7 +21,7 @@ use Rattle.gen_core.specs.declared.views.ReaderView.{ReaderView}
 use Rattle.gen_core.specs.declared.views.Sizes.{Sizes}
 use Rattle.gen_core.specs.Views.{queue_of, open_holds, oldest_of, last_number, last_image, active_width, active_in, is_open_hold, is_counted_on, stands_on, spent}
 use Rattle.gen_core.specs.Good.{State, RaiseFits, GoodReaderState, GoodReader, Good}
-use Rattle.gen_core.specs.Events.{coming_hold, tag_of, newcomer, with_state, found_state, aims, bounced, sees, count_at, Event, Happens, Happen, store_width, store_word, find_word, hand_out, publish, put_on_hold, free_buffer, reopen}
+use Rattle.gen_core.specs.Events.{coming_hold, tag_of, newcomer, meets, released, aims, bounced, sees, count_at, Event, Happens, Happen, store_width, store_word, find_word, hand_out, publish, put_on_hold, free_buffer, reopen}
 use Rattle.gen_core.specs.Events.{store_newest, close, stop_at_oldest, probe, stop_at_newest, morph, split, join, meet_load, load_own, load_newest, raise, bounce, load_root, load_word, release, MayOpen, opening}
 use Rattle.gen_core.proofs.Lists.{all_at, at_longer}
 use Rattle.gen_core.proofs.Holds.{newest-most, oldest-least}
@@ -194,14 +194,14 @@ module _ (reaches : ℕ → Records → ℕ → List ℕ) (lawful : ℕ → Reco
   kept s t meet_load j h b g x off k = subst (Kept j h b) (sym x.1) k
   kept s t (load_own p) j h b g x off k = subst (Kept j h b) (sym x.1) k
   kept s t (load_newest i) j h b g x off k = subst (Kept j h b) (sym x.3) (stands-other s.readers j h i x.0 (aims x.0 s.writer.queue.newest) x.1 (ap stands_on x.2) k.0, k.1)
-  kept s t (raise i) j h b g x off k = subst (Kept j h b) (sym x.5) (stands-other s.readers j h i x.0 (with_state x.0 (found_state (count_at s x.3) x.3)) x.1 (ap stands_on x.4) k.0, k.1)
+  kept s t (raise i) j h b g x off k = subst (Kept j h b) (sym x.5) (stands-other s.readers j h i x.0 (meets x.0 (count_at s x.3) x.3) x.1 (ap stands_on x.4) k.0, k.1)
   kept s t (bounce i) j h b g x off k = subst (Kept j h b) (sym x.4) (stands-other s.readers j h i x.0 (bounced x.0) x.1 (ap stands_on x.3) k.0, k.1)
   kept s t (load_root i) j h b g x off k = subst (Kept j h b) (sym x.4) (
-    stands-set s.readers j h i x.0 (sees x.0 x.2 (last_number s.writer.commits) (last_image s.writer.commits)) x.1 (λ same on. sym (ap stands_on x.3) ∙ on) k.0,
+    stands-set s.readers j h i x.0 (sees x.0 x.2 (last_number s.writer.commits) (last_image s.writer.commits)) x.1 (λ same on. sym x.3 ∙ on) k.0,
     k.1,
   )
   kept s t (load_word i p) j h b g x off k = subst (Kept j h b) (sym x.3) k
-  kept s t (release i) j h b g x off k = subst (Kept j h b) (sym x.5) (stands-set s.readers j h i x.0 (with_state x.0 Idle) x.1 (λ same on. absurd (off (ap release same))) k.0, k.1)
+  kept s t (release i) j h b g x off k = subst (Kept j h b) (sym x.5) (stands-set s.readers j h i x.0 (released x.0) x.1 (λ same on. absurd (off (ap release same))) k.0, k.1)
 
   kept_on : IsLayout reaches lawful → (events : List Event) (s t : State) (j h b : ℕ) → Good reaches lawful s → Happen reaches lawful s events t → All (λ e. e ≢ release j) events → Kept j h b s → Kept j h b t
   kept_on l [] s t j h b g x none k = subst (Kept j h b) (sym x) k

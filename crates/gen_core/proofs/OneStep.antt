@@ -6,7 +6,7 @@ use Rattle.std.specs.Option.{unwrap_or}
 use Rattle.gen_core.specs.Views.{oldest_in, oldest_of, last_number, last_image, newest_word, hold_place, spent}
 use Rattle.gen_core.specs.Good.{State}
 use Rattle.gen_core.specs.Steps.{left_by, hold_of, hold_in, next_hold, view_at, IsOneStep, add, subtract, exchange}
-use Rattle.gen_core.specs.Events.{coming_hold, newcomer, with_state, aims, found_state, bounced, sees, count_at, Event, Happens, store_width, store_word, find_word, hand_out, publish, put_on_hold, free_buffer, reopen}
+use Rattle.gen_core.specs.Events.{coming_hold, newcomer, meets, released, aims, bounced, sees, count_at, Event, Happens, store_width, store_word, find_word, hand_out, publish, put_on_hold, free_buffer, reopen}
 use Rattle.gen_core.specs.Events.{store_newest, close, stop_at_oldest, probe, stop_at_newest, morph, split, join, meet_load, load_own, load_newest, raise, bounce, load_root, load_word, release}
 use Rattle.gen_core.specs.declared.views.OpenHold.{OpenHold}
 use Rattle.gen_core.specs.declared.views.ReaderView.{ReaderView}
@@ -103,7 +103,7 @@ module _ (reaches : ℕ → Records → ℕ → List ℕ) (lawful : ℕ → Reco
   }
   one_step s t (raise j) h = record {
     words = on-count s t j h.3 h.0 (left_by (add 2)) h.1 (ap hold_of h.4) (ap (λ (x : State). x.words) h.5);
-    views = λ k off far. reader-alone s t j (with_state h.0 (found_state (count_at s h.3) h.3)) (ap (λ (x : State). x.writer) h.5) (ap (λ (x : State). x.readers) h.5) k off;
+    views = λ k off far. reader-alone s t j (meets h.0 (count_at s h.3) h.3) (ap (λ (x : State). x.writer) h.5) (ap (λ (x : State). x.readers) h.5) k off;
   }
   one_step s t (bounce j) h = record {
     words = on-count s t j h.2 h.0 (left_by (subtract 2)) h.1 (ap hold_of h.3) (ap (λ (x : State). x.words) h.4);
@@ -116,5 +116,5 @@ module _ (reaches : ℕ → Records → ℕ → List ℕ) (lawful : ℕ → Reco
   one_step s t (load_word j p) h = record { words = loaded s t p (ap (λ (x : State). x.words) h.3); views = λ k off far. ap (λ x. view_at x k) h.3 }
   one_step s t (release j) h = record {
     words = on-count s t j h.2 h.0 (left_by (subtract 2)) h.1 (ap hold_of h.4) (ap (λ (x : State). x.words) h.5);
-    views = λ k off far. reader-alone s t j (with_state h.0 Idle) (ap (λ (x : State). x.writer) h.5) (ap (λ (x : State). x.readers) h.5) k off;
+    views = λ k off far. reader-alone s t j (released h.0) (ap (λ (x : State). x.writer) h.5) (ap (λ (x : State). x.readers) h.5) k off;
   }

@@ -14,6 +14,7 @@ use Rattle.gen_core.specs.declared.views.Buffer.TheVariants.{Free, Active, Held}
 use Rattle.gen_core.specs.declared.views.Tag.{Tag}
 use Rattle.gen_core.specs.declared.views.ReaderState.{ReaderState}
 use Rattle.gen_core.specs.declared.views.ReaderState.TheVariants.{Idle, Aimed, Raised, Bounced, Guarded}
+use Rattle.gen_core.specs.declared.views.Misses.{Misses}
 use Rattle.gen_core.specs.declared.views.ReaderView.{ReaderView}
 use Rattle.gen_core.specs.declared.views.WriterView.{WriterView}
 use Rattle.gen_core.specs.Views.{queue_of, open_holds, hold_place, newest_word, last_number, last_image, root_word, last_tag_in, stands_on}
@@ -21,7 +22,7 @@ use Rattle.gen_core.specs.Views.{spent}
 use Rattle.gen_core.specs.Work.{next_image}
 use Rattle.gen_core.specs.Good.{State}
 use Rattle.gen_core.specs.Conditions.{MayStoreWidth, MayStoreWord, MayHandOut, MayPublish, MayPutOnHold, MayFree, MayReopen, MayClose}
-use Rattle.gen_core.specs.Conditions.{MayProbe, MaySplit, MayJoin, MayLoadWord}
+use Rattle.gen_core.specs.Conditions.{MayProbe, MaySplit, MayJoin, MayLoadOwn, MayLoadWord}
 
 -- What a view becomes.
 
@@ -77,7 +78,15 @@ abbrev pub with_reader : WriterView → WriterView
 with_reader w = record w { made = w.made + 1 }
 
 abbrev pub newcomer : WriterView → ReaderView
-newcomer w = record { sizes = w.sizes; seen = last_number w.commits; least = w.queue.newest.generation; state = Idle; saw = [] }
+newcomer w = record {
+  sizes = w.sizes;
+  seen = last_number w.commits;
+  least = w.queue.newest.generation;
+  first = w.queue.newest.generation;
+  misses = record { count = 0; found = 0 };
+  state = Idle;
+  saw = [];
+}
 
 abbrev pub joined : WriterView → ReaderView → WriterView
 joined w r = record w { saw = r.saw ++ w.saw }
@@ -85,15 +94,29 @@ joined w r = record w { saw = r.saw ++ w.saw }
 abbrev pub with_state : ReaderView → ReaderState → ReaderView
 with_state r t = record r { state = t }
 
+-- the generation that was aimed at first: this one, unless a miss is to be made good
+abbrev pub first_aim : ReaderView → ℕ → ℕ
+first_aim r generation = if nat_eq r.misses.count 0 then generation else r.first
+
 abbrev pub aims : ReaderView → OpenHold → ReaderView
-aims r e = record r { least = e.generation; state = Aimed e.generation e.hold }
+aims r e = record r { least = e.generation; first = first_aim r e.generation; state = Aimed e.generation e.hold }
 
 -- an even count says that the hold is open
 abbrev pub found_state : ℕ → ℕ → ReaderState
 found_state found h = if nat_eq (found % 2) 0 then Raised h else Bounced h
 
+-- an odd one is a miss
+abbrev pub found_misses : ℕ → Misses → Misses
+found_misses found misses = if nat_eq (found % 2) 0 then misses else record { count = misses.count + 1; found = found }
+
+abbrev pub meets : ReaderView → ℕ → ℕ → ReaderView
+meets r found h = record r { state = found_state found h; misses = found_misses found r.misses }
+
 abbrev pub bounced : ReaderView → ReaderView
 bounced r = record r { least = r.least + 1; state = Idle }
+
+abbrev pub released : ReaderView → ReaderView
+released r = record r { state = Idle; misses = record { count = 0; found = r.misses.found } }
 
 abbrev pub sees : ReaderView → ℕ → ℕ → Image → ReaderView
 sees r h number image = record r { seen = number; state = Guarded h number; saw = (number, image) ∷ r.saw }
@@ -174,7 +197,7 @@ abbrev pub after_count : State → ℕ → ℕ → ℕ → ReaderView → State
 after_count s h n j v = record { words = set s.words (hold_place h) n; writer = s.writer; readers = set s.readers j v }
 
 abbrev pub after_raise : State → ℕ → ReaderView → ℕ → State
-after_raise s j r h = after_count s h (count_at s h + 2) j (with_state r (found_state (count_at s h) h))
+after_raise s j r h = after_count s h (count_at s h + 2) j (meets r (count_at s h) h)
 
 abbrev pub after_bounce : State → ℕ → ReaderView → ℕ → State
 after_bounce s j r h = after_count s h (count_at s h - 2) j (bounced r)
@@ -183,7 +206,7 @@ abbrev pub after_load_root : State → ℕ → ReaderView → ℕ → State
 after_load_root s j r h = record s { readers = set s.readers j (sees r h (last_number s.writer.commits) (last_image s.writer.commits)) }
 
 abbrev pub after_release : State → ℕ → ReaderView → ℕ → State
-after_release s j r h = after_count s h (count_at s h - 2) j (with_state r Idle)
+after_release s j r h = after_count s h (count_at s h - 2) j (released r)
 
 -- The opening.
 
@@ -215,7 +238,8 @@ pub record MayOpen (sizes : Sizes) : Type 0 where
   pub generation_limit : sizes.generation_limit < 2 ^ 48
 
 -- A reader is named by its place among those made. The writer's loads, of the root after a join (`meet_load`)
--- and of any word (`load_own`), change nothing.
+-- and of a buffer's word (`load_own`), change nothing. The root is loaded by a reader that keeps a hold open: for a
+-- guard, or again under one.
 pub data Event : Type 0 where
   store_width : (b width : ℕ) → Event
   store_word : (p n : ℕ) → Event
@@ -264,13 +288,13 @@ module _ (reaches : ℕ → Records → ℕ → List ℕ) (lawful : ℕ → Reco
   Happens s split t = MaySplit s.writer × (t ≡ after_split s)
   Happens s (join j) t = (r : ReaderView) × (slice_get s.readers j ≡ Some r) × MayJoin s.writer r × (t ≡ after_join s j r)
   Happens s meet_load t = (s.writer.queue.pending ≡ Nothing) × (t ≡ s)
-  Happens s (load_own p) t = (s.writer.queue.pending ≡ Nothing) × (t ≡ s)
+  Happens s (load_own p) t = MayLoadOwn s.writer p × (t ≡ s)
   Happens s (load_newest j) t = (r : ReaderView) × (slice_get s.readers j ≡ Some r) × (r.state ≡ Idle) × (t ≡ after_load_newest s j r)
   Happens s (raise j) t = (r : ReaderView) × (slice_get s.readers j ≡ Some r) × (generation : ℕ) × (h : ℕ) × (r.state ≡ Aimed generation h)
       × (t ≡ after_raise s j r h)
   Happens s (bounce j) t = (r : ReaderView) × (slice_get s.readers j ≡ Some r) × (h : ℕ) × (r.state ≡ Bounced h)
       × (t ≡ after_bounce s j r h)
-  Happens s (load_root j) t = (r : ReaderView) × (slice_get s.readers j ≡ Some r) × (h : ℕ) × (r.state ≡ Raised h)
+  Happens s (load_root j) t = (r : ReaderView) × (slice_get s.readers j ≡ Some r) × (h : ℕ) × (stands_on r.state ≡ Some h)
       × (t ≡ after_load_root s j r h)
   Happens s (load_word j p) t = (r : ReaderView) × (slice_get s.readers j ≡ Some r) × MayLoadWord r p × (t ≡ s)
   Happens s (release j) t = (r : ReaderView) × (slice_get s.readers j ≡ Some r) × (h : ℕ) × (c : ℕ) × (r.state ≡ Guarded h c)

@@ -10,6 +10,7 @@ use Rattle.gen_core.specs.declared.views.Pending.TheVariants.{Nothing}
 use Rattle.gen_core.specs.declared.views.Queue.{Queue}
 use Rattle.gen_core.specs.declared.views.Stops.{Stops}
 use Rattle.gen_core.specs.declared.views.Buffer.TheVariants.{Free, Active}
+use Rattle.gen_core.specs.declared.views.Misses.{Misses}
 use Rattle.gen_core.specs.declared.views.ReaderState.{ReaderState}
 use Rattle.gen_core.specs.declared.views.ReaderState.TheVariants.{Idle, Guarded}
 use Rattle.gen_core.specs.declared.views.ReaderView.{ReaderView}
@@ -59,8 +60,19 @@ hold_view commits queue made stops =
       stops = stops;
     }
 
-abbrev pub hold_reader : ℕ → ℕ → ReaderState → List (ℕ × Image) → ReaderView
-hold_reader seen least state saw = record { sizes = hold_sizes; seen = seen; least = least; state = state; saw = saw }
+abbrev pub misses_of : ℕ → ℕ → Misses
+misses_of count found = record { count = count; found = found }
+
+abbrev pub hold_reader : ℕ → ℕ → ℕ → Misses → ReaderState → List (ℕ × Image) → ReaderView
+hold_reader seen least first misses state saw = record {
+  sizes = hold_sizes;
+  seen = seen;
+  least = least;
+  first = first;
+  misses = misses;
+  state = state;
+  saw = saw;
+}
 
 -- the words where all holds but 0 and 1 are closed
 abbrev pub hold_words : ℕ → ℕ → ℕ → ℕ → List ℕ
@@ -92,7 +104,7 @@ abbrev pub missed_end : State
 missed_end = record {
   words = hold_words (3 * 2 ^ 32) (3 * 2 ^ 16 + 1) 1 2;
   writer = hold_view 4 (queue_of [] (open_hold 3 1 3) Nothing) 1 (stops_of 0 0);
-  readers = hold_reader 3 1 (Guarded 1 3) ((3, no_image) ∷ []) ∷ [];
+  readers = hold_reader 3 1 0 (misses_of 1 1) (Guarded 1 3) ((3, no_image) ∷ []) ∷ [];
 }
 
 -- Where the newest hold is renewed, the first raise gives a guard of commit 1.
@@ -103,7 +115,7 @@ abbrev pub renewed_end : State
 renewed_end = record {
   words = hold_words (1 * 2 ^ 32) (1 * 2 ^ 16) 2 1;
   writer = hold_view 2 (queue_of [] (open_hold 1 0 1) Nothing) 1 (stops_of 0 0);
-  readers = hold_reader 1 0 (Guarded 0 1) ((1, no_image) ∷ []) ∷ [];
+  readers = hold_reader 1 0 0 (misses_of 0 0) (Guarded 0 1) ((1, no_image) ∷ []) ∷ [];
 }
 
 -- Reader 1 guards generation 0, hold 0, at which reader 0 aims. Commit 1 is generation 1 on hold 1. The guard is
@@ -116,7 +128,7 @@ abbrev pub closed_end : State
 closed_end = record {
   words = hold_words (2 * 2 ^ 32) (2 * 2 ^ 16 + 1) 1 0;
   writer = hold_view 3 (queue_of [] (open_hold 2 1 2) Nothing) 2 (stops_of 2 2);
-  readers = hold_reader 0 1 Idle [] ∷ hold_reader 0 0 Idle ((0, no_image) ∷ []) ∷ [];
+  readers = hold_reader 0 1 0 (misses_of 1 1) Idle [] ∷ hold_reader 0 0 0 (misses_of 0 0) Idle ((0, no_image) ∷ []) ∷ [];
 }
 
 -- From there reader 0 aims at generation 2, hold 1, which reader 1 guards. Commit 3 is generation 3 on hold 0; the
@@ -133,8 +145,21 @@ reopened_end = record {
   words = hold_words (5 * 2 ^ 32) (5 * 2 ^ 16 + 1) 2 2;
   writer = hold_view 6 (queue_of (open_hold 4 0 4 ∷ []) (open_hold 5 1 5) Nothing) 3 (stops_of 6 2);
   readers =
-      hold_reader 5 2 (Guarded 1 5) ((5, no_image) ∷ []) ∷ hold_reader 2 2 Idle ((2, no_image) ∷ (0, no_image) ∷ [])
-      ∷ hold_reader 4 4 (Guarded 0 4) ((4, no_image) ∷ []) ∷ [];
+      hold_reader 5 2 0 (misses_of 1 1) (Guarded 1 5) ((5, no_image) ∷ [])
+      ∷ hold_reader 2 2 2 (misses_of 0 0) Idle ((2, no_image) ∷ (0, no_image) ∷ [])
+      ∷ hold_reader 4 4 4 (misses_of 0 0) (Guarded 0 4) ((4, no_image) ∷ []) ∷ [];
+}
+
+-- Reader 0 keeps its guard over a commit and loads the root again: it is under a guard of commit 1, still on hold 0,
+-- which closes once it is released.
+abbrev pub kept_events : List Event
+kept_events = split ∷ guards 0 ++ commit_beside 1 ++ load_root 0 ∷ release 0 ∷ close ∷ []
+
+abbrev pub kept_end : State
+kept_end = record {
+  words = hold_words (1 * 2 ^ 32) (1 * 2 ^ 16 + 1) 1 0;
+  writer = hold_view 2 (queue_of [] (open_hold 1 1 1) Nothing) 1 (stops_of 2 2);
+  readers = hold_reader 1 0 0 (misses_of 0 0) Idle ((1, no_image) ∷ (0, no_image) ∷ []) ∷ [];
 }
 
 -- Buffers.
@@ -162,7 +187,16 @@ again_end = record {
     made = 1;
     stops = stops_of 2 2;
   };
-  readers = record { sizes = buffer_sizes 22; seen = 1; least = 0; state = Idle; saw = (1, no_image) ∷ [] } ∷ [];
+  readers =
+      record {
+        sizes = buffer_sizes 22;
+        seen = 1;
+        least = 0;
+        first = 0;
+        misses = misses_of 0 0;
+        state = Idle;
+        saw = (1, no_image) ∷ [];
+      } ∷ [];
 }
 
 -- A record of two words is stored at offset 1 of buffer 0 and published; a reader loads it and is taken in again.

@@ -87,11 +87,21 @@ pub enum ReaderState {
     Spent,
 }
 
-/// The last commit seen, the least generation to aim at, and each commit seen, the newest first.
+/// How many raises of a reader found a closed hold since its last release, and the count that the last one found.
+#[derive(Clone, Copy)]
+pub struct Misses {
+    pub count: u64,
+    pub found: u64,
+}
+
+/// The last commit seen; the least generation to aim at; the generation that was aimed at first since
+/// the last release, and what was missed since; and each commit seen, the newest first.
 pub struct ReaderView {
     pub sizes: Sizes,
     pub seen: u64,
     pub least: u64,
+    pub first: u64,
+    pub misses: Misses,
     pub state: ReaderState,
     pub saw: LinkedList<(u64, Image)>,
 }
