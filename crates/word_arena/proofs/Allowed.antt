@@ -1,5 +1,5 @@
 -- What each step on the table owes follows from the core's lemma of its event.
-use Rattle.std.proofs.Common.{◌%◌, ◌^◌, eq-eqb, ◌≡◌, ℕ, zero, suc, ◌+◌, ◌-◌, ◌*◌, List, [], ◌∷◌, ◌++◌, map, length, set, slice_index, Some, refl, sym, ap, ◌∙◌, subst, arith}
+use Rattle.std.proofs.Common.{◌%◌, ◌^◌, eq-eqb, ◌≡◌, ℕ, zero, suc, ◌+◌, ◌-◌, ◌*◌, List, [], ◌∷◌, ◌++◌, map, length, set, slice_index, Some, None, refl, sym, ap, ◌∙◌, subst, arith}
 use mathlib.Core.Option.{some, none, some-ne-none, some-injective}
 use mathlib.Core.List.{map-append}
 use lib.ListN.{get_elem?}
@@ -15,19 +15,19 @@ use Rattle.entry_ref.specs.Places.{base, state_place, IsEntry}
 use Rattle.gen_core.specs.declared.views.Sizes.{Sizes}
 use Rattle.gen_core.specs.declared.views.WriterView.{WriterView}
 use Rattle.gen_core.specs.declared.views.ReaderView.{ReaderView}
-use Rattle.gen_core.specs.declared.views.ReaderState.TheVariants.{Idle, Aimed, Raised, Bounced, Guarded, Spent}
+use Rattle.gen_core.specs.declared.views.ReaderState.TheVariants.{Idle, Aimed, Bounced, Guarded, Spent}
 use Rattle.gen_core.specs.declared.views.View.{View}
 use Rattle.gen_core.specs.declared.views.View.TheVariants.{Writer, Reader}
-use Rattle.gen_core.specs.Views.{hold_place, is_counted_on, last_number, last_image, spent}
+use Rattle.gen_core.specs.Views.{hold_place, is_counted_on, stands_on, last_number, last_image, spent}
 use Rattle.gen_core.specs.Work.{next_image}
 use Rattle.gen_core.specs.Steps.{hold_of, hold_in}
 use Rattle.gen_core.specs.Good.{State as CoreState, HoldFits, AimFits, BounceFits, GuardFits, GoodReaderState, IsPlaced, IsLawfulCommit, GoodReader, Good}
-use Rattle.gen_core.specs.Conditions.{MayStoreWidth, MayStoreWord, MayHandOut, MayPublish, MaySplit, MayJoin, MayLoadWord}
+use Rattle.gen_core.specs.Conditions.{MayStoreWidth, MayStoreWord, MayHandOut, MayPublish, MaySplit, MayJoin, MayLoadOwn, MayLoadWord}
 use Rattle.gen_core.specs.declared.views.Pending.TheVariants.{Nothing}
 use Rattle.gen_core.specs.declared.views.ReaderState.{ReaderState}
-use Rattle.gen_core.specs.Events.{after_hand_out, after_store_width, after_store_word, after_find_word, after_publish, after_load_newest, after_raise, after_bounce, after_load_root, after_release, stored, aims, with_state, found_state}
-use Rattle.gen_core.specs.Events.{bounced, MayOpen, opening_words, opening_view, handed_out, widened, published, sees, with_reader, newcomer, joined}
-use Rattle.gen_core.specs.Events.{Event, Happens, Happen, opening, store_width, store_word, find_word, hand_out, publish, split, join, load_own, load_newest, raise, bounce, load_root, load_word, release}
+use Rattle.gen_core.specs.Events.{after_hand_out, after_store_width, after_store_word, after_find_word, after_publish, after_load_newest, after_raise, after_bounce, after_load_root, after_release, stored, aims, meets}
+use Rattle.gen_core.specs.Events.{bounced, released, MayOpen, opening_words, opening_view, handed_out, widened, published, sees, with_reader, newcomer, joined}
+use Rattle.gen_core.specs.Events.{Event, Happens, Happen, opening, store_width, store_word, find_word, hand_out, publish, split, join, meet_load, load_own, load_newest, raise, bounce, load_root, load_word, release}
 use Rattle.gen_core.proofs.Lists.{all_at}
 use Rattle.gen_core.proofs.Frames.{base-same}
 use Rattle.gen_core.proofs.Writer.{store_word_keeps, find_word_keeps, store_width_keeps, hand_out_keeps}
@@ -36,7 +36,7 @@ use Rattle.gen_core.proofs.Readers.{load_root_keeps, split_keeps, join_keeps}
 use Rattle.gen_core.proofs.Opening.{opening_good}
 use Rattle.gen_core.proofs.Law.{image_stands}
 use Rattle.word_arena.specs.Ruled.{Slot, views_of, IsReached, Ruled, Becomes, writer_of, reader_of, cut_left, cut_right, glued}
-use Rattle.word_arena.specs.PlayEvents.{plays_hand_out, plays_width, plays_store, plays_find, plays_publish, plays_load_root, plays_load_newest, plays_raise, plays_bounce, plays_release, plays_load_word, plays_load_own}
+use Rattle.word_arena.specs.PlayEvents.{plays_hand_out, plays_width, plays_store, plays_find, plays_publish, plays_load_root, plays_load_newest, plays_raise, plays_bounce, plays_release, plays_load_word, plays_load_own, plays_meet}
 use Rattle.word_arena.specs.ProofsForWork.{coming-least}
 use Rattle.word_arena.proofs.Views.{get_some}
 use Rattle.gen_core.proofs.Holds.{at_newest}
@@ -348,14 +348,14 @@ module _ (reaches : ℕ → Records → ℕ → List ℕ) (lawful : ℕ → Reco
       let aim : AimFits w.queue.newest r.least generation h = subst (GoodReaderState w.queue w.commits r) aimed mine.state in
       let few = count-small reaches lawful _ h k.good aim.hold in
       let sum : found + 2 ≡ (found + 2) % 2 ^ 64 = omega (arith, few) in
-      let v : ReaderView = with_state r (found_state found h) in (
+      let v : ReaderView = meets r found h in (
         Reader v,
         keeps,
         tt,
         read_by t id r v k _ (subst (λ (n : ℕ). IsReached reaches lawful sizes (record { words = set t.words (hold_place h) n; writer = w; readers = set k.readers k.j v })) sum
             (goes_on (raise k.j) k.reached (r, k.there, generation, h, aimed, refl) (raise_keeps reaches lawful _ k.j r generation h k.good k.there aimed))),
         record {
-          told = λ other same. let e : h ≡ other = omega arith in ap (λ (i : ℕ). (Reader (with_state r (found_state found i)), [])) e;
+          told = λ other same. let e : h ≡ other = omega arith in ap (λ (i : ℕ). (Reader (meets r found i), [])) e;
           event = (
             k.j,
             record {
@@ -426,7 +426,7 @@ module _ (reaches : ℕ → Records → ℕ → List ℕ) (lawful : ℕ → Reco
       let b : GuardFits w.queue w.commits r.saw h c = subst (GoodReaderState w.queue w.commits r) is mine.state in
       let two = counted-two reaches lawful _ k.j h r k.good k.there b.raised.hold (ap (is_counted_on h) is ∙ eq-eqb h h refl) in
       let less : found - 2 ≡ (found + (2 ^ 64 - 2)) % 2 ^ 64 = omega (arith, two, small) in
-      let v : ReaderView = with_state r Idle in (
+      let v : ReaderView = released r in (
         Reader v,
         keeps,
         tt,
@@ -451,17 +451,17 @@ module _ (reaches : ℕ → Records → ℕ → List ℕ) (lawful : ℕ → Reco
         },
       )
 
-  off : (h : ℕ) → Raised h ≡ Spent → ⊥
+  off : (h : ℕ) → Some h ≡ None → ⊥
   off h e = cc
 
-  pub load_root_allowed : (slots id : ℕ) (r : ReaderView) (h : ℕ) → r.state ≡ Raised h
+  pub load_root_allowed : (slots id : ℕ) (r : ReaderView) (h : ℕ) → stands_on r.state ≡ Some h
       → Allows (Ruled reaches lawful sizes) slots id (Reader r, []) 0 (λ n. n) (plays_load_root reaches lawful (step slots 0 0 0 none) (Reader r, []))
-  load_root_allowed slots id r h raised t rule homes at small =
+  load_root_allowed slots id r h stands t rule homes at small =
       let k = reading t rule id r at in
       let w : WriterView = k.writer in
       let v : ReaderView = sees r h (last_number w.commits) (last_image w.commits) in
       let mine = all_at (GoodReader w.sizes w.queue w.commits) k.readers k.j r k.good.readers k.there in
-      let same : r.sizes ≡ w.sizes = mine.same_sizes (λ e. absurd (off h (sym raised ∙ e))) in
+      let same : r.sizes ≡ w.sizes = mine.same_sizes (λ e. absurd (off h (sym stands ∙ ap stands_on e))) in
       let commit = all_at (IsLawfulCommit reaches lawful w.sizes.shape) w.commits (last_number w.commits) (last_image w.commits) k.good.commits.each
       (last_at w.commits (some-commit w (good_view reaches lawful _ k.good))) in
       let placed : All (IsPlaced w.sizes w.buffers) (last_image w.commits).records = last-kept w (good_view reaches lawful _ k.good) (λ image. All (IsPlaced w.sizes w.buffers) image.records) k.good.places.records in (
@@ -474,7 +474,7 @@ module _ (reaches : ℕ → Records → ℕ → List ℕ) (lawful : ℕ → Reco
           views = k.set_view v;
           same_sizes = k.same_sizes;
           reached = subst (λ (l : List ℕ). IsReached reaches lawful sizes (record { words = l; writer = w; readers = set k.readers k.j v })) (sym (set_back t.words 0))
-              (goes_on (load_root k.j) k.reached (r, k.there, h, raised, refl) (load_root_keeps reaches lawful _ k.j r h k.good k.there raised));
+              (goes_on (load_root k.j) k.reached (r, k.there, h, stands, refl) (load_root_keeps reaches lawful _ k.j r h k.good k.there stands));
         },
         record {
           told = record {
@@ -482,7 +482,7 @@ module _ (reaches : ℕ → Records → ℕ → List ℕ) (lawful : ℕ → Reco
             is = refl;
             sees_commit = record {
               hold = h;
-              raised = raised;
+              stands = stands;
               number = last_number w.commits;
               image = last_image w.commits;
               is = refl;
@@ -499,7 +499,7 @@ module _ (reaches : ℕ → Records → ℕ → List ℕ) (lawful : ℕ → Reco
               before = state_of t w k.readers;
               after = after_load_root (state_of t w k.readers) k.j r h;
               reached = k.own;
-              happens = (r, k.there, h, raised, refl);
+              happens = (r, k.there, h, stands, refl);
               word = refl;
               operands = tt;
               found_is = refl;
@@ -551,14 +551,14 @@ module _ (reaches : ℕ → Records → ℕ → List ℕ) (lawful : ℕ → Reco
         },
       )
 
-  pub load_own_allowed : (slots id : ℕ) (w : WriterView) (p : ℕ) → w.queue.pending ≡ Nothing
+  pub load_own_allowed : (slots id : ℕ) (w : WriterView) (p : ℕ) → MayLoadOwn w p
       → Allows (Ruled reaches lawful sizes) slots id (Writer w, []) p (λ n. n) (plays_load_own reaches lawful (step slots p 0 0 none) (Writer w, []))
-  load_own_allowed slots id w p calm t rule homes at small =
+  load_own_allowed slots id w p may t rule homes at small =
       let k = writing t rule id w at in (
         Writer w,
         keeps,
         tt,
-        ruled_by t id w w k _ refl (subst (λ (l : List ℕ). IsReached reaches lawful sizes (record { words = l; writer = w; readers = k.readers })) (sym (set_back t.words p)) (goes_on (load_own p) k.reached (calm, refl) k.good)),
+        ruled_by t id w w k _ refl (subst (λ (l : List ℕ). IsReached reaches lawful sizes (record { words = l; writer = w; readers = k.readers })) (sym (set_back t.words p)) (goes_on (load_own p) k.reached (may, refl) k.good)),
         record {
           told = record {
             same = refl;
@@ -566,8 +566,21 @@ module _ (reaches : ℕ → Records → ℕ → List ℕ) (lawful : ℕ → Reco
               word = λ ref i lt is. ap (slice_index t.words) is ∙ records-stands reaches lawful _ k.good ref (omega (arith, lt)) i lt;
               width = λ ref some is. ap (slice_index t.words) is ∙ (let placed = records-placed w (good_view reaches lawful _ k.good) ref some in k.good.memory.widths _ _ placed.width some);
             };
-            seen = k.good.commits.seen;
           };
+          event = record { before = state_of t w k.readers; after = state_of t w k.readers; reached = k.own; happens = (may, refl); word = refl; operands = tt; found_is = refl; sees = refl; then_sees = refl };
+        },
+      )
+
+  pub meet_allowed : (slots id : ℕ) (w : WriterView) → w.queue.pending ≡ Nothing
+      → Allows (Ruled reaches lawful sizes) slots id (Writer w, []) 0 (λ n. n) (plays_meet reaches lawful (step slots 0 0 0 none) (Writer w, []))
+  meet_allowed slots id w calm t rule homes at small =
+      let k = writing t rule id w at in (
+        Writer w,
+        keeps,
+        tt,
+        ruled_by t id w w k _ refl (subst (λ (l : List ℕ). IsReached reaches lawful sizes (record { words = l; writer = w; readers = k.readers })) (sym (set_back t.words 0)) (goes_on meet_load k.reached (calm, refl) k.good)),
+        record {
+          told = record { same = refl; seen = k.good.commits.seen };
           event = record { before = state_of t w k.readers; after = state_of t w k.readers; reached = k.own; happens = (calm, refl); word = refl; operands = tt; found_is = refl; sees = refl; then_sees = refl };
         },
       )
@@ -631,9 +644,9 @@ module _ (reaches : ℕ → Records → ℕ → List ℕ) (lawful : ℕ → Reco
       let P : Me Slot View × ℕ → Type 0 = λ x. Allows (Ruled reaches lawful sizes) slots id x.0 0 (λ _. x.1) (λ _. plays_publish reaches lawful (step slots 0 x.1 0 none) x.0 x.1) in
       subst P (λ i. (sym is i, sym what i)) (publish_allowed reaches lawful sizes l slots id w root may)
 
-  pub load_root_owed : (r : ReaderView) (h : ℕ) → me ≡ (Reader r, []) → r.state ≡ Raised h → Allows (Ruled reaches lawful sizes) slots id me 0 (λ n. n) (plays_load_root reaches lawful (step slots 0 0 0 none) me)
-  load_root_owed r h is raised = subst (λ (m : Me Slot View). Allows (Ruled reaches lawful sizes) slots id m 0 (λ n. n) (plays_load_root reaches lawful (step slots 0 0 0 none) m)) (sym is)
-      (load_root_allowed reaches lawful sizes slots id r h raised)
+  pub load_root_owed : (r : ReaderView) (h : ℕ) → me ≡ (Reader r, []) → stands_on r.state ≡ Some h → Allows (Ruled reaches lawful sizes) slots id me 0 (λ n. n) (plays_load_root reaches lawful (step slots 0 0 0 none) me)
+  load_root_owed r h is stands = subst (λ (m : Me Slot View). Allows (Ruled reaches lawful sizes) slots id m 0 (λ n. n) (plays_load_root reaches lawful (step slots 0 0 0 none) m)) (sym is)
+      (load_root_allowed reaches lawful sizes slots id r h stands)
 
   pub load_newest_owed : (r : ReaderView) → me ≡ (Reader r, []) → r.state ≡ Idle → Allows (Ruled reaches lawful sizes) slots id me 1 (λ n. n) (plays_load_newest reaches lawful (step slots 1 0 0 none) me)
   load_newest_owed r is idle = subst (λ (m : Me Slot View). Allows (Ruled reaches lawful sizes) slots id m 1 (λ n. n) (plays_load_newest reaches lawful (step slots 1 0 0 none) m)) (sym is)
@@ -661,9 +674,13 @@ module _ (reaches : ℕ → Records → ℕ → List ℕ) (lawful : ℕ → Reco
   load_word_owed r p is may = subst (λ (m : Me Slot View). Allows (Ruled reaches lawful sizes) slots id m p (λ n. n) (plays_load_word reaches lawful (step slots p 0 0 none) m)) (sym is)
       (load_word_allowed reaches lawful sizes slots id r p may)
 
-  pub load_own_owed : (w : WriterView) (p : ℕ) → me ≡ (Writer w, []) → w.queue.pending ≡ Nothing → Allows (Ruled reaches lawful sizes) slots id me p (λ n. n) (plays_load_own reaches lawful (step slots p 0 0 none) me)
-  load_own_owed w p is calm = subst (λ (m : Me Slot View). Allows (Ruled reaches lawful sizes) slots id m p (λ n. n) (plays_load_own reaches lawful (step slots p 0 0 none) m)) (sym is)
-      (load_own_allowed reaches lawful sizes slots id w p calm)
+  pub load_own_owed : (w : WriterView) (p : ℕ) → me ≡ (Writer w, []) → MayLoadOwn w p → Allows (Ruled reaches lawful sizes) slots id me p (λ n. n) (plays_load_own reaches lawful (step slots p 0 0 none) me)
+  load_own_owed w p is may = subst (λ (m : Me Slot View). Allows (Ruled reaches lawful sizes) slots id m p (λ n. n) (plays_load_own reaches lawful (step slots p 0 0 none) m)) (sym is)
+      (load_own_allowed reaches lawful sizes slots id w p may)
+
+  pub meet_owed : (w : WriterView) → me ≡ (Writer w, []) → w.queue.pending ≡ Nothing → Allows (Ruled reaches lawful sizes) slots id me 0 (λ n. n) (plays_meet reaches lawful (step slots 0 0 0 none) me)
+  meet_owed w is calm = subst (λ (m : Me Slot View). Allows (Ruled reaches lawful sizes) slots id m 0 (λ n. n) (plays_meet reaches lawful (step slots 0 0 0 none) m)) (sym is)
+      (meet_allowed reaches lawful sizes slots id w calm)
 
   pub split_owed : (w : WriterView) → me ≡ (Writer w, []) → MaySplit w → Splits (Ruled reaches lawful sizes) id me.0 (cut_left me.0) (cut_right me.0)
   split_owed w is may = subst (λ (m : Me Slot View). Splits (Ruled reaches lawful sizes) id m.0 (cut_left m.0) (cut_right m.0)) (sym is) (split_allowed reaches lawful sizes id w may)

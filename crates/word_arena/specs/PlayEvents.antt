@@ -6,10 +6,10 @@ use Rattle.gen_core.specs.declared.views.View.{View}
 use Rattle.gen_core.specs.Good.{State}
 use Rattle.gen_core.specs.Steps.{Operation, load, store, add, subtract, exchange, word_of, operation_of, seat_of, view_at}
 use Rattle.gen_core.specs.Events.{Event, store_width, store_word, find_word, hand_out, publish, put_on_hold, free_buffer, reopen, store_newest, close}
-use Rattle.gen_core.specs.Events.{stop_at_oldest, probe, stop_at_newest, morph, load_own, load_newest, raise, bounce, load_root, load_word}
+use Rattle.gen_core.specs.Events.{stop_at_oldest, probe, stop_at_newest, morph, meet_load, load_own, load_newest, raise, bounce, load_root, load_word}
 use Rattle.gen_core.specs.Events.{release, Happens}
 use Rattle.word_arena.specs.Ruled.{Slot, IsReached, told_hand_out, told_width, told_store, told_find, told_publish, told_load_root, told_load_newest}
-use Rattle.word_arena.specs.Ruled.{told_raise, told_bounce, told_release, told_load_word, told_load_own}
+use Rattle.word_arena.specs.Ruled.{told_raise, told_bounce, told_release, told_load_word, told_load_own, told_meet_load}
 use Rattle.word_arena.specs.WriterHolds.{told_reopen, told_store_newest, told_morph, told_probe, told_close, told_hold, told_free}
 
 -- the operands of a step are those of an operation
@@ -66,6 +66,9 @@ module _ (reaches : ℕ → Records → ℕ → List ℕ) (lawful : ℕ → Reco
 
   abbrev pub plays_load_own : Step Slot → Me Slot View → ℕ → Me Slot View → Type 0
   plays_load_own st me found me' = Told (told_load_own st me found me') (IsEvent reaches lawful (load_own st.word) st me found me')
+
+  abbrev pub plays_meet : Step Slot → Me Slot View → ℕ → Me Slot View → Type 0
+  plays_meet st me found me' = Told (told_meet_load st me found me') (IsEvent reaches lawful meet_load st me found me')
 
   abbrev pub plays_hold : Step Slot → Me Slot View → ℕ → Me Slot View → Type 0
   plays_hold st me found me' = Told (told_hold st me found me') ((b : ℕ) × IsEvent reaches lawful (put_on_hold b) st me found me')

@@ -9,16 +9,16 @@ use Rattle.entry_ref.specs.Images.{no_image, record_at}
 use Rattle.entry_ref.specs.Places.{base, state_place, size_of, IsEntry}
 use Rattle.gen_core.specs.declared.views.Sizes.{Sizes}
 use Rattle.gen_core.specs.declared.views.OpenHold.{OpenHold}
-use Rattle.gen_core.specs.declared.views.ReaderState.TheVariants.{Idle, Aimed, Raised, Guarded}
+use Rattle.gen_core.specs.declared.views.ReaderState.TheVariants.{Idle, Aimed, Guarded}
 use Rattle.gen_core.specs.declared.views.WriterView.{WriterView}
 use Rattle.gen_core.specs.declared.views.ReaderView.{ReaderView}
 use Rattle.gen_core.specs.declared.views.View.{View}
 use Rattle.gen_core.specs.declared.views.View.TheVariants.{Writer, Reader}
-use Rattle.gen_core.specs.Views.{hold_place, newest_word, IsCommit, root_word, spent}
+use Rattle.gen_core.specs.Views.{hold_place, newest_word, IsCommit, root_word, stands_on, spent}
 use Rattle.gen_core.specs.Work.{place_in, writer_records, next_image}
 use Rattle.gen_core.specs.Good.{State as CoreState, IsLawfulCommit, Good, GoodView}
 use Rattle.gen_core.specs.Conditions.{IsUnder}
-use Rattle.gen_core.specs.Events.{stored, aims, with_state, found_state, bounced, opening_view, widened, handed_out, published, sees}
+use Rattle.gen_core.specs.Events.{stored, first_aim, aims, meets, bounced, released, opening_view, widened, handed_out, published, sees}
 use Rattle.gen_core.specs.Events.{with_reader, newcomer, joined, Event, Happen, opening}
 use Rattle.arena_api.specs.Works.{Sizes as ApiSizes}
 use Rattle.arena_api.specs.Calls.{IsWithinLimits}
@@ -83,10 +83,10 @@ module _ (reaches : ℕ → Records → ℕ → List ℕ) (lawful : ℕ → Reco
       (root : ℕ) → st.first ≡ length (writer_of me.0).commits * 2 ^ 32 + root
       → Becomes me (published (writer_of me.0) (next_image reaches (writer_of me.0) root)) me'
 
-  -- the last commit, whose root word was found, is lawful, lies inside the table and was seen
+  -- the last commit, whose root word was found, is lawful, lies inside the table and was seen by a reader that stands on a hold
   pub record SeesCommit (r : ReaderView) (found : ℕ) (r' : ReaderView) : Type 0 where
     pub hold : ℕ
-    pub raised : r.state ≡ Raised hold
+    pub stands : stands_on r.state ≡ Some hold
     pub number : ℕ
     pub image : Image
     pub is : r' ≡ sees r hold number image
@@ -128,11 +128,17 @@ pub record IsOwn (w : WriterView) (p found : ℕ) : Type 0 where
 pub record ToldLoadOwn (st : Step Slot) (me : Me Slot View) (found : ℕ) (me' : Me Slot View) : Type 0 where
   pub same : me' ≡ me
   pub own : IsOwn (writer_of me.0) st.word found
-  -- what joined readers saw are commits
-  pub seen : All (IsCommit (writer_of me.0).commits) (writer_of me.0).saw
 
 abbrev pub told_load_own : Step Slot → Me Slot View → ℕ → Me Slot View → Type 0
 told_load_own st me found me' = ToldLoadOwn st me found me'
+
+-- what joined readers saw are commits
+pub record ToldMeetLoad (me : Me Slot View) (me' : Me Slot View) : Type 0 where
+  pub same : me' ≡ me
+  pub seen : All (IsCommit (writer_of me.0).commits) (writer_of me.0).saw
+
+abbrev pub told_meet_load : Step Slot → Me Slot View → ℕ → Me Slot View → Type 0
+told_meet_load st me found me' = ToldMeetLoad me me'
 
 -- the newest entry, whose last word was found
 pub record ToldLoadNewest (me : Me Slot View) (found : ℕ) (me' : Me Slot View) : Type 0 where
@@ -146,7 +152,7 @@ abbrev pub told_load_newest : Step Slot → Me Slot View → ℕ → Me Slot Vie
 told_load_newest st me found me' = ToldLoadNewest me found me'
 
 abbrev pub told_raise : Step Slot → Me Slot View → ℕ → Me Slot View → Type 0
-told_raise st me found me' = (h : ℕ) → st.word ≡ hold_place h → me' ≡ (Reader (with_state (reader_of me.0) (found_state found h)), me.1)
+told_raise st me found me' = (h : ℕ) → st.word ≡ hold_place h → me' ≡ (Reader (meets (reader_of me.0) found h), me.1)
 
 pub record ToldBounce (me : Me Slot View) (me' : Me Slot View) : Type 0 where
   pub is : me' ≡ (Reader (bounced (reader_of me.0)), me.1)
@@ -156,7 +162,7 @@ abbrev pub told_bounce : Step Slot → Me Slot View → ℕ → Me Slot View →
 told_bounce st me found me' = ToldBounce me me'
 
 abbrev pub told_release : Step Slot → Me Slot View → ℕ → Me Slot View → Type 0
-told_release st me found me' = me' ≡ (Reader (with_state (reader_of me.0) Idle), me.1)
+told_release st me found me' = me' ≡ (Reader (released (reader_of me.0)), me.1)
 
 abbrev pub cut_left : View → View
 cut_left v = Writer (with_reader (writer_of v))
@@ -188,21 +194,29 @@ pub record IsPost (bits : ℕ) (arena : TableId) (sizes : Sizes) (z : TableId) (
   pub limits : IsWithinLimits bits (api_sizes sizes)
   pub product : sizes.buffers * sizes.words ≤ 67108864
 
+-- each miss left a generation behind
+abbrev pub Climbs : ReaderView → Type 0
+Climbs r = r.first + r.misses.count ≤ r.least
+
 pub record IsWatch (bits : ℕ) (arena : TableId) (sizes : Sizes) (z : TableId) (me : Me Slot View) : Type 0 where
   pub post : IsPost bits arena sizes z me
   pub idle : (reader_of me.0).state ≡ Idle
+  pub climbs : Climbs (reader_of me.0)
 
 -- the seat of a reader that aims at a hold, of its least generation
 pub record IsAim (bits : ℕ) (arena : TableId) (sizes : Sizes) (hold : ℕ) (z : TableId) (me : Me Slot View) : Type 0 where
   pub post : IsPost bits arena sizes z me
   pub low : hold < 16
   pub aimed : (reader_of me.0).state ≡ Aimed (reader_of me.0).least hold
+  pub climbs : Climbs (reader_of me.0)
 
 -- the first that was seen is the guard's: its records lie inside the table
 pub record IsGuard (bits : ℕ) (arena : TableId) (sizes : Sizes) (hold word : ℕ) (z : TableId) (me : Me Slot View) : Type 0 where
   pub post : IsPost bits arena sizes z me
   pub low : hold < 16
   pub guarded : (reader_of me.0).state ≡ Guarded hold (seen_number (reader_of me.0))
+  pub climbs : Climbs (reader_of me.0)
+  pub seen : (reader_of me.0).seen ≡ seen_number (reader_of me.0)
   pub some : 0 < length (reader_of me.0).saw
   pub root : word ≡ root_word (seen_number (reader_of me.0)) (seen_image (reader_of me.0))
   pub small : (seen_image (reader_of me.0)).root < 2 ^ 32
@@ -234,3 +248,19 @@ pub record IsAimOf (r : ReaderView) (r' : ReaderView) : Type 0 where
   pub seen : r'.seen ≡ r.seen
   pub saw : r'.saw ≡ r.saw
   pub least : r.least ≤ r'.least
+  pub first : r'.first ≡ first_aim r r'.least
+  pub misses : r'.misses ≡ r.misses
+
+-- so many raises missed, and each left a generation behind
+pub record Missed (r : ReaderView) (r' : ReaderView) (count : ℕ) : Type 0 where
+  pub rises : r.least + count ≤ r'.least
+  pub counted : r'.misses.count ≡ r.misses.count + count
+  pub first : r'.first ≡ r.first
+
+-- the same after an aim. Where no miss was to be made good before, that first aim was at a generation not below the least that was
+-- asked for; else it is that of before
+pub record Tries (r : ReaderView) (r' : ReaderView) (count : ℕ) : Type 0 where
+  pub rises : r.least + count ≤ r'.least
+  pub counted : r'.misses.count ≡ r.misses.count + count
+  pub fresh : r.misses.count ≡ 0 → r.least ≤ r'.first
+  pub going : 0 < r.misses.count → r'.first ≡ r.first

@@ -1,6 +1,6 @@
 //! What each step tells its seat: the view after it, and the event of the core that it was.
 ghost use Rattle.word_arena.specs.Ruled.{cut_left, cut_right, glued};
-ghost use Rattle.word_arena.specs.PlayEvents.{plays_hand_out, plays_width, plays_store, plays_find, plays_publish, plays_load_own};
+ghost use Rattle.word_arena.specs.PlayEvents.{plays_hand_out, plays_width, plays_store, plays_find, plays_publish, plays_load_own, plays_meet};
 ghost use Rattle.word_arena.specs.PlayEvents.{plays_hold, plays_free, plays_reopen, plays_store_newest, plays_morph, plays_probe};
 ghost use Rattle.word_arena.specs.PlayEvents.{plays_close, plays_load_newest, plays_raise, plays_bounce, plays_load_root, plays_load_word};
 ghost use Rattle.word_arena.specs.PlayEvents.{plays_release};
@@ -58,6 +58,14 @@ pub(crate) struct LoadOwn<L> {
 
 impl<L: Layout> Play<(), View> for LoadOwn<L> {
     ghost then = { plays_load_own L.reaches L.lawful };
+}
+
+pub(crate) struct MeetLoad<L> {
+    layout: PhantomData<L>,
+}
+
+impl<L: Layout> Play<(), View> for MeetLoad<L> {
+    ghost then = { plays_meet L.reaches L.lawful };
 }
 
 pub(crate) struct PutOnHold<L> {

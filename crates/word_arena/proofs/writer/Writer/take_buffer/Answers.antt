@@ -39,11 +39,11 @@ store-requires-2 g c =
     let free = free-here w b below c.requires.free in
     let some : 0 < c.from-2.result = let h = c.requires.some in omega (arith, h, c.from-2.ensures) in
     let size = s.stands.same_sizes in
-    let at : 18 + s.sizes.buffers + c.from.result * s.sizes.words ≡ base w.sizes.buffers w.sizes.words b = λ k. base (sym size k).buffers (sym size k).words (c.from.ensures k) in
-    let in_table : b < s.sizes.buffers = let h = c.requires.below in omega (arith, h, ap (λ (z : Sizes). z.buffers) size) in
-    let word : 0 < s.sizes.words = subst (λ (z : Sizes). 0 < z.words) size s.stands.good.some_word in
-    let low = base-inside s.sizes.buffers s.sizes.words b in_table word in
-    let here : 18 + s.sizes.buffers + c.from.result * s.sizes.words ≡ base s.sizes.buffers s.sizes.words b = λ k. base s.sizes.buffers s.sizes.words (c.from.ensures k) in
+    let at : 18 + s.arena.now.sizes.buffers + c.from.result * s.arena.now.sizes.words ≡ base w.sizes.buffers w.sizes.words b = λ k. base (sym size k).buffers (sym size k).words (c.from.ensures k) in
+    let in_table : b < s.arena.now.sizes.buffers = let h = c.requires.below in omega (arith, h, ap (λ (z : Sizes). z.buffers) size) in
+    let word : 0 < s.arena.now.sizes.words = subst (λ (z : Sizes). 0 < z.words) size s.stands.good.some_word in
+    let low = base-inside s.arena.now.sizes.buffers s.arena.now.sizes.words b in_table word in
+    let here : 18 + s.arena.now.sizes.buffers + c.from.result * s.arena.now.sizes.words ≡ base s.arena.now.sizes.buffers s.arena.now.sizes.words b = λ k. base s.arena.now.sizes.buffers s.arena.now.sizes.words (c.from.ensures k) in
     let e = c.store.ensures in
     let slots : s.place.me.1 ≡ [] = ap (λ (m : Me Slot View). m.1) s.stands.is in (
       e.0 ∙ s.stands.own,
@@ -61,7 +61,7 @@ invariant_of-self g c =
     let free = free-here w b below c.requires.free in
     let some : 0 < c.from-2.result = let h = c.requires.some in omega (arith, h, c.from-2.ensures) in
     let size = s.stands.same_sizes in
-    let at : 18 + s.sizes.buffers + c.from.result * s.sizes.words ≡ base w.sizes.buffers w.sizes.words b = λ k. base (sym size k).buffers (sym size k).words (c.from.ensures k) in
+    let at : 18 + s.arena.now.sizes.buffers + c.from.result * s.arena.now.sizes.words ≡ base w.sizes.buffers w.sizes.words b = λ k. base (sym size k).buffers (sym size k).words (c.from.ensures k) in
     let e = c.store.ensures in
     let first = (e.2.told b refl).is in
     let mid : writer_of c.store.new.seat.me.0 ≡ handed_out w b = ap (λ (m : Me Slot View). writer_of m.0) first in
@@ -89,7 +89,7 @@ returns-clause-view g c =
     let free = free-here w b below c.requires.free in
     let some : 0 < c.from-2.result = let h = c.requires.some in omega (arith, h, c.from-2.ensures) in
     let size = s.stands.same_sizes in
-    let at : 18 + s.sizes.buffers + c.from.result * s.sizes.words ≡ base w.sizes.buffers w.sizes.words b = λ k. base (sym size k).buffers (sym size k).words (c.from.ensures k) in
+    let at : 18 + s.arena.now.sizes.buffers + c.from.result * s.arena.now.sizes.words ≡ base w.sizes.buffers w.sizes.words b = λ k. base (sym size k).buffers (sym size k).words (c.from.ensures k) in
     let mid : writer_of c.store.new.seat.me.0 ≡ handed_out w b = ap (λ (m : Me Slot View). writer_of m.0) (c.store.ensures.2.told b refl).is in
     let second = c.store-2.ensures.2.told b (at ∙ ap (λ (v : WriterView). base v.sizes.buffers v.sizes.words b) (sym mid)) in
     ap (λ (m : Me Slot View). writer_of m.0) second.is ∙ ap (λ (x : WriterView). widened x b c.from-2.result) mid

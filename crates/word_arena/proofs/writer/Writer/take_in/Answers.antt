@@ -5,7 +5,7 @@ use Rattle.gen_core.specs.declared.views.View.TheVariants.{Writer}
 use Rattle.gen_core.specs.declared.views.WriterView.{WriterView}
 use Rattle.gen_core.specs.Events.{joined}
 use Rattle.word_arena.specs.Ruled.{Slot, writer_of, reader_of}
-use Rattle.word_arena.proofs.Allowed.{join_owed, load_own_owed}
+use Rattle.word_arena.proofs.Allowed.{join_owed, meet_owed}
 use Rattle.word_arena.proofs.Desks.{desk-some, desk_after, good-joined}
 use Rattle.word_arena.proofs.writer.Writer.take_in.Goals as goal
 
@@ -26,7 +26,7 @@ load-requires g c =
     let r = c.args.reader in
     let v : WriterView = joined (writer_of s.place.me.0) (reader_of r.place.me.0) in
     let slots : s.place.me.1 ≡ [] = ap (λ (m : Me Slot View). m.1) s.stands.is in
-    (c.join_seat.ensures.0 ∙ s.stands.own, desk-some s.stands, load_own_owed _ _ _ _ _ _ v _ (c.join_seat.ensures.2 ∙ (λ k. (Writer v, slots k))) s.stands.calm)
+    (c.join_seat.ensures.0 ∙ s.stands.own, desk-some s.stands, meet_owed _ _ _ _ _ _ v (c.join_seat.ensures.2 ∙ (λ k. (Writer v, slots k))) s.stands.calm)
 
 pub invariant_of-self : goal.invariant_of-self
 invariant_of-self g c =
