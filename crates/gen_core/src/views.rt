@@ -111,3 +111,40 @@ pub enum View {
     Writer(WriterView),
     Reader(ReaderView),
 }
+
+/// The events, each one step on one word by one seat. A reader is named by its place among those made. The writer's loads, of the root after a
+/// join (`MeetLoad`) and of a buffer's word (`LoadOwn`), and a reader's of a word of its image (`LoadWord`) change nothing. The root is loaded
+/// by a reader that keeps a hold open: for a guard, or again under one.
+#[derive(Clone, Copy)]
+pub enum Event {
+    /// A buffer and its width.
+    StoreWidth(u64, u64),
+    /// A place and a word.
+    StoreWord(u64, u64),
+    /// A place, whose word counts as stored.
+    FindWord(u64),
+    HandOut(u64),
+    /// A root.
+    Publish(u64),
+    PutOnHold(u64),
+    FreeBuffer(u64),
+    Reopen(u64),
+    StoreNewest,
+    Close,
+    StopAtOldest,
+    Probe,
+    StopAtNewest,
+    Morph,
+    Split,
+    /// The reader that is taken in.
+    Join(u64),
+    MeetLoad,
+    LoadOwn(u64),
+    LoadNewest(u64),
+    Raise(u64),
+    Bounce(u64),
+    LoadRoot(u64),
+    /// A reader and a place.
+    LoadWord(u64, u64),
+    Release(u64),
+}

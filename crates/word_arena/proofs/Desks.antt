@@ -22,7 +22,7 @@ use Rattle.gen_core.specs.Good.{GoodView}
 use Rattle.gen_core.specs.Conditions.{IsBufferWord, MayLoadOwn}
 use Rattle.gen_core.specs.Events.{with_reader, joined}
 use Rattle.arena_api.specs.Calls.{IsWithinLimits}
-use Rattle.word_arena.specs.Ruled.{Slot, writer_of, api_sizes, ToldLoadOwn}
+use Rattle.word_arena.specs.Ruled.{Slot, writer_in, api_sizes, ToldLoadOwn}
 use Rattle.word_arena.specs.Knows.{own_hold, StoresEntries, IsDesk}
 use Rattle.gen_core.proofs.GoodViews.{records-placed}
 use Rattle.word_arena.proofs.Guards.{base-inside}
@@ -40,7 +40,7 @@ good-joined w r g = record { count = g.count; some_word = g.some_word; queue = g
 
 module _ {bits : ℕ} {arena : TableId} {sizes : Sizes} {buffers : List Buffer} {holds : List HoldEntry} {last made : ℕ} {z : TableId} {me : Me Slot View} (d : IsDesk bits arena sizes buffers holds last made z me) where
   abbrev pub w : WriterView
-  w = writer_of me.0
+  w = writer_in me.0
 
   -- the desk after a step to the view v
   pub desk_after : {z' : TableId} {me' : Me Slot View} {buffers' : List Buffer} {holds' : List HoldEntry} {last' made' : ℕ} (v : WriterView) → z' ≡ z → me' ≡ (Writer v, me.1) → v.sizes ≡ w.sizes → v.buffers ≡ buffers'
@@ -83,7 +83,7 @@ module _ {bits : ℕ} {arena : TableId} {sizes : Sizes} {buffers : List Buffer} 
       omega (arith, product, more)
 
   -- the width of references
-  pub view-bits : (writer_of me.0).sizes.offset_bits ≡ bits
+  pub view-bits : (writer_in me.0).sizes.offset_bits ≡ bits
   view-bits = ap (λ (x : Sizes). x.offset_bits) d.same_sizes ∙ d.same_bits
 
   module _ (ref i : ℕ) (inside : i < length (writer_records w ref)) where

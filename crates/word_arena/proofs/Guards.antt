@@ -27,15 +27,16 @@ use Rattle.gen_core.specs.Conditions.{IsUnder, MayLoadWord}
 use Rattle.gen_core.specs.declared.views.Misses.{Misses as MissCount}
 use Rattle.gen_core.specs.Events.{first_aim, aims, meets, bounced, sees, found_state, found_misses}
 use Rattle.word_arena.specs.ProofsForGuards.{in_image, image-entry}
-use Rattle.word_arena.specs.Ruled.{Climbs, Missed, Tries, IsAim, IsAimOf, Slot, reader_of, ToldLoadRoot, ToldLoadNewest, told_raise, ToldLoadWord, first_seen, seen_image, seen_number, IsPost, IsWatch, IsGuard, IsLater}
+use Rattle.word_arena.specs.declared.rule.Watched.{Watched}
+use Rattle.word_arena.specs.Ruled.{Climbs, Missed, Tries, IsAim, IsAimOf, Slot, reader_in, ToldLoadRoot, ToldLoadNewest, told_raise, ToldLoadWord, first_seen, seen_image, seen_number, IsPost, IsWatch, IsGuard, IsLater}
 
 -- a seat after a step to the view v
 pub post_after : {bits : ℕ} {arena : TableId} {sizes : Sizes} {z z' : TableId} {me me' : Me Slot View} → IsPost bits arena sizes z me → z' ≡ z → (v : ReaderView) → me' ≡ (Reader v, me.1)
-    → v.sizes ≡ (reader_of me.0).sizes
-    → IsPost bits arena sizes z' me' × (reader_of me'.0 ≡ v)
+    → v.sizes ≡ (reader_in me.0).sizes
+    → IsPost bits arena sizes z' me' × (reader_in me'.0 ≡ v)
 post_after {bits} {arena} {sizes} {z} {z'} {me} {me'} i same v is size =
     let slots : me.1 ≡ [] = ap (λ (m : Me Slot View). m.1) i.is in
-    let view : reader_of me'.0 ≡ v = ap (λ (m : Me Slot View). reader_of m.0) is in (
+    let view : reader_in me'.0 ≡ v = ap (λ (m : Me Slot View). reader_in m.0) is in (
       record {
         own = same ∙ i.own;
         is = is ∙ (λ k. (Reader (sym view k), slots k));
@@ -58,11 +59,11 @@ pub record Loads (h : ℕ) (r v : ReaderView) : Type 0 where
 
 -- what a load of the root leaves
 pub guards : {reaches : ℕ → Records → ℕ → List ℕ} {lawful : ℕ → Records → ℕ → Type 0} {bits : ℕ} {arena : TableId} {sizes : Sizes} {z z' : TableId} {me me' : Me Slot View} {found : ℕ} (h : ℕ)
-    → IsPost bits arena sizes z me → h < 16 → stands_on (reader_of me.0).state ≡ Some h → Climbs (reader_of me.0) → z' ≡ z → ToldLoadRoot reaches lawful me found me'
-    → IsGuard bits arena sizes h found z' me' × IsLater reaches lawful (reader_of me.0) (reader_of me'.0) × Loads h (reader_of me.0) (reader_of me'.0)
+    → IsPost bits arena sizes z me → h < 16 → stands_on (reader_in me.0).state ≡ Some h → Climbs (reader_in me.0) → z' ≡ z → ToldLoadRoot reaches lawful me found me'
+    → IsGuard bits arena sizes h found z' me' × IsLater reaches lawful (reader_in me.0) (reader_in me'.0) × Loads h (reader_in me.0) (reader_in me'.0)
 guards {reaches} {lawful} {bits} {arena} {sizes} {z} {z'} {me} {me'} {found} h i low stands climbs same told =
     let s = told.sees_commit in
-    let r : ReaderView = reader_of me.0 in
+    let r : ReaderView = reader_in me.0 in
     let v : ReaderView = sees r s.hold s.number s.image in
     let hold : s.hold ≡ h = one_hold s.hold h (sym s.stands ∙ stands) in
     let is : me' ≡ (Reader v, me.1) = told.is ∙ ap (λ (x : ReaderView). (Reader x, me.1)) s.is in
@@ -118,7 +119,7 @@ base-inside buffers words b lt some =
     omega (arith, suc-mul b words)
 
 -- a seat that a step left
-pub seat_same : (s t : Seat Slot View) → t.table_id ≡ s.table_id → t.id ≡ s.id → t.me ≡ s.me → t ≡ s
+pub seat_same : (s t : Seat Slot Watched) → t.table_id ≡ s.table_id → t.id ≡ s.id → t.me ≡ s.me → t ≡ s
 seat_same s t a b c i = record { marker = t.marker; table_id = a i; id = b i; me = c i }
 
 -- the buffers of a table are few
@@ -134,13 +135,13 @@ guard-prop bits arena sizes hold word z me = hlevel props
 
 module _ {bits : ℕ} {arena : TableId} {sizes : Sizes} {hold word : ℕ} {z : TableId} {me : Me Slot View} (g : IsGuard bits arena sizes hold word z me) where
   abbrev pub r : ReaderView
-  r = reader_of me.0
+  r = reader_in me.0
 
   abbrev pub m : Records
   m = words_at (seen_image r)
 
   -- the width of references
-  view-bits : (reader_of me.0).sizes.offset_bits ≡ bits
+  view-bits : (reader_in me.0).sizes.offset_bits ≡ bits
   view-bits = ap (λ (x : Sizes). x.offset_bits) g.post.same_sizes ∙ g.post.same_bits
 
   -- the reader is under the guard's commit
@@ -258,23 +259,23 @@ missed_after {r} {m} {r'} {n} {k} before next =
 
 -- a reader that aims
 pub aimed_post : {bits : ℕ} {arena : TableId} {sizes : Sizes} {z z1 : TableId} {me me1 : Me Slot View} {last : ℕ} → IsWatch bits arena sizes z me → z1 ≡ z → ToldLoadNewest me last me1
-    → IsAim bits arena sizes (last % 65536) z1 me1 × IsAimOf (reader_of me.0) (reader_of me1.0)
+    → IsAim bits arena sizes (last % 65536) z1 me1 × IsAimOf (reader_in me.0) (reader_in me1.0)
 aimed_post {bits} {arena} {sizes} {z} {z1} {me} {me1} {last} i same told =
-    let v : ReaderView = aims (reader_of me.0) told.entry in
+    let v : ReaderView = aims (reader_in me.0) told.entry in
     let p = post_after i.post same v told.is refl in
     let hold = hold-found last told.entry told.found_last told.low in (
       record {
         post = p.0;
         low = (let l = told.low in omega (arith, hold, l));
         aimed = subst (λ (x : ReaderView). x.state ≡ Aimed x.least (last % 65536)) (sym p.1) (ap (Aimed told.entry.generation) (sym hold));
-        climbs = subst Climbs (sym p.1) (aim-climbs (reader_of me.0) told.entry i.climbs told.least);
+        climbs = subst Climbs (sym p.1) (aim-climbs (reader_in me.0) told.entry i.climbs told.least);
       },
       record {
         same_sizes = ap (λ (x : ReaderView). x.sizes) p.1;
         seen = ap (λ (x : ReaderView). x.seen) p.1;
         saw = ap (λ (x : ReaderView). x.saw) p.1;
-        least = subst (λ (x : ReaderView). (reader_of me.0).least ≤ x.least) (sym p.1) told.least;
-        first = subst (λ (x : ReaderView). x.first ≡ first_aim (reader_of me.0) x.least) (sym p.1) refl;
+        least = subst (λ (x : ReaderView). (reader_in me.0).least ≤ x.least) (sym p.1) told.least;
+        first = subst (λ (x : ReaderView). x.first ≡ first_aim (reader_in me.0) x.least) (sym p.1) refl;
         misses = ap (λ (x : ReaderView). x.misses) p.1;
       },
     )
@@ -282,20 +283,20 @@ aimed_post {bits} {arena} {sizes} {z} {z1} {me} {me1} {last} i same told =
 -- a reader that has raised a hold
 pub record RaisedPost (bits : ℕ) (arena : TableId) (sizes : Sizes) (r : ReaderView) (hold count : ℕ) (z : TableId) (me : Me Slot View) : Type 0 where
   pub post : IsPost bits arena sizes z me
-  pub state : (reader_of me.0).state ≡ found_state count hold
+  pub state : (reader_in me.0).state ≡ found_state count hold
   pub low : hold < 16
-  pub sizes_same : (reader_of me.0).sizes ≡ r.sizes
-  pub seen : (reader_of me.0).seen ≡ r.seen
-  pub saw : (reader_of me.0).saw ≡ r.saw
-  pub least : (reader_of me.0).least ≡ r.least
-  pub first : (reader_of me.0).first ≡ r.first
-  pub misses : (reader_of me.0).misses ≡ found_misses count r.misses
+  pub sizes_same : (reader_in me.0).sizes ≡ r.sizes
+  pub seen : (reader_in me.0).seen ≡ r.seen
+  pub saw : (reader_in me.0).saw ≡ r.saw
+  pub least : (reader_in me.0).least ≡ r.least
+  pub first : (reader_in me.0).first ≡ r.first
+  pub misses : (reader_in me.0).misses ≡ found_misses count r.misses
   pub climbs : Climbs r
 
 pub raised_post : {bits : ℕ} {arena : TableId} {sizes : Sizes} {hold count : ℕ} {z z1 : TableId} {me me1 : Me Slot View} → IsAim bits arena sizes hold z me → z1 ≡ z → told_raise (step 0 (2 + hold) 2 0 none) me count me1
-    → RaisedPost bits arena sizes (reader_of me.0) hold count z1 me1
+    → RaisedPost bits arena sizes (reader_in me.0) hold count z1 me1
 raised_post {bits} {arena} {sizes} {hold} {count} {z} {z1} {me} {me1} a same told =
-    let v : ReaderView = meets (reader_of me.0) count hold in
+    let v : ReaderView = meets (reader_in me.0) count hold in
     let p = post_after a.post same v (told hold refl) refl in
     record {
       post = p.0;
@@ -320,17 +321,17 @@ odd-misses found misses ne = ap (λ (t : Bool). cond t misses (record { count = 
 module _ {bits : ℕ} {arena : TableId} {sizes : Sizes} {r : ReaderView} {hold count : ℕ} {z : TableId} {me : Me Slot View} (b : RaisedPost bits arena sizes r hold count z me) where
   -- raised: nothing was missed
   module _ (even : count % 2 ≡ 0) where
-    no-miss : (reader_of me.0).misses.count ≡ r.misses.count
+    no-miss : (reader_in me.0).misses.count ≡ r.misses.count
     no-miss = ap (λ (x : MissCount). x.count) (b.misses ∙ even-misses count r.misses even)
 
-    pub raised-stands : stands_on (reader_of me.0).state ≡ Some hold
+    pub raised-stands : stands_on (reader_in me.0).state ≡ Some hold
     raised-stands = ap stands_on (b.state ∙ even-state count hold even)
 
-    pub raised-climbs : Climbs (reader_of me.0)
+    pub raised-climbs : Climbs (reader_in me.0)
     raised-climbs = let climbs = b.climbs in let first = b.first in let least = b.least in omega (arith, climbs, first, least, no-miss)
 
     -- also under a guard that only adds what was seen
-    pub hit : (v : ReaderView) (number : ℕ) (image : Image) → v ≡ sees (reader_of me.0) hold number image → Missed r v 0
+    pub hit : (v : ReaderView) (number : ℕ) (image : Image) → v ≡ sees (reader_in me.0) hold number image → Missed r v 0
     hit v number image is = subst (λ (x : ReaderView). Missed r x 0) (sym is) (record {
       rises = (let least = b.least in omega (arith, least));
       counted = no-miss ∙ omega arith;
@@ -338,8 +339,8 @@ module _ {bits : ℕ} {arena : TableId} {sizes : Sizes} {r : ReaderView} {hold c
     })
 
   -- on its way back: one was
-  module _ (odd : count % 2 ≢ 0) (v : ReaderView) (is : v ≡ bounced (reader_of me.0)) where
-    one : (reader_of me.0).misses ≡ record { count = r.misses.count + 1; found = count }
+  module _ (odd : count % 2 ≢ 0) (v : ReaderView) (is : v ≡ bounced (reader_in me.0)) where
+    one : (reader_in me.0).misses ≡ record { count = r.misses.count + 1; found = count }
     one = b.misses ∙ odd-misses count r.misses odd
 
     pub miss : Missed r v 1
@@ -357,7 +358,7 @@ module _ {bits : ℕ} {arena : TableId} {sizes : Sizes} {r : ReaderView} {hold c
 
 -- and one that stands on nothing again
 pub watch_after : {bits : ℕ} {arena : TableId} {sizes : Sizes} {z z' : TableId} {me me' : Me Slot View} → IsPost bits arena sizes z me → z' ≡ z → (v : ReaderView) → me' ≡ (Reader v, me.1)
-    → v.sizes ≡ (reader_of me.0).sizes → v.state ≡ Idle → Climbs v
+    → v.sizes ≡ (reader_in me.0).sizes → v.state ≡ Idle → Climbs v
     → IsWatch bits arena sizes z' me'
 watch_after i same v is size idle climbs =
     let p = post_after i same v is size in

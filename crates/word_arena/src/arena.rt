@@ -2,7 +2,7 @@
 ghost use Rattle.std.specs.Prelude.{◌≡◌, ◌^◌, ◌<◌, ◌≤◌, ◌+◌, ◌*◌, IfOk, length};
 ghost use Rattle.entry_ref.specs.References.{buffer_limit, offset_limit};
 ghost use Rattle.gen_core.specs.Events.{opening_view, opening_words};
-ghost use Rattle.word_arena.specs.Ruled.{writer_of};
+ghost use Rattle.word_arena.specs.Ruled.{bare, writer_of};
 ghost use Rattle.word_arena.specs.Knows.{IsToken, core_sizes};
 
 use crate::config::Config;
@@ -24,7 +24,7 @@ pub struct Token<const OFFSET_BITS: u32> {
     pub(crate) sizes: Sizes,
     pub(crate) buffers: Vec<Buffer>,
     pub(crate) place: Place,
-    ghost stands: { IsToken OFFSET_BITS sizes buffers.items place.table_id place.me },
+    ghost stands: { IsToken OFFSET_BITS sizes buffers.items place.table_id (bare place.me) },
 }
 
 /// Every word is 0, but the counts of holds 1 to 15, which are closed.

@@ -4,7 +4,7 @@ ghost use Rattle.entry_ref.specs.Images.{words_at};
 ghost use Rattle.entry_ref.specs.Places.{place};
 ghost use Rattle.gen_core.specs.Views.{stands_on};
 ghost use Rattle.gen_core.specs.Events.{released, sees};
-ghost use Rattle.word_arena.specs.Ruled.{reader_of, seen_image, seen_number, IsAimOf, IsLater, IsHigher, Missed, Tries, IsWatch, IsAim, IsGuard};
+ghost use Rattle.word_arena.specs.Ruled.{bare, reader_of, seen_image, seen_number, IsAimOf, IsLater, IsHigher, Missed, Tries, IsWatch, IsAim, IsGuard};
 ghost use Rattle.word_arena.specs.PlayEvents.{LoadsNewest, RaiseFinds, TryFinds};
 ghost use Rattle.entry_ref.specs.Records.{HasWord, word_at};
 
@@ -20,7 +20,7 @@ use std::sync::ledger::Ledger;
 pub struct Reader<'a, const OFFSET_BITS: u32, L: Layout> {
     pub(crate) arena: &'a Arena<OFFSET_BITS, L>,
     pub(crate) place: Place,
-    ghost stands: { IsWatch OFFSET_BITS arena.now.table.shared.table_id arena.now.sizes place.table_id place.me },
+    ghost stands: { IsWatch OFFSET_BITS arena.now.table.shared.table_id arena.now.sizes place.table_id (bare place.me) },
 }
 
 /// A reader that has loaded the root, and the root word.
@@ -30,7 +30,7 @@ pub struct Guarded<'a, const OFFSET_BITS: u32, L: Layout> {
     pub(crate) hold: u64,
     pub(crate) found: u64,
     pub(crate) place: Place,
-    ghost stands: { IsGuard OFFSET_BITS arena.now.table.shared.table_id arena.now.sizes hold found place.table_id place.me },
+    ghost stands: { IsGuard OFFSET_BITS arena.now.table.shared.table_id arena.now.sizes hold found place.table_id (bare place.me) },
 }
 
 /// A reader that has loaded the newest hold, and goes for it.
@@ -39,7 +39,7 @@ pub struct Aimed<'a, const OFFSET_BITS: u32, L: Layout> {
     pub(crate) arena: &'a Arena<OFFSET_BITS, L>,
     pub(crate) hold: u64,
     pub(crate) place: Place,
-    ghost stands: { IsAim OFFSET_BITS arena.now.table.shared.table_id arena.now.sizes hold place.table_id place.me },
+    ghost stands: { IsAim OFFSET_BITS arena.now.table.shared.table_id arena.now.sizes hold place.table_id (bare place.me) },
 }
 
 /// The hold was closed meanwhile: the reader again, and the count that it found.

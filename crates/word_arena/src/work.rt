@@ -10,6 +10,7 @@ ghost use Rattle.arena_api.specs.Works.{is_free, active_width, free_count};
 ghost use Rattle.gen_core.specs.Views.{last_tag_in};
 ghost use Rattle.gen_core.specs.Work.{writer_records};
 ghost use Rattle.word_arena.specs.Knows.{view_of, given, buffers_by};
+ghost use Rattle.word_arena.specs.Released.{HandsOut};
 ghost use Rattle.word_arena.specs.WriterSteps.{IsTaggedBelow};
 
 use crate::buffers::{count_free, last_of, lowest_free, width_of};
@@ -49,6 +50,8 @@ impl<'a, const OFFSET_BITS: u32, L: Layout> Writer<'a, OFFSET_BITS, L> {
         requires free { is_free (buffers_by (writer_of self.old.place.me.0).buffers buffer) ≡ true }
         requires some { 0 < width }
         ensures table { self.new.place.table_id ≡ self.old.place.table_id }
+        ensures hands { HandsOut L.reaches L.lawful (writer_of self.old.place.me.0).sizes
+            self.old.place.me.0.seen self.new.place.me.0.seen buffer }
         ensures view { writer_of self.new.place.me.0 ≡ given (writer_of self.old.place.me.0) buffer width
             (last_tag_in (writer_of self.old.place.me.0).buffers buffer) }
     {
@@ -186,7 +189,8 @@ impl<'a, const OFFSET_BITS: u32, L: Layout> Work<OFFSET_BITS> for Writer<'a, OFF
         }
     }
 
-    /// The last tag of the buffer, if it has one, is below every open generation.
+    /// The last tag of the buffer, if it has one, is below every open generation; and each reader that had a guard when the buffer was put on
+    /// hold has given it back since.
     fn hand_out(&mut self, width: u32) -> Option<u32>
         requires { 0 < width }
         ensures none { IsNone result ↔ (free_count (⟦<Writer<'a, OFFSET_BITS, L> as Work<OFFSET_BITS>>⟧.knows self.old).buffer
@@ -194,6 +198,8 @@ impl<'a, const OFFSET_BITS: u32, L: Layout> Work<OFFSET_BITS> for Writer<'a, OFF
         ensures lowest { IfSome result (IsLowestFree (⟦<Writer<'a, OFFSET_BITS, L> as Work<OFFSET_BITS>>⟧.knows self.old).buffer
             (⟦<Writer<'a, OFFSET_BITS, L> as Work<OFFSET_BITS>>⟧.knows self.old).sizes.buffers) }
         ensures tags { IfSome result (IsTaggedBelow (writer_of self.old.place.me.0)) }
+        ensures hands { IfSome result (HandsOut L.reaches L.lawful (writer_of self.old.place.me.0).sizes
+            self.old.place.me.0.seen self.new.place.me.0.seen) }
         ensures handed { IfSome result (λ b. ⟦<Writer<'a, OFFSET_BITS, L> as Work<OFFSET_BITS>>⟧.knows self.new
             ≡ handed_out (⟦<Writer<'a, OFFSET_BITS, L> as Work<OFFSET_BITS>>⟧.knows self.old) b width) }
         ensures refused { IfNone result (⟦<Writer<'a, OFFSET_BITS, L> as Work<OFFSET_BITS>>⟧.knows self.new

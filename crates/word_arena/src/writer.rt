@@ -7,7 +7,8 @@ ghost use Rattle.gen_core.specs.Views.{IsCommit};
 ghost use Rattle.gen_core.specs.Work.{writer_records};
 ghost use Rattle.gen_core.specs.Events.{opening_view, with_reader, newcomer, joined};
 ghost use Rattle.arena_api.specs.Calls.{IsFresh};
-ghost use Rattle.word_arena.specs.Ruled.{writer_of, reader_of};
+ghost use Rattle.word_arena.specs.Ruled.{bare, writer_of, reader_of};
+ghost use Rattle.word_arena.specs.Released.{IsWholeRun};
 ghost use Rattle.word_arena.specs.Knows.{view_of, IsDesk};
 ghost use Rattle.entry_ref.specs.Records.{HasWord, word_at};
 
@@ -28,7 +29,7 @@ pub struct Writer<'a, const OFFSET_BITS: u32, L: Layout> {
     pub(crate) last: u32,
     pub(crate) made: u32,
     pub(crate) place: Place,
-    ghost stands: { IsDesk OFFSET_BITS arena.now.table.shared.table_id arena.now.sizes buffers.items holds last made place.table_id place.me },
+    ghost stands: { IsDesk OFFSET_BITS arena.now.table.shared.table_id arena.now.sizes buffers.items holds last made place.table_id (bare place.me) },
 }
 
 /// As many readers were made as there can be.
@@ -82,12 +83,14 @@ impl<'a, const OFFSET_BITS: u32, L: Layout> Writer<'a, OFFSET_BITS, L> {
         })
     }
 
-    /// Ends a reader. What it saw is then known to be commits.
+    /// Ends a reader. What it saw is then known to be commits; and what the writer has seen is then the whole run so far, in which no buffer was
+    /// handed out while a reader had a guard from before its hold.
     pub fn take_in(&mut self, reader: Reader<'a, OFFSET_BITS, L>)
         requires { reader.place.table_id ≡ self.old.place.table_id }
         ensures view { writer_of self.new.place.me.0 ≡ joined (writer_of self.old.place.me.0) (reader_of reader.entry.place.me.0) }
         ensures table { self.new.place.table_id ≡ self.old.place.table_id }
         ensures commits { All (IsCommit (writer_of self.new.place.me.0).commits) (writer_of self.new.place.me.0).saw }
+        ensures run { IsWholeRun L.reaches L.lawful (writer_of self.old.place.me.0).sizes self.new.place.me.0.seen }
     {
         let Reader { arena: _, place } = reader;
         self.arena

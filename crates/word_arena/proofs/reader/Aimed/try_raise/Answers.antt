@@ -2,7 +2,7 @@ use Rattle.std.proofs.Common.{arith, refl, subst, sym, ap, ◌∙◌, ◌≡◌}
 use Rattle.atomic_table.specs.Table.{Me}
 use Rattle.gen_core.specs.declared.views.View.{View}
 use Rattle.gen_core.specs.Events.{bounced}
-use Rattle.word_arena.specs.Ruled.{Slot, reader_of, IsHigher}
+use Rattle.word_arena.specs.Ruled.{Slot, reader_of, IsHigher, reader_in}
 use Rattle.word_arena.proofs.Allowed.{raise_owed, bounce_owed, load_root_owed}
 use Rattle.word_arena.proofs.Guards.{low-inside, odd-state, guards, raised_post, raised-stands, raised-climbs, hit, miss, miss-found, miss-climbs, saw_on, watch_after}
 use Rattle.word_arena.proofs.reader.Aimed.try_raise.Goals as goal
@@ -69,7 +69,7 @@ returns-clause-again g c =
     let told = c.fetch_sub.ensures.2.told in
     let least = b.least in
     let limit = told.limit in
-    let view : reader_of c.fetch_sub.new.seat.me.0 ≡ bounced (reader_of c.fetch_add-count.new.seat.me.0) = ap (λ (m : Me Slot View). reader_of m.0) told.is in
+    let view : reader_of c.fetch_sub.new.seat.me.0 ≡ bounced (reader_of c.fetch_add-count.new.seat.me.0) = ap (λ (m : Me Slot View). reader_in m.0) told.is in
     subst (IsHigher (reader_of c.args.self.place.me.0)) (sym view) (record { higher = omega arith; seen = b.seen; saw = b.saw; same_sizes = b.sizes_same; limit = limit })
 
 pub returns-then-count-eq0-clause-even : goal.returns-then-count-eq0-clause-even
@@ -94,10 +94,10 @@ pub returns-clause-miss : goal.returns-clause-miss
 returns-clause-miss g c =
     let a = c.args.self.stands in
     let b = raised_post a c.fetch_add-count.ensures.0 c.fetch_add-count.ensures.2.told in
-    miss b c.if-count-eq0.false (reader_of c.fetch_sub.new.seat.me.0) (ap (λ (m : Me Slot View). reader_of m.0) c.fetch_sub.ensures.2.told.is)
+    miss b c.if-count-eq0.false (reader_of c.fetch_sub.new.seat.me.0) (ap (λ (m : Me Slot View). reader_in m.0) c.fetch_sub.ensures.2.told.is)
 
 pub returns-clause-found : goal.returns-clause-found
 returns-clause-found g c =
     let a = c.args.self.stands in
     let b = raised_post a c.fetch_add-count.ensures.0 c.fetch_add-count.ensures.2.told in
-    miss-found b c.if-count-eq0.false (reader_of c.fetch_sub.new.seat.me.0) (ap (λ (m : Me Slot View). reader_of m.0) c.fetch_sub.ensures.2.told.is)
+    miss-found b c.if-count-eq0.false (reader_of c.fetch_sub.new.seat.me.0) (ap (λ (m : Me Slot View). reader_in m.0) c.fetch_sub.ensures.2.told.is)

@@ -2,10 +2,10 @@ use Rattle.std.proofs.Common.{arith, ap, subst, sym, ◌∙◌, ◌≡◌, ◌+�
 use Rattle.entry_ref.specs.References.{buffer_of}
 use Rattle.atomic_table.specs.declared.shared.Seat.{Seat}
 use Rattle.entry_ref.specs.Places.{base, place, IsEntry}
-use Rattle.gen_core.specs.declared.views.View.{View}
-use Rattle.word_arena.specs.Ruled.{Slot, IsGuard}
+use Rattle.word_arena.specs.Ruled.{Slot, IsGuard, bare}
 use Rattle.word_arena.proofs.Guards.{the_entry, base-below, width_found, may_load_width, seat_same, guard-prop}
 use Rattle.word_arena.proofs.Allowed.{load_word_owed}
+use Rattle.word_arena.specs.declared.rule.Watched.{Watched}
 use Rattle.word_arena.proofs.reader.Guarded.place_of_word.Goals as goal
 
 pub load-width-requires : goal.load-width-requires
@@ -46,6 +46,6 @@ pub returns-clause-same : goal.returns-clause-same
 returns-clause-same g c =
     let s = c.args.self.now in
     let w = c.load-width.ensures in
-    let seat = seat_same s.place c.load-width.new.seat w.0 w.1 w.2.told.same in
-    subst (λ (p : Seat Slot View). (st : IsGuard g.row.OFFSET_BITS s.arena.now.table.shared.table_id s.arena.now.sizes s.hold s.found p.table_id p.me) → record s { place = p; stands = st } ≡ s) (sym seat)
+    let seat = seat_same s.place c.load-width.new.seat w.0 w.1 w.2.event.1.same in
+    subst (λ (p : Seat Slot Watched). (st : IsGuard g.row.OFFSET_BITS s.arena.now.table.shared.table_id s.arena.now.sizes s.hold s.found p.table_id (bare p.me)) → record s { place = p; stands = st } ≡ s) (sym seat)
     (λ st. ap (λ x. record s { stands = x }) (guard-prop _ _ _ _ _ _ _ st s.stands)) _

@@ -4,11 +4,11 @@ use Rattle.atomic_table.specs.declared.shared.Seat.{Seat}
 use Rattle.entry_ref.specs.Images.{words_at}
 use Rattle.atomic_table.specs.Seated.{TableId}
 use Rattle.entry_ref.specs.Places.{place, size_of}
-use Rattle.gen_core.specs.declared.views.View.{View}
-use Rattle.word_arena.specs.Ruled.{Slot, reader_of, seen_image, IsGuard}
+use Rattle.word_arena.specs.Ruled.{Slot, reader_of, seen_image, IsGuard, bare}
 use Rattle.word_arena.proofs.Guards.{few-buffers, place-inside, word_found, may_load_word, seat_same, guard-prop}
 use Rattle.word_arena.proofs.Allowed.{load_word_owed}
 use Rattle.word_arena.proofs.ReadLemmas.{read_more}
+use Rattle.word_arena.specs.declared.rule.Watched.{Watched}
 use Rattle.word_arena.proofs.reader.GuardedFrozen.read.Goals as goal
 
 pub overflow_add-place : goal.overflow_add-place
@@ -64,8 +64,8 @@ loop-i-preserved g c =
     let l = c.load.ensures in
     let value : c.load.result ≡ slice_index (words_at (seen_image (reader_of (c.args.self.now).place.me.0)) c.args.entry) (c.args.first + c.loop-i.i) =
     word_found s.stands c.args.entry (c.args.first + c.loop-i.i) inside refl is l.2.told ∙ (λ k. slice_index (words_at (seen_image (reader_of (same k).place.me.0)) c.args.entry) (c.args.first + c.loop-i.i)) in
-    let seat = seat_same s.place c.load.new.seat l.0 l.1 l.2.told.same in
-    let back = subst (λ (p : Seat Slot View). (st : IsGuard g.row.OFFSET_BITS s.arena.now.table.shared.table_id s.arena.now.sizes s.hold s.found p.table_id p.me) → record s { place = p; stands = st } ≡ s) (sym seat)
+    let seat = seat_same s.place c.load.new.seat l.0 l.1 l.2.event.1.same in
+    let back = subst (λ (p : Seat Slot Watched). (st : IsGuard g.row.OFFSET_BITS s.arena.now.table.shared.table_id s.arena.now.sizes s.hold s.found p.table_id (bare p.me)) → record s { place = p; stands = st } ≡ s) (sym seat)
     (λ st. ap (λ x. record s { stands = x }) (guard-prop _ _ _ _ _ _ _ st s.stands)) _ in
     record {
       same = back ∙ same;

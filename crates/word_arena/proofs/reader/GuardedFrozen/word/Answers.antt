@@ -2,10 +2,10 @@ use Rattle.std.proofs.Common.{refl, ap, subst, sym, ◌∙◌, ◌≡◌, ◌<�
 use Rattle.atomic_table.specs.declared.shared.Seat.{Seat}
 use Rattle.entry_ref.specs.Images.{words_at}
 use Rattle.entry_ref.specs.Places.{place}
-use Rattle.gen_core.specs.declared.views.View.{View}
-use Rattle.word_arena.specs.Ruled.{Slot, reader_of, seen_image, IsGuard}
+use Rattle.word_arena.specs.Ruled.{Slot, reader_of, seen_image, IsGuard, bare}
 use Rattle.word_arena.proofs.Guards.{place-inside, word_found, may_load_word, seat_same, guard-prop}
 use Rattle.word_arena.proofs.Allowed.{load_word_owed}
+use Rattle.word_arena.specs.declared.rule.Watched.{Watched}
 use Rattle.word_arena.proofs.reader.GuardedFrozen.word.Goals as goal
 
 pub load-requires : goal.load-requires
@@ -31,6 +31,6 @@ returns-clause-same g c =
     let s = c.place_of_word-place.new.self in
     let same = c.place_of_word-place.ensures.same in
     let l = c.load.ensures in
-    let seat = seat_same s.place c.load.new.seat l.0 l.1 l.2.told.same in
-    subst (λ (p : Seat Slot View). (st : IsGuard g.row.OFFSET_BITS s.arena.now.table.shared.table_id s.arena.now.sizes s.hold s.found p.table_id p.me) → record s { place = p; stands = st } ≡ s) (sym seat)
+    let seat = seat_same s.place c.load.new.seat l.0 l.1 l.2.event.1.same in
+    subst (λ (p : Seat Slot Watched). (st : IsGuard g.row.OFFSET_BITS s.arena.now.table.shared.table_id s.arena.now.sizes s.hold s.found p.table_id (bare p.me)) → record s { place = p; stands = st } ≡ s) (sym seat)
     (λ st. ap (λ x. record s { stands = x }) (guard-prop _ _ _ _ _ _ _ st s.stands)) _ ∙ same

@@ -2,12 +2,12 @@ use Rattle.std.proofs.Common.{arith, ap, subst, sym, ◌∙◌, ◌≡◌, ◌+�
 use Rattle.entry_ref.specs.References.{buffer_of}
 use Rattle.atomic_table.specs.declared.shared.Seat.{Seat}
 use Rattle.entry_ref.specs.Places.{base, place, IsEntry}
-use Rattle.gen_core.specs.declared.views.View.{View}
-use Rattle.word_arena.specs.Ruled.{Slot, writer_of}
+use Rattle.word_arena.specs.Ruled.{Slot, writer_of, bare}
 use Rattle.word_arena.specs.Knows.{IsDesk}
 use Rattle.word_arena.proofs.Guards.{seat_same}
 use Rattle.word_arena.proofs.Desks.{the_entry, base-below, may_load_width, width_found, few-words, desk-prop}
 use Rattle.word_arena.proofs.Allowed.{load_own_owed}
+use Rattle.word_arena.specs.declared.rule.Watched.{Watched}
 use Rattle.word_arena.proofs.writer.Writer.place_of_word.Goals as goal
 
 pub load-width-requires : goal.load-width-requires
@@ -48,6 +48,6 @@ pub returns-clause-same : goal.returns-clause-same
 returns-clause-same g c =
     let s = c.args.self.now in
     let w = c.load-width.ensures in
-    let seat = seat_same s.place c.load-width.new.seat w.0 w.1 w.2.told.same in
-    subst (λ (p : Seat Slot View). (st : IsDesk g.row.OFFSET_BITS s.arena.now.table.shared.table_id s.arena.now.sizes s.buffers.items s.holds s.last s.made p.table_id p.me) → record s { place = p; stands = st } ≡ s) (sym seat)
+    let seat = seat_same s.place c.load-width.new.seat w.0 w.1 w.2.event.same in
+    subst (λ (p : Seat Slot Watched). (st : IsDesk g.row.OFFSET_BITS s.arena.now.table.shared.table_id s.arena.now.sizes s.buffers.items s.holds s.last s.made p.table_id (bare p.me)) → record s { place = p; stands = st } ≡ s) (sym seat)
     (λ st. ap (λ x. record s { stands = x }) (desk-prop _ _ _ _ _ _ _ _ _ st s.stands)) _

@@ -3,14 +3,14 @@ use Rattle.std.proofs.lemmas.List.{length-set}
 use Rattle.atomic_table.specs.declared.shared.Seat.{Seat}
 use Rattle.entry_ref.specs.Places.{place}
 use Rattle.gen_core.specs.declared.views.Sizes.{Sizes}
-use Rattle.gen_core.specs.declared.views.View.{View}
 use Rattle.gen_core.specs.Work.{writer_records}
-use Rattle.word_arena.specs.Ruled.{Slot, writer_of}
+use Rattle.word_arena.specs.Ruled.{Slot, writer_of, bare}
 use Rattle.word_arena.specs.Knows.{IsDesk}
 use Rattle.word_arena.proofs.Guards.{seat_same}
 use Rattle.word_arena.proofs.Desks.{arena-words, few-buffers, place-inside, may_load_word, word_found, desk-prop}
 use Rattle.word_arena.proofs.Allowed.{load_own_owed}
 use Rattle.word_arena.proofs.ReadLemmas.{read_more}
+use Rattle.word_arena.specs.declared.rule.Watched.{Watched}
 use Rattle.word_arena.proofs.writer.WriterFrozen.read.Goals as goal
 
 pub overflow_add-place : goal.overflow_add-place
@@ -63,8 +63,8 @@ loop-i-preserved g c =
     let l = c.load.ensures in
     let value : c.load.result ≡ slice_index (writer_records (writer_of (c.args.self.now).place.me.0) c.args.entry) (c.args.first + c.loop-i.i) =
     word_found s.stands c.args.entry (c.args.first + c.loop-i.i) inside refl is l.2.told ∙ (λ k. slice_index (writer_records (writer_of (same k).place.me.0) c.args.entry) (c.args.first + c.loop-i.i)) in
-    let seat = seat_same s.place c.load.new.seat l.0 l.1 l.2.told.same in
-    let back = subst (λ (p : Seat Slot View). (st : IsDesk g.row.OFFSET_BITS s.arena.now.table.shared.table_id s.arena.now.sizes s.buffers.items s.holds s.last s.made p.table_id p.me)
+    let seat = seat_same s.place c.load.new.seat l.0 l.1 l.2.event.same in
+    let back = subst (λ (p : Seat Slot Watched). (st : IsDesk g.row.OFFSET_BITS s.arena.now.table.shared.table_id s.arena.now.sizes s.buffers.items s.holds s.last s.made p.table_id (bare p.me))
     → record s { place = p; stands = st } ≡ s) (sym seat)
     (λ st. ap (λ x. record s { stands = x }) (desk-prop _ _ _ _ _ _ _ _ _ st s.stands)) _ in
     record {

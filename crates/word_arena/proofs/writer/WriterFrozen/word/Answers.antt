@@ -1,13 +1,13 @@
 use Rattle.std.proofs.Common.{refl, ap, subst, sym, ◌∙◌, ◌≡◌, ◌<◌, ℕ, length, slice_index}
 use Rattle.atomic_table.specs.declared.shared.Seat.{Seat}
 use Rattle.entry_ref.specs.Places.{place}
-use Rattle.gen_core.specs.declared.views.View.{View}
 use Rattle.gen_core.specs.Work.{writer_records}
-use Rattle.word_arena.specs.Ruled.{Slot, writer_of}
+use Rattle.word_arena.specs.Ruled.{Slot, writer_of, bare}
 use Rattle.word_arena.specs.Knows.{IsDesk}
 use Rattle.word_arena.proofs.Guards.{seat_same}
 use Rattle.word_arena.proofs.Desks.{place-inside, may_load_word, word_found, desk-prop}
 use Rattle.word_arena.proofs.Allowed.{load_own_owed}
+use Rattle.word_arena.specs.declared.rule.Watched.{Watched}
 use Rattle.word_arena.proofs.writer.WriterFrozen.word.Goals as goal
 
 pub load-requires : goal.load-requires
@@ -33,6 +33,6 @@ returns-clause-same g c =
     let s = c.place_of_word-place.new.self in
     let same = c.place_of_word-place.ensures.same in
     let l = c.load.ensures in
-    let seat = seat_same s.place c.load.new.seat l.0 l.1 l.2.told.same in
-    subst (λ (p : Seat Slot View). (st : IsDesk g.row.OFFSET_BITS s.arena.now.table.shared.table_id s.arena.now.sizes s.buffers.items s.holds s.last s.made p.table_id p.me) → record s { place = p; stands = st } ≡ s) (sym seat)
+    let seat = seat_same s.place c.load.new.seat l.0 l.1 l.2.event.same in
+    subst (λ (p : Seat Slot Watched). (st : IsDesk g.row.OFFSET_BITS s.arena.now.table.shared.table_id s.arena.now.sizes s.buffers.items s.holds s.last s.made p.table_id (bare p.me)) → record s { place = p; stands = st } ≡ s) (sym seat)
     (λ st. ap (λ x. record s { stands = x }) (desk-prop _ _ _ _ _ _ _ _ _ st s.stands)) _ ∙ same
