@@ -666,34 +666,36 @@ module _ (reaches : ℕ → Records → ℕ → List ℕ) (lawful : ℕ → Reco
   load_word_owed slots id me r p is may t rule homes at small =
       let x : Watched = me.0 in
       let view : x.view ≡ Reader r = ap (λ (m : Me Slot View). m.0) is in
-      let k = reading t rule id x r view at in
+      let mine = reader_at rule.writer rule.readers id r (view-there t rule id x (Reader r) view at) in
+      let good = rule.reached.good in
       let fits = rule.watched.each id x at in
       let stays : x.view ≢ Reader spent = λ same. not_spent r (under-off r p may) (sym view ∙ same) in
-      let sees_it = ap (option_map Reader) k.there ∙ ap Some (sym view) in (
+      let sees_it = ap (option_map Reader) mine.2 ∙ ap Some (sym view) in (
         x,
         keeps,
         tt,
-        loaded t rule id x p (LoadWord k.j p) at (λ i. refl) (r, k.there, may, refl),
+        loaded t rule id x p (LoadWord mine.0 p) at (λ i. refl) (r, mine.2, may, refl),
         record {
           told = told_at (λ m m'. told_load_word (step slots p 0 0 none) m (slice_index t.words p) m') is is (record {
             same = refl;
             word = λ c image saw.
-                let stands = image_stands reaches lawful (core t.words k.writer k.readers) k.j c r image k.reached.good k.there saw in
+                let stands = image_stands reaches lawful (core t.words rule.writer rule.readers) mine.0 c r image good mine.2 saw in
                 record {
                   word = λ ref ws i there lt at'. ap (slice_index t.words) at' ∙ ((stands ref ws there).each i lt).is;
                   width = λ ref ws there at'. ap (slice_index t.words) at' ∙ (stands ref ws there).width.is;
                 };
           });
           event = (
-            k.j,
+            mine.0,
             record {
               is = record {
                 between = fits.later;
-                own = (λ i. noted_by (sym k.place i) (sym fits.begins i)) ∙ fits.own stays;
-                before = core t.words k.writer k.readers;
-                after = core t.words k.writer k.readers;
-                reached = subst (λ (l : List Event). IsReached reaches lawful k.writer.sizes l (core t.words k.writer k.readers)) fits.begins k.own;
-                happens = (r, k.there, may, refl);
+                own = (λ i. noted_by (sym mine.1 i) (sym fits.begins i)) ∙ fits.own stays;
+                before = core t.words rule.writer rule.readers;
+                after = core t.words rule.writer rule.readers;
+                reached = subst (λ (l : List Event). IsReached reaches lawful rule.writer.sizes l (core t.words rule.writer rule.readers)) fits.begins
+                    (subst (λ (z : Sizes). IsReached reaches lawful z rule.events (core t.words rule.writer rule.readers)) (sym rule.same_sizes) rule.reached);
+                happens = (r, mine.2, may, refl);
                 word = refl;
                 operands = tt;
                 found_is = refl;
@@ -741,7 +743,8 @@ module _ (reaches : ℕ → Records → ℕ → List ℕ) (lawful : ℕ → Reco
       let k = writing t rule id x w view at in
       let left : Watched = glued x y in
       let here : get_elem? t.views other ≡ some y = sym (set-other t.views id other left apart) ∙ there in
-      let reader = reader_at rule.writer rule.readers other r (view-there t rule other y (Reader r) seen here) in
+      let written = k.set_view left (joined w r) (λ i. Writer (joined (writer_in (view i)) (reader_in (seen i)))) in
+      let reader = reader_at (joined w r) k.readers other r (ap (λ (l : List View). get_elem? l other) (sym written) ∙ get-map (λ (z : Watched). z.view) (set t.views id left) other y there ∙ ap some seen) in
       let e : Event = Join reader.0 in
       let quiet = watch-quiet rule.events t.views e (λ i. refl) rule.watched in
       let old = quiet.each id x at in
@@ -751,7 +754,7 @@ module _ (reaches : ℕ → Records → ℕ → List ℕ) (lawful : ℕ → Reco
         writer = joined w r;
         readers = set k.readers reader.0 spent;
         views = map-set (λ (z : Watched). z.view) (set t.views id left) other gone
-            ∙ ap (λ (l : List View). set l other (Reader spent)) (k.set_view left (joined w r) (λ i. Writer (joined (writer_in (view i)) (reader_in (seen i)))))
+            ∙ ap (λ (l : List View). set l other (Reader spent)) written
             ∙ ap (λ (i : ℕ). set (views_of (joined w r) k.readers) i (Reader spent)) reader.1
             ∙ ap (λ (l : List View). Writer (joined w r) ∷ l) (sym (map-set Reader k.readers reader.0 spent));
         same_sizes = k.same_sizes;

@@ -120,7 +120,7 @@ module _ (reaches : ℕ → Records → ℕ → List ℕ) (lawful : ℕ → Reco
       let less : found - 1 ≡ (found + (2 ^ 64 - 1)) % 2 ^ 64 = omega (arith, one, small) in
       let more = reopen_keeps reaches lawful (core words w readers) h good may in
       let both : Happens reaches lawful (core words w readers) (Reopen h) (core (set words (hold_place h) ((found + (2 ^ 64 - 1)) % 2 ^ 64)) (reopened w h) readers)
-          × Good reaches lawful (core (set words (hold_place h) ((found + (2 ^ 64 - 1)) % 2 ^ 64)) (reopened w h) readers) =
+      × Good reaches lawful (core (set words (hold_place h) ((found + (2 ^ 64 - 1)) % 2 ^ 64)) (reopened w h) readers) =
       subst (λ (n : ℕ). Happens reaches lawful (core words w readers) (Reopen h) (core (set words (hold_place h) n) (reopened w h) readers) × Good reaches lawful (core (set words (hold_place h) n) (reopened w h) readers)) less ((may, refl), more) in
       record {
         v = reopened w h;
