@@ -27,9 +27,10 @@ pub struct Reading<'a, const OFFSET_BITS: u32, L: Layout, A> {
     pub rounds: Vec<Round<A>>,
 }
 
-/// A reader keeps its hold over so many rounds, and then takes a new one. While it keeps it, no buffer that was put on hold since is free again:
-/// so a reader without end would end the room of the writer. A new guard costs an addition to a word that all readers share, and a second one when it
-/// is given back; a load of the root under the hold costs none, so over 64 rounds what they cost is below a thirtieth of an addition each.
+/// A reader keeps its hold over so many rounds, and then takes a new one. While it keeps it, no buffer that was put on hold
+/// since is free again: a reader that never let go would end the writer's room. A new guard costs an addition to a word that
+/// all readers share, and one more when it is given back; a load of the root under the hold costs none. So over 64 rounds
+/// they cost a thirtieth of an addition each.
 pub const ROUNDS_ON_A_HOLD: u32 = 64;
 
 /// Where a reader stands between two rounds: on nothing, or still under the guard of the last one.
@@ -150,8 +151,8 @@ fn one_round<'a, const OFFSET_BITS: u32, L: Layout, Q: Question<OFFSET_BITS, L>,
     }
 }
 
-/// So many rounds of the reader of a number, both counted from 1. The gate is passed before and after each. Between two rounds the reader keeps its
-/// hold, and gives it back after each 64.
+/// So many rounds of the reader of a number, both counted from 1. The gate is passed before and after each. Between two
+/// rounds the reader keeps its hold, and gives it back after each 64.
 pub fn go_round<'a, const OFFSET_BITS: u32, L: Layout, Q: Question<OFFSET_BITS, L>, G: Gate>(
     alloc: Global,
     reader: Reader<'a, OFFSET_BITS, L>,
@@ -169,15 +170,7 @@ pub fn go_round<'a, const OFFSET_BITS: u32, L: Layout, Q: Question<OFFSET_BITS, 
     let mut post = Post::Idle(reader);
     let mut rounds = Vec::new(alloc);
     for _ in 0..count {
-        post = one_round(
-            alloc,
-            post,
-            number,
-            count,
-            question,
-            gate,
-            &mut rounds,
-        )?;
+        post = one_round(alloc, post, number, count, question, gate, &mut rounds)?;
     }
     let reader = let_go(post);
     Ok(Reading { reader, rounds })

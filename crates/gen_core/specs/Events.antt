@@ -16,8 +16,10 @@ use Rattle.gen_core.specs.declared.views.ReaderState.{ReaderState}
 use Rattle.gen_core.specs.declared.views.ReaderState.TheVariants.{Idle, Aimed, Raised, Bounced, Guarded}
 use Rattle.gen_core.specs.declared.views.Misses.{Misses}
 use Rattle.gen_core.specs.declared.views.Event.{Event}
-use Rattle.gen_core.specs.declared.views.Event.TheVariants.{StoreWidth, StoreWord, FindWord, HandOut, Publish, PutOnHold, FreeBuffer, Reopen, StoreNewest, Close, StopAtOldest, Probe}
-use Rattle.gen_core.specs.declared.views.Event.TheVariants.{StopAtNewest, Morph, Split, Join, MeetLoad, LoadOwn, LoadNewest, Raise, Bounce, LoadRoot, LoadWord, Release}
+use Rattle.gen_core.specs.declared.views.Event.TheVariants.{StoreWidth, StoreWord, FindWord, HandOut, Publish, PutOnHold, FreeBuffer}
+use Rattle.gen_core.specs.declared.views.Event.TheVariants.{Reopen, StoreNewest, Close, StopAtOldest, Probe}
+use Rattle.gen_core.specs.declared.views.Event.TheVariants.{StopAtNewest, Morph, Split, Join, MeetLoad, LoadOwn, LoadNewest, Raise, Bounce}
+use Rattle.gen_core.specs.declared.views.Event.TheVariants.{LoadRoot, LoadWord, Release}
 use Rattle.gen_core.specs.declared.views.ReaderView.{ReaderView}
 use Rattle.gen_core.specs.declared.views.WriterView.{WriterView}
 use Rattle.gen_core.specs.Views.{queue_of, open_holds, hold_place, newest_word, last_number, last_image, root_word, last_tag_in, stands_on}

@@ -18,8 +18,10 @@ use Rattle.gen_core.specs.declared.views.WriterView.{WriterView}
 use Rattle.gen_core.specs.Views.{queue_of, spent}
 use Rattle.gen_core.specs.Good.{State}
 use Rattle.gen_core.specs.declared.views.Event.{Event}
-use Rattle.gen_core.specs.declared.views.Event.TheVariants.{StoreWidth, StoreWord, HandOut, Publish, PutOnHold, FreeBuffer, Reopen, StoreNewest, Close}
-use Rattle.gen_core.specs.declared.views.Event.TheVariants.{StopAtOldest, Probe, StopAtNewest, Morph, Split, Join, MeetLoad, LoadNewest, Raise, Bounce}
+use Rattle.gen_core.specs.declared.views.Event.TheVariants.{StoreWidth, StoreWord, HandOut, Publish, PutOnHold, FreeBuffer, Reopen}
+use Rattle.gen_core.specs.declared.views.Event.TheVariants.{StoreNewest, Close}
+use Rattle.gen_core.specs.declared.views.Event.TheVariants.{StopAtOldest, Probe, StopAtNewest, Morph, Split, Join, MeetLoad, LoadNewest}
+use Rattle.gen_core.specs.declared.views.Event.TheVariants.{Raise, Bounce}
 use Rattle.gen_core.specs.declared.views.Event.TheVariants.{LoadRoot, LoadWord, Release}
 use Rattle.gen_core.specs.Events.{Happen, opening}
 

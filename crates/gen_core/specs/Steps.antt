@@ -13,9 +13,11 @@ use Rattle.gen_core.specs.declared.views.View.TheVariants.{Writer, Reader}
 use Rattle.gen_core.specs.Views.{oldest_of, newest_word, hold_place, spent}
 use Rattle.gen_core.specs.Good.{State}
 use Rattle.gen_core.specs.declared.views.Event.{Event}
-use Rattle.gen_core.specs.declared.views.Event.TheVariants.{StoreWidth, StoreWord, FindWord, HandOut, Publish, PutOnHold, FreeBuffer, Reopen}
+use Rattle.gen_core.specs.declared.views.Event.TheVariants.{StoreWidth, StoreWord, FindWord, HandOut, Publish, PutOnHold, FreeBuffer}
+use Rattle.gen_core.specs.declared.views.Event.TheVariants.{Reopen}
 use Rattle.gen_core.specs.Events.{coming_hold}
-use Rattle.gen_core.specs.declared.views.Event.TheVariants.{StoreNewest, Close, StopAtOldest, Probe, StopAtNewest, Morph, Split, Join, MeetLoad, LoadOwn}
+use Rattle.gen_core.specs.declared.views.Event.TheVariants.{StoreNewest, Close, StopAtOldest, Probe, StopAtNewest, Morph, Split, Join}
+use Rattle.gen_core.specs.declared.views.Event.TheVariants.{MeetLoad, LoadOwn}
 use Rattle.gen_core.specs.declared.views.Event.TheVariants.{LoadNewest, Raise, Bounce, LoadRoot, LoadWord, Release}
 use Rattle.gen_core.specs.Events.{Happens}
 

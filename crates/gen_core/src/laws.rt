@@ -11,7 +11,8 @@ ghost use Rattle.gen_core.specs.Needed.{NeedsActive, NeedsApart, NeedsActiveWidt
 ghost use Rattle.gen_core.specs.Needed.{NeedsNumber, NeedsSeat, RootBeforeRaise, OpensByZero, LastBeforeOpen, ForgetsTheBounce};
 ghost use Rattle.gen_core.specs.Needed.{MorphBesideNext, CloseMovesNoFloor, FreesAtTheOldest, TagsTooEarly};
 ghost use Rattle.gen_core.specs.Examples.{Ends, hold_sizes, buffer_sizes, missed_events, missed_end, renewed_events, renewed_end};
-ghost use Rattle.gen_core.specs.Examples.{closed_events, closed_end, kept_events, kept_end, reopened_events, reopened_end, again_events, again_end};
+ghost use Rattle.gen_core.specs.Examples.{closed_events, closed_end, kept_events, kept_end, reopened_events, reopened_end, again_events};
+ghost use Rattle.gen_core.specs.Examples.{again_end};
 ghost use Rattle.gen_core.specs.Examples.{stored_events, stored_end};
 
 use entry_ref::Layout;

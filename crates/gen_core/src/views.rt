@@ -112,9 +112,9 @@ pub enum View {
     Reader(ReaderView),
 }
 
-/// The events, each one step on one word by one seat. A reader is named by its place among those made. The writer's loads, of the root after a
-/// join (`MeetLoad`) and of a buffer's word (`LoadOwn`), and a reader's of a word of its image (`LoadWord`) change nothing. The root is loaded
-/// by a reader that keeps a hold open: for a guard, or again under one.
+/// The events, each one step on one word by one seat. A reader is named by its place among those made. The writer's loads, of
+/// the root after a join (`MeetLoad`) and of a buffer's word (`LoadOwn`), and a reader's of a word of its image (`LoadWord`)
+/// change nothing. The root is loaded by a reader that keeps a hold open: for a guard, or again under one.
 #[derive(Clone, Copy)]
 pub enum Event {
     /// A buffer and its width.

@@ -1,17 +1,21 @@
--- What each step on the running words is: the next event of the one run of the core, by the same seat, on the same word, by the same operation.
+-- What each step on the running words is: the next event of the one run of the core, by the same seat, on the same word, by the
+-- same operation.
 use Rattle.std.specs.Prelude.{◌≡◌, ◌≢◌, ℕ, List, [], ◌∷◌, ◌++◌, slice_index, Some}
 use Rattle.atomic_table.specs.Table.{Me, Step}
 use Rattle.entry_ref.specs.Records.{Records}
 use Rattle.gen_core.specs.Good.{State}
 use Rattle.gen_core.specs.Steps.{Operation, load, store, add, subtract, exchange, word_of, operation_of, seat_of, view_at}
 use Rattle.gen_core.specs.declared.views.Event.{Event}
-use Rattle.gen_core.specs.declared.views.Event.TheVariants.{StoreWidth, StoreWord, FindWord, HandOut, Publish, PutOnHold, FreeBuffer, Reopen, StoreNewest, Close}
-use Rattle.gen_core.specs.declared.views.Event.TheVariants.{StopAtOldest, Probe, StopAtNewest, Morph, MeetLoad, LoadOwn, LoadNewest, Raise, Bounce, LoadRoot, LoadWord}
+use Rattle.gen_core.specs.declared.views.Event.TheVariants.{StoreWidth, StoreWord, FindWord, HandOut, Publish, PutOnHold, FreeBuffer}
+use Rattle.gen_core.specs.declared.views.Event.TheVariants.{Reopen, StoreNewest, Close}
+use Rattle.gen_core.specs.declared.views.Event.TheVariants.{StopAtOldest, Probe, StopAtNewest, Morph, MeetLoad, LoadOwn, LoadNewest, Raise}
+use Rattle.gen_core.specs.declared.views.Event.TheVariants.{Bounce, LoadRoot, LoadWord}
 use Rattle.gen_core.specs.declared.views.Event.TheVariants.{Release}
 use Rattle.gen_core.specs.Events.{Happens}
 use Rattle.word_arena.specs.declared.rule.Watched.{Watched}
 use Rattle.word_arena.specs.Watched.{noted_by, IsReached}
-use Rattle.word_arena.specs.Ruled.{Slot, bare, told_hand_out, told_width, told_store, told_find, told_publish, told_load_root, told_load_newest}
+use Rattle.word_arena.specs.Ruled.{Slot, bare, told_hand_out, told_width, told_store, told_find, told_publish, told_load_root}
+use Rattle.word_arena.specs.Ruled.{told_load_newest}
 use Rattle.word_arena.specs.Ruled.{told_raise, told_bounce, told_release, told_load_word, told_load_own, told_meet_load}
 use Rattle.word_arena.specs.WriterHolds.{told_reopen, told_store_newest, told_morph, told_probe, told_close, told_hold, told_free}
 
@@ -32,8 +36,8 @@ told_found (subtract n) word = word
 told_found (exchange wanted new) word = word
 
 module _ (reaches : ℕ → Records → ℕ → List ℕ) (lawful : ℕ → Records → ℕ → Type 0) where
-  -- the one run began with what the seat had seen, and had of the seat's steps just those that it noted. It led to a state in which the seat
-  -- has the view before; there the event happens, on the word of the step, and leaves the seat the view after
+  -- the one run began with what the seat had seen, and had of the seat's steps just those that it noted. It led to a state in which
+  -- the seat has the view before; there the event happens, on the word of the step, and leaves the seat the view after
   pub record IsEvent (event : Event) (st : Step Slot) (me : Me Slot Watched) (found : ℕ) (me' : Me Slot Watched) : Type 0 where
     pub between : List Event
     pub own : noted_by (seat_of event) (me.0.seen ++ between) ≡ me.0.mine
@@ -65,14 +69,16 @@ pub record Told (T E : Type 0) : Type 0 where
 
 module _ (reaches : ℕ → Records → ℕ → List ℕ) (lawful : ℕ → Records → ℕ → Type 0) where
   abbrev pub plays_hand_out : Step Slot → Me Slot Watched → ℕ → Me Slot Watched → Type 0
-  plays_hand_out st me found me' = Told (told_hand_out st (bare me) found (bare me')) ((b : ℕ) × IsStep reaches lawful (HandOut b) st me found me')
+  plays_hand_out st me found me' = Told (told_hand_out st (bare me) found (bare me'))
+      ((b : ℕ) × IsStep reaches lawful (HandOut b) st me found me')
 
   abbrev pub plays_width : Step Slot → Me Slot Watched → ℕ → Me Slot Watched → Type 0
   plays_width st me found me' = Told (told_width st (bare me) found (bare me')) ((b : ℕ)
       × IsStep reaches lawful (StoreWidth b st.first) st me found me')
 
   abbrev pub plays_store : Step Slot → Me Slot Watched → ℕ → Me Slot Watched → Type 0
-  plays_store st me found me' = Told (told_store st (bare me) found (bare me')) (IsStep reaches lawful (StoreWord st.word st.first) st me found me')
+  plays_store st me found me' = Told (told_store st (bare me) found (bare me'))
+      (IsStep reaches lawful (StoreWord st.word st.first) st me found me')
 
   abbrev pub plays_find : Step Slot → Me Slot Watched → ℕ → Me Slot Watched → Type 0
   plays_find st me found me' = Told (told_find st (bare me) found (bare me')) (IsStep reaches lawful (FindWord st.word) st me found me')
@@ -82,22 +88,27 @@ module _ (reaches : ℕ → Records → ℕ → List ℕ) (lawful : ℕ → Reco
       × IsStep reaches lawful (Publish root) st me found me')
 
   abbrev pub plays_load_own : Step Slot → Me Slot Watched → ℕ → Me Slot Watched → Type 0
-  plays_load_own st me found me' = Told (told_load_own st (bare me) found (bare me')) (IsLook reaches lawful (LoadOwn st.word) st me found me')
+  plays_load_own st me found me' = Told (told_load_own st (bare me) found (bare me'))
+      (IsLook reaches lawful (LoadOwn st.word) st me found me')
 
   abbrev pub plays_meet : Step Slot → Me Slot Watched → ℕ → Me Slot Watched → Type 0
   plays_meet st me found me' = Told (told_meet_load st (bare me) found (bare me')) (IsStep reaches lawful MeetLoad st me found me')
 
   abbrev pub plays_hold : Step Slot → Me Slot Watched → ℕ → Me Slot Watched → Type 0
-  plays_hold st me found me' = Told (told_hold st (bare me) found (bare me')) ((b : ℕ) × IsStep reaches lawful (PutOnHold b) st me found me')
+  plays_hold st me found me' = Told (told_hold st (bare me) found (bare me'))
+      ((b : ℕ) × IsStep reaches lawful (PutOnHold b) st me found me')
 
   abbrev pub plays_free : Step Slot → Me Slot Watched → ℕ → Me Slot Watched → Type 0
-  plays_free st me found me' = Told (told_free st (bare me) found (bare me')) ((b : ℕ) × IsStep reaches lawful (FreeBuffer b) st me found me')
+  plays_free st me found me' = Told (told_free st (bare me) found (bare me'))
+      ((b : ℕ) × IsStep reaches lawful (FreeBuffer b) st me found me')
 
   abbrev pub plays_reopen : Step Slot → Me Slot Watched → ℕ → Me Slot Watched → Type 0
-  plays_reopen st me found me' = Told (told_reopen st (bare me) found (bare me')) ((h : ℕ) × IsStep reaches lawful (Reopen h) st me found me')
+  plays_reopen st me found me' = Told (told_reopen st (bare me) found (bare me'))
+      ((h : ℕ) × IsStep reaches lawful (Reopen h) st me found me')
 
   abbrev pub plays_store_newest : Step Slot → Me Slot Watched → ℕ → Me Slot Watched → Type 0
-  plays_store_newest st me found me' = Told (told_store_newest st (bare me) found (bare me')) (IsStep reaches lawful StoreNewest st me found me')
+  plays_store_newest st me found me' = Told (told_store_newest st (bare me) found (bare me'))
+      (IsStep reaches lawful StoreNewest st me found me')
 
   abbrev pub plays_morph : Step Slot → Me Slot Watched → ℕ → Me Slot Watched → Type 0
   plays_morph st me found me' = Told (told_morph st (bare me) found (bare me')) (IsStep reaches lawful Morph st me found me')
@@ -126,7 +137,8 @@ module _ (reaches : ℕ → Records → ℕ → List ℕ) (lawful : ℕ → Reco
   plays_raise st me found me' = Told (told_raise st (bare me) found (bare me')) ((j : ℕ) × IsStep reaches lawful (Raise j) st me found me')
 
   abbrev pub plays_bounce : Step Slot → Me Slot Watched → ℕ → Me Slot Watched → Type 0
-  plays_bounce st me found me' = Told (told_bounce st (bare me) found (bare me')) ((j : ℕ) × IsStep reaches lawful (Bounce j) st me found me')
+  plays_bounce st me found me' = Told (told_bounce st (bare me) found (bare me'))
+      ((j : ℕ) × IsStep reaches lawful (Bounce j) st me found me')
 
   abbrev pub plays_load_root : Step Slot → Me Slot Watched → ℕ → Me Slot Watched → Type 0
   plays_load_root st me found me' = Told (told_load_root reaches lawful st (bare me) found (bare me')) ((j : ℕ)
@@ -137,7 +149,8 @@ module _ (reaches : ℕ → Records → ℕ → List ℕ) (lawful : ℕ → Reco
       × IsLook reaches lawful (LoadWord j st.word) st me found me')
 
   abbrev pub plays_release : Step Slot → Me Slot Watched → ℕ → Me Slot Watched → Type 0
-  plays_release st me found me' = Told (told_release st (bare me) found (bare me')) ((j : ℕ) × IsStep reaches lawful (Release j) st me found me')
+  plays_release st me found me' = Told (told_release st (bare me) found (bare me'))
+      ((j : ℕ) × IsStep reaches lawful (Release j) st me found me')
 
   -- a load of the newest hold took the seat from one view to the other
   pub record LoadsNewest (me me' : Me Slot Watched) : Type 0 where

@@ -1,6 +1,7 @@
 //! What each step tells its seat: the view after it, and the event of the core that it was.
 ghost use Rattle.word_arena.specs.Ruled.{cut_left, cut_right, glued, gone};
-ghost use Rattle.word_arena.specs.PlayEvents.{plays_hand_out, plays_width, plays_store, plays_find, plays_publish, plays_load_own, plays_meet};
+ghost use Rattle.word_arena.specs.PlayEvents.{plays_hand_out, plays_width, plays_store, plays_find, plays_publish, plays_load_own};
+ghost use Rattle.word_arena.specs.PlayEvents.{plays_meet};
 ghost use Rattle.word_arena.specs.PlayEvents.{plays_hold, plays_free, plays_reopen, plays_store_newest, plays_morph, plays_probe};
 ghost use Rattle.word_arena.specs.PlayEvents.{plays_close, plays_load_newest, plays_raise, plays_bounce, plays_load_root, plays_load_word};
 ghost use Rattle.word_arena.specs.PlayEvents.{plays_release};

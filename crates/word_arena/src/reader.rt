@@ -4,7 +4,8 @@ ghost use Rattle.entry_ref.specs.Images.{words_at};
 ghost use Rattle.entry_ref.specs.Places.{place};
 ghost use Rattle.gen_core.specs.Views.{stands_on};
 ghost use Rattle.gen_core.specs.Events.{released, sees};
-ghost use Rattle.word_arena.specs.Ruled.{bare, reader_of, seen_image, seen_number, IsAimOf, IsLater, IsHigher, Missed, Tries, IsWatch, IsAim, IsGuard};
+ghost use Rattle.word_arena.specs.Ruled.{bare, reader_of, seen_image, seen_number, IsAimOf, IsLater, IsHigher, Missed, Tries, IsWatch};
+ghost use Rattle.word_arena.specs.Ruled.{IsAim, IsGuard};
 ghost use Rattle.word_arena.specs.PlayEvents.{LoadsNewest, RaiseFinds, TryFinds};
 ghost use Rattle.entry_ref.specs.Records.{HasWord, word_at};
 

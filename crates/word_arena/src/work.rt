@@ -5,7 +5,8 @@ ghost use Rattle.entry_ref.specs.Images.{words_at};
 ghost use Rattle.entry_ref.specs.Places.{IsEntry};
 ghost use Rattle.entry_ref.specs.Records.{with_words};
 ghost use Rattle.entry_ref.specs.References.{buffer_of};
-ghost use Rattle.arena_api.specs.Calls.{MayStore, InNoCommit, AddsCommit, IsLowestFree, with_stored, padded, next_image, handed_out, published};
+ghost use Rattle.arena_api.specs.Calls.{MayStore, InNoCommit, AddsCommit, IsLowestFree, with_stored, padded, next_image, handed_out};
+ghost use Rattle.arena_api.specs.Calls.{published};
 ghost use Rattle.arena_api.specs.Works.{is_free, active_width, free_count};
 ghost use Rattle.gen_core.specs.Views.{last_tag_in};
 ghost use Rattle.gen_core.specs.Work.{writer_records};
@@ -189,8 +190,8 @@ impl<'a, const OFFSET_BITS: u32, L: Layout> Work<OFFSET_BITS> for Writer<'a, OFF
         }
     }
 
-    /// The last tag of the buffer, if it has one, is below every open generation; and each reader that had a guard when the buffer was put on
-    /// hold has given it back since.
+    /// The last tag of the buffer, if it has one, is below every open generation; and each reader that had a guard when the
+    /// buffer was put on hold has given it back since.
     fn hand_out(&mut self, width: u32) -> Option<u32>
         requires { 0 < width }
         ensures none { IsNone result ↔ (free_count (⟦<Writer<'a, OFFSET_BITS, L> as Work<OFFSET_BITS>>⟧.knows self.old).buffer

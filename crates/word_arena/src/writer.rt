@@ -29,7 +29,8 @@ pub struct Writer<'a, const OFFSET_BITS: u32, L: Layout> {
     pub(crate) last: u32,
     pub(crate) made: u32,
     pub(crate) place: Place,
-    ghost stands: { IsDesk OFFSET_BITS arena.now.table.shared.table_id arena.now.sizes buffers.items holds last made place.table_id (bare place.me) },
+    ghost stands: { IsDesk OFFSET_BITS arena.now.table.shared.table_id arena.now.sizes buffers.items holds last made
+        place.table_id (bare place.me) },
 }
 
 /// As many readers were made as there can be.
@@ -83,8 +84,8 @@ impl<'a, const OFFSET_BITS: u32, L: Layout> Writer<'a, OFFSET_BITS, L> {
         })
     }
 
-    /// Ends a reader. What it saw is then known to be commits; and what the writer has seen is then the whole run so far, in which no buffer was
-    /// handed out while a reader had a guard from before its hold.
+    /// Ends a reader. What it saw is then known to be commits; and what the writer has seen is then the whole run so far, in
+    /// which no buffer was handed out while a reader had a guard from before its hold.
     pub fn take_in(&mut self, reader: Reader<'a, OFFSET_BITS, L>)
         requires { reader.place.table_id ≡ self.old.place.table_id }
         ensures view { writer_of self.new.place.me.0 ≡ joined (writer_of self.old.place.me.0) (reader_of reader.entry.place.me.0) }
