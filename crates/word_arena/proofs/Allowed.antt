@@ -51,7 +51,7 @@ use Rattle.gen_core.proofs.Bounds.{count-small, counted-two}
 
 -- the writer's seat is the first, and each other one is a reader's
 pub writer_at : (w0 : WriterView) (readers : List ReaderView) (id : ℕ) (w : WriterView) → get_elem? (views_of w0 readers) id ≡ some (Writer w) → (id ≡ 0) × (w0 ≡ w)
-writer_at w0 readers zero w e = (refl, ap writer_of (some-injective _ _ e))
+writer_at w0 readers zero w e = (refl, ap writer_in (some-injective _ _ e))
 writer_at w0 readers (suc j) w e = absurd (no_writer readers j e)
   where
     no_writer : (rs : List ReaderView) (j : ℕ) → get_elem? (map Reader rs) j ≡ some (Writer w) → ⊥
@@ -65,7 +65,7 @@ reader_at w0 readers (suc j) r e = (j, refl, get_some readers j r (mine readers 
   where
     mine : (rs : List ReaderView) (j : ℕ) → get_elem? (map Reader rs) j ≡ some (Reader r) → get_elem? rs j ≡ some r
     mine [] j e = absurd (some-ne-none _ (sym e))
-    mine (x ∷ rs) zero e = ap (λ v. some (reader_of v)) (some-injective _ _ e)
+    mine (x ∷ rs) zero e = ap (λ v. some (reader_in v)) (some-injective _ _ e)
     mine (x ∷ rs) (suc j) e = mine rs j e
 
 -- the core's state of a table
@@ -87,8 +87,8 @@ not_spent : (r : ReaderView) → r.state ≢ Spent → Reader r ≡ Reader spent
 not_spent r off e = off (ap (λ (u : View). (reader_in u).state) e)
 
 -- what is told of views is told of seats with these views
-pub told_at : {me me' : Me Slot Watched} {m m' : Me Slot View} (T : Me Slot View → Me Slot View → Type 0) → bare me ≡ m → bare me' ≡ m' → T m m' → T (bare me) (bare me')
-told_at T is now t = subst (λ (y : Me Slot View × Me Slot View). T y.0 y.1) (λ i. (sym is i, sym now i)) t
+pub told_at : (me me' : Me Slot Watched) {m m' : Me Slot View} (T : Me Slot View → Me Slot View → Type 0) → bare me ≡ m → bare me' ≡ m' → T m m' → T (bare me) (bare me')
+told_at me me' T is now t = subst (λ (y : Me Slot View × Me Slot View). T y.0 y.1) (λ i. (sym is i, sym now i)) t
 
 module _ (reaches : ℕ → Records → ℕ → List ℕ) (lawful : ℕ → Records → ℕ → Type 0) (sizes : Sizes) where
   -- one event more
@@ -304,7 +304,7 @@ module _ (reaches : ℕ → Records → ℕ → List ℕ) (lawful : ℕ → Reco
         operands = refl;
         found_is = refl;
         tells = λ me' now event. record {
-          told = told_at (λ m m'. told_width (step slots (base w.sizes.buffers w.sizes.words b) width 0 none) m width m') is now (λ other same.
+          told = told_at me me' (λ m m'. told_width (step slots (base w.sizes.buffers w.sizes.words b) width 0 none) m width m') is now (λ other same.
               let e : b ≡ other = base-same w.sizes b other good.sizes.some_word same in
               subst (λ (c : ℕ). Becomes (Writer w, []) (widened w c width) (Writer (widened w b width), [])) e (record { is = refl; good = good_view reaches lawful (core (set words (base w.sizes.buffers w.sizes.words b) width) (widened w b width) readers) next }));
           event = (b, event);
@@ -329,7 +329,7 @@ module _ (reaches : ℕ → Records → ℕ → List ℕ) (lawful : ℕ → Reco
         operands = refl;
         found_is = refl;
         tells = λ me' now event. record {
-          told = told_at (λ m m'. told_hand_out (step slots (state_place b) 1 0 none) m 1 m') is now (λ other same.
+          told = told_at me me' (λ m m'. told_hand_out (step slots (state_place b) 1 0 none) m 1 m') is now (λ other same.
               let e : b ≡ other = omega arith in
               subst (λ (c : ℕ). Becomes (Writer w, []) (handed_out w c) (Writer (handed_out w b), [])) e (record { is = refl; good = good_view reaches lawful (core (set words (state_place b) 1) (handed_out w b) readers) next }));
           event = (b, event);
@@ -353,7 +353,7 @@ module _ (reaches : ℕ → Records → ℕ → List ℕ) (lawful : ℕ → Reco
         operands = refl;
         found_is = refl;
         tells = λ me' now event. record {
-          told = told_at (λ m m'. told_store (step slots p n 0 none) m n m') is now (record { is = refl; good = good_view reaches lawful (core (set words p n) (stored w p n) readers) next });
+          told = told_at me me' (λ m m'. told_store (step slots p n 0 none) m n m') is now (record { is = refl; good = good_view reaches lawful (core (set words p n) (stored w p n) readers) next });
           event = event;
         };
       })
@@ -378,7 +378,7 @@ module _ (reaches : ℕ → Records → ℕ → List ℕ) (lawful : ℕ → Reco
         operands = tt;
         found_is = refl;
         tells = λ me' now event. record {
-          told = told_at (λ m m'. told_find (step slots p 0 0 none) m n m') is now (record { is = refl; good = good_view reaches lawful (core words (stored w p n) readers) next });
+          told = told_at me me' (λ m m'. told_find (step slots p 0 0 none) m n m') is now (record { is = refl; good = good_view reaches lawful (core words (stored w p n) readers) next });
           event = event;
         };
       })
@@ -403,7 +403,7 @@ module _ (reaches : ℕ → Records → ℕ → List ℕ) (lawful : ℕ → Reco
         operands = refl;
         found_is = refl;
         tells = λ me' now event. record {
-          told = told_at (λ m m'. told_publish reaches lawful (step slots 0 (length w.commits * 2 ^ 32 + root) 0 none) m (length w.commits * 2 ^ 32 + root) m') is now (λ other same.
+          told = told_at me me' (λ m m'. told_publish reaches lawful (step slots 0 (length w.commits * 2 ^ 32 + root) 0 none) m (length w.commits * 2 ^ 32 + root) m') is now (λ other same.
               let e : root ≡ other = omega arith in
               subst (λ (c : ℕ). Becomes (Writer w, []) (published w (next_image reaches w c)) (Writer v, [])) e (record { is = refl; good = good_view reaches lawful (core (set words 0 (length w.commits * 2 ^ 32 + root)) v readers) next }));
           event = (root, event);
@@ -428,7 +428,7 @@ module _ (reaches : ℕ → Records → ℕ → List ℕ) (lawful : ℕ → Reco
         operands = tt;
         found_is = refl;
         tells = λ me' now event. record {
-          told = told_at (λ m m'. told_meet_load (step slots 0 0 0 none) m (slice_index words 0) m') is now (record { same = refl; seen = good.commits.seen });
+          told = told_at me me' (λ m m'. told_meet_load (step slots 0 0 0 none) m (slice_index words 0) m') is now (record { same = refl; seen = good.commits.seen });
           event = event;
         };
       })
@@ -447,7 +447,7 @@ module _ (reaches : ℕ → Records → ℕ → List ℕ) (lawful : ℕ → Reco
         tt,
         loaded t rule id x p (LoadOwn p) at (λ i. refl) (subst (λ (v : WriterView). MayLoadOwn v p) (sym mine.1) may, refl),
         record {
-          told = told_at (λ m m'. told_load_own (step slots p 0 0 none) m (slice_index t.words p) m') is is (record {
+          told = told_at me me (λ m m'. told_load_own (step slots p 0 0 none) m (slice_index t.words p) m') is is (record {
             same = refl;
             own = record {
               word = λ ref i lt at'. ap (slice_index t.words) at' ∙ records-stands reaches lawful (core t.words w k.readers) k.reached.good ref (omega (arith, lt)) i lt;
@@ -496,7 +496,7 @@ module _ (reaches : ℕ → Records → ℕ → List ℕ) (lawful : ℕ → Reco
         operands = tt;
         found_is = refl;
         tells = λ me' now event. record {
-          told = told_at (λ m m'. told_load_newest (step slots 1 0 0 none) m (slice_index words 1) m') is now (record {
+          told = told_at me me' (λ m m'. told_load_newest (step slots 1 0 0 none) m (slice_index words 1) m') is now (record {
             entry = w.queue.newest;
             is = refl;
             found_last = good.names.newest_hold;
@@ -535,7 +535,7 @@ module _ (reaches : ℕ → Records → ℕ → List ℕ) (lawful : ℕ → Reco
         operands = refl;
         found_is = refl;
         tells = λ me' now event. record {
-          told = told_at (λ m m'. told_raise (step slots (hold_place h) 2 0 none) m found m') is now (λ other same. let e : h ≡ other = omega arith in ap (λ (i : ℕ). (Reader (meets r found i), [])) e);
+          told = told_at me me' (λ m m'. told_raise (step slots (hold_place h) 2 0 none) m found m') is now (λ other same. let e : h ≡ other = omega arith in ap (λ (i : ℕ). (Reader (meets r found i), [])) e);
           event = (j, event);
         };
       }))
@@ -568,7 +568,7 @@ module _ (reaches : ℕ → Records → ℕ → List ℕ) (lawful : ℕ → Reco
         operands = refl;
         found_is = refl;
         tells = λ me' now event. record {
-          told = told_at (λ m m'. told_bounce (step slots (hold_place h) 2 0 none) m found m') is now (record {
+          told = told_at me me' (λ m m'. told_bounce (step slots (hold_place h) 2 0 none) m found m') is now (record {
             is = refl;
             limit = (let m = fits.missed in let same : r.sizes ≡ w.sizes = mine.same_sizes (λ e. bounce-off h (sym b ∙ e)) in
                 let up = coming-least w.queue.newest w.queue.pending in let g = good.queue.generation in omega (arith, m, up, g, ap (λ (z : Sizes). z.generation_limit) same));
@@ -605,7 +605,7 @@ module _ (reaches : ℕ → Records → ℕ → List ℕ) (lawful : ℕ → Reco
         operands = refl;
         found_is = refl;
         tells = λ me' now event. record {
-          told = told_at (λ m m'. told_release (step slots (hold_place h) 2 0 none) m found m') is now refl;
+          told = told_at me me' (λ m m'. told_release (step slots (hold_place h) 2 0 none) m found m') is now refl;
           event = (j, event);
         };
       }))
@@ -638,7 +638,7 @@ module _ (reaches : ℕ → Records → ℕ → List ℕ) (lawful : ℕ → Reco
         operands = tt;
         found_is = refl;
         tells = λ me' now event. record {
-          told = told_at (λ m m'. told_load_root reaches lawful (step slots 0 0 0 none) m (slice_index words 0) m') is now (record {
+          told = told_at me me' (λ m m'. told_load_root reaches lawful (step slots 0 0 0 none) m (slice_index words 0) m') is now (record {
             reader = v;
             is = refl;
             sees_commit = record {
@@ -676,7 +676,7 @@ module _ (reaches : ℕ → Records → ℕ → List ℕ) (lawful : ℕ → Reco
         tt,
         loaded t rule id x p (LoadWord mine.0 p) at (λ i. refl) (r, mine.2, may, refl),
         record {
-          told = told_at (λ m m'. told_load_word (step slots p 0 0 none) m (slice_index t.words p) m') is is (record {
+          told = told_at me me (λ m m'. told_load_word (step slots p 0 0 none) m (slice_index t.words p) m') is is (record {
             same = refl;
             word = λ c image saw.
                 let stands = image_stands reaches lawful (core t.words rule.writer rule.readers) mine.0 c r image good mine.2 saw in

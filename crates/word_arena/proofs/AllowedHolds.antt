@@ -73,7 +73,7 @@ module _ (reaches : ℕ → Records → ℕ → List ℕ) (lawful : ℕ → Reco
         operands = ap (λ (p : Pending). newest_word (coming_hold w (next_hold p))) (sym next);
         found_is = ap (λ (p : Pending). newest_word (coming_hold w (next_hold p))) (sym next);
         tells = λ me' now event. record {
-          told = told_at (λ m m'. told_store_newest (step slots 1 (newest_word (coming_hold w h)) 0 none) m (newest_word (coming_hold w h)) m') is now (λ other is'.
+          told = told_at me me' (λ m m'. told_store_newest (step slots 1 (newest_word (coming_hold w h)) 0 none) m (newest_word (coming_hold w h)) m') is now (λ other is'.
               let e : h ≡ other = one_next h other (sym next ∙ is') in
               subst (λ (c : ℕ). Becomes (Writer w, []) (advanced w c) (Writer (advanced w h), [])) e
               (record { is = refl; good = good_view reaches lawful (core (set words 1 (newest_word (coming_hold w h))) (advanced w h) readers) more }));
@@ -100,7 +100,7 @@ module _ (reaches : ℕ → Records → ℕ → List ℕ) (lawful : ℕ → Reco
         operands = refl;
         found_is = refl;
         tells = λ me' now event. record {
-          told = told_at (λ m m'. told_morph (step slots 1 (newest_word (coming_hold w w.queue.newest.hold)) 0 none) m (newest_word (coming_hold w w.queue.newest.hold)) m') is now
+          told = told_at me me' (λ m m'. told_morph (step slots 1 (newest_word (coming_hold w w.queue.newest.hold)) 0 none) m (newest_word (coming_hold w w.queue.newest.hold)) m') is now
               (λ _. record { is = refl; good = good_view reaches lawful (core (set words 1 (newest_word (coming_hold w w.queue.newest.hold))) (morphed w) readers) more });
           event = event;
         };
@@ -134,7 +134,7 @@ module _ (reaches : ℕ → Records → ℕ → List ℕ) (lawful : ℕ → Reco
         operands = refl;
         found_is = refl;
         tells = λ me' now event. record {
-          told = told_at (λ m m'. told_reopen (step slots (hold_place h) 1 0 none) m found m') is now (λ other same.
+          told = told_at me me' (λ m m'. told_reopen (step slots (hold_place h) 1 0 none) m found m') is now (λ other same.
               let e : h ≡ other = omega arith in
               subst (λ (c : ℕ). Becomes (Writer w, []) (reopened w c) (Writer (reopened w h), [])) e
               (record { is = refl; good = good_view reaches lawful (core (set words (hold_place h) (found - 1)) (reopened w h) readers) more }));
@@ -161,7 +161,7 @@ module _ (reaches : ℕ → Records → ℕ → List ℕ) (lawful : ℕ → Reco
         operands = refl;
         found_is = refl;
         tells = λ me' now event. record {
-          told = told_at (λ m m'. told_hold (step slots (state_place b) 2 0 none) m 2 m') is now (λ other width' same active.
+          told = told_at me me' (λ m m'. told_hold (step slots (state_place b) 2 0 none) m 2 m') is now (λ other width' same active.
               let e : b ≡ other = omega arith in
               let f : width ≡ width' = same_Some width width' (sym may.active ∙ ap (active_in w.buffers) e ∙ active) in
               let P : ℕ × ℕ → Type 0 = λ x. Becomes (Writer w, []) (put_aside w x.0 x.1) (Writer v, []) in
@@ -192,7 +192,7 @@ module _ (reaches : ℕ → Records → ℕ → List ℕ) (lawful : ℕ → Reco
         operands = refl;
         found_is = refl;
         tells = λ me' now event. record {
-          told = told_at (λ m m'. told_free (step slots (state_place b) 0 0 none) m 0 m') is now (λ other width tag' same held.
+          told = told_at me me' (λ m m'. told_free (step slots (state_place b) 0 0 none) m 0 m') is now (λ other width tag' same held.
               let e : b ≡ other = omega arith in
               let f : tag ≡ tag' = one_tag may.width width tag tag' (sym may.held ∙ ap (slice_get w.buffers) e ∙ held) in
               let P : ℕ × Tag → Type 0 = λ x. Becomes (Writer w, []) (freed w x.0 x.1) (Writer v, []) in
@@ -226,7 +226,7 @@ module _ (reaches : ℕ → Records → ℕ → List ℕ) (lawful : ℕ → Reco
         operands = (refl, refl);
         found_is = refl;
         tells = λ me' now event. record {
-          told = told_at (λ m m'. told_close (step slots (hold_place e.hold) 0 1 none) m found m') is now (record {
+          told = told_at me me' (λ m m'. told_close (step slots (hold_place e.hold) 0 1 none) m found m') is now (record {
             alone = λ _. zero;
             hit = λ _ d ds is'.
                 let same : es ≡ ds = one_tail e d es ds (sym older ∙ is') in
@@ -254,7 +254,7 @@ module _ (reaches : ℕ → Records → ℕ → List ℕ) (lawful : ℕ → Reco
         operands = (refl, refl);
         found_is = refl;
         tells = λ me' now event. record {
-          told = told_at (λ m m'. told_close (step slots (hold_place e.hold) 0 1 none) m found m') is now (record {
+          told = told_at me me' (λ m m'. told_close (step slots (hold_place e.hold) 0 1 none) m found m') is now (record {
             hit = λ zero. absurd (ne zero);
             miss = λ _. record { is = refl; good = good_view reaches lawful (core words (stopped w found) readers) more };
             alone = λ made.
@@ -292,7 +292,7 @@ module _ (reaches : ℕ → Records → ℕ → List ℕ) (lawful : ℕ → Reco
         operands = tt;
         found_is = refl;
         tells = λ me' now event. record {
-          told = told_at (λ m m'. told_probe (step slots (hold_place w.queue.newest.hold) 0 0 none) m found m') is now
+          told = told_at me me' (λ m m'. told_probe (step slots (hold_place w.queue.newest.hold) 0 0 none) m found m') is now
               (record { hit = λ _. record { is = refl; good = good_view reaches lawful (core words (probed w) readers) more }; miss = λ ne. absurd (ne zero); alone = λ _. zero });
           event = record { hit = λ _. event; miss = λ ne. absurd (ne zero) };
         };
@@ -314,7 +314,7 @@ module _ (reaches : ℕ → Records → ℕ → List ℕ) (lawful : ℕ → Reco
         operands = tt;
         found_is = refl;
         tells = λ me' now event. record {
-          told = told_at (λ m m'. told_probe (step slots (hold_place w.queue.newest.hold) 0 0 none) m found m') is now (record {
+          told = told_at me me' (λ m m'. told_probe (step slots (hold_place w.queue.newest.hold) 0 0 none) m found m') is now (record {
             hit = λ zero. absurd (ne zero);
             miss = λ _. record { is = refl; good = good_view reaches lawful (core words (stopped w found) readers) more };
             alone = alone-unused reaches lawful (core words w readers) good w.queue.newest.hold (at_newest (HoldFits w.commits) w.queue.older w.queue.newest good.queue.each).hold (newest-open w.queue);
