@@ -36,3 +36,6 @@ returns-clause-rounds g c =
     let i = c.loop.invariant in
     sight_kept g.Q.Question.operations (g.Q.Question.answers c.args.question.now) g.L.Layout.lawful (reader_of c.args.reader.place.me.0) (view_at c.loop.post) (reader_of c.let_go-reader.result.place.me.0) c.loop.rounds.items
     i.rounds c.let_go-reader.ensures.same
+
+pub returns-clause-table : goal.returns-clause-table
+returns-clause-table g c = c.let_go-reader.ensures.table ∙ c.loop.invariant.table
