@@ -14,5 +14,7 @@ invariant_of-result g c =
     let layout : IsLayout g.L.Layout.reaches g.L.Layout.lawful = record { empty_reaches = g.L.Layout.empty_reaches; empty_lawful = g.L.Layout.empty_lawful; present = g.L.Layout.present; stays = g.L.Layout.stays } in
     let it : IsDesk g.row.OFFSET_BITS s.table.shared.table_id a.sizes a.buffers.items (own_hold opening_hold ∷ []) 0 0 a.place.table_id (bare a.place.me) =
     opening_desk g.L.Layout.reaches g.L.Layout.lawful layout g.row.OFFSET_BITS s.table.shared.table_id a.sizes a.buffers.items a.place.table_id (bare a.place.me) a.stands c.requires.0 in
-    record { stands = subst (λ (z : Sizes). IsDesk g.row.OFFSET_BITS s.table.shared.table_id z a.buffers.items c.new.result 0 0 a.place.table_id (bare a.place.me)) c.requires.1
-        (subst (λ l. IsDesk g.row.OFFSET_BITS s.table.shared.table_id a.sizes a.buffers.items l 0 0 a.place.table_id (bare a.place.me)) (sym c.new.ensures) it) }
+    record {
+      stands = subst (λ (z : Sizes). IsDesk g.row.OFFSET_BITS s.table.shared.table_id z a.buffers.items c.new.result 0 0 a.place.table_id (bare a.place.me)) c.requires.1
+          (subst (λ l. IsDesk g.row.OFFSET_BITS s.table.shared.table_id a.sizes a.buffers.items l 0 0 a.place.table_id (bare a.place.me)) (sym c.new.ensures) it);
+    }
