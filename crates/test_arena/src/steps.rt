@@ -35,6 +35,8 @@ pub enum Task {
     /// As often as it takes.
     Guard,
     Read,
+    /// The last commit now, under the same hold.
+    Again,
     Release,
     /// Drops a guard that is not released.
     Forget,
@@ -80,6 +82,7 @@ fn task_in(words: &str) -> Task {
         "try" => Task::Try,
         "guard" => Task::Guard,
         "read" => Task::Read,
+        "again" => Task::Again,
         "release" => Task::Release,
         "forget" => Task::Forget,
         _ => Task::Unknown,
