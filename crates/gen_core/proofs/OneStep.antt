@@ -13,7 +13,6 @@ use Rattle.gen_core.specs.declared.views.Event.TheVariants.{StoreNewest, Close, 
 use Rattle.gen_core.specs.declared.views.OpenHold.{OpenHold}
 use Rattle.gen_core.specs.declared.views.ReaderView.{ReaderView}
 use Rattle.entry_ref.specs.Records.{Records}
-use Rattle.gen_core.specs.declared.views.ReaderState.TheVariants.{Idle}
 use Rattle.gen_core.specs.declared.views.View.TheVariants.{Writer, Reader}
 
 -- a word that is written with what stands there

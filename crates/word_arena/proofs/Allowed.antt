@@ -36,9 +36,9 @@ use Rattle.gen_core.proofs.Readers.{load_root_keeps, split_keeps, join_keeps}
 use Rattle.gen_core.proofs.Opening.{opening_good}
 use Rattle.gen_core.proofs.Law.{image_stands}
 use Rattle.word_arena.specs.declared.rule.Watched.{Watched}
-use Rattle.word_arena.specs.Ruled.{Slot, bare, views_of, Becomes, writer_in, reader_in, writer_of, reader_of, cut_left, cut_right, glued, gone, told_hand_out, told_width, told_store, told_find, told_publish, told_load_root, told_load_newest, told_raise, told_bounce, told_release, told_load_word, told_load_own, told_meet_load}
-use Rattle.word_arena.specs.Watched.{is_noted_by, noted_by, Fits, Watches, IsReached, OneRun}
-use Rattle.word_arena.specs.PlayEvents.{HasOperands, told_found, IsEvent, IsStep, IsLook, plays_hand_out, plays_width, plays_store, plays_find, plays_publish, plays_load_root, plays_load_newest, plays_raise, plays_bounce, plays_release, plays_load_word, plays_load_own, plays_meet}
+use Rattle.word_arena.specs.Ruled.{Slot, bare, views_of, Becomes, writer_in, reader_in, writer_of, cut_left, cut_right, glued, gone, told_hand_out, told_width, told_store, told_find, told_publish, told_load_root, told_load_newest, told_raise, told_bounce, told_release, told_load_word, told_load_own, told_meet_load}
+use Rattle.word_arena.specs.Watched.{is_noted_by, noted_by, Fits, IsReached, OneRun}
+use Rattle.word_arena.specs.PlayEvents.{HasOperands, told_found, IsStep, plays_hand_out, plays_width, plays_store, plays_find, plays_publish, plays_load_root, plays_load_newest, plays_raise, plays_bounce, plays_release, plays_load_word, plays_load_own, plays_meet}
 use Rattle.word_arena.specs.ProofsForWork.{coming-least}
 use Rattle.word_arena.proofs.Views.{get_some}
 use Rattle.word_arena.proofs.SeatLemmas.{set-other, set-got, get-map, watched_after, watch-step, watch-quiet, watch-set, watch-more}

@@ -1,5 +1,5 @@
 -- What the writer's steps on holds owe.
-use Rattle.std.proofs.Common.{◌≡◌, ◌≢◌, ℕ, ◌+◌, ◌-◌, ◌%◌, ◌^◌, ◌<◌, ◌≤◌, List, [], ◌∷◌, length, true, set, slice_index, Some, eqb, refl, sym, ap, ◌∙◌, subst, arith}
+use Rattle.std.proofs.Common.{◌≡◌, ℕ, ◌+◌, ◌-◌, ◌%◌, ◌^◌, ◌<◌, ◌≤◌, List, [], ◌∷◌, length, true, set, slice_index, Some, eqb, refl, sym, ap, ◌∙◌, subst, arith}
 use prog.Atomic.{either}
 use mathlib.Core.Logic.{dite}
 use native.Mathlib.Decide.{ℕ_discrete}
@@ -19,7 +19,6 @@ use Rattle.gen_core.specs.declared.views.View.{View}
 use Rattle.gen_core.specs.declared.views.View.TheVariants.{Writer}
 use Rattle.gen_core.specs.declared.views.WriterView.{WriterView}
 use Rattle.gen_core.specs.declared.views.ReaderView.{ReaderView}
-use Rattle.gen_core.specs.declared.views.Event.{Event}
 use Rattle.gen_core.specs.declared.views.Event.TheVariants.{PutOnHold, FreeBuffer, Reopen, StoreNewest, Close, StopAtOldest, Probe, StopAtNewest, Morph}
 use Rattle.gen_core.specs.Views.{hold_place, newest_word, active_in, is_open_hold, is_counted_on, oldest_in, queue_of}
 use Rattle.gen_core.specs.Good.{State as CoreState, HoldFits, Good, hold_word}

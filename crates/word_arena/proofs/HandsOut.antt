@@ -1,9 +1,8 @@
 -- The law over runs holds of the one run.
-use Rattle.std.proofs.Common.{◌≡◌, ℕ, List, [], ◌∷◌, ◌++◌, Some, refl, sym, ap, ◌∙◌, subst, arith}
+use Rattle.std.proofs.Common.{◌≡◌, ℕ, List, [], ◌∷◌, ◌++◌, Some, refl, sym, ap, ◌∙◌, subst}
 use Rattle.entry_ref.specs.Records.{Records}
 use Rattle.atomic_table.specs.Table.{Me, Step}
 use Rattle.gen_core.specs.declared.views.Sizes.{Sizes}
-use Rattle.gen_core.specs.declared.views.WriterView.{WriterView}
 use Rattle.gen_core.specs.declared.views.View.{View}
 use Rattle.gen_core.specs.declared.views.View.TheVariants.{Writer}
 use Rattle.gen_core.specs.declared.views.Event.{Event}
@@ -15,10 +14,10 @@ use Rattle.gen_core.proofs.HeldBack.{holds_back}
 use Rattle.gen_core.proofs.Layouts.{IsLayout}
 use Rattle.list_facts.proofs.Options.{same_Some}
 use Rattle.word_arena.specs.declared.rule.Watched.{Watched}
-use Rattle.word_arena.specs.Ruled.{Slot, bare, writer_in, writer_of}
+use Rattle.word_arena.specs.Ruled.{Slot, writer_in, writer_of}
 use Rattle.word_arena.specs.PlayEvents.{IsEvent, IsStep}
 use Rattle.word_arena.proofs.Allowed.{happen-push}
-use Rattle.word_arena.specs.Released.{EachIsReleased, IsReleased, HandsOut, IsWholeRun}
+use Rattle.word_arena.specs.Released.{IsReleased, HandsOut, IsWholeRun}
 
 pub appends : (xs ys zs : List Event) → (xs ++ ys) ++ zs ≡ xs ++ (ys ++ zs)
 appends [] ys zs = refl

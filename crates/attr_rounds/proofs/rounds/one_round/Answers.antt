@@ -1,7 +1,6 @@
-use Rattle.std.proofs.Common.{ℕ, subst, sym, ap, ◌∙◌, arith}
+use Rattle.std.proofs.Common.{subst, sym, ap, ◌∙◌, arith}
 use Rattle.entry_ref.specs.Images.{words_at}
-use Rattle.gen_core.specs.declared.views.ReaderView.{ReaderView}
-use Rattle.word_arena.specs.Ruled.{reader_of, seen_image, seen_number}
+use Rattle.word_arena.specs.Ruled.{reader_of, seen_image}
 use Rattle.word_arena.specs.declared.reader.Guarded.{Guarded}
 use Rattle.attr_rounds.specs.declared.rounds.Round.{Round}
 use Rattle.attr_rounds.specs.Posts.{view_at}
