@@ -12,6 +12,12 @@ use Rattle.attr_rounds.specs.declared.rounds.Round.{Round}
 abbrev pub seen_last : ℕ → List (ℕ × Image) → List (ℕ × Image)
 seen_last count saw = reverse (take count saw)
 
+-- a reader has seen what it had seen, and nothing else, whatever it stands on
+pub record SeesSame (r r' : ReaderView) : Type 0 where
+  pub same_sizes : r'.sizes ≡ r.sizes
+  pub seen : r'.seen ≡ r.seen
+  pub saw : r'.saw ≡ r.saw
+
 -- what is asked: the number of operations of an image, and the answers to a question at it
 module _ {A : Type 0} (operations : ℕ → Records → ℕ → ℕ) (answers : ℕ → Records → ℕ → A → Type 0) where
   -- a round has these contents for an image

@@ -1,9 +1,9 @@
-//! The rounds of a reader over the running memory. In each round the reader takes a guard, answers the asks at the
-//! guard's commit, and releases the guard.
+//! A reader's rounds over the running memory: in each it has a guard of the last commit, at which what is asked is answered. It keeps
+//! its hold from round to round, and gives it back after each 64.
 //!
-//! The asks of a run are answered at an image as lines of the report.
+//! What is asked in a run, answered at an image as the lines that are written.
 //!
-//! The documents of an attribute of an image are read with their items.
+//! The documents of an attribute of an image, each with its items.
 #![tactic(auto)]
 
 mod asked;
@@ -21,6 +21,6 @@ pub use first::first_documents;
 pub use job::Job;
 pub use question::Question;
 pub use reading::documents_in;
-pub use rounds::{Reading, Round, go_round};
+pub use rounds::{ROUNDS_ON_A_HOLD, Reading, Round, go_round};
 pub use saving::Saving;
 pub use taking::take_in;

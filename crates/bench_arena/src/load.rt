@@ -1,4 +1,4 @@
-//! Guards by many readers, with or without a writer beside them; and reads of a node under one guard.
+//! Guards by many readers, beside a writer or not, each given back at once or kept over 64 looks at the root; reads of a node under one guard.
 use arena_api::Work;
 use std::alloc::{AllocError, Global};
 use std::thread::{Threads, map_vec};
@@ -12,6 +12,7 @@ pub enum Load {
         readers: u32,
         loops: u64,
         commits: u32,
+        keeps: bool,
     },
     Read {
         loops: u64,
@@ -31,6 +32,60 @@ struct Job<'a> {
     post: Post<'a>,
     loops: u64,
     commits: u32,
+    keeps: bool,
+}
+
+/// What a reader has come to: itself, how often it looked, and the last commit that it saw.
+#[derive(Drop)]
+struct Looked<'a> {
+    reader: Reader<'a, 22, OneNode>,
+    looks: u64,
+    seen: u32,
+}
+
+/// A guard that loads the root again, 64 looks in all.
+fn look_on<'a>(reader: Reader<'a, 22, OneNode>) -> Looked<'a> {
+    match reader.try_guard() {
+        Ok(guard) => {
+            let mut guard = guard;
+            for _ in 1..64 {
+                guard = guard.again();
+            }
+            let seen = guard.commit();
+            Looked {
+                reader: guard.release(),
+                looks: 64,
+                seen,
+            }
+        }
+        Err(again) => {
+            let Again { reader, found: _ } = again;
+            Looked {
+                reader,
+                looks: 0,
+                seen: 0,
+            }
+        }
+    }
+}
+
+/// Looks under guards that are kept: about so many, or until this commit is seen.
+fn looks(reader: Reader<'_, 22, OneNode>, loops: u64, last: u32) -> u64 {
+    let mut reader = reader;
+    let mut counted = 0u64;
+    for _ in 0..loops / 64 {
+        let Looked {
+            reader: next,
+            looks,
+            seen,
+        } = look_on(reader);
+        reader = next;
+        counted = counted.saturating_add(looks);
+        if last > 0 && seen >= last {
+            break;
+        }
+    }
+    counted
 }
 
 /// Takes guards and releases each at once: a number of times, or until this commit is seen.
@@ -73,6 +128,7 @@ fn work_on(job: Job<'_>) -> u64 {
         post,
         loops,
         commits: most,
+        keeps,
     } = job;
     match post {
         Post::Write(writer) => {
@@ -80,7 +136,13 @@ fn work_on(job: Job<'_>) -> u64 {
             commits(&mut writer, most);
             0
         }
-        Post::Read(reader) => guards(reader, loops, most),
+        Post::Read(reader) => {
+            if keeps {
+                looks(reader, loops, most)
+            } else {
+                guards(reader, loops, most)
+            }
+        }
     }
 }
 
@@ -91,6 +153,7 @@ fn jobs_of<'a>(
     readers: u32,
     loops: u64,
     commits: u32,
+    keeps: bool,
 ) -> Result<Vec<Job<'a>>, AllocError> {
     let mut writer = writer;
     let mut jobs = Vec::new(alloc);
@@ -100,6 +163,7 @@ fn jobs_of<'a>(
                 post: Post::Read(reader),
                 loops,
                 commits,
+                keeps,
             };
             if jobs.push(job).is_err() {
                 return Err(AllocError);
@@ -110,6 +174,7 @@ fn jobs_of<'a>(
         post: Post::Write(writer),
         loops,
         commits,
+        keeps,
     };
     if jobs.push(job).is_err() {
         return Err(AllocError);
@@ -181,8 +246,9 @@ pub fn count<R: Threads + Sync>(rt: &R, alloc: Global, load: Load) -> Result<u64
             readers,
             loops,
             commits,
+            keeps,
         } => {
-            let jobs = jobs_of(alloc, writer, readers, loops, commits)?;
+            let jobs = jobs_of(alloc, writer, readers, loops, commits, keeps)?;
             let mut counted = 0u64;
             for part in work_all(rt, jobs)? {
                 counted = counted.saturating_add(part);

@@ -60,6 +60,19 @@ pub record MayFree (w : WriterView) (b : ℕ) (tag : Tag) : Type 0 where
   pub held : slice_get w.buffers b ≡ Some (Held width tag)
   pub below : tag.generation < (oldest_of w.queue).generation
 
+-- a word of a buffer
+pub record IsBufferWord (sizes : Sizes) (p : ℕ) : Type 0 where
+  pub b : ℕ
+  pub x : ℕ
+  pub buffer : b < sizes.buffers
+  pub inside : x < sizes.words
+  pub is : p ≡ base sizes.buffers sizes.words b + x
+
+-- load a word of a buffer
+pub record MayLoadOwn (w : WriterView) (p : ℕ) : Type 0 where
+  pub calm : w.queue.pending ≡ Nothing
+  pub word : IsBufferWord w.sizes p
+
 -- Holds.
 
 -- reopen a hold: it is not in the queue, the queue has room for it, and a generation is left

@@ -13,7 +13,9 @@ use Rattle.gen_core.specs.Views.{floor_of, kept_of, last_number, last_image, IsC
 use Rattle.gen_core.specs.Work.{place_in, IsRecordStored, writer_records, next_image}
 use Rattle.gen_core.specs.Good.{State, IsLawfulCommit, GoodView, Good}
 use Rattle.gen_core.specs.Conditions.{MayStoreWord, MayStoreWidth, MayPublish, MayClose, MayProbe, IsUnder}
-use Rattle.gen_core.specs.Events.{Event, Happens, Happen, MayOpen, opening, hand_out, put_on_hold, release, NoneFromBefore, count_at, after_store_word}
+use Rattle.gen_core.specs.declared.views.Event.{Event}
+use Rattle.gen_core.specs.declared.views.Event.TheVariants.{HandOut, PutOnHold, Release}
+use Rattle.gen_core.specs.Events.{Happens, Happen, MayOpen, opening, NoneFromBefore, count_at, after_store_word}
 use Rattle.gen_core.specs.Events.{after_store_width, after_publish}
 use Rattle.gen_core.specs.Steps.{subtract, word_of, operation_of}
 
@@ -38,15 +40,15 @@ module _ (reaches : ℕ → Records → ℕ → List ℕ) (lawful : ℕ → Reco
   abbrev pub HandsOutUnguarded : Type 0
   HandsOutUnguarded =
       (sizes : Sizes) (events : List Event) (s t : State) (b : ℕ) → MayOpen sizes → Happen reaches lawful (opening sizes) events s
-      → Happens reaches lawful s (hand_out b) t → NoneFromBefore s b
+      → Happens reaches lawful s (HandOut b) t → NoneFromBefore s b
 
   -- a buffer that is put on hold while a view stands on a hold is not handed out before that view is released
   abbrev pub HoldsBack : Type 0
   HoldsBack =
       (sizes : Sizes) (before between : List Event) (s m t u : State) (j h b : ℕ) (r : ReaderView) → MayOpen sizes
       → Happen reaches lawful (opening sizes) before s → slice_get s.readers j ≡ Some r → stands_on r.state ≡ Some h
-      → Happens reaches lawful s (put_on_hold b) m → Happen reaches lawful m between t → All (λ e. e ≢ release j) between
-      → Happens reaches lawful t (hand_out b) u → ⊥
+      → Happens reaches lawful s (PutOnHold b) m → Happen reaches lawful m between t → All (λ e. e ≢ Release j) between
+      → Happens reaches lawful t (HandOut b) u → ⊥
 
   -- one event keeps the invariant, from every good state
   abbrev pub EventKeepsGood : Type 0

@@ -138,6 +138,8 @@ spent = record {
   sizes = record { offset_bits = 0; buffers = 0; words = 0; shape = 0; commit_limit = 0; generation_limit = 0 };
   seen = 0;
   least = 0;
+  first = 0;
+  misses = record { count = 0; found = 0 };
   state = Spent;
   saw = [];
 }

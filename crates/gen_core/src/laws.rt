@@ -11,8 +11,9 @@ ghost use Rattle.gen_core.specs.Needed.{NeedsActive, NeedsApart, NeedsActiveWidt
 ghost use Rattle.gen_core.specs.Needed.{NeedsNumber, NeedsSeat, RootBeforeRaise, OpensByZero, LastBeforeOpen, ForgetsTheBounce};
 ghost use Rattle.gen_core.specs.Needed.{MorphBesideNext, CloseMovesNoFloor, FreesAtTheOldest, TagsTooEarly};
 ghost use Rattle.gen_core.specs.Examples.{Ends, hold_sizes, buffer_sizes, missed_events, missed_end, renewed_events, renewed_end};
-ghost use Rattle.gen_core.specs.Examples.{closed_events, closed_end, reopened_events, reopened_end, again_events, again_end, stored_events};
-ghost use Rattle.gen_core.specs.Examples.{stored_end};
+ghost use Rattle.gen_core.specs.Examples.{closed_events, closed_end, kept_events, kept_end, reopened_events, reopened_end, again_events};
+ghost use Rattle.gen_core.specs.Examples.{again_end};
+ghost use Rattle.gen_core.specs.Examples.{stored_events, stored_end};
 
 use entry_ref::Layout;
 
@@ -154,6 +155,7 @@ pub fn examples_law()
     ensures missed { Ends hold_sizes missed_events missed_end }
     ensures renewed { Ends hold_sizes renewed_events renewed_end }
     ensures closed { Ends hold_sizes closed_events closed_end }
+    ensures kept { Ends hold_sizes kept_events kept_end }
     ensures reopened { Ends hold_sizes reopened_events reopened_end }
     ensures again { Ends (buffer_sizes 22) again_events again_end }
     ensures stored { Ends (buffer_sizes 22) (stored_events 22) (stored_end 22) }

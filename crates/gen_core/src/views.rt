@@ -87,11 +87,21 @@ pub enum ReaderState {
     Spent,
 }
 
-/// The last commit seen, the least generation to aim at, and each commit seen, the newest first.
+/// How many raises of a reader found a closed hold since its last release, and the count that the last one found.
+#[derive(Clone, Copy)]
+pub struct Misses {
+    pub count: u64,
+    pub found: u64,
+}
+
+/// The last commit seen; the least generation to aim at; the generation that was aimed at first since
+/// the last release, and what was missed since; and each commit seen, the newest first.
 pub struct ReaderView {
     pub sizes: Sizes,
     pub seen: u64,
     pub least: u64,
+    pub first: u64,
+    pub misses: Misses,
     pub state: ReaderState,
     pub saw: LinkedList<(u64, Image)>,
 }
@@ -100,4 +110,41 @@ pub struct ReaderView {
 pub enum View {
     Writer(WriterView),
     Reader(ReaderView),
+}
+
+/// The events, each one step on one word by one seat. A reader is named by its place among those made. The writer's loads, of
+/// the root after a join (`MeetLoad`) and of a buffer's word (`LoadOwn`), and a reader's of a word of its image (`LoadWord`)
+/// change nothing. The root is loaded by a reader that keeps a hold open: for a guard, or again under one.
+#[derive(Clone, Copy)]
+pub enum Event {
+    /// A buffer and its width.
+    StoreWidth(u64, u64),
+    /// A place and a word.
+    StoreWord(u64, u64),
+    /// A place, whose word counts as stored.
+    FindWord(u64),
+    HandOut(u64),
+    /// A root.
+    Publish(u64),
+    PutOnHold(u64),
+    FreeBuffer(u64),
+    Reopen(u64),
+    StoreNewest,
+    Close,
+    StopAtOldest,
+    Probe,
+    StopAtNewest,
+    Morph,
+    Split,
+    /// The reader that is taken in.
+    Join(u64),
+    MeetLoad,
+    LoadOwn(u64),
+    LoadNewest(u64),
+    Raise(u64),
+    Bounce(u64),
+    LoadRoot(u64),
+    /// A reader and a place.
+    LoadWord(u64, u64),
+    Release(u64),
 }

@@ -67,6 +67,7 @@ fn from_idle<'a>(reader: Reader<'a, 22, OneNode>, task: Task) -> (Stand<'a>, Ans
 fn from_guard<'a>(held: Held<'a>, task: Task) -> (Stand<'a>, Answer) {
     match task {
         Task::Read => told(held),
+        Task::Again => told(held.again()),
         Task::Release => (Stand::Idle(held.release()), Answer::Done),
         Task::Forget => {
             drop(held);

@@ -35,6 +35,8 @@ pub enum Task {
     /// A guard, after as many tries as it takes.
     Guard,
     Read,
+    /// The last commit now, under the same hold.
+    Again,
     Release,
     /// Drops a guard without a release.
     Forget,
@@ -80,6 +82,7 @@ fn task_in(words: &str) -> Task {
         "try" => Task::Try,
         "guard" => Task::Guard,
         "read" => Task::Read,
+        "again" => Task::Again,
         "release" => Task::Release,
         "forget" => Task::Forget,
         _ => Task::Unknown,

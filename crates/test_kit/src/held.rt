@@ -49,6 +49,14 @@ impl<'a> Held<'a> {
         Look { commit, whole }
     }
 
+    /// The last commit now, under the same hold.
+    pub fn again(self) -> Held<'a> {
+        let Held { guard } = self;
+        Held {
+            guard: guard.again(),
+        }
+    }
+
     pub fn release(self) -> Reader<'a, 22, OneNode> {
         let Held { guard } = self;
         guard.release()

@@ -22,7 +22,7 @@ use Rattle.gen_core.specs.Work.{work_at, stored_by}
 use Rattle.gen_core.specs.Events.{opening_view}
 use Rattle.arena_api.specs.Works.{WorkView, Hold, Tag as ApiTag, Buffer as ApiBuffer}
 use Rattle.arena_api.specs.Calls.{IsWithinLimits}
-use Rattle.word_arena.specs.Ruled.{Slot, writer_of, api_sizes}
+use Rattle.word_arena.specs.Ruled.{Slot, writer_in, api_sizes}
 use Rattle.gen_core.specs.Good.{GoodView}
 use Rattle.word_arena.specs.declared.config.Config.{Config}
 
@@ -72,19 +72,19 @@ pub record StoresEntries (w : WriterView) : Type 0 where
 pub record IsDesk (bits : ℕ) (arena : TableId) (sizes : Sizes) (buffers : List Buffer) (holds : List HoldEntry) (last made : ℕ)
     (z : TableId) (me : Me Slot View) : Type 0 where
   pub own : z ≡ arena
-  pub is : me ≡ (Writer (writer_of me.0), [])
+  pub is : me ≡ (Writer (writer_in me.0), [])
   pub words : z.words ≡ size_of sizes.buffers sizes.words
-  pub same_sizes : (writer_of me.0).sizes ≡ sizes
+  pub same_sizes : (writer_in me.0).sizes ≡ sizes
   pub same_bits : sizes.offset_bits ≡ bits
-  pub limits : IsWithinLimits bits (api_sizes (writer_of me.0).sizes)
-  pub product : (writer_of me.0).sizes.buffers * (writer_of me.0).sizes.words ≤ 67108864
-  pub same_buffers : (writer_of me.0).buffers ≡ buffers
-  pub same_holds : map own_hold (open_holds (writer_of me.0).queue) ≡ holds
-  pub commits : last ≡ last_number (writer_of me.0).commits
-  pub readers : (made ≡ (writer_of me.0).made) × (made ≤ 64)
-  pub calm : (writer_of me.0).queue.pending ≡ Nothing
-  pub good : GoodView (writer_of me.0)
-  pub entries : StoresEntries (writer_of me.0)
+  pub limits : IsWithinLimits bits (api_sizes (writer_in me.0).sizes)
+  pub product : (writer_in me.0).sizes.buffers * (writer_in me.0).sizes.words ≤ 67108864
+  pub same_buffers : (writer_in me.0).buffers ≡ buffers
+  pub same_holds : map own_hold (open_holds (writer_in me.0).queue) ≡ holds
+  pub commits : last ≡ last_number (writer_in me.0).commits
+  pub readers : (made ≡ (writer_in me.0).made) × (made ≤ 64)
+  pub calm : (writer_in me.0).queue.pending ≡ Nothing
+  pub good : GoodView (writer_in me.0)
+  pub entries : StoresEntries (writer_in me.0)
 
 -- the settings of an arena, as the core's sizes
 abbrev pub core_sizes : ℕ → Config → Sizes

@@ -11,7 +11,7 @@ use Rattle.entry_ref.proofs.Apart.{entry-small}
 use Rattle.gen_core.specs.declared.views.Sizes.{Sizes}
 use Rattle.gen_core.specs.declared.views.View.{View}
 use Rattle.gen_core.proofs.Lists.{all_found}
-use Rattle.word_arena.specs.Ruled.{Slot, reader_of, seen_image, IsGuard}
+use Rattle.word_arena.specs.Ruled.{Slot, reader_in, seen_image, IsGuard}
 
 there : (o : Option (List ℕ)) → 0 < length (unwrap_or o []) → o ≡ Some (unwrap_or o [])
 there None h = absurd (omega arith)
@@ -31,6 +31,6 @@ image-entry bits sizes image all ref some =
 
 pub guard_references : {bits : ℕ} {arena : TableId} {sizes : Sizes} {hold word : ℕ} {z : TableId} {me : Me Slot View}
     → IsGuard bits arena sizes hold word z me
-    → (r : ℕ) → 0 < length (words_at (seen_image (reader_of me.0)) r) → r < 2 ^ 32
+    → (r : ℕ) → 0 < length (words_at (seen_image (reader_in me.0)) r) → r < 2 ^ 32
 guard_references {bits} {arena} {sizes} {hold} {word} {z} {me} g r some =
-    entry-small (image-entry bits sizes (seen_image (reader_of me.0)) g.entries r some) g.post.limits.few_words g.post.limits.offsets
+    entry-small (image-entry bits sizes (seen_image (reader_in me.0)) g.entries r some) g.post.limits.few_words g.post.limits.offsets

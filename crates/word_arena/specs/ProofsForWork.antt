@@ -34,7 +34,7 @@ use Rattle.gen_core.proofs.StoredWords.{is_stored, stored-there}
 use Rattle.arena_api.specs.Works.{Hold, Tag as ApiTag, Buffer as ApiBuffer, active_width as api_active, width_of, newest_of, oldest_of}
 use Rattle.arena_api.specs.Generations.{IsBefore as IsLater, AreInOrder, IsOpenHold, IsQueue, IsHeldUnder}
 use Rattle.arena_api.specs.Calls.{IsWithinLimits, IsInOrder, IsWordIn, FitsEntry}
-use Rattle.word_arena.specs.Ruled.{api_sizes, Slot, writer_of}
+use Rattle.word_arena.specs.Ruled.{api_sizes, Slot, writer_in}
 use Rattle.word_arena.specs.Knows.{api_tag, api_buffer, api_hold, image_at, view_of, IsDesk}
 use Rattle.gen_core.specs.declared.views.View.{View}
 use Rattle.atomic_table.specs.Seated.{TableId}
@@ -259,5 +259,5 @@ work_references w g bits same l r some = entry-small (records-placed w g r some)
     (subst (λ b. w.sizes.words ≤ offset_limit b) (sym same) l.offsets)
 
 pub desk_bits : {bits : ℕ} {arena : TableId} {sizes : Sizes} {buffers : List Buffer} {holds : List HoldEntry} {last made : ℕ} {z : TableId}
-    {me : Me Slot View} → IsDesk bits arena sizes buffers holds last made z me → (writer_of me.0).sizes.offset_bits ≡ bits
+    {me : Me Slot View} → IsDesk bits arena sizes buffers holds last made z me → (writer_in me.0).sizes.offset_bits ≡ bits
 desk_bits d = ap (λ (x : Sizes). x.offset_bits) d.same_sizes ∙ d.same_bits

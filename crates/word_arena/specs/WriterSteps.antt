@@ -1,6 +1,6 @@
 -- How the writer's calls on holds and buffers change its view, step by step.
 use Rattle.std.specs.Prelude.{◌≡◌, ◌≢◌, ◌⊎◌, ℕ, ◌+◌, ◌<◌, ◌≤◌, nat_lt, if◌then◌else◌, List, ◌∷◌, map, length, drop, slice_get, option_map}
-use Rattle.std.specs.Prelude.{option_and_then, Option, None}
+use Rattle.std.specs.Prelude.{option_and_then, Option, None, All}
 use Rattle.generation_handler.specs.Queues.{IsLeastClosed}
 use Rattle.gen_core.specs.declared.views.OpenHold.{OpenHold}
 use Rattle.gen_core.specs.declared.views.Tag.{Tag}
@@ -8,7 +8,7 @@ use Rattle.gen_core.specs.declared.views.Buffer.{Buffer}
 use Rattle.gen_core.specs.declared.views.Buffer.TheVariants.{Free, Active, Held}
 use Rattle.gen_core.specs.declared.views.WriterView.{WriterView}
 use Rattle.std.specs.Prelude.{Some}
-use Rattle.gen_core.specs.Views.{open_holds, oldest_of}
+use Rattle.gen_core.specs.Views.{open_holds, oldest_of, last_tag_in}
 use Rattle.gen_core.specs.Events.{advanced, morphed, closed, stopped}
 use Rattle.arena_api.specs.declared.answers.Advance.{Advance}
 use Rattle.arena_api.specs.declared.answers.Advance.TheVariants.{To, NoHold, Spent}
@@ -113,3 +113,7 @@ pub record FreesBelow (oldest n : ℕ) (w v : WriterView) : Type 0 where
 pub record FreesUnused (w v : WriterView) : Type 0 where
   pub each : (a : ℕ) → slice_get v.buffers a ≡ option_map (let_go (oldest_of w.queue).generation) (slice_get w.buffers a)
   pub same : WithBuffersOf w v
+
+-- the last tag of the buffer is below the generation of each open hold
+abbrev pub IsTaggedBelow : WriterView → ℕ → Type 0
+IsTaggedBelow w b = (tag : Tag) → last_tag_in w.buffers b ≡ Some tag → All (λ e. tag.generation < e.generation) (open_holds w.queue)

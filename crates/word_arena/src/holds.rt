@@ -90,7 +90,7 @@ impl<'a, const OFFSET_BITS: u32, L: Layout> Writer<'a, OFFSET_BITS, L> {
         ensures view { AdvancesView result (writer_of self.old.place.me.0) (writer_of self.new.place.me.0) }
     {
         let newest = self.holds.newest();
-        if newest.generation >= self.sizes.generation_limit {
+        if newest.generation >= self.arena.sizes.generation_limit {
             return Advance::Spent {
                 generation: newest.generation,
             };
@@ -175,7 +175,7 @@ impl<'a, const OFFSET_BITS: u32, L: Layout> Writer<'a, OFFSET_BITS, L> {
         ensures view { FreesUnused (writer_of self.old.place.me.0) (writer_of self.new.place.me.0) }
     {
         let oldest = self.holds.oldest();
-        let count = self.sizes.buffers as u32;
+        let count = self.arena.sizes.buffers as u32;
         for buffer in 0..count {
             self.free_one(buffer, oldest.generation);
         }

@@ -1,15 +1,18 @@
 //! The writer as a `Work`.
-ghost use Rattle.std.specs.Prelude.{◌≡◌, ◌≢◌, ◌<◌, ◌≤◌, ◌+◌, ◌*◌, ℕ, length, Some, slice_index, true};
+ghost use Rattle.std.specs.Prelude.{◌≡◌, ◌≢◌, ◌↔◌, ◌<◌, ◌≤◌, ◌+◌, ◌*◌, ℕ, length, Some, slice_index, true, IsNone, IfSome, IfNone};
 ghost use Rattle.word_arena.specs.Ruled.{writer_of};
 ghost use Rattle.entry_ref.specs.Images.{words_at};
 ghost use Rattle.entry_ref.specs.Places.{IsEntry};
 ghost use Rattle.entry_ref.specs.Records.{with_words};
 ghost use Rattle.entry_ref.specs.References.{buffer_of};
-ghost use Rattle.arena_api.specs.Calls.{MayStore, InNoCommit, AddsCommit, with_stored, padded, next_image, published};
-ghost use Rattle.arena_api.specs.Works.{is_free, active_width};
+ghost use Rattle.arena_api.specs.Calls.{MayStore, InNoCommit, AddsCommit, IsLowestFree, with_stored, padded, next_image, handed_out};
+ghost use Rattle.arena_api.specs.Calls.{published};
+ghost use Rattle.arena_api.specs.Works.{is_free, active_width, free_count};
 ghost use Rattle.gen_core.specs.Views.{last_tag_in};
 ghost use Rattle.gen_core.specs.Work.{writer_records};
 ghost use Rattle.word_arena.specs.Knows.{view_of, given, buffers_by};
+ghost use Rattle.word_arena.specs.Released.{HandsOut};
+ghost use Rattle.word_arena.specs.WriterSteps.{IsTaggedBelow};
 
 use crate::buffers::{count_free, last_of, lowest_free, width_of};
 use crate::plays::{FindWord, HandOut, Publish, StoreWidth, StoreWord};
@@ -48,6 +51,8 @@ impl<'a, const OFFSET_BITS: u32, L: Layout> Writer<'a, OFFSET_BITS, L> {
         requires free { is_free (buffers_by (writer_of self.old.place.me.0).buffers buffer) ≡ true }
         requires some { 0 < width }
         ensures table { self.new.place.table_id ≡ self.old.place.table_id }
+        ensures hands { HandsOut L.reaches L.lawful (writer_of self.old.place.me.0).sizes
+            self.old.place.me.0.seen self.new.place.me.0.seen buffer }
         ensures view { writer_of self.new.place.me.0 ≡ given (writer_of self.old.place.me.0) buffer width
             (last_tag_in (writer_of self.old.place.me.0).buffers buffer) }
     {
@@ -57,7 +62,7 @@ impl<'a, const OFFSET_BITS: u32, L: Layout> Writer<'a, OFFSET_BITS, L> {
             .table
             .shared
             .store::<HandOut<L>>(&mut self.place, 18 + at, 1);
-        let first = 18 + self.sizes.buffers + u64::from(buffer) * self.sizes.words;
+        let first = 18 + self.arena.sizes.buffers + u64::from(buffer) * self.arena.sizes.words;
         self.arena
             .table
             .shared
@@ -79,8 +84,8 @@ impl<'a, const OFFSET_BITS: u32, L: Layout> Writer<'a, OFFSET_BITS, L> {
         ensures shape { (writer_of self.new.place.me.0).sizes.shape ≡ (writer_of self.old.place.me.0).sizes.shape }
     {
         let place = place_of(
-            self.sizes.buffers as u32,
-            self.sizes.words as u32,
+            self.arena.sizes.buffers as u32,
+            self.arena.sizes.words as u32,
             width,
             entry,
             i,
@@ -124,8 +129,8 @@ impl<'a, const OFFSET_BITS: u32, L: Layout> Writer<'a, OFFSET_BITS, L> {
         ensures shape { (writer_of self.new.place.me.0).sizes.shape ≡ (writer_of self.old.place.me.0).sizes.shape }
     {
         let place = place_of(
-            self.sizes.buffers as u32,
-            self.sizes.words as u32,
+            self.arena.sizes.buffers as u32,
+            self.arena.sizes.words as u32,
             width,
             entry,
             i,
@@ -186,8 +191,27 @@ impl<'a, const OFFSET_BITS: u32, L: Layout> Work<OFFSET_BITS> for Writer<'a, OFF
         }
     }
 
-    fn hand_out(&mut self, width: u32) -> Option<u32> {
-        let buffer = lowest_free(self.buffers.as_slice(), self.sizes.buffers as u32)?;
+    /// The last tag of the buffer, if it has one, is below every open generation; and each reader that had a guard when the
+    /// buffer was put on hold has given it back since.
+    fn hand_out(&mut self, width: u32) -> Option<u32>
+        requires { 0 < width }
+        ensures none { IsNone result ↔ (free_count (⟦<Writer<'a, OFFSET_BITS, L> as Work<OFFSET_BITS>>⟧.knows self.old).buffer
+            (⟦<Writer<'a, OFFSET_BITS, L> as Work<OFFSET_BITS>>⟧.knows self.old).sizes.buffers ≡ 0) }
+        ensures lowest { IfSome result (IsLowestFree (⟦<Writer<'a, OFFSET_BITS, L> as Work<OFFSET_BITS>>⟧.knows self.old).buffer
+            (⟦<Writer<'a, OFFSET_BITS, L> as Work<OFFSET_BITS>>⟧.knows self.old).sizes.buffers) }
+        ensures tags { IfSome result (IsTaggedBelow (writer_of self.old.place.me.0)) }
+        ensures hands { IfSome result (HandsOut L.reaches L.lawful (writer_of self.old.place.me.0).sizes
+            self.old.place.me.0.seen self.new.place.me.0.seen) }
+        ensures handed { IfSome result (λ b. ⟦<Writer<'a, OFFSET_BITS, L> as Work<OFFSET_BITS>>⟧.knows self.new
+            ≡ handed_out (⟦<Writer<'a, OFFSET_BITS, L> as Work<OFFSET_BITS>>⟧.knows self.old) b width) }
+        ensures refused { IfNone result (⟦<Writer<'a, OFFSET_BITS, L> as Work<OFFSET_BITS>>⟧.knows self.new
+            ≡ ⟦<Writer<'a, OFFSET_BITS, L> as Work<OFFSET_BITS>>⟧.knows self.old) }
+        ensures records { ⟦<Writer<'a, OFFSET_BITS, L> as Frozen<OFFSET_BITS>>⟧.records self.new
+            ≡ ⟦<Writer<'a, OFFSET_BITS, L> as Frozen<OFFSET_BITS>>⟧.records self.old }
+        ensures shape { ⟦<Writer<'a, OFFSET_BITS, L> as Frozen<OFFSET_BITS>>⟧.shape self.new
+            ≡ ⟦<Writer<'a, OFFSET_BITS, L> as Frozen<OFFSET_BITS>>⟧.shape self.old }
+    {
+        let buffer = lowest_free(self.buffers.as_slice(), self.arena.sizes.buffers as u32)?;
         self.take_buffer(buffer, width);
         Some(buffer)
     }
@@ -244,19 +268,19 @@ impl<'a, const OFFSET_BITS: u32, L: Layout> Work<OFFSET_BITS> for Writer<'a, OFF
     }
 
     fn free_buffers(&self) -> u32 {
-        count_free(self.buffers.as_slice(), self.sizes.buffers as u32)
+        count_free(self.buffers.as_slice(), self.arena.sizes.buffers as u32)
     }
 
     fn buffers(&self) -> u32 {
-        self.sizes.buffers as u32
+        self.arena.sizes.buffers as u32
     }
 
     fn words(&self) -> u32 {
-        self.sizes.words as u32
+        self.arena.sizes.words as u32
     }
 
     fn commits_left(&self) -> u32 {
-        self.sizes.commit_limit as u32 - self.last
+        self.arena.sizes.commit_limit as u32 - self.last
     }
 
     ghost limits = { λ w. w.stands.limits };
