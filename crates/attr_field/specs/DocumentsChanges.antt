@@ -19,7 +19,8 @@ use Rattle.attr_types.specs.declared.kind.ValueType.{ValueType}
 use Rattle.attr_types.specs.declared.value.Value.{Value}
 use Rattle.attr_field.specs.Documents.{documents_part, documents_refer, items_own, IsDocuments}
 use Rattle.attr_field.specs.DocumentsFlows.{own_at, refer_at, FlowsDocuments}
-use Rattle.attr_field.specs.Items.{IsItemsWidth}
+use Rattle.attr_field.specs.Items.{items_record, IsItemsWidth}
+use Rattle.value_index.specs.Counts.{by_width}
 use Rattle.store_api.specs.Flows.{ComesFrom}
 
 -- these records are in use, and the parts own none of them
@@ -46,9 +47,9 @@ pub record MakesDocuments {H : Type 0} (kind : Kind) (type : ValueType) (old new
   pub owns : Owns new n (documents_part kind next ∷ [])
   pub turns : Turns old new m n (documents_part kind root ∷ []) (documents_part kind next ∷ [])
 
--- at most one record of this many words, and this many nodes
-abbrev pub documents_most : ℕ → ℕ → ℕ → ℕ
-documents_most words nodes width = (if nat_eq width (class_of words) then 1 else 0) + (if nat_eq width NODE_WORDS then nodes else 0)
+-- so many nodes, and the record of so many items
+abbrev pub documents_most : Kind → ℕ → ℕ → ℕ → ℕ
+documents_most kind count nodes = by_width nodes (items_record kind count)
 
 -- the records that the references of pairs own
 abbrev pub pairs_own : Kind → List (ℕ × ℕ) → List ℕ

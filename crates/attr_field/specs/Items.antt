@@ -1,5 +1,5 @@
 -- The items of one document: references of values with their weights, as words of a record.
-use Rattle.std.specs.Prelude.{◌≡◌, ℕ, ℤ, ◌+◌, ◌<◌, pos, Bool, true, false, List, [], ◌∷◌}
+use Rattle.std.specs.Prelude.{◌≡◌, ℕ, zero, suc, ℤ, ◌+◌, ◌<◌, pos, Bool, true, false, nat_eq, if◌then◌else◌, List, [], ◌∷◌}
 use Rattle.entry_ref.specs.Records.{Records}
 use Rattle.store_api.specs.Ledgers.{Ledger}
 use Rattle.store_api.specs.Parts.{Turns, entries}
@@ -45,6 +45,11 @@ pub record MakesItems {H : Type 0} (kind : Kind) (old new : Ledger H) (m n : Rec
   pub form : IsItemsRecord kind ref (n ref)
   pub weighted_are : weighted kind ref (n ref) ≡ list
   pub turns : Turns old new m n [] (entries (items_own kind ref) ∷ [])
+
+-- the record of a document with so many items, of its width: an array or a weighted set that has some has one
+abbrev pub items_record : Kind → ℕ → ℕ → ℕ
+items_record kind zero width = 0
+items_record kind (suc more) width = if has_list kind then (if nat_eq width (class_of (1 + suc more)) then 1 else 0) else 0
 
 -- the width of the record of a document with this many items, in an array or a weighted set
 pub record IsItemsWidth (kind : Kind) (count width : ℕ) : Type 0 where

@@ -85,8 +85,8 @@ pub fn has_already<const OFFSET_BITS: u32, F: Frozen<OFFSET_BITS>>(
 ) -> Result<bool, AllocError>
     requires documents { IsDocuments kind value_type (F.records frozen.old) root }
     requires was { old.now ≡ items_of (column_at kind value_type (F.records frozen.old) root) doc }
-    ensures has { IfOk result (λ same. same ≡ true
-        → lookup (is_at (nat_cmp doc)) (column_at kind value_type (F.records frozen.old) root.entry) ≡ Some new.now) }
+    ensures has { IfOk result (λ same. IsTrue same
+        ↔ (lookup (is_at (nat_cmp doc)) (column_at kind value_type (F.records frozen.old) root.entry) ≡ Some new.now)) }
     ensures same { frozen.new ≡ frozen.old }
 {
     if !same_items(old, new) {

@@ -92,7 +92,7 @@ pub fn set_document<const OFFSET_BITS: u32, S: Store<OFFSET_BITS>>(
         (with_change (column_at kind value_type (S.records store.old) root.entry) doc (Some items.now))) }
     ensures sets { IfOk result (SetsItems kind (S.ledger store.old) (S.records store.old) (S.records store.new) root.entry doc keys.now) }
     ensures counts { MakesWithin (S.ledger store.old) (S.ledger store.new)
-        (documents_most (1 + length items.now) (2 * levels (S.records store.old) root.entry + 1)) }
+        (documents_most kind (length items.now) (2 * levels (S.records store.old) root.entry + 1)) }
     ensures refuses { IfErr result (RefusesOf (IsDocumentWidth kind (length items.now)) (S.ledger store.old) (S.ledger store.new)) }
     ensures may { MayDo (S.ledger store.old) (S.ledger store.new) }
 {

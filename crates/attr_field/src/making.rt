@@ -6,8 +6,9 @@ ghost use Rattle.store_api.specs.Units.{MayDo, MakesAtMost};
 ghost use Rattle.array_store.specs.Adding.{MakesOneOf};
 ghost use Rattle.attr_images.specs.Words.{class_of};
 ghost use Rattle.attr_types.specs.Lawful.{IsLawfulItems};
+ghost use Rattle.posting_store.specs.Changes.{MakesWithin};
 ghost use Rattle.attr_field.specs.Documents.{items_own};
-ghost use Rattle.attr_field.specs.Items.{entries_by_key, has_list, word_entry, IsItemsWidth, IsWeightOf, MakesItems};
+ghost use Rattle.attr_field.specs.Items.{entries_by_key, has_list, items_record, word_entry, IsItemsWidth, IsWeightOf, MakesItems};
 
 use crate::attr_documents::WEIGHT_BASE;
 use array_store::add;
@@ -89,7 +90,7 @@ pub fn make_items<const OFFSET_BITS: u32, S: Store<OFFSET_BITS>>(
     requires lawful { IsLawfulItems kind items.now }
     ensures makes { IfOk result (MakesItems kind (S.ledger store.old) (S.ledger store.new) (S.records store.old) (S.records store.new)
         (entries_by_key keys.now items.now)) }
-    ensures counts { MakesOneOf (class_of (1 + length items.now)) (S.ledger store.old) (S.ledger store.new) }
+    ensures counts { MakesWithin (S.ledger store.old) (S.ledger store.new) (items_record kind (length items.now)) }
     ensures refuses { IfErr result (RefusesOf (IsItemsWidth kind (length items.now)) (S.ledger store.old) (S.ledger store.new)) }
     ensures may { MayDo (S.ledger store.old) (S.ledger store.new) }
 {
