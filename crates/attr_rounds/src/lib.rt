@@ -7,6 +7,7 @@
 #![tactic(auto)]
 
 mod asked;
+mod climbing;
 mod first;
 mod job;
 mod lines;

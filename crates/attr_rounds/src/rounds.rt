@@ -4,6 +4,7 @@ ghost use Rattle.word_arena.specs.Ruled.{reader_of, IsLater};
 ghost use Rattle.attr_rounds.specs.Rounds.{MakesRounds, SeesSame};
 ghost use Rattle.attr_rounds.specs.Posts.{view_at, table_at};
 
+use crate::climbing::{Climb, climbed};
 use crate::question::Question;
 use attr_io::{Gate, Point};
 use entry_ref::Layout;
@@ -41,18 +42,15 @@ enum Post<'a, const OFFSET_BITS: u32, L: Layout> {
 }
 
 /// Returns a guard, after as many tries as it takes.
-fn guarded<'a, const OFFSET_BITS: u32, L: Layout, C: Ledger>(
-    reader: Reader<'a, OFFSET_BITS, L>,
-    blank: Blank,
-) -> Guarded<'a, OFFSET_BITS, L>
-    requires name { blank.name ≡ C.name }
-    requires parts { blank.parts ≡ C.parts }
-    requires some { 0 < C.parts }
-    ensures later { IsLater L.reaches L.lawful (reader_of reader.entry.place.me.0) (reader_of result.place.me.0) }
-    ensures table { result.place.table_id ≡ reader.entry.place.table_id }
-{
-    let mut tries = Steps::<C>::new(blank);
-    reader.guard(&mut tries)
+impl<'a, const OFFSET_BITS: u32, L: Layout> Climb for Reader<'a, OFFSET_BITS, L> {
+    type Output = Guarded<'a, OFFSET_BITS, L>;
+
+    ghost climbs_to = { λ reader guard. IsLater L.reaches L.lawful (reader_of reader.place.me.0) (reader_of guard.place.me.0)
+        × (guard.place.table_id ≡ reader.place.table_id) };
+
+    fn climb<C: Ledger>(self, steps: &mut Steps<C>) -> Guarded<'a, OFFSET_BITS, L> {
+        self.guard(steps)
+    }
 }
 
 /// The guard of the next round: a new one, or the last commit now under the hold of the round before.
@@ -63,7 +61,7 @@ fn next_guard<'a, const OFFSET_BITS: u32, L: Layout>(
     ensures table { result.place.table_id ≡ table_at post.entry }
 {
     match post {
-        Post::Idle(reader) => guarded::<OFFSET_BITS, L, Brand>(reader, Blank::new(1)),
+        Post::Idle(reader) => climbed::<Reader<'a, OFFSET_BITS, L>, Brand>(reader, Blank::new(1)),
         Post::Under(guard) => guard.again(),
     }
 }
@@ -144,9 +142,9 @@ fn one_round<'a, const OFFSET_BITS: u32, L: Layout, Q: Question<OFFSET_BITS, L>,
     };
     match rounds.push(made) {
         Ok(()) => Ok(post),
-        Err(error) => {
+        Err(_) => {
             let _reader = let_go(post);
-            Err(error)
+            Err(AllocError)
         }
     }
 }

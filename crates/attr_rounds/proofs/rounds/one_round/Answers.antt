@@ -1,4 +1,6 @@
-use Rattle.std.proofs.Common.{subst, sym, ap, ◌∙◌, arith}
+use Rattle.std.proofs.Common.{subst, sym, ◌∙◌, arith}
+use Rattle.std.specs.Prelude.{Result, IfOk}
+use Rattle.std.specs.declared.alloc.AllocError.{AllocError}
 use Rattle.entry_ref.specs.Images.{words_at}
 use Rattle.word_arena.specs.Ruled.{reader_of, seen_image}
 use Rattle.word_arena.specs.declared.reader.Guarded.{Guarded}
@@ -6,6 +8,7 @@ use Rattle.attr_rounds.specs.declared.rounds.Round.{Round}
 use Rattle.attr_rounds.specs.Posts.{view_at}
 use Rattle.attr_rounds.specs.Rounds.{MakesRounds, SeesSame}
 use Rattle.attr_rounds.proofs.RoundLemmas.{of_question, lawful_at, one_more}
+use Rattle.attr_rounds.proofs.rounds.one_round.Goals.{in-Ok, in-Err}
 use Rattle.attr_rounds.proofs.rounds.one_round.Goals as goal
 
 pub operations-operations-requires : goal.operations-operations-requires
@@ -27,8 +30,8 @@ answer-answer-requires g c =
           (sym c.operations-operations.ensures.same) (fit, lawful),
     )
 
-pub returns-in-Ok-clause-rounds : goal.returns-in-Ok-clause-rounds
-returns-in-Ok-clause-rounds g c = λ start before.
+pub returns-clause-rounds : goal.returns-clause-rounds
+returns-clause-rounds g c =
     let answers = g.Q.Question.answers c.args.question.now in
     let guard = c.next_guard-guard.result in
     let root = c.root-root.result in
@@ -37,10 +40,16 @@ returns-in-Ok-clause-rounds g c = λ start before.
     let t = view_at c.post_after-post.result in
     let round : Round g.row.Q-Answer.Denot = record { commit = c.commit-commit.result; operations = c.operations-operations.result; answer = c.in_ok-answer.answer } in
     let counted = c.operations-operations.ensures.same in
-    let same : SeesSame v t = subst (λ (x : Guarded g.row.OFFSET_BITS g.row.L.Denot). SeesSame (reader_of x.place.me.0) t) (c.in_ok-answer.ensures.same ∙ counted) c.post_after-post.ensures.same in
+    let same : SeesSame v t = subst (λ (x : Guarded g.row.OFFSET_BITS g.row.L.Denot). SeesSame (reader_of x.place.me.0) t) (c.answer-answer.ensures.same ∙ counted) c.post_after-post.ensures.same in
+    let x = reader_of c.operations-operations.new.frozen.place.me.0 in
+    let told = subst (λ (said : Result g.row.Q-Answer.Denot AllocError). IfOk said (answers x.sizes.shape (words_at (seen_image x)) root)) c.in_ok-answer.was c.answer-answer.ensures.answer in
     let answer = subst (λ (x : Guarded g.row.OFFSET_BITS g.row.L.Denot). answers (reader_of x.place.me.0).sizes.shape (words_at (seen_image (reader_of x.place.me.0))) root c.in_ok-answer.answer)
-    counted c.in_ok-answer.ensures.answer in
+    counted told in
     let next = of_question g.Q.Question.operations answers g.L.Layout.lawful g.L.Layout.reaches r v t root round
     c.root-root.ensures c.next_guard-guard.ensures.later same c.commit-commit.ensures c.operations-operations.ensures.count answer in
-    subst (MakesRounds g.Q.Question.operations answers g.L.Layout.lawful start t) (sym c.in-Ok.ensures.items)
-    (one_more g.Q.Question.operations answers g.L.Layout.lawful start r t c.args.rounds.now.items round before next)
+    elim c.match-push.branch [
+      | in-Ok w ↦ rw w.result-is (λ start before.
+          subst (MakesRounds g.Q.Question.operations answers g.L.Layout.lawful start t) (sym w.in-Ok.ensures.items)
+          (one_more g.Q.Question.operations answers g.L.Layout.lawful start r t c.args.rounds.now.items round before next))
+      | in-Err w ↦ rw w.result-is tt
+    ]
