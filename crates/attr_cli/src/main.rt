@@ -2,17 +2,21 @@
 #![tactic(auto)]
 
 use attr_io::{NoGate, StdSink, StdSource};
-use attr_run::{Status, Words, attr_main};
+use attr_run::{Outcome, Words, attr_main, exit_of};
 use std::process::ExitCode;
 
-fn main(rt: HostRuntime) -> ExitCode {
-    let status = match Words::of_program(&rt) {
+/// The run of the words after the program's name, where there is memory for them.
+fn outcome_of(rt: &HostRuntime) -> Outcome {
+    match Words::of_program(rt) {
         Ok(words) => {
-            let mut source = StdSource::new(&rt);
-            let mut sink = StdSink::new(&rt);
-            attr_main(&rt, rt.alloc(), &words, &mut source, &mut sink, &NoGate).status
+            let mut source = StdSource::new(rt);
+            let mut sink = StdSink::new(rt);
+            attr_main(rt, rt.alloc(), &words, &mut source, &mut sink, &NoGate)
         }
-        Err(_) => Status::Memory,
-    };
-    ExitCode::from(status.exit_code())
+        Err(_) => Outcome::out_of_memory(rt.alloc()),
+    }
+}
+
+fn main(rt: HostRuntime) -> ExitCode {
+    exit_of(&outcome_of(&rt))
 }

@@ -20,6 +20,6 @@ mod words;
 pub use laws::settings_law;
 pub use made_laws::made_law;
 pub use make::make_ops;
-pub use outcome::{FeedFault, Outcome, Status, UsageCause};
+pub use outcome::{FeedFault, Outcome, Status, UsageCause, exit_of};
 pub use run::attr_main;
 pub use words::Words;

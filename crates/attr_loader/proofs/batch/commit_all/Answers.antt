@@ -6,5 +6,5 @@ use Rattle.attr_loader.proofs.batch.commit_all.Goals as goal
 pub returns-in_ok-compact_after-in-Done : goal.returns-in_ok-compact_after-in-Done
 returns-in_ok-compact_after-in-Done g c =
     let ledger = g.S.Store.ledger in
-    let made = subst (CommitsBatch ledger c.args.attribute.now c.commit_table.new.attribute c.args.count c.args.skipped) c.in-Done.is c.in_ok-more.ensures in
+    let made = subst (CommitsBatch ledger c.args.attribute.now c.commit_table.new.attribute c.args.count c.args.skipped) c.in-Done.is c.in_ok-more.ensures.commits in
     commits_on ledger c.args.attribute.now c.commit_table.new.attribute c.compact_after.new.attribute c.args.count c.args.skipped c.in-Done.more made c.in_ok-compact_after-in-Done.ensures

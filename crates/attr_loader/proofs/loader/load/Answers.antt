@@ -19,7 +19,7 @@ overflow_add-skipped g c =
     let ledger = g.S.Store.ledger in
     let i = c.loop-rest.invariant in
     let part = c.split_at.result.0.now in
-    let loads = subst (LoadsBatch ledger c.loop-rest.attribute c.load_batch.new.attribute part) c.in-Done.is c.in_ok-more.ensures in
+    let loads = subst (LoadsBatch ledger c.loop-rest.attribute c.load_batch.new.attribute part) c.in-Done.is c.in_ok-more.ensures.loads in
     let part_is = c.split_at.ensures.front ∙ ap (λ n. take n c.loop-rest.rest.now) c.min.ensures in
     let some = eqb-false (length c.loop-rest.rest.now) 0 (sym c.loop-rest-test.ensures) in
     let long = ap length i.rest ∙ length-drop c.loop-rest.operations c.args.ops.now in
@@ -33,7 +33,7 @@ loop-rest-preserved g c =
     let ledger = g.S.Store.ledger in
     let i = c.loop-rest.invariant in
     let part = c.split_at.result.0.now in
-    let loads = subst (LoadsBatch ledger c.loop-rest.attribute c.load_batch.new.attribute part) c.in-Done.is c.in_ok-more.ensures in
+    let loads = subst (LoadsBatch ledger c.loop-rest.attribute c.load_batch.new.attribute part) c.in-Done.is c.in_ok-more.ensures.loads in
     let part_is = c.split_at.ensures.front ∙ ap (λ n. take n c.loop-rest.rest.now) c.min.ensures in
     let some = eqb-false (length c.loop-rest.rest.now) 0 (sym c.loop-rest-test.ensures) in
     let long = ap length i.rest ∙ length-drop c.loop-rest.operations c.args.ops.now in
@@ -53,7 +53,7 @@ returns-in-Full g c =
     let ledger = g.S.Store.ledger in
     let i = c.loop-rest.invariant in
     let part = c.split_at.result.0.now in
-    let full = subst (LoadsBatch ledger c.loop-rest.attribute c.load_batch.new.attribute part) c.in-Full.is c.in_ok-more.ensures in
+    let full = subst (LoadsBatch ledger c.loop-rest.attribute c.load_batch.new.attribute part) c.in-Full.is c.in_ok-more.ensures.loads in
     let part_is = c.split_at.ensures.front ∙ ap (λ n. take n c.loop-rest.rest.now) c.min.ensures in
     let some = eqb-false (length c.loop-rest.rest.now) 0 (sym c.loop-rest-test.ensures) in
     let long = ap length i.rest ∙ length-drop c.loop-rest.operations c.args.ops.now in
@@ -68,3 +68,6 @@ returns g c =
     let within = i.within in
     let all : c.loop-rest.operations ≡ length c.args.ops.now = omega (arith, none, long, within) in
     ends_all g.S.Store.ledger c.args.batch c.args.ops.now c.args.attribute.now c.loop-rest.attribute c.loop-rest.operations c.loop-rest.skipped i.stands all
+
+pub returns-in_err-more-clause-spent : goal.returns-in_err-more-clause-spent
+returns-in_err-more-clause-spent g c = ?
