@@ -1,6 +1,6 @@
 -- Readers, their rounds, and these taken in.
 use Rattle.std.proofs.Common.{◌≡◌, ◌++◌, ℕ, suc, List, [], ◌∷◌, length, map, refl, sym, ap, subst, ◌∙◌, arith}
-use Rattle.std.specs.Prelude.{Bool, All}
+use Rattle.std.specs.Prelude.{Bool, All, Result, Ok, Err, IfOk}
 use Rattle.std.specs.List.{AllByRecursion, AllZip}
 use Rattle.std.specs.List.Sorted.{IsNonDecreasing}
 use Rattle.std.proofs.lemmas.List.{length-append, get_or_append_left}
@@ -126,3 +126,7 @@ last_of {A = A} operations answers lawful w v v' home table start r rounds taken
 pub one_of : {X : Type 0} (xs ys : List X) (x : X) → xs ≡ ys ++ x ∷ [] → length xs ≡ 1 → xs ≡ x ∷ []
 one_of xs [] x is one = is
 one_of xs (y ∷ ys) x is one = absurd (let l = ap length is in let m = length-append ys (x ∷ []) in omega (arith, l, m, one))
+
+pub ok_always : {A E : Type 0} (r : Result A E) (P : Type 0) → P → IfOk r (λ _. P)
+ok_always (Ok a) P holds = holds
+ok_always (Err e) P holds = tt

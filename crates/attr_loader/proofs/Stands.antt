@@ -17,8 +17,10 @@ use Rattle.attr_types.specs.Table.{after_ops, after, skipped, skipped_ops}
 use Rattle.attr_types.specs.declared.field.Field.{Field}
 use Rattle.attr_types.specs.declared.op.Op.{Op}
 use Rattle.attribute_kinds.specs.Views.{AttributeView}
-use Rattle.attr_loader.specs.Loading.{commit_point, IsImageAfter, AreCommits, told_of, IsAtStart, StaysIn, Loads}
-use Rattle.attr_loader.specs.Batches.{FindsNoRoom, LoadsAll}
+use Rattle.attr_loader.specs.Loading.{commit_point, IsImageAfter, AreCommits, told_of, IsAtStart, IsSpent, StaysIn, Loads}
+use Rattle.attr_loader.specs.Batches.{FindsNoRoom, HasNoCommit, LoadsAll}
+use Rattle.attr_loader.specs.declared.error.LoadError.{LoadError}
+use Rattle.attr_loader.specs.declared.error.LoadError.TheVariants.{CommitsSpent, Memory}
 use Rattle.attr_loader.proofs.Applying.{after_ops-append, skipped_ops-append, skipped_ops-few, stays_on}
 use Rattle.attr_loader.proofs.Points.{whole, next_point, batch_of}
 
@@ -225,7 +227,7 @@ module _ {S H : Type 0} (ledger : S → Ledger H) (batch : ℕ) (ops : List Op) 
     }
 
     -- no commit is left: fewer were made than there are operations
-    pub is_spent : 0 < batch → (ledger b.store).work.commits.last ≡ (ledger b.store).work.sizes.commits
+    is_spent : 0 < batch → (ledger b.store).work.commits.last ≡ (ledger b.store).work.sizes.commits
         → (ledger start.store).work.sizes.commits < (ledger start.store).work.commits.last + length ops
     is_spent some spent =
         let k = stands.last in
@@ -234,6 +236,10 @@ module _ {S H : Type 0} (ledger : S → Ledger H) (batch : ℕ) (ops : List Op) 
         let made = stands.commits in
         let same = ap (λ (sizes : Sizes). sizes.commits) stands.stays.sizes in
         omega (arith, here, few, made, same, spent, below)
+
+    pub given_up : 0 < batch → (error : LoadError) → HasNoCommit ledger b error → IsSpent ledger ops start error
+    given_up some CommitsSpent spent = is_spent some spent
+    given_up some Memory spent = tt
 
   pub ends_all : (b : AttributeView S) (count skips : ℕ) → Stands ledger batch ops start b count skips → count ≡ length ops → Loads ledger batch ops start b (record { operations = count; skipped = skips; full = None })
   ends_all b count skips stands all = record {
