@@ -8,6 +8,7 @@ ghost use Rattle.attr_types.specs.Lawful.{OpFits};
 ghost use Rattle.attr_types.specs.declared.field.TheConstants.{MOST_FIELDS};
 ghost use Rattle.attr_report.specs.Run.{run_in};
 ghost use Rattle.attr_engine.specs.Rounds.{IsCame};
+ghost use Rattle.attr_engine.specs.Happenings.{HasHistory};
 ghost use Rattle.attr_engine.specs.Run.{IsGivenUp};
 ghost use Rattle.attr_engine.specs.Steps.{parts, IsNewWriter, IsQuestionOf, LoadsInto, AreRoundsOf};
 ghost use Rattle.attr_rounds.specs.Lines.{CanAsk};
@@ -168,6 +169,7 @@ pub fn run_engine<const OFFSET_BITS: u32, R: Threads + Sync, G: Gate + Sync + 's
     requires few { length ops.now < 2 ^ 32 }
     requires fit { AllByRecursion (OpFits request.now.fields) ops.now }
     ensures came { IfOk result (IsCame (run_in request.now) ops.now) }
+    ensures history { IfOk result (HasHistory (run_in request.now) ops.now) }
     ensures readers { IfErr result (IsGivenUp request.now.readers) }
 {
     if request.readers > MOST_READERS {
