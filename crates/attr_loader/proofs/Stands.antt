@@ -194,9 +194,9 @@ module _ {S H : Type 0} (ledger : S → Ledger H) (batch : ℕ) (ops : List Op) 
     full_at c before active held full = elim full.at [
       | inl at ↦ inl (at ∙ after_part (before - 1) (omega (arith, full.most)) ∙ ap (λ n. after start.fields ops n) (let first = full.some in omega (arith, first)))
       | inr at ↦ inr (
-          (let p = part-long in let long = at.0 in omega (arith, p, long, below)),
-          at.1 ∙ after_all ∙ ap (λ n. after start.fields ops (count + n)) (sym at.0),
-        )
+        (let p = part-long in let long = at.0 in omega (arith, p, long, below)),
+        at.1 ∙ after_all ∙ ap (λ n. after start.fields ops (count + n)) (sym at.0),
+      )
     ]
 
     pub finds_no_room : (c : AttributeView S) (before active held : ℕ) → 0 < batch → FindsNoRoom ledger b c part before active held

@@ -51,11 +51,11 @@ some_of error (Some b) a is = ap (λ x. Some x) (same_ok b a is)
 some_of error None a is = absurd cc
 
 is_some_of : {A : Type 0} (o : Option A) (a : A) → o ≡ Some a → IsSome o
-is_some_of o a is = subst IsSome (sym is) tt
+is_some_of o a is = subst IsSome (sym is) refl
 
 some_is : {A : Type 0} (o : Option A) → IsSome o → (a : A) × (o ≡ Some a)
 some_is (Some a) some = (a, refl)
-some_is None some = absurd some
+some_is None some = absurd cc
 
 too_many : (b : Bool) → (◌≡◌ {A = Option (Unit {0})} (if b then None else Some tt) None) → b ≡ true
 too_many true is = refl
@@ -95,17 +95,25 @@ unfolding settings_by
 settings_err said e is =
     (elim (next_err (or_refused words.Kind (kind_named said.kind)) _ e is) as (λ _. IsAtKind said e) [
       | inl none ↦ inl (none_of words.Kind e (kind_named said.kind) none)
-      | inr kind ↦ inr (kind.0, some_of words.Kind (kind_named said.kind) kind.0 kind.1,
-          (elim (next_err (or_refused words.Value (value_named said.value)) _ e kind.2) as (λ _. IsAtValue said e kind.0) [
-            | inl none ↦ inl (none_of words.Value e (value_named said.value) none)
-            | inr value ↦ inr (value.0, some_of words.Value (value_named said.value) value.0 value.1,
-                (elim (next_err (or_refused (words.Size said.buffers said.words) (if_room said.wide said.buffers said.words)) _ e value.2) as (λ _. IsAtAlso said e kind.0 value.0) [
-                  | inl none ↦ inl (let at = none_of (words.Size said.buffers said.words) e (if_room said.wide said.buffers said.words) none in
-                      (too_many (are_too_many said.wide said.buffers said.words) at.0, at.1))
-                  | inr room ↦ inr (fits (are_too_many said.wide said.buffers said.words) room.0 (some_of _ (if_room said.wide said.buffers said.words) room.0 room.1),
-                      at_fields said e (named_fields (first_of_said said kind.0 value.0) said.also) _ room.2)
-                ]))
-          ]))
+      | inr kind ↦ inr (
+        kind.0,
+        some_of words.Kind (kind_named said.kind) kind.0 kind.1,
+        (elim (next_err (or_refused words.Value (value_named said.value)) _ e kind.2) as (λ _. IsAtValue said e kind.0) [
+          | inl none ↦ inl (none_of words.Value e (value_named said.value) none)
+          | inr value ↦ inr (
+            value.0,
+            some_of words.Value (value_named said.value) value.0 value.1,
+            (elim (next_err (or_refused (words.Size said.buffers said.words) (if_room said.wide said.buffers said.words)) _ e value.2) as (λ _. IsAtAlso said e kind.0 value.0) [
+              | inl none ↦ inl (let at = none_of (words.Size said.buffers said.words) e (if_room said.wide said.buffers said.words) none in
+                  (too_many (are_too_many said.wide said.buffers said.words) at.0, at.1))
+              | inr room ↦ inr (
+                fits (are_too_many said.wide said.buffers said.words) room.0 (some_of _ (if_room said.wide said.buffers said.words) room.0 room.1),
+                at_fields said e (named_fields (first_of_said said kind.0 value.0) said.also) _ room.2,
+              )
+            ]),
+          )
+        ]),
+      )
     ])
 
 also_said : (first : Field) (also : Option Text) (e : WordsError) → named_fields first also ≡ Err e → IsAlso e
@@ -138,11 +146,11 @@ value_at line (taken, inr (kind, named, inl at)) = record { taken = taken; kind 
 value_at line (taken, inr (kind, named, inr (value, typed, inl at))) = let same = at.1 in absurd cc
 value_at line (taken, inr (kind, named, inr (value, typed, inr at))) = absurd (also_said _ _ _ at.1)
 
-buffers_in : WordsError → ℕ
+abbrev buffers_in : WordsError → ℕ
 buffers_in (words.Size buffers each) = buffers
 buffers_in _ = 0
 
-words_in : WordsError → ℕ
+abbrev words_in : WordsError → ℕ
 words_in (words.Size buffers each) = each
 words_in _ = 0
 

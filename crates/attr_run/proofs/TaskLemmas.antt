@@ -108,8 +108,8 @@ refused-long fields left many =
 
 -- a feed whose bytes are told, and which is refused
 pub feed-stopped : (fields : List Field) (bytes : List ℕ) (new : Option (List ℕ)) (before now : ℕ) (e : FeedError)
-    → FeedSays {A = List Op} (Err e) (feed_of fields bytes)
-    → OnLines {A = List Op} (Err e) (ReadsAll (Some bytes) new)
+    → FeedSays (Err e) (feed_of fields bytes)
+    → OnLines (Err e) (ReadsAll (Some bytes) new)
     → (e ≡ errors.FeedTooLong → HasMoreThan most_bytes (Some bytes))
     → (e ≡ errors.ReadFault → Rose before now)
     → IsFeedStop fields (Some bytes) before now (feed_stop e)
