@@ -64,7 +64,13 @@ module _ {S H : Type 0} (ledger : S → Ledger H) where
   pub keeps_table : (old new : AttributeView S) → KeepsStoreBut (ledger old.store) (ledger new.store) → new.fields ≡ old.fields → new.table ≡ old.table → new.operations ≡ old.operations
       → new.committed ≡ old.committed → new.committed_operations ≡ old.committed_operations → KeepsTable ledger old new
   keeps_table old new keeps fields table operations committed count = record {
-    keeps = record { stays = record { home = keeps.home; sizes = keeps.sizes; readers = keeps.readers; fields = fields }; told = keeps.told; last = keeps.commits.last; committed = committed; committed_operations = count };
+    keeps = record {
+      stays = record { home = keeps.home; sizes = keeps.sizes; readers = keeps.readers; fields = fields };
+      told = keeps.told;
+      last = keeps.commits.last;
+      committed = committed;
+      committed_operations = count;
+    };
     table = table;
     operations = operations;
   }

@@ -116,8 +116,10 @@ module _ {S H : Type 0} (ledger : S → Ledger H) (batch : ℕ) (ops : List Op) 
     -- the table after a front of the part
     front_of : (n : ℕ) → n ≤ length part → take (count + n) ops ≡ take count ops ++ take n part
     front_of n few =
+        let a = ap length part_is ∙ length-take (min (length rest) batch) rest in
+        let within : n ≤ min (length rest) batch = omega (arith, a, few) in
         take-add count n ops
-        ∙ ap (λ xs. take count ops ++ xs) (ap (λ xs. take n xs) (sym rest_is) ∙ sym (ap (λ xs. take n xs) part_is ∙ take-take n (min (length rest) batch) rest (let a = ap length part_is ∙ length-take (min (length rest) batch) rest in omega (arith, a, few))))
+        ∙ ap (λ xs. take count ops ++ xs) (ap (λ xs. take n xs) (sym rest_is) ∙ sym (ap (λ xs. take n xs) part_is ∙ take-take n (min (length rest) batch) rest within))
 
     after_part : (n : ℕ) → n ≤ length part → after_ops b.fields b.table (take n part) ≡ after start.fields ops (count + n)
     after_part n few =

@@ -1,4 +1,4 @@
-use Rattle.std.proofs.Common.{◌≡◌, ◌⊎◌, inl, inr, refl, subst, ℕ, List, Some, Ok}
+use Rattle.std.proofs.Common.{◌≡◌, rules, subst, ℕ, List, Some, Ok}
 use Rattle.std.proofs.lemmas.Result.{IfOk-weaker}
 use Rattle.attr_run.specs.Run.{ops_in}
 use Rattle.attr_run.specs.Steps.{IsFeedStop}
@@ -18,4 +18,4 @@ returns-in-Ok-clause-unfed g c = err_then c.lines_in.result _ _ (λ stop is.
     c.lines_in.ensures.unfed
 
 pub returns-in-Err-TooLong-clause-unfed : goal.returns-in-Err-TooLong-clause-unfed
-returns-in-Err-TooLong-clause-unfed g c = refused-long c.args.fields.now (g.S.Source.left c.args.source.now) (c.in-Err-TooLong.ensures.too_long refl)
+returns-in-Err-TooLong-clause-unfed g c = refused-long c.args.fields.now (g.S.Source.left c.args.source.now) (c.in-Err-TooLong.ensures.too_long (search rules))
