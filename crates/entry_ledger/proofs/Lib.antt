@@ -18,7 +18,7 @@ pub mod Changing
 pub mod Dropping
 pub mod Fits
 pub mod Drops
-pub mod Settled
+pub mod SettledLemmas
 pub mod Settles
 pub mod Stepping
 pub mod Pops

@@ -21,7 +21,7 @@ use Rattle.entry_ledger.proofs.Counted.{count-keep, count-more, count-less}
 use Rattle.entry_ledger.proofs.Taking.{state-at}
 use Rattle.entry_ledger.proofs.Changing.{changed_view, change-state, change-mark, change-count, change-kept, ends-counts, undoes-counts}
 use Rattle.entry_ledger.proofs.Fits.{place-active, place-width, place-unheld, words-fit}
-use Rattle.entry_ledger.proofs.Settled.{settled-mark, settled-flag, settling, settle-up-to, settle-enters, enters-is, settle-dropped, touched-undropped, counted-settle, list-more}
+use Rattle.entry_ledger.proofs.SettledLemmas.{settled-mark, settled-flag, settling, settle-up-to, settle-enters, enters-is, settle-dropped, touched-undropped, counted-settle, list-more}
 
 -- what is dead after it is settled was not before
 dead-after : (accepts : Bool) (was : State) → is_dead_after accepts was ≡ true → is_dead was ≡ false

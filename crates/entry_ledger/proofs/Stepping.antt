@@ -20,7 +20,7 @@ use Rattle.entry_ledger.proofs.States.{at-suc}
 use Rattle.entry_ledger.proofs.Unmade.{no-places}
 use Rattle.entry_ledger.proofs.Takes.{entries_in}
 use Rattle.entry_ledger.proofs.Fits.{place-width, place-offset, place-small}
-use Rattle.entry_ledger.proofs.Settled.{settle-falls}
+use Rattle.entry_ledger.proofs.SettledLemmas.{settle-falls}
 use Rattle.entry_ledger.proofs.Settles.{after, settle-given, settle-unheld, settle-kept, settle-steps, settle-less}
 
 -- of states of which the unit changed none, no entry is changed

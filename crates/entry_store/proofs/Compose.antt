@@ -1,30 +1,30 @@
 -- The calls of a store by their steps.
 use Rattle.std.proofs.Common.{◌≡◌, ◌≢◌, ℕ, zero, suc, nat_eq, ◌+◌, ◌*◌, ◌<◌, ◌≤◌, Bool, true, false, cond, eqb, ltb, leb, Result, Ok, Err, List, [], ◌∷◌, length, Some, refl, sym, ap, subst, ◌∙◌, arith, inl, inr}
 use Rattle.std.specs.List.{IsDistinct, All}
-use Rattle.std.specs.Prelude.{◌&&◌, IfOk, IfErr, OnErr}
+use Rattle.std.specs.Prelude.{◌⊎◌, ◌&&◌, IfOk, IfErr, OnErr}
 use Rattle.std.proofs.lemmas.Nat.{le-div}
 use Rattle.std.proofs.lemmas.List.Elements.{All-from_recursion}
 use Rattle.list_facts.specs.Counting.{one_if}
-use Rattle.std.proofs.lemmas.Bool.{true≢false, cases_eq, eq-eqb, eqb-true, ne_eqb, and_parts, leb-true}
+use Rattle.std.proofs.lemmas.Bool.{true≢false, cases_eq, eq-eqb, eqb-true, ne_eqb, and_parts, leb-true, ltb-true}
 use Rattle.list_facts.proofs.Tests.{true_from_list_all}
 use Rattle.entry_ref.specs.References.{buffer_of}
 use Rattle.entry_ref.specs.Places.{IsEntry}
 use Rattle.entry_ref.specs.Records.{Records}
-use Rattle.arena_api.specs.Works.{WorkView, Buffer, active_width, last_tag, oldest_of, newest_of}
+use Rattle.arena_api.specs.Works.{WorkView, Buffer, Tag, active_width, last_tag, oldest_of, newest_of}
 use Rattle.arena_api.specs.Calls.{IsLowestFree, handed_out}
-use Rattle.arena_api.specs.Generations.{current}
+use Rattle.arena_api.specs.Generations.{IsQueue, current}
 use Rattle.arena_api.specs.declared.answers.Oldest.{Oldest}
-use Rattle.store_api.specs.Statuses.{Status, in_use, is_open, free_below, with_status}
+use Rattle.store_api.specs.Statuses.{Status, in_use, is_open, is_taken, is_free_status, after_drop, free_below, with_status}
 use Rattle.store_api.specs.Ledgers.{Ledger, OfWidth, IsSpare, held_count, is_held, is_width, widths, capacity, with_counts, one_more}
 use Rattle.store_api.specs.Units.{MayDo, IsSameBack, KeepsCommits}
-use Rattle.store_api.specs.Calls.{GivesBack, MayGiveBack, Makes, IsFull, Refuses, DropsEntry, took_spare, took_buffer}
+use Rattle.store_api.specs.Calls.{GivesBack, MayGiveBack, Makes, IsFull, Refuses, ComesAfter, DropsEntry, took_spare, took_buffer}
 use Rattle.store_api.specs.declared.store.StoreError.{StoreError}
 use Rattle.store_api.specs.declared.store.StoreError.TheVariants.{Full, Memory}
 use Rattle.store_api.proofs.May.{may_do-same, keeps_commits-same}
 use Rattle.store_api.proofs.Uses.{below_uses, drop_ends, with_status-same, with_status-other}
 use Rattle.entry_store.specs.Steps.{TakesOne, OpensBuffer, MakesOpened, TellsOldest, FullAs}
 use Rattle.entry_store.specs.ProofsForMarks.{count-all}
-use Rattle.entry_store.proofs.Queues.{newest-drop}
+use Rattle.entry_store.proofs.Queues.{newest-drop, oldest-rises}
 
 one-distinct : (r : ℕ) → IsDistinct nat_eq (r ∷ [])
 unfolding IsDistinct
@@ -45,8 +45,54 @@ below-back g (Status.held tag) = by_test (ltb tag.generation g)
     by_test false = inl refl
 below-back g Status.left = inl refl
 
-pub back-may : {H : Type 0} (old new : Ledger H) → GivesBack old new → MayDo old new
-back-may old new back = record {
+-- what is held becomes free only below the oldest generation, and what is taken stays so
+below-freed : (g : ℕ) (tag : Tag) → free_below g (Status.held tag) ≡ Status.free → tag.generation < g
+below-freed g tag = by_test (ltb tag.generation g) refl
+  where
+    by_test : (t : Bool) → ltb tag.generation g ≡ t → cond t Status.free (Status.held tag) ≡ Status.free → tag.generation < g
+    by_test true is e = ltb-true _ _ is
+    by_test false is e = absurd (true≢false (sym (ap is_free_status e)))
+
+below-taken : (g : ℕ) (c : Status) → is_taken c ≡ true → is_taken (free_below g c) ≡ true
+below-taken g Status.unmade is = is
+below-taken g Status.free is = is
+below-taken g Status.pending is = is
+below-taken g Status.live is = is
+below-taken g Status.dropped is = is
+below-taken g Status.let_go is = is
+below-taken g (Status.held tag) is = by_test (ltb tag.generation g)
+  where
+    by_test : (t : Bool) → is_taken (cond t Status.free (Status.held tag)) ≡ true
+    by_test true = refl
+    by_test false = refl
+below-taken g Status.left is = is
+
+drop-taken : (c b : Status) → is_taken c ≡ true → is_taken (after_drop c b) ≡ true
+drop-taken Status.unmade b is = is
+drop-taken Status.free b is = is
+drop-taken Status.pending b is = by_back b
+  where
+    by_back : (b : Status) → is_taken (after_drop Status.pending b) ≡ true
+    by_back Status.unmade = refl
+    by_back Status.free = refl
+    by_back Status.pending = refl
+    by_back Status.live = refl
+    by_back Status.dropped = refl
+    by_back Status.let_go = refl
+    by_back (Status.held tag) = refl
+    by_back Status.left = refl
+drop-taken Status.live b is = refl
+drop-taken Status.dropped b is = is
+drop-taken Status.let_go b is = is
+drop-taken (Status.held tag) b is = is
+drop-taken Status.left b is = is
+
+-- one status is not another, by a test that tells them apart
+apart-by : (test : Status → Bool) (a b : Status) → a ≡ b → test a ≡ true → test b ≡ false → ⊥
+apart-by test a b same first second = true≢false (sym first ∙ ap test same ∙ second)
+
+pub back-may : {H : Type 0} (old new : Ledger H) → IsQueue old.work → GivesBack old new → MayDo old new
+back-may old new queue back = record {
   unit = ap (λ l. l.unit) back.same;
   home = ap (λ w. w.home) back.work;
   shape = ap (λ l. l.shape) back.same;
@@ -62,6 +108,12 @@ back-may old new back = record {
   finished = ap (λ l. l.finished) back.same;
   made = λ w. let same = (back.counts w).made in omega arith;
   back = λ r. subst (IsSameBack (old.back r)) (sym (back.back r)) (below-back (oldest_of new.work.queue).generation (old.back r));
+  oldest = subst (λ q. (oldest_of old.work.queue).generation ≤ (oldest_of q).generation) (sym back.queue)
+      (oldest-rises back.closed old.work.queue queue.order back.left);
+  held = λ r tag is free.
+      below-freed (oldest_of new.work.queue).generation tag (ap (free_below (oldest_of new.work.queue).generation) (sym is) ∙ sym (back.back r) ∙ free);
+  taken = λ r is free. absurd (apart-by is_free_status _ _ (sym free ∙ back.back r ∙ ap (free_below (oldest_of new.work.queue).generation) is) refl refl);
+  stays = λ r is. ap is_taken (back.status r) ∙ below-taken (oldest_of new.work.queue).generation (old.status r) is;
   back_records = ap (λ l. l.back_records) back.same;
   newly = λ r used. inl (sym (below_uses (oldest_of new.work.queue).generation (old.status r)) ∙ sym (ap in_use (back.status r)) ∙ used);
   unsealed = λ r used sealed. sym (below_uses (oldest_of new.work.queue).generation (old.status r)) ∙ sym (ap in_use (back.status r)) ∙ used;
@@ -89,6 +141,19 @@ one-may bits old new m n width words r one few sized = record {
   finished = ap (λ l. l.finished) one.same;
   made = λ w. subst (λ f. (old.of_width w).made ≤ (f w).made) (sym one.takes.counts) (by_width w);
   back = one.back;
+  oldest = let same = ap (λ w. (oldest_of w.queue).generation) one.takes.work in omega arith;
+  held = λ q tag is free. elim (cases_eq q r) [
+    | inl e ↦ absurd (apart-by is_open _ _ (sym (ap old.back e) ∙ is) one.back_was refl)
+    | inr ne ↦ absurd (apart-by is_free_status _ _ (sym free ∙ one.back_other q ne ∙ is) refl refl)
+  ];
+  taken = λ q is free. elim (cases_eq q r) [
+    | inl e ↦ ap is_taken (ap (λ (f : ℕ → Status). f q) one.status ∙ with_status-same old.status r q Status.pending e)
+    | inr ne ↦ absurd (apart-by is_free_status _ _ (sym free ∙ one.back_other q ne ∙ is) refl refl)
+  ];
+  stays = λ q is. elim (cases_eq q r) [
+    | inl e ↦ ap is_taken (ap (λ (f : ℕ → Status). f q) one.status ∙ with_status-same old.status r q Status.pending e)
+    | inr ne ↦ ap is_taken (ap (λ (f : ℕ → Status). f q) one.status ∙ with_status-other old.status r q Status.pending ne) ∙ is
+  ];
   back_records = ap (λ l. l.back_records) one.same;
   newly = λ q used. elim (cases_eq q r) [
     | inl e ↦ inr (ap (λ x. is_open (new.back x)) e ∙ one.opened)
@@ -125,6 +190,10 @@ opens-may old new width opens = record {
   finished = ap (λ l. l.finished) opens.same;
   made = λ w. subst (λ f. (old.of_width w).made ≤ (f w).made) (sym opens.counts) (by_test (eqb w width) w (cases w));
   back = λ r. inl (ap (λ l. l.back r) opens.same);
+  oldest = let same = ap (λ w. (oldest_of w.queue).generation) opens.work in omega arith;
+  held = λ r tag is free. absurd (apart-by is_free_status _ _ (sym free ∙ ap (λ l. l.back r) opens.same ∙ is) refl refl);
+  taken = λ r is free. absurd (apart-by is_free_status _ _ (sym free ∙ ap (λ l. l.back r) opens.same ∙ is) refl refl);
+  stays = λ r is. ap (λ l. is_taken (l.status r)) opens.same ∙ is;
   back_records = ap (λ l. l.back_records) opens.same;
   newly = λ q used. inl (sym (ap (λ l. in_use (l.status q)) opens.same) ∙ used);
   unsealed = λ q used sealed. sym (ap (λ l. in_use (l.status q)) opens.same) ∙ used;
@@ -141,11 +210,12 @@ opens-may old new width opens = record {
     by_test false w is = omega arith
 
 -- an entry made of what is to spare
-pub one-makes : {H : Type 0} (bits : ℕ) (old mid new : Ledger H) (m n : Records) (width : ℕ) (words : List ℕ) (r : ℕ) → MayGiveBack old mid → TakesOne bits mid new m n width words r
-    → Makes bits old new m n width words r
-one-makes bits old mid new m n width words r back one = record {
+pub one-makes : {H : Type 0} (bits : ℕ) (old mid new : Ledger H) (m n : Records) (width : ℕ) (words : List ℕ) (r : ℕ) → MayGiveBack old mid → (mid ≡ old) ⊎ ((old.of_width width).spare ≡ 0)
+    → TakesOne bits mid new m n width words r → Makes bits old new m n width words r
+one-makes bits old mid new m n width words r back needed one = record {
   mid = mid;
   gives_back = back;
+  needed = needed;
   was = one.was;
   free_first = one.free_first;
   place = one.place;
@@ -227,6 +297,7 @@ module _ {H : Type 0} (bits : ℕ) (old mid opened new : Ledger H) (m n : Record
   buffer-makes = record {
     mid = mid;
     gives_back = inr back;
+    needed = inr (let rises = (back.counts width).spare in omega arith);
     was = sym (ap is_open (status-same r)) ∙ one.was;
     free_first = λ is q wide open_still free.
         one.free_first (status-same r ∙ is) q (width-opened (buffer_of bits q) wide) (sealed-same (buffer_of bits q) ∙ open_still) (status-same q ∙ free);
@@ -275,6 +346,7 @@ is-full old mid new width oldest (Full w active held answer) tells same none eno
     hold = ap (λ o. o.hold) full.4 ∙ tells.hold;
     newest = subst (λ o. o.newest ≡ true → (length mid.work.queue ≡ 1) × (o.found ≡ 0)) (sym full.4) tells.newest;
     stopped = subst (λ o. o.newest ≡ false → (1 < length mid.work.queue) × (0 < o.found) × (old.work.stops < mid.work.stops)) (sym full.4) tells.stopped;
+    found = subst (λ o. o.newest ≡ false → o.found ≡ mid.work.found) (sym full.4) tells.found;
   }),
 )
 
@@ -296,6 +368,14 @@ drop-may old new m n r used drops = record {
   finished = ap (λ l. l.finished) drops.same;
   made = λ w. let same = (drops.counts w).made in omega arith;
   back = λ q. inl (ap (λ l. l.back q) drops.same);
+  oldest = let same = ap (λ l. (oldest_of l.work.queue).generation) drops.same in omega arith;
+  held = λ q tag is free. absurd (apart-by is_free_status _ _ (sym free ∙ ap (λ l. l.back q) drops.same ∙ is) refl refl);
+  taken = λ q is free. absurd (apart-by is_free_status _ _ (sym free ∙ ap (λ l. l.back q) drops.same ∙ is) refl refl);
+  stays = λ q is. elim (cases_eq q r) [
+    | inl e ↦ ap is_taken (ap (λ (f : ℕ → Status). f q) drops.status ∙ with_status-same old.status r q _ e)
+        ∙ drop-taken (old.status r) (old.back r) (ap (λ x. is_taken (old.status x)) (sym e) ∙ is)
+    | inr ne ↦ ap is_taken (ap (λ (f : ℕ → Status). f q) drops.status ∙ with_status-other old.status r q _ ne) ∙ is
+  ];
   back_records = ap (λ l. l.back_records) drops.same;
   newly = λ q now. elim (cases_eq q r) [
     | inl e ↦ absurd (true≢false (sym now ∙ ap in_use (ap (λ (f : ℕ → Status). f q) drops.status ∙ with_status-same old.status r q _ e) ∙ drop_ends (old.status r) (old.back r) used))
@@ -337,6 +417,11 @@ module _ {H : Type 0} (bits : ℕ) (old mid new : Ledger H) (m k n : Records) (w
   pub again-refused : (result : Result ℕ StoreError) → OnErr result (new ≡ mid) → OnErr result (MayGiveBack old new)
   again-refused (Ok r) is = tt
   again-refused (Err e) is = inr (subst (GivesBack old) (sym is) back)
+
+  pub again-after : (result : Result ℕ StoreError) → OnErr result (new ≡ mid) → IfErr result (ComesAfter old new width)
+  again-after (Ok r) is = tt
+  again-after (Err (Full w active held oldest)) is = subst (GivesBack old) (sym is) back
+  again-after (Err Memory) is = inr (let rises = (back.counts width).spare in omega arith)
 
   pub again-left : (result : Result ℕ StoreError) → OnErr result (n ≡ k) → OnErr result (n ≡ m)
   again-left (Ok r) is = tt

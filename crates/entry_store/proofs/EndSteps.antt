@@ -15,7 +15,8 @@ use Rattle.store_api.specs.Ledgers.{is_in, is_this}
 use Rattle.store_api.specs.Calls.{with_hold}
 use Rattle.entry_ledger.specs.Entries.{EntriesView, IsGood, is_settled_entry}
 use Rattle.entry_ledger.specs.Calls.{retired_at, with_mark}
-use Rattle.entry_store.specs.Standing.{IsOver, statuses, status_of, is_in_generation, is_mark_of, all_later}
+use Rattle.entry_store.specs.Standing.{IsOver, statuses, status_of, is_in_generation, is_mark_of}
+use Rattle.store_api.specs.Ledgers.{all_later}
 use Rattle.entry_store.specs.Steps.{retired_by, generation_by}
 use Rattle.entry_store.specs.ProofsForMarks.{marks-retired}
 use Rattle.entry_store.proofs.Queues.{newest-with, newest-append, oldest-append, later-append, later-with, later-from}
@@ -141,6 +142,12 @@ later-advanced (To g h) work next is tag all low = by_holds is.holds
     by_holds (inr opens) = subst (λ q. all_later tag q ≡ true) (sym opens.queue) (later-append tag work.queue (next_hold work h) all (later-from tag (next_hold work h) low))
 later-advanced (NoHold h c) work next is tag all low = subst (λ q. all_later tag q ≡ true) (sym is.queue) all
 later-advanced (Spent g) work next is tag all low = subst (λ w. all_later tag w.queue ≡ true) (sym is.same) all
+
+-- an advance is by one generation at most
+pub late-advanced : {H : Type 0} (answer : Advance) (work next : WorkView H) → Advances answer work next → current next ≤ suc (current work)
+late-advanced (To g h) work next is = let now = current-advanced (To g h) work next is in let one = is.next in omega arith
+late-advanced (NoHold h c) work next is = let now = ap (λ q. (newest_of q).generation) is.queue in omega arith
+late-advanced (Spent g) work next is = let now = ap current is.same in omega arith
 
 -- without readers the generation rises where it is not the last
 pub alone-advanced : {H : Type 0} (answer : Advance) (work next : WorkView H) → Advances answer work next → next.stops ≡ work.stops → current next < work.sizes.generations → current next ≡ suc (current work)

@@ -23,7 +23,7 @@ use Rattle.entry_store.proofs.Stands.{stands-reclaimed, over-from, status-freed}
 use Rattle.entry_store.proofs.LedgerSteps.{sealed-freed}
 use Rattle.entry_store.proofs.Along.{reclaim-rises, reclaimed-low}
 use Rattle.entry_store.proofs.PublishSteps.{since-before}
-use Rattle.entry_store.proofs.EndSteps.{status-retired, over-retired, sealed-retired, counts-retired, finished-retired, rises-advanced, stops-advanced, oldest-advanced, alone-advanced, status-advanced, over-advanced}
+use Rattle.entry_store.proofs.EndSteps.{status-retired, over-retired, sealed-retired, counts-retired, finished-retired, rises-advanced, stops-advanced, oldest-advanced, alone-advanced, late-advanced, status-advanced, over-advanced}
 
 -- what a hold leaves of the work
 hold-commits : {H : Type 0} (work : WorkView H) (finished : Option ℕ) → (with_hold work finished).commits ≡ work.commits
@@ -143,8 +143,16 @@ module _ {H : Type 0} (bits : ℕ) (work : WorkView H) (m : Records) (e : Entrie
             (unread-freed (oldest_of v.queue).generation (e1.mark b) (held.buffer b) (over-1.marks b below)
             (λ hold. let to = (good1.marks b).to hold in let now = over-1.generation in let cv = current-v in omega arith)))
 
-        pub stands-3 : Stands bits v m e3 false
-        stands-3 = stands-reclaimed bits next m e2 false over-2 v e3 oldest reclaims goes2 v_is frees order low-2 good3 unread-3
+        timely-3 : current work < work.commits.last → current next ≤ next.commits.last
+        timely-3 early =
+            let late = late-advanced advance held next advances in
+            let before : current held ≡ current work = ap current held_is ∙ ap (λ q. (newest_of q).generation) (hold-queue work e.finished) in
+            let last : held.commits.last ≡ work.commits.last = ap (λ c. c.last) (ap (λ w. w.commits) held_is ∙ hold-commits work e.finished) in
+            let kept = goes.last in
+            omega arith
+
+        pub stands-3 : current work < work.commits.last → Stands bits v m e3 false
+        stands-3 early = stands-reclaimed bits next m e2 false over-2 v e3 oldest reclaims goes2 v_is frees order low-2 good3 (timely-3 early) unread-3
 
         stops-2 : (t : Bool) → oldest.newest ≡ t → next.stops ≤ v.stops
         stops-2 true is = let same = (reclaims.newest is).2 in omega arith

@@ -201,6 +201,8 @@ module _ {H : Type 0} (bits : ℕ) (work : WorkView H) (shape : ℕ) (m : Record
       records = records-made;
       takes = record { some = some; work = refl; counts = refl };
       back = back-made;
+      back_was = open-back (has r) e.last (e.state r) can.is_open;
+      back_other = λ q ne. with_state-at (λ o. back_of (has q) e.last o ≡ backs work.commits e q) e.state r Made q (λ same. absurd (ne same)) (λ other. refl);
       opened = with_state-at (λ o. is_open (back_of (has r) e.last o) ≡ true) e.state r Made r (λ same. refl) (λ ne. absurd (ne refl));
       same = λ k. record after { back_records = back-records-made k };
     }
@@ -415,4 +417,5 @@ module _ {H : Type 0} (bits : ℕ) (work : WorkView H) (shape : ℕ) (m : Record
     hold = reclaims.hold;
     newest = λ is. let all = reclaims.newest is in (all.0, all.1);
     stopped = λ is. let all = reclaims.stopped is in let more = all.2 in (all.0, all.1, omega arith);
+    found = λ is. sym (reclaims.stopped is).3;
   }

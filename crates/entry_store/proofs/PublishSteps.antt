@@ -245,6 +245,7 @@ module _ (bits : ℕ) (reaches : ℕ → Records → ℕ → List ℕ) (lawful :
             since = λ r. since-before after.last after.generation (after.state r) (tagged r);
             settled = λ ended r. subst (λ x. is_settled_entry (x.state r) ≡ true) (sym counts) (st.settled ended r);
             no_fresh = λ ended w. ap (λ x. (x.of_width w).fresh) counts ∙ st.no_fresh ended w;
+            timely = let now = ap current knows in let last = adds.last in let early = st.timely in omega arith;
             unread = λ b inside alone limit.
                 subst (λ w. is_held (w.buffer b) ≡ false) (sym knows) (st.unread b (subst (λ k. b < k) (ap (λ w. w.sizes.buffers) knows) inside) (sym (ap (λ w. w.made) knows) ∙ alone)
                 (subst (λ w. current w < w.sizes.generations) knows limit));

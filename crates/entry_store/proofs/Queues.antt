@@ -5,7 +5,7 @@ use Rattle.std.specs.List.{AllByRecursion}
 use Rattle.std.proofs.lemmas.Bool.{true≢false, false≢true, cases_Bool, ltb-true, leb-true, lt-ltb, le-leb, and_parts, and_from}
 use Rattle.arena_api.specs.Works.{Hold, Tag, oldest_of, newest_of}
 use Rattle.arena_api.specs.Generations.{IsBefore, AreInOrder, with_newest}
-use Rattle.entry_store.specs.Standing.{is_later, all_later}
+use Rattle.store_api.specs.Ledgers.{is_later, all_later}
 
 pub newest-drop : (closed : ℕ) (queue : List Hold) → closed < length queue → newest_of (drop closed queue) ≡ newest_of queue
 newest-drop zero queue left = refl

@@ -110,6 +110,7 @@ module _ {H : Type 0} (bits : ℕ) (work : WorkView H) (shape : ℕ) (m : Record
     since = λ r. subst (λ x. is_in_generation x.last x.generation (x.state r) ≡ true) (sym seals.same) (st.since r);
     settled = λ ended r. ap (λ x. is_settled_entry (x.state r)) seals.same ∙ st.settled ended r;
     no_fresh = λ ended w. let few = (seals.counts w).fresh in let none = st.no_fresh ended w in omega arith;
+    timely = st.timely;
     unread = st.unread;
   }
     where
@@ -135,6 +136,7 @@ module _ {H : Type 0} (bits : ℕ) (work : WorkView H) (shape : ℕ) (m : Record
     since = λ r. ap (λ x. is_in_generation x.last x.generation (x.state r)) is ∙ st.since r;
     settled = λ ended r. ap (λ x. is_settled_entry (x.state r)) is ∙ st.settled ended r;
     no_fresh = λ ended w. ap (λ x. (x.of_width w).fresh) is ∙ st.no_fresh ended w;
+    timely = st.timely;
     unread = st.unread;
   }
 

@@ -10,8 +10,8 @@ use Rattle.arena_api.specs.Works.{is_free as is_free_buffer}
 use Rattle.arena_api.specs.Calls.{IsKept, InNoCommit, IsInOrder, AddsCommit, FitsEntry, handed_out, published}
 use Rattle.arena_api.specs.Generations.{AreInOrder, LetsGo, retired, tag_now}
 use Rattle.store_api.specs.Statuses.{Status, in_use, has_record, is_committed, is_uncommitted, is_open, is_let_go, after_commit, free_below, with_status}
-use Rattle.store_api.specs.Ledgers.{is_in}
-use Rattle.entry_store.specs.Standing.{AreSoundStatuses, IsOut, all_later}
+use Rattle.store_api.specs.Ledgers.{all_later, is_in}
+use Rattle.entry_store.specs.Standing.{AreSoundStatuses, IsOut}
 use Rattle.entry_store.proofs.Queues.{later-drop, later-now, later-oldest}
 
 -- statuses that are the same everywhere

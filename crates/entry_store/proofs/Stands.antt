@@ -54,6 +54,7 @@ module _ {H : Type 0} (bits : ℕ) (work : WorkView H) (m : Records) (e : Entrie
         (subst (λ g. is_in_generation e.last g (new.state q) ≡ true) (sym (ap (λ x. x.generation) same)) (since q));
     settled = settled;
     no_fresh = fresh;
+    timely = st.timely;
     unread = st.unread;
   }
 
@@ -117,6 +118,7 @@ module _ {H : Type 0} (bits : ℕ) (work : WorkView H) (m : Records) (e : Entrie
       since = λ q. with_state-at (λ o. is_in_generation e.last e.generation o ≡ true) e.state r Made q (λ same. refl) (λ ne. st.since q);
       settled = λ ended q. absurd (true≢false (sym begun ∙ ended));
       no_fresh = λ ended w. absurd (true≢false (sym begun ∙ ended));
+      timely = st.timely;
       unread = st.unread;
     }
 
@@ -146,6 +148,7 @@ module _ {H : Type 0} (bits : ℕ) (work : WorkView H) (m : Records) (e : Entrie
           since = st.since;
           settled = st.settled;
           no_fresh = λ ended w. fresh w ∙ st.no_fresh ended w;
+          timely = st.timely;
           unread = λ a below alone low. held-opened a (st.unread a below alone low);
         }
 
@@ -180,9 +183,12 @@ module _ {H : Type 0} (bits : ℕ) (work : WorkView H) (m : Records) (e : Entrie
   newest-same : newest_of next.queue ≡ newest_of work.queue
   newest-same = ap newest_of reclaims.queue ∙ newest-drop reclaims.closed work.queue reclaims.left
 
-  pub stands-reclaimed : answer.generation ≤ e.generation → IsGood bits new
+  pub current-same : current next ≡ current work
+  current-same = ap (λ h. h.generation) newest-same
+
+  pub stands-reclaimed : answer.generation ≤ e.generation → IsGood bits new → current work ≤ work.commits.last
       → ((b : ℕ) → b < next.sizes.buffers → next.made ≡ 0 → current next < next.sizes.generations → is_held (next.buffer b) ≡ false) → Stands bits next m new unit
-  stands-reclaimed below good unread = record {
+  stands-reclaimed below good timely unread = record {
     good = good;
     count = ap (λ x. x.count) frees.same ∙ st.count ∙ sym (ap (λ w. w.sizes.buffers) knows);
     words = ap (λ x. x.words) frees.same ∙ st.words ∙ sym (ap (λ w. w.sizes.words) knows);
@@ -204,6 +210,7 @@ module _ {H : Type 0} (bits : ℕ) (work : WorkView H) (m : Records) (e : Entrie
         (freed-since e.last e.generation answer.generation (e.state q) (st.since q))));
     settled = λ ended q. subst (λ o. is_settled_entry o ≡ true) (sym (frees.state q)) (freed-settled answer.generation (e.state q) (st.settled ended q));
     no_fresh = λ ended w. (frees.counts w).fresh ∙ st.no_fresh ended w;
+    timely = let now = current-same in let last = goes.last in omega arith;
     unread = unread;
   }
 
@@ -253,6 +260,7 @@ stands-new bits work m e fresh new good =
       since = λ r. refl;
       settled = λ _ r. refl;
       no_fresh = λ _ w. refl;
+      timely = let now = ap (λ q. (newest_of q).generation) fresh.queue in omega arith;
       unread = λ b below alone limit. free-held (work.buffer b) (fresh.buffers b);
     })
   where

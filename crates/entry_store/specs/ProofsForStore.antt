@@ -210,6 +210,7 @@ module _ {H : Type 0} (bits : ℕ) (work : WorkView H) (m : Records) (e : Entrie
       let same : from.1 ≡ tag.generation = ap (λ t. t.generation) from.4 in
       record {
         unused = out.unused;
+        later = out.later;
         open_still = let o = st.oldest in omega arith;
         generation = let g = st.generation in omega arith;
         commit = out.commit;

@@ -1,6 +1,6 @@
 -- What a store shows of its work and its entries, and what is always so of them.
-use Rattle.std.specs.Prelude.{◌≡◌, ℕ, ◌+◌, ◌<◌, ◌≤◌, Bool, true, false, ◌&&◌, ◌||◌, not, nat_eq, nat_lt, nat_le, if◌then◌else◌, List, []}
-use Rattle.std.specs.Prelude.{◌∷◌, length, Option, Some, None, option_map}
+use Rattle.std.specs.Prelude.{◌≡◌, ℕ, ◌+◌, ◌<◌, ◌≤◌, Bool, true, false, ◌&&◌, ◌||◌, not, nat_eq, if◌then◌else◌, List, []}
+use Rattle.std.specs.Prelude.{length, Option, Some, None, option_map}
 use Rattle.entry_ref.specs.References.{buffer_of}
 use Rattle.entry_ref.specs.Images.{words_at}
 use Rattle.entry_ref.specs.Records.{Records, with_words}
@@ -8,7 +8,7 @@ use Rattle.arena_api.specs.Works.{WorkView, Commits, Hold, Buffer, Tag, active_w
 use Rattle.arena_api.specs.Calls.{IsKept, InNoCommit, padded}
 use Rattle.arena_api.specs.Generations.{current}
 use Rattle.store_api.specs.Statuses.{Status, has_record, is_committed, is_uncommitted}
-use Rattle.store_api.specs.Ledgers.{Ledger, is_in, is_held}
+use Rattle.store_api.specs.Ledgers.{Ledger, all_later, is_in, is_held}
 use Rattle.buffer_states.specs.Buffers.{is_state_free, is_state_active, is_on_hold}
 use Rattle.entry_ledger.specs.declared.state.State.{State}
 use Rattle.entry_ledger.specs.declared.state.State.TheVariants.{Free, Returned, Made, InUse, LetGo, DroppedNow, Dropped}
@@ -70,14 +70,6 @@ is_mark_of mark (Buffer.free tag) = is_state_free mark.state
 is_mark_of mark (Buffer.active width tag) = is_state_active mark.state && nat_eq mark.width width
 is_mark_of mark (Buffer.held width tag) = is_on_hold mark.state && (nat_eq mark.width width && nat_eq mark.generation tag.generation)
 
--- readers on holds of later generations have the tag's commit or later ones
-abbrev pub is_later : Tag → Hold → Bool
-is_later tag h = not (nat_lt tag.generation h.generation) || nat_le tag.commit h.first
-
-abbrev pub all_later : Tag → List Hold → Bool
-all_later tag [] = true
-all_later tag (h ∷ hs) = is_later tag h && all_later tag hs
-
 -- no commit that is kept, from the tag's on, has the entry, and readers of later generations have such commits alone
 pub record IsOut (commits : Commits) (queue : List Hold) (tag : Tag) (r : ℕ) : Type 0 where
   pub unused : (n : ℕ) → IsKept commits n → tag.commit ≤ n → words_at (commits.image n) r ≡ []
@@ -125,6 +117,8 @@ pub record Stands {H : Type 0} (bits : ℕ) (work : WorkView H) (m : Records) (e
   -- where no unit is under way, none has changed an entry
   pub settled : unit ≡ false → (r : ℕ) → is_settled_entry (e.state r) ≡ true
   pub no_fresh : unit ≡ false → (w : ℕ) → (e.of_width w).fresh ≡ 0
+  -- each generation ended with a commit
+  pub timely : current work ≤ work.commits.last
   pub unread : (b : ℕ) → b < work.sizes.buffers → work.made ≡ 0 → current work < work.sizes.generations → is_held (work.buffer b) ≡ false
 
 -- an entry is taken, and its record is put into the work

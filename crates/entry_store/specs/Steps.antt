@@ -33,6 +33,8 @@ pub record TakesOne {H : Type 0} (bits : ℕ) (old new : Ledger H) (m n : Record
   pub records : n ≡ with_words m r (padded words width)
   pub takes : TakesSpare old new width
   pub back : (q : ℕ) → IsSameBack (old.back q) (new.back q)
+  pub back_was : is_open (old.back r) ≡ true
+  pub back_other : (q : ℕ) → q ≢ r → new.back q ≡ old.back q
   pub opened : is_open (new.back r) ≡ true
   pub same : new ≡ record old { work = new.work; status = new.status; back = new.back; of_width = new.of_width }
 
@@ -60,6 +62,7 @@ pub record TellsOldest {H : Type 0} (old new : WorkView H) (oldest : Oldest) : T
   pub hold : oldest.hold ≡ (oldest_of new.queue).hold
   pub newest : oldest.newest ≡ true → (length new.queue ≡ 1) × (oldest.found ≡ 0)
   pub stopped : oldest.newest ≡ false → (1 < length new.queue) × (0 < oldest.found) × (old.stops < new.stops)
+  pub found : oldest.newest ≡ false → oldest.found ≡ new.found
 
 -- why no buffer was handed out
 abbrev pub FullAs : {H : Type 0} → WorkView H → ℕ → Oldest → StoreError → Type 0

@@ -1,11 +1,12 @@
 ghost use Rattle.std.specs.Prelude.{◌≡◌, ◌<◌, ◌≤◌, ◌+◌, ◌^◌, ℕ, Some, None, true, false, [], length, take, drop};
 ghost use Rattle.std.specs.Prelude.{IfSome, IfNone, IfOk, IfErr, OnOk, OnErr};
 ghost use Rattle.arena_api.specs.Works.{last_image};
-ghost use Rattle.arena_api.specs.Generations.{MayRetire};
+ghost use Rattle.arena_api.specs.Generations.{MayRetire, current};
 ghost use Rattle.arena_api.specs.Calls.{IsFresh, AddsCommit, next_image};
 ghost use Rattle.store_api.specs.Ledgers.{is_width, is_this, IsNew};
 ghost use Rattle.store_api.specs.Units.{MayDo};
-ghost use Rattle.store_api.specs.Calls.{GivesBack, MayGiveBack, Makes, Refuses, DropsEntry, IsWhole, StoresCommit, with_hold};
+ghost use Rattle.store_api.specs.Calls.{GivesBack, MayGiveBack, Makes, Refuses, ComesAfter, DropsEntry, IsWhole, StoresCommit};
+ghost use Rattle.store_api.specs.Calls.{with_hold};
 ghost use Rattle.store_api.specs.Statuses.{in_use};
 ghost use Rattle.entry_ref.specs.Images.{words_at};
 ghost use Rattle.entry_ref.specs.Records.{HasWord, word_at};
@@ -183,6 +184,7 @@ impl<const OFFSET_BITS: u32, W: Work<OFFSET_BITS>> EntryStore<OFFSET_BITS, W> {
         requires unit { self.old.unit ≡ true }
         requires width { is_width width ≡ true }
         requires fits { length words.now ≤ width }
+        requires spare { ((⟦<EntryStore<OFFSET_BITS, W> as Store<OFFSET_BITS>>⟧.ledger self.old).of_width width).spare ≡ 0 }
         ensures makes { IfOk result (Makes OFFSET_BITS (⟦<EntryStore<OFFSET_BITS, W> as Store<OFFSET_BITS>>⟧.ledger self.old)
             (⟦<EntryStore<OFFSET_BITS, W> as Store<OFFSET_BITS>>⟧.ledger self.new)
             (⟦<EntryStore<OFFSET_BITS, W> as Frozen<OFFSET_BITS>>⟧.records self.old)
@@ -191,6 +193,8 @@ impl<const OFFSET_BITS: u32, W: Work<OFFSET_BITS>> EntryStore<OFFSET_BITS, W> {
             (⟦<EntryStore<OFFSET_BITS, W> as Store<OFFSET_BITS>>⟧.ledger self.new) width) }
         ensures refused { OnErr result (MayGiveBack (⟦<EntryStore<OFFSET_BITS, W> as Store<OFFSET_BITS>>⟧.ledger self.old)
             (⟦<EntryStore<OFFSET_BITS, W> as Store<OFFSET_BITS>>⟧.ledger self.new)) }
+        ensures after { IfErr result (ComesAfter (⟦<EntryStore<OFFSET_BITS, W> as Store<OFFSET_BITS>>⟧.ledger self.old)
+            (⟦<EntryStore<OFFSET_BITS, W> as Store<OFFSET_BITS>>⟧.ledger self.new) width) }
         ensures left { OnErr result
             (⟦<EntryStore<OFFSET_BITS, W> as Frozen<OFFSET_BITS>>⟧.records self.new
             ≡ ⟦<EntryStore<OFFSET_BITS, W> as Frozen<OFFSET_BITS>>⟧.records self.old) }
@@ -240,6 +244,7 @@ impl<const OFFSET_BITS: u32, W: Work<OFFSET_BITS>> EntryStore<OFFSET_BITS, W> {
         requires apart { (r : ℕ) → is_this (entries_of OFFSET_BITS self.old.entries).finished (buffer_of OFFSET_BITS r) ≡ true
             → words_at (last_image (W.knows self.old.work).commits) r ≡ [] }
         requires unstored { (r i : ℕ) → (W.knows self.old.work).stored r i ≡ None }
+        requires early { current (W.knows self.old.work) < (W.knows self.old.work).commits.last }
         ensures ends { EndsCommit OFFSET_BITS (⟦<EntryStore<OFFSET_BITS, W> as Store<OFFSET_BITS>>⟧.ledger self.old)
             (⟦<EntryStore<OFFSET_BITS, W> as Store<OFFSET_BITS>>⟧.ledger self.new) result }
         ensures number { result.commit ≡ commit }
@@ -432,6 +437,8 @@ impl<const OFFSET_BITS: u32, W: Work<OFFSET_BITS>> Store<OFFSET_BITS>
     ghost order = { λ s. W.order s.work };
 
     ghost queue = { λ s. W.queue s.work };
+
+    ghost timely = { λ s. s.stands.timely };
 
     ghost recorded = { λ s. store_recorded OFFSET_BITS (W.knows s.work) (W.records s.work) (entries_of OFFSET_BITS s.entries)
         s.unit s.stands };

@@ -66,6 +66,7 @@ refuses-from a b c width (Full w active held oldest) may (is, full) = (
   is,
   record {
     spare = full.spare;
+    made = full.made;
     free = full.free;
     active_is = full.active_is;
     held_is = full.held_is;
@@ -75,6 +76,7 @@ refuses-from a b c width (Full w active held oldest) may (is, full) = (
     hold = full.hold;
     newest = full.newest;
     stopped = λ it. let rest = full.stopped it in (rest.0, rest.1, let less = rest.2 in let more = may.stops in omega arith);
+    found = full.found;
   },
 )
 refuses-from a b c width Memory may refuses = tt

@@ -14,6 +14,7 @@ of_more few more a b c (Full w active held oldest) may rises refuses = record {
   is = refuses.is;
   full = record {
     spare = refuses.full.spare;
+    made = refuses.full.made;
     free = refuses.full.free;
     active_is = refuses.full.active_is;
     held_is = refuses.full.held_is;
@@ -23,6 +24,7 @@ of_more few more a b c (Full w active held oldest) may rises refuses = record {
     hold = refuses.full.hold;
     newest = refuses.full.newest;
     stopped = λ old. let s = refuses.full.stopped old in let rises = may.stops in (s.0, s.1, omega arith);
+    found = refuses.full.found;
   };
 }
 of_more few more a b c Memory may rises refuses = tt

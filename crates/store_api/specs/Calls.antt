@@ -74,6 +74,8 @@ pub record TakesBuffer {H : Type 0} (bits : ℕ) (old new : Ledger H) (width r :
 pub record Makes {H : Type 0} (bits : ℕ) (old new : Ledger H) (m n : Records) (width : ℕ) (words : List ℕ) (r : ℕ) : Type 0 where
   pub mid : Ledger H
   pub gives_back : MayGiveBack old mid
+  -- a reclaim comes only where the width has nothing to spare
+  pub needed : (mid ≡ old) ⊎ ((old.of_width width).spare ≡ 0)
   pub was : is_open (mid.status r) ≡ true
   -- an unmade one only where none of the width is free outside sealed buffers
   pub free_first : mid.status r ≡ Status.unmade → (q : ℕ) → active_width (mid.work.buffer (buffer_of bits q)) ≡ width
@@ -101,11 +103,17 @@ pub record IsFull {H : Type 0} (old new : Ledger H) (width active held : ℕ) (o
   pub hold : oldest.hold ≡ (oldest_of new.work.queue).hold
   pub newest : oldest.newest ≡ true → (length new.work.queue ≡ 1) × (oldest.found ≡ 0)
   pub stopped : oldest.newest ≡ false → (1 < length new.work.queue) × (0 < oldest.found) × (old.work.stops < new.work.stops)
+  pub found : oldest.newest ≡ false → oldest.found ≡ new.work.found
 
 -- what a refusal means
 abbrev pub Refuses : {H : Type 0} → Ledger H → Ledger H → ℕ → StoreError → Type 0
 Refuses old new width (Full w active held oldest) = (w ≡ width) × IsFull old new width active held oldest
 Refuses old new width Memory = Unit {0}
+
+-- a refusal for want of room comes after a reclaim, and any reclaim only where the width has nothing to spare
+abbrev pub ComesAfter : {H : Type 0} → Ledger H → Ledger H → ℕ → StoreError → Type 0
+ComesAfter old new width (Full w active held oldest) = GivesBack old new
+ComesAfter old new width Memory = (new ≡ old) ⊎ ((old.of_width width).spare ≡ 0)
 
 -- the store was full for a width that is one of these
 pub record IsFullOf {H : Type 0} (among : ℕ → Type 0) (old new : Ledger H) (width active held : ℕ) (oldest : Oldest) : Type 0 where

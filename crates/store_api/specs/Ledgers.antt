@@ -1,5 +1,5 @@
 -- The ledger of a store: what each entry is, and counts by width.
-use Rattle.std.specs.Prelude.{◌≡◌, ℕ, zero, suc, ◌+◌, ◌-◌, ◌/◌, ◌^◌, ◌<◌, ◌≤◌, Bool, true, false, nat_eq, nat_lt, if◌then◌else◌, min, List}
+use Rattle.std.specs.Prelude.{◌≡◌, ℕ, zero, suc, ◌+◌, ◌-◌, ◌/◌, ◌^◌, ◌<◌, ◌≤◌, Bool, true, false, ◌&&◌, ◌||◌, not, nat_eq, nat_lt, nat_le, if◌then◌else◌, min, List}
 use Rattle.std.specs.Prelude.{[], ◌∷◌, length, Option, None, Some}
 use Rattle.std.specs.List.{list_any}
 use Rattle.entry_ref.specs.References.{buffer_of}
@@ -7,7 +7,7 @@ use Rattle.entry_ref.specs.declared.images.Image.{Image}
 use Rattle.entry_ref.specs.Images.{words_at}
 use Rattle.entry_ref.specs.Places.{IsEntry}
 use Rattle.entry_ref.specs.Records.{Records}
-use Rattle.arena_api.specs.Works.{WorkView, Buffer, Tag, active_width, oldest_of}
+use Rattle.arena_api.specs.Works.{WorkView, Buffer, Hold, Tag, active_width, oldest_of}
 use Rattle.arena_api.specs.Generations.{current}
 use Rattle.arena_api.specs.Calls.{IsKept}
 use Rattle.store_api.specs.Statuses.{Status, is_open}
@@ -109,10 +109,19 @@ pub record IsSpare {H : Type 0} (bits : ℕ) (ledger : Ledger H) (width r : ℕ)
   pub opened : is_open (ledger.status r) ≡ true
   pub unsealed : ledger.sealed (buffer_of bits r) ≡ false
 
+-- readers on a hold of a later generation than the tag's have the tag's commit or later ones
+abbrev pub is_later : Tag → Hold → Bool
+is_later tag h = not (nat_lt tag.generation h.generation) || nat_le tag.commit h.first
+
+abbrev pub all_later : Tag → List Hold → Bool
+all_later tag [] = true
+all_later tag (h ∷ hs) = is_later tag h && all_later tag hs
+
 -- an entry is held under a tag: no commit that is kept, from the tag's on, has it; a reader that can have it stands on a hold of the
--- tag's generation or an older one; and such a hold is open
+-- tag's generation or an older one, since readers on later holds have later commits; and such a hold is open
 pub record IsHeldEntry {H : Type 0} (ledger : Ledger H) (r : ℕ) (tag : Tag) : Type 0 where
   pub unused : (n : ℕ) → IsKept ledger.work.commits n → tag.commit ≤ n → words_at (ledger.work.commits.image n) r ≡ []
+  pub later : all_later tag ledger.work.queue ≡ true
   pub open_still : (oldest_of ledger.work.queue).generation ≤ tag.generation
   pub generation : tag.generation ≤ current ledger.work
   pub commit : tag.commit ≤ ledger.work.commits.last

@@ -1,8 +1,8 @@
 -- What the calls of a unit leave, and how many entries they make.
-use Rattle.std.specs.Prelude.{◌≡◌, ◌⊎◌, ℕ, ◌+◌, ◌*◌, ◌≤◌, true, min}
+use Rattle.std.specs.Prelude.{◌≡◌, ◌⊎◌, ℕ, ◌+◌, ◌*◌, ◌<◌, ◌≤◌, true, min}
 use Rattle.entry_ref.specs.References.{buffer_of}
-use Rattle.arena_api.specs.Works.{Commits, last_image, newest_of}
-use Rattle.store_api.specs.Statuses.{Status, in_use, is_open, can_become_free}
+use Rattle.arena_api.specs.Works.{Commits, Tag, last_image, newest_of, oldest_of}
+use Rattle.store_api.specs.Statuses.{Status, in_use, is_open, is_taken, can_become_free}
 use Rattle.store_api.specs.Ledgers.{Ledger, OfWidth}
 
 -- only old commits are let go
@@ -33,6 +33,13 @@ pub record MayDo {H : Type 0} (old new : Ledger H) : Type 0 where
   pub finished : new.finished ≡ old.finished
   pub made : (width : ℕ) → (old.of_width width).made ≤ (new.of_width width).made
   pub back : (r : ℕ) → IsSameBack (old.back r) (new.back r)
+  -- an undo leaves what was held free only where its tag is below the oldest open hold, which may have risen
+  pub oldest : (oldest_of old.work.queue).generation ≤ (oldest_of new.work.queue).generation
+  pub held : (r : ℕ) (tag : Tag) → old.back r ≡ Status.held tag → new.back r ≡ Status.free
+      → tag.generation < (oldest_of new.work.queue).generation
+  -- and an unmade offset only where it was taken; what is taken stays so
+  pub taken : (r : ℕ) → old.back r ≡ Status.unmade → new.back r ≡ Status.free → is_taken (new.status r) ≡ true
+  pub stays : (r : ℕ) → is_taken (old.status r) ≡ true → is_taken (new.status r) ≡ true
   pub back_records : new.back_records ≡ old.back_records
   -- an entry newly in use was made by the unit
   pub newly : (r : ℕ) → in_use (new.status r) ≡ true → (in_use (old.status r) ≡ true) ⊎ (is_open (new.back r) ≡ true)

@@ -12,7 +12,7 @@ ghost use Rattle.store_api.specs.Statuses.{in_use, has_record, is_committed, is_
 ghost use Rattle.store_api.specs.Ledgers.{Ledger, IsEntryOf, IsSpare, IsHeldEntry, IsUnfilled, IsSettled, buffers_in, capacity, is_held};
 ghost use Rattle.store_api.specs.Ledgers.{is_width, widths};
 ghost use Rattle.store_api.specs.Units.{MayDo};
-ghost use Rattle.store_api.specs.Calls.{GivesBack, MayGiveBack, Makes, Refuses, DropsEntry, Accepts, Undoes, IsWhole, StoresCommit, Seals};
+ghost use Rattle.store_api.specs.Calls.{GivesBack, MayGiveBack, Makes, Refuses, ComesAfter, DropsEntry, Accepts, Undoes, IsWhole, StoresCommit, Seals};
 ghost use Rattle.store_api.specs.Victims.{IsVictim, HasNoVictim};
 
 use arena_api::{Advance, Frozen, Oldest};
@@ -67,6 +67,7 @@ pub trait Store<const OFFSET_BITS: u32>: Frozen<OFFSET_BITS> {
             (Self.records self.old) (Self.records self.new) width words.now) }
         ensures refuses { IfErr result (Refuses (ledger self.old) (ledger self.new) width) }
         ensures refused { OnErr result (MayGiveBack (ledger self.old) (ledger self.new)) }
+        ensures after { IfErr result (ComesAfter (ledger self.old) (ledger self.new) width) }
         ensures left { OnErr result (Self.records self.new ≡ Self.records self.old) }
         ensures may { MayDo (ledger self.old) (ledger self.new) };
 
@@ -134,6 +135,9 @@ pub trait Store<const OFFSET_BITS: u32>: Frozen<OFFSET_BITS> {
     ghost order: { (s : Self) → IsInOrder (ledger s).work };
 
     ghost queue: { (s : Self) → IsQueue (ledger s).work };
+
+    // a generation ends with a commit at most
+    ghost timely: { (s : Self) → current (ledger s).work ≤ (ledger s).work.commits.last };
 
     // exactly the statuses with records have one
     ghost recorded: { (s : Self) (r : ℕ) → (has_record ((ledger s).status r) ≡ true) ↔ (0 < length (Self.records s r)) };

@@ -20,7 +20,7 @@ fn read_front<const OFFSET_BITS: u32, F: Frozen<OFFSET_BITS>>(
 {
     for i in words.count(entry.raw())..to {
         let word = frozen.word(entry, i);
-        words.note(entry.raw(), i as usize, word);
+        words.note(entry.raw(), i, word);
     }
 }
 
@@ -69,7 +69,7 @@ impl<const OFFSET_BITS: u32, F: Frozen<OFFSET_BITS>> Frozen<OFFSET_BITS> for Hea
     {
         read_front(&mut self.frozen, &mut self.words, entry, i);
         let word = self.frozen.word(entry, i);
-        self.words.note(entry.raw(), i as usize, word);
+        self.words.note(entry.raw(), i, word);
         word
     }
 

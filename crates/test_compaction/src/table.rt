@@ -8,6 +8,7 @@ use check_images::{CheckFault, Keys, check_image, check_tree, stored_long, store
 use entry_ref::{word_in, words_at};
 use std::alloc::{AllocError, Global};
 use std::collections::BTreeMap;
+use test_kit::is_same_table;
 
 fn is_value(
     alloc: Global,
@@ -148,44 +149,6 @@ pub fn reads_as(
     Ok(true)
 }
 
-fn are_same_items(told: &Items, wanted: &Items) -> bool {
-    if told.len() != wanted.len() {
-        return false;
-    }
-    for (item, other) in told.as_slice().iter().zip(wanted.as_slice()) {
-        if item.value != other.value || item.weight != other.weight {
-            return false;
-        }
-    }
-    true
-}
-
-fn are_same_fields(told: &FieldItems, wanted: &FieldItems) -> bool {
-    if told.len() != wanted.len() {
-        return false;
-    }
-    for (items, other) in told.as_slice().iter().zip(wanted.as_slice()) {
-        if !are_same_items(items, other) {
-            return false;
-        }
-    }
-    true
-}
-
-fn is_same_table(told: &[(u64, FieldItems)], plain: &PlainTable) -> bool {
-    let mut rest = told;
-    for (doc, items) in plain.documents() {
-        let [row, others @ ..] = rest else {
-            return false;
-        };
-        if row.0 != u64::from(doc.number()) || !are_same_fields(&row.1, items) {
-            return false;
-        }
-        rest = others;
-    }
-    rest.is_empty()
-}
-
 /// Whether these records are a lawful image of the plain table, by the slow checker.
 pub fn is_lawful(
     alloc: Global,
@@ -198,7 +161,7 @@ pub fn is_lawful(
         return Ok(false);
     }
     match check_image(alloc, fields, records, root) {
-        Ok(table) => Ok(is_same_table(&table, plain)),
+        Ok(table) => Ok(is_same_table(&table, plain.documents())),
         Err(fault) => Err(fault),
     }
 }

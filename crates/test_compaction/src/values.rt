@@ -1,13 +1,7 @@
 //! Values and items by the number of a document.
 use attr_types::{Field, FieldItems, Item, Items, Kind, Text, Value, ValueType};
 use std::alloc::{AllocError, Global};
-
-fn text_of(alloc: Global, text: &str) -> Result<Text, AllocError> {
-    if text.len() > Text::MAX_LEN {
-        return Text::from_str(alloc, "");
-    }
-    Text::from_str(alloc, text)
-}
+use test_kit::text_of;
 
 /// What stands before a number, so that four digits follow the letter.
 fn front_of(number: u32) -> &'static str {

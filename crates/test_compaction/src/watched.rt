@@ -97,7 +97,7 @@ impl<const OFFSET_BITS: u32, W: Work<OFFSET_BITS>> Work<OFFSET_BITS> for Watched
         ensures shape { ⟦<Watched<OFFSET_BITS, W> as Frozen<OFFSET_BITS>>⟧.shape self.new
             ≡ ⟦<Watched<OFFSET_BITS, W> as Frozen<OFFSET_BITS>>⟧.shape self.old }
     {
-        self.stored.store(entry.raw(), i as usize, word);
+        self.stored.store(entry.raw(), i, word);
         self.work.store(entry, i, word);
     }
 

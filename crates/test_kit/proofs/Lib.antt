@@ -1,7 +1,7 @@
 pub mod HoldLemmas
 pub mod FindLemmas
-pub mod ListsListLemmas
+pub mod PairLemmas
 pub mod CharLemmas
-pub mod PrintListLemmas
+pub mod MemberLemmas
 pub mod NumberLemmas
 pub mod ReadBackLemmas

@@ -1,13 +1,5 @@
-//! What tests and benchmarks share.
-//!
-//! A work beside which the words of each record are kept as they were stored, for the slow checker of images.
-//!
-//! A layout whose root is one node, one commit of a node, and a guard of one: what tests and benchmarks of the running
-//! memory turn round.
-//!
-//! An index alone in a store: each change is a unit of its own, accepted, or undone where the store refuses it.
-//!
-//! The text of a query word, which `query_text` reads back.
+//! What tests and benchmarks share: counts of rows, numbers and texts by chance, a work that keeps what is stored in it, commits of one
+//! node and guards of it, an index alone in a store, and the text of a query word.
 #![tactic(auto)]
 
 mod commits;
@@ -18,8 +10,11 @@ mod node;
 mod noted;
 mod notes;
 mod print;
+mod random;
 mod reading;
+mod tables;
 mod tally;
+mod texts;
 mod typed;
 mod unit;
 mod value_lists;
@@ -28,6 +23,11 @@ pub use commits::{Committed, Placed, claim, commit, pass, turn};
 pub use held::{Held, Look, guarded, raised, tried};
 pub use node::{NODE, OneNode, are_of, words_of};
 pub use noted::NotedWork;
+pub use notes::Notes;
 pub use print::{print_ask, print_query};
+pub use random::Random;
 pub use reading::ValueList;
+pub use tables::is_same_table;
 pub use tally::Tally;
+pub use texts::{text_at, text_of};
+pub use value_lists::ValueLists;

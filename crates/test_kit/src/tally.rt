@@ -1,6 +1,4 @@
 //! How many rows of a test were compared, and how many came to what was wanted.
-#![tactic(auto)]
-
 ghost use Rattle.std.specs.Io.Iter.{u64_saturate};
 ghost use Rattle.std.specs.Prelude.{◌≡◌, ◌≢◌, ◌+◌, if◌then◌else◌};
 
@@ -37,6 +35,17 @@ impl Tally {
             return Ok(());
         }
         println!(rt; "{row}: {found} in place of {wanted}")
+    }
+
+    /// Counts a row, and prints it where it is not right.
+    pub fn judge(&mut self, rt: &HostRuntime, row: &str, is_right: bool) -> io::Result<()>
+        ensures compared { self.new.compared ≡ u64_saturate (self.old.compared + 1) }
+        ensures right { self.new.right ≡ (if is_right then u64_saturate (self.old.right + 1) else self.old.right) }
+    {
+        if self.count(is_right) {
+            return Ok(());
+        }
+        println!(rt; "not so: {row}")
     }
 
     /// Prints both counts, behind a word for the rows.

@@ -1,9 +1,9 @@
 //! Queries and dot products by chance.
 use crate::make::Sizes;
-use crate::random::Random;
 use crate::values::value_at;
 use attr_types::{Field, Leaf, Part, Parts, Query, Text, Value, ValueType};
 use std::alloc::{AllocError, Global};
+use test_kit::Random;
 
 /// The type of an attribute's values, and that of texts for one that is not there.
 fn type_at(fields: &[Field], place: u32) -> ValueType {

@@ -6,17 +6,17 @@ ghost use Rattle.attr_types.specs.declared.field.TheConstants.{MOST_FIELDS};
 
 use crate::ask::{parts_of, query_of};
 use crate::make::Sizes;
-use crate::random::Random;
 use crate::turn::Noted;
 use arena_api::{Frozen, Work};
 use attr_plain::PlainTable;
-use attr_types::{Doc, FieldItems, Fields, Items, Parts, Query, Score, scores_of};
+use attr_types::{Doc, Fields, Parts, Query, Score, scores_of};
 use attribute_kinds::Published;
 use check_images::{CheckFault, check_image};
 use entry_ref::{EntryRef, word_in, words_at};
 use query_eval::{documents, hits, scores};
 use std::alloc::{AllocError, Global};
 use std::collections::BTreeMap;
+use test_kit::{Random, is_same_table};
 
 /// What was asked, and how many documents were answered, unless something differed.
 #[derive(Clone, Copy)]
@@ -214,45 +214,6 @@ fn ask_each<const OFFSET_BITS: u32, F: Frozen<OFFSET_BITS>>(
     Ok(all)
 }
 
-fn are_same_items(told: &Items, wanted: &Items) -> bool {
-    if told.len() != wanted.len() {
-        return false;
-    }
-    for (item, other) in told.as_slice().iter().zip(wanted.as_slice()) {
-        if item.value != other.value || item.weight != other.weight {
-            return false;
-        }
-    }
-    true
-}
-
-/// Whether each attribute has the same items, in the same order.
-fn are_same_fields(told: &FieldItems, wanted: &FieldItems) -> bool {
-    if told.len() != wanted.len() {
-        return false;
-    }
-    for (items, other) in told.as_slice().iter().zip(wanted.as_slice()) {
-        if !are_same_items(items, other) {
-            return false;
-        }
-    }
-    true
-}
-
-fn is_same_table(told: &[(u64, FieldItems)], plain: &PlainTable) -> bool {
-    let mut rest = told;
-    for (doc, items) in plain.documents() {
-        let [row, others @ ..] = rest else {
-            return false;
-        };
-        if row.0 != u64::from(doc.number()) || !are_same_fields(&row.1, items) {
-            return false;
-        }
-        rest = others;
-    }
-    rest.is_empty()
-}
-
 /// Whether these records are a lawful image of the plain table, after so many operations, by the slow checker.
 fn is_lawful(
     alloc: Global,
@@ -268,7 +229,7 @@ fn is_lawful(
         return Ok(false);
     }
     match check_image(alloc, fields, records, root) {
-        Ok(table) => Ok(is_same_table(&table, plain)),
+        Ok(table) => Ok(is_same_table(&table, plain.documents())),
         Err(CheckFault::Broken) => Ok(false),
         Err(CheckFault::Memory) => Err(AllocError),
     }

@@ -1,11 +1,11 @@
 //! Operations by chance.
-use crate::random::Random;
 use crate::values::value_at;
 use attr_types::{
     Act, Change, Doc, Field, FieldChanges, FieldItems, Item, Items, Kind, Op, Value, ValueType,
     Values, WeightAct,
 };
 use std::alloc::{AllocError, Global};
+use test_kit::Random;
 
 /// What operations speak of: so many documents and values, and at most so many items. In one period of operations most put and
 /// update, in the next most remove.

@@ -6,7 +6,6 @@ ghost use Rattle.attr_types.specs.declared.field.TheConstants.{MOST_FIELDS};
 
 use crate::image::{Asked, ask_image};
 use crate::make::{Sizes, op_of};
-use crate::random::Random;
 use crate::turn::{
     Answer, Committed, Noted, apply_one, apply_plain, close, commit_one, new_attribute, new_plain,
 };
@@ -17,6 +16,7 @@ use attr_types::{Applied, Fields, Op};
 use attribute_kinds::{Attribute, Published};
 use std::alloc::{AllocError, Global};
 use store_api::Store;
+use test_kit::Random;
 
 /// What a run is.
 #[derive(Clone, Copy)]

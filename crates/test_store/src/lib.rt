@@ -1,14 +1,10 @@
-//! Tests of references, images, memory and the store.
-//!
-//! Tests of references, images, the memory and the store, over their public calls, at both widths of references.
-//!
-//! Tests of buffers and of the states of entries, over their public calls.
+//! Tests of references, images, the memory, buffers, entries and the store, over their public calls, at both widths of references.
 #![tactic(auto)]
 
 #[cfg(test)]
 mod cases;
 #[cfg(test)]
-mod engine_of_buffers;
+mod of_buffers;
 #[cfg(test)]
 mod of_commits;
 #[cfg(test)]
@@ -23,7 +19,5 @@ mod of_references;
 mod of_shelves;
 #[cfg(test)]
 mod of_store;
-#[cfg(test)]
-mod states_of_buffers;
 #[cfg(test)]
 mod stores;

@@ -4,7 +4,7 @@ ghost use Rattle.store_api.specs.Ledgers.{IsNew};
 ghost use Rattle.doc_vector.specs.Documents.{IsDocumentMap};
 ghost use Rattle.test_structures.specs.Holding.{HoldsMap};
 
-use crate::documents_stores::new_store;
+use crate::stores::new_store;
 use arena_api::{Frozen, Work};
 use attr_types::Doc;
 use doc_vector::{get, remove, set, walk_from};

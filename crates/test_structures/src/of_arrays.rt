@@ -1,7 +1,7 @@
 ghost use Rattle.std.specs.Prelude.{◌≡◌, ◌≤◌, true, length};
 ghost use Rattle.store_api.specs.Ledgers.{IsNew};
 
-use crate::values_stores::new_store;
+use crate::stores::new_store;
 use arena_api::Work;
 use array_store::{add, class_of, count, get};
 use entry_store::EntryStore;

@@ -1,8 +1,8 @@
 ghost use Rattle.std.specs.Prelude.{◌≡◌, ◌≤◌};
 ghost use Rattle.store_api.specs.Ledgers.{IsNew};
 
-use crate::postings_stores::new_store;
 use crate::steps::{form_of, walk_of};
+use crate::stores::new_store;
 use arena_api::Work;
 use entry_store::EntryStore;
 use std::alloc::{AllocError, Global};

@@ -2,7 +2,7 @@ ghost use Rattle.std.specs.Prelude.{◌≡◌, ◌≤◌, true, length};
 ghost use Rattle.attr_types.specs.Value.{type_of};
 ghost use Rattle.store_api.specs.Ledgers.{IsNew};
 
-use crate::values_stores::new_store;
+use crate::stores::new_store;
 use arena_api::Work;
 use array_store::class_of;
 use attr_types::{Text, Value, ValueType};

@@ -3,7 +3,7 @@ use Rattle.std.proofs.lemmas.Result.{err_from_is_err_and}
 use Rattle.std.proofs.Math.Nat.{pos_of_div-pos}
 use Rattle.frozen_btree.proofs.TopLemmas.{levels-same}
 use Rattle.entry_ref.specs.References.{buffer_limit}
-use Rattle.store_api.proofs.May.{may_do-same}
+use Rattle.store_api.proofs.May.{may_do-same, may_do-then}
 use Rattle.posting_store.proofs.RefusalLemmas.{if_one, of_more}
 use Rattle.attr_field.specs.DocumentsChanges.{IsDocumentWidth}
 use Rattle.attr_field.specs.Items.{entries_by_key, IsItemsWidth}
@@ -94,3 +94,6 @@ returns-clause-refuses g c =
     let ledger = g.S.Store.ledger in
     if_one (IsDocumentWidth c.args.kind (length c.args.items.now)) (ledger c.args.store.now) (ledger c.make_items.new.store) (ledger c.set_reference.new.store) 34 c.set_reference.result
     c.make_items.ensures.may refl (inl refl) c.set_reference.ensures.refuses
+
+pub returns-clause-may : goal.returns-clause-may
+returns-clause-may g c = may_do-then _ _ _ c.make_items.ensures.may c.set_reference.ensures.may

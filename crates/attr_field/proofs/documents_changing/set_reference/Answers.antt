@@ -4,6 +4,7 @@ use Rattle.tree_read.specs.Trees.{tree_pairs}
 use Rattle.tree_read.specs.Pairs.{lookup as found}
 use Rattle.tree_read.specs.Pairs.{put, take_out}
 use Rattle.store_api.specs.Parts.{Owns}
+use Rattle.store_api.specs.Units.{MayDo}
 use Rattle.doc_vector.specs.Documents.{beside_document, IsDocumentMap}
 use Rattle.attr_field.specs.DocumentsChanges.{ChangesPair}
 use Rattle.attr_field.specs.Documents.{documents_part}
@@ -11,6 +12,7 @@ use Rattle.frozen_btree.specs.Changes.{levels}
 use Rattle.frozen_btree.specs.Makes.{CountsNodes}
 use Rattle.attr_field.proofs.DocumentsCountLemmas.{nodes-then}
 use Rattle.attr_field.proofs.DocumentsChangeLemmas.{owns_tree, owns_old, changes_pair}
+use Rattle.store_api.proofs.May.{may_do-then}
 use Rattle.attr_field.proofs.documents_changing.set_reference.Goals as goal
 
 pub set-requires : goal.set-requires
@@ -76,3 +78,8 @@ returns-clause-counts g c =
     let s = c.reference_of-old.new.frozen in
     subst (λ (f : g.row.S.Denot). CountsNodes (ledger f) (ledger c.drop_items.new.store) (2 * levels (records f) c.args.root + 1)) c.reference_of-old.ensures.same
     (nodes-then (ledger s) (ledger c.set.new.store) (ledger c.drop_items.new.store) (2 * levels (records s) c.args.root + 1) c.set.ensures.counts c.drop_items.ensures.none_made)
+
+pub returns-clause-may : goal.returns-clause-may
+returns-clause-may g c =
+    subst (λ (f : g.row.S.Denot). MayDo (g.S.Store.ledger f) (g.S.Store.ledger c.drop_items.new.store)) c.reference_of-old.ensures.same
+    (may_do-then _ _ _ c.set.ensures.may c.drop_items.ensures.may)

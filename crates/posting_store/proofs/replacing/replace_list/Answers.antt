@@ -1,5 +1,6 @@
 use Rattle.std.proofs.Common.{length, map}
 use Rattle.attr_images.specs.Words.{unpacked}
+use Rattle.store_api.proofs.May.{may_do-then}
 use Rattle.posting_store.specs.Changes.{list_most}
 use Rattle.posting_store.proofs.ChangeLemmas.{old_stays, old_owned, replaces, counts_then}
 use Rattle.posting_store.proofs.replacing.replace_list.Goals as goal
@@ -33,3 +34,6 @@ pub returns-clause-counts : goal.returns-clause-counts
 returns-clause-counts g c =
     let ledger = g.S.Store.ledger in
     counts_then (ledger c.args.store.now) (ledger c.make_list.new.store) (ledger c.drop_list.new.store) (list_most 0 (length c.args.items.now)) c.make_list.ensures.counts c.drop_list.ensures.none_made
+
+pub returns-clause-may : goal.returns-clause-may
+returns-clause-may g c = may_do-then _ _ _ c.make_list.ensures.may c.drop_list.ensures.may

@@ -1,5 +1,5 @@
 use Rattle.std.proofs.Common.{rules, string_bytes}
-use Rattle.test_kit.proofs.PrintListLemmas.{list_step}
+use Rattle.test_kit.proofs.MemberLemmas.{list_step}
 use Rattle.test_kit.proofs.print.+print.Goals as goal
 
 pub push_list-loop-i-preserved : goal.push_list-loop-i-preserved

@@ -1,5 +1,5 @@
 use Rattle.std.proofs.Common.{rules, string_bytes}
-use Rattle.test_kit.proofs.PrintListLemmas.{parts_step}
+use Rattle.test_kit.proofs.MemberLemmas.{parts_step}
 use Rattle.test_kit.proofs.print.push_parts.Goals as goal
 
 pub loop-i-preserved : goal.loop-i-preserved

@@ -4,7 +4,7 @@ use Rattle.tree_read.specs.SearchPlaces.{IsAt, pairs_from}
 use Rattle.posting_store.specs.Lists.{list_at, IsList}
 use Rattle.test_kit.specs.Holds.{as_listed}
 use Rattle.test_kit.specs.declared.reading.ValueList.{ValueList}
-use Rattle.test_kit.proofs.ListsListLemmas.{first_pair, later_pairs, listed, one_listed, ArePairs}
+use Rattle.test_kit.proofs.PairLemmas.{first_pair, later_pairs, listed, one_listed, ArePairs}
 use Rattle.test_kit.proofs.reading.all_lists.Goals as goal
 
 pub first-cursor-requires : goal.first-cursor-requires

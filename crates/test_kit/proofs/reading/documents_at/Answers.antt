@@ -3,7 +3,7 @@ use Rattle.std.proofs.lemmas.Int.{to_z-of_z}
 use Rattle.posting_store.specs.Lists.{list_at}
 use Rattle.posting_store.specs.Walks.{postings_from, first_doc, first_weight, IsListPlace}
 use Rattle.posting_store.proofs.ItemLemmas.{first_of}
-use Rattle.test_kit.proofs.ListsListLemmas.{one_more}
+use Rattle.test_kit.proofs.PairLemmas.{one_more}
 use Rattle.test_kit.proofs.reading.documents_at.Goals as goal
 
 pub doc-doc-requires : goal.doc-doc-requires

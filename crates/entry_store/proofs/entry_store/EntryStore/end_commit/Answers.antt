@@ -83,7 +83,7 @@ invariant_of-self g c =
           (entries_of g.row.OFFSET_BITS c.retire_finished.new.entries) r.retired r.good
           c.advance-advance.result (g.W.Work.knows c.advance-advance.new.self) a.holds a.commits a.knows (entries_of g.row.OFFSET_BITS c.follow.new.entries) f.advanced f.good
           (g.W.Work.knows c.reclaim-left.new.self) c.reclaim-left.result p.holds p.commits p.knows (g.met.W.Work.queue c.retire_finished.new.work) (g.met.W.Work.queue c.advance-advance.new.self)
-          a.alone p.alone (entries_of g.row.OFFSET_BITS c.free_below.new.self) c.free_below.ensures.frees c.free_below.ensures.good (g.met.W.Work.order c.reclaim-left.new.self)));
+          a.alone p.alone (entries_of g.row.OFFSET_BITS c.free_below.new.self) c.free_below.ensures.frees c.free_below.ensures.good (g.met.W.Work.order c.reclaim-left.new.self) c.requires.early));
     }
 
 pub returns-clause-ends : goal.returns-clause-ends

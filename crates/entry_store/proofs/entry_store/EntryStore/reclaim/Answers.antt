@@ -27,7 +27,7 @@ invariant_of-self g c =
           (stands-reclaimed g.row.OFFSET_BITS _ _ _ s.unit (over-from _ _ _ _ _ s.stands) v
           (entries_of g.row.OFFSET_BITS c.free_below.new.self) c.reclaim-oldest.result p.holds p.commits p.knows c.free_below.ensures.frees
           (g.met.W.Work.order c.reclaim-oldest.new.self) (reclaimed-low g.row.OFFSET_BITS _ _ _ s.unit (over-from _ _ _ _ _ s.stands) _ c.reclaim-oldest.result (g.met.W.Work.queue s.work) p.holds)
-          c.free_below.ensures.good
+          c.free_below.ensures.good s.stands.timely
           (unread-reclaimed g.row.OFFSET_BITS _ _ _ _ s.stands v c.reclaim-oldest.result p.holds p.knows));
     }
 

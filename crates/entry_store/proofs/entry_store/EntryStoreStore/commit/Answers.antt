@@ -1,5 +1,6 @@
 use Rattle.std.proofs.Common.{ap, ◌∙◌, arith}
 use Rattle.entry_ref.specs.Images.{words_at}
+use Rattle.arena_api.specs.Generations.{current}
 use Rattle.entry_store.proofs.Storing.{adds-all, stores-commit}
 use Rattle.entry_store.proofs.entry_store.EntryStoreStore.commit.Goals as goal
 
@@ -9,7 +10,10 @@ publish-commit-requires g c = (omega arith, (omega arith, (c.requires.unit, (c.r
 pub end_commit-requires : goal.end_commit-requires
 end_commit-requires g c =
     let p = c.publish-commit.ensures in
-    (omega arith, (p.unit, (p.records, (p.tagged, (p.apart, λ r i. ap (λ w. w.stored r i) p.publishes.work)))))
+    let now = ap current p.publishes.work in
+    let last = p.publishes.adds.last in
+    let timely = c.args.self.now.stands.timely in
+    (omega arith, (p.unit, (p.records, (p.tagged, (p.apart, (λ r i. ap (λ w. w.stored r i) p.publishes.work, omega arith))))))
 
 pub returns-clause-commit : goal.returns-clause-commit
 returns-clause-commit g c = adds-all g.row.OFFSET_BITS _ _ _ _ _ c.end_commit.result c.publish-commit.ensures.publishes c.end_commit.ensures.ends

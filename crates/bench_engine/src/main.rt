@@ -1,0 +1,112 @@
+//! Workloads for the benchmarks: each is run, and counts alone are printed. The words after the program's name ask for one; without
+//! words each line of standard input does.
+#![tactic(auto)]
+
+mod commit;
+mod compaction;
+mod index_run;
+mod items;
+mod live;
+mod memory;
+mod operations;
+mod postings;
+mod queries;
+mod round;
+mod store_run;
+mod stores;
+mod tree_run;
+mod words;
+
+use crate::compaction::updates_told;
+use crate::index_run::{changes_told, reads_told};
+use crate::operations::apply_told;
+use crate::queries::asked_told;
+use crate::store_run::store_told;
+use crate::tree_run::tree_told;
+use crate::words::{Workload, workload_in};
+use std::alloc::{AllocError, Global};
+use std::io;
+use std::process::ExitCode;
+
+/// What a workload came to, as a line.
+fn told(alloc: Global, workload: Workload) -> Result<String, AllocError> {
+    match workload {
+        Workload::Store(load) => store_told(alloc, load),
+        Workload::Tree(load) => tree_told(alloc, &load),
+        Workload::Changes(load) => changes_told(alloc, load),
+        Workload::Reads(load) => reads_told(alloc, load),
+        Workload::Operations(load) => apply_told(alloc, load),
+        Workload::Queries(asks) => asked_told(alloc, asks),
+        Workload::Updates(load) => updates_told(alloc, load),
+    }
+}
+
+fn print_usage(rt: &HostRuntime) -> io::Result<()> {
+    println!(rt; "bench_engine store ROUNDS UNITS ENTRIES BUFFERS")?;
+    println!(rt; "bench_engine tree ascending|descending|random KEYS FINDS WALKS REMOVES")?;
+    println!(rt; "bench_engine index uniform|zipf long|text VALUES POSTINGS ADDS REMOVES")?;
+    println!(rt; "bench_engine index reads long|text VALUES DOCUMENTS ROUNDS")?;
+    println!(rt;
+        "bench_engine attribute single|array|weightedset long|text OPERATIONS APPLIED BATCH BUFFERS"
+    )?;
+    println!(rt;
+        "bench_engine attribute queries none|term|terms|range|wide DOCUMENTS ROUNDS BUFFERS"
+    )?;
+    println!(rt;
+        "bench_engine compaction KIND long|text DOCUMENTS UPDATES LEFT BATCH BUFFERS uniform|zipf APPLIES KEYS COUNTS"
+    )
+}
+
+/// Runs what words ask for, and prints what came of it. Whether all went well.
+fn run(rt: &HostRuntime, words: &[String]) -> io::Result<bool> {
+    let Some(workload) = workload_in(words) else {
+        print_usage(rt)?;
+        return Ok(false);
+    };
+    let text = told(rt.alloc(), workload)?;
+    println!(rt; "{text}")?;
+    Ok(true)
+}
+
+fn words_in(alloc: Global, line: &str) -> Result<Vec<String>, AllocError> {
+    let mut words = Vec::new(alloc);
+    for word in line.split(' ') {
+        words.push(String::from_str(alloc, word)?)?;
+    }
+    Ok(words)
+}
+
+fn run_line(rt: &HostRuntime, line: &str) -> io::Result<bool> {
+    let words = words_in(rt.alloc(), line)?;
+    run(rt, &words)
+}
+
+/// Runs what each line of standard input asks for.
+fn run_lines(rt: &HostRuntime) -> io::Result<bool> {
+    for line in rt.lines(rt.alloc()) {
+        if !run_line(rt, line?.as_str())? {
+            return Ok(false);
+        }
+    }
+    Ok(true)
+}
+
+/// The words after the program's name.
+fn arguments(rt: &HostRuntime) -> Option<Vec<String>> {
+    std::env::args(rt).ok()?.skip(1).collect(rt.alloc()).ok()
+}
+
+fn run_all(rt: &HostRuntime) -> io::Result<bool> {
+    let words = arguments(rt).unwrap_or(Vec::new(rt.alloc()));
+    if words.is_empty() {
+        return run_lines(rt);
+    }
+    run(rt, &words)
+}
+
+fn main(rt: HostRuntime) -> ExitCode {
+    match run_all(&rt) {
+        Ok(true) => ExitCode::from(0),
+        _ => ExitCode::from(1),
+    }
+}

@@ -1,0 +1,80 @@
+ghost use Rattle.std.specs.Prelude.{◌≤◌, IfOk};
+ghost use Rattle.store_api.specs.Ledgers.{IsNew};
+ghost use Rattle.bench_engine.specs.Units.{HoldsRoot};
+
+use crate::commit::commit_root;
+use crate::round::run_unit;
+use crate::stores::new_store;
+use entry_ref::EntryRef;
+use mem_work::OneRecord;
+use std::alloc::{AllocError, Global};
+use store_api::{Store, StoreError};
+use tree_read::NODE_WORDS;
+
+/// What a run over a store is: rounds of so many units, of so many entries each, with a commit after each round.
+#[derive(Clone, Copy)]
+pub struct StoreLoad {
+    pub rounds: u64,
+    pub units: u64,
+    pub entries: u32,
+    pub buffers: u32,
+}
+
+/// The units of a round, and the commit of a new root. None where no commit can be made.
+fn run_round<const OFFSET_BITS: u32, S: Store<OFFSET_BITS, Layout = OneRecord>>(
+    store: &mut S,
+    entries: &mut Vec<u32>,
+    load: StoreLoad,
+    round: u64,
+    root: EntryRef<OFFSET_BITS>,
+) -> Result<EntryRef<OFFSET_BITS>, StoreError>
+    requires { HoldsRoot (S.ledger store.old) (S.records store.old) root }
+    ensures { IfOk result (HoldsRoot (S.ledger store.new) (S.records store.new)) }
+{
+    for _ in 0..load.units {
+        run_unit(store, entries, load.entries)?;
+    }
+    if store.commits_left() == 0 {
+        return Ok(root);
+    }
+    commit_root(store, root, round)
+}
+
+/// The rounds of a run. Answers how many there were.
+fn run_store<const OFFSET_BITS: u32, S: Store<OFFSET_BITS, Layout = OneRecord>>(
+    alloc: Global,
+    store: &mut S,
+    load: StoreLoad,
+) -> Result<u64, StoreError>
+    requires { IsNew (S.ledger store.old) }
+    ensures { IfOk result (λ rounds. rounds ≤ load.rounds) }
+{
+    let mut entries = Vec::new(alloc);
+    let mut root = EntryRef::from_raw(0);
+    let mut rounds = 0;
+    for round in 0..load.rounds {
+        root = run_round(store, &mut entries, load, round, root)?;
+        rounds += 1;
+    }
+    Ok(rounds)
+}
+
+/// The rounds of a run over a store of its own, of 1 to 1,023 buffers, and the entries made.
+fn store_run_of(alloc: Global, load: StoreLoad) -> Result<(u64, u64), StoreError> {
+    let buffers = load.buffers.max(1).min(1023);
+    match new_store::<OneRecord>(alloc, buffers) {
+        Ok(mut store) => {
+            let rounds = run_store(alloc, &mut store, load)?;
+            Ok((rounds, store.made(NODE_WORDS as u32)))
+        }
+        Err(_) => Err(StoreError::Memory),
+    }
+}
+
+/// A run, as a line.
+pub fn store_told(alloc: Global, load: StoreLoad) -> Result<String, AllocError> {
+    match store_run_of(alloc, load) {
+        Ok((rounds, made)) => format!(in alloc; "rounds {rounds} made {made}"),
+        Err(_) => Err(AllocError),
+    }
+}

@@ -1,0 +1,78 @@
+//! Stores and indexes of which nothing is made yet, and the words that a store has made.
+ghost use Rattle.std.specs.Prelude.{◌≡◌, ◌≤◌, true, IfOk};
+ghost use Rattle.arena_api.specs.Calls.{IsFresh};
+ghost use Rattle.store_api.specs.Ledgers.{IsNew, is_width};
+
+use arena_api::Work;
+use attr_types::ValueType;
+use entry_ref::Layout;
+use entry_store::EntryStore;
+use mem_work::{MemWork, OneRecord};
+use std::alloc::{AllocError, Global};
+use store_api::Store;
+use test_kit::ValueLists;
+
+/// A store over a memory of buffers of 65,536 words, of which nothing is made yet.
+pub fn new_store<L: Layout>(
+    alloc: Global,
+    buffers: u32,
+) -> Result<EntryStore<22, MemWork<22, L>>, AllocError>
+    requires some { 1 ≤ buffers }
+    requires few { buffers ≤ 1023 }
+    ensures { IfOk result (λ s. IsNew (⟦<EntryStore<22, MemWork<22, L>> as Store<22>>⟧.ledger s)) }
+{
+    let work = MemWork::<22, L>::create(alloc, buffers, 65536, 1)?;
+    match EntryStore::create(alloc, work) {
+        Ok(store) => Ok(store),
+        Err(_) => Err(AllocError),
+    }
+}
+
+/// A memory for so many postings, of which nothing is handed out yet: 17 to 128 buffers of 65,536 words.
+pub fn index_memory(alloc: Global, postings: u32) -> Result<MemWork<22, OneRecord>, AllocError>
+    ensures fresh { IfOk result (λ w. IsFresh (⟦<MemWork<22, OneRecord> as Work<22>>⟧.knows w)) }
+{
+    let work = MemWork::create(alloc, (postings / 8_000).min(111) + 17, 65536, 1)?;
+    Ok(work)
+}
+
+/// No value, in a store over a work of which nothing is handed out yet.
+pub fn new_lists<const OFFSET_BITS: u32, W: Work<OFFSET_BITS> + Drop>(
+    alloc: Global,
+    work: W,
+    value_type: ValueType,
+) -> Result<ValueLists<OFFSET_BITS, EntryStore<OFFSET_BITS, W>>, AllocError>
+    requires fresh { IsFresh (W.knows work) }
+{
+    match EntryStore::create(alloc, work) {
+        Ok(store) => Ok(ValueLists::new(store, value_type)),
+        Err(_) => Err(AllocError),
+    }
+}
+
+/// The words of all entries of a width that were made.
+fn words_of<const OFFSET_BITS: u32, W: Work<OFFSET_BITS>>(
+    store: &EntryStore<OFFSET_BITS, W>,
+    width: u32,
+) -> u64
+    requires { is_width width ≡ true }
+{
+    store.made(width).saturating_mul(u64::from(width))
+}
+
+/// The words of all entries that were made.
+pub fn words_made<const OFFSET_BITS: u32, W: Work<OFFSET_BITS>>(
+    store: &EntryStore<OFFSET_BITS, W>,
+) -> u64 {
+    words_of(store, 2)
+        .saturating_add(words_of(store, 4))
+        .saturating_add(words_of(store, 8))
+        .saturating_add(words_of(store, 16))
+        .saturating_add(words_of(store, 32))
+        .saturating_add(words_of(store, 34))
+        .saturating_add(words_of(store, 64))
+        .saturating_add(words_of(store, 128))
+        .saturating_add(words_of(store, 256))
+        .saturating_add(words_of(store, 512))
+        .saturating_add(words_of(store, 1024))
+}

@@ -1,0 +1,61 @@
+//! Indexes and stores of which nothing is made yet.
+ghost use Rattle.std.specs.Prelude.{◌≤◌, IfOk};
+ghost use Rattle.arena_api.specs.Calls.{IsFresh};
+ghost use Rattle.store_api.specs.Ledgers.{IsNew};
+
+use arena_api::Work;
+use attr_types::ValueType;
+use entry_store::EntryStore;
+use mem_work::{MemWork, OneRecord};
+use std::alloc::{AllocError, Global};
+use store_api::Store;
+use test_kit::{NotedWork, ValueLists};
+
+/// A memory of buffers of 8,192 words, of which nothing is handed out yet.
+pub fn new_memory(alloc: Global, buffers: u32) -> Result<MemWork<22, OneRecord>, AllocError>
+    requires some { 1 ≤ buffers }
+    requires few { buffers ≤ 1023 }
+    ensures fresh { IfOk result (λ w. IsFresh (⟦<MemWork<22, OneRecord> as Work<22>>⟧.knows w)) }
+{
+    let work = MemWork::create(alloc, buffers, 8192, 1)?;
+    Ok(work)
+}
+
+/// No value, in a store over a work of which nothing is handed out yet.
+pub fn new_lists<const OFFSET_BITS: u32, W: Work<OFFSET_BITS> + Drop>(
+    alloc: Global,
+    work: W,
+    value_type: ValueType,
+) -> Result<ValueLists<OFFSET_BITS, EntryStore<OFFSET_BITS, W>>, AllocError>
+    requires fresh { IsFresh (W.knows work) }
+{
+    match EntryStore::create(alloc, work) {
+        Ok(store) => Ok(ValueLists::new(store, value_type)),
+        Err(_) => Err(AllocError),
+    }
+}
+
+/// The same over a work beside which the words of each record are kept.
+pub fn noted_lists<const OFFSET_BITS: u32, W: Work<OFFSET_BITS> + Drop>(
+    alloc: Global,
+    work: W,
+    value_type: ValueType,
+) -> Result<ValueLists<OFFSET_BITS, EntryStore<OFFSET_BITS, NotedWork<OFFSET_BITS, W>>>, AllocError>
+    requires fresh { IsFresh (W.knows work) }
+{
+    match EntryStore::create(alloc, NotedWork::new(alloc, work, true)) {
+        Ok(store) => Ok(ValueLists::new(store, value_type)),
+        Err(_) => Err(AllocError),
+    }
+}
+
+/// A store over 32 buffers of 8,192 words, of which nothing is made yet.
+pub fn new_store(alloc: Global) -> Result<EntryStore<22, MemWork<22, OneRecord>>, AllocError>
+    ensures new { IfOk result (λ s. IsNew (⟦<EntryStore<22, MemWork<22, OneRecord>> as Store<22>>⟧.ledger s)) }
+{
+    let work = MemWork::<22, OneRecord>::create(alloc, 32, 8192, 1)?;
+    match EntryStore::create(alloc, work) {
+        Ok(store) => Ok(store),
+        Err(_) => Err(AllocError),
+    }
+}

@@ -1,0 +1,100 @@
+//! Rows: `fields ..` begins one, `feed LINE`, `part TEXT`, `times N TEXT`, `lines N` and `byte N` make its feed, `read ..`
+//! and `table ..` say what must be read of it and what the table must be after it. Other lines are remarks.
+use crate::feeds::{answer_to, table_after};
+use crate::fields::fields_in;
+use std::alloc::{AllocError, Global};
+use std::io;
+use test_kit::Tally;
+
+/// A number and what follows a space after it.
+fn numbered(line: &str) -> (u32, &str) {
+    let (number, rest) = line.split_once(' ').unwrap_or((line, ""));
+    (number.parse::<u32>().unwrap_or(0), rest)
+}
+
+/// So many copies of a text, in which a `#` stands for the number of the copy.
+fn push_times(alloc: Global, feed: &mut Vec<u8>, line: &str) -> Result<(), AllocError> {
+    let (times, text) = numbered(line);
+    for copy in 0..times {
+        let number = format!(in alloc; "{copy}")?;
+        let part = text.replace(alloc, "#", &number)?;
+        feed.extend_from_slice(part.as_bytes())?;
+    }
+    Ok(())
+}
+
+fn push_byte(feed: &mut Vec<u8>, line: &str) -> Result<(), AllocError> {
+    let (number, _) = numbered(line);
+    feed.push(u8::try_from(number).unwrap_or(0))?;
+    Ok(())
+}
+
+/// What a line of a row adds to the feed.
+fn push_line(alloc: Global, feed: &mut Vec<u8>, line: &str) -> Result<(), AllocError> {
+    if let Some(text) = line.strip_prefix("feed ") {
+        feed.extend_from_slice(text.as_bytes())?;
+        feed.push(b'\n')?;
+    } else if let Some(text) = line.strip_prefix("part ") {
+        feed.extend_from_slice(text.as_bytes())?;
+    } else if let Some(text) = line.strip_prefix("times ") {
+        push_times(alloc, feed, text)?;
+    } else if let Some(text) = line.strip_prefix("lines ") {
+        feed.extend_from_slice(&vec![in alloc; b'\n'; numbered(text).0 as usize]?)?;
+    } else if let Some(text) = line.strip_prefix("byte ") {
+        push_byte(feed, text)?;
+    }
+    Ok(())
+}
+
+/// A row so far, and those before it.
+#[derive(Drop)]
+pub struct FeedRows {
+    fields: String,
+    feed: Vec<u8>,
+    pub tally: Tally,
+}
+
+impl FeedRows {
+    pub fn new(alloc: Global) -> FeedRows {
+        FeedRows {
+            fields: String::new(alloc),
+            feed: Vec::new(alloc),
+            tally: Tally::default(),
+        }
+    }
+
+    fn begin(&mut self, alloc: Global, fields: &str) -> Result<(), AllocError> {
+        self.fields = String::from_str(alloc, fields)?;
+        self.feed = Vec::new(alloc);
+        Ok(())
+    }
+
+    /// What is read of the row's feed.
+    fn read(&self, alloc: Global) -> Result<String, AllocError> {
+        let fields = fields_in(alloc, &self.fields)?;
+        answer_to(alloc, &self.feed, &fields)
+    }
+
+    /// The table after it.
+    fn table(&self, alloc: Global) -> Result<String, AllocError> {
+        let fields = fields_in(alloc, &self.fields)?;
+        table_after(alloc, &self.feed, fields)
+    }
+
+    pub fn take(&mut self, rt: &HostRuntime, line: &str) -> io::Result<()> {
+        let alloc = rt.alloc();
+        let (kind, rest) = line.split_once(' ').unwrap_or((line, ""));
+        match kind {
+            "fields" => Ok(self.begin(alloc, rest)?),
+            "read" => {
+                let found = self.read(alloc)?;
+                self.tally.note(rt, &self.fields, &found, rest)
+            }
+            "table" => {
+                let found = self.table(alloc)?;
+                self.tally.note(rt, &self.fields, &found, rest)
+            }
+            _ => Ok(push_line(alloc, &mut self.feed, line)?),
+        }
+    }
+}

@@ -1,0 +1,41 @@
+//! What words, queries, feeds and saves are read as, compared row by row with what standard input says they must be; and cases of the
+//! crates beside them, which stand here. A row or a case that differs prints itself.
+#![tactic(auto)]
+
+mod asks;
+mod build;
+mod failing_saves;
+mod feed_rows;
+mod feeds;
+mod fields;
+mod plain;
+mod printing;
+mod rows;
+mod save_rows;
+mod saves;
+mod told;
+mod traffic;
+mod types;
+mod word_rows;
+mod words;
+
+use attr_words::{ranges_law, settings_law};
+use query_text::grammar_law;
+use std::io;
+
+/// The cases, by the crates that they are of.
+fn compare_cases(rt: &HostRuntime) -> io::Result<()> {
+    failing_saves::compare(rt)?;
+    traffic::compare(rt)?;
+    types::compare(rt)?;
+    plain::compare(rt)?;
+    printing::compare(rt)
+}
+
+fn main(rt: HostRuntime) -> io::Result<()> {
+    ranges_law();
+    settings_law();
+    grammar_law();
+    rows::compare(&rt)?;
+    compare_cases(&rt)
+}

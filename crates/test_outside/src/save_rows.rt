@@ -1,0 +1,166 @@
+//! Rows. `read HEX WANTED`: what becomes of bytes. `tell HEX WANTED`: what they tell. `base HEX`:
+//! the bytes that the rows after it change. `cut FROM TO WANTED`: what becomes of so many of its first bytes.
+//! `change PLACE FROM TO WANTED`: what becomes of it with each byte from FROM to TO at a place. Numbers are decimal.
+//! Other lines are remarks.
+ghost use Rattle.std.specs.Prelude.{◌≤◌, length};
+
+use crate::saves::{content, told};
+use std::alloc::{AllocError, Global};
+use std::io;
+use test_kit::Tally;
+
+fn words_of<'a>(alloc: Global, line: &'a str) -> Result<Vec<&'a str>, AllocError> {
+    let mut words = Vec::new(alloc);
+    for word in line.split(' ') {
+        words.push(word)?;
+    }
+    Ok(words)
+}
+
+fn bytes_of(alloc: Global, hex: &str) -> Vec<u8> {
+    hex::decode(alloc, hex).unwrap_or(Vec::new(alloc))
+}
+
+fn number(word: &str) -> usize {
+    word.parse::<usize>().unwrap_or(usize::MAX)
+}
+
+fn compare_cut(
+    rt: &HostRuntime,
+    tally: &mut Tally,
+    base: &[u8],
+    len: usize,
+    wanted: &str,
+) -> io::Result<()>
+    requires { len ≤ length base.now }
+{
+    let found = told(rt.alloc(), &base[..len])?;
+    let case = format!(in rt.alloc(); "the first {len}")?;
+    tally.note(rt, &case, &found, wanted)
+}
+
+fn compare_cuts(
+    rt: &HostRuntime,
+    tally: &mut Tally,
+    base: &[u8],
+    from: usize,
+    to: usize,
+    wanted: &str,
+) -> io::Result<()> {
+    for (len, _) in base.iter().enumerate() {
+        if from <= len && len <= to {
+            compare_cut(rt, tally, base, len, wanted)?;
+        }
+    }
+    Ok(())
+}
+
+/// What becomes of bytes with another one at a place.
+fn told_with(
+    alloc: Global,
+    base: &[u8],
+    place: usize,
+    byte: u8,
+) -> Result<Option<String>, AllocError> {
+    let mut bytes = Vec::from_slice(alloc, base)?;
+    if place >= bytes.len() {
+        return Ok(None);
+    }
+    bytes[place] = byte;
+    Ok(Some(told(alloc, &bytes)?))
+}
+
+fn compare_change(
+    rt: &HostRuntime,
+    tally: &mut Tally,
+    base: &[u8],
+    place: usize,
+    byte: u8,
+    wanted: &str,
+) -> io::Result<()> {
+    let Some(found) = told_with(rt.alloc(), base, place, byte)? else {
+        return Ok(());
+    };
+    let case = format!(in rt.alloc(); "{byte} at {place}")?;
+    tally.note(rt, &case, &found, wanted)
+}
+
+fn compare_changes(
+    rt: &HostRuntime,
+    tally: &mut Tally,
+    base: &[u8],
+    place: usize,
+    from: usize,
+    to: usize,
+    wanted: &str,
+) -> io::Result<()> {
+    for byte in 0..=255u8 {
+        if from <= usize::from(byte) && usize::from(byte) <= to {
+            compare_change(rt, tally, base, place, byte, wanted)?;
+        }
+    }
+    Ok(())
+}
+
+/// What becomes of bytes, or what they tell.
+fn compare_bytes(
+    rt: &HostRuntime,
+    tally: &mut Tally,
+    hex: &str,
+    tells: bool,
+    wanted: &str,
+) -> io::Result<()> {
+    let bytes = bytes_of(rt.alloc(), hex);
+    let found = if tells {
+        content(rt.alloc(), &bytes)?
+    } else {
+        told(rt.alloc(), &bytes)?
+    };
+    tally.note(rt, hex, &found, wanted)
+}
+
+/// Compares what the words of a line ask for.
+fn compare_line(
+    rt: &HostRuntime,
+    tally: &mut Tally,
+    base: &[u8],
+    words: &[&str],
+) -> io::Result<()> {
+    match words {
+        ["read", hex, wanted] => compare_bytes(rt, tally, hex, false, wanted),
+        ["tell", hex, wanted] => compare_bytes(rt, tally, hex, true, wanted),
+        ["cut", from, to, wanted] => {
+            compare_cuts(rt, tally, base, number(from), number(to), wanted)
+        }
+        ["change", place, from, to, wanted] => {
+            let (from, to) = (number(from), number(to));
+            compare_changes(rt, tally, base, number(place), from, to, wanted)
+        }
+        _ => Ok(()),
+    }
+}
+
+/// The bytes that rows change, and the rows so far.
+#[derive(Drop)]
+pub struct SaveRows {
+    base: Vec<u8>,
+    pub tally: Tally,
+}
+
+impl SaveRows {
+    pub fn new(alloc: Global) -> SaveRows {
+        SaveRows {
+            base: Vec::new(alloc),
+            tally: Tally::default(),
+        }
+    }
+
+    pub fn take(&mut self, rt: &HostRuntime, line: &str) -> io::Result<()> {
+        if let Some(hex) = line.strip_prefix("base ") {
+            self.base = bytes_of(rt.alloc(), hex);
+            return Ok(());
+        }
+        let words = words_of(rt.alloc(), line)?;
+        compare_line(rt, &mut self.tally, &self.base, words.as_slice())
+    }
+}

@@ -1,0 +1,58 @@
+/* What the proved program asks of C beside the C library itself: memory, the error number, and the words of the command line.
+   The contracts of these functions are the kit's, in its crates `libc` and `os`; nothing proves that this file keeps them. */
+#include <errno.h>
+#include <stdbool.h>
+#include <stddef.h>
+#include <stdint.h>
+#include <stdlib.h>
+
+/* An answer to a request for memory: whether there is any, and where. Without memory `place` is some address that is not null. */
+struct answer { bool ok; void *place; };
+
+static char nothing;
+
+static struct answer answer_of(void *place) {
+    return (struct answer){place != NULL, place != NULL ? place : &nothing};
+}
+
+/* `align` divides 16, and so malloc's blocks have it. A block of no bytes is made one of `align` bytes, since malloc(0) may answer null. */
+struct answer rattle_alloc(size_t size, size_t align) {
+    return answer_of(malloc(size != 0 ? size : align));
+}
+
+/* A block keeps its first `kept` bytes; where there is no memory it stays as it was. */
+struct answer rattle_realloc(void *block, size_t kept, size_t size, size_t align) {
+    (void)kept;
+    return answer_of(realloc(block, size != 0 ? size : align));
+}
+
+void rattle_dealloc(void *block) { free(block); }
+
+int rattle_errno(void) { return errno; }
+
+void rattle_set_errno(int error) { errno = error; }
+
+#ifndef RATTLE_LIBRARY  /* a library reads no command line */
+static int count;
+static char **words;
+
+/* The C library calls a constructor with the arguments of `main`. */
+__attribute__((constructor)) static void keep_words(int argc, char **argv) {
+    count = argc;
+    words = argv;
+}
+
+size_t rattle_arg_count(void) { return (size_t)count; }
+
+/* Writes word `i` into `buffer` and returns its length: -1 if there is no such word, -2 if it is longer than `room`, and then the buffer
+   is full. */
+ptrdiff_t rattle_arg(size_t i, char *buffer, size_t room) {
+    if (i >= (size_t)count || words[i] == NULL) return -1;
+    size_t length = 0;
+    for (const char *at = words[i]; at[length] != '\0'; length++) {
+        if (length == room) return -2;
+        buffer[length] = at[length];
+    }
+    return (ptrdiff_t)length;
+}
+#endif
