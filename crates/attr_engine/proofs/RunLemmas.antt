@@ -157,3 +157,8 @@ pub last_on : {A : Type 0} (operations : ℕ → Records → ℕ → ℕ) (answe
 last_on operations answers v x answer keeps is =
     let moved = subst (λ (y : WriterView). IsLastAnswer operations answers y answer) keeps is in
     record { round = moved.round; is = moved.is; of_commit = moved.of_commit; later = moved.later }
+
+-- each reader runs beside the loading or after it
+pub all_parts : (b : Bool) (readers : ℕ) → (parts b readers).0 + (parts b readers).1 ≡ readers
+all_parts true readers = omega arith
+all_parts false readers = omega arith
