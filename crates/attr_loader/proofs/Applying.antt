@@ -1,8 +1,12 @@
 -- Operations applied one after another, and what stays of a store.
 use Rattle.std.proofs.Common.{◌≡◌, ℕ, ◌+◌, ◌<◌, ◌≤◌, Bool, true, false, if◌then◌else◌, List, [], ◌∷◌, ◌++◌, length, take, inl, inr, refl, sym, ap, ◌∙◌, subst, arith}
-use Rattle.std.specs.Prelude.{Result, Ok, Err, IfOk}
+use Rattle.std.specs.Prelude.{Result, Ok, Err, IfOk, Option, Some, None}
 use Rattle.std.proofs.lemmas.List.{length_push}
 use Rattle.entry_ref.specs.Images.{words_at}
+use Rattle.entry_ref.specs.declared.images.Image.{Image}
+use Rattle.arena_api.specs.Works.{WorkView}
+use Rattle.arena_api.specs.Calls.{published}
+use Rattle.store_api.specs.Calls.{with_hold}
 use Rattle.store_api.specs.Ledgers.{Ledger}
 use Rattle.attr_types.specs.declared.applied.Applied.{Applied}
 use Rattle.attr_types.specs.declared.applied.Applied.TheVariants.{Changed, Skipped}
@@ -12,7 +16,8 @@ use Rattle.attr_types.specs.Table.{Table, after_op, is_skipped, after_ops, skipp
 use Rattle.attr_types.specs.declared.field.Field.{Field}
 use Rattle.attr_types.specs.declared.op.Op.{Op}
 use Rattle.attribute_kinds.specs.Views.{AttributeView}
-use Rattle.attribute_kinds.specs.Calls.{KeepsStore, KeepsStoreBut, applied_to}
+use Rattle.attribute_kinds.specs.Calls.{KeepsStore, KeepsStoreBut, CommitsImage, applied_to}
+use Rattle.attribute_kinds.specs.declared.answers.CommitInfo.{CommitInfo}
 use Rattle.attr_loader.specs.Loading.{StaysIn}
 use Rattle.attr_loader.specs.Batches.{skips_of, AppliesAll, CommitsBatch, FindsNoRoom, IsFullStore, KeepsCommit, KeepsTable, LoadsBatch}
 use Rattle.attr_loader.specs.declared.batch.Batch.{Batch}
@@ -48,6 +53,24 @@ skipped_ops-few fields table (x ∷ ops) =
     let rest = skipped_ops-few fields (after_op fields table x) ops in
     let one = one_at_most (is_skipped fields table x) in
     omega (arith, rest, one)
+
+-- a commit is one more, and of as many readers
+pub commit_number : {H : Type 0} (old new : Ledger H) (bits : ℕ) (image : Image) (info : CommitInfo) → CommitsImage bits old new image info
+    → new.work.commits.last ≡ old.work.commits.last + 1
+commit_number old new bits image info made =
+    let stores = made.stores in
+    stores.reclaim_keeps.last ∙ stores.advance_keeps.last ∙ stores.adds.last ∙ ap (λ n. n + 1) made.prepares.commits.last
+
+with_hold-made : {H : Type 0} (work : WorkView H) (finished : Option ℕ) → (with_hold work finished).made ≡ work.made
+with_hold-made work None = refl
+with_hold-made work (Some b) = refl
+
+pub commit_readers : {H : Type 0} (old new : Ledger H) (bits : ℕ) (image : Image) (info : CommitInfo) → CommitsImage bits old new image info
+    → new.work.made ≡ old.work.made
+commit_readers {H = H} old new bits image info made =
+    let stores = made.stores in
+    ap (λ (w : WorkView H). w.made) stores.work ∙ ap (λ (w : WorkView H). w.made) stores.next_is
+    ∙ with_hold-made (published made.mid.work stores.commits image) made.mid.finished ∙ made.prepares.readers
 
 module _ {S H : Type 0} (ledger : S → Ledger H) where
   pub keeps_of : (old new : AttributeView S) → KeepsStore (ledger old.store) (ledger new.store) → new.fields ≡ old.fields → new.committed ≡ old.committed → new.committed_operations ≡ old.committed_operations

@@ -103,7 +103,7 @@ there_is kind type m es (p ∷ ps) column doc some is up whole =
     let rest = read_pairs kind type m ps in
     let there : lookup (is_at (nat_cmp p.0)) column ≡ Some items =
     subst (λ (c : Column). lookup (is_at (nat_cmp p.0)) c ≡ Some items) whole (lookup_there (column_of 0 es) p.0 items rest (subst Ascends (sym whole) up)) in
-    subst (λ (d : ℕ). IsSome (lookup (is_at (nat_cmp d)) column)) (sym is) (subst IsSome (sym there) tt)
+    subst (λ (d : ℕ). IsSome (lookup (is_at (nat_cmp d)) column)) (sym is) (subst IsSome (sym there) refl)
 
 pub first_number : (ps : List (ℕ × ℕ)) → ps ≢ [] → AllByRecursion IsDocumentPair ps → first_key ps ≤ 1048575
 first_number [] some all = absurd (some refl)
