@@ -1,6 +1,6 @@
 -- What a run came to has a history.
 use Rattle.std.proofs.Common.{◌≡◌, ◌≢◌, ◌∙◌, inl, inr, sym, ap, ap₂, refl, subst, ℕ, zero, suc, ◌+◌, ◌≤◌, ◌<◌, ◌==◌, nat_le, Bool, true, false, cond}
-use Rattle.std.proofs.Common.{List, [], ◌∷◌, ◌++◌, map, length, filter, All, Option, Some, None, append-nil, append_assoc, length-append, arith, eq-eqb}
+use Rattle.std.proofs.Common.{List, [], ◌∷◌, ◌++◌, map, length, filter, Option, Some, None, append-nil, append_assoc, length-append, arith, eq-eqb}
 use Rattle.std.specs.Prelude.{Vec}
 use Rattle.std.specs.Global.{Global}
 use Rattle.std.proofs.lemmas.Bool.{ne_eqb}
@@ -19,7 +19,7 @@ use Rattle.attr_report.specs.Run.{Run}
 use Rattle.attr_report.specs.History.{numbers_to}
 use Rattle.attr_engine.specs.declared.came.Came.{Came}
 use Rattle.attr_engine.specs.Rounds.{IsRoundAt, AreRoundsAt, IsCame, commits_of, seen_before}
-use Rattle.attr_engine.specs.Happenings.{Happening, Committed, Answered, commit_of, round_of, commits_to, with_numbers, AreInOrder, AreAtCommits, HasHistory}
+use Rattle.attr_engine.specs.Happenings.{Happening, Committed, Answered, commit_of, round_of, with_numbers, AreInOrder, AreAtCommits, HasHistory}
 
 abbrev Rounds : Type 0
 Rounds = Vec (Round Told) Global

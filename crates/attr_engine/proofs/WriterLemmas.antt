@@ -137,9 +137,9 @@ can_load ledger fields batch ops a same some few fit start = record {
 }
 
 -- the commits that are left to attributes over a new writer are enough
-pub commits_left : {S : Type 0} (ledger : S → Ledger TableId) (fields : List Field) (home : TableId) (w : WriterView) (a : AttributeView S) (ops : List Op) → IsNewWriter fields home w
+pub commits_left : {S : Type 0} (ledger : S → Ledger TableId) (fields : List Field) (home : TableId) (w : WriterView) (a : AttributeView S) (ops : List Op) → IsAtStart ledger a → IsNewWriter fields home w
     → (ledger a.store).work ≡ view_of home w → length ops < 2 ^ 32 → (ledger a.store).work.commits.last + length ops ≤ (ledger a.store).work.sizes.commits
-commits_left ledger fields home w a ops new work few =
+commits_left ledger fields home w a ops start new work few =
     let last : (ledger a.store).work.commits.last ≡ 0 = ap (λ (x : WorkView TableId). x.commits.last) work ∙ new.fresh.last in
     let limit : (ledger a.store).work.sizes.commits ≡ 4294967295 = ap (λ (x : WorkView TableId). x.sizes.commits) work ∙ new.limit in
     omega (arith, last, limit, few)

@@ -13,7 +13,7 @@ use Rattle.gen_core.specs.declared.views.ReaderView.{ReaderView}
 use Rattle.gen_core.specs.declared.views.WriterView.{WriterView}
 use Rattle.gen_core.specs.Views.{last_number}
 use Rattle.word_arena.specs.Knows.{view_of, api_buffer}
-use Rattle.attr_images.specs.Images.{operations_at, table_of, IsLawfulImage}
+use Rattle.attr_images.specs.Images.{table_of, IsLawfulImage}
 use Rattle.attr_images.specs.Shapes.{shape_of, types_of}
 use Rattle.attr_types.specs.Scores.{AskTree}
 use Rattle.attr_types.specs.Table.{skipped}
@@ -27,7 +27,6 @@ use Rattle.attr_loader.specs.declared.loaded.NoRoom.{NoRoom}
 use Rattle.attr_rounds.specs.Rounds.{AreSeen, IsOfCommit, MakesRounds}
 use Rattle.attr_rounds.specs.declared.rounds.Round.{Round}
 use Rattle.attr_rounds.specs.declared.asked.Told.{Told}
-use Rattle.attr_rounds.specs.Lines.{TellsTable}
 use Rattle.attr_rounds.specs.Columns.{TellsColumn}
 use Rattle.attr_report.specs.Run.{Run}
 use Rattle.attr_engine.specs.Rounds.{operations_of, tells_of, commits_of, AreGuarded}

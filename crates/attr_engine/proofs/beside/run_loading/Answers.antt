@@ -1,6 +1,6 @@
-use Rattle.std.proofs.Common.{subst, arith}
-use Rattle.std.specs.Prelude.{IfOk, IfErr}
-use Rattle.attr_loader.specs.Loading.{Loads, IsSpent}
+use Rattle.std.proofs.Common.{subst}
+use Rattle.std.specs.Prelude.{IfOk}
+use Rattle.attr_loader.specs.Loading.{Loads}
 use Rattle.attr_engine.proofs.beside.run_loading.Goals as goal
 
 pub returns-in-Ok-clause-loads : goal.returns-in-Ok-clause-loads
