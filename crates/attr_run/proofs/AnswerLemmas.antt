@@ -15,7 +15,7 @@ use Rattle.attr_report.specs.Report.{written}
 use Rattle.attr_run.specs.Run.{Task, asked, ReadsFeed, task_of}
 use Rattle.attr_run.specs.Texts.{answer_text}
 use Rattle.attr_run.specs.Answers.{EndsRun, IsEnd, IsRefusedFeed, OfRun, ComesExactly, ComesExactlyOfFeed}
-use Rattle.attr_run.specs.Answers.{IsBeforeRun, HasNoRun, IsProper, IsRunUntil, IsFullRun, IsDue}
+use Rattle.attr_run.specs.Answers.{IsBeforeRun, HasNoRun, IsRunUntil, IsFullRun, IsDue}
 use Rattle.attr_run.specs.Settings.{QueriesAreRefused}
 use Rattle.attr_run.specs.Refusals.{IsRefusedFor}
 use Rattle.attr_run.specs.Steps.{IsAnswer, IsRuled}

@@ -19,12 +19,11 @@ use Rattle.attr_words.specs.Also.{◌>>=◌, named_fields}
 use Rattle.attr_words.specs.Settings.{Given, or_refused, if_room, are_too_many, settings_by, said_or_refused, said_in, settings_in}
 use Rattle.attr_words.specs.declared.reading.WordsError.{WordsError}
 use Rattle.attr_words.specs.declared.reading.WordsError.TheVariants as words
-use Rattle.attr_report.specs.Run.{Run, run_in}
+use Rattle.attr_report.specs.Run.{Run}
 use Rattle.attr_run.specs.Run.{refusal_of, given_or_refused, asked}
 use Rattle.attr_run.specs.Settings.{QueriesAreRefused}
 use Rattle.attr_run.specs.Refusals.{said_of, NamesNoKind, NamesNoValue, AsksTooMuch, NamesBadField, AsksBadQuery}
 use Rattle.attr_run.specs.Steps.{Says, IsUnfed, IsRuledStop}
-use Rattle.attr_run.specs.declared.outcome.Status.{Status}
 use Rattle.attr_run.specs.declared.outcome.Status.TheVariants.{Done, Help, Usage, BadFeed, ReadFault, WriteFault, Full, Memory}
 use Rattle.attr_run.specs.declared.outcome.UsageCause.TheVariants as usage
 use Rattle.attr_run.specs.declared.stop.Stop.{Stop}

@@ -1,4 +1,4 @@
-use Rattle.std.proofs.Common.{◌≡◌, ◌∙◌, ap, sym, refl, subst, Ok, Option}
+use Rattle.std.proofs.Common.{◌∙◌, ap, sym, refl, subst, Ok, Option}
 use Rattle.std.proofs.lemmas.Result.{IfOk-weaker}
 use Rattle.attr_io.proofs.ReadLemmas.{reads_none}
 use Rattle.feed_reader.specs.Feed.{most_bytes}
