@@ -18,7 +18,8 @@ use Rattle.attr_types.specs.declared.kind.ValueType.{ValueType}
 use Rattle.attr_saver.specs.declared.saved.SavedDocument.{SavedDocument}
 
 -- a text was written, or a front of it and a write failed
-pub record Writes {T E : Type 0} (old new : Option (List ℕ)) (faults_old faults_new : ℕ) (result : Result T E) (text : List ℕ) : Type 0 where
+pub record Writes {T E : Type 0} (old new : Option (List ℕ)) (faults_old faults_new : ℕ) (result : Result T E) (text : List ℕ)
+    : Type 0 where
   pub whole : OnOk result (Appends old new text)
   pub front : OnErr result (AppendsFront old new text)
   pub cause : CountsFaults faults_old faults_new result
