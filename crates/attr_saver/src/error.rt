@@ -62,8 +62,6 @@ impl From<ReadError> for LoadError {
 pub enum SaveError {
     #[error("a write failed")]
     WriteFault,
-    #[error("out of memory")]
-    Memory,
 }
 
 impl From<Failed> for SaveError {
@@ -71,13 +69,5 @@ impl From<Failed> for SaveError {
 
     fn from(_failed: Failed) -> SaveError {
         SaveError::WriteFault
-    }
-}
-
-impl From<AllocError> for SaveError {
-    ghost from_gives = { λ _ e. e ≡ saving.Memory };
-
-    fn from(_e: AllocError) -> SaveError {
-        SaveError::Memory
     }
 }

@@ -1,4 +1,5 @@
 //! Laws of saves. Each function does nothing; its contract is the law.
+ghost use Rattle.attr_saver.specs.Images.{ImagesMayBeSaved};
 ghost use Rattle.attr_saver.specs.Laws.{FirstColumnIsLawful, ReadAgain, ReadsSaves, SavesDiffer};
 
 /// What was saved can be read again. What is read is lawful, and its bytes are all of the input. Two saves with the
@@ -12,4 +13,9 @@ pub fn saved_law()
 /// The first attribute of a lawful table whose values have the types of its attributes may be saved.
 pub fn column_law()
     ensures { FirstColumnIsLawful }
+{}
+
+/// What is saved of a lawful image is a save that there may be, so it is read again.
+pub fn image_save_law()
+    ensures { ImagesMayBeSaved }
 {}

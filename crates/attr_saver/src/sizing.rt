@@ -9,7 +9,7 @@ use attr_types::{Doc, FieldItems, Item, Kind, Value, ValueType};
 use std::collections::BTreeMap;
 
 /// The number of bytes before the documents.
-const HEAD: usize = 14;
+pub(crate) const HEAD: usize = 14;
 
 /// The number of bytes of a document before its items.
 const DOCUMENT_HEAD: usize = 6;
@@ -68,7 +68,11 @@ fn documents_size(kind: Kind, documents: &BTreeMap<Doc, FieldItems>) -> usize
 }
 
 /// Returns the number of bytes of a save of the first attribute, of this kind and value type.
-pub fn saved_size(kind: Kind, value: ValueType, documents: &BTreeMap<Doc, FieldItems>) -> usize
+pub(crate) fn table_size(
+    kind: Kind,
+    value: ValueType,
+    documents: &BTreeMap<Doc, FieldItems>,
+) -> usize
     requires { AreLawfulDocuments kind value (first_column documents.now.entries) }
     ensures { (operations : ℕ) → result
         ≡ length (saved_bytes (save_of kind value operations documents.now.entries)) }

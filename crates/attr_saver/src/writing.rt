@@ -12,7 +12,7 @@ use attr_types::{Doc, FieldItems, Item, Kind, Text, Value, ValueType};
 use std::alloc::AllocError;
 use std::collections::BTreeMap;
 
-fn kind_byte(kind: Kind) -> u8
+pub(crate) fn kind_byte(kind: Kind) -> u8
     ensures { result ≡ kind_byte kind }
 {
     match kind {
@@ -22,7 +22,7 @@ fn kind_byte(kind: Kind) -> u8
     }
 }
 
-fn type_byte(value_type: ValueType) -> u8
+pub(crate) fn type_byte(value_type: ValueType) -> u8
     ensures { result ≡ type_byte value_type }
 {
     match value_type {
