@@ -11,13 +11,14 @@ ghost use Rattle.attr_field.specs.Changes.{MakesField};
 ghost use Rattle.attr_field.specs.Fields.{field_part, IsField, RefersBeside};
 ghost use Rattle.attr_field.specs.Widths.{IsFieldWidth};
 ghost use Rattle.attr_images.specs.Documents.{column_at};
-ghost use Rattle.attr_field.specs.Counts.{field_nodes, field_records, low_nodes, StaysLow};
+ghost use Rattle.attr_field.specs.Counts.{change_records, field_nodes, low_nodes, StaysLow};
 ghost use Rattle.attr_index.specs.Changes.{first_weights};
 ghost use Rattle.attr_index.specs.Columns.{items_of as items_had, with_change};
 ghost use Rattle.attr_types.specs.Lawful.{IsDocNumber, ItemsFit};
 ghost use Rattle.attr_types.specs.Query.{items_in};
 ghost use Rattle.attr_types.specs.Table.{document_at};
-ghost use Rattle.value_index.specs.Counts.{MakesFew};
+ghost use Rattle.posting_store.specs.Changes.{MakesWithin};
+ghost use Rattle.value_index.specs.Counts.{by_width};
 ghost use Rattle.attr_steps.specs.Counts.{MakesDocument};
 ghost use Rattle.attr_steps.specs.Fields.{AreFields, ChangesFields, FitsFields, OwnsFields, table_with, trees_of};
 ghost use Rattle.attr_steps.specs.Views.{table_at};
@@ -101,15 +102,17 @@ fn change_field<const OFFSET_BITS: u32, S: Store<OFFSET_BITS>>(
         (S.records store.old) (S.records store.new) roots.entry.documents roots.entry.dictionary
         (with_change (column_at field.now.kind field.now.value (S.records store.old) roots.entry.documents) doc (option_copied new.entry))
         next.documents next.dictionary) }
-    ensures counts { MakesFew (S.ledger store.old) (S.ledger store.new)
-        (field_nodes (first_weights [] old.now) (first_weights [] (unwrap_or (option_copied new.entry) [])))
-        (field_records (first_weights [] old.now) (first_weights [] (unwrap_or (option_copied new.entry) []))) }
+    ensures counts { MakesWithin (S.ledger store.old) (S.ledger store.new)
+        (by_width (field_nodes (first_weights [] old.now) (first_weights [] (unwrap_or (option_copied new.entry) [])))
+        (change_records field.now.kind (column_at field.now.kind field.now.value (S.records store.old) roots.entry.documents) doc old.now
+        (unwrap_or (option_copied new.entry) []))) }
     ensures low { (levels : ℕ)
         → StaysLow levels (column_at field.now.kind field.now.value (S.records store.old) roots.entry.documents)
         (first_weights [] (unwrap_or (option_copied new.entry) []))
-        → MakesFew (S.ledger store.old) (S.ledger store.new)
-        (low_nodes levels (first_weights [] old.now) (first_weights [] (unwrap_or (option_copied new.entry) [])))
-        (field_records (first_weights [] old.now) (first_weights [] (unwrap_or (option_copied new.entry) []))) }
+        → MakesWithin (S.ledger store.old) (S.ledger store.new)
+        (by_width (low_nodes levels (first_weights [] old.now) (first_weights [] (unwrap_or (option_copied new.entry) [])))
+        (change_records field.now.kind (column_at field.now.kind field.now.value (S.records store.old) roots.entry.documents) doc old.now
+        (unwrap_or (option_copied new.entry) []))) }
     ensures refuses { IfErr result (RefusesOf (IsFieldWidth field.now.kind
         (with_change (column_at field.now.kind field.now.value (S.records store.old) roots.entry.documents) doc (option_copied new.entry))
         old.now (unwrap_or (option_copied new.entry) [])) (S.ledger store.old) (S.ledger store.new)) }
@@ -154,8 +157,8 @@ fn change_each<const OFFSET_BITS: u32, S: Store<OFFSET_BITS>>(
     ensures changes { OnOk result (ChangesFields fields.now (S.ledger store.old) (S.ledger store.new)
         (S.records store.old) (S.records store.new)
         (trees_of fields.now roots.old) doc (option_copied new.entry) (trees_of fields.now roots.new)) }
-    ensures counts { MakesDocument (S.ledger store.old) (S.ledger store.new)
-        (table_at (S.records store.old) (trees_of fields.now roots.old))
+    ensures counts { MakesDocument (S.ledger store.old) (S.ledger store.new) fields.now
+        (table_at (S.records store.old) (trees_of fields.now roots.old)) doc
         (option_copied old.entry) (option_copied new.entry) (length fields.now) }
     ensures refuses { IfErr result (RefusesOf (IsChangedWidth fields.now
         (table_with (table_at (S.records store.old) (trees_of fields.now roots.old)) doc (option_copied new.entry))
@@ -194,8 +197,8 @@ pub fn change_document<const OFFSET_BITS: u32, S: Store<OFFSET_BITS>>(
     ensures changes { IfOk result (λ next. ChangesFields fields.now (S.ledger store.old) (S.ledger store.new)
         (S.records store.old) (S.records store.new)
         (trees_of fields.now roots.now) doc (option_copied new.entry) (trees_of fields.now next.items)) }
-    ensures counts { MakesDocument (S.ledger store.old) (S.ledger store.new)
-        (table_at (S.records store.old) (trees_of fields.now roots.now))
+    ensures counts { MakesDocument (S.ledger store.old) (S.ledger store.new) fields.now
+        (table_at (S.records store.old) (trees_of fields.now roots.now)) doc
         (option_copied old.entry) (option_copied new.entry) (length fields.now) }
     ensures refuses { IfErr result (RefusesOf (IsChangedWidth fields.now
         (table_with (table_at (S.records store.old) (trees_of fields.now roots.now)) doc (option_copied new.entry))

@@ -5,7 +5,7 @@ ghost use Rattle.attr_types.specs.declared.field.TheConstants.{MOST_FIELDS};
 ghost use Rattle.store_api.specs.Calls.{Refuses};
 ghost use Rattle.store_api.specs.Parts.{Owns, Turns, entries};
 ghost use Rattle.store_api.specs.Units.{MayDo, MakesAtMost};
-ghost use Rattle.array_store.specs.Adding.{AddsRecord, AddsNothing};
+ghost use Rattle.array_store.specs.Adding.{AddsRecord, AddsNothing, MakesOneOf};
 ghost use Rattle.attr_steps.specs.Calls.{KeepsStore, LeavesEntries};
 ghost use Rattle.attr_steps.specs.Commits.{IsForWidth, MakesRootRecord, RefusesRoot, roots_listed};
 ghost use Rattle.attr_steps.specs.Fields.{root_entries};
@@ -50,6 +50,7 @@ fn make_root<const OFFSET_BITS: u32, S: Store<OFFSET_BITS>>(
     ensures refuses { IfErr result (Refuses (S.ledger store.old) (S.ledger store.new)
         (class_of (length (operations ∷ roots_listed roots.now)))) }
     ensures refused { OnErr result (AddsNothing (S.ledger store.old) (S.ledger store.new) (S.records store.old) (S.records store.new)) }
+    ensures counts { MakesOneOf (class_of (length (operations ∷ roots_listed roots.now))) (S.ledger store.old) (S.ledger store.new) }
     ensures may { MayDo (S.ledger store.old) (S.ledger store.new) }
 {
     let words = root_words(roots, operations);
@@ -66,6 +67,7 @@ fn drop_root<const OFFSET_BITS: u32, S: Store<OFFSET_BITS>>(
     requires owns { Owns (S.ledger store.old) (S.records store.old) (entries (root_entries root) ∷ []) }
     ensures turns { Turns (S.ledger store.old) (S.ledger store.new) (S.records store.old) (S.records store.new)
         (entries (root_entries root.entry) ∷ []) [] }
+    ensures none_made { (c w : ℕ) → MakesAtMost c 0 ((S.ledger store.old).of_width w) ((S.ledger store.new).of_width w) }
     ensures may { MayDo (S.ledger store.old) (S.ledger store.new) }
 {
     may_do_law::<OFFSET_BITS, S>();
@@ -91,6 +93,7 @@ fn turn_root<const OFFSET_BITS: u32, S: Store<OFFSET_BITS>>(
     ensures refuses { IfErr result (Refuses (S.ledger store.old) (S.ledger store.new)
         (class_of (length (operations ∷ roots_listed roots.now)))) }
     ensures none_made { OnErr result ((c w : ℕ) → MakesAtMost c 0 ((S.ledger store.old).of_width w) ((S.ledger store.new).of_width w)) }
+    ensures counts { MakesOneOf (class_of (length (operations ∷ roots_listed roots.now))) (S.ledger store.old) (S.ledger store.new) }
     ensures may { MayDo (S.ledger store.old) (S.ledger store.new) }
 {
     may_do_law::<OFFSET_BITS, S>();
@@ -116,6 +119,7 @@ pub fn root_unit<const OFFSET_BITS: u32, S: Store<OFFSET_BITS>>(
     ensures left { OnErr result (LeavesEntries (S.ledger store.old) (S.ledger store.new) (S.records store.old) (S.records store.new)) }
     ensures refused { IfErr result (RefusesRoot (S.ledger store.old) (S.ledger store.new)) }
     ensures width { IfErr result (IsForWidth (class_of (length (operations ∷ roots_listed roots.now)))) }
+    ensures counts { MakesOneOf (class_of (length (operations ∷ roots_listed roots.now))) (S.ledger store.old) (S.ledger store.new) }
     ensures keeps { KeepsStore (S.ledger store.old) (S.ledger store.new) }
 {
     class_law();
