@@ -1,154 +1,193 @@
 -- How many records the steps of a change make.
-use Rattle.std.proofs.Common.{◌≡◌, ℕ, ℤ, ◌+◌, ◌*◌, ◌^◌, ◌<◌, ◌≤◌, Bool, cond, nat_eq, List, [], length, refl, subst, arith}
+use Rattle.std.proofs.Common.{◌≡◌, ℕ, ℤ, ◌+◌, ◌*◌, ◌^◌, ◌<◌, ◌≤◌, Bool, true, false, cond, nat_eq, not, List, [], ◌∷◌, length, Option, Some, None, refl, sym, ap, subst, ◌∙◌, arith}
+use Rattle.std.proofs.lemmas.Bool.{true≢false}
 use Rattle.std.proofs.lemmas.List.{length-map}
+use Rattle.std.proofs.lemmas.List.Sums.{sum_by-cons}
+use Rattle.std.specs.Option.{is_some}
 use Rattle.entry_ref.specs.Records.{Records}
 use Rattle.store_api.specs.Ledgers.{Ledger}
 use Rattle.store_api.specs.Units.{MayDo}
 use Rattle.store_api.proofs.May.{may_do-then}
-use Rattle.array_store.proofs.ClassLemmas.{class_no_node}
 use Rattle.tree_read.specs.Trees.{tree_pairs}
 use Rattle.frozen_btree.specs.Changes.{levels}
 use Rattle.frozen_btree.specs.Makes.{CountsNodes}
 use Rattle.attr_field.specs.DocumentsChanges.{documents_most}
 use Rattle.attr_field.specs.Documents.{IsDocuments}
+use Rattle.attr_field.specs.Items.{items_record}
 use Rattle.attr_images.specs.Documents.{column_at, items_at}
-use Rattle.attr_images.specs.Words.{class_of}
+use Rattle.attr_index.specs.Changes.{settled, IsBetween}
+use Rattle.attr_index.specs.Columns.{Column, documents_with}
+use Rattle.attr_index.specs.Index.{Index, IsIndexOf, list_of}
 use Rattle.attr_types.specs.declared.kind.Kind.{Kind}
 use Rattle.attr_types.specs.declared.kind.ValueType.{ValueType}
 use Rattle.attr_types.specs.declared.value.Value.{Value}
 use Rattle.posting_store.specs.Changes.{MakesWithin}
-use Rattle.value_index.proofs.CountLemmas.{within_nodes}
+use Rattle.value_index.proofs.CountLemmas.{within_more, within_nodes}
 use Rattle.value_index.specs.Changes.{nodes_most}
-use Rattle.value_index.specs.Counts.{value_nodes, MakesFew, record_sum, gone_count}
-use Rattle.value_index.proofs.WalksCountLemmas.{few_more, few_then, levels_few, no_node, one_of}
+use Rattle.value_index.specs.Counts.{added_records, by_width, gone_count, gone_records, is_added, is_gone, put_records, taken_records, value_nodes, walk_records}
+use Rattle.value_index.proofs.WalksCountLemmas.{levels_few, width_more, width_then}
 use Rattle.value_index.proofs.LevelLemmas.{levels_low}
-use Rattle.attr_field.specs.Counts.{field_nodes, field_records, lost_values, low_nodes, new_values, entry_weight}
+use Rattle.attr_field.specs.Counts.{entry_weight, field_nodes, field_records, lost_values, low_nodes, new_values}
 
-abbrev one_if : Bool → ℕ
-one_if t = cond t 1 0
+abbrev Docs : Type 0
+Docs = List (ℕ × ℤ)
 
--- a record of items is no node
-entry_nodes : (k n : ℕ) → one_if (nat_eq 34 k) ≡ 0 → n ≤ 17 → one_if (nat_eq 34 k) + n ≤ 17
-entry_nodes k n none few = omega arith
+-- ---- the same lists make the same
+walk_same : (changes : Value × ℤ → Bool) (f h : Value × ℤ → ℕ → ℕ) (w : ℕ) → ((e : Value × ℤ) → changes e ≡ true → f e w ≡ h e w) → (es : List (Value × ℤ))
+    → walk_records changes f es w ≡ walk_records changes h es w
+walk_same changes f h w same [] = refl
+walk_same changes f h w same (e ∷ es) =
+    let here = told (changes e) refl in
+    let rest = walk_same changes f h w same es in
+    let a = sum_by-cons (λ (x : Value × ℤ). cond (changes x) (f x w) 0) e es in
+    let b = sum_by-cons (λ (x : Value × ℤ). cond (changes x) (h x w) 0) e es in
+    omega (arith, here, rest, a, b)
+  where
+    told : (t : Bool) → changes e ≡ t → cond (changes e) (f e w) 0 ≡ cond (changes e) (h e w) 0
+    told true is = ap (λ x. cond (changes e) x 0) (same e is)
+    told false is = ap (λ t. cond t (f e w) 0) is ∙ sym (ap (λ t. cond t (h e w) 0) is)
 
-entry_records : (k n : ℕ) → record_sum (λ w. cond (nat_eq w k) 1 0 + cond (nat_eq w 34) n 0) ≤ 1
-entry_records k n = let one = one_of k in omega arith
+gone_none : (o : Option ℤ) → not (is_some o) ≡ true → o ≡ None
+gone_none None is = refl
+gone_none (Some x) is = absurd (true≢false (sym is))
 
-pub few_entry : {H : Type 0} (a b : Ledger H) (m : Records) (root words : ℕ) → MakesWithin a b (documents_most words (2 * levels m root + 1)) → MakesFew a b 17 1
-few_entry a b m root words made = record {
-  most = documents_most words (2 * levels m root + 1);
-  counts = made;
-  nodes_few = entry_nodes (class_of words) (2 * levels m root + 1) (no_node (class_of words) (class_no_node words)) (let few = levels_few m root in omega arith);
-  records_few = entry_records (class_of words) (2 * levels m root + 1);
-}
+module _ (column : Column) (start : Index) (doc : ℕ) (of : IsIndexOf column start) where
+  pub added_same : (old : Value → Option ℤ) (es : List (Value × ℤ)) (w : ℕ)
+      → added_records (λ v. list_of v start) doc old es w ≡ added_records (λ v. documents_with v column) doc old es w
+  added_same old es w =
+      walk_same (is_added old) (put_records (λ v. list_of v start) doc) (put_records (λ v. documents_with v column) doc) w
+      (λ e changed. ap (λ (docs : Docs). put_records (λ v. docs) doc e w) (of.lists e.0)) es
 
-taken_records : (h : ℕ) → record_sum (nodes_most h) ≤ 1
-taken_records h = omega arith
+  -- after the walk over the new values
+  module _ (new : Value → Option ℤ) (middle : Index) (added : IsBetween start doc new (λ v. None) middle) where
+    gone_list : (value : Value) → new value ≡ None → list_of value middle ≡ documents_with value column
+    gone_list value none = added.lists value ∙ ap (λ (o : Option ℤ). settled o None doc (list_of value start)) none ∙ of.lists value
 
-pub few_taken : {H : Type 0} (a b : Ledger H) (m : Records) (root : ℕ) → CountsNodes a b (levels m root + 1) → MakesFew a b 17 1
-few_taken a b m root counts = record {
-  most = nodes_most (levels m root);
-  counts = within_nodes a b (levels m root) (levels m root + 1) (omega arith) counts;
-  nodes_few = let few = levels_few m root in let same : nodes_most (levels m root) 34 ≡ 2 * levels m root + 1 = refl in omega arith;
-  records_few = taken_records (levels m root);
-}
+    pub gone_same : (es : List (Value × ℤ)) (w : ℕ) → gone_records (λ v. list_of v middle) doc new es w ≡ gone_records (λ v. documents_with v column) doc new es w
+    gone_same es w =
+        walk_same (is_gone new) (taken_records (λ v. list_of v middle) doc) (taken_records (λ v. documents_with v column) doc) w
+        (λ e changed. ap (λ (docs : Docs). taken_records (λ v. docs) doc e w) (gone_list e.0 (gone_none (new e.0) changed))) es
 
--- the steps one after another
-module _ {H : Type 0} (old new : List (Value × ℤ)) (a b c d : Ledger H) where
-  pub counts_first : MakesFew a b (34 * new_values old new) (2 * new_values old new) → MakesFew a b (field_nodes old new) (field_records old new)
-  counts_first made = few_more a b (34 * new_values old new) (2 * new_values old new) (field_nodes old new) (field_records old new) (omega arith) (omega arith) made
+pub same_within : {H : Type 0} (a b : Ledger H) (nodes : ℕ) (f h : ℕ → ℕ) → ((w : ℕ) → f w ≡ h w) → MakesWithin a b (by_width nodes f) → MakesWithin a b (by_width nodes h)
+same_within a b nodes f h same made = width_more a b nodes nodes f h (omega arith) (λ w. let is = same w in omega (arith, is)) made
 
-  pub counts_two : MayDo a b → MakesFew a b (34 * new_values old new) (2 * new_values old new) → MakesFew b c 17 1 → MakesFew a c (field_nodes old new) (field_records old new)
-  counts_two may added entry =
-      few_more a c (34 * new_values old new + 17) (2 * new_values old new + 1) (field_nodes old new) (field_records old new) (omega arith) (omega arith)
-      (few_then a b c (34 * new_values old new) (2 * new_values old new) 17 1 may added entry)
+-- ---- the document's entry
+pub few_entry : {H : Type 0} (a b : Ledger H) (m : Records) (root : ℕ) (kind : Kind) (count : ℕ) → MakesWithin a b (documents_most kind count (2 * levels m root + 1)) → MakesWithin a b (documents_most kind count 17)
+few_entry a b m root kind count made =
+    width_more a b (2 * levels m root + 1) 17 (items_record kind count) (items_record kind count) (let few = levels_few m root in omega arith) (λ w. omega arith) made
 
-  pub counts_three : MayDo a b → MayDo b c → MakesFew a b (34 * new_values old new) (2 * new_values old new) → MakesFew b c 17 1
-      → MakesFew c d (34 * lost_values old new) (lost_values old new) → MakesFew a d (field_nodes old new) (field_records old new)
-  counts_three may goes added entry gone =
-      few_then a c d (34 * new_values old new + 17) (2 * new_values old new + 1) (34 * lost_values old new) (lost_values old new) (may_do-then a b c may goes)
-      (few_then a b c (34 * new_values old new) (2 * new_values old new) 17 1 may added entry) gone
+nodes_by : (h n w : ℕ) → 2 * h + 1 ≤ n → nodes_most h w ≤ by_width n (λ v. 0) w
+nodes_by h n w few = told (nat_eq w 34)
+  where
+    told : (t : Bool) → cond t (2 * h + 1) 0 ≤ cond t n 0
+    told true = few
+    told false = omega arith
 
--- of a document that is taken out
-module _ {H : Type 0} (old : List (Value × ℤ)) (a b c : Ledger H) where
-  pub counts_entry : MakesFew a b 17 1 → MakesFew a b (field_nodes old []) (field_records old [])
-  counts_entry made = few_more a b 17 1 (field_nodes old []) (field_records old []) (omega arith) (omega arith) made
+pub low_taken : {H : Type 0} (a b : Ledger H) (m : Records) (root most : ℕ) → levels m root ≤ most → CountsNodes a b (levels m root + 1) → MakesWithin a b (by_width (2 * most + 1) (λ w. 0))
+low_taken a b m root most low counts =
+    within_more a b (nodes_most (levels m root)) (by_width (2 * most + 1) (λ w. 0)) (λ w. nodes_by (levels m root) (2 * most + 1) w (omega arith))
+    (within_nodes a b (levels m root) (levels m root + 1) (omega arith) counts)
 
-  pub counts_taken : MayDo a b → MakesFew a b 17 1 → (none : List (Value × ℤ)) → none ≡ [] → MakesFew b c (34 * gone_count (entry_weight none) old) (gone_count (entry_weight none) old)
-      → MakesFew a c (field_nodes old []) (field_records old [])
-  counts_taken may entry none is gone =
-      few_more a c (17 + 34 * lost_values old []) (1 + lost_values old []) (field_nodes old []) (field_records old []) (omega arith) (omega arith)
-      (few_then a b c 17 1 (34 * lost_values old []) (lost_values old []) may entry
-      (subst (λ (es : List (Value × ℤ)). MakesFew b c (34 * gone_count (entry_weight es) old) (gone_count (entry_weight es) old)) is gone))
+pub few_taken : {H : Type 0} (a b : Ledger H) (m : Records) (root : ℕ) → CountsNodes a b (levels m root + 1) → MakesWithin a b (by_width 17 (λ w. 0))
+few_taken a b m root counts = low_taken a b m root 8 (levels_few m root) counts
 
--- ---- the same where no tree has more levels
 pub documents_low : (kind : Kind) (type : ValueType) (m : Records) (root most : ℕ) → IsDocuments kind type m root → 0 < most → length (column_at kind type m root) < 2 * 8 ^ most
     → levels m root ≤ most
 documents_low kind type m root most is some few =
     levels_low m root most is.map_is.tree_is.node some
     (subst (λ n. n < 2 * 8 ^ most) (length-map (tree_pairs m root) (λ (p : ℕ × ℕ). (p.0, items_at kind type m p.1))) few)
 
-entry_low : (k n most : ℕ) → one_if (nat_eq 34 k) ≡ 0 → n ≤ most → one_if (nat_eq 34 k) + n ≤ most
-entry_low k n most none few = omega arith
+pub low_entry : {H : Type 0} (a b : Ledger H) (m : Records) (root : ℕ) (kind : Kind) (count most : ℕ) → levels m root ≤ most → MakesWithin a b (documents_most kind count (2 * levels m root + 1))
+    → MakesWithin a b (documents_most kind count (2 * most + 1))
+low_entry a b m root kind count most low made =
+    width_more a b (2 * levels m root + 1) (2 * most + 1) (items_record kind count) (items_record kind count) (omega arith) (λ w. omega arith) made
 
-pub low_entry : {H : Type 0} (a b : Ledger H) (m : Records) (root words most : ℕ) → levels m root ≤ most → MakesWithin a b (documents_most words (2 * levels m root + 1))
-    → MakesFew a b (2 * most + 1) 1
-low_entry a b m root words most low made = record {
-  most = documents_most words (2 * levels m root + 1);
-  counts = made;
-  nodes_few = entry_low (class_of words) (2 * levels m root + 1) (2 * most + 1) (no_node (class_of words) (class_no_node words)) (omega arith);
-  records_few = entry_records (class_of words) (2 * levels m root + 1);
-}
+-- ---- three steps one after another, of which the last may be missing, or the last two
+first_of : (x e y : ℕ) → x ≤ x + e + y
+first_of x e y = omega arith
 
-pub low_taken : {H : Type 0} (a b : Ledger H) (m : Records) (root most : ℕ) → levels m root ≤ most → CountsNodes a b (levels m root + 1) → MakesFew a b (2 * most + 1) 1
-low_taken a b m root most low counts = record {
-  most = nodes_most (levels m root);
-  counts = within_nodes a b (levels m root) (levels m root + 1) (omega arith) counts;
-  nodes_few = let same : nodes_most (levels m root) 34 ≡ 2 * levels m root + 1 = refl in omega arith;
-  records_few = taken_records (levels m root);
-}
+two_of : (x e y : ℕ) → x + e ≤ x + e + y
+two_of x e y = omega arith
 
-one_of_three : (x e y : ℕ) → x ≤ x + e + y
-one_of_three x e y = omega arith
+module _ {H : Type 0} (x e y : ℕ) (f h k : ℕ → ℕ) (a b c d : Ledger H) where
+  pub one_step : MakesWithin a b (by_width x f) → MakesWithin a b (by_width (x + e + y) (λ w. f w + h w + k w))
+  one_step made = width_more a b x (x + e + y) f (λ w. f w + h w + k w) (first_of x e y) (λ w. first_of (f w) (h w) (k w)) made
 
-two_of_three : (x e y : ℕ) → x + e ≤ x + e + y
-two_of_three x e y = omega arith
+  pub two_steps : MayDo a b → MakesWithin a b (by_width x f) → MakesWithin b c (by_width e h) → MakesWithin a c (by_width (x + e + y) (λ w. f w + h w + k w))
+  two_steps may first second =
+      width_more a c (x + e) (x + e + y) (λ w. f w + h w) (λ w. f w + h w + k w) (two_of x e y) (λ w. two_of (f w) (h w) (k w)) (width_then a b c x e f h may first second)
 
-mid_of_three : (x e y : ℕ) → e ≤ x + e + y
-mid_of_three x e y = omega arith
+  pub three_steps : MayDo a b → MayDo a c → MakesWithin a b (by_width x f) → MakesWithin b c (by_width e h) → MakesWithin c d (by_width y k)
+      → MakesWithin a d (by_width (x + e + y) (λ w. f w + h w + k w))
+  three_steps may both first second third = width_then a c d (x + e) y (λ w. f w + h w) k both (width_then a b c x e f h may first second) third
 
-last_of_three : (x e y : ℕ) → e + y ≤ x + e + y
-last_of_three x e y = omega arith
+mid_of : (x e y : ℕ) → e ≤ x + e + y
+mid_of x e y = omega arith
 
-module _ {H : Type 0} (most : ℕ) (old new : List (Value × ℤ)) (a b c d : Ledger H) where
-  pub low_one : MakesFew a b (value_nodes most * new_values old new) (2 * new_values old new) → MakesFew a b (low_nodes most old new) (field_records old new)
-  low_one made =
-      few_more a b (value_nodes most * new_values old new) (2 * new_values old new) (low_nodes most old new) (field_records old new)
-      (one_of_three (value_nodes most * new_values old new) (2 * most + 1) (value_nodes most * lost_values old new)) (omega arith) made
+last_of : (x e y : ℕ) → e + y ≤ x + e + y
+last_of x e y = omega arith
 
-  pub low_two : MayDo a b → MakesFew a b (value_nodes most * new_values old new) (2 * new_values old new) → MakesFew b c (2 * most + 1) 1
-      → MakesFew a c (low_nodes most old new) (field_records old new)
-  low_two may added entry =
-      few_more a c (value_nodes most * new_values old new + (2 * most + 1)) (2 * new_values old new + 1) (low_nodes most old new) (field_records old new)
-      (two_of_three (value_nodes most * new_values old new) (2 * most + 1) (value_nodes most * lost_values old new)) (omega arith)
-      (few_then a b c (value_nodes most * new_values old new) (2 * new_values old new) (2 * most + 1) 1 may added entry)
+-- the last two alone, of which the first makes nodes
+module _ {H : Type 0} (x e y : ℕ) (f h k : ℕ → ℕ) (b c d : Ledger H) where
+  pub entry_step : MakesWithin b c (by_width e (λ w. 0)) → MakesWithin b c (by_width (x + e + y) (λ w. f w + h w + k w))
+  entry_step made = width_more b c e (x + e + y) (λ w. 0) (λ w. f w + h w + k w) (mid_of x e y) (λ w. omega arith) made
 
-  pub low_three : MayDo a b → MayDo b c → MakesFew a b (value_nodes most * new_values old new) (2 * new_values old new) → MakesFew b c (2 * most + 1) 1
-      → MakesFew c d (value_nodes most * lost_values old new) (lost_values old new) → MakesFew a d (low_nodes most old new) (field_records old new)
-  low_three may goes added entry gone =
-      few_then a c d (value_nodes most * new_values old new + (2 * most + 1)) (2 * new_values old new + 1) (value_nodes most * lost_values old new) (lost_values old new) (may_do-then a b c may goes)
-      (few_then a b c (value_nodes most * new_values old new) (2 * new_values old new) (2 * most + 1) 1 may added entry) gone
+  pub last_steps : MayDo b c → MakesWithin b c (by_width e (λ w. 0)) → MakesWithin c d (by_width y k) → MakesWithin b d (by_width (x + e + y) (λ w. f w + h w + k w))
+  last_steps may second third =
+      width_more b d (e + y) (x + e + y) (λ w. 0 + k w) (λ w. f w + h w + k w) (last_of x e y) (λ w. omega arith) (width_then b c d e y (λ w. 0) k may second third)
 
-module _ {H : Type 0} (most : ℕ) (old : List (Value × ℤ)) (a b c : Ledger H) where
-  pub low_out : MakesFew a b (2 * most + 1) 1 → MakesFew a b (low_nodes most old []) (field_records old [])
-  low_out made =
-      few_more a b (2 * most + 1) 1 (low_nodes most old []) (field_records old [])
-      (mid_of_three (value_nodes most * new_values old []) (2 * most + 1) (value_nodes most * lost_values old [])) (omega arith) made
+-- ---- what a document's change makes
+module _ {H : Type 0} (kind : Kind) (column : Column) (start : Index) (doc count : ℕ) (of : IsIndexOf column start) (old new : List (Value × ℤ)) (x e y : ℕ) (a b c d : Ledger H) where
+  abbrev made_added : ℕ → ℕ
+  made_added = added_records (λ v. documents_with v column) doc (entry_weight old) new
 
-  pub low_gone : MayDo a b → MakesFew a b (2 * most + 1) 1 → (none : List (Value × ℤ)) → none ≡ []
-      → MakesFew b c (value_nodes most * gone_count (entry_weight none) old) (gone_count (entry_weight none) old) → MakesFew a c (low_nodes most old []) (field_records old [])
-  low_gone may entry none is gone =
-      few_more a c (2 * most + 1 + value_nodes most * lost_values old []) (1 + lost_values old []) (low_nodes most old []) (field_records old [])
-      (last_of_three (value_nodes most * new_values old []) (2 * most + 1) (value_nodes most * lost_values old [])) (omega arith)
-      (few_then a b c (2 * most + 1) 1 (value_nodes most * lost_values old []) (lost_values old []) may entry
-      (subst (λ (es : List (Value × ℤ)). MakesFew b c (value_nodes most * gone_count (entry_weight es) old) (gone_count (entry_weight es) old)) is gone))
+  abbrev made_gone : ℕ → ℕ
+  made_gone = gone_records (λ v. documents_with v column) doc (entry_weight new) old
+
+  adds_within : MakesWithin a b (by_width x (added_records (λ v. list_of v start) doc (entry_weight old) new)) → MakesWithin a b (by_width x made_added)
+  adds_within made = same_within a b x (added_records (λ v. list_of v start) doc (entry_weight old) new) made_added (added_same column start doc of (entry_weight old) new) made
+
+  pub put_one : MakesWithin a b (by_width x (added_records (λ v. list_of v start) doc (entry_weight old) new)) → MakesWithin a b (by_width (x + e + y) (field_records kind column doc count old new))
+  put_one added = one_step x e y made_added (items_record kind count) made_gone a b c d (adds_within added)
+
+  pub put_two : MayDo a b → MakesWithin a b (by_width x (added_records (λ v. list_of v start) doc (entry_weight old) new)) → MakesWithin b c (documents_most kind count e)
+      → MakesWithin a c (by_width (x + e + y) (field_records kind column doc count old new))
+  put_two may added entry = two_steps x e y made_added (items_record kind count) made_gone a b c d may (adds_within added) entry
+
+  module _ (middle : Index) (between : IsBetween start doc (entry_weight new) (λ v. None) middle) where
+    gone_within : MakesWithin c d (by_width y (gone_records (λ v. list_of v middle) doc (entry_weight new) old)) → MakesWithin c d (by_width y made_gone)
+    gone_within made =
+        same_within c d y (gone_records (λ v. list_of v middle) doc (entry_weight new) old) made_gone (gone_same column start doc of (entry_weight new) middle between old) made
+
+    pub put_three : MayDo a b → MayDo b c → MakesWithin a b (by_width x (added_records (λ v. list_of v start) doc (entry_weight old) new)) → MakesWithin b c (documents_most kind count e)
+        → MakesWithin c d (by_width y (gone_records (λ v. list_of v middle) doc (entry_weight new) old))
+        → MakesWithin a d (by_width (x + e + y) (field_records kind column doc count old new))
+    put_three may goes added entry gone =
+        three_steps x e y made_added (items_record kind count) made_gone a b c d may (may_do-then a b c may goes) (adds_within added) entry (gone_within gone)
+
+    -- a document is taken out: nothing is added
+    pub out_two : MayDo b c → MakesWithin b c (by_width e (λ w. 0)) → MakesWithin c d (by_width y (gone_records (λ v. list_of v middle) doc (entry_weight new) old))
+        → MakesWithin b d (by_width (x + e + y) (field_records kind column doc count old new))
+    out_two may entry gone = last_steps x e y made_added (items_record kind count) made_gone b c d may entry (gone_within gone)
+
+  pub out_one : MakesWithin b c (by_width e (λ w. 0)) → MakesWithin b c (by_width (x + e + y) (field_records kind column doc count old new))
+  out_one entry = entry_step x e y made_added (items_record kind count) made_gone b c d entry
+
+-- no weights were given
+module _ {H : Type 0} (kind : Kind) (column : Column) (start : Index) (doc : ℕ) (of : IsIndexOf column start) (old none : List (Value × ℤ)) (empty : none ≡ []) where
+  out_empty : (per e : ℕ) (b c d : Ledger H) (middle : Index) → IsBetween start doc (entry_weight none) (λ v. None) middle → MayDo b c → MakesWithin b c (by_width e (λ w. 0))
+      → MakesWithin c d (by_width (per * gone_count (entry_weight none) old) (gone_records (λ v. list_of v middle) doc (entry_weight none) old))
+      → MakesWithin b d (by_width (per * new_values old [] + e + per * lost_values old []) (field_records kind column doc 0 old []))
+  out_empty per e b c d middle between may entry gone =
+      subst (λ (es : List (Value × ℤ)). MakesWithin b d (by_width (per * new_values old es + e + per * lost_values old es) (field_records kind column doc 0 old es))) empty
+      (out_two kind column start doc 0 of old none (per * new_values old none) e (per * lost_values old none) b b c d middle between may entry gone)
+
+  module _ (b c d : Ledger H) (middle : Index) (between : IsBetween start doc (entry_weight none) (λ v. None) middle) (may : MayDo b c) where
+    pub out_counts : MakesWithin b c (by_width 17 (λ w. 0)) → MakesWithin c d (by_width (34 * gone_count (entry_weight none) old) (gone_records (λ v. list_of v middle) doc (entry_weight none) old))
+        → MakesWithin b d (by_width (field_nodes old []) (field_records kind column doc 0 old []))
+    out_counts entry gone = out_empty 34 17 b c d middle between may entry gone
+
+  pub out_low : (levels : ℕ) (b c d : Ledger H) (middle : Index) → IsBetween start doc (entry_weight none) (λ v. None) middle → MayDo b c → MakesWithin b c (by_width (2 * levels + 1) (λ w. 0))
+      → MakesWithin c d (by_width (value_nodes levels * gone_count (entry_weight none) old) (gone_records (λ v. list_of v middle) doc (entry_weight none) old))
+      → MakesWithin b d (by_width (low_nodes levels old []) (field_records kind column doc 0 old []))
+  out_low levels b c d middle between may entry gone = out_empty (value_nodes levels) (2 * levels + 1) b c d middle between may entry gone

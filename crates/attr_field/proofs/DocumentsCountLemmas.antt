@@ -1,7 +1,6 @@
 -- How many records a change makes.
-use Rattle.std.proofs.Common.{◌≡◌, ◌≢◌, ℕ, ◌+◌, Bool, true, false, cond, nat_eq, refl, sym, ap, subst, arith}
+use Rattle.std.proofs.Common.{◌≡◌, ◌≢◌, ℕ, zero, suc, ◌+◌, ◌<◌, ◌≤◌, Bool, true, false, cond, nat_eq, refl, sym, subst, arith}
 use Rattle.std.proofs.lemmas.Bool.{eqb-true, eqb-false}
-use Rattle.arena_api.specs.Works.{Sizes}
 use Rattle.store_api.specs.Ledgers.{Ledger, capacity}
 use Rattle.store_api.specs.Units.{MakesAtMost, MayDo}
 use Rattle.store_api.proofs.Counts.{at_most-none, at_most-then, at_most-more}
@@ -10,6 +9,11 @@ use Rattle.array_store.specs.Adding.{MakesOneOf}
 use Rattle.attr_images.specs.Words.{class_of}
 use Rattle.posting_store.specs.Changes.{MakesWithin}
 use Rattle.attr_field.specs.DocumentsChanges.{documents_most}
+use Rattle.attr_field.specs.Items.{has_list, items_record}
+use Rattle.attr_types.specs.declared.kind.Kind.{Kind}
+use Rattle.array_store.proofs.ClassLemmas.{class_no_node}
+use Rattle.value_index.proofs.CountLemmas.{within_more, within_none, within_then}
+use Rattle.value_index.proofs.WalksCountLemmas.{no_node}
 
 -- as many of one width, and none of another
 of_one : {H : Type 0} (old new : Ledger H) (one width most : ℕ) → MakesAtMost (capacity old.work.sizes.words one) most (old.of_width one) (new.of_width one)
@@ -36,17 +40,42 @@ nodes-then a b c most made none = record {
   others = λ k w ne. at_most-then k 0 0 (a.of_width w) (b.of_width w) (c.of_width w) (made.others k w ne) (none k w);
 }
 
--- one record of so many words made, and then nodes or none
-pub counts-one : {H : Type 0} (a b : Ledger H) (words nodes : ℕ) → MakesOneOf (class_of words) a b → MakesWithin a b (documents_most words nodes)
-counts-one a b words nodes one = record {
-  each = λ width. at_most-more (capacity a.work.sizes.words width) (cond (nat_eq width (class_of words)) 1 0) (documents_most words nodes width) (a.of_width width) (b.of_width width) (omega arith)
-      (of_one a b (class_of words) width 1 one.one one.others);
+-- the record of so many items, or none
+pub items-none : {H : Type 0} (ledger : Ledger H) (kind : Kind) (count : ℕ) → MakesWithin ledger ledger (items_record kind count)
+items-none ledger kind count = within_none ledger (items_record kind count)
+
+pub items-one : {H : Type 0} (a b : Ledger H) (kind : Kind) (count : ℕ) → has_list kind ≡ true → 0 < count → MakesOneOf (class_of (1 + count)) a b → MakesWithin a b (items_record kind count)
+items-one a b kind zero has some one = absurd (omega arith)
+items-one a b kind (suc count) has some one = record {
+  each = λ w. subst (λ t. MakesAtMost (capacity a.work.sizes.words w) (cond t (cond (nat_eq w (class_of (1 + suc count))) 1 0) 0) (a.of_width w) (b.of_width w)) (sym has)
+      (of_one a b (class_of (1 + suc count)) w 1 one.one one.others);
 }
 
-pub counts-both : {H : Type 0} (a b c : Ledger H) (words nodes : ℕ) → MayDo a b → MakesOneOf (class_of words) a b → CountsNodes b c nodes → MakesWithin a c (documents_most words nodes)
-counts-both a b c words nodes may one made = record {
-  each = λ width. at_most-then (capacity a.work.sizes.words width) (cond (nat_eq width (class_of words)) 1 0) (cond (nat_eq width 34) nodes 0) (a.of_width width) (b.of_width width) (c.of_width width)
-      (of_one a b (class_of words) width 1 one.one one.others)
-      (subst (λ n. MakesAtMost (capacity n width) (cond (nat_eq width 34) nodes 0) (b.of_width width) (c.of_width width)) (ap (λ (s : Sizes). s.words) may.sizes)
-      (of_one b c 34 width nodes made.nodes made.others));
-}
+-- that record is no node
+one-node : (t : Bool) (k : ℕ) → (k ≡ 34 → ⊥) → cond {A = ℕ} t (cond (nat_eq 34 k) 1 0) 0 ≡ 0
+one-node true k none = no_node k none
+one-node false k none = refl
+
+items-node : (kind : Kind) (count : ℕ) → items_record kind count 34 ≡ 0
+items-node kind zero = refl
+items-node kind (suc count) = one-node (has_list kind) (class_of (1 + suc count)) (class_no_node (1 + suc count))
+
+-- it and then nodes
+items-nodes : (kind : Kind) (count nodes w : ℕ) → items_record kind count w + cond (nat_eq w 34) nodes 0 ≤ documents_most kind count nodes w
+items-nodes kind count nodes w = told (nat_eq w 34) refl
+  where
+    told : (t : Bool) → nat_eq w 34 ≡ t → items_record kind count w + cond t nodes 0 ≤ cond t nodes (items_record kind count w)
+    told true is =
+        let none : items_record kind count w ≡ 0 =
+        subst (λ x. items_record kind count x ≡ 0) (sym (eqb-true w 34 is)) (items-node kind count) in
+        omega (arith, none)
+    told false is = omega arith
+
+pub counts-one : {H : Type 0} (a b : Ledger H) (kind : Kind) (count nodes : ℕ) → MakesWithin a b (items_record kind count) → MakesWithin a b (documents_most kind count nodes)
+counts-one a b kind count nodes made =
+    within_more a b (items_record kind count) (documents_most kind count nodes) (λ w. let few = items-nodes kind count nodes w in omega (arith, few)) made
+
+pub counts-both : {H : Type 0} (a b c : Ledger H) (kind : Kind) (count nodes : ℕ) → MayDo a b → MakesWithin a b (items_record kind count) → CountsNodes b c nodes → MakesWithin a c (documents_most kind count nodes)
+counts-both a b c kind count nodes may one made =
+    within_more a c (λ w. items_record kind count w + cond (nat_eq w 34) nodes 0) (documents_most kind count nodes) (items-nodes kind count nodes)
+    (within_then a b c (items_record kind count) (λ w. cond (nat_eq w 34) nodes 0) may one (record { each = λ w. of_one b c 34 w nodes made.nodes made.others }))

@@ -1,4 +1,4 @@
-ghost use Rattle.std.specs.Prelude.{◌≡◌, ℕ, ◌∷◌, [], true, IsSome, Some, None, IfOk, IfErr};
+ghost use Rattle.std.specs.Prelude.{◌≡◌, ℕ, ◌∷◌, [], true, length, IsSome, Some, None, IfOk, IfErr};
 ghost use Rattle.std.specs.BTreeMap.{is_at};
 ghost use Rattle.std.specs.Map.{lookup};
 ghost use Rattle.std.specs.Ordering.{nat_cmp};
@@ -6,14 +6,15 @@ ghost use Rattle.store_api.specs.Calls.{RefusesOf};
 ghost use Rattle.store_api.specs.Parts.{Owns};
 ghost use Rattle.store_api.specs.Units.{MayDo};
 ghost use Rattle.attr_field.specs.Changes.{MakesField};
-ghost use Rattle.attr_field.specs.Counts.{field_nodes, field_records, low_nodes, StaysLow};
+ghost use Rattle.attr_field.specs.Counts.{change_records, field_nodes, field_records, low_nodes, StaysLow};
 ghost use Rattle.attr_field.specs.Fields.{field_part, IsField, RefersBeside};
 ghost use Rattle.attr_field.specs.Widths.{IsFieldWidth};
 ghost use Rattle.attr_images.specs.Documents.{column_at};
 ghost use Rattle.attr_index.specs.Changes.{first_weights};
 ghost use Rattle.attr_index.specs.Columns.{items_of, with_change};
 ghost use Rattle.attr_types.specs.Lawful.{ItemsFit};
-ghost use Rattle.value_index.specs.Counts.{MakesFew};
+ghost use Rattle.posting_store.specs.Changes.{MakesWithin};
+ghost use Rattle.value_index.specs.Counts.{by_width};
 
 use crate::comparing::has_already;
 use crate::documents_law;
@@ -26,7 +27,7 @@ use std::collections::BTreeMap;
 use store_api::{Store, StoreError};
 use value_index::key_law;
 
-/// Sets the items of a document, by the weights of its values before and after.
+/// Sets the items of a document, given the weights of its values before and after.
 #[tactic(none)]
 fn put_weighed<const OFFSET_BITS: u32, S: Store<OFFSET_BITS>>(
     alloc: Global,
@@ -51,11 +52,13 @@ fn put_weighed<const OFFSET_BITS: u32, S: Store<OFFSET_BITS>>(
         (S.records store.new) roots.entry.documents roots.entry.dictionary
         (with_change (column_at kind value_type (S.records store.old) roots.entry.documents) doc (Some items.now))
         next.documents next.dictionary) }
-    ensures counts { MakesFew (S.ledger store.old) (S.ledger store.new)
-        (field_nodes old.now.entries new.now.entries) (field_records old.now.entries new.now.entries) }
+    ensures counts { MakesWithin (S.ledger store.old) (S.ledger store.new) (by_width (field_nodes old.now.entries new.now.entries)
+        (field_records kind (column_at kind value_type (S.records store.old) roots.entry.documents) doc (length items.now)
+        old.now.entries new.now.entries)) }
     ensures low { (levels : ℕ) → StaysLow levels (column_at kind value_type (S.records store.old) roots.entry.documents) new.now.entries
-        → MakesFew (S.ledger store.old) (S.ledger store.new)
-        (low_nodes levels old.now.entries new.now.entries) (field_records old.now.entries new.now.entries) }
+        → MakesWithin (S.ledger store.old) (S.ledger store.new) (by_width (low_nodes levels old.now.entries new.now.entries)
+        (field_records kind (column_at kind value_type (S.records store.old) roots.entry.documents) doc (length items.now)
+        old.now.entries new.now.entries)) }
     ensures refuses { IfErr result (RefusesOf (IsFieldWidth kind
         (with_change (column_at kind value_type (S.records store.old) roots.entry.documents) doc (Some items.now))
         (items_of (column_at kind value_type (S.records store.old) roots.entry.documents) doc) items.now)
@@ -91,8 +94,8 @@ fn put_weighed<const OFFSET_BITS: u32, S: Store<OFFSET_BITS>>(
     })
 }
 
-/// Sets the items of a document, which had these before, if any. The answer is the new roots. Lists of documents are
-/// sparse, whatever the number of documents.
+/// Sets the items of a document, where `old` are the items that it had, or none. Returns the new roots. Posting lists
+/// are never made as bit vectors.
 #[tactic(none)]
 pub fn put<const OFFSET_BITS: u32, S: Store<OFFSET_BITS>>(
     alloc: Global,
@@ -116,14 +119,16 @@ pub fn put<const OFFSET_BITS: u32, S: Store<OFFSET_BITS>>(
         (S.records store.new) roots.entry.documents roots.entry.dictionary
         (with_change (column_at kind value_type (S.records store.old) roots.entry.documents) doc (Some new.now))
         next.documents next.dictionary) }
-    ensures counts { MakesFew (S.ledger store.old) (S.ledger store.new)
-        (field_nodes (first_weights [] old.now) (first_weights [] new.now))
-        (field_records (first_weights [] old.now) (first_weights [] new.now)) }
+    ensures same { lookup (is_at (nat_cmp doc)) (column_at kind value_type (S.records store.old) roots.entry.documents) ≡ Some new.now
+        → store.new ≡ store.old }
+    ensures counts { MakesWithin (S.ledger store.old) (S.ledger store.new)
+        (by_width (field_nodes (first_weights [] old.now) (first_weights [] new.now))
+        (change_records kind (column_at kind value_type (S.records store.old) roots.entry.documents) doc old.now new.now)) }
     ensures low { (levels : ℕ) → StaysLow levels (column_at kind value_type (S.records store.old) roots.entry.documents)
         (first_weights [] new.now)
-        → MakesFew (S.ledger store.old) (S.ledger store.new)
-        (low_nodes levels (first_weights [] old.now) (first_weights [] new.now))
-        (field_records (first_weights [] old.now) (first_weights [] new.now)) }
+        → MakesWithin (S.ledger store.old) (S.ledger store.new)
+        (by_width (low_nodes levels (first_weights [] old.now) (first_weights [] new.now))
+        (change_records kind (column_at kind value_type (S.records store.old) roots.entry.documents) doc old.now new.now)) }
     ensures refuses { IfErr result (RefusesOf (IsFieldWidth kind
         (with_change (column_at kind value_type (S.records store.old) roots.entry.documents) doc (Some new.now)) old.now new.now)
         (S.ledger store.old) (S.ledger store.new)) }
@@ -157,14 +162,14 @@ pub fn put<const OFFSET_BITS: u32, S: Store<OFFSET_BITS>>(
     )
 }
 
-/// No weights.
+/// Returns an empty map of weights.
 fn no_weights(alloc: Global) -> BTreeMap<Value, i32>
     ensures { result.entries ≡ [] }
 {
     BTreeMap::new(alloc)
 }
 
-/// Takes a document out, by the weights of its values.
+/// Removes a document, given the weights of its values.
 #[tactic(none)]
 fn remove_weighed<const OFFSET_BITS: u32, S: Store<OFFSET_BITS>>(
     alloc: Global,
@@ -186,11 +191,11 @@ fn remove_weighed<const OFFSET_BITS: u32, S: Store<OFFSET_BITS>>(
         (S.records store.new) roots.entry.documents roots.entry.dictionary
         (with_change (column_at kind value_type (S.records store.old) roots.entry.documents) doc None)
         next.documents next.dictionary) }
-    ensures counts { MakesFew (S.ledger store.old) (S.ledger store.new)
-        (field_nodes old.now.entries []) (field_records old.now.entries []) }
+    ensures counts { MakesWithin (S.ledger store.old) (S.ledger store.new) (by_width (field_nodes old.now.entries [])
+        (field_records kind (column_at kind value_type (S.records store.old) roots.entry.documents) doc 0 old.now.entries [])) }
     ensures low { (levels : ℕ) → StaysLow levels (column_at kind value_type (S.records store.old) roots.entry.documents) []
-        → MakesFew (S.ledger store.old) (S.ledger store.new)
-        (low_nodes levels old.now.entries []) (field_records old.now.entries []) }
+        → MakesWithin (S.ledger store.old) (S.ledger store.new) (by_width (low_nodes levels old.now.entries [])
+        (field_records kind (column_at kind value_type (S.records store.old) roots.entry.documents) doc 0 old.now.entries [])) }
     ensures refuses { IfErr result (RefusesOf (IsFieldWidth kind
         (with_change (column_at kind value_type (S.records store.old) roots.entry.documents) doc None)
         (items_of (column_at kind value_type (S.records store.old) roots.entry.documents) doc) [])
@@ -224,7 +229,7 @@ fn remove_weighed<const OFFSET_BITS: u32, S: Store<OFFSET_BITS>>(
     })
 }
 
-/// Takes a document out, which is there with these items. The answer is the new roots.
+/// Removes a document that exists with these items. Returns the new roots.
 #[tactic(none)]
 pub fn remove<const OFFSET_BITS: u32, S: Store<OFFSET_BITS>>(
     alloc: Global,
@@ -247,11 +252,11 @@ pub fn remove<const OFFSET_BITS: u32, S: Store<OFFSET_BITS>>(
         (S.records store.new) roots.entry.documents roots.entry.dictionary
         (with_change (column_at kind value_type (S.records store.old) roots.entry.documents) doc None)
         next.documents next.dictionary) }
-    ensures counts { MakesFew (S.ledger store.old) (S.ledger store.new)
-        (field_nodes (first_weights [] old.now) []) (field_records (first_weights [] old.now) []) }
+    ensures counts { MakesWithin (S.ledger store.old) (S.ledger store.new) (by_width (field_nodes (first_weights [] old.now) [])
+        (change_records kind (column_at kind value_type (S.records store.old) roots.entry.documents) doc old.now [])) }
     ensures low { (levels : ℕ) → StaysLow levels (column_at kind value_type (S.records store.old) roots.entry.documents) []
-        → MakesFew (S.ledger store.old) (S.ledger store.new)
-        (low_nodes levels (first_weights [] old.now) []) (field_records (first_weights [] old.now) []) }
+        → MakesWithin (S.ledger store.old) (S.ledger store.new) (by_width (low_nodes levels (first_weights [] old.now) [])
+        (change_records kind (column_at kind value_type (S.records store.old) roots.entry.documents) doc old.now [])) }
     ensures refuses { IfErr result (RefusesOf (IsFieldWidth kind
         (with_change (column_at kind value_type (S.records store.old) roots.entry.documents) doc None) old.now [])
         (S.ledger store.old) (S.ledger store.new)) }

@@ -6,8 +6,9 @@ ghost use Rattle.store_api.specs.Units.{MayDo, MakesAtMost};
 ghost use Rattle.array_store.specs.Adding.{MakesOneOf};
 ghost use Rattle.attr_images.specs.Words.{class_of};
 ghost use Rattle.attr_types.specs.Lawful.{IsLawfulItems};
+ghost use Rattle.posting_store.specs.Changes.{MakesWithin};
 ghost use Rattle.attr_field.specs.Documents.{items_own};
-ghost use Rattle.attr_field.specs.Items.{entries_by_key, has_list, word_entry, IsItemsWidth, IsWeightOf, MakesItems};
+ghost use Rattle.attr_field.specs.Items.{entries_by_key, has_list, items_record, word_entry, IsItemsWidth, IsWeightOf, MakesItems};
 
 use crate::attr_documents::WEIGHT_BASE;
 use array_store::add;
@@ -16,7 +17,7 @@ use entry_ref::EntryRef;
 use std::alloc::{AllocError, Global};
 use store_api::{Store, StoreError, drop_one, may_do_law};
 
-/// The word of an item, by the record of its value.
+/// Returns the word of an item, given the record of its value.
 fn word_of<const OFFSET_BITS: u32>(kind: Kind, key: EntryRef<OFFSET_BITS>, item: &Item) -> u64
     requires { IsWeightOf kind item.now.weight }
     ensures { word_entry kind result ≡ (key.entry, item.now.weight) }
@@ -29,7 +30,7 @@ fn word_of<const OFFSET_BITS: u32>(kind: Kind, key: EntryRef<OFFSET_BITS>, item:
     }
 }
 
-/// The words of items, by the records of their values.
+/// Returns the words of items, given the records of their values.
 fn words_of<const OFFSET_BITS: u32>(
     alloc: Global,
     kind: Kind,
@@ -74,8 +75,8 @@ fn make_list<const OFFSET_BITS: u32, S: Store<OFFSET_BITS>>(
     add(store, &words)
 }
 
-/// Makes what a document's reference is to be: 0 where it has no items, the value's record of a single item, else a
-/// record of its own.
+/// Makes a document's reference: 0 if it has no items, the record of the value for a single item, otherwise a record
+/// of its own.
 pub fn make_items<const OFFSET_BITS: u32, S: Store<OFFSET_BITS>>(
     alloc: Global,
     store: &mut S,
@@ -89,7 +90,7 @@ pub fn make_items<const OFFSET_BITS: u32, S: Store<OFFSET_BITS>>(
     requires lawful { IsLawfulItems kind items.now }
     ensures makes { IfOk result (MakesItems kind (S.ledger store.old) (S.ledger store.new) (S.records store.old) (S.records store.new)
         (entries_by_key keys.now items.now)) }
-    ensures counts { MakesOneOf (class_of (1 + length items.now)) (S.ledger store.old) (S.ledger store.new) }
+    ensures counts { MakesWithin (S.ledger store.old) (S.ledger store.new) (items_record kind (length items.now)) }
     ensures refuses { IfErr result (RefusesOf (IsItemsWidth kind (length items.now)) (S.ledger store.old) (S.ledger store.new)) }
     ensures may { MayDo (S.ledger store.old) (S.ledger store.new) }
 {
@@ -104,7 +105,7 @@ pub fn make_items<const OFFSET_BITS: u32, S: Store<OFFSET_BITS>>(
     }
 }
 
-/// Drops the record that a document's reference has of its own.
+/// Drops the record that a document's reference owns.
 pub fn drop_items<const OFFSET_BITS: u32, S: Store<OFFSET_BITS>>(
     store: &mut S,
     kind: Kind,

@@ -1,5 +1,5 @@
-//! The steps of a change: the index gets the document's new values, the documents its new items, and the index loses its
-//! old values.
+//! The steps of a change: the document is added to the index by its new values, its items are set, and it is removed
+//! from the index by its old values.
 ghost use Rattle.std.specs.Prelude.{◌≡◌, ℕ, ◌+◌, ◌*◌, ◌^◌, ◌<◌, ◌∷◌, [], true, length, IsSome, None, Some, IfOk, IfErr};
 ghost use Rattle.std.specs.BTreeMap.{get, is_at};
 ghost use Rattle.std.specs.List.{AllByRecursion};
@@ -8,7 +8,7 @@ ghost use Rattle.std.specs.Ordering.{nat_cmp};
 ghost use Rattle.store_api.specs.Calls.{Refuses, RefusesOf};
 ghost use Rattle.store_api.specs.Units.{MayDo};
 ghost use Rattle.tree_read.specs.declared.node_format.TheConstants.{NODE_WORDS};
-ghost use Rattle.attr_field.specs.DocumentsChanges.{IsDocumentWidth};
+ghost use Rattle.attr_field.specs.DocumentsChanges.{documents_most, IsDocumentWidth};
 ghost use Rattle.attr_field.specs.Steps.{StandsField, StepsField};
 ghost use Rattle.attr_images.specs.Documents.{column_at};
 ghost use Rattle.attr_images.specs.Postings.{index_of};
@@ -18,7 +18,8 @@ ghost use Rattle.attr_index.specs.Index.{Index, IsIndexOf, list_of};
 ghost use Rattle.attr_types.specs.Lawful.{ItemsFit};
 ghost use Rattle.attr_types.specs.Value.{value_cmp, AreOfType};
 ghost use Rattle.attr_types.specs.declared.value.Value.{Value as OneValue};
-ghost use Rattle.value_index.specs.Counts.{added_count, gone_count, value_nodes, AddsLow, MakesFew, RemovesLow};
+ghost use Rattle.posting_store.specs.Changes.{MakesWithin};
+ghost use Rattle.value_index.specs.Counts.{added_count, added_records, by_width, gone_count, gone_records, value_nodes, AddsLow, RemovesLow};
 ghost use Rattle.value_index.specs.Widths.{IsWalkWidth};
 
 use crate::keys::keys_of;
@@ -30,7 +31,7 @@ use std::collections::BTreeMap;
 use store_api::{Store, StoreError};
 use value_index::{add_all, index_law, key_law, remove_all};
 
-/// Puts the document into the lists of its new values. The answer is the root of the new index.
+/// Adds the document to the lists of its new values. Returns the root of the new index.
 #[tactic(none)]
 pub fn add_values<const OFFSET_BITS: u32, S: Store<OFFSET_BITS>>(
     store: &mut S,
@@ -54,12 +55,15 @@ pub fn add_values<const OFFSET_BITS: u32, S: Store<OFFSET_BITS>>(
         (column_at kind value_type (S.records store.old) documents.entry) documents.entry next) }
     ensures between { IfOk result (λ next. IsBetween (index_of value_type (S.records store.old) dictionary.entry) doc
         (get value_cmp new.now) (λ value. None) (index_of value_type (S.records store.new) next)) }
-    ensures counts { MakesFew (S.ledger store.old) (S.ledger store.new)
-        (34 * added_count (get value_cmp old.now) new.now.entries) (2 * added_count (get value_cmp old.now) new.now.entries) }
+    ensures counts { MakesWithin (S.ledger store.old) (S.ledger store.new)
+        (by_width (34 * added_count (get value_cmp old.now) new.now.entries)
+        (added_records (λ value. list_of value (index_of value_type (S.records store.old) dictionary.entry)) doc (get value_cmp old.now)
+        new.now.entries)) }
     ensures low { (levels : ℕ) → AddsLow levels (index_of value_type (S.records store.old) dictionary.entry) doc new.now.entries
-        → MakesFew (S.ledger store.old) (S.ledger store.new)
-        (value_nodes levels * added_count (get value_cmp old.now) new.now.entries)
-        (2 * added_count (get value_cmp old.now) new.now.entries) }
+        → MakesWithin (S.ledger store.old) (S.ledger store.new)
+        (by_width (value_nodes levels * added_count (get value_cmp old.now) new.now.entries)
+        (added_records (λ value. list_of value (index_of value_type (S.records store.old) dictionary.entry)) doc (get value_cmp old.now)
+        new.now.entries)) }
     ensures refuses { IfErr result (RefusesOf
         (IsWalkWidth (index_of value_type (S.records store.old) dictionary.entry) doc (get value_cmp new.now) (λ value. None))
         (S.ledger store.old) (S.ledger store.new)) }
@@ -73,7 +77,7 @@ pub fn add_values<const OFFSET_BITS: u32, S: Store<OFFSET_BITS>>(
     add_all(store, value_type, dictionary, doc, old, new)
 }
 
-/// Sets the items of the document, by the keys of their values. The answer is the root of the new documents.
+/// Sets the items of the document, given the keys of their values. Returns the root of the new documents.
 #[tactic(none)]
 pub fn set_items<const OFFSET_BITS: u32, S: Store<OFFSET_BITS>>(
     alloc: Global,
@@ -95,9 +99,9 @@ pub fn set_items<const OFFSET_BITS: u32, S: Store<OFFSET_BITS>>(
         (with_change (column_at kind value_type (S.records store.old) documents.entry) doc (Some items.now)) next dictionary.entry) }
     ensures index { IfOk result (λ next. index_of value_type (S.records store.new) dictionary.entry
         ≡ index_of value_type (S.records store.old) dictionary.entry) }
-    ensures counts { MakesFew (S.ledger store.old) (S.ledger store.new) 17 1 }
+    ensures counts { MakesWithin (S.ledger store.old) (S.ledger store.new) (documents_most kind (length items.now) 17) }
     ensures low { (levels : ℕ) → 0 < levels → length (column_at kind value_type (S.records store.old) documents.entry) < 2 * 8 ^ levels
-        → MakesFew (S.ledger store.old) (S.ledger store.new) (2 * levels + 1) 1 }
+        → MakesWithin (S.ledger store.old) (S.ledger store.new) (documents_most kind (length items.now) (2 * levels + 1)) }
     ensures refuses { IfErr result (RefusesOf (IsDocumentWidth kind (length items.now)) (S.ledger store.old) (S.ledger store.new)) }
     ensures may { MayDo (S.ledger store.old) (S.ledger store.new) }
 {
@@ -118,7 +122,7 @@ pub fn set_items<const OFFSET_BITS: u32, S: Store<OFFSET_BITS>>(
     )
 }
 
-/// Takes the document out, which is there. The answer is the root of the new documents.
+/// Removes the document, which must exist. Returns the root of the new documents.
 #[tactic(none)]
 pub fn take_out<const OFFSET_BITS: u32, S: Store<OFFSET_BITS>>(
     store: &mut S,
@@ -136,9 +140,9 @@ pub fn take_out<const OFFSET_BITS: u32, S: Store<OFFSET_BITS>>(
         (with_change (column_at kind value_type (S.records store.old) documents.entry) doc None) next dictionary.entry) }
     ensures index { IfOk result (λ next. index_of value_type (S.records store.new) dictionary.entry
         ≡ index_of value_type (S.records store.old) dictionary.entry) }
-    ensures counts { MakesFew (S.ledger store.old) (S.ledger store.new) 17 1 }
+    ensures counts { MakesWithin (S.ledger store.old) (S.ledger store.new) (by_width 17 (λ width. 0)) }
     ensures low { (levels : ℕ) → 0 < levels → length (column_at kind value_type (S.records store.old) documents.entry) < 2 * 8 ^ levels
-        → MakesFew (S.ledger store.old) (S.ledger store.new) (2 * levels + 1) 1 }
+        → MakesWithin (S.ledger store.old) (S.ledger store.new) (by_width (2 * levels + 1) (λ width. 0)) }
     ensures refuses { IfErr result (Refuses (S.ledger store.old) (S.ledger store.new) NODE_WORDS) }
     ensures may { MayDo (S.ledger store.old) (S.ledger store.new) }
 {
@@ -148,8 +152,8 @@ pub fn take_out<const OFFSET_BITS: u32, S: Store<OFFSET_BITS>>(
     remove_document(store, kind, value_type, documents, doc)
 }
 
-/// Takes the document out of the lists of its old values. The answer is the root of the new index, which is that of the
-/// documents.
+/// Removes the document from the lists of its old values. Returns the root of the new index, which is the index of
+/// the documents.
 #[tactic(none)]
 pub fn remove_values<const OFFSET_BITS: u32, S: Store<OFFSET_BITS>>(
     store: &mut S,
@@ -174,12 +178,16 @@ pub fn remove_values<const OFFSET_BITS: u32, S: Store<OFFSET_BITS>>(
         (column_at kind value_type (S.records store.old) documents.entry) documents.entry next) }
     ensures index { IfOk result (λ next. IsIndexOf (column_at kind value_type (S.records store.old) documents.entry)
         (index_of value_type (S.records store.new) next)) }
-    ensures counts { MakesFew (S.ledger store.old) (S.ledger store.new)
-        (34 * gone_count (get value_cmp new.now) old.now.entries) (gone_count (get value_cmp new.now) old.now.entries) }
+    ensures counts { MakesWithin (S.ledger store.old) (S.ledger store.new)
+        (by_width (34 * gone_count (get value_cmp new.now) old.now.entries)
+        (gone_records (λ value. list_of value (index_of value_type (S.records store.old) dictionary.entry)) doc (get value_cmp new.now)
+        old.now.entries)) }
     ensures low { (levels : ℕ)
         → RemovesLow levels (index_of value_type (S.records store.old) dictionary.entry) doc (get value_cmp new.now) old.now.entries
-        → MakesFew (S.ledger store.old) (S.ledger store.new)
-        (value_nodes levels * gone_count (get value_cmp new.now) old.now.entries) (gone_count (get value_cmp new.now) old.now.entries) }
+        → MakesWithin (S.ledger store.old) (S.ledger store.new)
+        (by_width (value_nodes levels * gone_count (get value_cmp new.now) old.now.entries)
+        (gone_records (λ value. list_of value (index_of value_type (S.records store.old) dictionary.entry)) doc (get value_cmp new.now)
+        old.now.entries)) }
     ensures refuses { IfErr result (RefusesOf
         (IsWalkWidth (index_of value_type (S.records store.old) dictionary.entry) doc (get value_cmp new.now) (get value_cmp old.now))
         (S.ledger store.old) (S.ledger store.new)) }

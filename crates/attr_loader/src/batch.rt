@@ -1,9 +1,10 @@
-//! One batch: its operations are applied, it is committed, and a compaction goes one step on.
-ghost use Rattle.std.specs.Prelude.{◌≡◌, ◌<◌, ◌+◌, ◌^◌, length, IfOk, OnOk};
+//! One batch: its operations are applied and committed, and a compaction makes one step.
+ghost use Rattle.std.specs.Prelude.{◌≡◌, ◌<◌, ◌+◌, ◌^◌, length, IfOk, IfErr, OnOk};
 ghost use Rattle.std.specs.List.{AllByRecursion};
 ghost use Rattle.attr_types.specs.Lawful.{OpFits};
-ghost use Rattle.attr_loader.specs.Batches.{skips_of, AppliesBatch, CommitsBatch, KeepsTable, LoadsBatch};
+ghost use Rattle.attr_loader.specs.Batches.{skips_of, AppliesBatch, CommitsBatch, HasNoCommit, KeepsTable, LoadsBatch};
 
+use crate::error::LoadError;
 use arena_api::Work;
 use attr_images::AttrLayout;
 use attr_io::{Gate, Point};
@@ -12,8 +13,8 @@ use attribute_kinds::{AttrError, Attribute};
 use std::alloc::{AllocError, Global};
 use store_api::Store;
 
-/// What became of a batch: how many of its operations were skipped; or the operation, counted from 1, that found no
-/// room, or before whose commit there was none.
+/// The result of a batch: how many of its operations were skipped; or the operation, counted from 1, for which there
+/// was no space, either for itself or for the commit after it.
 #[derive(Clone, Copy, Drop)]
 pub enum Batch {
     Done { skipped: u32 },
@@ -29,7 +30,7 @@ fn skips_of(applied: Applied) -> u32
     }
 }
 
-/// Applies the operations of a batch, as far as there is room.
+/// Applies the operations of a batch, as far as there is space.
 fn apply_all<const OFFSET_BITS: u32, S: Store<OFFSET_BITS, Layout = AttrLayout>>(
     alloc: Global,
     attribute: &mut Attribute<OFFSET_BITS, S>,
@@ -52,7 +53,7 @@ fn apply_all<const OFFSET_BITS: u32, S: Store<OFFSET_BITS, Layout = AttrLayout>>
                     held,
                 });
             }
-            Err(AttrError::CommitsSpent { .. }) => return Err(AllocError),
+            Err(AttrError::CommitsSpent { .. }) => unreachable!(),
             Err(AttrError::Memory) => return Err(AllocError),
         };
         skipped += skips_of(applied);
@@ -61,10 +62,10 @@ fn apply_all<const OFFSET_BITS: u32, S: Store<OFFSET_BITS, Layout = AttrLayout>>
     Ok(Batch::Done { skipped })
 }
 
-/// How many keys of a compaction are visited after a commit.
+/// The number of compaction keys visited after a commit.
 const COMPACT_KEYS: u32 = 256;
 
-/// One step of a compaction. Where it finds no room the loading goes on without it.
+/// Makes one step of a compaction. If there is no space for it, the loading continues without it.
 fn compact_after<const OFFSET_BITS: u32, S: Store<OFFSET_BITS, Layout = AttrLayout>>(
     alloc: Global,
     attribute: &mut Attribute<OFFSET_BITS, S>,
@@ -74,19 +75,20 @@ fn compact_after<const OFFSET_BITS: u32, S: Store<OFFSET_BITS, Layout = AttrLayo
     match attribute.compact_step(alloc, COMPACT_KEYS) {
         Ok(_) => Ok(()),
         Err(AttrError::Full { .. }) => Ok(()),
-        Err(AttrError::CommitsSpent { .. }) => Err(AllocError),
+        Err(AttrError::CommitsSpent { .. }) => unreachable!(),
         Err(AttrError::Memory) => Err(AllocError),
     }
 }
 
-/// Commits what was applied, if there is room, and passes the gate.
+/// Commits what was applied, if there is space, and passes the gate.
 fn commit_table<const OFFSET_BITS: u32, S: Store<OFFSET_BITS, Layout = AttrLayout>, G: Gate>(
     attribute: &mut Attribute<OFFSET_BITS, S>,
     count: u32,
     skipped: u32,
     gate: &G,
-) -> Result<Batch, AllocError>
-    ensures { IfOk result (CommitsBatch S.ledger attribute.old attribute.new count skipped) }
+) -> Result<Batch, LoadError>
+    ensures commits { IfOk result (CommitsBatch S.ledger attribute.old attribute.new count skipped) }
+    ensures spent { IfErr result (HasNoCommit S.ledger attribute.old) }
 {
     match attribute.commit() {
         Ok(info) => {
@@ -102,20 +104,21 @@ fn commit_table<const OFFSET_BITS: u32, S: Store<OFFSET_BITS, Layout = AttrLayou
             active,
             held,
         }),
-        Err(AttrError::CommitsSpent { .. }) => Err(AllocError),
-        Err(AttrError::Memory) => Err(AllocError),
+        Err(AttrError::CommitsSpent { .. }) => Err(LoadError::CommitsSpent),
+        Err(AttrError::Memory) => Err(LoadError::Memory),
     }
 }
 
-/// Commits what was applied, and goes one step on in a compaction.
+/// Commits what was applied, and makes one step of a compaction.
 fn commit_all<const OFFSET_BITS: u32, S: Store<OFFSET_BITS, Layout = AttrLayout>, G: Gate>(
     alloc: Global,
     attribute: &mut Attribute<OFFSET_BITS, S>,
     count: u32,
     skipped: u32,
     gate: &G,
-) -> Result<Batch, AllocError>
-    ensures { IfOk result (CommitsBatch S.ledger attribute.old attribute.new count skipped) }
+) -> Result<Batch, LoadError>
+    ensures commits { IfOk result (CommitsBatch S.ledger attribute.old attribute.new count skipped) }
+    ensures spent { IfErr result (HasNoCommit S.ledger attribute.old) }
 {
     match commit_table(attribute, count, skipped, gate)? {
         Batch::Done { skipped: more } => {
@@ -140,11 +143,12 @@ pub fn load_batch<const OFFSET_BITS: u32, S: Store<OFFSET_BITS, Layout = AttrLay
     attribute: &mut Attribute<OFFSET_BITS, S>,
     ops: &[Op],
     gate: &G,
-) -> Result<Batch, AllocError>
+) -> Result<Batch, LoadError>
     requires some { 0 < length ops.now }
     requires room { attribute.old.operations + length ops.now < 2 ^ 32 }
     requires fit { AllByRecursion (OpFits attribute.old.fields) ops.now }
-    ensures { IfOk result (LoadsBatch S.ledger attribute.old attribute.new ops.now) }
+    ensures loads { IfOk result (LoadsBatch S.ledger attribute.old attribute.new ops.now) }
+    ensures spent { IfErr result (HasNoCommit S.ledger attribute.old) }
 {
     match apply_all(alloc, attribute, ops)? {
         Batch::Done { skipped } => commit_all(alloc, attribute, ops.len() as u32, skipped, gate),

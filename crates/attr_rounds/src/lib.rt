@@ -1,5 +1,5 @@
-//! A reader's rounds over the running memory: in each it takes a guard, what is asked is answered at the guard's
-//! commit, and it gives the guard back.
+//! A reader's rounds over the running memory: in each it has a guard of the last commit, at which what is asked is answered. It keeps
+//! its hold from round to round, and gives it back after each 64.
 //!
 //! What is asked in a run, answered at an image as the lines that are written.
 //!
@@ -7,6 +7,7 @@
 #![tactic(auto)]
 
 mod asked;
+mod climbing;
 mod first;
 mod job;
 mod lines;
@@ -21,6 +22,6 @@ pub use first::first_documents;
 pub use job::Job;
 pub use question::Question;
 pub use reading::documents_in;
-pub use rounds::{Reading, Round, go_round};
+pub use rounds::{ROUNDS_ON_A_HOLD, Reading, Round, go_round};
 pub use saving::Saving;
 pub use taking::take_in;

@@ -1,7 +1,6 @@
-//! The whole run of `attr`: from the words of its command line and the bytes of its feed to the
-//! bytes that it writes.
+//! The whole run of `attr`: from the words of its command line and the bytes of its feed to the bytes that it writes.
 //!
-//! Operations that are made from a number, in place of a feed.
+//! It can also make operations from a number, instead of reading a feed.
 #![tactic(auto)]
 
 mod draw;
@@ -10,6 +9,7 @@ mod laws;
 mod made_laws;
 mod make;
 mod outcome;
+mod program;
 mod request;
 mod run;
 mod stop;
@@ -20,6 +20,7 @@ mod words;
 pub use laws::settings_law;
 pub use made_laws::made_law;
 pub use make::make_ops;
-pub use outcome::{FeedFault, Outcome, Status, UsageCause};
+pub use outcome::{FeedFault, Outcome, Status, UsageCause, exit_of};
+pub use program::run_program;
 pub use run::attr_main;
 pub use words::Words;

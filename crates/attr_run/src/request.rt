@@ -9,7 +9,7 @@ ghost use Rattle.query_text.specs.Asks.{ask_of};
 ghost use Rattle.attr_report.specs.Run.{run_in};
 ghost use Rattle.attr_run.specs.Run.{given_or_refused, make_of, run_of, ask_or_refused, asks_from, asked};
 ghost use Rattle.attr_run.specs.Settings.{IsAskedBy};
-ghost use Rattle.attr_run.specs.Steps.{Says, IsWordsStop};
+ghost use Rattle.attr_run.specs.Steps.{Says, IsWordsStop, IsRuledStop};
 
 use crate::laws::settings_law;
 use crate::outcome::UsageCause;
@@ -21,7 +21,7 @@ use attr_words::{Settings, read_words};
 use query_text::parse_ask;
 use std::alloc::Global;
 
-/// The settings that the words give, unless they ask for help or are refused.
+/// Returns the settings that the words give, unless they ask for help or are refused.
 fn settings_in(alloc: Global, words: &Words) -> Result<Settings, Stop>
     ensures says { Says given_by result (given_or_refused (given_in words.now)) }
     ensures given { IfOk result (λ s. given_in words.now ≡ Ok (given_by s)) }
@@ -93,12 +93,13 @@ fn request_of(settings: Settings, asks: Asks) -> Request
     }
 }
 
-/// Reads the words: first the settings, then what is asked.
+/// Reads the words: first the settings, then the asks.
 pub fn request_in(alloc: Global, words: &Words) -> Result<Request, Stop>
     ensures asked { Says run_in result (asked words.now) }
     ensures refusal { IfErr result IsWordsStop }
     ensures one_kind { length (fault_of attr_app words.now) ≤ 1 }
     ensures lawful { IfOk result (λ request. IsAskedBy words.now (run_in request)) }
+    ensures ruled { IfErr result (IsRuledStop words.now) }
 {
     settings_law();
     let settings = settings_in(alloc, words)?;

@@ -10,7 +10,7 @@ use Rattle.attr_field.specs.declared.roots.FieldRoots.{FieldRoots}
 use Rattle.attr_images.specs.Tables.{AttributeTrees}
 use Rattle.attr_images.specs.Words.{class_of}
 use Rattle.attr_types.specs.declared.field.Field.{Field}
-use Rattle.array_store.specs.Adding.{AddsRecord}
+use Rattle.array_store.specs.Adding.{AddsRecord, MakesOneOf}
 use Rattle.store_api.specs.Calls.{Accepts, Undoes, Refuses}
 use Rattle.store_api.specs.Ledgers.{Ledger, OfWidth, IsSettled, buffers_in, is_width, widths}
 use Rattle.store_api.specs.Parts.{Part, Owns, Turns, After, AllStay, entries, entry, uses}
@@ -143,7 +143,7 @@ pub refuses_root : {H : Type 0} (old mid new : Ledger H) (m o : Records) (width 
     → ((c w : ℕ) → MakesAtMost c 0 (old.of_width w) (mid.of_width w)) → Undoes mid new o → IsCounted old → IsCounted mid → mid.work.sizes ≡ old.work.sizes → RefusesRoot old new e
 refuses_root old mid new m o width (Full w active held oldest) is settled refuses none_made undoes before after sizes =
     let unit : RefusesUnit old new (Full w active held oldest) =
-    refused_among (λ v. Unit {0}) old mid new (Full w active held oldest) undoes.work
+    refused_among (λ v. Unit {0}) old mid new (Full w active held oldest) undoes.work undoes.counts
     (of_one (λ v. Unit {0}) (record old { unit = true }) (record old { unit = true }) mid width (Full w active held oldest) (may_do-same (record old { unit = true })) is tt refuses) in
     let fresh = (none_made 0 w).fresh in
     let none = settled.fresh w in
@@ -163,3 +163,10 @@ for_fields fields roots operations e sized is =
     let words = listed_size roots in
     let same : length (operations ∷ roots_listed roots) ≡ 1 + 2 * length fields = omega (arith, words, sized) in
     subst (λ n. IsForWidth (class_of n) e) same is
+
+pub one_of_fields : {H : Type 0} {bits : ℕ} (fields : List Field) (roots : List (FieldRoots bits)) (operations : ℕ) (old new : Ledger H) → length roots ≡ length fields
+    → MakesOneOf (class_of (length (operations ∷ roots_listed roots))) old new → MakesOneOf (class_of (1 + 2 * length fields)) old new
+one_of_fields fields roots operations old new sized made =
+    let words = listed_size roots in
+    let same : length (operations ∷ roots_listed roots) ≡ 1 + 2 * length fields = omega (arith, words, sized) in
+    subst (λ n. MakesOneOf (class_of n) old new) same made

@@ -1,11 +1,11 @@
 -- A unit from before its begin to its end.
-use Rattle.std.proofs.Common.{◌≡◌, ℕ, ◌<◌, ◌≤◌, List, [], ◌∷◌, true, false, Option, refl, sym, ap, ap₂, subst, ◌∙◌, arith}
+use Rattle.std.proofs.Common.{◌≡◌, ℕ, ◌*◌, ◌<◌, ◌≤◌, List, [], ◌∷◌, true, false, Option, refl, sym, ap, ap₂, subst, ◌∙◌, arith}
 use Rattle.std.specs.List.{AllByRecursion, AllZip}
 use Rattle.entry_ref.specs.References.{buffer_of}
 use Rattle.entry_ref.specs.Records.{Records}
 use Rattle.arena_api.specs.Works.{WorkView}
-use Rattle.store_api.specs.Calls.{Accepts, Undoes, IsFull, RefusesOf}
-use Rattle.store_api.specs.Ledgers.{Ledger, IsSettled}
+use Rattle.store_api.specs.Calls.{Accepts, EndsOf, Undoes, IsFull, RefusesOf}
+use Rattle.store_api.specs.Ledgers.{Ledger, IsSettled, capacity}
 use Rattle.store_api.specs.Parts.{Part, After, AllStay, count_in, entries, uses}
 use Rattle.store_api.specs.Statuses.{Status, in_use}
 use Rattle.store_api.specs.Units.{MayDo, KeepsCommits, IsSameBack}
@@ -79,12 +79,20 @@ out_of_room old mid width active held oldest work same is full =
       hold = full.hold;
       newest = full.newest;
       stopped = full.stopped;
+      made = full.made;
+      found = full.found;
     })
 
 -- what it says of the store is said of its work
-of_work : {H : Type 0} (old mid new : Ledger H) (width active held : ℕ) (oldest : _) → IsOutOfRoom old (record mid { work = new.work }) width active held oldest
-    → IsOutOfRoom old new width active held oldest
-of_work old mid new width active held oldest room = record {
+of_work : {H : Type 0} (old mid new : Ledger H) (width active held : ℕ) (oldest : _) → ((w : ℕ) → EndsOf (mid.of_width w) (new.of_width w))
+    → IsOutOfRoom old (record mid { work = new.work }) width active held oldest → IsOutOfRoom old new width active held oldest
+of_work old mid new width active held oldest ends room = record {
+  made =
+      let e = ends width in
+      let same : (new.of_width width).buffers * capacity new.work.sizes.words width ≡ (mid.of_width width).buffers * capacity new.work.sizes.words width =
+      ap (λ n. n * capacity new.work.sizes.words width) e.buffers in
+      omega (arith, room.made, same, e.made);
+  found = room.found;
   is_width_of = room.is_width_of;
   free = room.free;
   active_is = room.active_is;
@@ -97,10 +105,11 @@ of_work old mid new width active held oldest room = record {
   stopped = room.stopped;
 }
 
-pub refused_among : {H : Type 0} (among : ℕ → Type 0) (old mid new : Ledger H) (e : StoreError) → new.work ≡ mid.work → RefusesOf among (record old { unit = true }) mid e → RefusesUnit old new e
-refused_among among old mid new (Full width active held oldest) same refuses =
-    of_work old mid new width active held oldest (out_of_room old mid width active held oldest new.work same refuses.is refuses.full)
-refused_among among old mid new Memory same refuses = tt
+pub refused_among : {H : Type 0} (among : ℕ → Type 0) (old mid new : Ledger H) (e : StoreError) → new.work ≡ mid.work → ((w : ℕ) → EndsOf (mid.of_width w) (new.of_width w))
+    → RefusesOf among (record old { unit = true }) mid e → RefusesUnit old new e
+refused_among among old mid new (Full width active held oldest) same ends refuses =
+    of_work old mid new width active held oldest ends (out_of_room old mid width active held oldest new.work same refuses.is refuses.full)
+refused_among among old mid new Memory same ends refuses = tt
 
 -- for which width
 pub full_among : {H : Type 0} (among : ℕ → Type 0) (begun mid : Ledger H) (e : StoreError) → RefusesOf among begun mid e → IsFullAmong among e

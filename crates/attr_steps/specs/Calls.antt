@@ -1,10 +1,10 @@
--- What a unit leaves of the store, and why one was refused.
-use Rattle.std.specs.Prelude.{◌≡◌, ℕ, ◌+◌, ◌<◌, ◌≤◌, true, false, length}
+-- What a unit preserves of the store, and why a unit is refused.
+use Rattle.std.specs.Prelude.{◌≡◌, ℕ, ◌+◌, ◌*◌, ◌<◌, ◌≤◌, true, false, length}
 use Rattle.entry_ref.specs.Records.{Records}
 use Rattle.arena_api.specs.Generations.{current}
 use Rattle.arena_api.specs.Works.{free_count, oldest_of}
 use Rattle.arena_api.specs.declared.answers.Oldest.{Oldest}
-use Rattle.store_api.specs.Ledgers.{Ledger, active_count, held_count, is_width}
+use Rattle.store_api.specs.Ledgers.{Ledger, active_count, capacity, held_count, is_width}
 use Rattle.store_api.specs.Units.{IsSameBack, KeepsCommits}
 use Rattle.store_api.specs.declared.store.StoreError.{StoreError}
 use Rattle.store_api.specs.declared.store.StoreError.TheVariants as errors
@@ -23,7 +23,8 @@ pub record KeepsStore {H : Type 0} (old new : Ledger H) : Type 0 where
   pub sealed : new.sealed ≡ old.sealed
   pub finished : new.finished ≡ old.finished
 
--- each entry is what it was, but that one taken or given back since is free; and so is each record
+-- each entry has the same status as before, except that one taken or given back since then is free; and each record
+-- is the same
 pub record LeavesEntries {H : Type 0} (old new : Ledger H) (m n : Records) : Type 0 where
   pub status : (r : ℕ) → IsSameBack (old.status r) (new.status r)
   pub records : n ≡ m
@@ -31,6 +32,8 @@ pub record LeavesEntries {H : Type 0} (old new : Ledger H) (m n : Records) : Typ
 -- the store was full for a width: no buffer is free, and all are active or on hold
 pub record IsOutOfRoom {H : Type 0} (old new : Ledger H) (width active held : ℕ) (oldest : Oldest) : Type 0 where
   pub is_width_of : is_width width ≡ true
+  -- all entries of its buffers were made
+  pub made : (new.of_width width).buffers * capacity new.work.sizes.words width ≤ (new.of_width width).made
   pub free : free_count new.work.buffer new.work.sizes.buffers ≡ 0
   pub active_is : active ≡ active_count new.work.buffer new.work.sizes.buffers
   pub held_is : held ≡ held_count new.work.buffer new.work.sizes.buffers
@@ -41,8 +44,9 @@ pub record IsOutOfRoom {H : Type 0} (old new : Ledger H) (width active held : �
   pub hold : oldest.hold ≡ (oldest_of new.work.queue).hold
   pub newest : oldest.newest ≡ true → (length new.work.queue ≡ 1) × (oldest.found ≡ 0)
   pub stopped : oldest.newest ≡ false → (1 < length new.work.queue) × (0 < oldest.found) × (old.work.stops < new.work.stops)
+  pub found : oldest.newest ≡ false → oldest.found ≡ new.work.found
 
--- why a unit was refused: a width has no room, or memory is short
+-- why a unit was refused: there is no space for an entry of a width, or memory is exhausted
 abbrev pub RefusesUnit : {H : Type 0} → Ledger H → Ledger H → StoreError → Type 0
 RefusesUnit old new (errors.Full width active held oldest) = IsOutOfRoom old new width active held oldest
 RefusesUnit old new errors.Memory = Unit {0}

@@ -1,5 +1,6 @@
-//! Attributes committed: their root record is made, and the store commits what it reaches.
+//! Committing attributes: their root record is made, and the store commits what it reaches.
 ghost use Rattle.std.specs.Prelude.{◌≡◌, ◌+◌, ◌*◌, ◌<◌, ◌≤◌, length, IfOk, IfErr, OnErr};
+ghost use Rattle.array_store.specs.Adding.{MakesOneOf};
 ghost use Rattle.attr_images.specs.Shapes.{shape_of, types_of};
 ghost use Rattle.attr_images.specs.Words.{class_of};
 ghost use Rattle.attr_types.specs.declared.field.TheConstants.{MOST_FIELDS};
@@ -14,8 +15,7 @@ use attr_types::Field;
 use entry_ref::EntryRef;
 use store_api::{Store, StoreError, Stored};
 
-/// Commits attributes that are all that is in use, beside the root record of the commit before. The answer is the
-/// new root record.
+/// Commits attributes that are all that is in use, apart from the previous root record. Returns the new root record.
 #[tactic(none)]
 pub fn commit_attributes<const OFFSET_BITS: u32, S: Store<OFFSET_BITS, Layout = AttrLayout>>(
     store: &mut S,
@@ -35,6 +35,7 @@ pub fn commit_attributes<const OFFSET_BITS: u32, S: Store<OFFSET_BITS, Layout = 
     ensures left { OnErr result (LeavesEntries (S.ledger store.old) (S.ledger store.new) (S.records store.old) (S.records store.new)) }
     ensures refused { IfErr result (RefusesRoot (S.ledger store.old) (S.ledger store.new)) }
     ensures width { IfErr result (IsForWidth (class_of (1 + 2 * length fields.now))) }
+    ensures counts { MakesOneOf (class_of (1 + 2 * length fields.now)) (S.ledger store.old) (S.ledger store.new) }
     ensures keeps { OnErr result (KeepsStore (S.ledger store.old) (S.ledger store.new)) }
 {
     field_law();

@@ -1,4 +1,4 @@
-//! One document of all attributes, read and changed.
+//! Reading and changing one document of all attributes.
 ghost use Rattle.std.specs.Prelude.{◌≡◌, ℕ, ◌<◌, ◌∷◌, [], true, length, IsSome, IfOk, IfErr, OnOk};
 ghost use Rattle.std.specs.Prelude.{IfSome, IfNone, option_copied, option_map, unwrap_or};
 ghost use Rattle.std.specs.BTreeMap.{is_at};
@@ -11,13 +11,14 @@ ghost use Rattle.attr_field.specs.Changes.{MakesField};
 ghost use Rattle.attr_field.specs.Fields.{field_part, IsField, RefersBeside};
 ghost use Rattle.attr_field.specs.Widths.{IsFieldWidth};
 ghost use Rattle.attr_images.specs.Documents.{column_at};
-ghost use Rattle.attr_field.specs.Counts.{field_nodes, field_records, low_nodes, StaysLow};
+ghost use Rattle.attr_field.specs.Counts.{change_records, field_nodes, low_nodes, StaysLow};
 ghost use Rattle.attr_index.specs.Changes.{first_weights};
 ghost use Rattle.attr_index.specs.Columns.{items_of as items_had, with_change};
 ghost use Rattle.attr_types.specs.Lawful.{IsDocNumber, ItemsFit};
 ghost use Rattle.attr_types.specs.Query.{items_in};
 ghost use Rattle.attr_types.specs.Table.{document_at};
-ghost use Rattle.value_index.specs.Counts.{MakesFew};
+ghost use Rattle.posting_store.specs.Changes.{MakesWithin};
+ghost use Rattle.value_index.specs.Counts.{by_width};
 ghost use Rattle.attr_steps.specs.Counts.{MakesDocument};
 ghost use Rattle.attr_steps.specs.Fields.{AreFields, ChangesFields, FitsFields, OwnsFields, table_with, trees_of};
 ghost use Rattle.attr_steps.specs.Views.{table_at};
@@ -29,7 +30,7 @@ use attr_types::{Doc, Field, FieldItems, Item};
 use std::alloc::{AllocError, Global};
 use store_api::{Store, StoreError, may_do_law};
 
-/// A document with its items in each attribute, if it is there.
+/// Returns a document with its items in each attribute, if it exists.
 #[tactic(none)]
 pub fn read_document<const OFFSET_BITS: u32, F: Frozen<OFFSET_BITS>>(
     alloc: Global,
@@ -56,7 +57,7 @@ pub fn read_document<const OFFSET_BITS: u32, F: Frozen<OFFSET_BITS>>(
     Ok(Some(FieldItems::from_vec(document)))
 }
 
-/// The items that a document has in an attribute, none where it is not there.
+/// Returns the items of a document in an attribute, or none if it does not exist.
 fn items_before(document: Option<&FieldItems>, i: usize) -> &[Item]
     requires { IfSome (option_copied document) (λ d. i < length d) }
     ensures { result.now ≡ unwrap_or (option_map (λ d. items_in d i) (option_copied document.entry)) [] }
@@ -67,7 +68,7 @@ fn items_before(document: Option<&FieldItems>, i: usize) -> &[Item]
     }
 }
 
-/// The items that a document is to have in an attribute, if it is to be there.
+/// Returns the items that a document gets in an attribute, or `None` if it is removed.
 fn items_after(document: Option<&FieldItems>, i: usize) -> Option<&[Item]>
     requires { IfSome (option_copied document) (λ d. i < length d) }
     ensures { option_copied result ≡ option_map (λ d. items_in d i) (option_copied document.entry) }
@@ -78,8 +79,7 @@ fn items_after(document: Option<&FieldItems>, i: usize) -> Option<&[Item]>
     }
 }
 
-/// Sets a document's items in one attribute, or takes the document out. Lists are sparse, whatever the number of
-/// documents.
+/// Sets a document's items in one attribute, or removes the document. Posting lists are never made as bit vectors.
 fn change_field<const OFFSET_BITS: u32, S: Store<OFFSET_BITS>>(
     alloc: Global,
     store: &mut S,
@@ -102,15 +102,17 @@ fn change_field<const OFFSET_BITS: u32, S: Store<OFFSET_BITS>>(
         (S.records store.old) (S.records store.new) roots.entry.documents roots.entry.dictionary
         (with_change (column_at field.now.kind field.now.value (S.records store.old) roots.entry.documents) doc (option_copied new.entry))
         next.documents next.dictionary) }
-    ensures counts { MakesFew (S.ledger store.old) (S.ledger store.new)
-        (field_nodes (first_weights [] old.now) (first_weights [] (unwrap_or (option_copied new.entry) [])))
-        (field_records (first_weights [] old.now) (first_weights [] (unwrap_or (option_copied new.entry) []))) }
+    ensures counts { MakesWithin (S.ledger store.old) (S.ledger store.new)
+        (by_width (field_nodes (first_weights [] old.now) (first_weights [] (unwrap_or (option_copied new.entry) [])))
+        (change_records field.now.kind (column_at field.now.kind field.now.value (S.records store.old) roots.entry.documents) doc old.now
+        (unwrap_or (option_copied new.entry) []))) }
     ensures low { (levels : ℕ)
         → StaysLow levels (column_at field.now.kind field.now.value (S.records store.old) roots.entry.documents)
         (first_weights [] (unwrap_or (option_copied new.entry) []))
-        → MakesFew (S.ledger store.old) (S.ledger store.new)
-        (low_nodes levels (first_weights [] old.now) (first_weights [] (unwrap_or (option_copied new.entry) [])))
-        (field_records (first_weights [] old.now) (first_weights [] (unwrap_or (option_copied new.entry) []))) }
+        → MakesWithin (S.ledger store.old) (S.ledger store.new)
+        (by_width (low_nodes levels (first_weights [] old.now) (first_weights [] (unwrap_or (option_copied new.entry) [])))
+        (change_records field.now.kind (column_at field.now.kind field.now.value (S.records store.old) roots.entry.documents) doc old.now
+        (unwrap_or (option_copied new.entry) []))) }
     ensures refuses { IfErr result (RefusesOf (IsFieldWidth field.now.kind
         (with_change (column_at field.now.kind field.now.value (S.records store.old) roots.entry.documents) doc (option_copied new.entry))
         old.now (unwrap_or (option_copied new.entry) [])) (S.ledger store.old) (S.ledger store.new)) }
@@ -155,8 +157,8 @@ fn change_each<const OFFSET_BITS: u32, S: Store<OFFSET_BITS>>(
     ensures changes { OnOk result (ChangesFields fields.now (S.ledger store.old) (S.ledger store.new)
         (S.records store.old) (S.records store.new)
         (trees_of fields.now roots.old) doc (option_copied new.entry) (trees_of fields.now roots.new)) }
-    ensures counts { MakesDocument (S.ledger store.old) (S.ledger store.new)
-        (table_at (S.records store.old) (trees_of fields.now roots.old))
+    ensures counts { MakesDocument (S.ledger store.old) (S.ledger store.new) fields.now
+        (table_at (S.records store.old) (trees_of fields.now roots.old)) doc
         (option_copied old.entry) (option_copied new.entry) (length fields.now) }
     ensures refuses { IfErr result (RefusesOf (IsChangedWidth fields.now
         (table_with (table_at (S.records store.old) (trees_of fields.now roots.old)) doc (option_copied new.entry))
@@ -173,7 +175,7 @@ fn change_each<const OFFSET_BITS: u32, S: Store<OFFSET_BITS>>(
     Ok(())
 }
 
-/// Changes a document's items in each attribute, or takes the document out. The answer is the new roots.
+/// Changes a document's items in each attribute, or removes the document. Returns the new roots.
 pub fn change_document<const OFFSET_BITS: u32, S: Store<OFFSET_BITS>>(
     alloc: Global,
     store: &mut S,
@@ -195,8 +197,8 @@ pub fn change_document<const OFFSET_BITS: u32, S: Store<OFFSET_BITS>>(
     ensures changes { IfOk result (λ next. ChangesFields fields.now (S.ledger store.old) (S.ledger store.new)
         (S.records store.old) (S.records store.new)
         (trees_of fields.now roots.now) doc (option_copied new.entry) (trees_of fields.now next.items)) }
-    ensures counts { MakesDocument (S.ledger store.old) (S.ledger store.new)
-        (table_at (S.records store.old) (trees_of fields.now roots.now))
+    ensures counts { MakesDocument (S.ledger store.old) (S.ledger store.new) fields.now
+        (table_at (S.records store.old) (trees_of fields.now roots.now)) doc
         (option_copied old.entry) (option_copied new.entry) (length fields.now) }
     ensures refuses { IfErr result (RefusesOf (IsChangedWidth fields.now
         (table_with (table_at (S.records store.old) (trees_of fields.now roots.now)) doc (option_copied new.entry))

@@ -1,11 +1,11 @@
-//! The root record of a commit: the operations, and the roots of each attribute's two trees.
+//! The root record of a commit: the number of operations, and the roots of each attribute's two trees.
 ghost use Rattle.std.specs.Prelude.{◌≡◌, ◌<◌, ◌≤◌, ◌∷◌, ℕ, [], true, false, length, IfOk, IfErr, OnErr};
 ghost use Rattle.attr_images.specs.Words.{class_of};
 ghost use Rattle.attr_types.specs.declared.field.TheConstants.{MOST_FIELDS};
 ghost use Rattle.store_api.specs.Calls.{Refuses};
 ghost use Rattle.store_api.specs.Parts.{Owns, Turns, entries};
 ghost use Rattle.store_api.specs.Units.{MayDo, MakesAtMost};
-ghost use Rattle.array_store.specs.Adding.{AddsRecord, AddsNothing};
+ghost use Rattle.array_store.specs.Adding.{AddsRecord, AddsNothing, MakesOneOf};
 ghost use Rattle.attr_steps.specs.Calls.{KeepsStore, LeavesEntries};
 ghost use Rattle.attr_steps.specs.Commits.{IsForWidth, MakesRootRecord, RefusesRoot, roots_listed};
 ghost use Rattle.attr_steps.specs.Fields.{root_entries};
@@ -16,10 +16,10 @@ use attr_field::FieldRoots;
 use entry_ref::EntryRef;
 use store_api::{Store, StoreError, drop_one, may_do_law};
 
-/// How many words a root record says at most: the operations, and two roots for each of eight attributes.
+/// The greatest number of words in a root record: the operations, and two roots for each of eight attributes.
 const MOST_ROOT_WORDS: usize = 17;
 
-/// The words of a root record.
+/// Returns the words of a root record.
 fn root_words<const OFFSET_BITS: u32>(
     roots: &[FieldRoots<OFFSET_BITS>],
     operations: u32,
@@ -50,6 +50,7 @@ fn make_root<const OFFSET_BITS: u32, S: Store<OFFSET_BITS>>(
     ensures refuses { IfErr result (Refuses (S.ledger store.old) (S.ledger store.new)
         (class_of (length (operations ∷ roots_listed roots.now)))) }
     ensures refused { OnErr result (AddsNothing (S.ledger store.old) (S.ledger store.new) (S.records store.old) (S.records store.new)) }
+    ensures counts { MakesOneOf (class_of (length (operations ∷ roots_listed roots.now))) (S.ledger store.old) (S.ledger store.new) }
     ensures may { MayDo (S.ledger store.old) (S.ledger store.new) }
 {
     let words = root_words(roots, operations);
@@ -66,6 +67,7 @@ fn drop_root<const OFFSET_BITS: u32, S: Store<OFFSET_BITS>>(
     requires owns { Owns (S.ledger store.old) (S.records store.old) (entries (root_entries root) ∷ []) }
     ensures turns { Turns (S.ledger store.old) (S.ledger store.new) (S.records store.old) (S.records store.new)
         (entries (root_entries root.entry) ∷ []) [] }
+    ensures none_made { (c w : ℕ) → MakesAtMost c 0 ((S.ledger store.old).of_width w) ((S.ledger store.new).of_width w) }
     ensures may { MayDo (S.ledger store.old) (S.ledger store.new) }
 {
     may_do_law::<OFFSET_BITS, S>();
@@ -74,7 +76,7 @@ fn drop_root<const OFFSET_BITS: u32, S: Store<OFFSET_BITS>>(
     }
 }
 
-/// Makes a root record, and drops the one before, if there is one.
+/// Makes a root record, and drops the previous one, if any.
 #[tactic(none)]
 fn turn_root<const OFFSET_BITS: u32, S: Store<OFFSET_BITS>>(
     store: &mut S,
@@ -91,6 +93,7 @@ fn turn_root<const OFFSET_BITS: u32, S: Store<OFFSET_BITS>>(
     ensures refuses { IfErr result (Refuses (S.ledger store.old) (S.ledger store.new)
         (class_of (length (operations ∷ roots_listed roots.now)))) }
     ensures none_made { OnErr result ((c w : ℕ) → MakesAtMost c 0 ((S.ledger store.old).of_width w) ((S.ledger store.new).of_width w)) }
+    ensures counts { MakesOneOf (class_of (length (operations ∷ roots_listed roots.now))) (S.ledger store.old) (S.ledger store.new) }
     ensures may { MayDo (S.ledger store.old) (S.ledger store.new) }
 {
     may_do_law::<OFFSET_BITS, S>();
@@ -99,7 +102,7 @@ fn turn_root<const OFFSET_BITS: u32, S: Store<OFFSET_BITS>>(
     Ok(root)
 }
 
-/// One unit in which a root record is made in place of the one before.
+/// Makes a root record in place of the previous one, in a unit of its own.
 #[tactic(none)]
 pub fn root_unit<const OFFSET_BITS: u32, S: Store<OFFSET_BITS>>(
     store: &mut S,
@@ -116,6 +119,7 @@ pub fn root_unit<const OFFSET_BITS: u32, S: Store<OFFSET_BITS>>(
     ensures left { OnErr result (LeavesEntries (S.ledger store.old) (S.ledger store.new) (S.records store.old) (S.records store.new)) }
     ensures refused { IfErr result (RefusesRoot (S.ledger store.old) (S.ledger store.new)) }
     ensures width { IfErr result (IsForWidth (class_of (length (operations ∷ roots_listed roots.now)))) }
+    ensures counts { MakesOneOf (class_of (length (operations ∷ roots_listed roots.now))) (S.ledger store.old) (S.ledger store.new) }
     ensures keeps { KeepsStore (S.ledger store.old) (S.ledger store.new) }
 {
     class_law();

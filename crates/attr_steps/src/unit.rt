@@ -1,9 +1,10 @@
-//! Units of work on the attributes' store: each is whole, or leaves all as it was.
+//! Units on the attributes' store. Each is complete, or leaves everything as it was.
 ghost use Rattle.std.specs.Prelude.{◌≡◌, ◌<◌, false, length, IsSome, IfOk, IfErr, OnErr, IfSome, IfNone, option_copied};
 ghost use Rattle.attr_types.specs.Lawful.{IsDocNumber};
 ghost use Rattle.attr_types.specs.Table.{document_at};
 ghost use Rattle.attr_steps.specs.Calls.{KeepsStore, LeavesEntries, RefusesUnit};
 ghost use Rattle.attr_steps.specs.Counts.{document_nodes, document_records, MakesDocument, SparesAtMost};
+ghost use Rattle.value_index.specs.Counts.{by_width};
 ghost use Rattle.attr_steps.specs.Fields.{AreFields, ChangesFields, FitsFields, OwnsFields, table_with, trees_of};
 ghost use Rattle.attr_steps.specs.Views.{table_at};
 ghost use Rattle.attr_steps.specs.Widths.{IsChangedWidth, IsFullAmong};
@@ -14,7 +15,7 @@ use attr_types::{Doc, Field, FieldItems};
 use std::alloc::Global;
 use store_api::{Store, StoreError};
 
-/// One unit in which a document's items are changed in each attribute, or the document is taken out.
+/// Changes a document's items in each attribute, or removes the document, in a unit of its own.
 #[tactic(none)]
 pub fn change_unit<const OFFSET_BITS: u32, S: Store<OFFSET_BITS>>(
     alloc: Global,
@@ -39,12 +40,13 @@ pub fn change_unit<const OFFSET_BITS: u32, S: Store<OFFSET_BITS>>(
         (trees_of fields.now roots.now) doc (option_copied new.entry) (trees_of fields.now next.items)) }
     ensures left { OnErr result (LeavesEntries (S.ledger store.old) (S.ledger store.new) (S.records store.old) (S.records store.new)) }
     ensures refused { IfErr result (RefusesUnit (S.ledger store.old) (S.ledger store.new)) }
-    ensures counts { MakesDocument (S.ledger store.old) (S.ledger store.new)
-        (table_at (S.records store.old) (trees_of fields.now roots.now))
+    ensures counts { MakesDocument (S.ledger store.old) (S.ledger store.new) fields.now
+        (table_at (S.records store.old) (trees_of fields.now roots.now)) doc
         (option_copied old.entry) (option_copied new.entry) (length fields.now) }
     ensures spares { IfErr result (SparesAtMost (S.ledger store.new)
-        (document_nodes (option_copied old.entry) (option_copied new.entry) (length fields.now))
-        (document_records (option_copied old.entry) (option_copied new.entry) (length fields.now))) }
+        (by_width (document_nodes (option_copied old.entry) (option_copied new.entry) (length fields.now))
+        (document_records fields.now (table_at (S.records store.old) (trees_of fields.now roots.now)) doc
+        (option_copied old.entry) (option_copied new.entry) (length fields.now)))) }
     ensures widths { IfErr result (IsFullAmong (IsChangedWidth fields.now
         (table_with (table_at (S.records store.old) (trees_of fields.now roots.now)) doc (option_copied new.entry))
         (option_copied old.entry) (option_copied new.entry))) }

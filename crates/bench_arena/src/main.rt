@@ -1,5 +1,6 @@
 //! `bench_arena guards READERS LOOPS COMMITS`: so many readers, each with so many guards; or, where there are commits,
-//! with guards until the last of them. `bench_arena read LOOPS`: so many reads of a node of 34 words under one guard.
+//! with guards until the last of them. `bench_arena again READERS LOOPS COMMITS`: the same, where each guard is kept over
+//! 64 looks at the root. `bench_arena read LOOPS`: so many reads of a node of 34 words under one guard.
 //! What was counted is printed.
 #![tactic(auto)]
 
@@ -8,12 +9,12 @@ mod load;
 use crate::load::{Load, count};
 use std::process::ExitCode;
 
-/// The load that the words after the program's name ask for.
+/// Returns the load that the words after the program's name select.
 fn load_in(rt: &HostRuntime) -> Option<Load> {
     let mut words = std::env::args(rt).ok()?.skip(1);
     let name = words.next()?;
     match name.as_str() {
-        "guards" => {
+        "guards" | "again" => {
             let readers = words.next()?.parse::<u32>().ok()?;
             let loops = words.next()?.parse::<u64>().ok()?;
             let commits = words.next()?.parse::<u32>().ok()?;
@@ -21,6 +22,7 @@ fn load_in(rt: &HostRuntime) -> Option<Load> {
                 readers,
                 loops,
                 commits,
+                keeps: name.as_str() == "again",
             })
         }
         "read" => {

@@ -1,6 +1,7 @@
 //! One attribute of longs over a running memory: its operations and commits.
 ghost use Rattle.std.specs.Prelude.{◌≡◌, length, IfOk, OnOk};
-ghost use Rattle.word_arena.specs.Ruled.{writer_of};
+ghost use Rattle.attr_images.specs.Shapes.{shape_of, types_of};
+ghost use Rattle.word_arena.specs.Ruled.{reader_of, writer_of};
 ghost use Rattle.test_full.specs.New.{IsNewWriter};
 
 use arena_api::{Advance, Oldest};
@@ -21,7 +22,7 @@ pub struct NoRoom {
     pub oldest: Oldest,
 }
 
-/// A field of longs.
+/// Returns a field of longs.
 pub fn one_field(alloc: Global) -> Result<Fields, AllocError>
     ensures { IfOk result (λ fields. length fields ≡ 1) }
 {
@@ -36,13 +37,14 @@ pub fn one_field(alloc: Global) -> Result<Fields, AllocError>
     )
 }
 
-/// A reader of a new memory.
+/// Makes a reader of a new memory.
 pub fn seat_in<'a>(
     writer: &mut Writer<'a, 22, AttrLayout>,
     fields: &Fields,
 ) -> Result<Reader<'a, 22, AttrLayout>, AllocError>
     requires new { IsNewWriter fields.now writer.old.place.table_id (writer_of writer.old.place.me.0) }
     ensures new { OnOk result (IsNewWriter fields.now writer.new.place.table_id (writer_of writer.new.place.me.0)) }
+    ensures shape { IfOk result (λ reader. (reader_of reader.place.me.0).sizes.shape ≡ shape_of (types_of fields.now)) }
 {
     match writer.reader() {
         Ok(reader) => Ok(reader),
@@ -50,7 +52,7 @@ pub fn seat_in<'a>(
     }
 }
 
-/// The put of a number to a document.
+/// Returns the put of a number to a document.
 fn put_of(alloc: Global, document: u32, number: u32) -> Result<Op, AllocError> {
     let value = Value::Long(i64::from(number));
     let mut items = Items::new(alloc);
@@ -60,7 +62,7 @@ fn put_of(alloc: Global, document: u32, number: u32) -> Result<Op, AllocError> {
     Ok(Op::Put { doc, items })
 }
 
-/// Where there was no room, which one it was; other refusals are an error.
+/// Returns the refusal for lack of space; other refusals are an error.
 fn refused(error: AttrError) -> Result<Option<NoRoom>, AllocError> {
     match error {
         AttrError::Full {
@@ -128,7 +130,7 @@ pub fn commit<const OFFSET_BITS: u32, S: Store<OFFSET_BITS, Layout = AttrLayout>
     }
 }
 
-/// A step of a compaction over so many keys. Where it finds no room, it is passed over.
+/// Makes a step of a compaction over this many keys. If it finds no space, it is skipped.
 pub fn compact<const OFFSET_BITS: u32, S: Store<OFFSET_BITS, Layout = AttrLayout>>(
     alloc: Global,
     attribute: &mut Attribute<OFFSET_BITS, S>,
@@ -158,7 +160,8 @@ fn push_info(line: &mut String, info: CommitInfo) -> Result<(), AllocError> {
     }
 }
 
-/// Commits, and tells what that comes to: its number and the generation after it, or the commit after which there is none.
+/// Commits, and writes the result: the number of the commit and the generation after it, or the last commit if no
+/// other is possible.
 pub fn tell_commit<const OFFSET_BITS: u32, S: Store<OFFSET_BITS, Layout = AttrLayout>>(
     attribute: &mut Attribute<OFFSET_BITS, S>,
     fields: &Fields,

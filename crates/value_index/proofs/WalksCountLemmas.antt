@@ -1,29 +1,34 @@
 -- How many records a walk makes: each call makes what one value makes, and a value is counted once.
-use Rattle.std.proofs.Common.{◌≡◌, ℕ, ℤ, zero, suc, ◌+◌, ◌*◌, ◌≤◌, Bool, true, false, cond, nat_eq, List, ◌∷◌, length, refl, sym, ap, subst, ◌∙◌, arith}
+use Rattle.std.proofs.Common.{◌≡◌, ℕ, ℤ, zero, suc, ◌+◌, ◌*◌, ◌≤◌, Bool, true, false, cond, nat_eq, nat_cmp, List, [], ◌∷◌, length, Option, Some, None, option_map, refl, sym, ap, subst, ◌∙◌, arith}
 use Rattle.std.proofs.Math.Nat.{mul-le-mul_left, mul-suc}
-use Rattle.std.proofs.lemmas.Bool.{eqb-true}
+use Rattle.std.proofs.lemmas.Bool.{eqb-true, true≢false}
 use Rattle.std.proofs.lemmas.List.Sums.{sum_by-cons}
 use Rattle.std.specs.Prelude.{nat_le}
+use Rattle.std.specs.BTreeMap.{insert_entry, is_at}
 use Rattle.std.specs.List.{count_by}
+use Rattle.std.specs.Map.{remove_entry}
 use Rattle.std.specs.Option.{is_some, unwrap_or}
 use Rattle.entry_ref.specs.Records.{Records}
 use Rattle.store_api.specs.Ledgers.{Ledger}
 use Rattle.store_api.specs.Units.{MayDo}
 use Rattle.array_store.proofs.ClassLemmas.{class_no_node}
-use Rattle.tree_read.specs.Pairs.{lookup}
+use Rattle.tree_read.specs.Pairs.{lookup, lookup_pair}
 use Rattle.tree_read.specs.Trees.{tree_pairs}
 use Rattle.frozen_btree.specs.Changes.{levels}
-use Rattle.attr_images.specs.Postings.{ListForm, short, tree, vector, list_form}
+use Rattle.attr_images.specs.Postings.{ListForm, short, tree, vector, index_of, list_form}
 use Rattle.attr_images.specs.Values.{value_words}
 use Rattle.attr_images.specs.Words.{class_of}
+use Rattle.attr_index.specs.Index.{list_of}
+use Rattle.attr_types.specs.Value.{type_of}
 use Rattle.attr_types.specs.declared.value.Value.{Value}
 use Rattle.enum_dictionary.specs.Dictionaries.{beside_value}
 use Rattle.posting_store.specs.Changes.{MakesWithin}
 use Rattle.posting_store.specs.Lists.{form_levels}
-use Rattle.value_index.specs.Changes.{add_most, change_most, value_levels}
-use Rattle.value_index.specs.Indexes.{key_at}
-use Rattle.value_index.proofs.CountLemmas.{within_none, within_then}
-use Rattle.value_index.specs.Counts.{value_nodes, MakesFew, record_sum}
+use Rattle.value_index.specs.Changes.{add_most, change_most, record_most, value_levels}
+use Rattle.value_index.specs.Indexes.{key_at, IsIndex}
+use Rattle.value_index.proofs.CountLemmas.{within_more, within_none, within_then}
+use Rattle.value_index.proofs.KeyLemmas.{list_none}
+use Rattle.value_index.specs.Counts.{value_nodes, by_width, new_record, put_records, short_record, taken_records, walk_records, MakesFew, record_sum}
 
 -- ---- few records, by nodes and others
 pub few_more : {H : Type 0} (a b : Ledger H) (nodes records more most : ℕ) → nodes ≤ more → records ≤ most → MakesFew a b nodes records → MakesFew a b more most
@@ -34,22 +39,34 @@ few_more a b nodes records more most up rises made = record {
   records_few = let few = made.records_few in omega arith;
 }
 
-pub few_then : {H : Type 0} (a b c : Ledger H) (nodes records more most : ℕ) → MayDo a b → MakesFew a b nodes records → MakesFew b c more most
-    → MakesFew a c (nodes + more) (records + most)
-few_then a b c nodes records more most may first second = record {
-  most = λ w. first.most w + second.most w;
-  counts = within_then a b c first.most second.most may first.counts second.counts;
-  nodes_few = let few = first.nodes_few in let rest = second.nodes_few in omega arith;
-  records_few = let few = first.records_few in let rest = second.records_few in omega arith;
-}
+-- ---- so many nodes, and so many records of each other width
+by_more : (nodes more : ℕ) (records most : ℕ → ℕ) → nodes ≤ more → ((w : ℕ) → records w ≤ most w) → (w : ℕ) → by_width nodes records w ≤ by_width more most w
+by_more nodes more records most up rises w = told (nat_eq w 34)
+  where
+    told : (t : Bool) → cond t nodes (records w) ≤ cond t more (most w)
+    told true = up
+    told false = rises w
 
-pub few_none : {H : Type 0} (a : Ledger H) (nodes records : ℕ) → MakesFew a a nodes records
-few_none a nodes records = record {
-  most = λ w. 0;
-  counts = within_none a (λ w. 0);
-  nodes_few = omega arith;
-  records_few = omega arith;
-}
+by_then : (nodes more : ℕ) (records most : ℕ → ℕ) (w : ℕ) → by_width nodes records w + by_width more most w ≤ by_width (nodes + more) (λ v. records v + most v) w
+by_then nodes more records most w = told (nat_eq w 34)
+  where
+    told : (t : Bool) → cond t nodes (records w) + cond t more (most w) ≤ cond t (nodes + more) (records w + most w)
+    told true = omega arith
+    told false = omega arith
+
+pub width_more : {H : Type 0} (a b : Ledger H) (nodes more : ℕ) (records most : ℕ → ℕ) → nodes ≤ more → ((w : ℕ) → records w ≤ most w) → MakesWithin a b (by_width nodes records)
+    → MakesWithin a b (by_width more most)
+width_more a b nodes more records most up rises made =
+    within_more a b (by_width nodes records) (by_width more most) (by_more nodes more records most up rises) made
+
+pub width_then : {H : Type 0} (a b c : Ledger H) (nodes more : ℕ) (records most : ℕ → ℕ) → MayDo a b → MakesWithin a b (by_width nodes records) → MakesWithin b c (by_width more most)
+    → MakesWithin a c (by_width (nodes + more) (λ w. records w + most w))
+width_then a b c nodes more records most may first second =
+    within_more a c (λ w. by_width nodes records w + by_width more most w) (by_width (nodes + more) (λ w. records w + most w)) (by_then nodes more records most)
+    (within_then a b c (by_width nodes records) (by_width more most) may first second)
+
+pub width_none : {H : Type 0} (a : Ledger H) (nodes : ℕ) (records : ℕ → ℕ) → MakesWithin a a (by_width nodes records)
+width_none a nodes records = within_none a (by_width nodes records)
 
 -- ---- of the widths at most one is this one
 abbrev one_if : Bool → ℕ
@@ -101,33 +118,13 @@ form_few m (tree root) = levels_few m root
 form_few m (vector root) = levels_few m root
 
 -- ---- what one value makes: its list, by whether it is short and of which width it is then, and its pair in the dictionary
-both_nodes : (t u : Bool) (h l : ℕ) → h ≤ 8 → l ≤ 8 → cond t (cond u 1 0) (2 * h + 1) + (2 * l + 1) ≤ 34
-both_nodes true true h l few low = omega arith
-both_nodes true false h l few low = omega arith
-both_nodes false u h l few low = omega arith
-
-abbrev value_most : Bool → ℕ → ℕ → ℕ → ℕ → ℕ
-value_most t k h l w = cond t (cond (nat_eq w k) 1 0) (cond (nat_eq w 34) (2 * h + 1) 0) + cond (nat_eq w 34) (2 * l + 1) 0
-
-value_records : (t : Bool) (k h l : ℕ) → record_sum (value_most t k h l) ≤ 1
-value_records true k h l = let one = one_of k in omega arith
-value_records false k h l = omega arith
-
--- and its own record, where it is new
-own_nodes : (there : Bool) (r n : ℕ) → r ≡ 0 → n ≤ 34 → cond there 0 r + n ≤ 34
-own_nodes true r n none few = omega arith
-own_nodes false r n none few = omega arith
-
-own_records : (there t : Bool) (own k h l : ℕ) → record_sum (λ w. cond there 0 (cond (nat_eq w own) 1 0) + value_most t k h l w) ≤ 2
-own_records true t own k h l = let one = value_records t k h l in omega arith
-own_records false t own k h l = let one = value_records t k h l in let more = one_of own in omega arith
-
--- the same where all trees have at most so many levels
+-- where all trees have at most so many levels
 value_low : (t u : Bool) (most h l : ℕ) → h ≤ most → l ≤ most → cond t (cond u 1 0) (2 * h + 1) + (2 * l + 1) ≤ value_nodes most
 value_low true true most h l few low = omega arith
 value_low true false most h l few low = omega arith
 value_low false u most h l few low = omega arith
 
+-- and its own record, where it is new
 own_low : (there : Bool) (r n most : ℕ) → r ≡ 0 → n ≤ most → cond there 0 r + n ≤ most
 own_low true r n most none few = omega arith
 own_low false r n most none few = omega arith
@@ -140,77 +137,91 @@ module _ (value : Value) (m : Records) (root count most : ℕ) (dictionary : lev
   add_low = own_low (is_some (key_at value m root)) (one_if (nat_eq 34 (class_of (length (value_words value))))) (change_most value m root count 34) (value_nodes most)
       (no_node (class_of (length (value_words value))) (class_no_node (length (value_words value)))) change_low
 
-  module _ {H : Type 0} (a b : Ledger H) where
-    pub low_added : MakesWithin a b (add_most value m root count) → MakesFew a b (value_nodes most) 2
-    low_added made = record {
-      most = add_most value m root count;
-      counts = made;
-      nodes_few = add_low;
-      records_few = own_records (is_some (key_at value m root)) (nat_le count 8) (class_of (length (value_words value))) (class_of (1 + count)) (value_levels value m root) (levels m root);
-    }
+-- of another width: the list's record where it is short, and its own where no document had it
+past_nodes : (s u : Bool) (x n k : ℕ) → u ≡ false → cond s x (cond u n 0) + cond u k 0 ≤ cond s x 0
+past_nodes s true x n k is = absurd (true≢false is)
+past_nodes true false x n k is = omega arith
+past_nodes false false x n k is = omega arith
 
-    pub low_gone : MakesWithin a b (change_most value m root count) → MakesFew a b (value_nodes most) 1
-    low_gone made = record {
-      most = change_most value m root count;
-      counts = made;
-      nodes_few = change_low;
-      records_few = value_records (nat_le count 8) (class_of (1 + count)) (value_levels value m root) (levels m root);
-    }
+abbrev Docs : Type 0
+Docs = List (ℕ × ℤ)
 
-module _ (value : Value) (m : Records) (root count : ℕ) where
+module _ (value : Value) (m : Records) (root w : ℕ) (is : IsIndex (type_of value) m root) where
+  new_few : (o : Option (ℕ × ℕ)) → lookup_pair (beside_value value m) (tree_pairs m root) ≡ o → (docs : Docs) → list_of value (index_of (type_of value) m root) ≡ docs
+      → cond (is_some (option_map (λ (p : ℕ × ℕ). p.0) o)) 0 (record_most value w) ≤ new_record docs value w
+  new_few None none [] reads = omega arith
+  new_few None none (d ∷ docs) reads = absurd (
+      let same : suc (length docs) ≡ 0 = ap (λ (ds : Docs). length ds) (sym reads ∙ list_none value m root is none) in
+      omega arith)
+  new_few (Some p) found docs reads = omega arith
+
+by_parts : (t : Bool) (x y n r : ℕ) → (t ≡ true → x ≤ n) → (t ≡ false → x ≤ r) → x ≤ cond t n r
+by_parts true x y n r node other = node refl
+by_parts false x y n r node other = other refl
+
+module _ (value : Value) (weight : ℤ) (m : Records) (root doc most : ℕ) (is : IsIndex (type_of value) m root) (dictionary : levels m root ≤ most) (list : value_levels value m root ≤ most) where
+  abbrev had : Docs
+  had = list_of value (index_of (type_of value) m root)
+
+  abbrev put_count : ℕ
+  put_count = length (insert_entry nat_cmp had doc weight)
+
+  abbrev taken_count : ℕ
+  taken_count = length (remove_entry (is_at (nat_cmp doc)) had)
+
+  add_by : (lists : Value → Docs) → lists value ≡ had → (w : ℕ) → add_most value m root put_count w ≤ by_width (value_nodes most) (put_records lists doc (value, weight)) w
+  add_by lists reads w =
+      by_parts (nat_eq w 34) (add_most value m root put_count w) 0 (value_nodes most) (put_records lists doc (value, weight) w)
+      (λ node. subst (λ x. add_most value m root put_count x ≤ value_nodes most) (sym (eqb-true w 34 node)) (add_low value m root put_count most dictionary list))
+      (λ other.
+      let new = new_few value m root w is (lookup_pair (beside_value value m) (tree_pairs m root)) refl had refl in
+      let past = past_nodes (nat_le put_count 8) (nat_eq w 34) (one_if (nat_eq w (class_of (1 + put_count)))) (2 * value_levels value m root + 1) (2 * levels m root + 1) other in
+      subst (λ (ds : Docs). add_most value m root put_count w ≤ new_record ds value w + short_record (length (insert_entry nat_cmp ds doc weight)) w) (sym reads) (omega (arith, new, past)))
+
+  change_by : (lists : Value → Docs) → lists value ≡ had → (w : ℕ) → change_most value m root taken_count w ≤ by_width (value_nodes most) (taken_records lists doc (value, weight)) w
+  change_by lists reads w =
+      by_parts (nat_eq w 34) (change_most value m root taken_count w) 0 (value_nodes most) (taken_records lists doc (value, weight) w)
+      (λ node. subst (λ x. change_most value m root taken_count x ≤ value_nodes most) (sym (eqb-true w 34 node)) (change_low value m root taken_count most dictionary list))
+      (λ other.
+      let past = past_nodes (nat_le taken_count 8) (nat_eq w 34) (one_if (nat_eq w (class_of (1 + taken_count)))) (2 * value_levels value m root + 1) (2 * levels m root + 1) other in
+      subst (λ (ds : Docs). change_most value m root taken_count w ≤ short_record (length (remove_entry (is_at (nat_cmp doc)) ds)) w) (sym reads) (omega (arith, past)))
+
+  module _ {H : Type 0} (a b : Ledger H) (lists : Value → Docs) (reads : lists value ≡ had) where
+    pub low_added : MakesWithin a b (add_most value m root put_count) → MakesWithin a b (by_width (value_nodes most) (put_records lists doc (value, weight)))
+    low_added made = within_more a b (add_most value m root put_count) (by_width (value_nodes most) (put_records lists doc (value, weight))) (add_by lists reads) made
+
+    pub low_gone : MakesWithin a b (change_most value m root taken_count) → MakesWithin a b (by_width (value_nodes most) (taken_records lists doc (value, weight)))
+    low_gone made = within_more a b (change_most value m root taken_count) (by_width (value_nodes most) (taken_records lists doc (value, weight))) (change_by lists reads) made
+
+-- no tree has more than eight levels
+module _ (value : Value) (weight : ℤ) (m : Records) (root doc : ℕ) (is : IsIndex (type_of value) m root) {H : Type 0} (a b : Ledger H) (lists : Value → Docs)
+    (reads : lists value ≡ list_of value (index_of (type_of value) m root)) where
   few_levels : value_levels value m root ≤ 8
   few_levels = form_few m (list_form (unwrap_or (lookup (beside_value value m) (tree_pairs m root)) 0))
 
-  change_nodes : change_most value m root count 34 ≤ 34
-  change_nodes = both_nodes (nat_le count 8) (nat_eq 34 (class_of (1 + count))) (value_levels value m root) (levels m root) few_levels (levels_few m root)
+  pub few_added : MakesWithin a b (add_most value m root (length (insert_entry nat_cmp (list_of value (index_of (type_of value) m root)) doc weight)))
+      → MakesWithin a b (by_width 34 (put_records lists doc (value, weight)))
+  few_added made = low_added value weight m root doc 8 is (levels_few m root) few_levels a b lists reads made
 
-  change_records : record_sum (change_most value m root count) ≤ 1
-  change_records = value_records (nat_le count 8) (class_of (1 + count)) (value_levels value m root) (levels m root)
-
-  add_nodes : add_most value m root count 34 ≤ 34
-  add_nodes = own_nodes (is_some (key_at value m root)) (one_if (nat_eq 34 (class_of (length (value_words value))))) (change_most value m root count 34)
-      (no_node (class_of (length (value_words value))) (class_no_node (length (value_words value)))) change_nodes
-
-  add_records : record_sum (add_most value m root count) ≤ 2
-  add_records = own_records (is_some (key_at value m root)) (nat_le count 8) (class_of (length (value_words value))) (class_of (1 + count)) (value_levels value m root) (levels m root)
-
-  module _ {H : Type 0} (a b : Ledger H) where
-    pub few_added : MakesWithin a b (add_most value m root count) → MakesFew a b 34 2
-    few_added made = record { most = add_most value m root count; counts = made; nodes_few = add_nodes; records_few = add_records }
-
-    pub few_gone : MakesWithin a b (change_most value m root count) → MakesFew a b 34 1
-    few_gone made = record { most = change_most value m root count; counts = made; nodes_few = change_nodes; records_few = change_records }
+  pub few_gone : MakesWithin a b (change_most value m root (length (remove_entry (is_at (nat_cmp doc)) (list_of value (index_of (type_of value) m root)))))
+      → MakesWithin a b (by_width 34 (taken_records lists doc (value, weight)))
+  few_gone made = low_gone value weight m root doc 8 is (levels_few m root) few_levels a b lists reads made
 
 -- ---- the values of a walk
--- a bound that grows with the count, by what one makes
-pub record Grows (most : ℕ → ℕ) : Type 0 where
-  pub more : (n k : ℕ) → n ≤ k → most n ≤ most k
-  pub adds : (n : ℕ) → most n + most 1 ≤ most (n + 1)
+counted_in : (t : Bool) (x : ℕ) → t ≡ true → cond t x 0 ≡ x
+counted_in t x is = ap (λ b. cond b x 0) is
 
--- the other records of values that are added, and of those that are gone
-abbrev pub added_records : ℕ → ℕ
-added_records count = 2 * count
+counted_out : (t : Bool) (x : ℕ) → t ≡ false → cond t x 0 ≡ 0
+counted_out t x is = ap (λ b. cond b x 0) is
 
-abbrev pub gone_records : ℕ → ℕ
-gone_records count = count
-
-pub added_grows : Grows added_records
-added_grows = record { more = λ n k few. omega arith; adds = λ n. omega arith }
-
-pub gone_grows : Grows gone_records
-gone_grows = record { more = λ n k few. omega arith; adds = λ n. omega arith }
-
-counted_in : (t : Bool) → t ≡ true → one_if t ≡ 1
-counted_in t is = ap one_if is
-
-counted_out : (t : Bool) → t ≡ false → one_if t ≡ 0
-counted_out t is = ap one_if is
-
--- so many values were changed so far, each with so many nodes: with those of the rest that are to be, they are all
-pub record CountsSoFar {H : Type 0} (nodes : ℕ) (records : ℕ → ℕ) (begun now : Ledger H) (test : Value × ℤ → Bool) (entries rest : List (Value × ℤ)) : Type 0 where
+-- so many values were changed so far, each with so many nodes, and these records were made: with those of the rest that are to be, they
+-- are all
+pub record CountsSoFar {H : Type 0} (nodes : ℕ) (each : Value × ℤ → ℕ → ℕ) (begun now : Ledger H) (test : Value × ℤ → Bool) (entries rest : List (Value × ℤ)) : Type 0 where
   pub made : ℕ
   pub sum : made + count_by test rest ≡ count_by test entries
-  pub counts : MakesFew begun now (nodes * made) (records made)
+  pub most : ℕ → ℕ
+  pub sums : (w : ℕ) → most w + walk_records test each rest w ≡ walk_records test each entries w
+  pub counts : MakesWithin begun now (by_width (nodes * made) most)
 
 one_more : (nodes made : ℕ) → nodes * made + nodes ≤ nodes * (made + 1)
 one_more nodes made =
@@ -218,31 +229,47 @@ one_more nodes made =
     let is : nodes * (made + 1) ≡ nodes * made + nodes = ap (λ k. nodes * k) same ∙ mul-suc nodes made in
     omega (arith, is)
 
-module _ {H : Type 0} (nodes : ℕ) (records : ℕ → ℕ) (grows : Grows records) (begun : Ledger H) (test : Value × ℤ → Bool) (entries : List (Value × ℤ)) where
-  pub counts_begin : (rest : List (Value × ℤ)) → rest ≡ entries → CountsSoFar nodes records begun begun test entries rest
-  counts_begin rest is = record { made = 0; sum = let same : count_by test rest ≡ count_by test entries = ap (count_by test) is in omega arith; counts = few_none begun (nodes * 0) (records 0) }
+module _ {H : Type 0} (nodes : ℕ) (each : Value × ℤ → ℕ → ℕ) (begun : Ledger H) (test : Value × ℤ → Bool) (entries : List (Value × ℤ)) where
+  pub counts_begin : (rest : List (Value × ℤ)) → rest ≡ entries → CountsSoFar nodes each begun begun test entries rest
+  counts_begin rest is = record {
+    made = 0;
+    sum = let same : count_by test rest ≡ count_by test entries = ap (count_by test) is in omega arith;
+    most = λ w. 0;
+    sums = λ w. let same : walk_records test each rest w ≡ walk_records test each entries w = ap (λ es. walk_records test each es w) is in omega (arith, same);
+    counts = width_none begun (nodes * 0) (λ w. 0);
+  }
 
-  module _ (now : Ledger H) (rest more : List (Value × ℤ)) (value : Value) (weight : ℤ) (p : CountsSoFar nodes records begun now test entries rest) (is : rest ≡ (value, weight) ∷ more) where
-    counted : count_by test rest ≡ one_if (test (value, weight)) + count_by test more
+  module _ (now : Ledger H) (rest more : List (Value × ℤ)) (value : Value) (weight : ℤ) (p : CountsSoFar nodes each begun now test entries rest) (is : rest ≡ (value, weight) ∷ more) where
+    counted : count_by test rest ≡ cond (test (value, weight)) 1 0 + count_by test more
     counted = ap (count_by test) is ∙ sum_by-cons (λ e. one_if (test e)) (value, weight) more
 
-    pub counts_put : test (value, weight) ≡ true → (new : Ledger H) → MayDo begun now → MakesFew now new nodes (records 1) → CountsSoFar nodes records begun new test entries more
+    recorded : (w : ℕ) → walk_records test each rest w ≡ cond (test (value, weight)) (each (value, weight) w) 0 + walk_records test each more w
+    recorded w = ap (λ es. walk_records test each es w) is ∙ sum_by-cons (λ e. cond (test e) (each e w) 0) (value, weight) more
+
+    pub counts_put : test (value, weight) ≡ true → (new : Ledger H) → MayDo begun now → MakesWithin now new (by_width nodes (each (value, weight)))
+        → CountsSoFar nodes each begun new test entries more
     counts_put changed new may made = record {
       made = p.made + 1;
-      sum = let one = counted_in (test (value, weight)) changed in let all = p.sum in let c = counted in omega arith;
-      counts = few_more begun new (nodes * p.made + nodes) (records p.made + records 1) (nodes * (p.made + 1)) (records (p.made + 1)) (one_more nodes p.made) (grows.adds p.made)
-          (few_then begun now new (nodes * p.made) (records p.made) nodes (records 1) may p.counts made);
+      sum = let one = counted_in (test (value, weight)) 1 changed in let all = p.sum in let c = counted in omega (arith, one, all, c);
+      most = λ w. p.most w + each (value, weight) w;
+      sums = λ w. let one = counted_in (test (value, weight)) (each (value, weight) w) changed in let all = p.sums w in let c = recorded w in omega (arith, one, all, c);
+      counts = width_more begun new (nodes * p.made + nodes) (nodes * (p.made + 1)) (λ w. p.most w + each (value, weight) w) (λ w. p.most w + each (value, weight) w)
+          (one_more nodes p.made) (λ w. omega arith) (width_then begun now new (nodes * p.made) nodes p.most (each (value, weight)) may p.counts made);
     }
 
-    pub counts_pass : test (value, weight) ≡ false → CountsSoFar nodes records begun now test entries more
+    pub counts_pass : test (value, weight) ≡ false → CountsSoFar nodes each begun now test entries more
     counts_pass past = record {
       made = p.made;
-      sum = let one = counted_out (test (value, weight)) past in let all = p.sum in let c = counted in omega arith;
+      sum = let one = counted_out (test (value, weight)) 1 past in let all = p.sum in let c = counted in omega (arith, one, all, c);
+      most = p.most;
+      sums = λ w. let one = counted_out (test (value, weight)) (each (value, weight) w) past in let all = p.sums w in let c = recorded w in omega (arith, one, all, c);
       counts = p.counts;
     }
 
-  pub counts_end : (now : Ledger H) (rest : List (Value × ℤ)) → CountsSoFar nodes records begun now test entries rest → MakesFew begun now (nodes * count_by test entries) (records (count_by test entries))
+  pub counts_end : (now : Ledger H) (rest : List (Value × ℤ)) → CountsSoFar nodes each begun now test entries rest
+      → MakesWithin begun now (by_width (nodes * count_by test entries) (walk_records test each entries))
   counts_end now rest p =
       let all = p.sum in
       let most : p.made ≤ count_by test entries = omega arith in
-      few_more begun now (nodes * p.made) (records p.made) (nodes * count_by test entries) (records (count_by test entries)) (mul-le-mul_left nodes most) (grows.more p.made (count_by test entries) most) p.counts
+      width_more begun now (nodes * p.made) (nodes * count_by test entries) p.most (walk_records test each entries) (mul-le-mul_left nodes most)
+      (λ w. let sums = p.sums w in omega (arith, sums)) p.counts

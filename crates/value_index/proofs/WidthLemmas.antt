@@ -34,12 +34,21 @@ module _ (start : Index) (doc : ℕ) (entries rest more : List (Value × ℤ)) (
   lacks : (done : List (Value × ℤ)) → done ++ rest ≡ entries → lookup (is_at (value_cmp value)) done ≡ None
   lacks done joins = none_before value weight done more (subst (λ (es : List (Value × ℤ)). IsStrictlySortedBy value_cmp (keys_of es)) (sym (joined done joins)) up)
 
+  -- so its list is what it was at first
+  pub put_list : (p : IsWalk start doc entries rest now) → list_of value start ≡ list_of value now
+  put_list p = sym (p.between.lists value ∙ ap (λ (o : Option ℤ). settled o None doc (list_of value start)) (lacks p.done p.joins))
+
+  pub take_list : (added : Value → Option ℤ) (p : IsWalkBack start doc added entries rest now) → added value ≡ None → list_of value start ≡ list_of value now
+  take_list added p gone = sym (
+      p.between.lists value ∙ ap (λ (o : Option ℤ). settled o (lookup (is_at (value_cmp value)) p.done) doc (list_of value start)) gone
+      ∙ ap (λ (o : Option ℤ). settled None o doc (list_of value start)) (lacks p.done p.joins))
+
   pub put_width : (p : IsWalk start doc entries rest now) (w : ℕ) → IsChangeWidth value (length (insert_entry nat_cmp (list_of value now) doc weight)) w
       → IsWalkWidth start doc (λ v. lookup (is_at (value_cmp v)) entries) (λ v. None) w
   put_width p w (inl node) = inl node
   put_width p w (inr one) =
       let there = found p.done p.joins in
-      let was : list_of value now ≡ list_of value start = p.between.lists value ∙ ap (λ (o : Option ℤ). settled o None doc (list_of value start)) (lacks p.done p.joins) in
+      let was : list_of value now ≡ list_of value start = sym (put_list p) in
       let lists : insert_entry nat_cmp (list_of value now) doc weight ≡ settled (lookup (is_at (value_cmp value)) entries) None doc (list_of value start) =
       ap (λ (ds : List (ℕ × ℤ)). insert_entry nat_cmp ds doc weight) was ∙ ap (λ (o : Option ℤ). settled o None doc (list_of value start)) (sym there) in
       inr (record { value = value; walked = inl (ap is_some there); is = subst (λ (ds : List (ℕ × ℤ)). IsValueWidth value (length ds) w) lists one })
@@ -50,9 +59,7 @@ module _ (start : Index) (doc : ℕ) (entries rest more : List (Value × ℤ)) (
   take_width added p gone w (inl node) = inl node
   take_width added p gone w (inr one) =
       let there = found p.done p.joins in
-      let was : list_of value now ≡ list_of value start =
-      p.between.lists value ∙ ap (λ (o : Option ℤ). settled o (lookup (is_at (value_cmp value)) p.done) doc (list_of value start)) gone
-      ∙ ap (λ (o : Option ℤ). settled None o doc (list_of value start)) (lacks p.done p.joins) in
+      let was : list_of value now ≡ list_of value start = sym (take_list added p gone) in
       let lists : remove_entry (is_at (nat_cmp doc)) (list_of value now) ≡ settled (added value) (lookup (is_at (value_cmp value)) entries) doc (list_of value start) =
       ap (λ (ds : List (ℕ × ℤ)). remove_entry (is_at (nat_cmp doc)) ds) was
       ∙ ap (λ (o : Option ℤ). settled None o doc (list_of value start)) (sym there)

@@ -10,8 +10,9 @@ ghost use Rattle.attr_index.specs.Changes.{is_weight};
 ghost use Rattle.attr_index.specs.Index.{list_of};
 ghost use Rattle.attr_types.specs.Value.{value_cmp, AreOfType};
 ghost use Rattle.attr_types.specs.declared.value.Value.{Value as OneValue};
+ghost use Rattle.posting_store.specs.Changes.{MakesWithin};
 ghost use Rattle.value_index.specs.Indexes.{index_part, IsIndex};
-ghost use Rattle.value_index.specs.Counts.{added_count, value_nodes, AddsLow, MakesFew};
+ghost use Rattle.value_index.specs.Counts.{added_count, added_records, by_width, value_nodes, AddsLow};
 ghost use Rattle.value_index.specs.Walks.{WalksIndex};
 ghost use Rattle.value_index.specs.Widths.{IsWalkWidth};
 
@@ -21,7 +22,7 @@ use entry_ref::EntryRef;
 use std::collections::BTreeMap;
 use store_api::{Store, StoreError};
 
-/// Whether a value has this weight.
+/// Returns whether a value has this weight.
 fn has_weight(weights: &BTreeMap<Value, i32>, value: &Value, weight: i32) -> bool
     ensures { result ≡ is_weight weight (get value_cmp weights.now value.now) }
 {
@@ -31,8 +32,8 @@ fn has_weight(weights: &BTreeMap<Value, i32>, value: &Value, weight: i32) -> boo
     }
 }
 
-/// Puts a document into the lists of its new values that the old ones lack or have with another weight. The answer is
-/// the root of the new index.
+/// Adds a document to the lists of its new values, unless the old ones include the value with the same weight.
+/// Returns the root of the new index.
 #[tactic(none)]
 pub fn add_all<const OFFSET_BITS: u32, S: Store<OFFSET_BITS>>(
     store: &mut S,
@@ -50,12 +51,15 @@ pub fn add_all<const OFFSET_BITS: u32, S: Store<OFFSET_BITS>>(
         ≡ get value_cmp old.now value }
     ensures makes { IfOk result (WalksIndex value_type (S.ledger store.old) (S.ledger store.new) (S.records store.old) (S.records store.new)
         root.entry doc (get value_cmp new.now) (λ value. None)) }
-    ensures counts { MakesFew (S.ledger store.old) (S.ledger store.new)
-        (34 * added_count (get value_cmp old.now) new.now.entries) (2 * added_count (get value_cmp old.now) new.now.entries) }
+    ensures counts { MakesWithin (S.ledger store.old) (S.ledger store.new)
+        (by_width (34 * added_count (get value_cmp old.now) new.now.entries)
+        (added_records (λ value. list_of value (index_of value_type (S.records store.old) root.entry)) doc (get value_cmp old.now)
+        new.now.entries)) }
     ensures low { (levels : ℕ) → AddsLow levels (index_of value_type (S.records store.old) root.entry) doc new.now.entries
-        → MakesFew (S.ledger store.old) (S.ledger store.new)
-        (value_nodes levels * added_count (get value_cmp old.now) new.now.entries)
-        (2 * added_count (get value_cmp old.now) new.now.entries) }
+        → MakesWithin (S.ledger store.old) (S.ledger store.new)
+        (by_width (value_nodes levels * added_count (get value_cmp old.now) new.now.entries)
+        (added_records (λ value. list_of value (index_of value_type (S.records store.old) root.entry)) doc (get value_cmp old.now)
+        new.now.entries)) }
     ensures refuses { IfErr result (RefusesOf
         (IsWalkWidth (index_of value_type (S.records store.old) root.entry) doc (get value_cmp new.now) (λ value. None))
         (S.ledger store.old) (S.ledger store.new)) }

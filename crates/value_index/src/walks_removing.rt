@@ -10,8 +10,9 @@ ghost use Rattle.attr_index.specs.Changes.{first_given};
 ghost use Rattle.attr_index.specs.Index.{list_of};
 ghost use Rattle.attr_types.specs.Value.{value_cmp, AreOfType};
 ghost use Rattle.attr_types.specs.declared.value.Value.{Value as OneValue};
+ghost use Rattle.posting_store.specs.Changes.{MakesWithin};
 ghost use Rattle.value_index.specs.Indexes.{index_part, IsIndex};
-ghost use Rattle.value_index.specs.Counts.{gone_count, value_nodes, MakesFew, RemovesLow};
+ghost use Rattle.value_index.specs.Counts.{by_width, gone_count, gone_records, value_nodes, RemovesLow};
 ghost use Rattle.value_index.specs.Walks.{WalksIndex};
 ghost use Rattle.value_index.specs.Widths.{IsWalkWidth};
 
@@ -21,7 +22,8 @@ use entry_ref::EntryRef;
 use std::collections::BTreeMap;
 use store_api::{Store, StoreError};
 
-/// Takes a document out of the lists of its old values that the new ones lack. The answer is the root of the new index.
+/// Removes a document from the lists of its old values that are not among the new ones. Returns the root of the new
+/// index.
 #[tactic(none)]
 pub fn remove_all<const OFFSET_BITS: u32, S: Store<OFFSET_BITS>>(
     store: &mut S,
@@ -39,12 +41,16 @@ pub fn remove_all<const OFFSET_BITS: u32, S: Store<OFFSET_BITS>>(
         ≡ first_given (get value_cmp new.now value) (get value_cmp old.now value) }
     ensures makes { IfOk result (WalksIndex value_type (S.ledger store.old) (S.ledger store.new) (S.records store.old) (S.records store.new)
         root.entry doc (get value_cmp new.now) (get value_cmp old.now)) }
-    ensures counts { MakesFew (S.ledger store.old) (S.ledger store.new)
-        (34 * gone_count (get value_cmp new.now) old.now.entries) (gone_count (get value_cmp new.now) old.now.entries) }
+    ensures counts { MakesWithin (S.ledger store.old) (S.ledger store.new)
+        (by_width (34 * gone_count (get value_cmp new.now) old.now.entries)
+        (gone_records (λ value. list_of value (index_of value_type (S.records store.old) root.entry)) doc (get value_cmp new.now)
+        old.now.entries)) }
     ensures low { (levels : ℕ)
         → RemovesLow levels (index_of value_type (S.records store.old) root.entry) doc (get value_cmp new.now) old.now.entries
-        → MakesFew (S.ledger store.old) (S.ledger store.new)
-        (value_nodes levels * gone_count (get value_cmp new.now) old.now.entries) (gone_count (get value_cmp new.now) old.now.entries) }
+        → MakesWithin (S.ledger store.old) (S.ledger store.new)
+        (by_width (value_nodes levels * gone_count (get value_cmp new.now) old.now.entries)
+        (gone_records (λ value. list_of value (index_of value_type (S.records store.old) root.entry)) doc (get value_cmp new.now)
+        old.now.entries)) }
     ensures refuses { IfErr result (RefusesOf
         (IsWalkWidth (index_of value_type (S.records store.old) root.entry) doc (get value_cmp new.now) (get value_cmp old.now))
         (S.ledger store.old) (S.ledger store.new)) }

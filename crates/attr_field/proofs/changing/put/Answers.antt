@@ -1,4 +1,4 @@
-use Rattle.std.proofs.Common.{◌≡◌, ℤ, List, [], ◌∷◌, Some, sym, ap, subst, ◌∙◌, arith, true}
+use Rattle.std.proofs.Common.{◌≡◌, ℤ, List, [], ◌∷◌, length, Some, sym, ap, subst, ◌∙◌, arith, true, true≢false}
 use Rattle.std.specs.Prelude.{IfOk, IfErr}
 use Rattle.store_api.specs.Parts.{Owns}
 use Rattle.store_api.specs.Units.{MayDo}
@@ -10,10 +10,11 @@ use Rattle.attr_types.specs.declared.value.Value.{Value}
 use Rattle.store_api.specs.Calls.{RefusesOf}
 use Rattle.attr_types.specs.declared.items.Item.{Item}
 use Rattle.attr_field.specs.Widths.{IsFieldWidth}
-use Rattle.value_index.specs.Counts.{MakesFew}
-use Rattle.value_index.proofs.WalksCountLemmas.{few_none}
+use Rattle.posting_store.specs.Changes.{MakesWithin}
+use Rattle.value_index.specs.Counts.{by_width}
+use Rattle.value_index.proofs.CountLemmas.{within_none}
 use Rattle.attr_field.specs.Changes.{MakesField}
-use Rattle.attr_field.specs.Counts.{field_nodes, field_records, low_nodes, StaysLow}
+use Rattle.attr_field.specs.Counts.{change_records, field_nodes, field_records, low_nodes, StaysLow}
 use Rattle.attr_field.specs.Fields.{field_part, IsField, RefersBeside}
 use Rattle.attr_field.specs.declared.roots.FieldRoots.{FieldRoots}
 use Rattle.attr_field.proofs.ChangeLemmas.{same_field}
@@ -42,7 +43,7 @@ returns-then-same-clause-makes g c =
     let items = c.args.new.now in
     subst (λ s. MakesField kind type (ledger c.args.store.now) (ledger s) k (records s) D I (with_change (column_at kind type k D) c.args.doc (Some items)) D I)
     (sym c.has_already.ensures.same)
-    (same_field kind type (ledger c.args.store.now) k D I c.args.doc c.requires.field c.documents_law.ensures.lawful c.requires.refers items (c.in-Ok.ensures.has c.if-same.true))
+    (same_field kind type (ledger c.args.store.now) k D I c.args.doc c.requires.field c.documents_law.ensures.lawful c.requires.refers items (c.in-Ok.ensures.has.0 c.if-same.true))
 
 pub returns-then-same-clause-may : goal.returns-then-same-clause-may
 returns-then-same-clause-may g c =
@@ -127,41 +128,51 @@ returns-clause-refuses g c =
 pub returns-in_default-clause-counts : goal.returns-in_default-clause-counts
 returns-in_default-clause-counts g c =
     let ledger = g.S.Store.ledger in
-    let nodes = field_nodes (first_weights [] c.args.old.now) (first_weights [] c.args.new.now) in
-    let records = field_records (first_weights [] c.args.old.now) (first_weights [] c.args.new.now) in
-    subst (λ s. MakesFew (ledger c.args.store.now) (ledger s) nodes records) (sym c.has_already.ensures.same) (few_none (ledger c.args.store.now) nodes records)
+    let column = column_at c.args.kind c.args.value_type (g.S.Frozen.records c.args.store.now) c.args.roots.documents in
+    let records = change_records c.args.kind column c.args.doc c.args.old.now c.args.new.now in
+    let most = by_width (field_nodes (first_weights [] c.args.old.now) (first_weights [] c.args.new.now)) records in
+    subst (λ s. MakesWithin (ledger c.args.store.now) (ledger s) most) (sym c.has_already.ensures.same) (within_none (ledger c.args.store.now) most)
 
 pub returns-then-same-clause-counts : goal.returns-then-same-clause-counts
 returns-then-same-clause-counts g c =
     let ledger = g.S.Store.ledger in
-    let nodes = field_nodes (first_weights [] c.args.old.now) (first_weights [] c.args.new.now) in
-    let records = field_records (first_weights [] c.args.old.now) (first_weights [] c.args.new.now) in
-    subst (λ s. MakesFew (ledger c.args.store.now) (ledger s) nodes records) (sym c.has_already.ensures.same) (few_none (ledger c.args.store.now) nodes records)
+    let column = column_at c.args.kind c.args.value_type (g.S.Frozen.records c.args.store.now) c.args.roots.documents in
+    let records = change_records c.args.kind column c.args.doc c.args.old.now c.args.new.now in
+    let most = by_width (field_nodes (first_weights [] c.args.old.now) (first_weights [] c.args.new.now)) records in
+    subst (λ s. MakesWithin (ledger c.args.store.now) (ledger s) most) (sym c.has_already.ensures.same) (within_none (ledger c.args.store.now) most)
 
 pub returns-in_default-weights_of-clause-counts : goal.returns-in_default-weights_of-clause-counts
 returns-in_default-weights_of-clause-counts g c =
     let ledger = g.S.Store.ledger in
-    let nodes = field_nodes (first_weights [] c.args.old.now) (first_weights [] c.args.new.now) in
-    let records = field_records (first_weights [] c.args.old.now) (first_weights [] c.args.new.now) in
-    subst (λ s. MakesFew (ledger c.args.store.now) (ledger s) nodes records) (sym c.has_already.ensures.same) (few_none (ledger c.args.store.now) nodes records)
+    let column = column_at c.args.kind c.args.value_type (g.S.Frozen.records c.args.store.now) c.args.roots.documents in
+    let records = change_records c.args.kind column c.args.doc c.args.old.now c.args.new.now in
+    let most = by_width (field_nodes (first_weights [] c.args.old.now) (first_weights [] c.args.new.now)) records in
+    subst (λ s. MakesWithin (ledger c.args.store.now) (ledger s) most) (sym c.has_already.ensures.same) (within_none (ledger c.args.store.now) most)
 
 pub returns-in_default-weights_of-2-clause-counts : goal.returns-in_default-weights_of-2-clause-counts
 returns-in_default-weights_of-2-clause-counts g c =
     let ledger = g.S.Store.ledger in
-    let nodes = field_nodes (first_weights [] c.args.old.now) (first_weights [] c.args.new.now) in
-    let records = field_records (first_weights [] c.args.old.now) (first_weights [] c.args.new.now) in
-    subst (λ s. MakesFew (ledger c.args.store.now) (ledger s) nodes records) (sym c.has_already.ensures.same) (few_none (ledger c.args.store.now) nodes records)
+    let column = column_at c.args.kind c.args.value_type (g.S.Frozen.records c.args.store.now) c.args.roots.documents in
+    let records = change_records c.args.kind column c.args.doc c.args.old.now c.args.new.now in
+    let most = by_width (field_nodes (first_weights [] c.args.old.now) (first_weights [] c.args.new.now)) records in
+    subst (λ s. MakesWithin (ledger c.args.store.now) (ledger s) most) (sym c.has_already.ensures.same) (within_none (ledger c.args.store.now) most)
 
 pub returns-clause-counts : goal.returns-clause-counts
 returns-clause-counts g c =
     let ledger = g.S.Store.ledger in
+    let records = g.S.Frozen.records in
     let new = ledger c.put_weighed.new.store in
+    let kind = c.args.kind in
+    let doc = c.args.doc in
+    let count = length c.args.new.now in
     let was = c.in-Ok-weights_of.before.entries in
     let is = c.in-Ok-weights_of-2.after.entries in
     let first = first_weights [] c.args.old.now in
-    subst (λ (es : List (Value × ℤ)). MakesFew (ledger c.args.store.now) new (field_nodes first es) (field_records first es)) c.in-Ok-weights_of-2.ensures.weights
-    (subst (λ (es : List (Value × ℤ)). MakesFew (ledger c.args.store.now) new (field_nodes es is) (field_records es is)) c.in-Ok-weights_of.ensures.weights
-    (subst (λ s. MakesFew (ledger s) new (field_nodes was is) (field_records was is)) c.has_already.ensures.same c.put_weighed.ensures.counts))
+    let column = column_at kind c.args.value_type (records c.args.store.now) c.args.roots.documents in
+    subst (λ (es : List (Value × ℤ)). MakesWithin (ledger c.args.store.now) new (by_width (field_nodes first es) (field_records kind column doc count first es))) c.in-Ok-weights_of-2.ensures.weights
+    (subst (λ (es : List (Value × ℤ)). MakesWithin (ledger c.args.store.now) new (by_width (field_nodes es is) (field_records kind column doc count es is))) c.in-Ok-weights_of.ensures.weights
+    (subst (λ s. MakesWithin (ledger s) new (by_width (field_nodes was is) (field_records kind (column_at kind c.args.value_type (records s) c.args.roots.documents) doc count was is)))
+    c.has_already.ensures.same c.put_weighed.ensures.counts))
 
 pub returns-clause-may : goal.returns-clause-may
 returns-clause-may g c =
@@ -171,46 +182,70 @@ returns-clause-may g c =
 pub returns-in_default-clause-low : goal.returns-in_default-clause-low
 returns-in_default-clause-low g c =
     let ledger = g.S.Store.ledger in
-    let records = field_records (first_weights [] c.args.old.now) (first_weights [] c.args.new.now) in
+    let column = column_at c.args.kind c.args.value_type (g.S.Frozen.records c.args.store.now) c.args.roots.documents in
+    let records = change_records c.args.kind column c.args.doc c.args.old.now c.args.new.now in
     λ levels stays.
-    let nodes = low_nodes levels (first_weights [] c.args.old.now) (first_weights [] c.args.new.now) in
-    subst (λ s. MakesFew (ledger c.args.store.now) (ledger s) nodes records) (sym c.has_already.ensures.same) (few_none (ledger c.args.store.now) nodes records)
+    let most = by_width (low_nodes levels (first_weights [] c.args.old.now) (first_weights [] c.args.new.now)) records in
+    subst (λ s. MakesWithin (ledger c.args.store.now) (ledger s) most) (sym c.has_already.ensures.same) (within_none (ledger c.args.store.now) most)
 
 pub returns-then-same-clause-low : goal.returns-then-same-clause-low
 returns-then-same-clause-low g c =
     let ledger = g.S.Store.ledger in
-    let records = field_records (first_weights [] c.args.old.now) (first_weights [] c.args.new.now) in
+    let column = column_at c.args.kind c.args.value_type (g.S.Frozen.records c.args.store.now) c.args.roots.documents in
+    let records = change_records c.args.kind column c.args.doc c.args.old.now c.args.new.now in
     λ levels stays.
-    let nodes = low_nodes levels (first_weights [] c.args.old.now) (first_weights [] c.args.new.now) in
-    subst (λ s. MakesFew (ledger c.args.store.now) (ledger s) nodes records) (sym c.has_already.ensures.same) (few_none (ledger c.args.store.now) nodes records)
+    let most = by_width (low_nodes levels (first_weights [] c.args.old.now) (first_weights [] c.args.new.now)) records in
+    subst (λ s. MakesWithin (ledger c.args.store.now) (ledger s) most) (sym c.has_already.ensures.same) (within_none (ledger c.args.store.now) most)
 
 pub returns-in_default-weights_of-clause-low : goal.returns-in_default-weights_of-clause-low
 returns-in_default-weights_of-clause-low g c =
     let ledger = g.S.Store.ledger in
-    let records = field_records (first_weights [] c.args.old.now) (first_weights [] c.args.new.now) in
+    let column = column_at c.args.kind c.args.value_type (g.S.Frozen.records c.args.store.now) c.args.roots.documents in
+    let records = change_records c.args.kind column c.args.doc c.args.old.now c.args.new.now in
     λ levels stays.
-    let nodes = low_nodes levels (first_weights [] c.args.old.now) (first_weights [] c.args.new.now) in
-    subst (λ s. MakesFew (ledger c.args.store.now) (ledger s) nodes records) (sym c.has_already.ensures.same) (few_none (ledger c.args.store.now) nodes records)
+    let most = by_width (low_nodes levels (first_weights [] c.args.old.now) (first_weights [] c.args.new.now)) records in
+    subst (λ s. MakesWithin (ledger c.args.store.now) (ledger s) most) (sym c.has_already.ensures.same) (within_none (ledger c.args.store.now) most)
 
 pub returns-in_default-weights_of-2-clause-low : goal.returns-in_default-weights_of-2-clause-low
 returns-in_default-weights_of-2-clause-low g c =
     let ledger = g.S.Store.ledger in
-    let records = field_records (first_weights [] c.args.old.now) (first_weights [] c.args.new.now) in
+    let column = column_at c.args.kind c.args.value_type (g.S.Frozen.records c.args.store.now) c.args.roots.documents in
+    let records = change_records c.args.kind column c.args.doc c.args.old.now c.args.new.now in
     λ levels stays.
-    let nodes = low_nodes levels (first_weights [] c.args.old.now) (first_weights [] c.args.new.now) in
-    subst (λ s. MakesFew (ledger c.args.store.now) (ledger s) nodes records) (sym c.has_already.ensures.same) (few_none (ledger c.args.store.now) nodes records)
+    let most = by_width (low_nodes levels (first_weights [] c.args.old.now) (first_weights [] c.args.new.now)) records in
+    subst (λ s. MakesWithin (ledger c.args.store.now) (ledger s) most) (sym c.has_already.ensures.same) (within_none (ledger c.args.store.now) most)
 
 pub returns-clause-low : goal.returns-clause-low
 returns-clause-low g c =
     let ledger = g.S.Store.ledger in
     let records = g.S.Frozen.records in
     let new = ledger c.put_weighed.new.store in
+    let kind = c.args.kind in
+    let doc = c.args.doc in
+    let count = length c.args.new.now in
     let was = c.in-Ok-weights_of.before.entries in
     let is = c.in-Ok-weights_of-2.after.entries in
     let first = first_weights [] c.args.old.now in
+    let column = column_at kind c.args.value_type (records c.args.store.now) c.args.roots.documents in
     λ levels stays.
     let here = subst (λ s. StaysLow levels (column_at c.args.kind c.args.value_type (records s) c.args.roots.documents) is) (sym c.has_already.ensures.same)
-    (subst (λ (es : List (Value × ℤ)). StaysLow levels (column_at c.args.kind c.args.value_type (records c.args.store.now) c.args.roots.documents) es) (sym c.in-Ok-weights_of-2.ensures.weights) stays) in
-    subst (λ (es : List (Value × ℤ)). MakesFew (ledger c.args.store.now) new (low_nodes levels first es) (field_records first es)) c.in-Ok-weights_of-2.ensures.weights
-    (subst (λ (es : List (Value × ℤ)). MakesFew (ledger c.args.store.now) new (low_nodes levels es is) (field_records es is)) c.in-Ok-weights_of.ensures.weights
-    (subst (λ s. MakesFew (ledger s) new (low_nodes levels was is) (field_records was is)) c.has_already.ensures.same (c.put_weighed.ensures.low levels here)))
+    (subst (λ (es : List (Value × ℤ)). StaysLow levels column es) (sym c.in-Ok-weights_of-2.ensures.weights) stays) in
+    subst (λ (es : List (Value × ℤ)). MakesWithin (ledger c.args.store.now) new (by_width (low_nodes levels first es) (field_records kind column doc count first es))) c.in-Ok-weights_of-2.ensures.weights
+    (subst (λ (es : List (Value × ℤ)). MakesWithin (ledger c.args.store.now) new (by_width (low_nodes levels es is) (field_records kind column doc count es is))) c.in-Ok-weights_of.ensures.weights
+    (subst (λ s. MakesWithin (ledger s) new (by_width (low_nodes levels was is) (field_records kind (column_at kind c.args.value_type (records s) c.args.roots.documents) doc count was is)))
+    c.has_already.ensures.same (c.put_weighed.ensures.low levels here)))
+
+pub returns-in_default-clause-same : goal.returns-in_default-clause-same
+returns-in_default-clause-same g c = λ is. c.has_already.ensures.same
+
+pub returns-then-same-clause-same : goal.returns-then-same-clause-same
+returns-then-same-clause-same g c = λ is. c.has_already.ensures.same
+
+pub returns-in_default-weights_of-clause-same : goal.returns-in_default-weights_of-clause-same
+returns-in_default-weights_of-clause-same g c = λ is. c.has_already.ensures.same
+
+pub returns-in_default-weights_of-2-clause-same : goal.returns-in_default-weights_of-2-clause-same
+returns-in_default-weights_of-2-clause-same g c = λ is. c.has_already.ensures.same
+
+pub returns-clause-same : goal.returns-clause-same
+returns-clause-same g c = λ is. absurd (true≢false (sym (c.in-Ok.ensures.has.1 is) ∙ c.if-same.false))

@@ -1,4 +1,4 @@
-use Rattle.std.proofs.Common.{◌*◌, ◌^◌, ◌<◌, length, None, Some, sym, subst, ◌∙◌, arith, inl}
+use Rattle.std.proofs.Common.{◌+◌, ◌*◌, ◌^◌, ◌<◌, length, None, Some, sym, subst, ◌∙◌, arith, inl}
 use Rattle.std.proofs.lemmas.Result.{err_from_is_err_and}
 use Rattle.store_api.proofs.May.{may_do-same, may_do-then}
 use Rattle.attr_images.specs.Documents.{column_at}
@@ -12,7 +12,9 @@ use Rattle.posting_store.proofs.RefusalLemmas.{of_more}
 use Rattle.attr_field.specs.Widths.{IsFieldWidth}
 use Rattle.attr_field.proofs.WidthLemmas.{added_width, removed_width}
 use Rattle.attr_field.proofs.ChangeLemmas.{weights, field_stands, has_before, has_middle, index_ends, step_ends, steps_then}
-use Rattle.attr_field.proofs.CountLemmas.{counts_first, counts_two, counts_three, low_one, low_two, low_three}
+use Rattle.value_index.specs.Counts.{value_nodes}
+use Rattle.attr_field.specs.Counts.{lost_values, new_values}
+use Rattle.attr_field.proofs.CountLemmas.{put_one, put_two, put_three}
 use Rattle.attr_field.proofs.SizeLemmas.{adds_low, removes_low}
 use Rattle.attr_field.proofs.WeightLemmas.{items_listed, items_typed, weights_are, weights_typed}
 use Rattle.attr_field.proofs.changing.put_weighed.Goals as goal
@@ -224,26 +226,84 @@ returns-clause-makes g c =
 pub returns-in_err-added-clause-counts : goal.returns-in_err-added-clause-counts
 returns-in_err-added-clause-counts g c =
     let ledger = g.S.Store.ledger in
+    let records = g.S.Frozen.records in
+    let k = records c.args.store.now in
+    let kind = c.args.kind in
+    let type = c.args.value_type in
+    let D = c.args.roots.documents in
+    let I = c.args.roots.dictionary in
+    let doc = c.args.doc in
+    let old = c.args.old.now.entries in
+    let new = c.args.new.now.entries in
+    let count = length c.args.items.now in
+    let column = column_at kind type k D in
+    let start = index_of type k I in
+    let of = c.requires.field.index_of_documents in
     let last = ledger c.add_values.new.store in
-    counts_first c.args.old.now.entries c.args.new.now.entries (ledger c.args.store.now) last last last c.add_values.ensures.counts
+    put_one kind column start doc count of old new (34 * new_values old new) 17 (34 * lost_values old new) (ledger c.args.store.now) last last last c.add_values.ensures.counts
 
 pub returns-in_err-documents-clause-counts : goal.returns-in_err-documents-clause-counts
 returns-in_err-documents-clause-counts g c =
     let ledger = g.S.Store.ledger in
+    let records = g.S.Frozen.records in
+    let k = records c.args.store.now in
+    let kind = c.args.kind in
+    let type = c.args.value_type in
+    let D = c.args.roots.documents in
+    let I = c.args.roots.dictionary in
+    let doc = c.args.doc in
+    let old = c.args.old.now.entries in
+    let new = c.args.new.now.entries in
+    let count = length c.args.items.now in
+    let column = column_at kind type k D in
+    let start = index_of type k I in
+    let of = c.requires.field.index_of_documents in
     let last = ledger c.set_items.new.store in
-    counts_two c.args.old.now.entries c.args.new.now.entries (ledger c.args.store.now) (ledger c.add_values.new.store) last last
+    put_two kind column start doc count of old new (34 * new_values old new) 17 (34 * lost_values old new) (ledger c.args.store.now) (ledger c.add_values.new.store) last last
     c.add_values.ensures.may c.add_values.ensures.counts c.set_items.ensures.counts
 
 pub returns-in_err-dictionary-clause-counts : goal.returns-in_err-dictionary-clause-counts
 returns-in_err-dictionary-clause-counts g c =
     let ledger = g.S.Store.ledger in
-    counts_three c.args.old.now.entries c.args.new.now.entries (ledger c.args.store.now) (ledger c.add_values.new.store) (ledger c.set_items.new.store) (ledger c.remove_values.new.store)
+    let records = g.S.Frozen.records in
+    let k = records c.args.store.now in
+    let kind = c.args.kind in
+    let type = c.args.value_type in
+    let D = c.args.roots.documents in
+    let I = c.args.roots.dictionary in
+    let doc = c.args.doc in
+    let old = c.args.old.now.entries in
+    let new = c.args.new.now.entries in
+    let count = length c.args.items.now in
+    let column = column_at kind type k D in
+    let start = index_of type k I in
+    let of = c.requires.field.index_of_documents in
+    let middle = index_of type (records c.set_items.new.store) c.in_ok-added.added in
+    let between = subst (λ (i : Index). IsBetween start doc (weights new) (λ v. None) i) (sym c.in_ok-documents.ensures.index) c.in_ok-added.ensures.between in
+    put_three kind column start doc count of old new (34 * new_values old new) 17 (34 * lost_values old new)
+    (ledger c.args.store.now) (ledger c.add_values.new.store) (ledger c.set_items.new.store) (ledger c.remove_values.new.store) middle between
     c.add_values.ensures.may c.set_items.ensures.may c.add_values.ensures.counts c.set_items.ensures.counts c.remove_values.ensures.counts
 
 pub returns-clause-counts : goal.returns-clause-counts
 returns-clause-counts g c =
     let ledger = g.S.Store.ledger in
-    counts_three c.args.old.now.entries c.args.new.now.entries (ledger c.args.store.now) (ledger c.add_values.new.store) (ledger c.set_items.new.store) (ledger c.remove_values.new.store)
+    let records = g.S.Frozen.records in
+    let k = records c.args.store.now in
+    let kind = c.args.kind in
+    let type = c.args.value_type in
+    let D = c.args.roots.documents in
+    let I = c.args.roots.dictionary in
+    let doc = c.args.doc in
+    let old = c.args.old.now.entries in
+    let new = c.args.new.now.entries in
+    let count = length c.args.items.now in
+    let column = column_at kind type k D in
+    let start = index_of type k I in
+    let of = c.requires.field.index_of_documents in
+    let middle = index_of type (records c.set_items.new.store) c.in_ok-added.added in
+    let between = subst (λ (i : Index). IsBetween start doc (weights new) (λ v. None) i) (sym c.in_ok-documents.ensures.index) c.in_ok-added.ensures.between in
+    put_three kind column start doc count of old new (34 * new_values old new) 17 (34 * lost_values old new)
+    (ledger c.args.store.now) (ledger c.add_values.new.store) (ledger c.set_items.new.store) (ledger c.remove_values.new.store) middle between
     c.add_values.ensures.may c.set_items.ensures.may c.add_values.ensures.counts c.set_items.ensures.counts c.remove_values.ensures.counts
 
 pub returns-clause-may : goal.returns-clause-may
@@ -264,12 +324,14 @@ returns-in_err-added-clause-low g c =
     let doc = c.args.doc in
     let old = c.args.old.now.entries in
     let new = c.args.new.now.entries in
+    let count = length c.args.items.now in
     let column = column_at kind type k D in
+    let start = index_of type k I in
     let of = c.requires.field.index_of_documents in
     λ levels stays.
-    let added = c.add_values.ensures.low levels (adds_low column (index_of type k I) doc levels new of stays) in
+    let added = c.add_values.ensures.low levels (adds_low column start doc levels new of stays) in
     let last = ledger c.add_values.new.store in
-    low_one levels old new (ledger c.args.store.now) last last last added
+    put_one kind column start doc count of old new (value_nodes levels * new_values old new) (2 * levels + 1) (value_nodes levels * lost_values old new) (ledger c.args.store.now) last last last added
 
 pub returns-in_err-documents-clause-low : goal.returns-in_err-documents-clause-low
 returns-in_err-documents-clause-low g c =
@@ -283,14 +345,16 @@ returns-in_err-documents-clause-low g c =
     let doc = c.args.doc in
     let old = c.args.old.now.entries in
     let new = c.args.new.now.entries in
+    let count = length c.args.items.now in
     let column = column_at kind type k D in
+    let start = index_of type k I in
     let of = c.requires.field.index_of_documents in
     λ levels stays.
-    let added = c.add_values.ensures.low levels (adds_low column (index_of type k I) doc levels new of stays) in
+    let added = c.add_values.ensures.low levels (adds_low column start doc levels new of stays) in
     let few = subst (λ (cl : Column). length cl < 2 * 8 ^ levels) (sym c.in_ok-added.ensures.steps.column_is) (let low = stays.documents in let less : length column < 2 * 8 ^ levels = omega arith in less) in
     let entry = c.set_items.ensures.low levels stays.some few in
     let last = ledger c.set_items.new.store in
-    low_two levels old new (ledger c.args.store.now) (ledger c.add_values.new.store) last last c.add_values.ensures.may added entry
+    put_two kind column start doc count of old new (value_nodes levels * new_values old new) (2 * levels + 1) (value_nodes levels * lost_values old new) (ledger c.args.store.now) (ledger c.add_values.new.store) last last c.add_values.ensures.may added entry
 
 pub returns-in_err-dictionary-clause-low : goal.returns-in_err-dictionary-clause-low
 returns-in_err-dictionary-clause-low g c =
@@ -304,15 +368,19 @@ returns-in_err-dictionary-clause-low g c =
     let doc = c.args.doc in
     let old = c.args.old.now.entries in
     let new = c.args.new.now.entries in
+    let count = length c.args.items.now in
     let column = column_at kind type k D in
+    let start = index_of type k I in
     let of = c.requires.field.index_of_documents in
+    let middle = index_of type (records c.set_items.new.store) c.in_ok-added.added in
+    let between = subst (λ (i : Index). IsBetween start doc (weights new) (λ v. None) i) (sym c.in_ok-documents.ensures.index) c.in_ok-added.ensures.between in
     λ levels stays.
-    let added = c.add_values.ensures.low levels (adds_low column (index_of type k I) doc levels new of stays) in
+    let added = c.add_values.ensures.low levels (adds_low column start doc levels new of stays) in
     let few = subst (λ (cl : Column). length cl < 2 * 8 ^ levels) (sym c.in_ok-added.ensures.steps.column_is) (let low = stays.documents in let less : length column < 2 * 8 ^ levels = omega arith in less) in
     let entry = c.set_items.ensures.low levels stays.some few in
-    let between = subst (λ (i : Index). IsBetween (index_of type k I) doc (weights new) (λ v. None) i) (sym c.in_ok-documents.ensures.index) c.in_ok-added.ensures.between in
-    let gone = c.remove_values.ensures.low levels (removes_low column (index_of type k I) doc levels new of stays (index_of type (records c.set_items.new.store) c.in_ok-added.added) old between) in
-    low_three levels old new (ledger c.args.store.now) (ledger c.add_values.new.store) (ledger c.set_items.new.store) (ledger c.remove_values.new.store)
+    let gone = c.remove_values.ensures.low levels (removes_low column start doc levels new of stays middle old between) in
+    put_three kind column start doc count of old new (value_nodes levels * new_values old new) (2 * levels + 1) (value_nodes levels * lost_values old new)
+    (ledger c.args.store.now) (ledger c.add_values.new.store) (ledger c.set_items.new.store) (ledger c.remove_values.new.store) middle between
     c.add_values.ensures.may c.set_items.ensures.may added entry gone
 
 pub returns-clause-low : goal.returns-clause-low
@@ -327,13 +395,17 @@ returns-clause-low g c =
     let doc = c.args.doc in
     let old = c.args.old.now.entries in
     let new = c.args.new.now.entries in
+    let count = length c.args.items.now in
     let column = column_at kind type k D in
+    let start = index_of type k I in
     let of = c.requires.field.index_of_documents in
+    let middle = index_of type (records c.set_items.new.store) c.in_ok-added.added in
+    let between = subst (λ (i : Index). IsBetween start doc (weights new) (λ v. None) i) (sym c.in_ok-documents.ensures.index) c.in_ok-added.ensures.between in
     λ levels stays.
-    let added = c.add_values.ensures.low levels (adds_low column (index_of type k I) doc levels new of stays) in
+    let added = c.add_values.ensures.low levels (adds_low column start doc levels new of stays) in
     let few = subst (λ (cl : Column). length cl < 2 * 8 ^ levels) (sym c.in_ok-added.ensures.steps.column_is) (let low = stays.documents in let less : length column < 2 * 8 ^ levels = omega arith in less) in
     let entry = c.set_items.ensures.low levels stays.some few in
-    let between = subst (λ (i : Index). IsBetween (index_of type k I) doc (weights new) (λ v. None) i) (sym c.in_ok-documents.ensures.index) c.in_ok-added.ensures.between in
-    let gone = c.remove_values.ensures.low levels (removes_low column (index_of type k I) doc levels new of stays (index_of type (records c.set_items.new.store) c.in_ok-added.added) old between) in
-    low_three levels old new (ledger c.args.store.now) (ledger c.add_values.new.store) (ledger c.set_items.new.store) (ledger c.remove_values.new.store)
+    let gone = c.remove_values.ensures.low levels (removes_low column start doc levels new of stays middle old between) in
+    put_three kind column start doc count of old new (value_nodes levels * new_values old new) (2 * levels + 1) (value_nodes levels * lost_values old new)
+    (ledger c.args.store.now) (ledger c.add_values.new.store) (ledger c.set_items.new.store) (ledger c.remove_values.new.store) middle between
     c.add_values.ensures.may c.set_items.ensures.may added entry gone

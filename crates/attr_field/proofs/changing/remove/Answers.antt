@@ -8,9 +8,10 @@ use Rattle.attr_types.specs.declared.items.Item.{Item}
 use Rattle.attr_field.specs.Widths.{IsFieldWidth}
 use Rattle.attr_index.specs.Changes.{first_weights}
 use Rattle.attr_types.specs.declared.value.Value.{Value}
-use Rattle.value_index.specs.Counts.{MakesFew}
-use Rattle.value_index.proofs.WalksCountLemmas.{few_none}
-use Rattle.attr_field.specs.Counts.{field_nodes, field_records, low_nodes}
+use Rattle.posting_store.specs.Changes.{MakesWithin}
+use Rattle.value_index.specs.Counts.{by_width}
+use Rattle.value_index.proofs.CountLemmas.{within_none}
+use Rattle.attr_field.specs.Counts.{change_records, field_nodes, field_records, low_nodes}
 use Rattle.attr_field.proofs.changing.remove.Goals as goal
 
 pub returns-in_default-clause-refuses : goal.returns-in_default-clause-refuses
@@ -52,23 +53,30 @@ returns-clause-refuses g c =
     (sym c.requires.was) c.remove_weighed.ensures.refuses
 
 pub returns-in_default-clause-counts : goal.returns-in_default-clause-counts
-returns-in_default-clause-counts g c = few_none (g.S.Store.ledger c.args.store.now) (field_nodes (first_weights [] c.args.old.now) []) (field_records (first_weights [] c.args.old.now) [])
+returns-in_default-clause-counts g c =
+    let column = column_at c.args.kind c.args.value_type (g.S.Frozen.records c.args.store.now) c.args.roots.documents in
+    within_none (g.S.Store.ledger c.args.store.now) (by_width (field_nodes (first_weights [] c.args.old.now) []) (change_records c.args.kind column c.args.doc c.args.old.now []))
 
 pub returns-clause-counts : goal.returns-clause-counts
 returns-clause-counts g c =
     let ledger = g.S.Store.ledger in
-    subst (λ (es : List (Value × ℤ)). MakesFew (ledger c.args.store.now) (ledger c.remove_weighed.new.store) (field_nodes es []) (field_records es [])) c.in-Ok.ensures.weights c.remove_weighed.ensures.counts
+    let column = column_at c.args.kind c.args.value_type (g.S.Frozen.records c.args.store.now) c.args.roots.documents in
+    subst (λ (es : List (Value × ℤ)). MakesWithin (ledger c.args.store.now) (ledger c.remove_weighed.new.store) (by_width (field_nodes es []) (field_records c.args.kind column c.args.doc 0 es [])))
+    c.in-Ok.ensures.weights c.remove_weighed.ensures.counts
 
 pub returns-clause-may : goal.returns-clause-may
 returns-clause-may g c = c.remove_weighed.ensures.may
 
 pub returns-in_default-clause-low : goal.returns-in_default-clause-low
 returns-in_default-clause-low g c =
-    λ levels stays. few_none (g.S.Store.ledger c.args.store.now) (low_nodes levels (first_weights [] c.args.old.now) []) (field_records (first_weights [] c.args.old.now) [])
+    let column = column_at c.args.kind c.args.value_type (g.S.Frozen.records c.args.store.now) c.args.roots.documents in
+    λ levels stays.
+    within_none (g.S.Store.ledger c.args.store.now) (by_width (low_nodes levels (first_weights [] c.args.old.now) []) (change_records c.args.kind column c.args.doc c.args.old.now []))
 
 pub returns-clause-low : goal.returns-clause-low
 returns-clause-low g c =
     let ledger = g.S.Store.ledger in
+    let column = column_at c.args.kind c.args.value_type (g.S.Frozen.records c.args.store.now) c.args.roots.documents in
     λ levels stays.
-    subst (λ (es : List (Value × ℤ)). MakesFew (ledger c.args.store.now) (ledger c.remove_weighed.new.store) (low_nodes levels es []) (field_records es [])) c.in-Ok.ensures.weights
-    (c.remove_weighed.ensures.low levels stays)
+    subst (λ (es : List (Value × ℤ)). MakesWithin (ledger c.args.store.now) (ledger c.remove_weighed.new.store) (by_width (low_nodes levels es []) (field_records c.args.kind column c.args.doc 0 es [])))
+    c.in-Ok.ensures.weights (c.remove_weighed.ensures.low levels stays)

@@ -1,4 +1,4 @@
-use Rattle.std.proofs.Common.{◌*◌, ◌^◌, ◌<◌, ℤ, List, [], length, None, refl, sym, subst, ◌∙◌, arith, inl}
+use Rattle.std.proofs.Common.{◌+◌, ◌*◌, ◌^◌, ◌<◌, ℤ, List, [], length, None, refl, sym, subst, ◌∙◌, arith, inl}
 use Rattle.std.proofs.lemmas.Result.{err_from_is_err_and}
 use Rattle.store_api.proofs.May.{may_do-same, may_do-then}
 use Rattle.attr_images.specs.Documents.{column_at}
@@ -12,9 +12,10 @@ use Rattle.posting_store.proofs.RefusalLemmas.{of_more, of_one}
 use Rattle.attr_field.specs.Widths.{IsFieldWidth}
 use Rattle.attr_field.proofs.WidthLemmas.{removed_width}
 use Rattle.attr_field.proofs.ChangeLemmas.{weights, field_stands, has_middle, index_ends, none_added, step_ends}
-use Rattle.attr_field.proofs.CountLemmas.{counts_entry, counts_taken, low_gone, low_out}
+use Rattle.value_index.specs.Counts.{value_nodes}
+use Rattle.attr_field.proofs.CountLemmas.{out_one, out_counts, out_low}
 use Rattle.attr_field.proofs.SizeLemmas.{removes_low}
-use Rattle.attr_field.specs.Counts.{StaysLow}
+use Rattle.attr_field.specs.Counts.{lost_values, new_values, StaysLow}
 use Rattle.attr_field.proofs.WeightLemmas.{items_typed, weights_typed}
 use Rattle.attr_field.proofs.changing.remove_weighed.Goals as goal
 
@@ -139,20 +140,64 @@ returns-clause-makes g c =
 pub returns-in_err-documents-clause-counts : goal.returns-in_err-documents-clause-counts
 returns-in_err-documents-clause-counts g c =
     let ledger = g.S.Store.ledger in
+    let records = g.S.Frozen.records in
+    let begun = ledger c.args.store.now in
+    let k = records c.args.store.now in
+    let kind = c.args.kind in
+    let type = c.args.value_type in
+    let D = c.args.roots.documents in
+    let I = c.args.roots.dictionary in
+    let doc = c.args.doc in
+    let old = c.args.old.now.entries in
+    let column = column_at kind type k D in
+    let start = index_of type k I in
+    let of = c.requires.field.index_of_documents in
     let last = ledger c.take_out.new.store in
-    counts_entry c.args.old.now.entries (ledger c.args.store.now) last last c.take_out.ensures.counts
+    out_one kind column start doc 0 of old [] (34 * new_values old []) 17 (34 * lost_values old []) begun begun last last c.take_out.ensures.counts
 
 pub returns-in_err-dictionary-clause-counts : goal.returns-in_err-dictionary-clause-counts
 returns-in_err-dictionary-clause-counts g c =
     let ledger = g.S.Store.ledger in
-    counts_taken c.args.old.now.entries (ledger c.args.store.now) (ledger c.take_out.new.store) (ledger c.remove_values.new.store)
-    c.take_out.ensures.may c.take_out.ensures.counts c.no_weights-none.result.entries c.no_weights-none.ensures c.remove_values.ensures.counts
+    let records = g.S.Frozen.records in
+    let begun = ledger c.args.store.now in
+    let k = records c.args.store.now in
+    let kind = c.args.kind in
+    let type = c.args.value_type in
+    let D = c.args.roots.documents in
+    let I = c.args.roots.dictionary in
+    let doc = c.args.doc in
+    let old = c.args.old.now.entries in
+    let column = column_at kind type k D in
+    let start = index_of type k I in
+    let of = c.requires.field.index_of_documents in
+    let none = c.no_weights-none.result.entries in
+    let middle = index_of type (records c.take_out.new.store) I in
+    let between = subst (λ (i : Index). IsBetween start doc (weights none) (λ v. None) i) (sym c.in_ok-documents.ensures.index)
+    (subst (λ (es : List (Value × ℤ)). IsBetween start doc (weights es) (λ v. None) start) (sym c.no_weights-none.ensures) (none_added kind type begun k D I doc c.requires.field)) in
+    out_counts kind column start doc of old none c.no_weights-none.ensures begun (ledger c.take_out.new.store) (ledger c.remove_values.new.store) middle between c.take_out.ensures.may
+    c.take_out.ensures.counts c.remove_values.ensures.counts
 
 pub returns-clause-counts : goal.returns-clause-counts
 returns-clause-counts g c =
     let ledger = g.S.Store.ledger in
-    counts_taken c.args.old.now.entries (ledger c.args.store.now) (ledger c.take_out.new.store) (ledger c.remove_values.new.store)
-    c.take_out.ensures.may c.take_out.ensures.counts c.no_weights-none.result.entries c.no_weights-none.ensures c.remove_values.ensures.counts
+    let records = g.S.Frozen.records in
+    let begun = ledger c.args.store.now in
+    let k = records c.args.store.now in
+    let kind = c.args.kind in
+    let type = c.args.value_type in
+    let D = c.args.roots.documents in
+    let I = c.args.roots.dictionary in
+    let doc = c.args.doc in
+    let old = c.args.old.now.entries in
+    let column = column_at kind type k D in
+    let start = index_of type k I in
+    let of = c.requires.field.index_of_documents in
+    let none = c.no_weights-none.result.entries in
+    let middle = index_of type (records c.take_out.new.store) I in
+    let between = subst (λ (i : Index). IsBetween start doc (weights none) (λ v. None) i) (sym c.in_ok-documents.ensures.index)
+    (subst (λ (es : List (Value × ℤ)). IsBetween start doc (weights es) (λ v. None) start) (sym c.no_weights-none.ensures) (none_added kind type begun k D I doc c.requires.field)) in
+    out_counts kind column start doc of old none c.no_weights-none.ensures begun (ledger c.take_out.new.store) (ledger c.remove_values.new.store) middle between c.take_out.ensures.may
+    c.take_out.ensures.counts c.remove_values.ensures.counts
 
 pub returns-clause-may : goal.returns-clause-may
 returns-clause-may g c =
@@ -172,10 +217,12 @@ returns-in_err-documents-clause-low g c =
     let doc = c.args.doc in
     let old = c.args.old.now.entries in
     let column = column_at kind type k D in
+    let start = index_of type k I in
+    let of = c.requires.field.index_of_documents in
     λ levels stays.
     let entry = c.take_out.ensures.low levels stays.some (let low = stays.documents in let less : length column < 2 * 8 ^ levels = omega arith in less) in
     let last = ledger c.take_out.new.store in
-    low_out levels old begun last last entry
+    out_one kind column start doc 0 of old [] (value_nodes levels * new_values old []) (2 * levels + 1) (value_nodes levels * lost_values old []) begun begun last last entry
 
 pub returns-in_err-dictionary-clause-low : goal.returns-in_err-dictionary-clause-low
 returns-in_err-dictionary-clause-low g c =
@@ -190,16 +237,17 @@ returns-in_err-dictionary-clause-low g c =
     let doc = c.args.doc in
     let old = c.args.old.now.entries in
     let column = column_at kind type k D in
+    let start = index_of type k I in
+    let of = c.requires.field.index_of_documents in
+    let none = c.no_weights-none.result.entries in
+    let middle = index_of type (records c.take_out.new.store) I in
+    let between = subst (λ (i : Index). IsBetween start doc (weights none) (λ v. None) i) (sym c.in_ok-documents.ensures.index)
+    (subst (λ (es : List (Value × ℤ)). IsBetween start doc (weights es) (λ v. None) start) (sym c.no_weights-none.ensures) (none_added kind type begun k D I doc c.requires.field)) in
     λ levels stays.
     let entry = c.take_out.ensures.low levels stays.some (let low = stays.documents in let less : length column < 2 * 8 ^ levels = omega arith in less) in
-    let none = c.no_weights-none.result.entries in
-    let between = subst (λ (i : Index). IsBetween (index_of type k I) doc (weights none) (λ v. None) i) (sym c.in_ok-documents.ensures.index)
-    (subst (λ (es : List (Value × ℤ)). IsBetween (index_of type k I) doc (weights es) (λ v. None) (index_of type k I)) (sym c.no_weights-none.ensures)
-    (none_added kind type begun k D I doc c.requires.field)) in
     let stays_none = subst (λ (es : List (Value × ℤ)). StaysLow levels column es) (sym c.no_weights-none.ensures) stays in
-    let gone = c.remove_values.ensures.low levels (removes_low column (index_of type k I) doc levels none c.requires.field.index_of_documents stays_none
-    (index_of type (records c.take_out.new.store) I) old between) in
-    low_gone levels old begun (ledger c.take_out.new.store) (ledger c.remove_values.new.store) c.take_out.ensures.may entry none c.no_weights-none.ensures gone
+    let gone = c.remove_values.ensures.low levels (removes_low column start doc levels none of stays_none middle old between) in
+    out_low kind column start doc of old none c.no_weights-none.ensures levels begun (ledger c.take_out.new.store) (ledger c.remove_values.new.store) middle between c.take_out.ensures.may entry gone
 
 pub returns-clause-low : goal.returns-clause-low
 returns-clause-low g c =
@@ -214,13 +262,14 @@ returns-clause-low g c =
     let doc = c.args.doc in
     let old = c.args.old.now.entries in
     let column = column_at kind type k D in
+    let start = index_of type k I in
+    let of = c.requires.field.index_of_documents in
+    let none = c.no_weights-none.result.entries in
+    let middle = index_of type (records c.take_out.new.store) I in
+    let between = subst (λ (i : Index). IsBetween start doc (weights none) (λ v. None) i) (sym c.in_ok-documents.ensures.index)
+    (subst (λ (es : List (Value × ℤ)). IsBetween start doc (weights es) (λ v. None) start) (sym c.no_weights-none.ensures) (none_added kind type begun k D I doc c.requires.field)) in
     λ levels stays.
     let entry = c.take_out.ensures.low levels stays.some (let low = stays.documents in let less : length column < 2 * 8 ^ levels = omega arith in less) in
-    let none = c.no_weights-none.result.entries in
-    let between = subst (λ (i : Index). IsBetween (index_of type k I) doc (weights none) (λ v. None) i) (sym c.in_ok-documents.ensures.index)
-    (subst (λ (es : List (Value × ℤ)). IsBetween (index_of type k I) doc (weights es) (λ v. None) (index_of type k I)) (sym c.no_weights-none.ensures)
-    (none_added kind type begun k D I doc c.requires.field)) in
     let stays_none = subst (λ (es : List (Value × ℤ)). StaysLow levels column es) (sym c.no_weights-none.ensures) stays in
-    let gone = c.remove_values.ensures.low levels (removes_low column (index_of type k I) doc levels none c.requires.field.index_of_documents stays_none
-    (index_of type (records c.take_out.new.store) I) old between) in
-    low_gone levels old begun (ledger c.take_out.new.store) (ledger c.remove_values.new.store) c.take_out.ensures.may entry none c.no_weights-none.ensures gone
+    let gone = c.remove_values.ensures.low levels (removes_low column start doc levels none of stays_none middle old between) in
+    out_low kind column start doc of old none c.no_weights-none.ensures levels begun (ledger c.take_out.new.store) (ledger c.remove_values.new.store) middle between c.take_out.ensures.may entry gone

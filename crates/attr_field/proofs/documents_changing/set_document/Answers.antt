@@ -67,7 +67,7 @@ pub returns-in_err-reference-clause-counts : goal.returns-in_err-reference-claus
 returns-in_err-reference-clause-counts g c =
     let ledger = g.S.Store.ledger in
     let m = g.S.Frozen.records c.args.store.now in
-    counts-one (ledger c.args.store.now) (ledger c.make_items.new.store) (1 + length c.args.items.now) (2 * levels m c.args.root + 1) c.make_items.ensures.counts
+    counts-one (ledger c.args.store.now) (ledger c.make_items.new.store) c.args.kind (length c.args.items.now) (2 * levels m c.args.root + 1) c.make_items.ensures.counts
 
 pub returns-clause-counts : goal.returns-clause-counts
 returns-clause-counts g c =
@@ -78,7 +78,7 @@ returns-clause-counts g c =
     let u = c.set_reference.new.store in
     let nodes = nodes_stay c.args.kind c.args.value_type (ledger s) (ledger t) (ledger t) (records s) (records t) (records t) c.args.root c.args.doc c.in_ok-reference.reference c.requires.documents c.requires.owns
     (entries_by_key c.args.keys.now c.args.items.now) c.in_ok-reference.ensures.makes in
-    counts-both (ledger s) (ledger t) (ledger u) (1 + length c.args.items.now) (2 * levels (records s) c.args.root + 1) c.make_items.ensures.may c.make_items.ensures.counts
+    counts-both (ledger s) (ledger t) (ledger u) c.args.kind (length c.args.items.now) (2 * levels (records s) c.args.root + 1) c.make_items.ensures.may c.make_items.ensures.counts
     (subst (λ (k : ℕ). CountsNodes (ledger t) (ledger u) (2 * k + 1)) (levels-same (records s) (records t) c.args.root nodes) c.set_reference.ensures.counts)
 
 pub returns-in_err-reference-clause-refuses : goal.returns-in_err-reference-clause-refuses

@@ -3,17 +3,17 @@ use Rattle.std.specs.List.{AllByRecursion}
 use Rattle.store_api.specs.Parts.{Owns}
 use Rattle.store_api.specs.Units.{MayDo}
 use Rattle.store_api.proofs.May.{may_do-same}
-use Rattle.attr_field.specs.DocumentsChanges.{AreBeside, AreKeysOf, IsDocumentWidth, MakesDocuments}
+use Rattle.attr_field.specs.DocumentsChanges.{documents_most, AreBeside, AreKeysOf, IsDocumentWidth, MakesDocuments}
 use Rattle.attr_field.specs.Documents.{documents_part, documents_refer, IsDocuments}
 use Rattle.attr_images.specs.Documents.{column_at}
 use Rattle.attr_images.specs.Postings.{index_of}
 use Rattle.attr_index.specs.Columns.{with_change}
 use Rattle.store_api.specs.Calls.{RefusesOf}
-use Rattle.value_index.specs.Counts.{MakesFew}
+use Rattle.posting_store.specs.Changes.{MakesWithin}
 use Rattle.frozen_btree.specs.Changes.{levels as levels_of}
 use Rattle.value_index.specs.Indexes.{IsKey}
 use Rattle.attr_field.specs.Steps.{StepsField}
-use Rattle.value_index.proofs.WalksCountLemmas.{few_none}
+use Rattle.value_index.proofs.CountLemmas.{within_none}
 use Rattle.attr_field.proofs.CountLemmas.{documents_low, few_entry, low_entry}
 use Rattle.attr_field.proofs.RefLemmas.{owns_documents, if_ok}
 use Rattle.attr_field.proofs.StepLemmas.{documents_steps, documents_index_same, refer_beside, keys_beside}
@@ -122,14 +122,15 @@ returns-clause-refuses g c =
 pub returns-in_default-clause-counts : goal.returns-in_default-clause-counts
 returns-in_default-clause-counts g c =
     let ledger = g.S.Store.ledger in
-    subst (λ s. MakesFew (ledger c.args.store.now) (ledger s) 17 1) (sym c.keys_of.ensures.same) (few_none (ledger c.args.store.now) 17 1)
+    let most = documents_most c.args.kind (length c.args.items.now) 17 in
+    subst (λ s. MakesWithin (ledger c.args.store.now) (ledger s) most) (sym c.keys_of.ensures.same) (within_none (ledger c.args.store.now) most)
 
 pub returns-clause-counts : goal.returns-clause-counts
 returns-clause-counts g c =
     let ledger = g.S.Store.ledger in
     let made = few_entry (ledger c.keys_of.new.frozen) (ledger c.set_document.new.store) (g.S.Frozen.records c.keys_of.new.frozen) c.args.documents
-    (1 + length c.args.items.now) c.set_document.ensures.counts in
-    subst (λ s. MakesFew (ledger s) (ledger c.set_document.new.store) 17 1) c.keys_of.ensures.same made
+    c.args.kind (length c.args.items.now) c.set_document.ensures.counts in
+    subst (λ s. MakesWithin (ledger s) (ledger c.set_document.new.store) (documents_most c.args.kind (length c.args.items.now) 17)) c.keys_of.ensures.same made
 
 pub returns-clause-may : goal.returns-clause-may
 returns-clause-may g c =
@@ -140,7 +141,8 @@ pub returns-in_default-clause-low : goal.returns-in_default-clause-low
 returns-in_default-clause-low g c =
     let ledger = g.S.Store.ledger in
     λ levels some few.
-    subst (λ s. MakesFew (ledger c.args.store.now) (ledger s) (2 * levels + 1) 1) (sym c.keys_of.ensures.same) (few_none (ledger c.args.store.now) (2 * levels + 1) 1)
+    let most = documents_most c.args.kind (length c.args.items.now) (2 * levels + 1) in
+    subst (λ s. MakesWithin (ledger c.args.store.now) (ledger s) most) (sym c.keys_of.ensures.same) (within_none (ledger c.args.store.now) most)
 
 pub returns-clause-low : goal.returns-clause-low
 returns-clause-low g c =
@@ -151,5 +153,5 @@ returns-clause-low g c =
     let low = subst (λ s. levels_of (records s) c.args.documents ≤ levels) (sym c.keys_of.ensures.same)
     (documents_low c.args.kind c.args.value_type m c.args.documents levels c.requires.stands.documents_are some few) in
     let made = low_entry (ledger c.keys_of.new.frozen) (ledger c.set_document.new.store) (records c.keys_of.new.frozen) c.args.documents
-    (1 + length c.args.items.now) levels low c.set_document.ensures.counts in
-    subst (λ s. MakesFew (ledger s) (ledger c.set_document.new.store) (2 * levels + 1) 1) c.keys_of.ensures.same made
+    c.args.kind (length c.args.items.now) levels low c.set_document.ensures.counts in
+    subst (λ s. MakesWithin (ledger s) (ledger c.set_document.new.store) (documents_most c.args.kind (length c.args.items.now) (2 * levels + 1))) c.keys_of.ensures.same made

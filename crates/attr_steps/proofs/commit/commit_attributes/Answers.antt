@@ -1,9 +1,11 @@
-use Rattle.std.proofs.Common.{◌∙◌, sym, ap, arith}
+use Rattle.std.proofs.Common.{◌+◌, ◌*◌, length, ◌∙◌, sym, ap, arith}
 use Rattle.std.proofs.lemmas.Result.{err_from_is_err_and}
 use Rattle.attr_steps.specs.Fields.{trees_of}
 use Rattle.attr_steps.proofs.CommitLemmas.{before_owns, commits_attributes, mid_lawful, mid_unit, mid_whole}
 use Rattle.attr_steps.proofs.FieldSteps.{laws_of}
-use Rattle.attr_steps.proofs.RootLemmas.{for_fields}
+use Rattle.attr_images.specs.Words.{class_of}
+use Rattle.attr_steps.proofs.CountLemmas.{one_committed}
+use Rattle.attr_steps.proofs.RootLemmas.{for_fields, one_of_fields}
 use Rattle.attr_steps.proofs.commit.commit_attributes.Goals as goal
 
 pub root_unit-requires : goal.root_unit-requires
@@ -86,3 +88,15 @@ pub returns-in_err-root-clause-width : goal.returns-in_err-root-clause-width
 returns-in_err-root-clause-width g c =
     let p = err_from_is_err_and c.from_residual.result c.from_residual.ensures.1 in
     rw (p.1, p.2) (for_fields c.args.fields.now c.args.roots.now c.args.operations _ c.requires.sized c.in_err-root.ensures.width)
+
+pub returns-in_err-root-clause-counts : goal.returns-in_err-root-clause-counts
+returns-in_err-root-clause-counts g c =
+    let ledger = g.S.Store.ledger in
+    one_of_fields c.args.fields.now c.args.roots.now c.args.operations (ledger c.args.store.now) (ledger c.root_unit.new.store) c.requires.sized c.root_unit.ensures.counts
+
+pub returns-clause-counts : goal.returns-clause-counts
+returns-clause-counts g c =
+    let ledger = g.S.Store.ledger in
+    let width = class_of (1 + 2 * length c.args.fields.now) in
+    one_committed width g.row.OFFSET_BITS (ledger c.args.store.now) (ledger c.root_unit.new.store) (ledger c.commit-stored.new.self) _ c.commit-stored.result
+    (one_of_fields c.args.fields.now c.args.roots.now c.args.operations (ledger c.args.store.now) (ledger c.root_unit.new.store) c.requires.sized c.root_unit.ensures.counts) c.commit-stored.ensures.stores

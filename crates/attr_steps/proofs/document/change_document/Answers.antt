@@ -15,21 +15,21 @@ returns-in_default-clause-refuses g c = tt
 
 pub returns-in_default-clause-counts : goal.returns-in_default-clause-counts
 returns-in_default-clause-counts g c =
-    makes_none (g.S.Store.ledger c.args.store.now) (table_at (g.S.Frozen.records c.args.store.now) (trees_of c.args.fields.now c.args.roots.now)) (option_copied c.args.old) (option_copied c.args.new)
-    (length c.args.fields.now)
+    makes_none c.args.fields.now (table_at (g.S.Frozen.records c.args.store.now) (trees_of c.args.fields.now c.args.roots.now)) c.args.doc (option_copied c.args.old) (option_copied c.args.new)
+    (g.S.Store.ledger c.args.store.now) (length c.args.fields.now)
 
 pub returns-in_err-change_each-clause-counts : goal.returns-in_err-change_each-clause-counts
 returns-in_err-change_each-clause-counts g c =
     let ledger = g.S.Store.ledger in
     let same : c.deref_mut.result.now ≡ c.args.roots.now = search rules in
-    subst (λ rs. MakesDocument (ledger c.args.store.now) (ledger c.change_each.new.store) (table_at (g.S.Frozen.records c.args.store.now) (trees_of c.args.fields.now rs))
+    subst (λ rs. MakesDocument (ledger c.args.store.now) (ledger c.change_each.new.store) c.args.fields.now (table_at (g.S.Frozen.records c.args.store.now) (trees_of c.args.fields.now rs)) c.args.doc
     (option_copied c.args.old) (option_copied c.args.new) (length c.args.fields.now)) same c.change_each.ensures.counts
 
 pub returns-clause-counts : goal.returns-clause-counts
 returns-clause-counts g c =
     let ledger = g.S.Store.ledger in
     let same : c.deref_mut.result.now ≡ c.args.roots.now = search rules in
-    subst (λ rs. MakesDocument (ledger c.args.store.now) (ledger c.change_each.new.store) (table_at (g.S.Frozen.records c.args.store.now) (trees_of c.args.fields.now rs))
+    subst (λ rs. MakesDocument (ledger c.args.store.now) (ledger c.change_each.new.store) c.args.fields.now (table_at (g.S.Frozen.records c.args.store.now) (trees_of c.args.fields.now rs)) c.args.doc
     (option_copied c.args.old) (option_copied c.args.new) (length c.args.fields.now)) same c.change_each.ensures.counts
 
 pub returns-in_err-change_each-clause-refuses : goal.returns-in_err-change_each-clause-refuses

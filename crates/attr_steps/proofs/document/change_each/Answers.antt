@@ -2,11 +2,9 @@ use Rattle.std.proofs.Common.{◌≡◌, ◌+◌, [], length, sym, subst, ◌∙
 use Rattle.std.proofs.lemmas.Option.{slice_get_read}
 use Rattle.std.proofs.lemmas.Result.{err_from_is_err_and}
 use Rattle.std.specs.Option.{option_copied, unwrap_or}
-use Rattle.attr_field.specs.Counts.{StaysLow}
-use Rattle.attr_index.specs.Changes.{first_weights}
 use Rattle.attr_field.specs.Widths.{IsFieldWidth}
 use Rattle.attr_images.specs.Documents.{column_at}
-use Rattle.attr_index.specs.Columns.{Column, with_change}
+use Rattle.attr_index.specs.Columns.{with_change}
 use Rattle.posting_store.proofs.RefusalLemmas.{of_more}
 use Rattle.attr_steps.specs.Fields.{table_with, trees_of}
 use Rattle.attr_steps.specs.Views.{table_at}
@@ -28,7 +26,7 @@ loop-i-init g c =
       unit = c.requires.unit;
       sized = c.requires.sized;
       way = way_begins ledger m c.args.fields.now trees (table_with (table_at m trees) c.args.doc (option_copied c.args.new)) c.requires.fields c.requires.owns;
-      counts = makes_none ledger (table_at m trees) (option_copied c.args.old) (option_copied c.args.new) 0;
+      counts = makes_none c.args.fields.now (table_at m trees) c.args.doc (option_copied c.args.old) (option_copied c.args.new) ledger 0;
       may = c.may_do_law.ensures.same c.args.store.now;
     }
 
@@ -78,18 +76,26 @@ pub returns-in_err-roots-clause-counts : goal.returns-in_err-roots-clause-counts
 returns-in_err-roots-clause-counts g c =
     let ledger = g.S.Store.ledger in
     let records = g.S.Frozen.records in
-    let table = table_at (records c.args.store.now) (trees_of c.args.fields.now c.args.roots.now) in
+    let begun = ledger c.args.store.now in
+    let now = ledger c.loop-i.store in
+    let later = ledger c.change_field.new.store in
+    let k = records c.args.store.now in
+    let m = records c.loop-i.store in
+    let fields = c.args.fields.now in
+    let old = option_copied c.args.old in
+    let new = option_copied c.args.new in
+    let field = c.index-fields-i.result in
+    let root = c.index-roots-i.result in
+    let table = table_at k (trees_of fields c.args.roots.now) in
     let below = c.loop-i-test.true in
     let same = c.loop-i.invariant.sized in
-    counts_all table (option_copied c.args.old) (option_copied c.args.new) (ledger c.args.store.now) (ledger c.change_field.new.store) (c.loop-i.i + 1) (length c.args.fields.now) (omega arith)
-    (counts_on table (option_copied c.args.old) (option_copied c.args.new) (ledger c.args.store.now) (ledger c.loop-i.store) c.loop-i.i (ledger c.change_field.new.store)
+    let at = slice_get_read fields (length fields) c.loop-i.i field refl below c.index-fields-i.is in
+    let reads = column_is begun now k m fields c.args.roots.now c.loop-i.roots c.args.doc c.loop-i.i old new field root c.loop-i.invariant.way at
+    (slice_get_read c.loop-i.roots (length fields) c.loop-i.i root (sym same) below c.index-roots-i.is) in
+    let made = counts_on fields table c.args.doc old new begun now c.loop-i.i later field (column_at field.kind field.value m root.documents) at reads
     c.items_before-before.result.now (option_copied c.items_after-after.result) c.items_before-before.ensures c.items_after-after.ensures
-    c.loop-i.invariant.may c.loop-i.invariant.counts c.change_field.ensures.counts
-    (λ levels stays. c.change_field.ensures.low levels (subst (λ (column : Column). StaysLow levels column (first_weights [] (unwrap_or (option_copied c.items_after-after.result) [])))
-    (sym (column_is (ledger c.args.store.now) (ledger c.loop-i.store) (records c.args.store.now) (records c.loop-i.store) c.args.fields.now c.args.roots.now c.loop-i.roots
-    c.args.doc c.loop-i.i (option_copied c.args.old) (option_copied c.args.new) c.index-fields-i.result c.index-roots-i.result c.loop-i.invariant.way
-    (slice_get_read c.args.fields.now (length c.args.fields.now) c.loop-i.i c.index-fields-i.result refl below c.index-fields-i.is)
-    (slice_get_read c.loop-i.roots (length c.args.fields.now) c.loop-i.i c.index-roots-i.result (sym same) below c.index-roots-i.is))) stays)))
+    c.loop-i.invariant.may c.loop-i.invariant.counts c.change_field.ensures.counts c.change_field.ensures.low in
+    counts_all fields table c.args.doc old new begun later (c.loop-i.i + 1) (length fields) (omega arith) made
 
 pub returns-in_err-roots-clause-refuses : goal.returns-in_err-roots-clause-refuses
 returns-in_err-roots-clause-refuses g c =
@@ -131,8 +137,25 @@ pub loop-i-preserved : goal.loop-i-preserved
 loop-i-preserved g c =
     let ledger = g.S.Store.ledger in
     let records = g.S.Frozen.records in
+    let begun = ledger c.args.store.now in
+    let now = ledger c.loop-i.store in
+    let later = ledger c.change_field.new.store in
+    let k = records c.args.store.now in
+    let m = records c.loop-i.store in
+    let fields = c.args.fields.now in
+    let old = option_copied c.args.old in
+    let new = option_copied c.args.new in
+    let field = c.index-fields-i.result in
+    let root = c.index-roots-i.result in
+    let table = table_at k (trees_of fields c.args.roots.now) in
     let below = c.loop-i-test.true in
     let same = c.loop-i.invariant.sized in
+    let at = slice_get_read fields (length fields) c.loop-i.i field refl below c.index-fields-i.is in
+    let reads = column_is begun now k m fields c.args.roots.now c.loop-i.roots c.args.doc c.loop-i.i old new field root c.loop-i.invariant.way at
+    (slice_get_read c.loop-i.roots (length fields) c.loop-i.i root (sym same) below c.index-roots-i.is) in
+    let made = counts_on fields table c.args.doc old new begun now c.loop-i.i later field (column_at field.kind field.value m root.documents) at reads
+    c.items_before-before.result.now (option_copied c.items_after-after.result) c.items_before-before.ensures c.items_after-after.ensures
+    c.loop-i.invariant.may c.loop-i.invariant.counts c.change_field.ensures.counts c.change_field.ensures.low in
     let laws = laws_of c.field_law.ensures.stays c.field_law.ensures.lawful c.field_law.ensures.keys in
     record {
       unit = c.change_field.ensures.may.unit ∙ c.loop-i.invariant.unit;
@@ -144,15 +167,7 @@ loop-i-preserved g c =
           laws (trees_sound (records c.args.store.now) laws c.args.fields.now c.args.roots.now c.requires.sized c.requires.fields)
           (option_copied c.items_after-after.result) c.items_after-after.ensures (ledger c.change_field.new.store)
           (records c.change_field.new.store) c.in_ok-roots.field-0 c.in_ok-roots.ensures.makes c.loop-i.invariant.may;
-      counts = counts_on (table_at (records c.args.store.now) (trees_of c.args.fields.now c.args.roots.now)) (option_copied c.args.old) (option_copied c.args.new)
-          (ledger c.args.store.now) (ledger c.loop-i.store) c.loop-i.i (ledger c.change_field.new.store)
-          c.items_before-before.result.now (option_copied c.items_after-after.result) c.items_before-before.ensures c.items_after-after.ensures
-          c.loop-i.invariant.may c.loop-i.invariant.counts c.change_field.ensures.counts
-          (λ levels stays. c.change_field.ensures.low levels (subst (λ (column : Column). StaysLow levels column (first_weights [] (unwrap_or (option_copied c.items_after-after.result) [])))
-          (sym (column_is (ledger c.args.store.now) (ledger c.loop-i.store) (records c.args.store.now) (records c.loop-i.store) c.args.fields.now c.args.roots.now c.loop-i.roots
-          c.args.doc c.loop-i.i (option_copied c.args.old) (option_copied c.args.new) c.index-fields-i.result c.index-roots-i.result c.loop-i.invariant.way
-          (slice_get_read c.args.fields.now (length c.args.fields.now) c.loop-i.i c.index-fields-i.result refl below c.index-fields-i.is)
-          (slice_get_read c.loop-i.roots (length c.args.fields.now) c.loop-i.i c.index-roots-i.result (sym same) below c.index-roots-i.is))) stays));
+      counts = made;
       may = c.may_do_law.ensures.then c.args.store.now c.loop-i.store c.change_field.new.store c.loop-i.invariant.may c.change_field.ensures.may;
     }
 
@@ -178,7 +193,7 @@ pub returns-clause-counts : goal.returns-clause-counts
 returns-clause-counts g c =
     let ledger = g.S.Store.ledger in
     let most = c.loop-i.auto.i-end in
-    counts_all (table_at (g.S.Frozen.records c.args.store.now) (trees_of c.args.fields.now c.args.roots.now)) (option_copied c.args.old) (option_copied c.args.new)
+    counts_all c.args.fields.now (table_at (g.S.Frozen.records c.args.store.now) (trees_of c.args.fields.now c.args.roots.now)) c.args.doc (option_copied c.args.old) (option_copied c.args.new)
     (ledger c.args.store.now) (ledger c.loop-i.store) c.loop-i.i (length c.args.fields.now) (omega arith) c.loop-i.invariant.counts
 
 pub returns-clause-may : goal.returns-clause-may

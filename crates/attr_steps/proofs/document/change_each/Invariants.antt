@@ -18,6 +18,6 @@ invariant-loop-i g l =
       sized : length l.roots ≡ length l.fields;
       way : IsPartway (ledger l.fn.store) (ledger l.store) (records l.fn.store) (records l.store) l.fields trees (trees_of l.fields l.roots)
           (table_with (table_at (records l.fn.store) trees) l.doc (option_copied l.new)) l.i;
-      counts : MakesDocument (ledger l.fn.store) (ledger l.store) (table_at (records l.fn.store) trees) (option_copied l.old) (option_copied l.new) l.i;
+      counts : MakesDocument (ledger l.fn.store) (ledger l.store) l.fields (table_at (records l.fn.store) trees) l.doc (option_copied l.old) (option_copied l.new) l.i;
       may : MayDo (ledger l.fn.store) (ledger l.store);
     }

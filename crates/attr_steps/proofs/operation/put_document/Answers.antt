@@ -3,6 +3,7 @@ use Rattle.std.proofs.lemmas.Result.{err_from_is_err_and}
 use Rattle.std.specs.Option.{option_copied}
 use Rattle.attr_types.specs.declared.op.Op.TheVariants.{Put}
 use Rattle.attr_types.specs.Table.{with_document}
+use Rattle.value_index.specs.Counts.{by_width}
 use Rattle.attr_steps.specs.Counts.{SparesAtMost, document_nodes, document_records, MakesDocument}
 use Rattle.attr_steps.specs.Fields.{trees_of}
 use Rattle.attr_steps.specs.Views.{table_at}
@@ -62,14 +63,14 @@ returns-in_err-next-clause-counts g c =
     let fields = c.args.fields.now in
     let table = table_at (g.S.Frozen.records c.args.store.now) (trees_of fields c.args.roots.now) in
     of_operation fields table (Put c.args.doc c.args.items.now) (option_copied c.args.old) (Some c.args.items.now) c.requires.there (put_after fields table c.args.doc c.args.items.now)
-    (λ was is. MakesDocument (g.S.Store.ledger c.args.store.now) (g.S.Store.ledger c.change_unit.new.store) table was is (length fields)) c.change_unit.ensures.counts
+    (λ was is. MakesDocument (g.S.Store.ledger c.args.store.now) (g.S.Store.ledger c.change_unit.new.store) fields table c.args.doc was is (length fields)) c.change_unit.ensures.counts
 
 pub returns-in_err-next-clause-spares : goal.returns-in_err-next-clause-spares
 returns-in_err-next-clause-spares g c =
     let fields = c.args.fields.now in
     let table = table_at (g.S.Frozen.records c.args.store.now) (trees_of fields c.args.roots.now) in
     let spares = of_operation fields table (Put c.args.doc c.args.items.now) (option_copied c.args.old) (Some c.args.items.now) c.requires.there (put_after fields table c.args.doc c.args.items.now)
-    (λ was is. SparesAtMost (g.S.Store.ledger c.change_unit.new.store) (document_nodes was is (length fields)) (document_records was is (length fields)) c.in_err-next.field-0.0) c.in_err-next.ensures.spares in
+    (λ was is. SparesAtMost (g.S.Store.ledger c.change_unit.new.store) (by_width (document_nodes was is (length fields)) (document_records fields table c.args.doc was is (length fields))) c.in_err-next.field-0.0) c.in_err-next.ensures.spares in
     let p = err_from_is_err_and c.from_residual.result c.from_residual.ensures.1 in rw (p.1, p.2) spares
 
 pub returns-clause-counts : goal.returns-clause-counts
@@ -77,7 +78,7 @@ returns-clause-counts g c =
     let fields = c.args.fields.now in
     let table = table_at (g.S.Frozen.records c.args.store.now) (trees_of fields c.args.roots.now) in
     of_operation fields table (Put c.args.doc c.args.items.now) (option_copied c.args.old) (Some c.args.items.now) c.requires.there (put_after fields table c.args.doc c.args.items.now)
-    (λ was is. MakesDocument (g.S.Store.ledger c.args.store.now) (g.S.Store.ledger c.change_unit.new.store) table was is (length fields)) c.change_unit.ensures.counts
+    (λ was is. MakesDocument (g.S.Store.ledger c.args.store.now) (g.S.Store.ledger c.change_unit.new.store) fields table c.args.doc was is (length fields)) c.change_unit.ensures.counts
 
 pub returns-in_err-next-clause-widths : goal.returns-in_err-next-clause-widths
 returns-in_err-next-clause-widths g c =

@@ -3,6 +3,7 @@ use Rattle.std.proofs.lemmas.Result.{err_from_is_err_and}
 use Rattle.std.specs.Option.{option_copied}
 use Rattle.attr_types.specs.declared.op.Op.TheVariants.{Remove}
 use Rattle.attr_types.specs.Table.{without_document}
+use Rattle.value_index.specs.Counts.{by_width}
 use Rattle.attr_steps.specs.Counts.{SparesAtMost, document_after, document_before, document_nodes, document_records, MakesDocument}
 use Rattle.attr_steps.specs.Fields.{trees_of}
 use Rattle.attr_steps.specs.Views.{table_at}
@@ -51,7 +52,7 @@ pub returns-then-is_none-clause-counts : goal.returns-then-is_none-clause-counts
 returns-then-is_none-clause-counts g c =
     let fields = c.args.fields.now in
     let table = table_at (g.S.Frozen.records c.args.store.now) (trees_of fields c.args.roots.now) in
-    makes_none (g.S.Store.ledger c.args.store.now) table (document_before table (Remove c.args.doc)) (document_after fields table (Remove c.args.doc)) (length fields)
+    makes_none fields table c.args.doc (document_before table (Remove c.args.doc)) (document_after fields table (Remove c.args.doc)) (g.S.Store.ledger c.args.store.now) (length fields)
 
 pub returns-in_err-next-clause-counts : goal.returns-in_err-next-clause-counts
 returns-in_err-next-clause-counts g c =
@@ -60,7 +61,7 @@ returns-in_err-next-clause-counts g c =
     let sound = trees_sound (g.S.Frozen.records c.args.store.now) (laws_of c.field_law.ensures.stays c.field_law.ensures.lawful c.field_law.ensures.keys) fields c.args.roots.now c.requires.sized c.requires.fields in
     let after = without_after fields table (Remove c.args.doc) c.args.doc sound (remove_made fields table c.args.doc (option_copied c.args.old) c.requires.there (search rules)) in
     of_operation fields table (Remove c.args.doc) (option_copied c.args.old) None c.requires.there after
-    (λ was is. MakesDocument (g.S.Store.ledger c.args.store.now) (g.S.Store.ledger c.change_unit.new.store) table was is (length fields)) c.change_unit.ensures.counts
+    (λ was is. MakesDocument (g.S.Store.ledger c.args.store.now) (g.S.Store.ledger c.change_unit.new.store) fields table c.args.doc was is (length fields)) c.change_unit.ensures.counts
 
 pub returns-in_err-next-clause-spares : goal.returns-in_err-next-clause-spares
 returns-in_err-next-clause-spares g c =
@@ -69,7 +70,7 @@ returns-in_err-next-clause-spares g c =
     let sound = trees_sound (g.S.Frozen.records c.args.store.now) (laws_of c.field_law.ensures.stays c.field_law.ensures.lawful c.field_law.ensures.keys) fields c.args.roots.now c.requires.sized c.requires.fields in
     let after = without_after fields table (Remove c.args.doc) c.args.doc sound (remove_made fields table c.args.doc (option_copied c.args.old) c.requires.there (search rules)) in
     let spares = of_operation fields table (Remove c.args.doc) (option_copied c.args.old) None c.requires.there after
-    (λ was is. SparesAtMost (g.S.Store.ledger c.change_unit.new.store) (document_nodes was is (length fields)) (document_records was is (length fields)) c.in_err-next.field-0.0) c.in_err-next.ensures.spares in
+    (λ was is. SparesAtMost (g.S.Store.ledger c.change_unit.new.store) (by_width (document_nodes was is (length fields)) (document_records fields table c.args.doc was is (length fields))) c.in_err-next.field-0.0) c.in_err-next.ensures.spares in
     let p = err_from_is_err_and c.from_residual.result c.from_residual.ensures.1 in rw (p.1, p.2) spares
 
 pub returns-clause-counts : goal.returns-clause-counts
@@ -79,7 +80,7 @@ returns-clause-counts g c =
     let sound = trees_sound (g.S.Frozen.records c.args.store.now) (laws_of c.field_law.ensures.stays c.field_law.ensures.lawful c.field_law.ensures.keys) fields c.args.roots.now c.requires.sized c.requires.fields in
     let after = without_after fields table (Remove c.args.doc) c.args.doc sound (remove_made fields table c.args.doc (option_copied c.args.old) c.requires.there (search rules)) in
     of_operation fields table (Remove c.args.doc) (option_copied c.args.old) None c.requires.there after
-    (λ was is. MakesDocument (g.S.Store.ledger c.args.store.now) (g.S.Store.ledger c.change_unit.new.store) table was is (length fields)) c.change_unit.ensures.counts
+    (λ was is. MakesDocument (g.S.Store.ledger c.args.store.now) (g.S.Store.ledger c.change_unit.new.store) fields table c.args.doc was is (length fields)) c.change_unit.ensures.counts
 
 pub returns-in_err-next-clause-widths : goal.returns-in_err-next-clause-widths
 returns-in_err-next-clause-widths g c =

@@ -156,7 +156,7 @@ returns-in_default-clause-counts g c =
     let fields = c.args.fields.now in
     let table = table_at (g.S.Frozen.records c.args.store.now) (trees_of fields c.args.roots.now) in
     subst (λ f. MakesOperation (ledger c.args.store.now) (ledger f) fields table c.args.op.now) (sym c.read_document.ensures.same)
-    (makes_none (ledger c.args.store.now) table (document_before table c.args.op.now) (document_after fields table c.args.op.now) (length fields))
+    (makes_none fields table (op_doc c.args.op.now) (document_before table c.args.op.now) (document_after fields table c.args.op.now) (ledger c.args.store.now) (length fields))
 
 pub returns-in-Put-clause-counts : goal.returns-in-Put-clause-counts
 returns-in-Put-clause-counts g c =

@@ -3,6 +3,7 @@ use Rattle.std.proofs.lemmas.Result.{err_from_is_err_and}
 use Rattle.std.specs.Option.{option_copied}
 use Rattle.attr_types.specs.declared.op.Op.TheVariants.{Update}
 use Rattle.attr_types.specs.Table.{with_document}
+use Rattle.value_index.specs.Counts.{by_width}
 use Rattle.attr_steps.specs.Counts.{SparesAtMost, document_after, document_before, document_nodes, document_records, MakesDocument}
 use Rattle.attr_steps.specs.Fields.{trees_of}
 use Rattle.attr_steps.specs.Views.{table_at}
@@ -74,15 +75,15 @@ pub returns-in_default-clause-counts : goal.returns-in_default-clause-counts
 returns-in_default-clause-counts g c =
     let fields = c.args.fields.now in
     let table = table_at (g.S.Frozen.records c.args.store.now) (trees_of fields c.args.roots.now) in
-    makes_none (g.S.Store.ledger c.args.store.now) table (document_before table (Update c.args.doc c.args.create c.args.changes.now)) (document_after fields table (Update c.args.doc c.args.create c.args.changes.now))
-    (length fields)
+    makes_none fields table c.args.doc (document_before table (Update c.args.doc c.args.create c.args.changes.now)) (document_after fields table (Update c.args.doc c.args.create c.args.changes.now))
+    (g.S.Store.ledger c.args.store.now) (length fields)
 
 pub returns-in_default-new-clause-counts : goal.returns-in_default-new-clause-counts
 returns-in_default-new-clause-counts g c =
     let fields = c.args.fields.now in
     let table = table_at (g.S.Frozen.records c.args.store.now) (trees_of fields c.args.roots.now) in
-    makes_none (g.S.Store.ledger c.args.store.now) table (document_before table (Update c.args.doc c.args.create c.args.changes.now)) (document_after fields table (Update c.args.doc c.args.create c.args.changes.now))
-    (length fields)
+    makes_none fields table c.args.doc (document_before table (Update c.args.doc c.args.create c.args.changes.now)) (document_after fields table (Update c.args.doc c.args.create c.args.changes.now))
+    (g.S.Store.ledger c.args.store.now) (length fields)
 
 pub returns-in_err-next-clause-counts : goal.returns-in_err-next-clause-counts
 returns-in_err-next-clause-counts g c =
@@ -92,7 +93,7 @@ returns-in_err-next-clause-counts g c =
     let made = update_made fields table c.args.doc c.args.create c.args.changes.now (option_copied c.args.old) c.in-Some.document sound c.requires.fits c.requires.there (sym c.in-Some.is ∙ c.in-Ok.ensures) in
     let after = with_after fields table (Update c.args.doc c.args.create c.args.changes.now) c.args.doc c.in-Some.document made.1 in
     of_operation fields table (Update c.args.doc c.args.create c.args.changes.now) (option_copied c.args.old) (Some c.in-Some.document) c.requires.there after
-    (λ was is. MakesDocument (g.S.Store.ledger c.args.store.now) (g.S.Store.ledger c.change_unit.new.store) table was is (length fields)) c.change_unit.ensures.counts
+    (λ was is. MakesDocument (g.S.Store.ledger c.args.store.now) (g.S.Store.ledger c.change_unit.new.store) fields table c.args.doc was is (length fields)) c.change_unit.ensures.counts
 
 pub returns-in_err-next-clause-spares : goal.returns-in_err-next-clause-spares
 returns-in_err-next-clause-spares g c =
@@ -102,7 +103,7 @@ returns-in_err-next-clause-spares g c =
     let made = update_made fields table c.args.doc c.args.create c.args.changes.now (option_copied c.args.old) c.in-Some.document sound c.requires.fits c.requires.there (sym c.in-Some.is ∙ c.in-Ok.ensures) in
     let after = with_after fields table (Update c.args.doc c.args.create c.args.changes.now) c.args.doc c.in-Some.document made.1 in
     let spares = of_operation fields table (Update c.args.doc c.args.create c.args.changes.now) (option_copied c.args.old) (Some c.in-Some.document) c.requires.there after
-    (λ was is. SparesAtMost (g.S.Store.ledger c.change_unit.new.store) (document_nodes was is (length fields)) (document_records was is (length fields)) c.in_err-next.field-0.0) c.in_err-next.ensures.spares in
+    (λ was is. SparesAtMost (g.S.Store.ledger c.change_unit.new.store) (by_width (document_nodes was is (length fields)) (document_records fields table c.args.doc was is (length fields))) c.in_err-next.field-0.0) c.in_err-next.ensures.spares in
     let p = err_from_is_err_and c.from_residual.result c.from_residual.ensures.1 in rw (p.1, p.2) spares
 
 pub returns-clause-counts : goal.returns-clause-counts
@@ -113,7 +114,7 @@ returns-clause-counts g c =
     let made = update_made fields table c.args.doc c.args.create c.args.changes.now (option_copied c.args.old) c.in-Some.document sound c.requires.fits c.requires.there (sym c.in-Some.is ∙ c.in-Ok.ensures) in
     let after = with_after fields table (Update c.args.doc c.args.create c.args.changes.now) c.args.doc c.in-Some.document made.1 in
     of_operation fields table (Update c.args.doc c.args.create c.args.changes.now) (option_copied c.args.old) (Some c.in-Some.document) c.requires.there after
-    (λ was is. MakesDocument (g.S.Store.ledger c.args.store.now) (g.S.Store.ledger c.change_unit.new.store) table was is (length fields)) c.change_unit.ensures.counts
+    (λ was is. MakesDocument (g.S.Store.ledger c.args.store.now) (g.S.Store.ledger c.change_unit.new.store) fields table c.args.doc was is (length fields)) c.change_unit.ensures.counts
 
 pub returns-in_err-next-clause-widths : goal.returns-in_err-next-clause-widths
 returns-in_err-next-clause-widths g c =

@@ -1,4 +1,5 @@
 use Rattle.std.proofs.Common.{arith, refl, sym, true≢false}
+use Rattle.store_api.proofs.Counts.{at_most-none}
 use Rattle.attr_steps.proofs.RootLemmas.{owns_root, drops_root, drops_nothing}
 use Rattle.attr_steps.proofs.root.drop_root.Goals as goal
 
@@ -25,3 +26,9 @@ returns-else-valid-clause-turns g c = drops_nothing (g.S.Store.ledger c.args.sto
 
 pub returns-else-valid-clause-may : goal.returns-else-valid-clause-may
 returns-else-valid-clause-may g c = c.may_do_law.ensures.same c.args.store.now
+
+pub returns-then-valid-clause-none_made : goal.returns-then-valid-clause-none_made
+returns-then-valid-clause-none_made g c = c.drop_one.ensures.none_made
+
+pub returns-else-valid-clause-none_made : goal.returns-else-valid-clause-none_made
+returns-else-valid-clause-none_made g c = λ k w. at_most-none k ((g.S.Store.ledger c.args.store.now).of_width w)

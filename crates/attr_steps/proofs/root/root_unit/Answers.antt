@@ -3,6 +3,7 @@ use Rattle.store_api.specs.Calls.{Refuses}
 use Rattle.store_api.specs.Units.{MakesAtMost, MayDo}
 use Rattle.attr_images.specs.Words.{class_of}
 use Rattle.attr_steps.specs.Commits.{roots_listed}
+use Rattle.attr_steps.proofs.CountLemmas.{one_unit}
 use Rattle.attr_steps.proofs.RootLemmas.{begun_root, accepts_root, for_width, refuses_root}
 use Rattle.attr_steps.proofs.Units.{left_unit, keeps_unit}
 use Rattle.attr_steps.proofs.root.root_unit.Goals as goal
@@ -71,3 +72,15 @@ returns-in-Err-clause-keeps g c =
     let mid = ledger c.turn_root.new.store in
     keeps_unit (ledger c.args.store.now) mid (ledger c.undo.new.self) c.requires.unit (subst (λ l. MayDo l mid) c.begin.ensures.ledger c.turn_root.ensures.may)
     c.undo.ensures.unit c.undo.ensures.work c.undo.ensures.shape c.undo.ensures.sealed c.undo.ensures.finished
+
+pub returns-in-Ok-clause-counts : goal.returns-in-Ok-clause-counts
+returns-in-Ok-clause-counts g c =
+    let ledger = g.S.Store.ledger in
+    one_unit (class_of (length (c.args.operations ∷ roots_listed c.args.roots.now))) (ledger c.args.store.now) (ledger c.begin.new.self) (ledger c.turn_root.new.store) (ledger c.accept.new.self)
+    c.begin.ensures.ledger c.turn_root.ensures.counts (g.S.Frozen.records c.accept.new.self) c.accept.ensures.counts (g.met.S.Store.settled c.accept.new.self c.accept.ensures.unit)
+
+pub returns-in-Err-clause-counts : goal.returns-in-Err-clause-counts
+returns-in-Err-clause-counts g c =
+    let ledger = g.S.Store.ledger in
+    one_unit (class_of (length (c.args.operations ∷ roots_listed c.args.roots.now))) (ledger c.args.store.now) (ledger c.begin.new.self) (ledger c.turn_root.new.store) (ledger c.undo.new.self)
+    c.begin.ensures.ledger c.turn_root.ensures.counts (g.S.Frozen.records c.undo.new.self) c.undo.ensures.counts (g.met.S.Store.settled c.undo.new.self c.undo.ensures.unit)

@@ -1,5 +1,8 @@
-use Rattle.std.proofs.Common.{◌∙◌, arith}
+use Rattle.std.proofs.Common.{◌∷◌, length, ◌∙◌, arith}
 use Rattle.std.proofs.lemmas.Result.{err_from_is_err_and}
+use Rattle.attr_images.specs.Words.{class_of}
+use Rattle.attr_steps.specs.Commits.{roots_listed}
+use Rattle.attr_steps.proofs.CountLemmas.{one_dropped}
 use Rattle.attr_steps.proofs.RootLemmas.{owns_still, makes_root}
 use Rattle.attr_steps.proofs.root.turn_root.Goals as goal
 
@@ -37,3 +40,12 @@ returns-in_err-root-clause-none_made g c = let p = err_from_is_err_and c.from_re
 
 pub returns-in_err-root-clause-may : goal.returns-in_err-root-clause-may
 returns-in_err-root-clause-may g c = c.make_root.ensures.may
+
+pub returns-in_err-root-clause-counts : goal.returns-in_err-root-clause-counts
+returns-in_err-root-clause-counts g c = c.make_root.ensures.counts
+
+pub returns-clause-counts : goal.returns-clause-counts
+returns-clause-counts g c =
+    let ledger = g.S.Store.ledger in
+    one_dropped (class_of (length (c.args.operations ∷ roots_listed c.args.roots.now))) (ledger c.args.store.now) (ledger c.make_root.new.store) (ledger c.drop_root.new.store)
+    c.make_root.ensures.counts c.drop_root.ensures.none_made

@@ -9,6 +9,7 @@ use Rattle.attr_steps.specs.Fields.{AreFields, table_with, trees_of}
 use Rattle.attr_steps.specs.Views.{table_at}
 use Rattle.attr_steps.specs.Widths.{IsChangedWidth, IsFullAmong}
 use Rattle.attr_steps.proofs.FieldSteps.{laws_of}
+use Rattle.value_index.specs.Counts.{by_width}
 use Rattle.attr_steps.proofs.CountLemmas.{document_unit, spares_among}
 use Rattle.attr_steps.proofs.Units.{begun_owns, unit_changes, left_unit, refused_among, full_among, keeps_unit}
 use Rattle.attr_steps.proofs.unit.change_unit.Goals as goal
@@ -72,10 +73,10 @@ pub returns-in-Ok-clause-counts : goal.returns-in-Ok-clause-counts
 returns-in-Ok-clause-counts g c =
     let ledger = g.S.Store.ledger in
     let trees = trees_of c.args.fields.now c.args.roots.now in
-    let made = subst (λ f. MakesDocument (ledger c.begin.new.self) (ledger c.change_document.new.store) (table_at f trees) (option_copied c.args.old) (option_copied c.args.new) (length c.args.fields.now))
+    let made = subst (λ f. MakesDocument (ledger c.begin.new.self) (ledger c.change_document.new.store) c.args.fields.now (table_at f trees) c.args.doc (option_copied c.args.old) (option_copied c.args.new) (length c.args.fields.now))
     c.begin.ensures.records c.change_document.ensures.counts in
-    document_unit (ledger c.args.store.now) (ledger c.begin.new.self) (ledger c.change_document.new.store) (ledger c.accept.new.self) (table_at (g.S.Frozen.records c.args.store.now) trees)
-    (option_copied c.args.old) (option_copied c.args.new) (length c.args.fields.now) c.begin.ensures.ledger made (g.S.Frozen.records c.accept.new.self) c.accept.ensures.counts
+    document_unit (ledger c.args.store.now) (ledger c.begin.new.self) (ledger c.change_document.new.store) (ledger c.accept.new.self) c.args.fields.now (table_at (g.S.Frozen.records c.args.store.now) trees)
+    c.args.doc (option_copied c.args.old) (option_copied c.args.new) (length c.args.fields.now) c.begin.ensures.ledger made (g.S.Frozen.records c.accept.new.self) c.accept.ensures.counts
     (g.met.S.Store.settled c.accept.new.self c.accept.ensures.unit)
 
 pub returns-in-Ok-clause-keeps : goal.returns-in-Ok-clause-keeps
@@ -99,17 +100,17 @@ returns-in-Err-clause-refused g c =
     let mid = ledger c.change_document.new.store in
     let among : Records → ℕ → Type 0 = λ f. IsChangedWidth c.args.fields.now (table_with (table_at f (trees_of c.args.fields.now c.args.roots.now)) c.args.doc (option_copied c.args.new)) (option_copied c.args.old)
     (option_copied c.args.new) in
-    refused_among (among (g.S.Frozen.records c.begin.new.self)) (ledger c.args.store.now) mid (ledger c.undo.new.self) c.in-Err.error c.undo.ensures.work
+    refused_among (among (g.S.Frozen.records c.begin.new.self)) (ledger c.args.store.now) mid (ledger c.undo.new.self) c.in-Err.error c.undo.ensures.work c.undo.ensures.counts
     (subst (λ l. RefusesOf (among (g.S.Frozen.records c.begin.new.self)) l mid c.in-Err.error) c.begin.ensures.ledger c.in-Err.ensures.refuses)
 
 pub returns-in-Err-clause-counts : goal.returns-in-Err-clause-counts
 returns-in-Err-clause-counts g c =
     let ledger = g.S.Store.ledger in
     let trees = trees_of c.args.fields.now c.args.roots.now in
-    let made = subst (λ f. MakesDocument (ledger c.begin.new.self) (ledger c.change_document.new.store) (table_at f trees) (option_copied c.args.old) (option_copied c.args.new) (length c.args.fields.now))
+    let made = subst (λ f. MakesDocument (ledger c.begin.new.self) (ledger c.change_document.new.store) c.args.fields.now (table_at f trees) c.args.doc (option_copied c.args.old) (option_copied c.args.new) (length c.args.fields.now))
     c.begin.ensures.records c.change_document.ensures.counts in
-    document_unit (ledger c.args.store.now) (ledger c.begin.new.self) (ledger c.change_document.new.store) (ledger c.undo.new.self) (table_at (g.S.Frozen.records c.args.store.now) trees)
-    (option_copied c.args.old) (option_copied c.args.new) (length c.args.fields.now) c.begin.ensures.ledger made (g.S.Frozen.records c.undo.new.self) c.undo.ensures.counts
+    document_unit (ledger c.args.store.now) (ledger c.begin.new.self) (ledger c.change_document.new.store) (ledger c.undo.new.self) c.args.fields.now (table_at (g.S.Frozen.records c.args.store.now) trees)
+    c.args.doc (option_copied c.args.old) (option_copied c.args.new) (length c.args.fields.now) c.begin.ensures.ledger made (g.S.Frozen.records c.undo.new.self) c.undo.ensures.counts
     (g.met.S.Store.settled c.undo.new.self c.undo.ensures.unit)
 
 pub returns-in-Err-clause-spares : goal.returns-in-Err-clause-spares
@@ -117,9 +118,15 @@ returns-in-Err-clause-spares g c =
     let ledger = g.S.Store.ledger in
     let among : Records → ℕ → Type 0 = λ f. IsChangedWidth c.args.fields.now (table_with (table_at f (trees_of c.args.fields.now c.args.roots.now)) c.args.doc (option_copied c.args.new)) (option_copied c.args.old)
     (option_copied c.args.new) in
+    let trees = trees_of c.args.fields.now c.args.roots.now in
+    let old = option_copied c.args.old in
+    let new = option_copied c.args.new in
+    let count = length c.args.fields.now in
+    let made = subst (λ f. MakesDocument (ledger c.begin.new.self) (ledger c.change_document.new.store) c.args.fields.now (table_at f trees) c.args.doc old new count)
+    c.begin.ensures.records c.change_document.ensures.counts in
     spares_among (ledger c.args.store.now) (ledger c.begin.new.self) (ledger c.change_document.new.store) (ledger c.undo.new.self)
-    (document_nodes (option_copied c.args.old) (option_copied c.args.new) (length c.args.fields.now)) (document_records (option_copied c.args.old) (option_copied c.args.new) (length c.args.fields.now))
-    c.begin.ensures.ledger c.change_document.ensures.counts.few (among (g.S.Frozen.records c.begin.new.self)) (g.S.Frozen.records c.args.store.now) (g.S.Frozen.records c.undo.new.self) c.in-Err.error
+    (by_width (document_nodes old new count) (document_records c.args.fields.now (table_at (g.S.Frozen.records c.args.store.now) trees) c.args.doc old new count))
+    c.begin.ensures.ledger made.few (among (g.S.Frozen.records c.begin.new.self)) (g.S.Frozen.records c.args.store.now) (g.S.Frozen.records c.undo.new.self) c.in-Err.error
     (g.met.S.Store.settled c.args.store.now c.requires.unit) c.in-Err.ensures.refuses c.undo.ensures
 
 pub returns-in-Err-clause-keeps : goal.returns-in-Err-clause-keeps

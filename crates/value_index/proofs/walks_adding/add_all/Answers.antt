@@ -1,4 +1,4 @@
-use Rattle.std.proofs.Common.{ℤ, None, length, not, sym, ap, subst, ◌∙◌, arith, rules, w32, SFits, to_z, of_z, nat_cmp}
+use Rattle.std.proofs.Common.{◌≡◌, ℤ, None, length, not, sym, ap, subst, ◌∙◌, arith, rules, w32, SFits, to_z, of_z, nat_cmp}
 use Rattle.std.proofs.lemmas.Int.{to_z-of_z}
 use Rattle.std.proofs.lemmas.Result.{err_from_is_err_and}
 use Rattle.std.specs.BTreeMap.{get, insert_entry}
@@ -9,13 +9,16 @@ use Rattle.attr_index.specs.Changes.{is_weight}
 use Rattle.attr_index.specs.Index.{list_of, with_posting}
 use Rattle.attr_types.specs.Value.{type_of, value_cmp}
 use Rattle.attr_types.specs.declared.kind.ValueType.{ValueType}
+use Rattle.attr_types.specs.declared.value.Value.{Value}
 use Rattle.value_index.specs.Changes.{IsChangeWidth, MakesIndex}
 use Rattle.value_index.specs.Indexes.{IsIndex}
 use Rattle.value_index.proofs.AddLemmas.{adds_begin, adds_typed, adds_put, adds_same, adds_end}
-use Rattle.value_index.specs.Counts.{is_added, value_nodes, IsLow}
-use Rattle.value_index.proofs.WalksCountLemmas.{few_added, low_added, added_grows, added_records, counts_begin, counts_put, counts_pass, counts_end}
+use Rattle.posting_store.specs.Changes.{MakesWithin}
+use Rattle.value_index.specs.Changes.{add_most}
+use Rattle.value_index.specs.Counts.{is_added, put_records, value_nodes, IsLow}
+use Rattle.value_index.proofs.WalksCountLemmas.{few_added, low_added, counts_begin, counts_put, counts_pass, counts_end}
 use Rattle.value_index.proofs.LevelLemmas.{dictionary_low, list_low}
-use Rattle.value_index.proofs.WidthLemmas.{put_width}
+use Rattle.value_index.proofs.WidthLemmas.{put_list, put_width}
 use Rattle.value_index.specs.Widths.{IsWalkWidth}
 use Rattle.posting_store.proofs.RefusalLemmas.{of_more}
 use Rattle.value_index.proofs.walks_adding.add_all.Goals as goal
@@ -24,13 +27,14 @@ pub loop-value-init : goal.loop-value-init
 loop-value-init g c =
     let ledger = g.S.Store.ledger c.args.store.now in
     let m = g.S.Frozen.records c.args.store.now in
+    let each = put_records (λ value. list_of value (index_of c.args.value_type m c.args.root)) c.args.doc in
     let rest = c.into_iter-value-iterator.ensures.into_iter_gives ∙ c.iter-value-items.ensures.rest in
     record {
       adds = adds_begin c.args.value_type ledger m c.args.root c.args.doc c.args.new.now.entries c.into_iter-value-iterator.result
           rest c.requires.unit c.requires.index
           (c.index_law.ensures.lawful c.args.value_type m c.args.root c.requires.index).formed c.requires.owns;
-      counts = counts_begin 34 added_records added_grows ledger (is_added (get value_cmp c.args.old.now)) c.args.new.now.entries c.into_iter-value-iterator.result rest;
-      low = λ levels low. counts_begin (value_nodes levels) added_records added_grows ledger (is_added (get value_cmp c.args.old.now)) c.args.new.now.entries c.into_iter-value-iterator.result rest;
+      counts = counts_begin 34 each ledger (is_added (get value_cmp c.args.old.now)) c.args.new.now.entries c.into_iter-value-iterator.result rest;
+      low = λ levels low. counts_begin (value_nodes levels) each ledger (is_added (get value_cmp c.args.old.now)) c.args.new.now.entries c.into_iter-value-iterator.result rest;
     }
 
 pub add-requires : goal.add-requires
@@ -49,18 +53,34 @@ returns-in_err-next-clause-makes g c = let p = err_from_is_err_and c.from_residu
 pub returns-in_err-next-clause-counts : goal.returns-in_err-next-clause-counts
 returns-in_err-next-clause-counts g c =
     let ledger = g.S.Store.ledger in
+    let records = g.S.Frozen.records in
+    let begun = ledger c.args.store.now in
     let now = ledger c.loop-value.store in
     let new = ledger c.add.new.store in
+    let m = records c.loop-value.store in
+    let root = c.loop-value.next in
     let value = c.in-Some.value.now in
     let weight = c.in-Some.weight.now in
+    let type = c.args.value_type in
+    let doc = c.args.doc in
+    let entries = c.args.new.now.entries in
+    let lists = λ (v : Value). list_of v (index_of type (records c.args.store.now) c.args.root) in
+    let each = put_records lists doc in
     let fits : SFits w32 c.in-Some.weight.now = search rules in
     let test = is_added (get value_cmp c.args.old.now) in
-    counts_end 34 added_records added_grows (ledger c.args.store.now) test c.args.new.now.entries new c.next.new.self
-    (counts_put 34 added_records added_grows (ledger c.args.store.now) test c.args.new.now.entries
+    let p = c.loop-value.invariant.adds in
+    let up = c.iter-value-items.ensures.ordered in
+    let typed = adds_typed type begun (records c.args.store.now) c.args.root doc entries now m root c.loop-value.value-iterator c.next.new.self
+    value weight up p c.in-Some.ensures.steps c.requires.typed in
+    let listed = put_list (index_of type (records c.args.store.now) c.args.root) doc entries c.loop-value.value-iterator c.next.new.self value weight (index_of type m root) up c.in-Some.ensures.steps p.walk in
+    let made = subst (λ (z : ℤ). MakesWithin now new (add_most value m root (length (insert_entry nat_cmp (list_of value (index_of (type_of value) m root)) doc z)))) (to_z-of_z w32 weight fits) c.add.ensures.counts in
+    counts_end 34 each begun test entries new c.next.new.self
+    (counts_put 34 each begun test entries
     now c.loop-value.value-iterator c.next.new.self value weight c.loop-value.invariant.counts c.in-Some.ensures.steps
     (ap not (ap (λ (w : ℤ). is_weight w (get value_cmp c.args.old.now value)) (sym (to_z-of_z w32 weight fits)) ∙ sym c.has_weight.ensures ∙ c.if-not-has_weight.true))
-    new c.loop-value.invariant.adds.may
-    (few_added value (g.S.Frozen.records c.loop-value.store) c.loop-value.next _ now new c.add.ensures.counts))
+    new p.may
+    (few_added value weight m root doc (subst (λ t. IsIndex t m root) (sym typed) p.index_is) now new lists
+    (subst (λ (t : ValueType). list_of value (index_of type (records c.args.store.now) c.args.root) ≡ list_of value (index_of t m root)) (sym typed) listed) made))
 
 pub returns-in_err-next-clause-low : goal.returns-in_err-next-clause-low
 returns-in_err-next-clause-low g c =
@@ -77,18 +97,25 @@ returns-in_err-next-clause-low g c =
     let fits : SFits w32 c.in-Some.weight.now = search rules in
     let test = is_added (get value_cmp c.args.old.now) in
     let p = c.loop-value.invariant.adds in
-    let typed = adds_typed c.args.value_type begun (records c.args.store.now) c.args.root c.args.doc entries now m root c.loop-value.value-iterator c.next.new.self
-    value weight c.iter-value-items.ensures.ordered p c.in-Some.ensures.steps c.requires.typed in
+    let type = c.args.value_type in
+    let doc = c.args.doc in
+    let up = c.iter-value-items.ensures.ordered in
+    let lists = λ (v : Value). list_of v (index_of type (records c.args.store.now) c.args.root) in
+    let each = put_records lists doc in
+    let typed = adds_typed type begun (records c.args.store.now) c.args.root doc entries now m root c.loop-value.value-iterator c.next.new.self
+    value weight up p c.in-Some.ensures.steps c.requires.typed in
+    let listed = put_list (index_of type (records c.args.store.now) c.args.root) doc entries c.loop-value.value-iterator c.next.new.self value weight (index_of type m root) up c.in-Some.ensures.steps p.walk in
+    let made = subst (λ (z : ℤ). MakesWithin now new (add_most value m root (length (insert_entry nat_cmp (list_of value (index_of (type_of value) m root)) doc z)))) (to_z-of_z w32 weight fits) c.add.ensures.counts in
     λ levels low.
     let here : IsLow levels (index_of c.args.value_type m root) = low p.walk.done c.loop-value.value-iterator (index_of c.args.value_type m root) p.walk.joins p.walk.between in
-    counts_end (value_nodes levels) added_records added_grows begun test entries new c.next.new.self
-    (counts_put (value_nodes levels) added_records added_grows begun test entries
+    counts_end (value_nodes levels) each begun test entries new c.next.new.self
+    (counts_put (value_nodes levels) each begun test entries
     now c.loop-value.value-iterator c.next.new.self value weight (c.loop-value.invariant.low levels low) c.in-Some.ensures.steps
     (ap not (ap (λ (w : ℤ). is_weight w (get value_cmp c.args.old.now value)) (sym (to_z-of_z w32 weight fits)) ∙ sym c.has_weight.ensures ∙ c.if-not-has_weight.true))
     new p.may
-    (low_added value m root _ levels (dictionary_low c.args.value_type m root levels p.index_is here)
+    (low_added value weight m root doc levels (subst (λ t. IsIndex t m root) (sym typed) p.index_is) (dictionary_low type m root levels p.index_is here)
     (list_low value m root levels (subst (λ t. IsIndex t m root) (sym typed) p.index_is) (subst (λ t. IsLow levels (index_of t m root)) (sym typed) here))
-    now new c.add.ensures.counts))
+    now new lists (subst (λ (t : ValueType). list_of value (index_of type (records c.args.store.now) c.args.root) ≡ list_of value (index_of t m root)) (sym typed) listed) made))
 
 pub returns-in_err-next-clause-refuses : goal.returns-in_err-next-clause-refuses
 returns-in_err-next-clause-refuses g c =
@@ -139,6 +166,13 @@ loop-value-preserved-then-not-has_weight g c =
     let fits : SFits w32 c.in-Some.weight.now = search rules in
     let typed = adds_typed c.args.value_type (ledger c.args.store.now) (records c.args.store.now) c.args.root doc c.args.new.now.entries
     now m root c.loop-value.value-iterator c.next.new.self value weight up p c.in-Some.ensures.steps c.requires.typed in
+    let type = c.args.value_type in
+    let lists = λ (v : Value). list_of v (index_of type (records c.args.store.now) c.args.root) in
+    let each = put_records lists doc in
+    let listed = put_list (index_of type (records c.args.store.now) c.args.root) doc c.args.new.now.entries c.loop-value.value-iterator c.next.new.self value weight (index_of type m root) up c.in-Some.ensures.steps p.walk in
+    let reads = subst (λ (t : ValueType). list_of value (index_of type (records c.args.store.now) c.args.root) ≡ list_of value (index_of t m root)) (sym typed) listed in
+    let made = subst (λ (z : ℤ). MakesWithin now new (add_most value m root (length (insert_entry nat_cmp (list_of value (index_of (type_of value) m root)) doc z)))) (to_z-of_z w32 weight fits) c.add.ensures.counts in
+    let is_index = subst (λ t. IsIndex t m root) (sym typed) p.index_is in
     record {
       adds = adds_put c.args.value_type (ledger c.args.store.now) (records c.args.store.now) c.args.root doc c.args.new.now.entries
           now m root c.loop-value.value-iterator c.next.new.self value weight up p c.in-Some.ensures.steps
@@ -146,19 +180,19 @@ loop-value-preserved-then-not-has_weight g c =
           (subst (λ (t : ValueType). MakesIndex t now new m n root (with_posting value doc weight (index_of t m root)) next) typed
           (subst (λ (w : ℤ). MakesIndex (type_of value) now new m n root (with_posting value doc w (index_of (type_of value) m root)) next) (to_z-of_z w32 weight fits)
           c.in_ok-next.ensures.makes));
-      counts = counts_put 34 added_records added_grows (ledger c.args.store.now) (is_added (get value_cmp c.args.old.now)) c.args.new.now.entries
+      counts = counts_put 34 each (ledger c.args.store.now) (is_added (get value_cmp c.args.old.now)) c.args.new.now.entries
           now c.loop-value.value-iterator c.next.new.self value weight c.loop-value.invariant.counts c.in-Some.ensures.steps
           (ap not (ap (λ (w : ℤ). is_weight w (get value_cmp c.args.old.now value)) (sym (to_z-of_z w32 weight fits)) ∙ sym c.has_weight.ensures ∙ c.if-not-has_weight.true))
-          new p.may (few_added value m root _ now new c.add.ensures.counts);
+          new p.may (few_added value weight m root doc is_index now new lists reads made);
       low = λ levels low.
           let here : IsLow levels (index_of c.args.value_type m root) = low p.walk.done c.loop-value.value-iterator (index_of c.args.value_type m root) p.walk.joins p.walk.between in
-          counts_put (value_nodes levels) added_records added_grows (ledger c.args.store.now) (is_added (get value_cmp c.args.old.now)) c.args.new.now.entries
+          counts_put (value_nodes levels) each (ledger c.args.store.now) (is_added (get value_cmp c.args.old.now)) c.args.new.now.entries
           now c.loop-value.value-iterator c.next.new.self value weight (c.loop-value.invariant.low levels low) c.in-Some.ensures.steps
           (ap not (ap (λ (w : ℤ). is_weight w (get value_cmp c.args.old.now value)) (sym (to_z-of_z w32 weight fits)) ∙ sym c.has_weight.ensures ∙ c.if-not-has_weight.true))
           new p.may
-          (low_added value m root _ levels (dictionary_low c.args.value_type m root levels p.index_is here)
-          (list_low value m root levels (subst (λ t. IsIndex t m root) (sym typed) p.index_is) (subst (λ t. IsLow levels (index_of t m root)) (sym typed) here))
-          now new c.add.ensures.counts);
+          (low_added value weight m root doc levels is_index (dictionary_low type m root levels p.index_is here)
+          (list_low value m root levels is_index (subst (λ t. IsLow levels (index_of t m root)) (sym typed) here))
+          now new lists reads made);
     }
 
 pub loop-value-preserved : goal.loop-value-preserved
@@ -167,6 +201,7 @@ loop-value-preserved g c =
     let records = g.S.Frozen.records in
     let value = c.in-Some.value.now in
     let weight = c.in-Some.weight.now in
+    let each = put_records (λ v. list_of v (index_of c.args.value_type (records c.args.store.now) c.args.root)) c.args.doc in
     let fits : SFits w32 c.in-Some.weight.now = search rules in
     let same = ap (λ (w : ℤ). is_weight w (get value_cmp c.args.old.now value)) (sym (to_z-of_z w32 weight fits))
     ∙ sym c.has_weight.ensures ∙ c.if-not-has_weight.false in
@@ -175,9 +210,9 @@ loop-value-preserved g c =
           (ledger c.loop-value.store) (records c.loop-value.store) c.loop-value.next c.loop-value.value-iterator c.next.new.self value weight
           c.iter-value-items.ensures.ordered c.loop-value.invariant.adds c.in-Some.ensures.steps
           (c.requires.has value ∙ was_weight weight (get value_cmp c.args.old.now value) same);
-      counts = counts_pass 34 added_records added_grows (ledger c.args.store.now) (is_added (get value_cmp c.args.old.now)) c.args.new.now.entries
+      counts = counts_pass 34 each (ledger c.args.store.now) (is_added (get value_cmp c.args.old.now)) c.args.new.now.entries
           (ledger c.loop-value.store) c.loop-value.value-iterator c.next.new.self value weight c.loop-value.invariant.counts c.in-Some.ensures.steps (ap not same);
-      low = λ levels low. counts_pass (value_nodes levels) added_records added_grows (ledger c.args.store.now) (is_added (get value_cmp c.args.old.now)) c.args.new.now.entries
+      low = λ levels low. counts_pass (value_nodes levels) each (ledger c.args.store.now) (is_added (get value_cmp c.args.old.now)) c.args.new.now.entries
           (ledger c.loop-value.store) c.loop-value.value-iterator c.next.new.self value weight (c.loop-value.invariant.low levels low) c.in-Some.ensures.steps (ap not same);
     }
 
@@ -191,14 +226,16 @@ returns-clause-makes g c =
 pub returns-clause-counts : goal.returns-clause-counts
 returns-clause-counts g c =
     let ledger = g.S.Store.ledger in
-    counts_end 34 added_records added_grows (ledger c.args.store.now) (is_added (get value_cmp c.args.old.now)) c.args.new.now.entries
+    let each = put_records (λ v. list_of v (index_of c.args.value_type (g.S.Frozen.records c.args.store.now) c.args.root)) c.args.doc in
+    counts_end 34 each (ledger c.args.store.now) (is_added (get value_cmp c.args.old.now)) c.args.new.now.entries
     (ledger c.loop-value.store) c.loop-value.value-iterator c.loop-value.invariant.counts
 
 pub returns-clause-low : goal.returns-clause-low
 returns-clause-low g c =
     let ledger = g.S.Store.ledger in
+    let each = put_records (λ v. list_of v (index_of c.args.value_type (g.S.Frozen.records c.args.store.now) c.args.root)) c.args.doc in
     λ levels low.
-    counts_end (value_nodes levels) added_records added_grows (ledger c.args.store.now) (is_added (get value_cmp c.args.old.now)) c.args.new.now.entries
+    counts_end (value_nodes levels) each (ledger c.args.store.now) (is_added (get value_cmp c.args.old.now)) c.args.new.now.entries
     (ledger c.loop-value.store) c.loop-value.value-iterator (c.loop-value.invariant.low levels low)
 
 pub returns-clause-may : goal.returns-clause-may

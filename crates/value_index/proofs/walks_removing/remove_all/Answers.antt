@@ -1,4 +1,4 @@
-use Rattle.std.proofs.Common.{length, not, nat_cmp, sym, ap, subst, ◌∙◌, arith}
+use Rattle.std.proofs.Common.{◌≡◌, length, not, nat_cmp, sym, ap, subst, ◌∙◌, arith}
 use Rattle.std.proofs.lemmas.Result.{err_from_is_err_and}
 use Rattle.std.specs.BTreeMap.{get, is_at}
 use Rattle.std.specs.Map.{remove_entry}
@@ -8,13 +8,14 @@ use Rattle.attr_index.proofs.MapLemmas.{none_then, some_then}
 use Rattle.attr_index.specs.Index.{list_of, without_posting}
 use Rattle.attr_types.specs.Value.{type_of, value_cmp}
 use Rattle.attr_types.specs.declared.kind.ValueType.{ValueType}
+use Rattle.attr_types.specs.declared.value.Value.{Value}
 use Rattle.value_index.specs.Changes.{IsChangeWidth, MakesIndex}
 use Rattle.value_index.specs.Indexes.{IsIndex}
-use Rattle.value_index.specs.Counts.{is_gone, value_nodes, IsLow}
-use Rattle.value_index.proofs.WalksCountLemmas.{few_gone, low_gone, gone_grows, gone_records, counts_begin, counts_put, counts_pass, counts_end}
+use Rattle.value_index.specs.Counts.{is_gone, taken_records, value_nodes, IsLow}
+use Rattle.value_index.proofs.WalksCountLemmas.{few_gone, low_gone, counts_begin, counts_put, counts_pass, counts_end}
 use Rattle.value_index.proofs.RemoveLemmas.{removes_begin, removes_typed, removes_there, removes_take, removes_stay, removes_end, IsThere}
 use Rattle.value_index.proofs.LevelLemmas.{dictionary_low, list_low}
-use Rattle.value_index.proofs.WidthLemmas.{take_width}
+use Rattle.value_index.proofs.WidthLemmas.{take_list, take_width}
 use Rattle.value_index.specs.Widths.{IsWalkWidth}
 use Rattle.posting_store.proofs.RefusalLemmas.{of_more}
 use Rattle.value_index.proofs.walks_removing.remove_all.Goals as goal
@@ -23,13 +24,14 @@ pub loop-value-init : goal.loop-value-init
 loop-value-init g c =
     let ledger = g.S.Store.ledger c.args.store.now in
     let m = g.S.Frozen.records c.args.store.now in
+    let each = taken_records (λ value. list_of value (index_of c.args.value_type m c.args.root)) c.args.doc in
     let rest = c.into_iter-value-iterator.ensures.into_iter_gives ∙ c.iter-value-items.ensures.rest in
     record {
       removes = removes_begin c.args.value_type ledger m c.args.root c.args.doc (get value_cmp c.args.new.now) c.args.old.now.entries c.into_iter-value-iterator.result
           rest c.requires.unit c.requires.index
           (c.index_law.ensures.lawful c.args.value_type m c.args.root c.requires.index).formed c.requires.owns c.requires.has;
-      counts = counts_begin 34 gone_records gone_grows ledger (is_gone (get value_cmp c.args.new.now)) c.args.old.now.entries c.into_iter-value-iterator.result rest;
-      low = λ levels low. counts_begin (value_nodes levels) gone_records gone_grows ledger (is_gone (get value_cmp c.args.new.now)) c.args.old.now.entries c.into_iter-value-iterator.result rest;
+      counts = counts_begin 34 each ledger (is_gone (get value_cmp c.args.new.now)) c.args.old.now.entries c.into_iter-value-iterator.result rest;
+      low = λ levels low. counts_begin (value_nodes levels) each ledger (is_gone (get value_cmp c.args.new.now)) c.args.old.now.entries c.into_iter-value-iterator.result rest;
     }
 
 pub remove-requires : goal.remove-requires
@@ -66,15 +68,33 @@ returns-in_err-next-clause-makes g c = let p = err_from_is_err_and c.from_residu
 pub returns-in_err-next-clause-counts : goal.returns-in_err-next-clause-counts
 returns-in_err-next-clause-counts g c =
     let ledger = g.S.Store.ledger in
+    let records = g.S.Frozen.records in
+    let begun = ledger c.args.store.now in
     let now = ledger c.loop-value.store in
     let new = ledger c.remove.new.store in
+    let m = records c.loop-value.store in
+    let root = c.loop-value.next in
     let value = c.in-Some.value.now in
-    let test = is_gone (get value_cmp c.args.new.now) in
-    counts_end 34 gone_records gone_grows (ledger c.args.store.now) test c.args.old.now.entries new c.next.new.self
-    (counts_put 34 gone_records gone_grows (ledger c.args.store.now) test c.args.old.now.entries
-    now c.loop-value.value-iterator c.next.new.self value c.in-Some.field-0-1.now c.loop-value.invariant.counts c.in-Some.ensures.steps
-    (ap not (sym c.contains_key.ensures ∙ c.if-not-contains_key.true)) new c.loop-value.invariant.removes.may
-    (few_gone value (g.S.Frozen.records c.loop-value.store) c.loop-value.next _ now new c.remove.ensures.counts))
+    let weight = c.in-Some.field-0-1.now in
+    let type = c.args.value_type in
+    let doc = c.args.doc in
+    let entries = c.args.old.now.entries in
+    let added = get value_cmp c.args.new.now in
+    let test = is_gone added in
+    let lists = λ (v : Value). list_of v (index_of type (records c.args.store.now) c.args.root) in
+    let each = taken_records lists doc in
+    let p = c.loop-value.invariant.removes in
+    let up = c.iter-value-items.ensures.ordered in
+    let gone = sym c.contains_key.ensures ∙ c.if-not-contains_key.true in
+    let typed = removes_typed type begun (records c.args.store.now) c.args.root doc added entries now m root c.loop-value.value-iterator c.next.new.self
+    value weight up p c.in-Some.ensures.steps c.requires.typed in
+    let listed = take_list (index_of type (records c.args.store.now) c.args.root) doc entries c.loop-value.value-iterator c.next.new.self value weight (index_of type m root) up c.in-Some.ensures.steps
+    added p.walk (none_then (added value) gone) in
+    counts_end 34 each begun test entries new c.next.new.self
+    (counts_put 34 each begun test entries
+    now c.loop-value.value-iterator c.next.new.self value weight c.loop-value.invariant.counts c.in-Some.ensures.steps (ap not gone) new p.may
+    (few_gone value weight m root doc (subst (λ t. IsIndex t m root) (sym typed) p.index_is) now new lists
+    (subst (λ (t : ValueType). list_of value (index_of type (records c.args.store.now) c.args.root) ≡ list_of value (index_of t m root)) (sym typed) listed) c.remove.ensures.counts))
 
 pub returns-in_err-next-clause-low : goal.returns-in_err-next-clause-low
 returns-in_err-next-clause-low g c =
@@ -91,17 +111,25 @@ returns-in_err-next-clause-low g c =
     let added = get value_cmp c.args.new.now in
     let test = is_gone added in
     let p = c.loop-value.invariant.removes in
-    let typed = removes_typed c.args.value_type begun (records c.args.store.now) c.args.root c.args.doc added entries now m root c.loop-value.value-iterator c.next.new.self
-    value weight c.iter-value-items.ensures.ordered p c.in-Some.ensures.steps c.requires.typed in
+    let type = c.args.value_type in
+    let doc = c.args.doc in
+    let up = c.iter-value-items.ensures.ordered in
+    let lists = λ (v : Value). list_of v (index_of type (records c.args.store.now) c.args.root) in
+    let each = taken_records lists doc in
+    let gone = sym c.contains_key.ensures ∙ c.if-not-contains_key.true in
+    let typed = removes_typed type begun (records c.args.store.now) c.args.root doc added entries now m root c.loop-value.value-iterator c.next.new.self
+    value weight up p c.in-Some.ensures.steps c.requires.typed in
+    let listed = take_list (index_of type (records c.args.store.now) c.args.root) doc entries c.loop-value.value-iterator c.next.new.self value weight (index_of type m root) up c.in-Some.ensures.steps
+    added p.walk (none_then (added value) gone) in
     λ levels low.
     let here : IsLow levels (index_of c.args.value_type m root) = low p.walk.done c.loop-value.value-iterator (index_of c.args.value_type m root) p.walk.joins p.walk.between in
-    counts_end (value_nodes levels) gone_records gone_grows begun test entries new c.next.new.self
-    (counts_put (value_nodes levels) gone_records gone_grows begun test entries
+    counts_end (value_nodes levels) each begun test entries new c.next.new.self
+    (counts_put (value_nodes levels) each begun test entries
     now c.loop-value.value-iterator c.next.new.self value weight (c.loop-value.invariant.low levels low) c.in-Some.ensures.steps
     (ap not (sym c.contains_key.ensures ∙ c.if-not-contains_key.true)) new p.may
-    (low_gone value m root _ levels (dictionary_low c.args.value_type m root levels p.index_is here)
+    (low_gone value weight m root doc levels (subst (λ t. IsIndex t m root) (sym typed) p.index_is) (dictionary_low type m root levels p.index_is here)
     (list_low value m root levels (subst (λ t. IsIndex t m root) (sym typed) p.index_is) (subst (λ t. IsLow levels (index_of t m root)) (sym typed) here))
-    now new c.remove.ensures.counts))
+    now new lists (subst (λ (t : ValueType). list_of value (index_of type (records c.args.store.now) c.args.root) ≡ list_of value (index_of t m root)) (sym typed) listed) c.remove.ensures.counts))
 
 pub returns-in_err-next-clause-refuses : goal.returns-in_err-next-clause-refuses
 returns-in_err-next-clause-refuses g c =
@@ -153,22 +181,29 @@ loop-value-preserved-then-not-contains_key g c =
     let typed = removes_typed c.args.value_type (ledger c.args.store.now) (records c.args.store.now) c.args.root doc added c.args.old.now.entries
     now m root c.loop-value.value-iterator c.next.new.self value weight up p c.in-Some.ensures.steps c.requires.typed in
     let gone = sym c.contains_key.ensures ∙ c.if-not-contains_key.true in
+    let type = c.args.value_type in
+    let lists = λ (v : Value). list_of v (index_of type (records c.args.store.now) c.args.root) in
+    let each = taken_records lists doc in
+    let listed = take_list (index_of type (records c.args.store.now) c.args.root) doc c.args.old.now.entries c.loop-value.value-iterator c.next.new.self value weight (index_of type m root) up c.in-Some.ensures.steps
+    added p.walk (none_then (added value) gone) in
+    let reads = subst (λ (t : ValueType). list_of value (index_of type (records c.args.store.now) c.args.root) ≡ list_of value (index_of t m root)) (sym typed) listed in
+    let is_index = subst (λ t. IsIndex t m root) (sym typed) p.index_is in
     record {
       removes = removes_take c.args.value_type (ledger c.args.store.now) (records c.args.store.now) c.args.root doc added c.args.old.now.entries
           now m root c.loop-value.value-iterator c.next.new.self value weight up p c.in-Some.ensures.steps
           (none_then (added value) gone) new n next c.remove.ensures.may
           (subst (λ (t : ValueType). MakesIndex t now new m n root (without_posting value doc (index_of t m root)) next) typed c.in_ok-next.ensures.makes);
-      counts = counts_put 34 gone_records gone_grows (ledger c.args.store.now) (is_gone added) c.args.old.now.entries
+      counts = counts_put 34 each (ledger c.args.store.now) (is_gone added) c.args.old.now.entries
           now c.loop-value.value-iterator c.next.new.self value weight c.loop-value.invariant.counts c.in-Some.ensures.steps
-          (ap not gone) new p.may (few_gone value m root _ now new c.remove.ensures.counts);
+          (ap not gone) new p.may (few_gone value weight m root doc is_index now new lists reads c.remove.ensures.counts);
       low = λ levels low.
           let here : IsLow levels (index_of c.args.value_type m root) = low p.walk.done c.loop-value.value-iterator (index_of c.args.value_type m root) p.walk.joins p.walk.between in
-          counts_put (value_nodes levels) gone_records gone_grows (ledger c.args.store.now) (is_gone added) c.args.old.now.entries
+          counts_put (value_nodes levels) each (ledger c.args.store.now) (is_gone added) c.args.old.now.entries
           now c.loop-value.value-iterator c.next.new.self value weight (c.loop-value.invariant.low levels low) c.in-Some.ensures.steps
           (ap not gone) new p.may
-          (low_gone value m root _ levels (dictionary_low c.args.value_type m root levels p.index_is here)
-          (list_low value m root levels (subst (λ t. IsIndex t m root) (sym typed) p.index_is) (subst (λ t. IsLow levels (index_of t m root)) (sym typed) here))
-          now new c.remove.ensures.counts);
+          (low_gone value weight m root doc levels is_index (dictionary_low type m root levels p.index_is here)
+          (list_low value m root levels is_index (subst (λ t. IsLow levels (index_of t m root)) (sym typed) here))
+          now new lists reads c.remove.ensures.counts);
     }
 
 pub loop-value-preserved : goal.loop-value-preserved
@@ -176,6 +211,7 @@ loop-value-preserved g c =
     let ledger = g.S.Store.ledger in
     let records = g.S.Frozen.records in
     let value = c.in-Some.value.now in
+    let each = taken_records (λ v. list_of v (index_of c.args.value_type (records c.args.store.now) c.args.root)) c.args.doc in
     let added = get value_cmp c.args.new.now in
     let there = sym c.contains_key.ensures ∙ c.if-not-contains_key.false in
     let other = some_then (added value) there in
@@ -183,9 +219,9 @@ loop-value-preserved g c =
       removes = removes_stay c.args.value_type (ledger c.args.store.now) (records c.args.store.now) c.args.root c.args.doc added c.args.old.now.entries
           (ledger c.loop-value.store) (records c.loop-value.store) c.loop-value.next c.loop-value.value-iterator c.next.new.self value c.in-Some.field-0-1.now
           c.iter-value-items.ensures.ordered c.loop-value.invariant.removes c.in-Some.ensures.steps other.0 other.1;
-      counts = counts_pass 34 gone_records gone_grows (ledger c.args.store.now) (is_gone added) c.args.old.now.entries
+      counts = counts_pass 34 each (ledger c.args.store.now) (is_gone added) c.args.old.now.entries
           (ledger c.loop-value.store) c.loop-value.value-iterator c.next.new.self value c.in-Some.field-0-1.now c.loop-value.invariant.counts c.in-Some.ensures.steps (ap not there);
-      low = λ levels low. counts_pass (value_nodes levels) gone_records gone_grows (ledger c.args.store.now) (is_gone added) c.args.old.now.entries
+      low = λ levels low. counts_pass (value_nodes levels) each (ledger c.args.store.now) (is_gone added) c.args.old.now.entries
           (ledger c.loop-value.store) c.loop-value.value-iterator c.next.new.self value c.in-Some.field-0-1.now (c.loop-value.invariant.low levels low) c.in-Some.ensures.steps (ap not there);
     }
 
@@ -199,14 +235,16 @@ returns-clause-makes g c =
 pub returns-clause-counts : goal.returns-clause-counts
 returns-clause-counts g c =
     let ledger = g.S.Store.ledger in
-    counts_end 34 gone_records gone_grows (ledger c.args.store.now) (is_gone (get value_cmp c.args.new.now)) c.args.old.now.entries
+    let each = taken_records (λ v. list_of v (index_of c.args.value_type (g.S.Frozen.records c.args.store.now) c.args.root)) c.args.doc in
+    counts_end 34 each (ledger c.args.store.now) (is_gone (get value_cmp c.args.new.now)) c.args.old.now.entries
     (ledger c.loop-value.store) c.loop-value.value-iterator c.loop-value.invariant.counts
 
 pub returns-clause-low : goal.returns-clause-low
 returns-clause-low g c =
     let ledger = g.S.Store.ledger in
+    let each = taken_records (λ v. list_of v (index_of c.args.value_type (g.S.Frozen.records c.args.store.now) c.args.root)) c.args.doc in
     λ levels low.
-    counts_end (value_nodes levels) gone_records gone_grows (ledger c.args.store.now) (is_gone (get value_cmp c.args.new.now)) c.args.old.now.entries
+    counts_end (value_nodes levels) each (ledger c.args.store.now) (is_gone (get value_cmp c.args.new.now)) c.args.old.now.entries
     (ledger c.loop-value.store) c.loop-value.value-iterator (c.loop-value.invariant.low levels low)
 
 pub returns-clause-may : goal.returns-clause-may

@@ -2,8 +2,9 @@ use Rattle.std.specs.Prelude.{ℕ}
 use Rattle.std.specs.BTreeMap.{get}
 use Rattle.attr_images.specs.Postings.{index_of}
 use Rattle.attr_types.specs.Value.{value_cmp}
-use Rattle.value_index.specs.Counts.{is_gone, value_nodes, RemovesLow}
-use Rattle.value_index.proofs.WalksCountLemmas.{CountsSoFar, gone_records}
+use Rattle.attr_index.specs.Index.{list_of}
+use Rattle.value_index.specs.Counts.{is_gone, taken_records, value_nodes, RemovesLow}
+use Rattle.value_index.proofs.WalksCountLemmas.{CountsSoFar}
 use Rattle.value_index.proofs.RemoveLemmas.{RemovesSoFar}
 use Rattle.value_index.proofs.walks_removing.remove_all.Given as goal
 
@@ -12,9 +13,10 @@ abbrev pub invariant-loop-value : goal.invariant-loop-value
 invariant-loop-value g l =
     let ledger = g.S.Store.ledger in
     let records = g.S.Frozen.records in
+    let each = taken_records (λ value. list_of value (index_of l.fn.value_type (records l.fn.store) l.fn.root)) l.doc in
     record {
       removes : RemovesSoFar l.fn.value_type (ledger l.fn.store) (ledger l.store) (records l.fn.store) (records l.store) l.fn.root l.next l.doc (get value_cmp l.new) l.old.entries l.value-iterator;
-      counts : CountsSoFar 34 gone_records (ledger l.fn.store) (ledger l.store) (is_gone (get value_cmp l.new)) l.old.entries l.value-iterator;
+      counts : CountsSoFar 34 each (ledger l.fn.store) (ledger l.store) (is_gone (get value_cmp l.new)) l.old.entries l.value-iterator;
       low : (levels : ℕ) → RemovesLow levels (index_of l.fn.value_type (records l.fn.store) l.fn.root) l.doc (get value_cmp l.new) l.old.entries
-          → CountsSoFar (value_nodes levels) gone_records (ledger l.fn.store) (ledger l.store) (is_gone (get value_cmp l.new)) l.old.entries l.value-iterator;
+          → CountsSoFar (value_nodes levels) each (ledger l.fn.store) (ledger l.store) (is_gone (get value_cmp l.new)) l.old.entries l.value-iterator;
     }
