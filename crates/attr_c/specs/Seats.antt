@@ -1,7 +1,6 @@
 -- What a reader's handle holds, as its callers see it, and what its calls say.
 use Rattle.std.specs.Prelude.{◌≡◌, ℕ, Bool, true, false, List, length, Option, Some, None, Result, Ok}
-use Rattle.gen_core.specs.declared.views.ReaderState.TheVariants.{Idle}
-use Rattle.gen_core.specs.Events.{with_state}
+use Rattle.gen_core.specs.Events.{released}
 use Rattle.word_arena.specs.Ruled.{reader_of, seen_number}
 use Rattle.attr_types.specs.Scores.{AskTree, answer_on, documents_in}
 use Rattle.attr_types.specs.declared.items.Item.{Item}
@@ -44,7 +43,7 @@ TakesGuard (Kept k) guard = guard ≡ kept_view k
 abbrev pub LeavesGuard : Bool → KeptView → Place → Type 0
 LeavesGuard true guard (Kept k) = kept_view k ≡ guard
 LeavesGuard true guard (Free r) = ⊥
-LeavesGuard false guard (Free r) = reader_view r ≡ record guard { reader = with_state guard.reader Idle }
+LeavesGuard false guard (Free r) = reader_view r ≡ record guard { reader = released guard.reader }
 LeavesGuard false guard (Kept k) = ⊥
 
 -- which commit answers, and how many operations it has

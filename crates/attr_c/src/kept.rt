@@ -1,7 +1,6 @@
 //! A reader under a guard: its commit stays readable until the guard is given back.
 ghost use Rattle.std.specs.Prelude.{◌≡◌, ◌<◌, ◌≤◌, length, IfOk};
-ghost use Rattle.gen_core.specs.declared.views.ReaderState.TheVariants.{Idle};
-ghost use Rattle.gen_core.specs.Events.{with_state};
+ghost use Rattle.gen_core.specs.Events.{released};
 ghost use Rattle.word_arena.specs.Ruled.{reader_of, seen_number};
 ghost use Rattle.attr_types.specs.Scores.{ask_tree, answer_on};
 ghost use Rattle.attr_types.specs.declared.field.TheConstants.{MOST_FIELDS};
@@ -50,7 +49,7 @@ impl<const OFFSET_BITS: u32> Kept<OFFSET_BITS> {
     /// Gives the guard back.
     pub fn release(self) -> Waiting<OFFSET_BITS>
         ensures fields { result.fields ≡ self.entry.fields }
-        ensures idle { reader_of result.reader.place.me.0 ≡ with_state self.entry.reader Idle }
+        ensures idle { reader_of result.reader.place.me.0 ≡ released self.entry.reader }
     {
         let Kept { fields, guard } = self;
         let reader = guard.release();
