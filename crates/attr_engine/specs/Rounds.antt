@@ -27,15 +27,15 @@ pub record IsRoundAt (run : Run) (ops : List Op) (last : ℕ) (round : Round Tol
 abbrev pub commits_of : List (Round Told) → List ℕ
 commits_of rounds = map (λ round. round.commit) rounds
 
--- what is asked of an image, as a question of rounds
+-- the asks of an image, as a question of rounds
 abbrev pub operations_of : ℕ → Records → ℕ → ℕ
 operations_of shape m root = operations_at m root
 
 abbrev pub tells_of : Bool → List AskTree → ℕ → Records → ℕ → Told → Type 0
 tells_of counted asks shape m root told = TellsTable counted asks (table_of shape m root) told
 
--- the rounds were made by a reader that had seen this commit, each under a guard: its count of operations and its lines are those of
--- the image that the guard read
+-- the rounds were made by a reader that had seen this commit, each under a guard: its number of operations and its
+-- lines are those of the image that was read under the guard
 pub record AreGuarded (counted : Bool) (asks : List AskTree) (seen : ℕ) (rounds : List (Round Told)) : Type 0 where
   pub before : ReaderView
   pub after : ReaderView

@@ -27,7 +27,8 @@ pub record IsRunOf (run : Run) (ops : List Op) (w : Written) : Type 0 where
   pub is_written : w.text.items ≡ written run ops (progress_of w) (full_of w.full)
   pub room : IfSome w.full (λ r. r.active + r.held ≡ run.buffers)
 
--- why a run was not made: memory is short, or there are more readers than seats, two of which the last answers take
+-- why a run was not made: memory was exhausted, or there are more readers than seats, two of which the last answers
+-- take
 abbrev pub IsGivenUp : ℕ → EngineError → Type 0
 IsGivenUp readers TooManyReaders = 62 < readers
 IsGivenUp readers Memory = Unit {0}

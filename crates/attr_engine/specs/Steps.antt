@@ -53,13 +53,14 @@ pub record IsNewWriter (fields : List Field) (home : TableId) (w : WriterView) :
 abbrev pub buffers_of : WriterView → ℕ → ApiBuffer
 buffers_of w b = api_buffer (slice_get w.buffers b)
 
--- no buffer is free: so many are in use, and the others are held for readers
+-- no buffer is free: this many are in use, and the others are held for readers
 pub record IsFullWriter (w : WriterView) (room : NoRoom) : Type 0 where
   pub free : free_count (buffers_of w) w.sizes.buffers ≡ 0
   pub active_is : room.active ≡ active_count (buffers_of w) w.sizes.buffers
   pub held_is : room.held ≡ held_count (buffers_of w) w.sizes.buffers
 
--- what a loading makes of a writer: its commits are those of the operations; where one found no room the buffers are counted
+-- how a loading changes a writer: its commits are those of the operations; if one ran out of space, the buffers are
+-- counted
 pub record LoadsInto (fields : List Field) (batch : ℕ) (ops : List Op) (old new : WriterView) (loaded : Loaded) : Type 0 where
   pub shape_is : new.sizes.shape ≡ old.sizes.shape
   pub last : ℕ
@@ -103,7 +104,8 @@ pub record IsTakenFrom (counted : Bool) (asks : List AskTree) (shape : ℕ) (com
   pub same : after ≡ before
   pub each : All (IsOfCommit operations_of (tells_of counted asks) shape commits) after
 
--- the rounds of a reader that had seen this commit: so many, each of a commit, the commits never falling, and none below what it had seen
+-- the rounds of a reader that had seen this commit: `count` of them, each at a commit; commits never fall, and none
+-- is older than what the reader saw before
 pub record AreRoundsOf (counted : Bool) (asks : List AskTree) (shape seen count : ℕ) (commits : List Image)
     (rounds : List (Round Told)) : Type 0 where
   pub made : length rounds ≡ count

@@ -48,7 +48,7 @@ pub fn engine_run<const OFFSET_BITS: u32, R: Threads + Sync, G: Gate + Sync + 's
     Ok(written)
 }
 
-/// What a run writes that came so far.
+/// Returns what a run with this progress writes.
 fn written_in(
     alloc: Global,
     request: &Request,

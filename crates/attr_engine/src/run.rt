@@ -91,7 +91,7 @@ fn load_first<'a, const OFFSET_BITS: u32, R: Threads + Sync, G: Gate + Sync + 's
     })
 }
 
-/// The most readers of a run: a memory has 64 seats, and the last answers take two.
+/// The greatest number of readers of a run: a memory has 64 seats, and the last answers take two.
 const MOST_READERS: u32 = 62;
 
 /// Makes a run over a writer that has committed nothing.
@@ -148,8 +148,9 @@ fn run_over<'a, const OFFSET_BITS: u32, R: Threads + Sync, G: Gate + Sync + 'sta
     })
 }
 
-/// A run over a new memory: its operations are loaded in commits, its readers answer beside them or after them, and
-/// all that was loaded answers at the end. Too many readers are refused, and nothing but want of memory beside.
+/// Makes a run over a new memory: its operations are loaded and committed, its readers answer beside the loading or
+/// after it, and at the end everything loaded answers. It is refused only if there are too many readers or memory is
+/// exhausted.
 pub fn run_engine<const OFFSET_BITS: u32, R: Threads + Sync, G: Gate + Sync + 'static>(
     rt: &R,
     alloc: Global,

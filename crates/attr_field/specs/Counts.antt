@@ -1,4 +1,4 @@
--- How many records a change of one document's items makes at most, by what they are and by width.
+-- Bounds on the records that a change of one document's items makes, by what they are and by width.
 use Rattle.std.specs.Prelude.{ℕ, ℤ, ◌+◌, ◌*◌, ◌^◌, ◌<◌, List, [], length, Option}
 use Rattle.std.specs.BTreeMap.{is_at}
 use Rattle.std.specs.Map.{lookup}
@@ -27,13 +27,13 @@ lost_values old new = gone_count (entry_weight new) old
 abbrev pub field_nodes : List (Value × ℤ) → List (Value × ℤ) → ℕ
 field_nodes old new = 34 * new_values old new + 17 + 34 * lost_values old new
 
--- and the other records, by width, of a document that gets so many items: for each such value its list's where it is short, and its own
--- where no document had it; and one of the items
+-- bounds on the other records, by width, for a document that gets this many items: for each such value its list if
+-- that is short, and its own record if no document had it; and one record for the items
 abbrev pub field_records : Kind → Column → ℕ → ℕ → List (Value × ℤ) → List (Value × ℤ) → ℕ → ℕ
 field_records kind column doc count old new width = added_records (λ value. documents_with value column) doc (entry_weight old) new width
     + items_record kind count width + gone_records (λ value. documents_with value column) doc (entry_weight new) old width
 
--- by the items that it had and gets
+-- the same, by the items before and after
 abbrev pub change_records : Kind → Column → ℕ → List Item → List Item → ℕ → ℕ
 change_records kind column doc before after =
     field_records kind column doc (length after) (first_weights [] before) (first_weights [] after)

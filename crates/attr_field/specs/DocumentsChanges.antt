@@ -47,7 +47,7 @@ pub record MakesDocuments {H : Type 0} (kind : Kind) (type : ValueType) (old new
   pub owns : Owns new n (documents_part kind next ∷ [])
   pub turns : Turns old new m n (documents_part kind root ∷ []) (documents_part kind next ∷ [])
 
--- so many nodes, and the record of so many items
+-- this many nodes, and the record of this many items
 abbrev pub documents_most : Kind → ℕ → ℕ → ℕ → ℕ
 documents_most kind count nodes = by_width nodes (items_record kind count)
 

@@ -46,7 +46,7 @@ pub record MakesItems {H : Type 0} (kind : Kind) (old new : Ledger H) (m n : Rec
   pub weighted_are : weighted kind ref (n ref) ≡ list
   pub turns : Turns old new m n [] (entries (items_own kind ref) ∷ [])
 
--- the record of a document with so many items, of its width: an array or a weighted set that has some has one
+-- the record of a document with this many items, by width: an array or a weighted set with items has one
 abbrev pub items_record : Kind → ℕ → ℕ → ℕ
 items_record kind zero width = 0
 items_record kind (suc more) width = if has_list kind then (if nat_eq width (class_of (1 + suc more)) then 1 else 0) else 0

@@ -59,14 +59,15 @@ module _ {S H : Type 0} (ledger : S → Ledger H) where
     pub operations : new.operations ≡ old.operations + length ops
     pub skips : skipped ≡ skipped_ops old.fields old.table ops
 
-  -- no buffer is free: so many are in use, and the others are held for readers
+  -- no buffer is free: this many are in use, and the others are held for readers
   pub record IsFullStore (a : AttributeView S) (active held : ℕ) : Type 0 where
     pub free : free_count (ledger a.store).work.buffer (ledger a.store).work.sizes.buffers ≡ 0
     pub active_is : active ≡ active_count (ledger a.store).work.buffer (ledger a.store).work.sizes.buffers
     pub held_is : held ≡ held_count (ledger a.store).work.buffer (ledger a.store).work.sizes.buffers
     pub all : active + held ≡ (ledger a.store).work.sizes.buffers
 
-  -- there was no room for one of the operations, after those before it; or for their commit, and then the last is named
+  -- there was no space for one of the operations, after those before it; or for their commit, and then the last is
+  -- named
   pub record FindsNoRoom (old new : AttributeView S) (ops : List Op) (before active held : ℕ) : Type 0 where
     pub keeps : KeepsCommit old new
     pub some : 1 ≤ before
@@ -75,13 +76,13 @@ module _ {S H : Type 0} (ledger : S → Ledger H) where
     pub at : (new.table ≡ after_ops old.fields old.table (take (before - 1) ops))
         ⊎ ((before ≡ length ops) × (new.table ≡ after_ops old.fields old.table ops))
 
-  -- there was no room for a commit, and the table stays
+  -- there was no space for a commit, and the table is unchanged
   pub record RefusesCommit (old new : AttributeView S) (active held : ℕ) : Type 0 where
     pub keeps : KeepsCommit old new
     pub table : new.table ≡ old.table
     pub full : IsFullStore new active held
 
-  -- memory is short, or the last commit that there can be is made
+  -- memory was exhausted, or the last possible commit is made
   abbrev pub HasNoCommit : AttributeView S → LoadError → Type 0
   HasNoCommit old CommitsSpent = (ledger old.store).work.commits.last ≡ (ledger old.store).work.sizes.commits
   HasNoCommit old Memory = Unit {0}

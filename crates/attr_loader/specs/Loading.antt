@@ -67,8 +67,8 @@ module _ {S H : Type 0} (ledger : S → Ledger H) where
     pub readers : (ledger new.store).work.made ≡ (ledger old.store).work.made
     pub fields : new.fields ≡ old.fields
 
-  -- the operation that found no room: no buffer is free, and so many are in use and held. It was refused after those before it, or
-  -- it is the last of its batch, and their commit was refused
+  -- the operation that ran out of space: no buffer is free, and this many are in use and held. It was refused after
+  -- those before it; or it is the last of its batch, and their commit was refused
   pub record IsFullAt (batch : ℕ) (ops : List Op) (old new : AttributeView S) (loaded : ℕ) (full : NoRoom) : Type 0 where
     pub free : free_count (ledger new.store).work.buffer (ledger new.store).work.sizes.buffers ≡ 0
     pub active_is : full.active ≡ active_count (ledger new.store).work.buffer (ledger new.store).work.sizes.buffers
@@ -89,7 +89,7 @@ module _ {S H : Type 0} (ledger : S → Ledger H) where
     pub ends : EndsAt batch (length ops) (ledger new.store).work.sizes.buffers loaded.operations loaded.full
     pub full : IfSome loaded.full (IsFullAt batch ops old new loaded.operations)
 
-  -- a loading was given up: memory is short; or the last commit that there can be is one of fewer than the operations
+  -- why a loading failed: memory was exhausted; or the last possible commit has fewer than all operations
   abbrev pub IsSpent : List Op → AttributeView S → LoadError → Type 0
   IsSpent ops old CommitsSpent =
       (ledger old.store).work.sizes.commits < (ledger old.store).work.commits.last + length ops

@@ -1,4 +1,4 @@
--- A reader between two rounds, whether it keeps a guard or not.
+-- A reader between two rounds, with or without a guard.
 use Rattle.std.specs.Prelude.{ℕ}
 use Rattle.atomic_table.specs.Seated.{TableId}
 use Rattle.gen_core.specs.declared.views.ReaderView.{ReaderView}

@@ -12,7 +12,7 @@ use Rattle.attr_rounds.specs.declared.rounds.Round.{Round}
 abbrev pub seen_last : ℕ → List (ℕ × Image) → List (ℕ × Image)
 seen_last count saw = reverse (take count saw)
 
--- a reader has seen what it had seen, and nothing else, whatever it stands on
+-- a reader has seen the same commits as before, and nothing else, whatever hold it stands on
 pub record SeesSame (r r' : ReaderView) : Type 0 where
   pub same_sizes : r'.sizes ≡ r.sizes
   pub seen : r'.seen ≡ r.seen

@@ -1,11 +1,11 @@
-//! Steps that are counted for the proof alone. The ledger of a count is chosen where a function is called whose signature has no const
-//! parameter, so what takes the steps stands behind a trait.
+//! Steps that are counted only for the proof. The ledger of a count is chosen by a function whose signature has no
+//! const parameter, so the steps are made through a trait.
 ghost use Rattle.std.specs.Prelude.{◌≡◌, ◌<◌};
 
 use std::sync::ledger::{Blank, Ledger};
 use word_arena::Steps;
 
-/// What comes to something by steps that are counted.
+/// A result that takes counted steps.
 pub(crate) trait Climb {
     type Output;
 
@@ -15,7 +15,7 @@ pub(crate) trait Climb {
         ensures { climbs_to self result };
 }
 
-/// What it comes to, by a count that begins at 0.
+/// Returns the result, with a count that begins at 0.
 pub(crate) fn climbed<T: Climb, C: Ledger>(it: T, blank: Blank) -> T::Output
     requires name { blank.name ≡ C.name }
     requires parts { blank.parts ≡ C.parts }

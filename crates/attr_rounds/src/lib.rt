@@ -1,9 +1,9 @@
-//! A reader's rounds over the running memory: in each it has a guard of the last commit, at which what is asked is answered. It keeps
-//! its hold from round to round, and gives it back after each 64.
+//! The rounds of a reader over the running memory. In each round the reader has a guard of the last commit, at which
+//! it answers the asks. It keeps its hold between rounds, and releases it after every 64 rounds.
 //!
-//! What is asked in a run, answered at an image as the lines that are written.
+//! The asks of a run are answered at an image as lines of the report.
 //!
-//! The documents of an attribute of an image, each with its items.
+//! The documents of an attribute of an image are read with their items.
 #![tactic(auto)]
 
 mod asked;

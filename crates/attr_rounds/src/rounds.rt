@@ -28,13 +28,13 @@ pub struct Reading<'a, const OFFSET_BITS: u32, L: Layout, A> {
     pub rounds: Vec<Round<A>>,
 }
 
-/// A reader keeps its hold over so many rounds, and then takes a new one. While it keeps it, no buffer that was put on hold
-/// since is free again: a reader that never let go would end the writer's room. A new guard costs an addition to a word that
-/// all readers share, and one more when it is given back; a load of the root under the hold costs none. So over 64 rounds
-/// they cost a thirtieth of an addition each.
+/// The number of rounds for which a reader keeps its hold, before it takes a new one. While it keeps the hold, no
+/// buffer that was put on hold since becomes free, so a reader that never released it would stop the writer. A new
+/// guard costs an addition to a word that all readers share, and another at its release; loading the root under the
+/// hold costs none. Over 64 rounds that is a thirtieth of an addition for each round.
 pub const ROUNDS_ON_A_HOLD: u32 = 64;
 
-/// Where a reader stands between two rounds: on nothing, or still under the guard of the last one.
+/// The state of a reader between two rounds: without a guard, or still under the guard of the last round.
 #[derive(Drop)]
 enum Post<'a, const OFFSET_BITS: u32, L: Layout> {
     Idle(Reader<'a, OFFSET_BITS, L>),
@@ -53,7 +53,7 @@ impl<'a, const OFFSET_BITS: u32, L: Layout> Climb for Reader<'a, OFFSET_BITS, L>
     }
 }
 
-/// The guard of the next round: a new one, or the last commit now under the hold of the round before.
+/// Returns the guard of the next round: a new one, or one of the last commit under the hold of the round before.
 fn next_guard<'a, const OFFSET_BITS: u32, L: Layout>(
     post: Post<'a, OFFSET_BITS, L>,
 ) -> Guarded<'a, OFFSET_BITS, L>
@@ -66,7 +66,7 @@ fn next_guard<'a, const OFFSET_BITS: u32, L: Layout>(
     }
 }
 
-/// Gives the guard back, or keeps it.
+/// Releases the guard, or keeps it.
 fn post_after<'a, const OFFSET_BITS: u32, L: Layout>(
     guard: Guarded<'a, OFFSET_BITS, L>,
     ends: bool,
@@ -81,7 +81,7 @@ fn post_after<'a, const OFFSET_BITS: u32, L: Layout>(
     }
 }
 
-/// The reader, under no guard.
+/// Returns the reader without a guard.
 fn let_go<'a, const OFFSET_BITS: u32, L: Layout>(
     post: Post<'a, OFFSET_BITS, L>,
 ) -> Reader<'a, OFFSET_BITS, L>
@@ -94,12 +94,13 @@ fn let_go<'a, const OFFSET_BITS: u32, L: Layout>(
     }
 }
 
-/// Whether a reader gives its hold back after the round of this number.
+/// Returns whether a reader releases its hold after the round with this number.
 fn ends_hold(round: u32, last: u32) -> bool {
     round % ROUNDS_ON_A_HOLD == 0 || round == last
 }
 
-/// One round more, of at most so many. The gate is passed before and after it. Where memory is out no hold is kept.
+/// Makes one more round, of at most `last`. Passes the gate before and after it. If memory is exhausted, no hold is
+/// kept.
 fn one_round<'a, const OFFSET_BITS: u32, L: Layout, Q: Question<OFFSET_BITS, L>, G: Gate>(
     alloc: Global,
     post: Post<'a, OFFSET_BITS, L>,
@@ -149,8 +150,8 @@ fn one_round<'a, const OFFSET_BITS: u32, L: Layout, Q: Question<OFFSET_BITS, L>,
     }
 }
 
-/// So many rounds of the reader of a number, both counted from 1. The gate is passed before and after each. Between two
-/// rounds the reader keeps its hold, and gives it back after each 64.
+/// Makes a number of rounds with a reader; readers and rounds are counted from 1. Passes the gate before and after
+/// each round. The reader keeps its hold between rounds, and releases it after every 64 rounds.
 pub fn go_round<'a, const OFFSET_BITS: u32, L: Layout, Q: Question<OFFSET_BITS, L>, G: Gate>(
     alloc: Global,
     reader: Reader<'a, OFFSET_BITS, L>,

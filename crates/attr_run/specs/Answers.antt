@@ -40,8 +40,8 @@ IsEnd Done = Unit {0}
 IsEnd (Full operation active held) = Unit {0}
 IsEnd _ = ⊥
 
--- the words and some bytes, which are the source's where it tells them, say what is to be run, and of that run and its
--- operations this holds
+-- the words and some bytes, which are those of the source if they are known, give a run and its operations with this
+-- property
 abbrev pub OfRun : List Text → Option (List ℕ) → (Run → List Op → Type 0) → Type 0
 OfRun words left P = OfBytes left (λ bytes. IsOkAnd (task_of words bytes) (λ task. P task.run task.ops))
 

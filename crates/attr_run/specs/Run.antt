@@ -116,7 +116,7 @@ abbrev pub fed_by : Option Make → List Field → List ℕ → Result (List Op)
 fed_by (Some make) fields bytes = Ok (made make.count make.seed fields)
 fed_by None fields bytes = ops_in fields bytes
 
--- the operations of a run: made, or by the bytes of its feed
+-- the operations of a run: made ones, or those of the bytes of its feed
 unfoldable pub fed : Run → List ℕ → Result (List Op) Status
 fed run bytes = fed_by run.make run.fields bytes
 
@@ -125,7 +125,7 @@ pub record Task : Type 0 where
   pub run : Run
   pub ops : List Op
 
--- what words and the bytes of a feed say to do, or the first refusal of either
+-- the task that words and the bytes of a feed give, or the first refusal of either
 unfoldable pub task_of : List Text → List ℕ → Result Task Status
 task_of line bytes = do
   run ← asked line

@@ -60,7 +60,8 @@ pub record IsFirstRefused (fields : List Field) (texts : List Text) (number : �
   pub utf8 : IsUtf8 text
   pub refused : Answers any_word fields text (Err error)
 
--- words with these settings are refused by a query exactly where the grammar refuses it first; only texts in UTF-8 say by which
+-- words with these settings are refused because of a query if and only if it is the first that the grammar refuses;
+-- for texts that are not UTF-8, the refused query is not stated
 pub record IsRefusedSo (line : List Text) (given : Given) (number : ℕ) (error : QueryError) : Type 0 where
   pub only : AllByRecursion IsUtf8 given.queries → asked line ≡ Err (Usage (usage.Query number error))
       → IsFirstRefused given.fields given.queries number error

@@ -115,7 +115,7 @@ abbrev pub ended_status : Option NoRoom → Status
 ended_status None = Done
 ended_status (Some room) = Full room.operation room.active room.held
 
--- no read failed, or that is the answer
+-- no read failed, or the status says so
 abbrev pub TellsFault : ℕ → ℕ → Status → Type 0
 TellsFault before now status = (now ≡ before) ⊎ (status ≡ ReadFault)
 

@@ -92,7 +92,7 @@ pub struct Outcome {
 }
 
 impl Outcome {
-    /// What is answered where there is no memory: nothing was done.
+    /// Returns the outcome if memory is exhausted: nothing was done.
     pub fn out_of_memory(alloc: Global) -> Outcome
         ensures status { result.status ≡ Memory }
         ensures no_run { HasNoRun (progress_of result) }
@@ -106,7 +106,7 @@ impl Outcome {
     }
 }
 
-/// The exit status of a program whose run this was.
+/// Returns the exit status of a program with this outcome.
 pub fn exit_of(outcome: &Outcome) -> ExitCode
     ensures { exit_status result ≡ exit_code outcome.now.status }
 {

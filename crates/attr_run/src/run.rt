@@ -239,15 +239,14 @@ fn whole_run<R: Threads + Sync, S: Source, K: Sink, G: Gate + Sync + 'static>(
     }
 }
 
-/// The whole run of `attr`: reads the words, then the feed, and writes the report, the summary or the
-/// saved table, or why there is none. It looks at the words, the kind's name, the value type's name, the
-/// size of the store, the further attributes, the queries in order, and then at the feed; the first
-/// refusal is the answer.
+/// The whole run of `attr`: reads the words, then the feed, and writes the report, the summary or the saved table, or
+/// why there is none. It checks the words, the name of the kind, the name of the value type, the size of the store,
+/// the further attributes, and the queries in order, and then the feed. The first refusal is the answer.
 ///
-/// What a clause says of a feed's bytes holds of some bytes, and of those that the source has left where it tells them; what
-/// it says of written bytes holds where the sink tells what it took.
-/// Out of memory may be the answer in place of any other. Each reader is a thread; the loading stays on the caller's
-/// own, and with `--readers 0` no thread is started. `--dense` changes no answer.
+/// Statements about the bytes of a feed hold for some bytes, and for those that the source has left if they are
+/// known. Statements about written bytes hold if the sink knows what it took. Exhausted memory may be the answer
+/// instead of any other. Each reader is a thread; the loading stays on the caller's thread, and with `--readers 0` no
+/// thread is started. `--dense` changes no answer.
 pub fn attr_main<R: Threads + Sync, S: Source, K: Sink, G: Gate + Sync + 'static>(
     rt: &R,
     alloc: Global,
@@ -288,7 +287,7 @@ pub fn attr_main<R: Threads + Sync, S: Source, K: Sink, G: Gate + Sync + 'static
     ensures help { ComesExactly (AskForHelp words.now) Status.Help result.status }
     ensures usage { (cause : UsageCause) → ComesExactly (IsRefusedFor words.now cause) (Status.Usage cause) result.status }
     ensures unread { ¬ ReadsFeed (asked words.now) → source.new ≡ source.old }
-    // The command finds one fault in the words at most, so that what is said of them is one thing.
+    // The command finds at most one fault in the words, so there is only one answer to them.
     ensures one_kind { length (fault_of attr_app words.now) ≤ 1 }
 
     // The feed, which is not read if operations are made. Each read is made only if at most `most_bytes` bytes were
@@ -297,7 +296,7 @@ pub fn attr_main<R: Threads + Sync, S: Source, K: Sink, G: Gate + Sync + 'static
         (S.left source.old) (S.left source.new) (S.reads source.old) (S.reads source.new) }
     ensures read_fault { result.status ≡ Status.ReadFault
         → ReadsFeed (asked words.now) × Rose (S.faults source.old) (S.faults source.new) }
-    // A read that failed is answered.
+    // A failed read is reported.
     ensures read_answered { (S.faults source.new ≡ S.faults source.old) ⊎ ((result.status ≡ Status.ReadFault)
         ⊎ ((result.status ≡ Status.WriteFault) ⊎ (result.status ≡ Status.Memory))) }
     ensures bad_feed { (fault : FeedFault) → result.status ≡ Status.BadFeed fault
@@ -317,7 +316,7 @@ pub fn attr_main<R: Threads + Sync, S: Source, K: Sink, G: Gate + Sync + 'static
     ensures no_run { IsBeforeRun result.status → HasNoRun (progress_of result) }
     ensures write_fault { result.status ≡ Status.WriteFault
         → Rose (K.faults sink.old) (K.faults sink.new) }
-    // A write that failed is answered.
+    // A failed write is reported.
     ensures write_answered { (K.faults sink.new ≡ K.faults sink.old) ⊎ (result.status ≡ Status.WriteFault) }
     ensures front { result.status ≡ Status.WriteFault → WritesFront words.now (S.left source.old)
         (S.faults source.old) (S.faults source.new) (progress_of result)
@@ -326,8 +325,8 @@ pub fn attr_main<R: Threads + Sync, S: Source, K: Sink, G: Gate + Sync + 'static
         Keeps (K.taken sink.old) (K.taken sink.new) × HasNoRun (progress_of result) }
     ensures proper { IsProper result.status }
 
-    // Where the words ask for a run and nothing fails, the run is done or finds no room, or its feed is refused (`bad_feed`
-    // says when), or it is out of memory.
+    // If the words request a run and nothing fails, the run is done or out of space, or its feed is refused
+    // (`bad_feed` says when), or memory is exhausted.
     ensures complete { IsOk (asked words.now)
         → ¬ Rose (S.faults source.old) (S.faults source.new)
         → ¬ Rose (K.faults sink.old) (K.faults sink.new)

@@ -1,4 +1,4 @@
--- The save of an image: of the first attribute of its table, after its operations.
+-- The save of an image: the first attribute of its table, after its operations.
 use Rattle.std.specs.Prelude.{◌≡◌, ℕ, Some, slice_get}
 use Rattle.entry_ref.specs.Records.{Records}
 use Rattle.attr_images.specs.Images.{operations_at, table_of, IsLawfulImage}
@@ -15,7 +15,7 @@ IsFirst kind type shape = slice_get (types_of_shape shape) 0 ≡ Some (kind, typ
 abbrev pub image_save : Kind → ValueType → ℕ → Records → ℕ → Saved
 image_save kind type shape m root = save_of kind type (operations_at m root) (table_of shape m root)
 
--- what is saved of a lawful image is a save that there may be
+-- the save of a lawful image is lawful
 abbrev pub ImagesMayBeSaved : Type 0
 ImagesMayBeSaved = (kind : Kind) (type : ValueType) (shape : ℕ) (m : Records) (root : ℕ)
     → IsFirst kind type shape → IsLawfulImage shape m root → IsLawfulSaved (image_save kind type shape m root)

@@ -1,4 +1,4 @@
--- What is saved, as it is read from the records of an image; and what a call writes.
+-- What is saved, as read from the records of an image; and what a call writes.
 use Rattle.std.specs.Prelude.{ℕ, ℤ, pos, ◌<◌, ◌≤◌, ◌^◌, List, length, map, Result, OnOk, OnErr}
 use Rattle.std.specs.declared.option.Option.{Option}
 use Rattle.std.specs.Io.KnownBytes.{Appends}
@@ -17,14 +17,15 @@ use Rattle.attr_types.specs.declared.kind.Kind.TheVariants.{Single, Array, Weigh
 use Rattle.attr_types.specs.declared.kind.ValueType.{ValueType}
 use Rattle.attr_saver.specs.declared.saved.SavedDocument.{SavedDocument}
 
--- a text was written, or a front of it and a write failed
+-- a text was written; or a front of it was written, and a write failed
 pub record Writes {T E : Type 0} (old new : Option (List ℕ)) (faults_old faults_new : ℕ) (result : Result T E) (text : List ℕ)
     : Type 0 where
   pub whole : OnOk result (Appends old new text)
   pub front : OnErr result (AppendsFront old new text)
   pub cause : CountsFaults faults_old faults_new result
 
--- the reference of a value and its weight, by a word of a document's record; a single value's reference is such a word
+-- the reference of a value and its weight, from a word of a document's record; the reference of a single value is
+-- such a word
 abbrev pub entry_in : Kind → ℕ → ℕ × ℤ
 entry_in Single word = (word, pos 1)
 entry_in Array word = (word, pos 1)
@@ -41,7 +42,7 @@ document_of kind type m p = record { doc = p.0; items = items_at kind type m p.1
 abbrev pub documents_of : Kind → ValueType → Records → List (ℕ × ℕ) → List SavedDocument
 documents_of kind type m ps = map (document_of kind type m) ps
 
--- a document's number and its reference, by records that have their form
+-- a document's number and its reference, with well-formed records
 pub record IsStoredPair (kind : Kind) (type : ValueType) (m : Records) (p : ℕ × ℕ) : Type 0 where
   pub number : p.0 ≤ last_doc
   pub reference : p.1 < 2 ^ 32

@@ -23,7 +23,7 @@ use attr_types::{Kind, ValueType};
 use entry_ref::EntryRef;
 use tree_read::total;
 
-/// Writes what a save is of.
+/// Writes the kind and value type of a save.
 fn write_form<K: Sink>(sink: &mut K, kind: Kind, value_type: ValueType) -> Result<(), Failed>
     ensures { Writes (K.taken sink.old) (K.taken sink.new) (K.faults sink.old) (K.faults sink.new) result (form_bytes kind value_type) }
 {
@@ -40,7 +40,7 @@ fn write_numbers<K: Sink>(sink: &mut K, one: u32, other: u32) -> Result<(), Fail
     put(sink, &other.to_be_bytes())
 }
 
-/// Writes the fields in front of the documents.
+/// Writes the fields before the documents.
 fn write_head<K: Sink>(
     sink: &mut K,
     kind: Kind,
@@ -55,7 +55,7 @@ fn write_head<K: Sink>(
     write_numbers(sink, operations, documents)
 }
 
-/// Writes a save of the documents of a tree, after so many operations.
+/// Writes a save of the documents of a tree, after `operations` operations.
 fn write_save<const OFFSET_BITS: u32, F: Frozen<OFFSET_BITS>, K: Sink>(
     frozen: &mut F,
     tree: EntryRef<OFFSET_BITS>,
@@ -76,7 +76,7 @@ fn write_save<const OFFSET_BITS: u32, F: Frozen<OFFSET_BITS>, K: Sink>(
     write_documents(frozen, kind, value_type, tree, sink)
 }
 
-/// A word of the root record, 0 where there is none.
+/// Returns a word of the root record, or 0 if there is none.
 fn root_word<const OFFSET_BITS: u32, F: Frozen<OFFSET_BITS>>(
     frozen: &mut F,
     root: EntryRef<OFFSET_BITS>,
@@ -113,7 +113,7 @@ fn write_image<const OFFSET_BITS: u32, F: Frozen<OFFSET_BITS>, K: Sink>(
     write_save(frozen, tree, kind, value_type, operations, sink)
 }
 
-/// Writes a save of the first attribute of an image, which is of this kind and value type. No memory is taken.
+/// Writes a save of the first attribute of an image, which has this kind and value type. Allocates no memory.
 pub fn save<const OFFSET_BITS: u32, F: Frozen<OFFSET_BITS>, K: Sink>(
     frozen: &mut F,
     root: EntryRef<OFFSET_BITS>,
@@ -127,7 +127,7 @@ pub fn save<const OFFSET_BITS: u32, F: Frozen<OFFSET_BITS>, K: Sink>(
         (saved_bytes (image_save kind value (F.shape frozen.old) (F.records frozen.old) root.entry))) }
     ensures front { OnErr result (AppendsFront (K.taken sink.old) (K.taken sink.new)
         (saved_bytes (image_save kind value (F.shape frozen.old) (F.records frozen.old) root.entry))) }
-    // The only refusal is that of a write that failed.
+    // The only refusal is a failed write.
     ensures cause { CountsFaults (K.faults sink.old) (K.faults sink.new) result }
     ensures same { frozen.new ≡ frozen.old }
 {
@@ -135,7 +135,7 @@ pub fn save<const OFFSET_BITS: u32, F: Frozen<OFFSET_BITS>, K: Sink>(
     Ok(())
 }
 
-/// How many bytes a save of the first attribute of an image has, which is of this kind and value type.
+/// Returns the number of bytes of a save of the first attribute of an image, which has this kind and value type.
 pub fn saved_size<const OFFSET_BITS: u32, F: Frozen<OFFSET_BITS>>(
     frozen: &mut F,
     root: EntryRef<OFFSET_BITS>,

@@ -15,7 +15,7 @@ pub fn column_law()
     ensures { FirstColumnIsLawful }
 {}
 
-/// What is saved of a lawful image is a save that there may be, so it is read again.
+/// The save of a lawful image is lawful, so it can be read again.
 pub fn image_save_law()
     ensures { ImagesMayBeSaved }
 {}

@@ -33,7 +33,7 @@ fn write_document<const OFFSET_BITS: u32, F: Frozen<OFFSET_BITS>, K: Sink>(
     write_items(frozen, kind, value_type, reference, sink)
 }
 
-/// Writes the document before which a cursor stands.
+/// Writes the document at a cursor.
 fn write_next<const OFFSET_BITS: u32, F: Frozen<OFFSET_BITS>, K: Sink>(
     frozen: &mut F,
     kind: Kind,
@@ -55,7 +55,7 @@ fn write_next<const OFFSET_BITS: u32, F: Frozen<OFFSET_BITS>, K: Sink>(
     write_document(frozen, kind, value_type, doc, reference, sink)
 }
 
-/// How many bytes the document has before which a cursor stands.
+/// Returns the number of bytes of the document at a cursor.
 fn next_size<const OFFSET_BITS: u32, F: Frozen<OFFSET_BITS>>(
     frozen: &mut F,
     kind: Kind,
@@ -97,7 +97,7 @@ pub(crate) fn write_documents<const OFFSET_BITS: u32, F: Frozen<OFFSET_BITS>, K:
     Ok(())
 }
 
-/// How many bytes the documents of a tree have.
+/// Returns the number of bytes of the documents of a tree.
 pub(crate) fn documents_size<const OFFSET_BITS: u32, F: Frozen<OFFSET_BITS>>(
     frozen: &mut F,
     kind: Kind,

@@ -18,10 +18,10 @@ use attr_types::{Kind, ValueType};
 use entry_ref::EntryRef;
 use unique_store::value_law;
 
-/// What a value's reference stands above in a word of a weighted set.
+/// The factor for a value's reference in a word of a weighted set.
 const WEIGHT_BASE: u64 = 4_294_967_296;
 
-/// Writes the value of a record, by its reference as a number.
+/// Writes the value of a record, given its reference as a number.
 fn write_key<const OFFSET_BITS: u32, F: Frozen<OFFSET_BITS>, K: Sink>(
     frozen: &mut F,
     value_type: ValueType,
@@ -37,7 +37,7 @@ fn write_key<const OFFSET_BITS: u32, F: Frozen<OFFSET_BITS>, K: Sink>(
     write_value(frozen, value_type, EntryRef::from_raw(key as u32), sink)
 }
 
-/// Writes a value and its weight, by a word of a weighted set.
+/// Writes a value and its weight, given a word of a weighted set.
 fn write_weighted<const OFFSET_BITS: u32, F: Frozen<OFFSET_BITS>, K: Sink>(
     frozen: &mut F,
     value_type: ValueType,
@@ -73,7 +73,7 @@ fn write_item<const OFFSET_BITS: u32, F: Frozen<OFFSET_BITS>, K: Sink>(
     }
 }
 
-/// How many bytes the item of a word has.
+/// Returns the number of bytes of the item of a word.
 fn item_size<const OFFSET_BITS: u32, F: Frozen<OFFSET_BITS>>(
     frozen: &mut F,
     kind: Kind,
@@ -122,7 +122,7 @@ fn write_list<const OFFSET_BITS: u32, F: Frozen<OFFSET_BITS>, K: Sink>(
     Ok(())
 }
 
-/// How many bytes the items of a record have.
+/// Returns the number of bytes of the items of a record.
 fn list_size<const OFFSET_BITS: u32, F: Frozen<OFFSET_BITS>>(
     frozen: &mut F,
     kind: Kind,
@@ -145,7 +145,7 @@ fn list_size<const OFFSET_BITS: u32, F: Frozen<OFFSET_BITS>>(
     size
 }
 
-/// Writes how many items a record has, and these.
+/// Writes the number of items of a record, and the items.
 fn write_counted<const OFFSET_BITS: u32, F: Frozen<OFFSET_BITS>, K: Sink>(
     frozen: &mut F,
     kind: Kind,
@@ -167,7 +167,7 @@ fn write_counted<const OFFSET_BITS: u32, F: Frozen<OFFSET_BITS>, K: Sink>(
     write_list(frozen, kind, value_type, list, sink)
 }
 
-/// Writes that there is one item, and this.
+/// Writes that there is one item, and the item.
 fn write_one<const OFFSET_BITS: u32, F: Frozen<OFFSET_BITS>, K: Sink>(
     frozen: &mut F,
     kind: Kind,
@@ -184,7 +184,7 @@ fn write_one<const OFFSET_BITS: u32, F: Frozen<OFFSET_BITS>, K: Sink>(
     write_item(frozen, kind, value_type, word, sink)
 }
 
-/// Writes how many items a document has, and these.
+/// Writes the number of items of a document, and the items.
 pub(crate) fn write_items<const OFFSET_BITS: u32, F: Frozen<OFFSET_BITS>, K: Sink>(
     frozen: &mut F,
     kind: Kind,
@@ -208,7 +208,7 @@ pub(crate) fn write_items<const OFFSET_BITS: u32, F: Frozen<OFFSET_BITS>, K: Sin
     }
 }
 
-/// How many bytes the items of a document have.
+/// Returns the number of bytes of the items of a document.
 pub(crate) fn items_size<const OFFSET_BITS: u32, F: Frozen<OFFSET_BITS>>(
     frozen: &mut F,
     kind: Kind,

@@ -39,7 +39,7 @@ fn write_words<const OFFSET_BITS: u32, F: Frozen<OFFSET_BITS>, K: Sink>(
     Ok(())
 }
 
-/// How many bytes a stored text has.
+/// Returns the number of bytes of a stored text.
 fn text_len<const OFFSET_BITS: u32, F: Frozen<OFFSET_BITS>>(
     frozen: &mut F,
     stored: EntryRef<OFFSET_BITS>,
@@ -102,7 +102,7 @@ pub(crate) fn write_value<const OFFSET_BITS: u32, F: Frozen<OFFSET_BITS>, K: Sin
     }
 }
 
-/// How many bytes a stored value has in a save.
+/// Returns the number of bytes of a stored value in a save.
 pub(crate) fn value_size<const OFFSET_BITS: u32, F: Frozen<OFFSET_BITS>>(
     frozen: &mut F,
     value_type: ValueType,

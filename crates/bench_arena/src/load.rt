@@ -1,4 +1,5 @@
-//! Guards by many readers, beside a writer or not, each given back at once or kept over 64 looks at the root; reads of a node under one guard.
+//! Guards by many readers, with or without a writer beside them, each released at once or kept over 64 loads of the
+//! root; and reads of a node under one guard.
 use arena_api::Work;
 use std::alloc::{AllocError, Global};
 use std::thread::{Threads, map_vec};
@@ -35,7 +36,7 @@ struct Job<'a> {
     keeps: bool,
 }
 
-/// What a reader has come to: itself, how often it looked, and the last commit that it saw.
+/// A reader, how often it looked, and the last commit that it saw.
 #[derive(Drop)]
 struct Looked<'a> {
     reader: Reader<'a, 22, OneNode>,
@@ -43,7 +44,7 @@ struct Looked<'a> {
     seen: u32,
 }
 
-/// A guard that loads the root again, 64 looks in all.
+/// Takes a guard and loads the root again under it, 64 looks in all.
 fn look_on<'a>(reader: Reader<'a, 22, OneNode>) -> Looked<'a> {
     match reader.try_guard() {
         Ok(guard) => {
@@ -69,7 +70,7 @@ fn look_on<'a>(reader: Reader<'a, 22, OneNode>) -> Looked<'a> {
     }
 }
 
-/// Looks under guards that are kept: about so many, or until this commit is seen.
+/// Looks under guards that are kept: about `loops` times, or until this commit is seen.
 fn looks(reader: Reader<'_, 22, OneNode>, loops: u64, last: u32) -> u64 {
     let mut reader = reader;
     let mut counted = 0u64;

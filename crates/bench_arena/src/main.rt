@@ -1,7 +1,6 @@
-//! `bench_arena guards READERS LOOPS COMMITS`: so many readers, each with so many guards; or, where there are commits,
-//! with guards until the last of them. `bench_arena again READERS LOOPS COMMITS`: the same, where each guard is kept over
-//! 64 looks at the root. `bench_arena read LOOPS`: so many reads of a node of 34 words under one guard.
-//! What was counted is printed.
+//! `bench_arena guards READERS LOOPS COMMITS`: readers take LOOPS guards each, or, if COMMITS is not 0, guards until
+//! the last commit. `bench_arena again READERS LOOPS COMMITS`: the same, with each guard kept over 64 loads of the
+//! root. `bench_arena read LOOPS`: reads of a node of 34 words under one guard. The counts are printed.
 #![tactic(auto)]
 
 mod load;

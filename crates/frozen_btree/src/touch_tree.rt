@@ -65,7 +65,7 @@ pub fn touch<const OFFSET_BITS: u32, S: Store<OFFSET_BITS>, K: KeyOrder<OFFSET_B
     ensures pairs { IfOk result (λ r. tree_pairs (S.records store.new) r ≡ tree_pairs (S.records store.old) root.entry) }
     ensures apart { IfOk result (λ r. NoneIn OFFSET_BITS buffer
         (path_nodes (S.records store.new) (seen_by K.read K.order (K.sought key.now) (S.records store.old)) r)) }
-    // Where none does already, the tree stays, and nothing was made.
+    // If no such node lies in the buffer, the tree is unchanged, and nothing was made.
     ensures still { NoneIn OFFSET_BITS buffer
         (path_nodes (S.records store.old) (seen_by K.read K.order (K.sought key.now) (S.records store.old)) root.entry)
         → (result ≡ Ok root.entry) × (store.new ≡ store.old) }

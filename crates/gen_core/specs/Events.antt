@@ -99,7 +99,7 @@ joined w r = record w { saw = r.saw ++ w.saw }
 abbrev pub with_state : ReaderView → ReaderState → ReaderView
 with_state r t = record r { state = t }
 
--- the generation that was aimed at first: this one, unless a miss is to be made good
+-- the generation at which the reader aimed first: this one, unless it missed one before
 abbrev pub first_aim : ReaderView → ℕ → ℕ
 first_aim r generation = if nat_eq r.misses.count 0 then generation else r.first
 
@@ -110,7 +110,7 @@ aims r e = record r { least = e.generation; first = first_aim r e.generation; st
 abbrev pub found_state : ℕ → ℕ → ReaderState
 found_state found h = if nat_eq (found % 2) 0 then Raised h else Bounced h
 
--- an odd one is a miss
+-- an odd count is a miss
 abbrev pub found_misses : ℕ → Misses → Misses
 found_misses found misses = if nat_eq (found % 2) 0 then misses else record { count = misses.count + 1; found = found }
 

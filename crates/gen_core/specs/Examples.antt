@@ -155,8 +155,8 @@ reopened_end = record {
       ∷ hold_reader 4 4 4 (misses_of 0 0) (Guarded 0 4) ((4, no_image) ∷ []) ∷ [];
 }
 
--- Reader 0 keeps its guard over a commit and loads the root again: it is under a guard of commit 1, still on hold 0,
--- which closes once it is released.
+-- Reader 0 keeps its guard over a commit and loads the root again. It then guards commit 1, still on hold 0, which
+-- closes after the release.
 abbrev pub kept_events : List Event
 kept_events = Split ∷ guards 0 ++ commit_beside 1 ++ LoadRoot 0 ∷ Release 0 ∷ Close ∷ []
 

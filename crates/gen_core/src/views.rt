@@ -87,15 +87,15 @@ pub enum ReaderState {
     Spent,
 }
 
-/// How many raises of a reader found a closed hold since its last release, and the count that the last one found.
+/// How many raises of a reader found a closed hold since its last release, and the last count found.
 #[derive(Clone, Copy)]
 pub struct Misses {
     pub count: u64,
     pub found: u64,
 }
 
-/// The last commit seen; the least generation to aim at; the generation that was aimed at first since
-/// the last release, and what was missed since; and each commit seen, the newest first.
+/// The last commit seen; the least generation to aim at; the generation at which the reader aimed first since its
+/// last release, and the misses since then; and each commit seen, the newest first.
 pub struct ReaderView {
     pub sizes: Sizes,
     pub seen: u64,
@@ -112,9 +112,10 @@ pub enum View {
     Reader(ReaderView),
 }
 
-/// The events, each one step on one word by one seat. A reader is named by its place among those made. The writer's loads, of
-/// the root after a join (`MeetLoad`) and of a buffer's word (`LoadOwn`), and a reader's of a word of its image (`LoadWord`)
-/// change nothing. The root is loaded by a reader that keeps a hold open: for a guard, or again under one.
+/// The events. Each is one step of one seat on one word. A reader is named by its place among the readers made. The
+/// writer's loads, of the root after a join (`MeetLoad`) and of a buffer's word (`LoadOwn`), and a reader's load of a
+/// word of its image (`LoadWord`) change nothing. The root is loaded by a reader that keeps a hold open, for a guard
+/// or again under one.
 #[derive(Clone, Copy)]
 pub enum Event {
     /// A buffer and its width.
@@ -136,7 +137,7 @@ pub enum Event {
     StopAtNewest,
     Morph,
     Split,
-    /// The reader that is taken in.
+    /// The reader that is joined.
     Join(u64),
     MeetLoad,
     LoadOwn(u64),

@@ -14,7 +14,7 @@ use Rattle.store_api.specs.declared.store.StoreError.TheVariants.{Full, Memory}
 use Rattle.frozen_btree.specs.Changes.{tree}
 use Rattle.frozen_btree.specs.Makes.{CountsNodes}
 
--- a tree in a store: its pairs, its root, how many commits were made of those that can be, and the buffers of the store
+-- a tree in a store: its pairs, its root, the numbers of commits made and possible, and the buffers of the store
 pub record MapView (S : Type 0) : Type 0 where
   pub store : S
   pub pairs : List (ℕ × ℕ)
@@ -39,7 +39,7 @@ pub record HoldsTree {H : Type 0} (ledger : Ledger H) (m : Records) (root : ℕ)
   pub unit : ledger.unit ≡ false
   pub finished : ledger.finished ≡ None
 
--- the map is what it was; its store may have given back what no reader can have
+-- the map is unchanged; its store may have reclaimed what no reader can reach
 pub record IsSameMap {S : Type 0} (old new : MapView S) : Type 0 where
   pub pairs : new.pairs ≡ old.pairs
   pub root : new.root ≡ old.root
@@ -47,7 +47,7 @@ pub record IsSameMap {S : Type 0} (old new : MapView S) : Type 0 where
   pub most : new.most ≡ old.most
   pub buffers : new.buffers ≡ old.buffers
 
--- the store was full for a node, when at most so many nodes had been made, and these were given back
+-- the store was full for a node, after at most this many nodes had been made, which were given back
 pub record IsFullForNode {H : Type 0} (old new : Ledger H) (n : Records) (most width active held : ℕ) (oldest : Oldest) : Type 0 where
   pub node : width ≡ NODE_WORDS
   pub mid : Ledger H
@@ -55,7 +55,7 @@ pub record IsFullForNode {H : Type 0} (old new : Ledger H) (n : Records) (most w
   pub full : IsFull old mid width active held oldest
   pub undoes : Undoes mid new n
 
--- why nothing was changed: the store was full for a node, or memory is short
+-- why nothing changed: the store was full for a node, or memory is exhausted
 abbrev pub IsRefusal : {H : Type 0} → Ledger H → Ledger H → Records → ℕ → StoreError → Type 0
 IsRefusal old new n most (Full width active held oldest) = IsFullForNode old new n most width active held oldest
 IsRefusal old new n most Memory = Unit {0}

@@ -101,8 +101,8 @@ impl<const OFFSET_BITS: u32, S: Store<OFFSET_BITS, Layout = TreeLayout>> NumberT
         self.root
     }
 
-    /// Puts a value at a key, in place of the one there. On an error the map is as before. The store is
-    /// `Full` where no buffer has room for a node of 34 words.
+    /// Puts a value at a key, in place of any value there. After an error the map is as before. The store is `Full`
+    /// if no buffer has space for a node of 34 words.
     pub fn put(&mut self, key: u64, value: u64) -> Result<(), StoreError>
         ensures pairs { OnOk result (self.new.pairs ≡ put (beside_number key) (key, value) self.old.pairs) }
         ensures commits { self.new.commits ≡ self.old.commits }
@@ -116,7 +116,7 @@ impl<const OFFSET_BITS: u32, S: Store<OFFSET_BITS, Layout = TreeLayout>> NumberT
         Ok(())
     }
 
-    /// Takes out a key. The answer is whether it was there. On an error the map is as before.
+    /// Removes a key, and returns whether it existed. After an error the map is as before.
     pub fn remove(&mut self, key: u64) -> Result<bool, StoreError>
         ensures taken { IfOk result (λ taken. taken ≡ is_some (lookup (beside_number key) self.old.pairs)) }
         ensures pairs { OnOk result (self.new.pairs ≡ take_out (beside_number key) self.old.pairs) }

@@ -17,7 +17,7 @@ use entry_ref::EntryRef;
 use enum_dictionary::find;
 use std::alloc::{AllocError, Global};
 
-/// The word of a value's list, where the dictionary has the value.
+/// Returns the word of a value's list, if the dictionary has the value.
 pub fn word_of<const OFFSET_BITS: u32, F: Frozen<OFFSET_BITS>>(
     frozen: &mut F,
     root: EntryRef<OFFSET_BITS>,
@@ -38,7 +38,7 @@ pub fn word_of<const OFFSET_BITS: u32, F: Frozen<OFFSET_BITS>>(
     }
 }
 
-/// The documents with those that have a value.
+/// Adds the documents that have a value to those gathered.
 pub fn with_value<const OFFSET_BITS: u32, F: Frozen<OFFSET_BITS>>(
     alloc: Global,
     frozen: &mut F,
@@ -58,7 +58,7 @@ pub fn with_value<const OFFSET_BITS: u32, F: Frozen<OFFSET_BITS>>(
     }
 }
 
-/// Those of some documents that have a value.
+/// Returns the documents of `docs` that have a value.
 pub fn kept_with<const OFFSET_BITS: u32, F: Frozen<OFFSET_BITS>>(
     alloc: Global,
     frozen: &mut F,

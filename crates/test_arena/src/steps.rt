@@ -35,7 +35,7 @@ pub enum Task {
     /// A guard, after as many tries as it takes.
     Guard,
     Read,
-    /// The last commit now, under the same hold.
+    /// Loads the last commit again, under the same hold.
     Again,
     Release,
     /// Drops a guard without a release.

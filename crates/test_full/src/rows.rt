@@ -1,7 +1,7 @@
-//! Rows of standard input: `row BUFFERS DOCUMENTS PUTS BATCH GUARD KEYS LEAST MOST`: after GUARD puts a guard is taken; so many are
-//! committed before its release, from LEAST to MOST, and all of them after it.
-//! `limits PUTS COMMITS GENERATIONS = LINE`: what the commits after each of so many puts come to.
-//! `lost BUFFERS PUTS = LINE`: what is refused after a guard was dropped without its release, and the table then. Other lines are remarks.
+//! Rows of standard input: `row BUFFERS DOCUMENTS PUTS BATCH GUARD KEYS LEAST MOST`: after GUARD puts a guard is
+//! taken; from LEAST to MOST puts are committed before its release, and all of them after it. `limits PUTS COMMITS
+//! GENERATIONS = LINE`: the results of the commits after each of the puts. `lost BUFFERS PUTS = LINE`: what is
+//! refused after a guard was dropped without a release, and the table then. Other lines are comments.
 use crate::attributes::NoRoom;
 use crate::run::{Load, Told, run, tell, tell_lost};
 use std::alloc::AllocError;

@@ -51,7 +51,7 @@ pub enum Asked {
     Guard(Load),
     /// This many puts to one document, with a commit after each.
     Limits(u32),
-    /// The same after a guard was dropped without its release, until one is refused.
+    /// The same after a guard was dropped without a release, until one is refused.
     Lost(u32),
 }
 
@@ -190,7 +190,7 @@ fn tell_all<const OFFSET_BITS: u32, S: Store<OFFSET_BITS, Layout = AttrLayout>>(
     Ok(())
 }
 
-/// What attributes without a document are asked, with two readers beside them.
+/// Runs a test on attributes without documents, with two readers beside them.
 fn answer_one<'a, const OFFSET_BITS: u32, S: Store<OFFSET_BITS, Layout = AttrLayout>>(
     alloc: Global,
     attribute: &mut Attribute<OFFSET_BITS, S>,
@@ -316,7 +316,7 @@ pub fn run(alloc: Global, load: Load) -> Result<Option<Told>, AllocError> {
     Ok(answer.told)
 }
 
-/// So many puts in so many buffers, 1 to 64, after a guard was dropped without its release.
+/// Makes puts in 1 to 64 buffers, after a guard was dropped without a release.
 pub fn tell_lost(alloc: Global, buffers: u32, puts: u32) -> Result<String, AllocError> {
     if buffers < 1 || buffers > 64 {
         return Err(AllocError);

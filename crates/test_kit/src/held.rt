@@ -49,7 +49,7 @@ impl<'a> Held<'a> {
         Look { commit, whole }
     }
 
-    /// The last commit now, under the same hold.
+    /// Loads the last commit again, under the same hold.
     pub fn again(self) -> Held<'a> {
         let Held { guard } = self;
         Held {

@@ -1,4 +1,4 @@
-//! Calls that are made once more where memory was refused.
+//! Calls that are repeated after memory was refused.
 ghost use Rattle.std.specs.Prelude.{◌≡◌, ◌<◌, ◌^◌, ◌≤◌, length};
 ghost use Rattle.attr_images.specs.Images.{IsLawfulImage};
 ghost use Rattle.attr_images.specs.Shapes.{shape_of, types_of};
@@ -19,7 +19,7 @@ use query_text::parse_ask;
 use std::alloc::{AllocError, Global};
 use store_api::Store;
 
-/// How often each call was refused for want of memory.
+/// How often each call was refused for lack of memory.
 #[derive(Clone, Copy)]
 pub struct Refused {
     pub feed: u32,
@@ -54,7 +54,7 @@ impl Refused {
     }
 }
 
-/// What a change or a commit came to.
+/// The result of a change or a commit.
 #[derive(Clone, Copy)]
 pub enum Answer {
     Applied(Applied),

@@ -1,4 +1,4 @@
-//! What the last commit answers.
+//! The answers of the last commit.
 ghost use Rattle.std.specs.Prelude.{◌≡◌, ◌≤◌, length};
 ghost use Rattle.attr_images.specs.Images.{IsLawfulImage};
 ghost use Rattle.attr_images.specs.Shapes.{shape_of, types_of};
@@ -58,7 +58,7 @@ fn tell_query<const OFFSET_BITS: u32, F: Frozen<OFFSET_BITS>>(
     }
 }
 
-/// What each query is answered.
+/// Writes the answer of each query.
 pub fn tell_queries<const OFFSET_BITS: u32, F: Frozen<OFFSET_BITS>>(
     alloc: Global,
     frozen: &mut F,

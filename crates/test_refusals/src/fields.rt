@@ -25,7 +25,7 @@ fn name_at(place: usize) -> &'static str {
     }
 }
 
-/// Attributes of these kinds and value types, named `f`, `g` and `h`.
+/// Returns attributes of these kinds and value types, named `f`, `g` and `h`.
 pub fn fields_in(alloc: Global, line: &str) -> Result<Fields, AllocError> {
     let mut fields = Fields::new(alloc);
     for word in line.split(',') {

@@ -1,6 +1,7 @@
-//! Operations, queries and saves as rows of standard input; a call that memory refuses is made once more. `on FIELDS` begins with no
-//! document, where FIELDS are `KIND:TYPE` with commas between them. Then come operations of a feed and `commit`, a line each, and `ask
-//! QUERY` for each query. What all that comes to is printed, and at the end how often each call was refused.
+//! Operations, queries and saves as rows of standard input. A call that fails for lack of memory is repeated. `on
+//! FIELDS` begins without documents, where FIELDS are `KIND:TYPE` separated by commas. Then come operations of a feed
+//! and `commit`, one in each line, and `ask QUERY` for each query. The results are printed, and at the end how often
+//! each call was refused.
 #![tactic(auto)]
 
 mod again;

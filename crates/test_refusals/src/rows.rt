@@ -7,7 +7,7 @@ use attr_types::MOST_FIELDS;
 use std::alloc::{AllocError, Global};
 use std::io;
 
-/// What a script comes to.
+/// Returns the result of a script.
 fn told(alloc: Global, script: &Script, refused: &mut Refused) -> Result<String, AllocError> {
     let fields = fields_in(alloc, &script.fields)?;
     if fields.is_empty() {

@@ -1,4 +1,4 @@
-//! A run of operations on attributes without a document, and what their last commit answers.
+//! A run of operations on attributes without documents, and the answers of their last commit.
 ghost use Rattle.std.specs.Prelude.{◌≡◌, ◌<◌, ◌≤◌, length, slice_get, Some, IfOk};
 ghost use Rattle.attr_images.specs.Images.{IsLawfulImage};
 ghost use Rattle.attr_images.specs.Shapes.{shape_of, types_of};
@@ -22,7 +22,7 @@ use store_api::Store;
 /// Attributes over a memory without readers.
 type Kinds = Attribute<22, EntryStore<22, MemWork<22, AttrLayout>>>;
 
-/// Applies the one operation that a line is.
+/// Applies the only operation of a line.
 fn apply_only<const OFFSET_BITS: u32, S: Store<OFFSET_BITS, Layout = AttrLayout>>(
     alloc: Global,
     attribute: &mut Attribute<OFFSET_BITS, S>,
@@ -40,7 +40,7 @@ fn apply_only<const OFFSET_BITS: u32, S: Store<OFFSET_BITS, Layout = AttrLayout>
     }
 }
 
-/// Commits, or applies the operation of a line.
+/// Makes a commit, or applies the operation of a line.
 fn take_line<const OFFSET_BITS: u32, S: Store<OFFSET_BITS, Layout = AttrLayout>>(
     alloc: Global,
     attribute: &mut Attribute<OFFSET_BITS, S>,
@@ -78,7 +78,7 @@ fn take_lines<const OFFSET_BITS: u32, S: Store<OFFSET_BITS, Layout = AttrLayout>
     Ok(())
 }
 
-/// Saves the first attribute of an image, and tells what was saved.
+/// Saves the first attribute of an image, and writes what was saved.
 fn tell_save<const OFFSET_BITS: u32, F: Frozen<OFFSET_BITS>>(
     alloc: Global,
     frozen: &mut F,
@@ -106,7 +106,7 @@ fn tell_save<const OFFSET_BITS: u32, F: Frozen<OFFSET_BITS>>(
     }
 }
 
-/// Attributes without a document.
+/// Returns attributes without documents.
 fn new_attribute(alloc: Global, fields: &Fields) -> Result<Kinds, AllocError>
     requires some { 0 < length fields.now }
     requires few { length fields.now ≤ MOST_FIELDS }
@@ -119,7 +119,7 @@ fn new_attribute(alloc: Global, fields: &Fields) -> Result<Kinds, AllocError>
     }
 }
 
-/// The memory of attributes with all that was committed, and the last commit.
+/// Returns the memory of attributes, with all that was committed, and the last commit.
 fn close(attribute: Kinds, fields: &Fields) -> (MemWork<22, AttrLayout>, Published<22>)
     requires same { attribute.fields ≡ fields.now }
     ensures shape { ⟦<MemWork<22, AttrLayout> as Frozen<22>>⟧.shape result.0 ≡ shape_of (types_of fields.now) }
@@ -131,7 +131,7 @@ fn close(attribute: Kinds, fields: &Fields) -> (MemWork<22, AttrLayout>, Publish
     (work, published)
 }
 
-/// What each line answers, what the last commit does, and what a save of it tells.
+/// Returns the results of the lines, the answers of the last commit, and the content of its save.
 pub fn told_of(
     alloc: Global,
     fields: &Fields,

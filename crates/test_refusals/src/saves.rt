@@ -12,7 +12,7 @@ use attr_types::{Kind, ValueType};
 use entry_ref::EntryRef;
 use std::alloc::{AllocError, Global};
 
-/// The bytes of a save. Nothing but room for them is asked of memory.
+/// Returns the bytes of a save. It needs memory only for them.
 pub fn saved<const OFFSET_BITS: u32, F: Frozen<OFFSET_BITS>>(
     alloc: Global,
     frozen: &mut F,
@@ -32,12 +32,12 @@ pub fn saved<const OFFSET_BITS: u32, F: Frozen<OFFSET_BITS>>(
     }
 }
 
-/// What came of a save over a sink whose call of this number fails.
+/// The result of a save over a sink whose call with this number fails.
 #[derive(Clone, Copy)]
 enum Failing {
     /// The call was not reached, and these were the bytes.
     Whole,
-    /// A front was written, and not all.
+    /// A front was written, but not all.
     Front,
     Odd,
 }
@@ -74,7 +74,7 @@ fn save_failing<const OFFSET_BITS: u32, F: Frozen<OFFSET_BITS>>(
     Ok(came(answer, &sink, bytes))
 }
 
-/// By how many writes the save is made, each of which may fail.
+/// Writes in how many writes the save is made, each of which may fail.
 pub fn tell_writes<const OFFSET_BITS: u32, F: Frozen<OFFSET_BITS>>(
     alloc: Global,
     frozen: &mut F,
@@ -98,7 +98,7 @@ pub fn tell_writes<const OFFSET_BITS: u32, F: Frozen<OFFSET_BITS>>(
     Ok(())
 }
 
-/// Each byte in two digits.
+/// Writes each byte in two digits.
 pub fn push_bytes(told: &mut String, bytes: &[u8]) -> Result<(), AllocError> {
     told.push_str("; ")?;
     for byte in bytes {
@@ -116,7 +116,7 @@ fn push_saved(told: &mut String, saved: &Saved) -> Result<(), AllocError> {
     Ok(())
 }
 
-/// What bytes tell as a save.
+/// Returns the save in bytes.
 pub fn tell_saved(
     alloc: Global,
     bytes: &[u8],

@@ -1,7 +1,7 @@
-//! What is to be run.
+//! The script that is run.
 use std::alloc::{AllocError, Global};
 
-/// The attributes, the operations with their commits, and the queries, each a line.
+/// The attributes, the operations with their commits, and the queries, one in each line.
 #[derive(Drop)]
 pub struct Script {
     pub fields: String,
@@ -18,7 +18,7 @@ impl Script {
         }
     }
 
-    /// A script over these attributes.
+    /// Returns a script over these attributes.
     pub fn of(alloc: Global, fields: &str) -> Result<Script, AllocError> {
         let mut script = Script::new(alloc);
         script.fields.push_str(fields)?;

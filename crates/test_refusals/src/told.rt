@@ -1,4 +1,4 @@
-//! What calls came to, as text.
+//! The results of calls, as text.
 use crate::again::Answer;
 use attr_types::{Applied, Doc, Item, Items, Score, Value};
 use std::alloc::AllocError;

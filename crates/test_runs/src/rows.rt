@@ -1,15 +1,16 @@
-//! Rows of standard input: `words LINE`, then `feed LINE` for each line of the feed or `each FIRST LAST LINE` for one line
-//! a number, which stands where the line has a `#`; and at last what the run must come to:
+//! Rows of standard input: `words LINE`, then `feed LINE` for each line of the feed, or `each FIRST LAST LINE` for
+//! one line for each number, which replaces `#` in the line; and at last the expected result of the run:
 //!
-//! - `said LINE`: what it must answer and write. With a short feed it is made again with wide references and bit vectors,
-//!   which change nothing but what size a store may have, also where it is refused, and, where it had no readers, with two
-//!   after the loading, whose rounds tell the last answers.
-//! - `saved LINE`: the same with the bytes written in hexadecimal, and no other run.
-//! - `room OPERATION ACTIVE HELD`: the operation that found no room, and how many buffers were in use and held.
-//! - `beside READERS ROUNDS LINE`: what it must answer and write but for the rounds of its readers, which ran beside the
-//!   loading. Each of these tells the lines of one of the commit points given before by `point LINE`, and they never fall.
+//! - `said LINE`: what it must answer and write. A run with a short feed is repeated with wide references and
+//! `--dense`, which change nothing but the sizes that a store may have, also if it is refused; if it had no readers,
+//! also with two readers after the loading, whose rounds have the last answers.
+//! - `saved LINE`: the same with the written bytes in hexadecimal, and no other run.
+//! - `room OPERATION ACTIVE HELD`: the operation that ran out of space, and how many buffers were in use and held.
+//! - `beside READERS ROUNDS LINE`: what it must answer and write, except the rounds of its readers, which ran beside
+//! the loading. Each round has the lines of one of the commit points given before by `point LINE`, and they never
+//! fall.
 //!
-//! Other lines are remarks.
+//! Other lines are comments.
 use crate::rounds;
 use crate::run::{room, saved, told, words_in};
 use std::alloc::{AllocError, Global};

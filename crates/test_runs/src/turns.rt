@@ -129,7 +129,7 @@ fn compare_turns<R: Threads + Sync>(
     tally.note(rt, "threads that waited in vain", in_vain, "none")
 }
 
-/// How many operations the rounds of a reader saw.
+/// Writes how many operations each round of a reader saw.
 fn push_counts(text: &mut String, counts: &[u32]) -> Result<(), AllocError> {
     for count in counts {
         write!(text, "{count} ")?;
@@ -146,7 +146,7 @@ fn rounds_in(alloc: Global, outcome: &Outcome) -> Result<String, AllocError> {
     Ok(text)
 }
 
-/// The rounds of a run.
+/// Returns the rounds of a run.
 fn rounds_of<R: Threads + Sync>(
     threads: &R,
     alloc: Global,
@@ -161,7 +161,7 @@ fn rounds_of<R: Threads + Sync>(
     rounds_in(alloc, &outcome)
 }
 
-/// The same order in a run that writes no rounds: its readers are made all the same.
+/// Tests the same order in a run that writes no rounds, whose readers run all the same.
 fn compare_rounds<R: Threads + Sync>(
     rt: &HostRuntime,
     threads: &R,
@@ -182,7 +182,7 @@ fn compare_rounds<R: Threads + Sync>(
     tally.note(rt, "threads that waited in vain", in_vain, "none")
 }
 
-/// Both orders, where operations are made and where the table is saved.
+/// Tests both orders, with made operations and with a saved table.
 fn compare_modes<R: Threads + Sync>(
     rt: &HostRuntime,
     threads: &R,

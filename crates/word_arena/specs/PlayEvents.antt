@@ -1,5 +1,5 @@
--- What each step on the running words is: the next event of the one run of the core, by the same seat, on the same word, by the
--- same operation.
+-- What each step on the running words is: the next event of the single run of the core, by the same seat, on the same
+-- word, with the same operation.
 use Rattle.std.specs.Prelude.{◌≡◌, ◌≢◌, ℕ, List, [], ◌∷◌, ◌++◌, slice_index, Some}
 use Rattle.atomic_table.specs.Table.{Me, Step}
 use Rattle.entry_ref.specs.Records.{Records}
@@ -36,8 +36,9 @@ told_found (subtract n) word = word
 told_found (exchange wanted new) word = word
 
 module _ (reaches : ℕ → Records → ℕ → List ℕ) (lawful : ℕ → Records → ℕ → Type 0) where
-  -- the one run began with what the seat had seen, and had of the seat's steps just those that it noted. It led to a state in which
-  -- the seat has the view before; there the event happens, on the word of the step, and leaves the seat the view after
+  -- the run begins with what the seat has seen, and has exactly the steps of the seat that it noted. It leads to a
+  -- state in which the seat has the view before. There the event happens, on the word of the step, and gives the seat
+  -- the view after
   pub record IsEvent (event : Event) (st : Step Slot) (me : Me Slot Watched) (found : ℕ) (me' : Me Slot Watched) : Type 0 where
     pub between : List Event
     pub own : noted_by (seat_of event) (me.0.seen ++ between) ≡ me.0.mine

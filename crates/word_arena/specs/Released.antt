@@ -1,4 +1,4 @@
--- No buffer is handed out again while a guard from before its hold lives: what is said of the one run.
+-- No buffer is handed out again while there is a guard from before its hold: a statement about the single run.
 use Rattle.std.specs.Prelude.{◌≡◌, ◌≢◌, ℕ, List, ◌∷◌, ◌++◌, slice_get, Some, All}
 use Rattle.entry_ref.specs.Records.{Records}
 use Rattle.gen_core.specs.declared.views.Sizes.{Sizes}
@@ -10,25 +10,26 @@ use Rattle.gen_core.specs.Good.{State}
 use Rattle.gen_core.specs.Events.{Happen, opening}
 
 module _ (reaches : ℕ → Records → ℕ → List ℕ) (lawful : ℕ → Records → ℕ → Type 0) (sizes : Sizes) where
-  -- each reader that stood on a hold in this state gave it back in these events
+  -- each reader that stood on a hold in this state released it in these events
   abbrev pub EachIsReleased : State → List Event → Type 0
   EachIsReleased s events =
       (j h : ℕ) (r : ReaderView) → slice_get s.readers j ≡ Some r → stands_on r.state ≡ Some h → All (λ e. e ≢ Release j) events → ⊥
 
-  -- wherever in these events the buffer was put on hold, each reader that stood on a hold then has given it back since
+  -- whenever the buffer was put on hold in these events, each reader that then stood on a hold has released it since
   abbrev pub IsReleased : List Event → ℕ → Type 0
   IsReleased events b =
       (early between : List Event) → events ≡ early ++ PutOnHold b ∷ between
       → (s : State) × Happen reaches lawful (opening sizes) early s × EachIsReleased s between
 
-  -- from one list of events to a longer one the buffer is handed out, when no reader from before its hold has one
+  -- between one list of events and a longer one the buffer is handed out, and no reader has a guard from before its
+  -- hold
   pub record HandsOut (old new : List Event) (b : ℕ) : Type 0 where
     pub between : List Event
     pub later : List Event
     pub seen : new ≡ (old ++ between) ++ HandOut b ∷ later
     pub released : IsReleased (old ++ between) b
 
-  -- the events are a run of the core, in which no buffer is handed out otherwise
+  -- the events are a run of the core in which every buffer is handed out in this way
   pub record IsWholeRun (events : List Event) : Type 0 where
     pub end : State
     pub run : Happen reaches lawful (opening sizes) events end

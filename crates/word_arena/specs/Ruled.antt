@@ -79,7 +79,8 @@ module _ (reaches : ℕ → Records → ℕ → List ℕ) (lawful : ℕ → Reco
       (root : ℕ) → st.first ≡ length (writer_in me.0).commits * 2 ^ 32 + root
       → Becomes me (published (writer_in me.0) (next_image reaches (writer_in me.0) root)) me'
 
-  -- the last commit, whose root word was found, is lawful, lies inside the table and was seen by a reader that stands on a hold
+  -- the last commit, whose root word was loaded, is lawful, lies inside the table and was seen by a reader that
+  -- stands on a hold
   pub record SeesCommit (r : ReaderView) (found : ℕ) (r' : ReaderView) : Type 0 where
     pub hold : ℕ
     pub stands : stands_on r.state ≡ Some hold
@@ -160,7 +161,7 @@ told_bounce st me found me' = ToldBounce me me'
 abbrev pub told_release : Step Slot → Me Slot View → ℕ → Me Slot View → Type 0
 told_release st me found me' = me' ≡ (Reader (released (reader_in me.0)), me.1)
 
--- a new seat begins with what the writer's has seen
+-- a new seat begins with what the writer's seat has seen
 abbrev pub cut_left : Watched → Watched
 cut_left x = record x { view = Writer (with_reader (writer_of x)) }
 
@@ -170,7 +171,7 @@ cut_right x = record { view = Reader (newcomer (writer_of x)); seen = x.seen; mi
 abbrev pub glued : Watched → Watched → Watched
 glued x y = record x { view = Writer (joined (writer_of x) (reader_of y)) }
 
--- the one seat that was joined away
+-- the final state of a joined seat
 abbrev pub gone : Watched
 gone = record { view = Reader spent; seen = []; mine = [] }
 
@@ -195,7 +196,7 @@ pub record IsPost (bits : ℕ) (arena : TableId) (sizes : Sizes) (z : TableId) (
   pub limits : IsWithinLimits bits (api_sizes sizes)
   pub product : sizes.buffers * sizes.words ≤ 67108864
 
--- each miss left a generation behind
+-- each miss means that a generation has passed
 abbrev pub Climbs : ReaderView → Type 0
 Climbs r = r.first + r.misses.count ≤ r.least
 
@@ -252,14 +253,14 @@ pub record IsAimOf (r : ReaderView) (r' : ReaderView) : Type 0 where
   pub first : r'.first ≡ first_aim r r'.least
   pub misses : r'.misses ≡ r.misses
 
--- so many raises missed, and each left a generation behind
+-- this many raises missed, and for each a generation has passed
 pub record Missed (r : ReaderView) (r' : ReaderView) (count : ℕ) : Type 0 where
   pub rises : r.least + count ≤ r'.least
   pub counted : r'.misses.count ≡ r.misses.count + count
   pub first : r'.first ≡ r.first
 
--- the same after an aim. Where no miss was to be made good before, that first aim was at a generation not below the least that was
--- asked for; else it is that of before
+-- the same after an aim. If there was no miss before, the first aim was at a generation not below the reader's least
+-- one; otherwise it is the earlier first aim
 pub record Tries (r : ReaderView) (r' : ReaderView) (count : ℕ) : Type 0 where
   pub rises : r.least + count ≤ r'.least
   pub counted : r'.misses.count ≡ r.misses.count + count

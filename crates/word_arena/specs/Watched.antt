@@ -1,4 +1,4 @@
--- One run of the core, and what each seat has seen of it.
+-- The single run of the core, and what each seat has seen of it.
 use Rattle.std.specs.Prelude.{if◌then◌else◌, ◌≡◌, ◌≢◌, ℕ, ◌≤◌, List, [], ◌∷◌, ◌++◌, map, length, nat_eq, Bool, false}
 use mathlib.Core.Option.{some}
 use lib.ListN.{get_elem?}
@@ -17,8 +17,8 @@ use Rattle.gen_core.specs.Events.{Happen, opening}
 use Rattle.word_arena.specs.declared.rule.Watched.{Watched}
 use Rattle.word_arena.specs.Ruled.{Slot, views_of}
 
--- a step that the seat k notes. A load of a buffer's word changes no view and is not noted; a split and a join are made of views
--- that do not know the other seat
+-- a step that seat k notes. A load of a buffer's word changes no view and is not noted; a split and a join involve
+-- views that do not know the other seat
 abbrev pub is_noted_by : ℕ → Event → Bool
 is_noted_by k Split = false
 is_noted_by k (Join j) = false
@@ -31,8 +31,8 @@ abbrev pub noted_by : ℕ → List Event → List Event
 noted_by k [] = []
 noted_by k (e ∷ events) = if is_noted_by k e then e ∷ noted_by k events else noted_by k events
 
--- the list begins with what the seat has seen, and has of the seat's steps those that it took, and no others. A seat that was
--- joined away has one view for all, so of it nothing is said
+-- the list begins with what the seat has seen, and has exactly the steps that the seat took. A joined seat has the
+-- same view for all, so nothing is said about it
 pub record Fits (events : List Event) (k : ℕ) (x : Watched) : Type 0 where
   pub later : List Event
   pub begins : events ≡ x.seen ++ later

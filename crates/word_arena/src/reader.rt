@@ -79,8 +79,8 @@ impl<'a, const OFFSET_BITS: u32, L: Layout> Reader<'a, OFFSET_BITS, L> {
         self.aim().try_raise()
     }
 
-    /// A guard of the last commit, after as many tries as it takes: each that fails leaves a generation behind. So there is at most one for
-    /// each generation from the one aimed at first to the one aimed at last.
+    /// Guards the last commit, with as many tries as it takes. Each failed try means that a generation has passed, so
+    /// there is at most one try for each generation between the first aim and the last.
     pub fn guard<C: Ledger>(self, tries: &mut Steps<C>) -> Guarded<'a, OFFSET_BITS, L>
         ensures later { IsLater L.reaches L.lawful (reader_of self.entry.place.me.0) (reader_of result.place.me.0) }
         ensures some { tries.old + 1 ≤ tries.new }
@@ -181,7 +181,7 @@ impl<'a, const OFFSET_BITS: u32, L: Layout> Guarded<'a, OFFSET_BITS, L> {
         Reader { arena, place }
     }
 
-    /// The last commit now, under the same hold: no count changes.
+    /// Loads the last commit again, under the same hold. No count changes.
     pub fn again(self) -> Guarded<'a, OFFSET_BITS, L>
         ensures later { IsLater L.reaches L.lawful (reader_of self.entry.place.me.0) (reader_of result.place.me.0) }
         ensures not_older { seen_number (reader_of self.entry.place.me.0) ≤ seen_number (reader_of result.place.me.0) }

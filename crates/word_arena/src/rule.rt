@@ -1,4 +1,4 @@
-//! The rule of the table: its words and the views of all seats are those of one run of the core.
+//! The rule of the table: its words and the views of all seats are those of the single run of the core.
 ghost use Rattle.std.specs.Prelude.{[]};
 ghost use Rattle.gen_core.specs.declared.views.View.TheVariants.{Writer};
 ghost use Rattle.gen_core.specs.Events.{opening_view};
@@ -11,7 +11,8 @@ use std::alloc::Global;
 use std::collections::LinkedList;
 use std::marker::PhantomData;
 
-/// What a seat knows: its view, all events of the run up to its last step, and its own steps among them. No value of it is made.
+/// What a seat knows: its view, all events of the run up to its last step, and its own steps among them. No value of
+/// this type is made.
 pub struct Watched {
     pub view: View,
     pub seen: LinkedList<Event>,

@@ -191,8 +191,8 @@ impl<'a, const OFFSET_BITS: u32, L: Layout> Work<OFFSET_BITS> for Writer<'a, OFF
         }
     }
 
-    /// The last tag of the buffer, if it has one, is below every open generation; and each reader that had a guard when the
-    /// buffer was put on hold has given it back since.
+    /// The last tag of the buffer, if it has one, is below every open generation; and each reader that had a guard
+    /// when the buffer was put on hold has released it since.
     fn hand_out(&mut self, width: u32) -> Option<u32>
         requires { 0 < width }
         ensures none { IsNone result ↔ (free_count (⟦<Writer<'a, OFFSET_BITS, L> as Work<OFFSET_BITS>>⟧.knows self.old).buffer

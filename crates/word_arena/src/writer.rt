@@ -87,8 +87,8 @@ impl<'a, const OFFSET_BITS: u32, L: Layout> Writer<'a, OFFSET_BITS, L> {
         })
     }
 
-    /// Ends a reader. What it saw is then known to be commits; and what the writer has seen is then the whole run so far, in
-    /// which no buffer was handed out while a reader had a guard from before its hold.
+    /// Joins a reader. All that it saw is then known to be commits; and what the writer has seen is then the whole
+    /// run so far, in which no buffer was handed out while a reader had a guard from before its hold.
     pub fn take_in(&mut self, reader: Reader<'a, OFFSET_BITS, L>)
         requires { reader.place.table_id ≡ self.old.place.table_id }
         ensures view { writer_of self.new.place.me.0 ≡ joined (writer_of self.old.place.me.0) (reader_of reader.entry.place.me.0) }
