@@ -50,7 +50,8 @@ fn fill<const OFFSET_BITS: u32, S: Store<OFFSET_BITS, Layout = AttrLayout>>(
 /// Asks for the documents with a number.
 fn push_ask(asks: &mut Asks, number: u32) -> Result<(), AllocError> {
     let leaf = Leaf::Is(Value::Long(i64::from(number)));
-    asks.push(Ask::Hits(Query::One { field: 0, leaf }))
+    asks.push(Ask::Hits(Query::One { field: 0, leaf }))?;
+    Ok(())
 }
 
 /// How many documents an image has, and its answers, each with a slash in place of the line's end.
