@@ -13,7 +13,7 @@ const PUT: &str = "{\"put\":\"id:n:t::1\",\"fields\":{\"f\":5}}\n";
 /// A store of one buffer has no room for a put.
 const FULL: &str = "--kind single --value long --readers 0 --buffers 1 --words 8192 5";
 
-/// The exit status of each answer, beside the number that it must be.
+/// Compares the exit status of each answer with the expected number.
 fn compare_answers(rt: &HostRuntime, tally: &mut Tally) -> io::Result<()> {
     let full = Status::Full {
         operation: 22,
