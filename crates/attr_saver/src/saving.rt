@@ -9,7 +9,7 @@ use attr_types::{Doc, FieldItems, Kind, ValueType};
 use std::alloc::{AllocError, Global};
 use std::collections::BTreeMap;
 
-/// The bytes of a save of the first attribute, of this kind and value type, after so many operations.
+/// Returns the bytes of a save of the first attribute, of this kind and value type, after `operations` operations.
 pub fn saved_in(
     alloc: Global,
     kind: Kind,
@@ -20,7 +20,7 @@ pub fn saved_in(
     requires { AreLawfulDocuments kind value (first_column documents.now.entries) }
     ensures bytes { IfOk result (λ bytes. bytes.items
         ≡ saved_bytes (save_of kind value operations documents.now.entries)) }
-    // What was saved is read again.
+    // What was saved can be read again.
     ensures again { IfOk result (λ bytes. read_of bytes.items
         ≡ Ok (save_of kind value operations documents.now.entries)) }
 {

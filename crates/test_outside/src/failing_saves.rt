@@ -1,4 +1,4 @@
-//! One document read and written over devices that fail: a save of 28 bytes.
+//! One document, read and written over devices that fail: a save of 28 bytes.
 use crate::saves::{read, saved_again, table_of};
 use attr_io::{Failed, FakeSink, FakeSource, write_all};
 use attr_plain::PlainTable;
@@ -11,7 +11,8 @@ const BYTES: [u8; 28] = [
     0x41, 0x54, 0x53, 0x31, 0, 0, 0, 0, 0, 1, 0, 0, 0, 1, 0, 0, 0, 1, 0, 1, 0, 0, 0, 0, 0, 0, 0, 5,
 ];
 
-/// What is read over a source that gives so many bytes a call and fails at one call, and how many faults it counts.
+/// Returns what is read over a source that gives at most `step` bytes in a call and fails in one call, and how many
+/// faults it counts.
 fn told_by_source(alloc: Global, step: usize, call: u64) -> Result<String, AllocError> {
     if step == 0 {
         return Ok(String::new(alloc));
@@ -26,7 +27,8 @@ fn told_by_source(alloc: Global, step: usize, call: u64) -> Result<String, Alloc
     }
 }
 
-/// What is written over a sink that takes so many bytes a call and fails at one call, and how many of its bytes it took.
+/// Returns what is written over a sink that takes a limited number of bytes in a call and fails in one call, and how
+/// many bytes it took.
 fn told_by_sink(
     alloc: Global,
     table: &PlainTable,
