@@ -1,17 +1,23 @@
 -- Bit vectors joined block by block.
-use Rattle.std.proofs.Common.{◌≡◌, ◌≢◌, ℕ, ◌+◌, ◌*◌, ◌/◌, ◌%◌, ◌<◌, ◌≤◌, Bool, true, false, ◌&&◌, ◌||◌, List, [], ◌∷◌, ℤ, length, drop, get_or, nat_eq, nat_lt, refl, sym, ap, ap₂, subst, ◌∙◌, arith}
+use Rattle.std.proofs.Common.{◌≡◌, ◌≢◌, ℕ, ◌+◌, ◌*◌, ◌/◌, ◌%◌, ◌<◌, ◌≤◌, Bool, true, false, ◌&&◌, ◌||◌, List, [], ◌∷◌, ℤ, length, map, drop, get_or, nat_eq, nat_lt, Option, Some, None, refl, sym, ap, ap₂, subst, ◌∙◌, arith}
 use Rattle.std.specs.List.{AllByRecursion}
 use Rattle.std.specs.Map.{keys_of}
+use Rattle.std.specs.Prelude.{IfSome}
 use Rattle.std.proofs.lemmas.Bool.{eqb-true, eqb-false, lt-ltb, le-ltb, ltb-true, ltb-false, false≢true}
 use Rattle.std.proofs.lemmas.List.{drop_all, drop_more, at_drop_more}
 use Rattle.entry_ref.specs.Records.{Records}
 use Rattle.attr_images.proofs.BlockLemmas.{block_has_bits}
 use Rattle.attr_images.specs.Postings.{block_documents}
+use Rattle.attr_images.specs.declared.TheConstants.{FIRST_VECTOR}
 use Rattle.attr_types.specs.Lawful.{IsDocNumber}
+use Rattle.attr_types.specs.Query.{and, or, tree_of, query_trees}
+use Rattle.attr_types.specs.declared.query.Query.{Query}
 use Rattle.attr_index.proofs.BitLemmas.{by_cases}
+use Rattle.attr_index.specs.Found.{found, found_all, found_some}
+use Rattle.attr_index.specs.Index.{Index}
 use Rattle.attr_index.specs.Postings.{HaveDocNumbers}
 use Rattle.attr_index.specs.Sets.{has, in_words}
-use Rattle.query_eval.specs.Lists.{list_has, all_have, some_has, IsVectorWord, AreVectorWords}
+use Rattle.query_eval.specs.Lists.{list_has, all_have, some_has, AreListWords, AreListsOf, AreVectorWords}
 use Rattle.query_eval.proofs.BlockLemmas.{all_has}
 
 and_left : (a b : Bool) → (a && b) ≡ true → a ≡ true
@@ -45,6 +51,12 @@ and_false false = refl
 -- what holds of the rest holds of the rest behind one
 pub all_after : (P : ℕ → Type 0) (lists : List ℕ) (n : ℕ) → n < length lists → AllByRecursion P (drop n lists) → AllByRecursion P (drop (n + 1) lists)
 all_after P lists n within all = (subst (AllByRecursion P) (drop_more lists n 0 within) all).1
+
+first_same : (a b : Bool) (xs ys : List Bool) → ◌≡◌ {A = List Bool} (a ∷ xs) (b ∷ ys) → a ≡ b
+first_same a b xs ys same = cc
+
+rest_same : (a b : Bool) (xs ys : List Bool) → ◌≡◌ {A = List Bool} (a ∷ xs) (b ∷ ys) → xs ≡ ys
+rest_same a b xs ys same = cc
 
 -- one list more
 module _ (m : Records) (doc : ℕ) (lists : List ℕ) (n : ℕ) where
@@ -149,3 +161,51 @@ pub blocks_all : (m : Records) (lists : List ℕ) (doc : ℕ) → AreVectorWords
 blocks_all m lists doc are = by_cases (some_has m lists doc)
     (λ here. let number = some_number m lists doc are here in ap (λ b. b && some_has m lists doc) (lt-ltb doc 1048576 (let high = number.1 in omega (arith, high))))
     (λ off. ap (λ b. nat_lt doc 1048576 && b) off ∙ and_false (nat_lt doc 1048576) ∙ sym off)
+
+-- lists that are bit vectors
+pub vectors_are : (m : Records) (lists : List ℕ) → AllByRecursion (λ list. FIRST_VECTOR ≤ list) lists → AreListWords m lists → AreVectorWords m lists
+vectors_are m [] high words = tt
+vectors_are m (list ∷ lists) high words = (record { vector = high.0; word = words.0 }, vectors_are m lists high.1 words.1)
+
+-- the lists of members
+pub members_all : (m : Records) (lists : List ℕ) (queries : List Query) (indexes : List Index) (doc : ℕ) → AreListsOf m lists queries indexes
+    → all_have m lists doc ≡ found_all (query_trees queries) indexes doc
+members_all m lists queries indexes doc are = by lists queries (are.documents doc)
+  where
+    by : (ls : List ℕ) (qs : List Query) → map (λ list. list_has m list doc) ls ≡ map (λ query. found (tree_of query) indexes doc) qs
+        → all_have m ls doc ≡ found_all (query_trees qs) indexes doc
+    by [] [] same = refl
+    by [] (q ∷ qs) same = absurd (grind (arith, same))
+    by (l ∷ ls) [] same = absurd (grind (arith, same))
+    by (l ∷ ls) (q ∷ qs) same = ap₂ (λ a b. a && b) (first_same _ _ _ _ same) (by ls qs (rest_same _ _ _ _ same))
+
+pub members_some : (m : Records) (lists : List ℕ) (queries : List Query) (indexes : List Index) (doc : ℕ) → AreListsOf m lists queries indexes
+    → some_has m lists doc ≡ found (or (query_trees queries)) indexes doc
+members_some m lists queries indexes doc are = by lists queries (are.documents doc)
+  where
+    by : (ls : List ℕ) (qs : List Query) → map (λ list. list_has m list doc) ls ≡ map (λ query. found (tree_of query) indexes doc) qs
+        → some_has m ls doc ≡ found_some (query_trees qs) indexes doc
+    by [] [] same = refl
+    by [] (q ∷ qs) same = absurd (grind (arith, same))
+    by (l ∷ ls) [] same = absurd (grind (arith, same))
+    by (l ∷ ls) (q ∷ qs) same = ap₂ (λ a b. a || b) (first_same _ _ _ _ same) (by ls qs (rest_same _ _ _ _ same))
+
+pub members_and : (m : Records) (lists : List ℕ) (queries : List Query) (indexes : List Index) (doc : ℕ) → AreListsOf m lists queries indexes
+    → 0 < length lists → all_have m lists doc ≡ found (and (query_trees queries)) indexes doc
+members_and m lists [] indexes doc are some = absurd (none lists (are.documents doc) some)
+  where
+    none : (ls : List ℕ) → map (λ list. list_has m list doc) ls ≡ [] → 0 < length ls → ⊥
+    none [] same some = absurd (omega (arith, some))
+    none (l ∷ ls) same some = absurd (grind (arith, same))
+members_and m lists (q ∷ qs) indexes doc are some = members_all m lists (q ∷ qs) indexes doc are
+
+-- the first of some lists, and the others
+pub all_split : (m : Records) (lists : List ℕ) (doc : ℕ) → 0 < length lists
+    → (list_has m (get_or lists 0 0) doc && all_have m (drop 1 lists) doc) ≡ all_have m lists doc
+all_split m [] doc some = absurd (omega (arith, some))
+all_split m (l ∷ ls) doc some = refl
+
+-- a document in a list that may be there
+pub some_weaker : (P Q : List ℕ → Type 0) → ((docs : List ℕ) → P docs → Q docs) → (o : Option (List ℕ)) → IfSome o P → IfSome o Q
+some_weaker P Q f None is = tt
+some_weaker P Q f (Some docs) is = f docs is

@@ -128,8 +128,8 @@ fn common_of_all<const OFFSET_BITS: u32, F: Frozen<OFFSET_BITS>>(
     lists: &[u64],
 ) -> Result<Option<DocList>, AllocError>
     requires { AreListWords (F.records frozen.old) lists.now }
-    ensures some { IfOk result (λ common. IfSome common (λ docs. 0 < length lists.now)) }
-    ensures docs { IfOk result (λ common. IfSome common (λ docs. (doc : ℕ) → has docs doc ≡ all_have (F.records frozen.old) lists.now doc)) }
+    ensures docs { IfOk result (λ common. IfSome common (λ docs. (0 < length lists.now)
+        × ((doc : ℕ) → has docs doc ≡ all_have (F.records frozen.old) lists.now doc))) }
     ensures same { frozen.new ≡ frozen.old }
 {
     if lists.is_empty() || !are_vectors(lists) {

@@ -1,4 +1,4 @@
-use Rattle.std.proofs.Common.{arith, refl, ◌<◌, ◌≡◌, ◌+◌, ◌*◌, ◌∙◌, ap, sym}
+use Rattle.std.proofs.Common.{arith, refl, ◌<◌, ◌+◌, ◌*◌, ◌∙◌}
 use Rattle.std.specs.Int.{trailing_zeros, w64}
 use Rattle.query_eval.proofs.BitLemmas.{there, less, others, one_document}
 use Rattle.query_eval.proofs.blocks.push_word.Goals as goal

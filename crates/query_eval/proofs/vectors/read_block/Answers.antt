@@ -1,4 +1,4 @@
-use Rattle.std.proofs.Common.{◌≡◌, ℕ, take, arith, ap, ◌∙◌}
+use Rattle.std.proofs.Common.{ℕ, take, arith, ap, ◌∙◌}
 use Rattle.std.proofs.lemmas.List.{take_all}
 use Rattle.query_eval.proofs.vectors.read_block.Goals as goal
 

@@ -1,7 +1,7 @@
-use Rattle.std.proofs.Common.{◌≡◌, ◌&&◌, ◌*◌, ℕ, List, nat_lt, arith, ap, subst, ◌∙◌}
+use Rattle.std.proofs.Common.{◌≡◌, ◌&&◌, ◌*◌, ℕ, List, nat_lt, arith, ap, ◌∙◌}
 use Rattle.attr_index.specs.Sets.{has}
 use Rattle.query_eval.specs.Lists.{some_has}
-use Rattle.query_eval.proofs.JoinLemmas.{blocks_more, blocks_all}
+use Rattle.query_eval.proofs.JoinLemmas.{blocks_all}
 use Rattle.query_eval.proofs.vectors.union_of_vectors.Goals as goal
 
 pub returns-clause-docs : goal.returns-clause-docs
