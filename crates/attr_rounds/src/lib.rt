@@ -1,9 +1,9 @@
-//! A reader's rounds over the running memory: in each it takes a guard, what is asked is answered at the guard's
-//! commit, and it gives the guard back.
+//! The rounds of a reader over the running memory. In each round the reader takes a guard, answers the asks at the
+//! guard's commit, and releases the guard.
 //!
-//! What is asked in a run, answered at an image as the lines that are written.
+//! The asks of a run are answered at an image as lines of the report.
 //!
-//! The documents of an attribute of an image, each with its items.
+//! The documents of an attribute of an image are read with their items.
 #![tactic(auto)]
 
 mod asked;

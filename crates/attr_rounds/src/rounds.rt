@@ -9,7 +9,7 @@ use entry_ref::Layout;
 use std::alloc::{AllocError, Global};
 use word_arena::{Again, Guarded, Reader};
 
-/// A round of a reader: the number of its commit, how many operations that has, and the answer.
+/// A round of a reader: the number of its commit, the number of operations of the commit, and the answer.
 #[derive(Debug, Drop)]
 pub struct Round<A> {
     pub commit: u32,
@@ -24,7 +24,7 @@ pub struct Reading<'a, const OFFSET_BITS: u32, L: Layout, A> {
     pub rounds: Vec<Round<A>>,
 }
 
-/// A guard after as many tries as it takes.
+/// Returns a guard, after as many tries as it takes.
 fn guarded<'a, const OFFSET_BITS: u32, L: Layout>(
     reader: Reader<'a, OFFSET_BITS, L>,
 ) -> Guarded<'a, OFFSET_BITS, L>
@@ -46,7 +46,7 @@ fn guarded<'a, const OFFSET_BITS: u32, L: Layout>(
     }
 }
 
-/// One round more. The gate is passed before and after it.
+/// Makes one more round. Passes the gate before and after it.
 fn one_round<'a, const OFFSET_BITS: u32, L: Layout, Q: Question<OFFSET_BITS, L>, G: Gate>(
     alloc: Global,
     reader: Reader<'a, OFFSET_BITS, L>,
@@ -88,7 +88,8 @@ fn one_round<'a, const OFFSET_BITS: u32, L: Layout, Q: Question<OFFSET_BITS, L>,
     Ok(reader)
 }
 
-/// So many rounds of the reader of a number, both counted from 1. The gate is passed before and after each.
+/// Makes a number of rounds with a reader; readers and rounds are counted from 1. Passes the gate before and after
+/// each round.
 pub fn go_round<'a, const OFFSET_BITS: u32, L: Layout, Q: Question<OFFSET_BITS, L>, G: Gate>(
     alloc: Global,
     reader: Reader<'a, OFFSET_BITS, L>,

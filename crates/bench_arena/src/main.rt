@@ -1,6 +1,5 @@
-//! `bench_arena guards READERS LOOPS COMMITS`: so many readers, each with so many guards; or, where there are commits,
-//! with guards until the last of them. `bench_arena read LOOPS`: so many reads of a node of 34 words under one guard.
-//! What was counted is printed.
+//! `bench_arena guards READERS LOOPS COMMITS`: readers take LOOPS guards each, or, if COMMITS is not 0, guards until
+//! the last commit. `bench_arena read LOOPS`: reads of a node of 34 words under one guard. The counts are printed.
 #![tactic(auto)]
 
 mod load;
@@ -8,7 +7,7 @@ mod load;
 use crate::load::{Load, count};
 use std::process::ExitCode;
 
-/// The load that the words after the program's name ask for.
+/// Returns the load that the words after the program's name select.
 fn load_in(rt: &HostRuntime) -> Option<Load> {
     let mut words = std::env::args(rt).ok()?.skip(1);
     let name = words.next()?;

@@ -1,4 +1,5 @@
--- What each step on the running words is: one event of the core, by the same seat, on the same word, by the same operation.
+-- What each step on the running words is: one event of the core, by the same seat, on the same word, with the same
+-- operation.
 use Rattle.std.specs.Prelude.{◌≡◌, ◌≢◌, ℕ, List, slice_index, Some}
 use Rattle.atomic_table.specs.Table.{Me, Step}
 use Rattle.entry_ref.specs.Records.{Records}
@@ -20,7 +21,7 @@ HasOperands (add n) st = st.first ≡ n
 HasOperands (subtract n) st = st.first ≡ n
 HasOperands (exchange wanted new) st = (st.first ≡ wanted) × (st.second ≡ new)
 
--- what a step on a word tells that it found: a store tells what it stored
+-- the word that a step reports: a store reports the word that it stored
 abbrev pub told_found : Operation → ℕ → ℕ
 told_found load word = word
 told_found (store n) word = n
@@ -29,7 +30,8 @@ told_found (subtract n) word = word
 told_found (exchange wanted new) word = word
 
 module _ (reaches : ℕ → Records → ℕ → List ℕ) (lawful : ℕ → Records → ℕ → Type 0) where
-  -- in a state of a run in which the seat has the view before, the event happens, on the word of the step, and leaves the seat the view after
+  -- the event happens in some state that a run reaches and in which the seat has the view before; it is on the word
+  -- of the step, and gives the seat the view after
   pub record IsEvent (event : Event) (st : Step Slot) (me : Me Slot View) (found : ℕ) (me' : Me Slot View) : Type 0 where
     pub before : State
     pub after : State
@@ -82,7 +84,7 @@ module _ (reaches : ℕ → Records → ℕ → List ℕ) (lawful : ℕ → Reco
   abbrev pub plays_morph : Step Slot → Me Slot View → ℕ → Me Slot View → Type 0
   plays_morph st me found me' = Told (told_morph st me found me') (IsEvent reaches lawful morph st me found me')
 
-  -- found unused, it is closed; else the writer stops at it
+  -- if the hold was found unused it is closed, otherwise the writer records a stop
   pub record IsClose (st : Step Slot) (me : Me Slot View) (found : ℕ) (me' : Me Slot View) : Type 0 where
     pub hit : found ≡ 0 → IsEvent reaches lawful close st me found me'
     pub miss : found ≢ 0 → IsEvent reaches lawful stop_at_oldest st me found me'
@@ -97,7 +99,7 @@ module _ (reaches : ℕ → Records → ℕ → List ℕ) (lawful : ℕ → Reco
   abbrev pub plays_probe : Step Slot → Me Slot View → ℕ → Me Slot View → Type 0
   plays_probe st me found me' = Told (told_probe st me found me') (IsProbe st me found me')
 
-  -- a reader is named by its place j among those made
+  -- a reader is named by its place j among the readers made
   abbrev pub plays_load_newest : Step Slot → Me Slot View → ℕ → Me Slot View → Type 0
   plays_load_newest st me found me' = Told (told_load_newest st me found me') ((j : ℕ)
       × IsEvent reaches lawful (load_newest j) st me found me')
@@ -119,21 +121,21 @@ module _ (reaches : ℕ → Records → ℕ → List ℕ) (lawful : ℕ → Reco
   abbrev pub plays_release : Step Slot → Me Slot View → ℕ → Me Slot View → Type 0
   plays_release st me found me' = Told (told_release st me found me') ((j : ℕ) × IsEvent reaches lawful (release j) st me found me')
 
-  -- a load of the newest hold took the seat from one view to the other
+  -- a load of the newest hold led from one view of the seat to the other
   pub record LoadsNewest (me me' : Me Slot View) : Type 0 where
     pub st : Step Slot
     pub found : ℕ
     pub j : ℕ
     pub event : IsEvent reaches lawful (load_newest j) st me found me'
 
-  -- a raise of the hold that the seat aims at found this count
+  -- a raise of the hold at which the seat aims found this count
   pub record RaiseFinds (me : Me Slot View) (found : ℕ) : Type 0 where
     pub st : Step Slot
     pub j : ℕ
     pub me' : Me Slot View
     pub event : IsEvent reaches lawful (raise j) st me found me'
 
-  -- and so it did after a load of the newest hold
+  -- a raise found this count, after a load of the newest hold
   pub record TryFinds (me : Me Slot View) (found : ℕ) : Type 0 where
     pub aimed : Me Slot View
     pub loads : LoadsNewest me aimed

@@ -1,4 +1,4 @@
-//! The rule of the table: the core's `Good`, over the words and the views of all seats.
+//! The rule of the table: the invariant `Good` of the core, over the words and the views of all seats.
 ghost use Rattle.gen_core.specs.declared.views.View.TheVariants.{Writer};
 ghost use Rattle.gen_core.specs.Events.{opening_view};
 ghost use Rattle.word_arena.specs.Ruled.{Ruled};
