@@ -1,4 +1,4 @@
--- The rounds of a run: each of one commit, with the lines of the plain table there.
+-- The rounds of a run: each is at one commit, with the lines of the plain table there.
 use Rattle.std.specs.Prelude.{◌≡◌, ℕ, ◌+◌, ◌≤◌, Bool, true, false, List, ◌∷◌, map, length, Option, is_some, IfSome, All}
 use Rattle.std.specs.List.{AllByRecursion}
 use Rattle.std.specs.List.Sorted.{IsNonDecreasing}
@@ -13,7 +13,7 @@ use Rattle.attr_report.specs.History.{IsLoaded}
 use Rattle.attr_engine.specs.declared.came.Came.{Came}
 use Rattle.attr_engine.specs.Run.{full_of}
 
--- a round is of a commit up to the last, and tells the table of the operations that this commit has
+-- a round is at a commit up to the last, with the answers of the table after the operations of that commit
 pub record IsRoundAt (run : Run) (ops : List Op) (last : ℕ) (round : Round Told) : Type 0 where
   pub commit : round.commit ≤ last
   pub point : round.operations ≡ commit_point run.batch (length ops) round.commit
@@ -22,18 +22,19 @@ pub record IsRoundAt (run : Run) (ops : List Op) (last : ℕ) (round : Round Tol
 abbrev pub commits_of : List (Round Told) → List ℕ
 commits_of rounds = map (λ round. round.commit) rounds
 
--- a reader's rounds, as many as were asked for: their commits never fall, and none is below the one that it had seen
+-- a reader's rounds, as many as requested: their commits never fall, and none is older than the one that it saw
+-- before
 pub record AreRoundsAt (run : Run) (ops : List Op) (seen last : ℕ) (rounds : List (Round Told)) : Type 0 where
   pub made : length rounds ≡ run.rounds
   pub each : All (IsRoundAt run ops last) rounds
   pub forward : IsNonDecreasing (seen ∷ commits_of rounds)
 
--- what readers have seen before their rounds: the last commit where they run after the loading
+-- what readers have seen before their rounds: the last commit if they run after the loading
 abbrev pub seen_before : Bool → ℕ → ℕ
 seen_before true last = last
 seen_before false last = 0
 
--- how far a run came, with all rounds and the last answers, and with the documents where the table is saved
+-- the progress of a run, with all rounds and the last answers, and with the documents if the table is saved
 pub record IsCame (run : Run) (ops : List Op) (came : Came) : Type 0 where
   pub last : ℕ
   pub is_loaded : IsLoaded run (length ops) came.loaded.operations (full_of came.loaded.full)
@@ -46,7 +47,7 @@ pub record IsCame (run : Run) (ops : List Op) (came : Came) : Type 0 where
   pub asked : is_some came.documents ≡ run.save
   pub column : IfSome came.documents (λ documents. TellsColumn (table_after run ops came.loaded.operations) documents.entries)
 
--- the counts of operations that the rounds saw, as the report's statement has them
+-- the counts of operations that the rounds saw, in the form of the report's statement
 abbrev pub progress_at : Came → Option ℕ → Progress
 progress_at came saved = record {
   loaded = came.loaded.operations;

@@ -1,4 +1,4 @@
--- What the steps of a run make of the writer, and what its readers' tasks come to.
+-- How the steps of a run change the writer, and the results of its readers' tasks.
 use Rattle.std.specs.Prelude.{◌≡◌, ℕ, ◌+◌, ◌<◌, ◌≤◌, ◌^◌, Bool, true, false, ◌∷◌, List, [], length, is_some, All}
 use Rattle.std.specs.BTreeMap.{BTreeMap}
 use Rattle.std.specs.List.Sorted.{IsNonDecreasing}
@@ -46,7 +46,7 @@ pub record IsNewWriter (fields : List Field) (home : TableId) (w : WriterView) :
   pub fresh : IsFresh (view_of home w)
   pub commits : w.commits ≡ no_image ∷ []
 
--- what a loading makes of a writer: its commits are those of the operations
+-- how a loading changes a writer: its commits are those of the operations
 pub record LoadsInto (fields : List Field) (batch : ℕ) (ops : List Op) (old new : WriterView) (loaded : Loaded) : Type 0 where
   pub shape_is : new.sizes.shape ≡ old.sizes.shape
   pub last : ℕ
@@ -56,24 +56,24 @@ pub record LoadsInto (fields : List Field) (batch : ℕ) (ops : List Op) (old ne
   pub skips : loaded.skipped ≡ skipped fields ops loaded.operations
   pub ends : EndsAt batch (length ops) old.sizes.buffers loaded.operations loaded.full
 
--- what is asked of an image, as a question of rounds
+-- the asks of an image, as a question of rounds
 abbrev pub operations_of : ℕ → Records → ℕ → ℕ
 operations_of shape m root = operations_at m root
 
 abbrev pub tells_of : Bool → List AskTree → ℕ → Records → ℕ → Told → Type 0
 tells_of counted asks shape m root told = TellsTable counted asks (table_of shape m root) told
 
--- what a save is answered: the documents of an image, each with its items in the first attribute
+-- the answer for a save: the documents of an image, each with its items in the first attribute
 abbrev pub saves_of : ℕ → Records → ℕ → BTreeMap ℕ (List (List Item)) → Type 0
 saves_of shape m root documents = TellsColumn (table_of shape m root) documents.entries
 
--- a reader that was made of the writer, before any round
+-- a reader made by the writer, before any round
 pub record IsReader (w : WriterView) (home : TableId) (r : ReaderView) (table : TableId) : Type 0 where
   pub same_sizes : r.sizes ≡ w.sizes
   pub seen_last : r.seen ≡ last_number w.commits
   pub at_home : table ≡ home
 
--- a reader after so many rounds, that was made of this writer
+-- a reader made by this writer, after this many rounds
 pub record HasRead (counted : Bool) (asks : List AskTree) (w : WriterView) (home : TableId) (count : ℕ) (r : ReaderView) (table : TableId)
     (rounds : List (Round Told)) : Type 0 where
   pub start : ReaderView
@@ -83,27 +83,28 @@ pub record HasRead (counted : Bool) (asks : List AskTree) (w : WriterView) (home
   pub made : length rounds ≡ count
   pub same : table ≡ seat
 
--- a reader after its rounds, which can be taken in
+-- a reader after its rounds, which can be joined
 pub record IsReading (counted : Bool) (asks : List AskTree) (shape : ℕ) (home : TableId) (r : ReaderView) (table : TableId)
     (rounds : List (Round Told)) : Type 0 where
   pub shape_is : r.sizes.shape ≡ shape
   pub are_seen : AreSeen operations_of (tells_of counted asks) IsLawfulImage r rounds
   pub at_home : table ≡ home
 
--- its rounds, taken in at the writer
+-- its rounds, after the reader is joined
 pub record IsTakenFrom (counted : Bool) (asks : List AskTree) (shape : ℕ) (commits : List Image)
     (before after : List (Round Told)) : Type 0 where
   pub same : after ≡ before
   pub each : All (IsOfCommit operations_of (tells_of counted asks) shape commits) after
 
--- the rounds of a reader: so many, each of a commit, the commits never falling, and none below what it had seen
+-- the rounds of a reader: `count` of them, each at a commit; commits never fall, and none is older than what the
+-- reader saw before
 pub record AreRoundsOf (counted : Bool) (asks : List AskTree) (shape seen count : ℕ) (commits : List Image)
     (rounds : List (Round Told)) : Type 0 where
   pub made : length rounds ≡ count
   pub each : All (IsOfCommit operations_of (tells_of counted asks) shape commits) rounds
   pub forward : IsNonDecreasing (seen ∷ commits_of rounds)
 
--- what is answered in one more round, of a reader that had seen the last commit
+-- the answer of one more round, by a reader that has seen the last commit
 pub record IsLastAnswer {A : Type 0} (operations : ℕ → Records → ℕ → ℕ) (answers : ℕ → Records → ℕ → A
     → Type 0) (w : WriterView) (answer : A) : Type 0 where
   pub round : Round A

@@ -17,8 +17,8 @@ use attr_types::Op;
 use std::alloc::{AllocError, Global};
 use std::thread::Threads;
 
-/// A run over a new memory, and what it writes: the report, the summary where its operations were made, or the table
-/// where it is saved.
+/// Makes a run over a new memory, and returns what it writes: the report, the summary if its operations were made, or
+/// the table if it is saved.
 pub fn engine_run<const OFFSET_BITS: u32, R: Threads + Sync, G: Gate + Sync + 'static>(
     rt: &R,
     alloc: Global,

@@ -1,4 +1,4 @@
--- What a loading makes of attributes and of what their store tells.
+-- How a loading changes attributes and the recorded images of their store.
 use Rattle.std.specs.Prelude.{◌≡◌, ℕ, suc, ◌+◌, ◌-◌, ◌*◌, ◌/◌, ◌^◌, ◌<◌, ◌≤◌, min, List, [], length, slice_get, Option, Some, None}
 use Rattle.std.specs.Prelude.{All}
 use Rattle.std.specs.List.{AllByRecursion}
@@ -15,7 +15,7 @@ use Rattle.attribute_kinds.specs.Views.{AttributeView}
 use Rattle.attr_loader.specs.declared.loaded.Loaded.{Loaded}
 use Rattle.attr_loader.specs.declared.loaded.NoRoom.{NoRoom}
 
--- how many operations commit k has, of so many in all
+-- the number of operations of commit k, out of this total
 abbrev pub commit_point : ℕ → ℕ → ℕ → ℕ
 commit_point batch total k = min (batch * k) total
 
@@ -25,12 +25,13 @@ pub record IsImageAfter (fields : List Field) (ops : List Op) (n : ℕ) (image :
   pub operations : operations_at (words_at image) image.root ≡ n
   pub table : table_of (shape_of (types_of fields)) (words_at image) image.root ≡ after fields ops n
 
--- the images of commits 0 to `last`, where images are told
+-- the images of commits 0 to `last`, if images are recorded
 pub record AreCommits (fields : List Field) (batch : ℕ) (ops : List Op) (last : ℕ) (told : List Image) : Type 0 where
   pub count : 0 < length told → length told ≡ suc last
   pub each : (k : ℕ) (image : Image) → slice_get told k ≡ Some image → IsImageAfter fields ops (commit_point batch (length ops) k) image
 
--- all operations are committed; or, where one found no room, those of the whole batches before it, and every buffer is in use or held
+-- all operations are committed; or, if one ran out of space, those of the whole batches before it, and every buffer
+-- is in use or held
 abbrev pub EndsAt : ℕ → ℕ → ℕ → ℕ → Option NoRoom → Type 0
 EndsAt batch total buffers n None = n ≡ total
 EndsAt batch total buffers n (Some full) = (1 ≤ full.operation) × (full.operation ≤ total)
@@ -40,7 +41,7 @@ module _ {S H : Type 0} (ledger : S → Ledger H) where
   abbrev pub told_of : AttributeView S → List Image
   told_of a = (ledger a.store).work.told
 
-  -- nothing was applied yet, and only the empty commit 0 is told
+  -- nothing was applied, and at most the empty commit 0 is recorded
   pub record IsAtStart (a : AttributeView S) : Type 0 where
     pub table : a.table ≡ []
     pub operations : a.operations ≡ 0
@@ -62,7 +63,7 @@ module _ {S H : Type 0} (ledger : S → Ledger H) where
     pub sizes : (ledger new.store).work.sizes ≡ (ledger old.store).work.sizes
     pub fields : new.fields ≡ old.fields
 
-  -- a loading: what is told are the images of its commits, and the last of them has all that was loaded
+  -- a loading: the recorded images are those of its commits, and the last has everything that was loaded
   pub record Loads (batch : ℕ) (ops : List Op) (old new : AttributeView S) (loaded : Loaded) : Type 0 where
     pub stays : StaysIn old new
     pub last : ℕ

@@ -13,7 +13,7 @@ use std::marker::Brand;
 use std::sync::ledger::{Blank, Ledger};
 use word_arena::{Guarded, Reader, Steps};
 
-/// A round of a reader: the number of its commit, how many operations that has, and the answer.
+/// A round of a reader: the number of its commit, the number of operations of the commit, and the answer.
 #[derive(Debug, Drop)]
 pub struct Round<A> {
     pub commit: u32,
@@ -41,7 +41,7 @@ enum Post<'a, const OFFSET_BITS: u32, L: Layout> {
     Under(Guarded<'a, OFFSET_BITS, L>),
 }
 
-/// A guard after as many tries as it takes.
+/// Returns a guard, after as many tries as it takes.
 impl<'a, const OFFSET_BITS: u32, L: Layout> Climb for Reader<'a, OFFSET_BITS, L> {
     type Output = Guarded<'a, OFFSET_BITS, L>;
 

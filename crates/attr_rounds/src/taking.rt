@@ -9,7 +9,7 @@ use crate::rounds::{Reading, Round};
 use entry_ref::Layout;
 use word_arena::Writer;
 
-/// Ends a reader after its rounds to this question. Each of them is then known to be of a commit of the writer.
+/// Joins a reader after its rounds with this question. Each round is then known to be at a commit of the writer.
 pub fn take_in<'a, const OFFSET_BITS: u32, L: Layout, Q: Question<OFFSET_BITS, L>>(
     writer: &mut Writer<'a, OFFSET_BITS, L>,
     reading: Reading<'a, OFFSET_BITS, L, Q::Answer>,

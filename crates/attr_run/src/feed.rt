@@ -45,7 +45,7 @@ fn made_in(alloc: Global, count: u32, seed: u32, fields: &Fields) -> Result<Ops,
     Ok(ops)
 }
 
-/// The operations of a run: made where it asks for that, else those that its source gives.
+/// Returns the operations of a run: made ones if it requests them, otherwise those of its source.
 pub fn ops_in<S: Source>(alloc: Global, source: &mut S, request: &Request) -> Result<Ops, Stop>
     ensures fed { IfOk result (λ ops. IfSome (fed (run_in request.now) (S.left source.old)) (λ said. said ≡ Ok ops)) }
     ensures few { IfOk result (λ ops. length ops < 2 ^ 32) }

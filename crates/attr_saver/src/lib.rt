@@ -1,4 +1,4 @@
-//! Saves the first attribute of a table as bytes, and reads such bytes again.
+//! Saves the first attribute of a table as bytes, and reads such bytes.
 #![tactic(auto)]
 
 mod document;

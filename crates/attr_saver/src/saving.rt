@@ -14,7 +14,7 @@ use attr_types::{Doc, FieldItems, Kind, ValueType};
 use std::alloc::{AllocError, Global};
 use std::collections::BTreeMap;
 
-/// The bytes of a save of the first attribute, of this kind and value type, after so many operations.
+/// Returns the bytes of a save of the first attribute, of this kind and value type, after `operations` operations.
 pub fn saved_in(
     alloc: Global,
     kind: Kind,
@@ -25,7 +25,7 @@ pub fn saved_in(
     requires { AreLawfulDocuments kind value (first_column documents.now.entries) }
     ensures bytes { IfOk result (λ bytes. bytes.items
         ≡ saved_bytes (save_of kind value operations documents.now.entries)) }
-    // What was saved is read again.
+    // What was saved can be read again.
     ensures again { IfOk result (λ bytes. read_of bytes.items
         ≡ Ok (save_of kind value operations documents.now.entries)) }
 {
@@ -35,8 +35,8 @@ pub fn saved_in(
     Ok(bytes)
 }
 
-/// Writes a save of the first attribute, of this kind and value type, after so many operations. Its bytes are made
-/// in memory first.
+/// Writes a save of the first attribute, of this kind and value type, after `operations` operations. Its bytes are
+/// first made in memory.
 pub fn save<K: Sink>(
     alloc: Global,
     kind: Kind,

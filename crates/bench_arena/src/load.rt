@@ -5,7 +5,7 @@ use std::thread::{Threads, map_vec};
 use test_kit::{Held, OneNode, commit, pass, tried, turn};
 use word_arena::{Again, Arena, Config, Limits, Reader, Writer};
 
-/// What is run.
+/// The load of a run.
 #[derive(Clone, Copy)]
 pub enum Load {
     Guards {
@@ -19,14 +19,14 @@ pub enum Load {
     },
 }
 
-/// The one seat of a thread.
+/// The seat of a thread.
 #[derive(Drop)]
 enum Post<'a> {
     Write(Writer<'a, 22, OneNode>),
     Read(Reader<'a, 22, OneNode>),
 }
 
-/// What one thread does.
+/// The task of one thread.
 #[derive(Drop)]
 struct Job<'a> {
     post: Post<'a>,
@@ -88,7 +88,7 @@ fn looks(reader: Reader<'_, 22, OneNode>, loops: u64, last: u32) -> u64 {
     counted
 }
 
-/// Guards, each released at once: so many, or until this commit is seen.
+/// Takes guards and releases each at once: a number of times, or until this commit is seen.
 fn guards(reader: Reader<'_, 22, OneNode>, loops: u64, last: u32) -> u64 {
     let mut reader = reader;
     let mut counted = 0u64;
@@ -114,7 +114,7 @@ fn guards(reader: Reader<'_, 22, OneNode>, loops: u64, last: u32) -> u64 {
     counted
 }
 
-/// Commits of nothing.
+/// Makes empty commits.
 fn commits<W: Work<22, Layout = OneNode>>(work: &mut W, most: u32) {
     for _ in 0..most {
         if commit(work).is_none() {
@@ -146,7 +146,7 @@ fn work_on(job: Job<'_>) -> u64 {
     }
 }
 
-/// The writer, and as many readers as there are to be.
+/// Returns the tasks of the writer and the readers.
 fn jobs_of<'a>(
     alloc: Global,
     writer: Writer<'a, 22, OneNode>,
@@ -192,7 +192,7 @@ fn work_all<'a, R: Threads + Sync>(rt: &R, jobs: Vec<Job<'a>>) -> Result<Vec<u64
     )
 }
 
-/// Reads the node so often, and counts the reads that found the last word as it was stored.
+/// Reads the node `loops` times, and returns how many reads found the last word as it was stored.
 fn reads(held: Held<'_>, loops: u64) -> u64 {
     let mut held = held;
     let mut words = [0; 34];
@@ -205,7 +205,7 @@ fn reads(held: Held<'_>, loops: u64) -> u64 {
     counted
 }
 
-/// Stores a node of the first commit. Whether a buffer was free.
+/// Stores a node of the first commit. Returns whether a buffer was free.
 fn store_node<W: Work<22, Layout = OneNode>>(work: &mut W) -> bool {
     if turn(work, None, 1).is_none() {
         return false;
@@ -228,7 +228,7 @@ fn read_node(writer: Writer<'_, 22, OneNode>, loops: u64) -> u64 {
     }
 }
 
-/// How many guards or reads were made.
+/// Returns how many guards or reads were made.
 pub fn count<R: Threads + Sync>(rt: &R, alloc: Global, load: Load) -> Result<u64, AllocError> {
     let config = Config {
         buffers: 8,

@@ -9,7 +9,7 @@ mod load;
 use crate::load::{Load, count};
 use std::process::ExitCode;
 
-/// The load that the words after the program's name ask for.
+/// Returns the load that the words after the program's name select.
 fn load_in(rt: &HostRuntime) -> Option<Load> {
     let mut words = std::env::args(rt).ok()?.skip(1);
     let name = words.next()?;

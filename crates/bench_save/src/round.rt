@@ -4,7 +4,7 @@ use attr_plain::PlainTable;
 use attr_saver::{SaveError, column_law, read_saved, save, saved_size};
 use std::alloc::{AllocError, Global};
 
-/// How many documents were read, of how many bytes.
+/// How many documents were read, from how many bytes.
 #[derive(Clone, Copy, Debug)]
 pub struct Counts {
     pub documents: usize,

@@ -5,7 +5,7 @@ ghost use Rattle.frozen_btree.specs.Changes.{DropsEntries};
 use entry_ref::EntryRef;
 use store_api::Store;
 
-/// Drops the entries of these references, which are owned.
+/// Drops the entries with these references, which must be owned.
 pub fn drop_nodes<const OFFSET_BITS: u32, S: Store<OFFSET_BITS>>(store: &mut S, nodes: &[u32])
     requires unit { (S.ledger store.old).unit ≡ true }
     requires owns { Owns (S.ledger store.old) (S.records store.old) (entries nodes.now ∷ []) }

@@ -14,7 +14,7 @@ use entry_ref::EntryRef;
 use store_api::{Store, StoreError};
 use tree_read::{KeyOrder, NODE_WORDS, place_of, read_node};
 
-/// Makes a leaf anew where it lies in the buffer.
+/// Copies a leaf if it lies in the buffer.
 fn touch_leaf<const OFFSET_BITS: u32, S: Store<OFFSET_BITS>>(
     store: &mut S,
     node: EntryRef<OFFSET_BITS>,
@@ -45,7 +45,7 @@ struct Step {
     child: u32,
 }
 
-/// The slot of a node above the leaves that a key's way goes through.
+/// Returns the slot, of a node above the leaves, through which the way to a key goes.
 fn step_at<const OFFSET_BITS: u32, S: Store<OFFSET_BITS>, K: KeyOrder<OFFSET_BITS>>(
     store: &mut S,
     node: EntryRef<OFFSET_BITS>,
@@ -68,8 +68,8 @@ fn step_at<const OFFSET_BITS: u32, S: Store<OFFSET_BITS>, K: KeyOrder<OFFSET_BIT
     }
 }
 
-/// Makes the nodes on a key's way anew that lie in the buffer, and those above them. They are added to those
-/// that are replaced.
+/// Copies the nodes on the way to a key that lie in the buffer, and those above them. Adds the old nodes to the
+/// replaced ones.
 pub fn touch_below<const OFFSET_BITS: u32, S: Store<OFFSET_BITS>, K: KeyOrder<OFFSET_BITS>>(
     store: &mut S,
     node: EntryRef<OFFSET_BITS>,

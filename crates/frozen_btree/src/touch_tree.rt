@@ -15,8 +15,8 @@ use entry_ref::EntryRef;
 use store_api::{Store, StoreError};
 use tree_read::{KeyOrder, NODE_WORDS, read_head};
 
-/// Makes the tree without nodes of the buffer on a key's way, with the nodes of the old one that it lacks
-/// added to those that are replaced.
+/// Makes the tree without nodes of the buffer on the way to a key, and adds the nodes of the old tree that the new
+/// one lacks to the replaced ones.
 fn make_anew<const OFFSET_BITS: u32, S: Store<OFFSET_BITS>, K: KeyOrder<OFFSET_BITS>>(
     store: &mut S,
     root: EntryRef<OFFSET_BITS>,
@@ -44,9 +44,9 @@ fn make_anew<const OFFSET_BITS: u32, S: Store<OFFSET_BITS>, K: KeyOrder<OFFSET_B
     touch_below(store, root, level, key, buffer, replaced)
 }
 
-/// Makes the nodes on a key's way anew that lie in a sealed buffer, and those above them. The pairs stay; no
-/// node on the way to the key lies in the buffer then. The nodes of the old tree that are not in the new one
-/// are dropped.
+/// Copies the nodes on the way to a key that lie in a sealed buffer, and those above them. The pairs stay the same.
+/// Afterwards no node on the way to the key lies in the buffer. Drops the nodes of the old tree that are not in the
+/// new one.
 pub fn touch<const OFFSET_BITS: u32, S: Store<OFFSET_BITS>, K: KeyOrder<OFFSET_BITS>>(
     store: &mut S,
     root: EntryRef<OFFSET_BITS>,

@@ -1,4 +1,4 @@
--- The events: each is one step on one word by one seat, under a condition on that seat's view.
+-- The events. Each is one step of one seat on one word, under a condition on that seat's view.
 use Rattle.std.specs.Prelude.{if◌then◌else◌, ◌≡◌, ◌≢◌, ℕ, ◌+◌, ◌-◌, ◌*◌, ◌%◌, ◌^◌, slice_index, ◌<◌, List, [], ◌∷◌, ◌++◌, length, set}
 use Rattle.std.specs.Prelude.{replicate, slice_get, Some, None, All, IsTrue, nat_eq}
 use Rattle.std.specs.List.{list_any}
@@ -29,7 +29,7 @@ use Rattle.gen_core.specs.Good.{State}
 use Rattle.gen_core.specs.Conditions.{MayStoreWidth, MayStoreWord, MayHandOut, MayPublish, MayPutOnHold, MayFree, MayReopen, MayClose}
 use Rattle.gen_core.specs.Conditions.{MayProbe, MaySplit, MayJoin, MayLoadOwn, MayLoadWord}
 
--- What a view becomes.
+-- How views change.
 
 abbrev pub with_buffer : WriterView → ℕ → Buffer → WriterView
 with_buffer w b x = record w { buffers = set w.buffers b x }
@@ -75,7 +75,7 @@ stopped w found = record w { stops = record { count = w.stops.count + 1; found =
 abbrev pub probed : WriterView → WriterView
 probed w = record w { queue = record w.queue { pending = Probed } }
 
--- the newest hold, found unused, becomes that of the next generation
+-- the newest hold, found unused, takes the next generation
 abbrev pub morphed : WriterView → WriterView
 morphed w = record w { queue = queue_of w.queue.older (coming_hold w w.queue.newest.hold) Nothing }
 
@@ -106,7 +106,7 @@ first_aim r generation = if nat_eq r.misses.count 0 then generation else r.first
 abbrev pub aims : ReaderView → OpenHold → ReaderView
 aims r e = record r { least = e.generation; first = first_aim r e.generation; state = Aimed e.generation e.hold }
 
--- an even count says that the hold is open
+-- an even count means that the hold is open
 abbrev pub found_state : ℕ → ℕ → ReaderState
 found_state found h = if nat_eq (found % 2) 0 then Raised h else Bounced h
 
@@ -138,7 +138,7 @@ after_store_width s b width = record {
 abbrev pub after_store_word : State → ℕ → ℕ → State
 after_store_word s p n = record { words = set s.words p n; writer = stored s.writer p n; readers = s.readers }
 
--- a word that was found counts as stored
+-- a word that the writer finds counts as stored
 abbrev pub after_find_word : State → ℕ → State
 after_find_word s p = record s { writer = stored s.writer p (slice_index s.words p) }
 
@@ -197,7 +197,7 @@ after_join s j r = record { words = s.words; writer = joined s.writer r; readers
 abbrev pub after_load_newest : State → ℕ → ReaderView → State
 after_load_newest s j r = record s { readers = set s.readers j (aims r s.writer.queue.newest) }
 
--- one hold's count and one reader's view change
+-- the count of one hold and the view of one reader change
 abbrev pub after_count : State → ℕ → ℕ → ℕ → ReaderView → State
 after_count s h n j v = record { words = set s.words (hold_place h) n; writer = s.writer; readers = set s.readers j v }
 
@@ -230,7 +230,7 @@ opening_view sizes = record {
   stops = record { count = 0; found = 0 };
 }
 
--- every word is 0, but the counts of holds 1 to 15, which are closed
+-- every word is 0, except the counts of holds 1 to 15, which are closed
 abbrev pub opening_words : Sizes → List ℕ
 opening_words sizes = 0 ∷ 0 ∷ 0 ∷ replicate 15 1 ++ replicate (sizes.buffers + sizes.buffers * sizes.words) 0
 
@@ -243,7 +243,7 @@ pub record MayOpen (sizes : Sizes) : Type 0 where
   pub generation_limit : sizes.generation_limit < 2 ^ 48
 
 module _ (reaches : ℕ → Records → ℕ → List ℕ) (lawful : ℕ → Records → ℕ → Type 0) where
-  -- an event takes the state s to the state t
+  -- an event leads from state s to state t
   abbrev pub Happens : State → Event → State → Type 0
   Happens s (StoreWidth b width) t = MayStoreWidth s.writer b width × (t ≡ after_store_width s b width)
   Happens s (StoreWord p n) t = MayStoreWord s.writer p × (t ≡ after_store_word s p n)
@@ -276,17 +276,17 @@ module _ (reaches : ℕ → Records → ℕ → List ℕ) (lawful : ℕ → Reco
   Happens s (Release j) t = (r : ReaderView) × (slice_get s.readers j ≡ Some r) × (h : ℕ) × (c : ℕ) × (r.state ≡ Guarded h c)
       × (t ≡ after_release s j r h)
 
-  -- a list of events, one after another
+  -- a list of events, in order
   abbrev pub Happen : State → List Event → State → Type 0
   Happen s [] t = t ≡ s
   Happen s (e ∷ events) t = (m : State) × Happens s e m × Happen m events t
 
--- a hold is in the queue, there alone and with a generation above this one
+-- a hold occurs in the queue, only with generations above this one
 pub record StandsAbove (s : State) (h generation : ℕ) : Type 0 where
   pub there : IsTrue (list_any (λ e. nat_eq e.hold h) (open_holds s.writer.queue))
   pub above : All (λ e. e.hold ≡ h → generation < e.generation) (open_holds s.writer.queue)
 
--- every view that stands on a hold stands on one whose generation is above the last tag of the buffer
+-- every view that stands on a hold stands on one with a generation above the last tag of the buffer
 abbrev pub NoneFromBefore : State → ℕ → Type 0
 NoneFromBefore s b =
     (j : ℕ) (r : ReaderView) (h : ℕ) (tag : Tag) → slice_get s.readers j ≡ Some r → stands_on r.state ≡ Some h

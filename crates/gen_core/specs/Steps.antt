@@ -1,4 +1,4 @@
--- Each event as one step: of which seat, on which word, by which operation.
+-- Each event as one step: its seat, its word and its operation.
 use Rattle.std.specs.Prelude.{if◌then◌else◌, ◌≡◌, ◌≢◌, ℕ, zero, suc, ◌+◌, ◌-◌, ◌*◌, ◌^◌, List, length, set, slice_get, slice_index, Option}
 use Rattle.std.specs.Prelude.{Some, nat_eq, option_map}
 use Rattle.std.specs.Option.{unwrap_or}
@@ -28,7 +28,7 @@ pub data Operation : Type 0 where
   subtract : (n : ℕ) → Operation
   exchange : (wanted new : ℕ) → Operation
 
--- what it leaves of the word that it found
+-- the word that an operation leaves, by the word that it found
 abbrev pub left_by : Operation → ℕ → ℕ
 left_by load found = found
 left_by (store n) found = n
@@ -107,7 +107,7 @@ operation_of s (LoadRoot j) = load
 operation_of s (LoadWord j p) = load
 operation_of s (Release j) = subtract 2
 
--- who does it: the writer's seat is 0, and behind it come the readers
+-- the seat of the event: 0 is the writer, and the readers follow
 abbrev pub seat_of : Event → ℕ
 seat_of (StoreWidth b width) = 0
 seat_of (StoreWord p n) = 0
@@ -134,7 +134,7 @@ seat_of (LoadRoot j) = suc j
 seat_of (LoadWord j p) = suc j
 seat_of (Release j) = suc j
 
--- the other seat whose view changes: the one that a split makes, or that a join takes in
+-- the other seat whose view changes: the one that a split makes or a join takes in
 abbrev pub partner_of : State → Event → ℕ
 partner_of s Split = suc (length s.readers)
 partner_of s (Join j) = suc j
@@ -145,7 +145,7 @@ abbrev pub view_at : State → ℕ → Option View
 view_at s zero = Some (Writer s.writer)
 view_at s (suc j) = option_map Reader (slice_get s.readers j)
 
--- the words change in one place, and no other seat's view changes
+-- one word changes, and no other seat's view changes
 pub record IsOneStep (s : State) (e : Event) (t : State) : Type 0 where
   pub words : t.words ≡ set s.words (word_of s e) (left_by (operation_of s e) (slice_index s.words (word_of s e)))
   pub views : (k : ℕ) → k ≢ seat_of e → k ≢ partner_of s e → view_at t k ≡ view_at s k

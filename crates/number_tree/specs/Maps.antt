@@ -11,7 +11,7 @@ use Rattle.store_api.specs.declared.store.StoreError.{StoreError}
 use Rattle.store_api.specs.declared.store.StoreError.TheVariants.{Full, Memory}
 use Rattle.frozen_btree.specs.Changes.{tree}
 
--- the pairs of a tree, its root, how many commits were made of those that can be, and the buffers of its store
+-- the pairs of a tree, its root, the numbers of commits made and possible, and the number of buffers of its store
 pub record MapView : Type 0 where
   pub pairs : List (ℕ × ℕ)
   pub root : ℕ
@@ -19,23 +19,23 @@ pub record MapView : Type 0 where
   pub most : ℕ
   pub buffers : ℕ
 
--- a stored key beside a number
+-- compares a stored key with a number
 abbrev pub beside_number : ℕ → ℕ → Ordering
 beside_number key stored = nat_cmp stored key
 
--- the first pair, where there is one
+-- the first pair, if there is one
 abbrev pub first_of : List (ℕ × ℕ) → Option (ℕ × ℕ)
 first_of [] = None
 first_of (p ∷ ps) = Some p
 
--- the nodes of a tree by number are exactly what is in use, no unit is under way, and no buffer is to go on hold
+-- the nodes of a tree by number are exactly what is in use, no unit is open, and no buffer is about to go on hold
 pub record HoldsTree {H : Type 0} (ledger : Ledger H) (m : Records) (root : ℕ) : Type 0 where
   pub is_tree : IsTree nat_cmp by_number m root
   pub owns : OwnsAll ledger m (tree root ∷ [])
   pub unit : ledger.unit ≡ false
   pub finished : ledger.finished ≡ None
 
--- why nothing was changed: no buffer has room for a node, or memory is short
+-- why nothing changed: no buffer has space for a node, or memory is exhausted
 abbrev pub IsRefusal : ℕ → StoreError → Type 0
 IsRefusal buffers (Full width active held oldest) = (width ≡ NODE_WORDS) × (active + held ≡ buffers)
 IsRefusal buffers Memory = Unit {0}

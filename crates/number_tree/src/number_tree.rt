@@ -42,7 +42,7 @@ impl<const OFFSET_BITS: u32, S: Store<OFFSET_BITS, Layout = TreeLayout>> NumberT
     OFFSET_BITS,
     S,
 > {
-    /// The empty map, in a store of which nothing was made yet.
+    /// Creates the empty map, in a store in which nothing was made.
     pub fn new(store: S) -> Self
         requires { IsNew (S.ledger store) }
         ensures pairs { result.pairs ≡ [] }
@@ -57,7 +57,7 @@ impl<const OFFSET_BITS: u32, S: Store<OFFSET_BITS, Layout = TreeLayout>> NumberT
         }
     }
 
-    /// The map of a tree that is all that a store has in use.
+    /// Returns the map of a tree that is all that a store has in use.
     pub fn with_root(store: S, root: EntryRef<OFFSET_BITS>) -> Self
         requires { HoldsTree (S.ledger store) (S.records store) root }
         ensures pairs { result.pairs ≡ tree_pairs (S.records store) root.entry }
@@ -69,7 +69,7 @@ impl<const OFFSET_BITS: u32, S: Store<OFFSET_BITS, Layout = TreeLayout>> NumberT
         NumberTree { store, root }
     }
 
-    /// The store, in which the tree is all that is in use.
+    /// Returns the store, in which the tree is all that is in use.
     pub fn store(&self) -> &S
         ensures holds { HoldsTree (S.ledger result.now) (S.records result.now) self.now.root }
         ensures pairs { tree_pairs (S.records result.now) self.now.root ≡ self.now.pairs }
@@ -77,7 +77,7 @@ impl<const OFFSET_BITS: u32, S: Store<OFFSET_BITS, Layout = TreeLayout>> NumberT
         &self.store
     }
 
-    /// The same store, given back.
+    /// Returns the store and ends the map.
     pub fn into_store(self) -> S
         ensures holds { HoldsTree (S.ledger result) (S.records result) self.root }
         ensures pairs { tree_pairs (S.records result) self.root ≡ self.pairs }
@@ -88,15 +88,15 @@ impl<const OFFSET_BITS: u32, S: Store<OFFSET_BITS, Layout = TreeLayout>> NumberT
         self.store
     }
 
-    /// The root of the tree, 0 where it is empty.
+    /// Returns the root of the tree, or 0 if it is empty.
     pub fn root(&self) -> EntryRef<OFFSET_BITS>
         ensures { result ≡ self.now.root }
     {
         self.root
     }
 
-    /// Puts a value at a key, in place of the one there. On an error all is as before. The store is
-    /// `Full` where no buffer has room for a node of 34 words.
+    /// Puts a value at a key, in place of any value there. After an error everything is as before. The store is
+    /// `Full` if no buffer has space for a node of 34 words.
     pub fn put(&mut self, key: u64, value: u64) -> Result<(), StoreError>
         ensures pairs { OnOk result (self.new.pairs ≡ put (beside_number key) (key, value) self.old.pairs) }
         ensures commits { self.new.commits ≡ self.old.commits }
@@ -109,7 +109,7 @@ impl<const OFFSET_BITS: u32, S: Store<OFFSET_BITS, Layout = TreeLayout>> NumberT
         Ok(())
     }
 
-    /// Takes out a key. The answer is whether it was there. On an error all is as before.
+    /// Removes a key, and returns whether it existed. After an error everything is as before.
     pub fn remove(&mut self, key: u64) -> Result<bool, StoreError>
         ensures taken { IfOk result (λ taken. taken ≡ is_some (lookup (beside_number key) self.old.pairs)) }
         ensures pairs { OnOk result (self.new.pairs ≡ take_out (beside_number key) self.old.pairs) }
@@ -126,7 +126,7 @@ impl<const OFFSET_BITS: u32, S: Store<OFFSET_BITS, Layout = TreeLayout>> NumberT
         Ok(true)
     }
 
-    /// The value at a key.
+    /// Returns the value at a key.
     pub fn get(&mut self, key: u64) -> Option<u64>
         ensures value { result ≡ lookup (beside_number key) self.old.pairs }
         ensures same { self.new ≡ self.old }
@@ -137,7 +137,7 @@ impl<const OFFSET_BITS: u32, S: Store<OFFSET_BITS, Layout = TreeLayout>> NumberT
         }
     }
 
-    /// How many keys there are.
+    /// Returns the number of keys.
     pub fn len(&mut self) -> u32
         ensures count { result ≡ length self.old.pairs }
         ensures same { self.new ≡ self.old }
@@ -145,7 +145,7 @@ impl<const OFFSET_BITS: u32, S: Store<OFFSET_BITS, Layout = TreeLayout>> NumberT
         total(&mut self.store, self.root)
     }
 
-    /// The first pair whose key is this one or above it.
+    /// Returns the first pair whose key is at least `key`.
     pub fn at_or_above(&mut self, key: u64) -> Option<(u64, u64)>
         ensures pair { result ≡ first_of (seek (beside_number key) self.old.pairs) }
         ensures same { self.new ≡ self.old }
@@ -153,7 +153,7 @@ impl<const OFFSET_BITS: u32, S: Store<OFFSET_BITS, Layout = TreeLayout>> NumberT
         first_from(&mut self.store, self.root, key)
     }
 
-    /// All pairs, in the order of their keys, by one walk.
+    /// Returns all pairs in the order of their keys, by one walk.
     pub fn pairs(&mut self, alloc: Global) -> Result<Vec<(u64, u64)>, AllocError>
         ensures pairs { IfOk result (λ pairs. pairs.items ≡ self.old.pairs) }
         ensures same { self.new ≡ self.old }
@@ -161,7 +161,7 @@ impl<const OFFSET_BITS: u32, S: Store<OFFSET_BITS, Layout = TreeLayout>> NumberT
         all_pairs(alloc, &mut self.store, self.root)
     }
 
-    /// Commits the tree, where another commit can be made.
+    /// Commits the tree, if another commit is possible.
     pub fn commit(&mut self) -> Option<u32>
         ensures none { IsNone result ↔ (self.old.most - self.old.commits ≡ 0) }
         ensures number { IfSome result (λ n. n ≡ self.old.commits + 1) }

@@ -8,7 +8,7 @@ use entry_ref::EntryRef;
 use frozen_btree::{NumberKey, insert, remove};
 use store_api::{Store, StoreError};
 
-/// One unit in which a pair is put.
+/// Inserts a pair, in a unit of its own.
 pub fn insert_unit<const OFFSET_BITS: u32, S: Store<OFFSET_BITS>>(
     store: &mut S,
     root: EntryRef<OFFSET_BITS>,
@@ -38,7 +38,7 @@ pub fn insert_unit<const OFFSET_BITS: u32, S: Store<OFFSET_BITS>>(
     }
 }
 
-/// One unit in which the pair of a key that is there is taken out.
+/// Removes the pair of a key that exists, in a unit of its own.
 pub fn remove_unit<const OFFSET_BITS: u32, S: Store<OFFSET_BITS>>(
     store: &mut S,
     root: EntryRef<OFFSET_BITS>,

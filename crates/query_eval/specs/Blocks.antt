@@ -6,7 +6,7 @@ use Rattle.attr_images.specs.Postings.{block_documents, IsBlock}
 use Rattle.attr_types.specs.Lawful.{IsDocNumber}
 use Rattle.attr_index.specs.Sets.{has}
 
--- a block of documents alone
+-- a block that has only valid document numbers
 pub record IsDocumentBlock (m : Records) (p : ℕ × ℕ) : Type 0 where
   pub block : IsBlock p.0 (m p.1)
   pub few : p.0 ≤ 255

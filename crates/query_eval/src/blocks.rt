@@ -1,4 +1,4 @@
-//! The documents of a list that is a bit vector, a tree of blocks.
+//! The documents of a list that is a bit vector, which is a tree of blocks.
 ghost use Rattle.std.specs.Prelude.{◌≡◌, ◌<◌, ◌≤◌, ◌+◌, ◌*◌, ◌/◌, ◌||◌, ◌&&◌, ℕ, nat_eq, length, true, IfOk};
 ghost use Rattle.std.specs.List.{AllByRecursion};
 ghost use Rattle.std.specs.Map.{keys_of};
@@ -25,7 +25,7 @@ fn has_bit(words: &[u64], i: u32) -> bool
     (words[(i / 64) as usize] >> (i % 64)) & 1 == 1
 }
 
-/// Inserts document `i` of a block, if it is there.
+/// Inserts document `i` of a block, if its bit is set.
 fn insert_bit(set: &mut DocSet, block: u32, words: &[u64], i: u32)
     requires size { length words.now ≡ BLOCK_WORDS }
     requires few { block ≤ 255 }
@@ -50,7 +50,7 @@ fn insert_block(set: &mut DocSet, block: u32, words: &[u64])
     }
 }
 
-/// Inserts the documents of a block by its record.
+/// Inserts the documents of a block, given its record.
 fn insert_next<const OFFSET_BITS: u32, F: Frozen<OFFSET_BITS>>(
     frozen: &mut F,
     block: u64,
@@ -67,7 +67,7 @@ fn insert_next<const OFFSET_BITS: u32, F: Frozen<OFFSET_BITS>>(
     insert_block(set, block as u32, &words);
 }
 
-/// Inserts the documents of the blocks from a place on.
+/// Inserts the documents of the blocks from a position on.
 fn insert_vector<const OFFSET_BITS: u32, F: Frozen<OFFSET_BITS>>(
     frozen: &mut F,
     cursor: &mut Cursor<OFFSET_BITS>,
@@ -85,7 +85,7 @@ fn insert_vector<const OFFSET_BITS: u32, F: Frozen<OFFSET_BITS>>(
     }
 }
 
-/// The documents with those of a list that is a bit vector.
+/// Adds the documents of a list that is a bit vector to those gathered.
 pub fn gather_vector<const OFFSET_BITS: u32, F: Frozen<OFFSET_BITS>>(
     alloc: Global,
     frozen: &mut F,

@@ -1,4 +1,4 @@
-//! An And of two values, by their two lists.
+//! An `And` of two values, by their two posting lists.
 ghost use Rattle.std.specs.Prelude.{◌≡◌, ◌&&◌, ℕ, IfOk, IfSome};
 ghost use Rattle.std.specs.Map.{keys_of};
 ghost use Rattle.attr_images.specs.Postings.{index_of, list_form, postings_at, tree, IsPostingList};
@@ -24,7 +24,8 @@ use attr_types::{DocList, Leaf, Query};
 use entry_ref::EntryRef;
 use std::alloc::{AllocError, Global};
 
-/// The documents that two trees have, by the bits of the first. None where these would be many more words than documents.
+/// Returns the documents that are in both trees, by a bit vector of the first. Returns `None` if the bit vector would
+/// need many more words than there are documents.
 fn common_in_trees<const OFFSET_BITS: u32, F: Frozen<OFFSET_BITS>>(
     alloc: Global,
     frozen: &mut F,
@@ -47,7 +48,8 @@ fn common_in_trees<const OFFSET_BITS: u32, F: Frozen<OFFSET_BITS>>(
     Ok(Some(common))
 }
 
-/// The documents that two lists have which are trees. None where one is not, or where the first is not to be marked.
+/// Returns the documents that are in both lists, if both are trees. Returns `None` if one is not, or if the first
+/// gets no bit vector.
 fn common_by_marks<const OFFSET_BITS: u32, F: Frozen<OFFSET_BITS>>(
     alloc: Global,
     frozen: &mut F,
@@ -75,7 +77,7 @@ fn common_by_marks<const OFFSET_BITS: u32, F: Frozen<OFFSET_BITS>>(
     )
 }
 
-/// The documents that two lists have, of which the second is no shorter.
+/// Returns the documents that are in both lists. The second must not be shorter.
 fn common_in_order<const OFFSET_BITS: u32, F: Frozen<OFFSET_BITS>>(
     alloc: Global,
     frozen: &mut F,
@@ -97,7 +99,7 @@ fn common_in_order<const OFFSET_BITS: u32, F: Frozen<OFFSET_BITS>>(
     keep_list(alloc, frozen, second, &docs)
 }
 
-/// The documents that two lists have, by the words that a dictionary keeps for them.
+/// Returns the documents that are in both lists, given the words that a dictionary stores for them.
 fn common_of_lists<const OFFSET_BITS: u32, F: Frozen<OFFSET_BITS>>(
     alloc: Global,
     frozen: &mut F,
@@ -118,7 +120,7 @@ fn common_of_lists<const OFFSET_BITS: u32, F: Frozen<OFFSET_BITS>>(
     }
 }
 
-/// The word of the list of a leaf that is one value.
+/// Returns the word of the list of a leaf that is one value.
 fn word_of_leaf<const OFFSET_BITS: u32, F: Frozen<OFFSET_BITS>>(
     frozen: &mut F,
     dictionary: Dictionary<OFFSET_BITS>,
@@ -136,7 +138,7 @@ fn word_of_leaf<const OFFSET_BITS: u32, F: Frozen<OFFSET_BITS>>(
     }
 }
 
-/// The word of the list of a leaf in an attribute that is one value.
+/// Returns the word of the list of a leaf that is one value, in an attribute.
 fn word_of_one<const OFFSET_BITS: u32, F: Frozen<OFFSET_BITS>>(
     frozen: &mut F,
     dictionaries: &[Dictionary<OFFSET_BITS>],
@@ -155,7 +157,7 @@ fn word_of_one<const OFFSET_BITS: u32, F: Frozen<OFFSET_BITS>>(
     }
 }
 
-/// The word of the list of a member that is one value.
+/// Returns the word of the list of a member that is one value.
 fn word_of_member<const OFFSET_BITS: u32, F: Frozen<OFFSET_BITS>>(
     frozen: &mut F,
     dictionaries: &[Dictionary<OFFSET_BITS>],
@@ -173,7 +175,7 @@ fn word_of_member<const OFFSET_BITS: u32, F: Frozen<OFFSET_BITS>>(
     }
 }
 
-/// The documents that two members match which are one value each. None where there are others.
+/// Returns the documents that two members match, if each is one value. Returns `None` if there are other members.
 pub fn common_of_two<const OFFSET_BITS: u32, F: Frozen<OFFSET_BITS>>(
     alloc: Global,
     frozen: &mut F,

@@ -1,8 +1,8 @@
 //! The documents that a query matches, and their scores by a dot product, from the records of an image.
 //!
-//! The documents of a leaf, or of all values, by a walk over a dictionary and its lists.
+//! The documents of a leaf, or of all values, are gathered by a walk over a dictionary and its posting lists.
 //!
-//! Scores of documents by a dot product of weights, by the dictionary and the lists of an attribute.
+//! Scores are computed from the dictionary and the posting lists of an attribute.
 #![tactic(auto)]
 
 mod answers;

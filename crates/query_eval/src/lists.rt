@@ -21,10 +21,10 @@ use frozen_btree::total;
 use std::alloc::{AllocError, Global};
 use tree_read::take_keys;
 
-/// How many documents a list takes before it becomes a bit vector.
+/// A list with more documents than this becomes a bit vector.
 const MOST_FEW: usize = 1024;
 
-/// The number of the document in a word of a short list.
+/// Returns the document in a word of a short list.
 fn doc_of(word: u64) -> Doc
     requires { IsDocNumber (unpacked word).0 }
     ensures { result ≡ (unpacked word).0 }
@@ -51,7 +51,7 @@ fn insert_words(set: &mut DocSet, words: &[u64])
     }
 }
 
-/// The documents with those of the words of a short list.
+/// Adds the documents in the words of a short list to those gathered.
 fn with_words(alloc: Global, gathered: Gathered, words: &[u64]) -> Result<Gathered, AllocError>
     requires { HaveDocNumbers (map unpacked words.now) }
     ensures { IfOk result (λ all. (doc : ℕ) → is_gathered all doc
@@ -74,7 +74,7 @@ fn with_words(alloc: Global, gathered: Gathered, words: &[u64]) -> Result<Gather
     }
 }
 
-/// The documents with those of a short list.
+/// Adds the documents of a short list to those gathered.
 fn gather_short<const OFFSET_BITS: u32, F: Frozen<OFFSET_BITS>>(
     alloc: Global,
     frozen: &mut F,
@@ -93,7 +93,7 @@ fn gather_short<const OFFSET_BITS: u32, F: Frozen<OFFSET_BITS>>(
     with_words(alloc, gathered, words)
 }
 
-/// Few documents with those of a tree that has few.
+/// Adds the documents of a small tree to a list.
 fn push_tree<const OFFSET_BITS: u32, F: Frozen<OFFSET_BITS>>(
     frozen: &mut F,
     root: EntryRef<OFFSET_BITS>,
@@ -110,7 +110,7 @@ fn push_tree<const OFFSET_BITS: u32, F: Frozen<OFFSET_BITS>>(
     Ok(Gathered::Few(pushed.docs))
 }
 
-/// Documents in a bit vector with those of a tree.
+/// Adds the documents of a tree to a bit vector.
 fn insert_tree<const OFFSET_BITS: u32, F: Frozen<OFFSET_BITS>>(
     frozen: &mut F,
     root: EntryRef<OFFSET_BITS>,
@@ -127,7 +127,7 @@ fn insert_tree<const OFFSET_BITS: u32, F: Frozen<OFFSET_BITS>>(
     Ok(Gathered::Many(inserted.set))
 }
 
-/// Few documents with those of a tree.
+/// Adds the documents of a tree to a list.
 fn with_tree<const OFFSET_BITS: u32, F: Frozen<OFFSET_BITS>>(
     alloc: Global,
     frozen: &mut F,
@@ -149,7 +149,7 @@ fn with_tree<const OFFSET_BITS: u32, F: Frozen<OFFSET_BITS>>(
     insert_tree(frozen, root, set)
 }
 
-/// The documents with those of a list that is a tree.
+/// Adds the documents of a list that is a tree to those gathered.
 fn gather_tree<const OFFSET_BITS: u32, F: Frozen<OFFSET_BITS>>(
     alloc: Global,
     frozen: &mut F,
@@ -168,7 +168,7 @@ fn gather_tree<const OFFSET_BITS: u32, F: Frozen<OFFSET_BITS>>(
     }
 }
 
-/// The documents with those of a list, by the word that a dictionary keeps for it.
+/// Adds the documents of a list to those gathered, given the word that a dictionary stores for it.
 pub fn gather_list<const OFFSET_BITS: u32, F: Frozen<OFFSET_BITS>>(
     alloc: Global,
     frozen: &mut F,
@@ -197,7 +197,7 @@ pub fn gather_list<const OFFSET_BITS: u32, F: Frozen<OFFSET_BITS>>(
     }
 }
 
-/// Those of some documents that a list has which is a tree.
+/// Returns the documents of `docs` that are in a list that is a tree.
 fn keep_tree<const OFFSET_BITS: u32, F: Frozen<OFFSET_BITS>>(
     alloc: Global,
     frozen: &mut F,
@@ -219,7 +219,7 @@ fn keep_tree<const OFFSET_BITS: u32, F: Frozen<OFFSET_BITS>>(
     }
 }
 
-/// Those of some documents that a list has, by the word that a dictionary keeps for it.
+/// Returns the documents of `docs` that are in a list, given the word that a dictionary stores for it.
 pub fn keep_list<const OFFSET_BITS: u32, F: Frozen<OFFSET_BITS>>(
     alloc: Global,
     frozen: &mut F,

@@ -21,7 +21,7 @@ use entry_ref::EntryRef;
 use enum_dictionary::find;
 use std::alloc::{AllocError, Global};
 
-/// The word of a value's list, where the dictionary has the value.
+/// Returns the word of a value's list, if the dictionary has the value.
 pub fn word_of<const OFFSET_BITS: u32, F: Frozen<OFFSET_BITS>>(
     frozen: &mut F,
     root: EntryRef<OFFSET_BITS>,
@@ -42,7 +42,7 @@ pub fn word_of<const OFFSET_BITS: u32, F: Frozen<OFFSET_BITS>>(
     }
 }
 
-/// The documents with those that have the value of a part.
+/// Adds the documents that have the value of some part to those gathered.
 fn gather_parts<const OFFSET_BITS: u32, F: Frozen<OFFSET_BITS>>(
     alloc: Global,
     frozen: &mut F,
@@ -62,7 +62,7 @@ fn gather_parts<const OFFSET_BITS: u32, F: Frozen<OFFSET_BITS>>(
     Ok(all)
 }
 
-/// The documents with those that have a value.
+/// Adds the documents that have a value to those gathered.
 pub fn with_value<const OFFSET_BITS: u32, F: Frozen<OFFSET_BITS>>(
     alloc: Global,
     frozen: &mut F,
@@ -82,7 +82,7 @@ pub fn with_value<const OFFSET_BITS: u32, F: Frozen<OFFSET_BITS>>(
     }
 }
 
-/// Those of some documents that have a value.
+/// Returns the documents of `docs` that have a value.
 pub fn kept_with<const OFFSET_BITS: u32, F: Frozen<OFFSET_BITS>>(
     alloc: Global,
     frozen: &mut F,
@@ -102,7 +102,7 @@ pub fn kept_with<const OFFSET_BITS: u32, F: Frozen<OFFSET_BITS>>(
     }
 }
 
-/// The weight of a document's item with a value, 0 where it has none.
+/// Returns the weight of a document's item with a value, or 0 if it has none.
 fn weight_of_value<const OFFSET_BITS: u32, F: Frozen<OFFSET_BITS>>(
     frozen: &mut F,
     root: EntryRef<OFFSET_BITS>,
@@ -128,7 +128,7 @@ fn product(weight: i32, other: i32) -> i128
     i128::from(weight) * i128::from(other)
 }
 
-/// The score of a document.
+/// Returns the score of a document.
 fn score_at<const OFFSET_BITS: u32, F: Frozen<OFFSET_BITS>>(
     frozen: &mut F,
     root: EntryRef<OFFSET_BITS>,
@@ -149,7 +149,7 @@ fn score_at<const OFFSET_BITS: u32, F: Frozen<OFFSET_BITS>>(
     score
 }
 
-/// The documents of a list, each with its score.
+/// Returns the documents of a list, each with its score.
 fn scores_of<const OFFSET_BITS: u32, F: Frozen<OFFSET_BITS>>(
     alloc: Global,
     frozen: &mut F,
@@ -172,7 +172,7 @@ fn scores_of<const OFFSET_BITS: u32, F: Frozen<OFFSET_BITS>>(
     Ok(list)
 }
 
-/// The documents that have the value of some part, ascending, each with its score.
+/// Returns the documents that have the value of some part, ascending, each with its score.
 pub fn scored<const OFFSET_BITS: u32, F: Frozen<OFFSET_BITS>>(
     alloc: Global,
     frozen: &mut F,

@@ -1,4 +1,4 @@
-//! Tests of trees and images made by hand, over public calls alone.
+//! Tests of trees and images made by hand, over public calls only.
 #![tactic(auto)]
 
 #[cfg(test)]

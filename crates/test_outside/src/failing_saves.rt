@@ -1,4 +1,4 @@
-//! One document read and written over devices that fail: a save of 28 bytes.
+//! One document, read and written over devices that fail: a save of 28 bytes.
 use crate::saves::{read, table_of};
 use attr_io::{FakeSink, FakeSource};
 use attr_plain::PlainTable;
@@ -11,7 +11,8 @@ const BYTES: [u8; 28] = [
     0x41, 0x54, 0x53, 0x31, 0, 0, 0, 0, 0, 1, 0, 0, 0, 1, 0, 0, 0, 1, 0, 1, 0, 0, 0, 0, 0, 0, 0, 5,
 ];
 
-/// What is read over a source that gives so many bytes a call and fails at one call, and how many faults it counts.
+/// Returns what is read over a source that gives at most `step` bytes in a call and fails in one call, and how many
+/// faults it counts.
 fn told_by_source(alloc: Global, step: usize, call: u64) -> Result<String, AllocError> {
     if step == 0 {
         return Ok(String::new(alloc));
@@ -26,7 +27,7 @@ fn told_by_source(alloc: Global, step: usize, call: u64) -> Result<String, Alloc
     }
 }
 
-/// A save over a sink. It promises nothing, so that no proof of its callers carries its contract.
+/// Writes a save to a sink. It has no contract, so that the proofs of its callers stay small.
 fn write(alloc: Global, table: &PlainTable, sink: &mut FakeSink) -> Result<(), SaveError> {
     match table.fields().as_slice() {
         [field, ..] => {
@@ -38,7 +39,8 @@ fn write(alloc: Global, table: &PlainTable, sink: &mut FakeSink) -> Result<(), S
     }
 }
 
-/// What is written over a sink that takes so many bytes a call and fails at one call, and how many of its bytes it took.
+/// Returns what is written over a sink that takes a limited number of bytes in a call and fails in one call, and how
+/// many bytes it took.
 fn told_by_sink(
     alloc: Global,
     table: &PlainTable,

@@ -2,7 +2,7 @@ use attr_run::{FeedFault, Status, UsageCause};
 use std::io;
 use test_kit::Tally;
 
-/// The exit status of each answer, beside the number that it must be.
+/// Compares the exit status of each answer with the expected number.
 pub fn compare(rt: &HostRuntime) -> io::Result<()> {
     let full = Status::Full {
         operation: 22,

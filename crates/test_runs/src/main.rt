@@ -1,6 +1,6 @@
-//! Whole runs of `attr`, compared with what they must write. The rows of words, feeds and answers
-//! are read from standard input; runs over failing devices, readers held at the gate, and the exit
-//! statuses stand here. A case that differs prints itself.
+//! Whole runs of `attr`, compared with what they must write. The rows of words, feeds and answers are read from
+//! standard input; runs over failing devices, with readers held at the gate, and the exit statuses are in code. A
+//! wrong case is printed.
 #![tactic(auto)]
 
 mod devices;

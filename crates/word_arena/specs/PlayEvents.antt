@@ -27,7 +27,7 @@ HasOperands (add n) st = st.first ≡ n
 HasOperands (subtract n) st = st.first ≡ n
 HasOperands (exchange wanted new) st = (st.first ≡ wanted) × (st.second ≡ new)
 
--- what a step on a word tells that it found: a store tells what it stored
+-- the word that a step reports: a store reports the word that it stored
 abbrev pub told_found : Operation → ℕ → ℕ
 told_found load word = word
 told_found (store n) word = n
@@ -113,7 +113,7 @@ module _ (reaches : ℕ → Records → ℕ → List ℕ) (lawful : ℕ → Reco
   abbrev pub plays_morph : Step Slot → Me Slot Watched → ℕ → Me Slot Watched → Type 0
   plays_morph st me found me' = Told (told_morph st (bare me) found (bare me')) (IsStep reaches lawful Morph st me found me')
 
-  -- found unused, it is closed; else the writer stops at it
+  -- if the hold was found unused it is closed, otherwise the writer records a stop
   pub record IsClose (st : Step Slot) (me : Me Slot Watched) (found : ℕ) (me' : Me Slot Watched) : Type 0 where
     pub hit : found ≡ 0 → IsStep reaches lawful Close st me found me'
     pub miss : found ≢ 0 → IsStep reaches lawful StopAtOldest st me found me'
@@ -128,7 +128,7 @@ module _ (reaches : ℕ → Records → ℕ → List ℕ) (lawful : ℕ → Reco
   abbrev pub plays_probe : Step Slot → Me Slot Watched → ℕ → Me Slot Watched → Type 0
   plays_probe st me found me' = Told (told_probe st (bare me) found (bare me')) (IsProbe st me found me')
 
-  -- a reader is named by its place j among those made
+  -- a reader is named by its place j among the readers made
   abbrev pub plays_load_newest : Step Slot → Me Slot Watched → ℕ → Me Slot Watched → Type 0
   plays_load_newest st me found me' = Told (told_load_newest st (bare me) found (bare me')) ((j : ℕ)
       × IsStep reaches lawful (LoadNewest j) st me found me')
@@ -152,21 +152,21 @@ module _ (reaches : ℕ → Records → ℕ → List ℕ) (lawful : ℕ → Reco
   plays_release st me found me' = Told (told_release st (bare me) found (bare me'))
       ((j : ℕ) × IsStep reaches lawful (Release j) st me found me')
 
-  -- a load of the newest hold took the seat from one view to the other
+  -- a load of the newest hold led from one view of the seat to the other
   pub record LoadsNewest (me me' : Me Slot Watched) : Type 0 where
     pub st : Step Slot
     pub found : ℕ
     pub j : ℕ
     pub event : IsStep reaches lawful (LoadNewest j) st me found me'
 
-  -- a raise of the hold that the seat aims at found this count
+  -- a raise of the hold at which the seat aims found this count
   pub record RaiseFinds (me : Me Slot Watched) (found : ℕ) : Type 0 where
     pub st : Step Slot
     pub j : ℕ
     pub me' : Me Slot Watched
     pub event : IsStep reaches lawful (Raise j) st me found me'
 
-  -- and so it did after a load of the newest hold
+  -- a raise found this count, after a load of the newest hold
   pub record TryFinds (me : Me Slot Watched) (found : ℕ) : Type 0 where
     pub aimed : Me Slot Watched
     pub loads : LoadsNewest me aimed

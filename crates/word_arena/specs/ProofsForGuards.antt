@@ -1,4 +1,4 @@
--- Nobody has to read this: lemmas that a guard cites for what is always so of it.
+-- Lemmas that the guard cites for its invariants. They are proofs, not part of the specification.
 use Rattle.std.proofs.Common.{◌≡◌, ℕ, ◌<◌, List, [], length, Option, Some, None, refl, arith}
 use Rattle.std.specs.Prelude.{◌^◌, All}
 use Rattle.std.specs.Option.{unwrap_or}
@@ -17,11 +17,11 @@ there : (o : Option (List ℕ)) → 0 < length (unwrap_or o []) → o ≡ Some (
 there None h = absurd (omega arith)
 there (Some ws) h = refl
 
--- a record of an image is found there
+-- a record of an image is found in it
 pub in_image : (image : Image) (ref : ℕ) → 0 < length (words_at image ref) → record_at image ref ≡ Some (words_at image ref)
 in_image image ref some = there (record_at image ref) some
 
--- and is an entry
+-- a record of an image is an entry
 pub image-entry : (bits : ℕ) (sizes : Sizes) (image : Image)
     → All (λ pair. IsEntry bits sizes.buffers sizes.words (length pair.1) pair.0) image.records
     → (ref : ℕ) → 0 < length (words_at image ref) → IsEntry bits sizes.buffers sizes.words (length (words_at image ref)) ref

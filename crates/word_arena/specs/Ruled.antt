@@ -1,4 +1,4 @@
--- The core's state, read off a table, and what each step tells its seat.
+-- The state of the core, read from a table, and what each step tells its seat.
 use Rattle.std.specs.Prelude.{◌^◌, ◌≡◌, ℕ, ◌+◌, ◌*◌, ◌<◌, ◌≤◌, List, [], ◌∷◌, map, length, slice_index, Some, All}
 use Rattle.atomic_table.specs.Table.{Me, Step}
 use Rattle.atomic_table.specs.Seated.{TableId}
@@ -24,7 +24,7 @@ use Rattle.word_arena.specs.declared.rule.Watched.{Watched}
 use Rattle.arena_api.specs.Works.{Sizes as ApiSizes}
 use Rattle.arena_api.specs.Calls.{IsWithinLimits}
 
--- the sizes as a work tells them
+-- the sizes in the form of a work
 abbrev pub api_sizes : Sizes → ApiSizes
 api_sizes z = record { buffers = z.buffers; words = z.words; commits = z.commit_limit; generations = z.generation_limit }
 
@@ -53,7 +53,7 @@ writer_of x = writer_in x.view
 abbrev pub reader_of : Watched → ReaderView
 reader_of x = reader_in x.view
 
--- the seat's view has become this one
+-- the seat's view becomes this one
 pub record Becomes (me : Me Slot View) (w : WriterView) (me' : Me Slot View) : Type 0 where
   pub is : me' ≡ (Writer w, me.1)
   pub good : GoodView w
@@ -100,7 +100,7 @@ module _ (reaches : ℕ → Records → ℕ → List ℕ) (lawful : ℕ → Reco
   abbrev pub told_load_root : Step Slot → Me Slot View → ℕ → Me Slot View → Type 0
   told_load_root st me found me' = ToldLoadRoot me found me'
 
--- the word found is the image's, or a width of it
+-- the loaded word belongs to the image, or is the width of one of its buffers
 pub record IsFoundWord (z : Sizes) (image : Image) (p found : ℕ) : Type 0 where
   pub word : (ref : ℕ) (ws : List ℕ) (i : ℕ) → record_at image ref ≡ Some ws → i < length ws → p ≡ place_in z (length ws) ref i
       → found ≡ slice_index ws i
@@ -114,7 +114,7 @@ pub record ToldLoadWord (st : Step Slot) (me : Me Slot View) (found : ℕ) (me' 
 abbrev pub told_load_word : Step Slot → Me Slot View → ℕ → Me Slot View → Type 0
 told_load_word st me found me' = ToldLoadWord st me found me'
 
--- the word found is one of a record of the writer, or the width of an active buffer
+-- the loaded word belongs to a record of the writer, or is the width of an active buffer
 pub record IsOwn (w : WriterView) (p found : ℕ) : Type 0 where
   pub word : (ref i : ℕ) → i < length (writer_records w ref) → p ≡ place_in w.sizes (length (writer_records w ref)) ref i
       → found ≡ slice_index (writer_records w ref) i
@@ -136,7 +136,7 @@ pub record ToldMeetLoad (me : Me Slot View) (me' : Me Slot View) : Type 0 where
 abbrev pub told_meet_load : Step Slot → Me Slot View → ℕ → Me Slot View → Type 0
 told_meet_load st me found me' = ToldMeetLoad me me'
 
--- the newest entry, whose last word was found
+-- the newest open hold, whose word was loaded
 pub record ToldLoadNewest (me : Me Slot View) (found : ℕ) (me' : Me Slot View) : Type 0 where
   pub entry : OpenHold
   pub is : me' ≡ (Reader (aims (reader_in me.0) entry), me.1)
@@ -185,7 +185,7 @@ seen_number r = (first_seen r.saw).0
 abbrev pub seen_image : ReaderView → Image
 seen_image r = (first_seen r.saw).1
 
--- what a reader's seat has, whatever its state
+-- what a reader's seat has in every state
 pub record IsPost (bits : ℕ) (arena : TableId) (sizes : Sizes) (z : TableId) (me : Me Slot View) : Type 0 where
   pub own : z ≡ arena
   pub is : me ≡ (Reader (reader_in me.0), [])
@@ -204,14 +204,14 @@ pub record IsWatch (bits : ℕ) (arena : TableId) (sizes : Sizes) (z : TableId) 
   pub idle : (reader_in me.0).state ≡ Idle
   pub climbs : Climbs (reader_in me.0)
 
--- the seat of a reader that aims at a hold, of its least generation
+-- the seat of a reader that aims at a hold, of at least its least generation
 pub record IsAim (bits : ℕ) (arena : TableId) (sizes : Sizes) (hold : ℕ) (z : TableId) (me : Me Slot View) : Type 0 where
   pub post : IsPost bits arena sizes z me
   pub low : hold < 16
   pub aimed : (reader_in me.0).state ≡ Aimed (reader_in me.0).least hold
   pub climbs : Climbs (reader_in me.0)
 
--- the first that was seen is the guard's: its records lie inside the table
+-- the first image seen is the guarded one: its records lie inside the table
 pub record IsGuard (bits : ℕ) (arena : TableId) (sizes : Sizes) (hold word : ℕ) (z : TableId) (me : Me Slot View) : Type 0 where
   pub post : IsPost bits arena sizes z me
   pub low : hold < 16
@@ -224,8 +224,8 @@ pub record IsGuard (bits : ℕ) (arena : TableId) (sizes : Sizes) (hold word : �
   pub small_number : seen_number (reader_in me.0) < 2 ^ 32
   pub entries : All (λ pair. IsEntry bits sizes.buffers sizes.words (length pair.1) pair.0) (seen_image (reader_in me.0)).records
 
--- the guard's commit is lawful, not below what the reader had seen, and all that was seen since; nor is the least
--- generation below the one asked for
+-- the guarded commit is lawful, not older than any that the reader saw before, and the only one seen since; and the
+-- least generation does not fall
 pub record IsLater (reaches : ℕ → Records → ℕ → List ℕ) (lawful : ℕ → Records → ℕ
     → Type 0) (r : ReaderView) (r' : ReaderView) : Type 0 where
   pub same_sizes : r'.sizes ≡ r.sizes
@@ -235,7 +235,7 @@ pub record IsLater (reaches : ℕ → Records → ℕ → List ℕ) (lawful : �
   pub least : r.least ≤ r'.least
   pub commit : IsLawfulCommit reaches lawful r'.sizes.shape (seen_image r')
 
--- after a miss the reader aims higher, and not above the limit; nothing else was seen
+-- after a miss the reader aims higher, within the limit; nothing else was seen
 pub record IsHigher (r : ReaderView) (r' : ReaderView) : Type 0 where
   pub higher : r.least + 1 ≤ r'.least
   pub seen : r'.seen ≡ r.seen
@@ -243,7 +243,7 @@ pub record IsHigher (r : ReaderView) (r' : ReaderView) : Type 0 where
   pub same_sizes : r'.sizes ≡ r.sizes
   pub limit : r'.least ≤ r'.sizes.generation_limit
 
--- an aim is not below the least generation that was asked for, and not above the limit; nothing else was seen
+-- the aim is at least the reader's least generation, and within the limit; nothing else was seen
 pub record IsAimOf (r : ReaderView) (r' : ReaderView) : Type 0 where
   pub same_sizes : r'.sizes ≡ r.sizes
   pub seen : r'.seen ≡ r.seen

@@ -18,7 +18,7 @@ pub struct Arena<const OFFSET_BITS: u32, L: Layout> {
     pub(crate) sizes: Sizes,
 }
 
-/// The writer's seat, at the opening.
+/// The writer's seat in a new arena.
 #[derive(Drop)]
 pub struct Token<const OFFSET_BITS: u32> {
     pub(crate) sizes: Sizes,
@@ -27,7 +27,7 @@ pub struct Token<const OFFSET_BITS: u32> {
     ghost stands: { IsToken OFFSET_BITS sizes buffers.items place.table_id (bare place.me) },
 }
 
-/// Every word is 0, but the counts of holds 1 to 15, which are closed.
+/// Returns the words of a new arena. Every word is 0, except the counts of holds 1 to 15, which are closed.
 fn opening_words(alloc: Global, sizes: &Sizes) -> Result<Vec<u64>, AllocError>
     requires some { 0 < sizes.now.words }
     requires product { sizes.now.buffers * sizes.now.words ≤ 67108864 }
@@ -56,7 +56,7 @@ fn sizes_of<const OFFSET_BITS: u32>(config: &Config) -> Sizes
 }
 
 impl<const OFFSET_BITS: u32, L: Layout> Arena<OFFSET_BITS, L> {
-    /// Commit 0, which has no record, at generation 0 on hold 0, with all buffers free.
+    /// Creates an arena at commit 0, which has no record, and at generation 0 on hold 0. All buffers are free.
     pub fn create(
         alloc: Global,
         config: Config,

@@ -1,4 +1,4 @@
-//! One writer and many readers over the words of one table.
+//! One writer and many readers over the words of one atomic table.
 #![tactic(auto)]
 
 mod arena;

@@ -1,4 +1,4 @@
-//! What each step tells its seat: the view after it, and the event of the core that it was.
+//! What each step tells its seat: the view after the step, and the event of the core that it was.
 ghost use Rattle.word_arena.specs.Ruled.{cut_left, cut_right, glued, gone};
 ghost use Rattle.word_arena.specs.PlayEvents.{plays_hand_out, plays_width, plays_store, plays_find, plays_publish, plays_load_own};
 ghost use Rattle.word_arena.specs.PlayEvents.{plays_meet};
@@ -171,7 +171,7 @@ impl<L: Layout> Play<(), Watched> for Release<L> {
     ghost then = { plays_release L.reaches L.lawful };
 }
 
-/// A new reader's seat, cut from the writer's.
+/// The play that makes a new reader's seat from the writer's.
 pub(crate) struct Cut;
 
 impl Split<Watched> for Cut {
@@ -180,7 +180,7 @@ impl Split<Watched> for Cut {
     ghost right = { cut_right };
 }
 
-/// A reader's seat, taken in.
+/// The play that joins a reader's seat into the writer's.
 pub(crate) struct Glue;
 
 impl Join<Watched> for Glue {

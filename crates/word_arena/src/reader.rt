@@ -1,4 +1,4 @@
-//! The readers, and their guards.
+//! Readers and their guards.
 ghost use Rattle.std.specs.Prelude.{take, drop, ◌%◌, ◌≡◌, ◌+◌, ◌-◌, ◌*◌, ◌<◌, ◌≤◌, ◌^◌, ℕ, List, length, Some, slice_index, IfOk, IfErr};
 ghost use Rattle.entry_ref.specs.Images.{words_at};
 ghost use Rattle.entry_ref.specs.Places.{place};
@@ -24,7 +24,7 @@ pub struct Reader<'a, const OFFSET_BITS: u32, L: Layout> {
     ghost stands: { IsWatch OFFSET_BITS arena.now.table.shared.table_id arena.now.sizes place.table_id (bare place.me) },
 }
 
-/// A reader that has loaded the root, and the root word.
+/// A reader that guards a commit, with the root word that it loaded.
 #[derive(Drop)]
 pub struct Guarded<'a, const OFFSET_BITS: u32, L: Layout> {
     pub(crate) arena: &'a Arena<OFFSET_BITS, L>,
@@ -34,7 +34,7 @@ pub struct Guarded<'a, const OFFSET_BITS: u32, L: Layout> {
     ghost stands: { IsGuard OFFSET_BITS arena.now.table.shared.table_id arena.now.sizes hold found place.table_id (bare place.me) },
 }
 
-/// A reader that has loaded the newest hold, and goes for it.
+/// A reader that has loaded the newest hold and aims at it.
 #[derive(Drop)]
 pub struct Aimed<'a, const OFFSET_BITS: u32, L: Layout> {
     pub(crate) arena: &'a Arena<OFFSET_BITS, L>,
@@ -43,7 +43,7 @@ pub struct Aimed<'a, const OFFSET_BITS: u32, L: Layout> {
     ghost stands: { IsAim OFFSET_BITS arena.now.table.shared.table_id arena.now.sizes hold place.table_id (bare place.me) },
 }
 
-/// The hold was closed meanwhile: the reader again, and the count that it found.
+/// The hold was closed in the meantime: the reader, and the count that it found.
 #[derive(Drop)]
 pub struct Again<'a, const OFFSET_BITS: u32, L: Layout> {
     pub reader: Reader<'a, OFFSET_BITS, L>,
@@ -63,8 +63,8 @@ impl<'a, const OFFSET_BITS: u32, L: Layout> Reader<'a, OFFSET_BITS, L> {
         Aimed { arena, hold, place }
     }
 
-    /// Aims and raises: a guard of the last commit exactly where the count that the raise found is even. Else the
-    /// reader again, since the hold was closed meanwhile.
+    /// Aims at the newest hold and raises it. Returns a guard of the last commit if and only if the count found by
+    /// the raise is even. Otherwise the hold was closed in the meantime, and the reader is returned.
     pub fn try_guard(self) -> Result<Guarded<'a, OFFSET_BITS, L>, Again<'a, OFFSET_BITS, L>>
         ensures ok { IfOk result (λ g. IsLater L.reaches L.lawful (reader_of self.entry.place.me.0) (reader_of g.place.me.0)) }
         ensures again { IfErr result (λ a. IsHigher (reader_of self.entry.place.me.0) (reader_of a.reader.place.me.0)) }
@@ -107,8 +107,8 @@ impl<'a, const OFFSET_BITS: u32, L: Layout> Reader<'a, OFFSET_BITS, L> {
 }
 
 impl<'a, const OFFSET_BITS: u32, L: Layout> Aimed<'a, OFFSET_BITS, L> {
-    /// A guard of the last commit, exactly where the count that the raise found is even. Else the reader again, which
-    /// has taken its 2 back.
+    /// Raises the hold. Returns a guard of the last commit if and only if the count found is even. Otherwise takes
+    /// the 2 off the count again and returns the reader.
     pub fn try_raise(self) -> Result<Guarded<'a, OFFSET_BITS, L>, Again<'a, OFFSET_BITS, L>>
         ensures ok { IfOk result (λ g. IsLater L.reaches L.lawful (reader_of self.entry.place.me.0) (reader_of g.place.me.0)) }
         ensures again { IfErr result (λ a. IsHigher (reader_of self.entry.place.me.0) (reader_of a.reader.place.me.0)) }
@@ -205,7 +205,7 @@ impl<'a, const OFFSET_BITS: u32, L: Layout> Guarded<'a, OFFSET_BITS, L> {
         }
     }
 
-    // Where a word of a record stands, by the width that its buffer tells.
+    // Returns the place of a word of a record, by the width that is stored in its buffer.
     fn place_of_word(&mut self, entry: EntryRef<OFFSET_BITS>, i: u32) -> u64
         requires { HasWord (words_at (seen_image (reader_of self.old.place.me.0))) entry i }
         ensures place { result ≡ place OFFSET_BITS self.old.arena.now.sizes.buffers self.old.arena.now.sizes.words

@@ -1,4 +1,4 @@
-//! The writer as a work.
+//! The writer as a `Work`.
 ghost use Rattle.std.specs.Prelude.{◌≡◌, ◌≢◌, ◌↔◌, ◌<◌, ◌≤◌, ◌+◌, ◌*◌, ℕ, length, Some, slice_index, true, IsNone, IfSome, IfNone};
 ghost use Rattle.word_arena.specs.Ruled.{writer_of};
 ghost use Rattle.entry_ref.specs.Images.{words_at};
@@ -22,7 +22,7 @@ use entry_ref::{EntryRef, Layout, place_of};
 use gen_core::Buffer;
 use std::marker::Model;
 
-/// Which arena a work is of. No value of it is made.
+/// The arena that a work belongs to. No value of this type is made.
 pub struct Home {
     nothing: u64,
 }
@@ -36,7 +36,7 @@ impl Model for Home {
     ghost view = { λ _. nowhere };
 }
 
-/// The word at a place, 0 behind the last.
+/// Returns word `i`, or 0 past the end.
 fn word_or_zero(words: &[u64], i: u32) -> u64
     ensures { result ≡ slice_index words.now i }
 {
@@ -45,7 +45,7 @@ fn word_or_zero(words: &[u64], i: u32) -> u64
 }
 
 impl<'a, const OFFSET_BITS: u32, L: Layout> Writer<'a, OFFSET_BITS, L> {
-    // Hands a free buffer out, and stores its width.
+    // Hands out a free buffer, and stores its width.
     fn take_buffer(&mut self, buffer: u32, width: u32)
         requires below { buffer < (writer_of self.old.place.me.0).sizes.buffers }
         requires free { is_free (buffers_by (writer_of self.old.place.me.0).buffers buffer) ≡ true }
@@ -70,7 +70,7 @@ impl<'a, const OFFSET_BITS: u32, L: Layout> Writer<'a, OFFSET_BITS, L> {
         self.buffers[at] = Buffer::Active(u64::from(width), last);
     }
 
-    /// Finds the word of an entry that is there, which counts as stored from then on. Its buffer has this width.
+    /// Loads a word of an entry, in a buffer of this width. The word counts as stored from then on.
     fn find_in(&mut self, entry: EntryRef<OFFSET_BITS>, width: u32, i: u32) -> u64
         requires may { MayStore OFFSET_BITS (view_of self.old.place.table_id (writer_of self.old.place.me.0)) entry i }
         requires width { active_width ((view_of self.old.place.table_id (writer_of self.old.place.me.0)).buffer
@@ -96,7 +96,8 @@ impl<'a, const OFFSET_BITS: u32, L: Layout> Writer<'a, OFFSET_BITS, L> {
             .load::<FindWord<L>>(&mut self.place, place as usize)
     }
 
-    /// Makes a word of an entry this one, by a store only where another is there: a load costs less. Its buffer has this width.
+    /// Sets a word of an entry, in a buffer of this width. It loads the word first and stores only if that differs,
+    /// since a load is cheaper.
     fn put_in(&mut self, entry: EntryRef<OFFSET_BITS>, width: u32, i: u32, word: u64)
         requires may { MayStore OFFSET_BITS (view_of self.old.place.table_id (writer_of self.old.place.me.0)) entry i }
         requires width { active_width ((view_of self.old.place.table_id (writer_of self.old.place.me.0)).buffer
@@ -114,7 +115,7 @@ impl<'a, const OFFSET_BITS: u32, L: Layout> Writer<'a, OFFSET_BITS, L> {
         }
     }
 
-    /// Stores a word of an entry, whose buffer has this width.
+    /// Stores a word of an entry, in a buffer of this width.
     fn store_in(&mut self, entry: EntryRef<OFFSET_BITS>, width: u32, i: u32, word: u64)
         requires may { MayStore OFFSET_BITS (view_of self.old.place.table_id (writer_of self.old.place.me.0)) entry i }
         requires width { active_width ((view_of self.old.place.table_id (writer_of self.old.place.me.0)).buffer

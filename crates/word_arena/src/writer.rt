@@ -33,14 +33,14 @@ pub struct Writer<'a, const OFFSET_BITS: u32, L: Layout> {
         place.table_id (bare place.me) },
 }
 
-/// As many readers were made as there can be.
+/// The highest number of readers was made.
 #[derive(Clone, Copy, PartialEq, Eq, Debug, Drop)]
 pub struct NoSeat {
     pub made: u32,
 }
 
 impl<const OFFSET_BITS: u32, L: Layout> Arena<OFFSET_BITS, L> {
-    /// The token is this arena's.
+    /// Returns the writer of this arena, whose token is given.
     pub fn writer(&self, token: Token<OFFSET_BITS>) -> Writer<'_, OFFSET_BITS, L>
         requires { (token.place.table_id ≡ self.now.table.shared.table_id) × (token.sizes ≡ self.now.sizes) }
         ensures view { writer_of result.place.me.0 ≡ opening_view token.entry.sizes }
@@ -64,7 +64,8 @@ impl<const OFFSET_BITS: u32, L: Layout> Arena<OFFSET_BITS, L> {
 }
 
 impl<'a, const OFFSET_BITS: u32, L: Layout> Writer<'a, OFFSET_BITS, L> {
-    /// A reader that has seen the last commit. No seat exactly where 64 were made; one that was taken in still counts.
+    /// Makes a reader that has seen the last commit. Returns `NoSeat` if and only if 64 readers were made; joined
+    /// readers count too.
     pub fn reader(&mut self) -> Result<Reader<'a, OFFSET_BITS, L>, NoSeat>
         ensures ok { IfOk result (λ r. (r.place.table_id ≡ self.old.place.table_id)
             × (reader_of r.place.me.0 ≡ newcomer (writer_of self.old.place.me.0))
@@ -104,7 +105,7 @@ impl<'a, const OFFSET_BITS: u32, L: Layout> Writer<'a, OFFSET_BITS, L> {
             .load::<MeetLoad<L>>(&mut self.place, 0);
     }
 
-    // Where a word of a record stands, by the width that its buffer tells.
+    // Returns the place of a word of a record, by the width that is stored in its buffer.
     fn place_of_word(&mut self, entry: EntryRef<OFFSET_BITS>, i: u32) -> u64
         requires { HasWord (writer_records (writer_of self.old.place.me.0)) entry i }
         ensures place { result ≡ place OFFSET_BITS self.old.arena.now.sizes.buffers self.old.arena.now.sizes.words
