@@ -21,7 +21,7 @@ pub fn first_law(_fields: &Fields, _field: &Field)
     ensures { IsFirst _field.now.kind _field.now.value (shape_of (types_of _fields.now)) }
 {}
 
-/// The bytes of a save. Nothing but room for them is asked of memory.
+/// Returns the bytes of a save. It needs memory only for them.
 pub fn saved<const OFFSET_BITS: u32, F: Frozen<OFFSET_BITS>>(
     alloc: Global,
     frozen: &mut F,
