@@ -1,11 +1,11 @@
-//! The answer that a reader keeps until it is asked again.
+//! The answer that a reader keeps until its next ask.
 ghost use Rattle.std.specs.Prelude.{◌≡◌, min, length, take};
 
 use crate::told::Scored;
 use attr_types::{Doc, DocList, Score, ScoreList};
 use std::alloc::Global;
 
-/// Documents, ascending; with a dot product each has its score.
+/// Documents, ascending; for a dot product each with its score.
 #[derive(Drop)]
 pub enum Answer {
     Hits(DocList),
@@ -49,7 +49,7 @@ fn copy_scored_docs(scores: &[Score], into: &mut [u32]) -> usize {
     count
 }
 
-/// Copies the numbers of documents from the one at this place on, and says how many.
+/// Copies the numbers of documents from index `first` on, and returns how many.
 pub fn copy_hits(answer: &Answer, first: usize, into: &mut [u32]) -> usize {
     match answer {
         Answer::Hits(docs) => {
@@ -87,7 +87,7 @@ fn copy_scored(scores: &[Score], into: &mut [Scored]) -> usize {
     count
 }
 
-/// Copies documents with their scores from the one at this place on, and says how many.
+/// Copies documents with their scores from index `first` on, and returns how many.
 pub fn copy_scores(answer: &Answer, first: usize, into: &mut [Scored]) -> usize {
     match answer {
         Answer::Hits(_) => 0,

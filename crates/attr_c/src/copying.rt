@@ -1,17 +1,17 @@
-//! What was answered, copied out.
+//! Copies of answers.
 
 use crate::codes::{BOUNDS, OK};
 use crate::told::ItemTold;
 use attr_types::{Item, Value};
 
-/// Copies the front of a list of bytes, as far as there is room, and says how many that were.
+/// Copies the front of a list of bytes, as far as it fits, and returns the number of bytes.
 pub fn copy_bytes(from: &[u8], into: &mut [u8]) -> usize {
     let count = into.len().min(from.len());
     into[..count].copy_from_slice(&from[..count]);
     count
 }
 
-/// The same from the byte at this place on.
+/// The same from byte `first` on.
 pub fn copy_from(from: &[u8], first: usize, into: &mut [u8]) -> usize {
     copy_bytes(&from[first.min(from.len())..], into)
 }
@@ -33,7 +33,7 @@ fn told_item(item: &Item) -> ItemTold {
     }
 }
 
-/// Tells the item of a number, from 0.
+/// Writes the item with this number, from 0.
 pub fn item_at(items: &[Item], number: usize, told: &mut ItemTold) -> i32 {
     match items.get(number) {
         Some(item) => {
@@ -44,7 +44,7 @@ pub fn item_at(items: &[Item], number: usize, told: &mut ItemTold) -> i32 {
     }
 }
 
-/// The bytes of the text of an item; none where there is no such text.
+/// Returns the bytes of an item's text, or none if there is no such text.
 pub fn text_at(items: &[Item], number: usize) -> &[u8] {
     match items.get(number) {
         Some(item) => match &item.value {

@@ -1,4 +1,4 @@
-//! The documents of a save, put in one after another.
+//! The documents of a save, put one after another.
 ghost use Rattle.std.specs.Prelude.{◌≡◌};
 
 use crate::feeding::apply;
@@ -12,7 +12,7 @@ use attr_types::{Field, FieldItems, Fields, Op, fits};
 use std::alloc::{AllocError, Global};
 use store_api::Store;
 
-/// Whether a save is of an attribute.
+/// Returns whether a save is of an attribute.
 fn is_of(field: &Field, saved: &Saved) -> bool {
     field.kind == saved.kind && field.value == saved.value
 }
@@ -30,7 +30,7 @@ fn put_of(alloc: Global, document: SavedDocument) -> Result<Op, AllocError> {
     Ok(Op::Put { doc, items })
 }
 
-/// Puts a document in.
+/// Adds a document.
 fn put_document<const OFFSET_BITS: u32, S: Store<OFFSET_BITS, Layout = AttrLayout>>(
     alloc: Global,
     open: &mut Open<OFFSET_BITS, S>,
@@ -50,7 +50,7 @@ fn put_document<const OFFSET_BITS: u32, S: Store<OFFSET_BITS, Layout = AttrLayou
     }
 }
 
-/// Puts the documents of a save in, up to one that is refused.
+/// Puts the documents of a save, up to one that is refused.
 fn put_all<const OFFSET_BITS: u32, S: Store<OFFSET_BITS, Layout = AttrLayout>>(
     alloc: Global,
     open: &mut Open<OFFSET_BITS, S>,
@@ -64,7 +64,7 @@ fn put_all<const OFFSET_BITS: u32, S: Store<OFFSET_BITS, Layout = AttrLayout>>(
     Ok(())
 }
 
-/// What bytes tell as a save.
+/// Returns the save in bytes.
 fn saved_in(alloc: Global, bytes: &[u8], told: &mut Told) -> Result<Saved, Stop> {
     match read_saved(alloc, &mut SliceSource::new(bytes)) {
         Ok(saved) => Ok(saved),
@@ -77,7 +77,7 @@ fn saved_in(alloc: Global, bytes: &[u8], told: &mut Told) -> Result<Saved, Stop>
     }
 }
 
-/// Puts the documents of a save in. The save is of the one attribute that there is.
+/// Puts the documents of a save. There must be a single attribute, that of the save.
 pub fn load<const OFFSET_BITS: u32, S: Store<OFFSET_BITS, Layout = AttrLayout>>(
     alloc: Global,
     open: &mut Open<OFFSET_BITS, S>,

@@ -1,4 +1,4 @@
-//! What C calls to open, to close, and to hand readers out.
+//! The calls from C that open, close, and hand out readers.
 
 use crate::attributes::fields_in;
 use crate::codes::{BOUNDS, LOST, MEMORY, NO_READER, NO_TEXT, OK};
@@ -9,7 +9,7 @@ use crate::state::{AnyOpen, AnyReader, Engine};
 use crate::told::Sizes;
 use std::alloc::Global;
 
-/// An engine over a new memory, which has no document; or the code of a refusal.
+/// Returns an engine over a new memory, without documents, or the code of a refusal.
 fn new_engine(
     alloc: Global,
     text: &str,
@@ -34,7 +34,7 @@ fn new_engine(
     }
 }
 
-/// Opens an engine of the attributes that a text names.
+/// Opens an engine for the attributes that a text names.
 #[unsafe(no_mangle)]
 pub extern "C" fn attr_open(
     alloc: Global,
@@ -56,13 +56,13 @@ pub extern "C" fn attr_open(
     }
 }
 
-/// Gives up the attributes and their writer. The memory of the words stays, and readers go on.
+/// Frees the attributes and their writer. The memory of the words stays, and readers continue.
 #[unsafe(no_mangle)]
 pub extern "C" fn attr_close(alloc: Global, at: HeldEngine) {
     drop(at.into_box(alloc));
 }
 
-/// A reader that was not given away yet.
+/// Returns a reader that was not handed out.
 fn next_reader(open: &mut AnyOpen) -> Option<AnyReader> {
     match open {
         AnyOpen::Narrow(open) => match open.pool.pop() {
@@ -76,7 +76,7 @@ fn next_reader(open: &mut AnyOpen) -> Option<AnyReader> {
     }
 }
 
-/// Puts a reader back to those that are to be given away.
+/// Puts a reader back among those to be handed out.
 fn put_back(open: &mut AnyOpen, reader: AnyReader) -> i32 {
     match (open, reader) {
         (AnyOpen::Narrow(open), AnyReader::Narrow(waiting)) => match open.pool.push(waiting) {
@@ -107,7 +107,7 @@ pub extern "C" fn attr_reader_open(alloc: Global, at: &mut HeldEngine, out: &mut
     }
 }
 
-/// The reader of a handle, without a guard.
+/// Returns the reader of a handle, without a guard.
 fn reader_in(alloc: Global, at: HeldSeat) -> Option<AnyReader> {
     let Seat { place, .. } = Box::into_inner(at.into_box(alloc));
     match place {
@@ -116,7 +116,7 @@ fn reader_in(alloc: Global, at: HeldSeat) -> Option<AnyReader> {
     }
 }
 
-/// Takes a reader back, to be handed out again.
+/// Takes a reader back, so that it can be handed out again.
 #[unsafe(no_mangle)]
 pub extern "C" fn attr_reader_return(alloc: Global, at: &mut HeldEngine, seat: HeldSeat) -> i32 {
     let reader = reader_in(alloc, seat);
@@ -127,7 +127,7 @@ pub extern "C" fn attr_reader_return(alloc: Global, at: &mut HeldEngine, seat: H
     }
 }
 
-/// Gives up a reader for good.
+/// Frees a reader.
 #[unsafe(no_mangle)]
 pub extern "C" fn attr_reader_close(alloc: Global, at: HeldSeat) {
     drop(reader_in(alloc, at));

@@ -1,4 +1,4 @@
-//! What C calls with a reader's handle.
+//! The calls from C with a reader's handle.
 ghost use Rattle.std.specs.Prelude.{◌≡◌, ◌≢◌, pos, IfOk};
 ghost use Rattle.attr_c.specs.Seats.{AnswersText, ByGuardOf, ReadsItems, SavesTable};
 
@@ -20,14 +20,14 @@ fn no_answer() -> Answered {
     }
 }
 
-/// The code of a refusal, which is none of success.
+/// Returns the code of a refusal, which is not that of success.
 fn refused(code: i32) -> i32
     ensures { result ≢ pos 0 }
 {
     if code == OK { LOST } else { code }
 }
 
-/// Takes a guard of the last commit, and keeps it until it is released. Where there is one it stays.
+/// Takes a guard of the last commit, and keeps it until it is released. An existing guard is kept.
 #[unsafe(no_mangle)]
 pub extern "C" fn attr_hold(at: &mut HeldSeat, told: &mut Answered) -> i32 {
     *told = no_answer();
@@ -41,7 +41,7 @@ pub extern "C" fn attr_hold(at: &mut HeldSeat, told: &mut Answered) -> i32 {
     OK
 }
 
-/// Gives the guard back.
+/// Releases the guard.
 #[unsafe(no_mangle)]
 pub extern "C" fn attr_release(at: &mut HeldSeat) -> i32 {
     let seat = at.get_mut();
@@ -52,7 +52,7 @@ pub extern "C" fn attr_release(at: &mut HeldSeat) -> i32 {
     OK
 }
 
-/// The answer to a text at the guard's commit, or at that of a guard that this call takes and gives back.
+/// Returns the answer to a text at the guarded commit, or under a guard that this call takes and releases.
 fn answer_in(
     alloc: Global,
     seat: &mut Seat,
@@ -73,7 +73,7 @@ fn answer_in(
     answer
 }
 
-/// Answers what a text asks for. The reader keeps the answer until it is asked again.
+/// Answers what a text asks for. The reader keeps the answer until the next ask.
 #[unsafe(no_mangle)]
 pub extern "C" fn attr_ask(
     alloc: Global,
@@ -95,7 +95,7 @@ pub extern "C" fn attr_ask(
     }
 }
 
-/// Tells how many documents answer what a text asks for. The reader keeps the answer that it had.
+/// Writes how many documents answer what a text asks for. The reader keeps its previous answer.
 #[unsafe(no_mangle)]
 pub extern "C" fn attr_count(
     alloc: Global,
@@ -110,7 +110,7 @@ pub extern "C" fn attr_count(
     }
 }
 
-/// Copies the documents of the last answer, from the one at this place on, and says how many.
+/// Copies the documents of the last answer from index `first` on, and returns how many.
 #[unsafe(no_mangle)]
 pub extern "C" fn attr_hits(at: &mut HeldSeat, first: usize, into: &mut [u32]) -> usize {
     copy_hits(&at.get_mut().answer, first, into)
@@ -122,7 +122,7 @@ pub extern "C" fn attr_scores(at: &mut HeldSeat, first: usize, into: &mut [Score
     copy_scores(&at.get_mut().answer, first, into)
 }
 
-/// Reads the items of a document in the attribute of a number. The reader keeps them until it reads others.
+/// Reads the items of a document in the attribute with a number. The reader keeps them until it reads others.
 #[unsafe(no_mangle)]
 pub extern "C" fn attr_items(
     alloc: Global,
@@ -151,19 +151,19 @@ pub extern "C" fn attr_items(
     }
 }
 
-/// Tells an item of those that were read last.
+/// Writes one of the items that were read last.
 #[unsafe(no_mangle)]
 pub extern "C" fn attr_item(at: &mut HeldSeat, number: usize, told: &mut ItemTold) -> i32 {
     item_at(at.get_mut().items.as_slice(), number, told)
 }
 
-/// Copies the text of such an item, and says how many bytes were copied.
+/// Copies the text of one of these items, and returns the number of bytes.
 #[unsafe(no_mangle)]
 pub extern "C" fn attr_item_text(at: &mut HeldSeat, number: usize, into: &mut [u8]) -> usize {
     copy_bytes(text_at(at.get_mut().items.as_slice(), number), into)
 }
 
-/// Saves the first attribute. The reader keeps the bytes until it saves again.
+/// Saves the first attribute. The reader keeps the bytes until the next save.
 #[unsafe(no_mangle)]
 pub extern "C" fn attr_save(alloc: Global, at: &mut HeldSeat, told: &mut Answered) -> i32
     ensures { result ≡ pos 0 → ByGuardOf at.old.value.place at.new.value.place
@@ -186,7 +186,7 @@ pub extern "C" fn attr_save(alloc: Global, at: &mut HeldSeat, told: &mut Answere
     }
 }
 
-/// Copies bytes of the last save, from the one at this place on, and says how many.
+/// Copies bytes of the last save from index `first` on, and returns how many.
 #[unsafe(no_mangle)]
 pub extern "C" fn attr_saved(at: &mut HeldSeat, first: usize, into: &mut [u8]) -> usize {
     copy_from(at.get_mut().saved.as_slice(), first, into)

@@ -15,7 +15,7 @@ pub enum AnyKept {
     Wide(Kept<19>),
 }
 
-/// A reader, under a guard of its own or not.
+/// A reader, with or without a guard of its own.
 #[derive(Drop)]
 pub enum Place {
     Free(AnyReader),
@@ -25,7 +25,7 @@ pub enum Place {
 /// A reader, and the answers that it keeps.
 #[derive(Drop)]
 pub struct Seat {
-    /// None only where a call is under way.
+    /// `None` only during a call.
     pub place: Option<Place>,
     pub answer: Answer,
     pub items: Items,
@@ -61,7 +61,7 @@ fn released(kept: AnyKept) -> AnyReader
     }
 }
 
-/// A reader under a guard, and whether it was so before.
+/// Returns a reader under a guard, and whether it had the guard before.
 pub fn kept_of(place: Place) -> (AnyKept, bool)
     ensures guard { TakesGuard place (kept_view result.0) }
     ensures stays { result.1 ≡ is_kept place }
@@ -72,7 +72,7 @@ pub fn kept_of(place: Place) -> (AnyKept, bool)
     }
 }
 
-/// The reader, under the guard still or not.
+/// Returns the reader, with or without the guard.
 pub fn left(kept: AnyKept, stays: bool) -> Place
     ensures { LeavesGuard stays (kept_view kept) result }
 {
@@ -83,7 +83,7 @@ pub fn left(kept: AnyKept, stays: bool) -> Place
     }
 }
 
-/// The reader without a guard.
+/// Returns the reader without a guard.
 pub fn reader_of(place: Place) -> AnyReader {
     match place {
         Place::Free(reader) => reader,
