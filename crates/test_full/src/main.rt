@@ -3,7 +3,6 @@
 #![tactic(auto)]
 
 mod attributes;
-mod lost;
 mod rows;
 mod run;
 

@@ -10,8 +10,9 @@ use test_kit::Tally;
 
 const PUT: &str = "{\"put\":\"id:n:t::1\",\"fields\":{\"f\":5}}\n";
 
-/// A store of one buffer has no space for a put.
-const FULL: &str = "--kind single --value long --readers 0 --buffers 1 --words 8192 5";
+/// Eight buffers of 8,192 words have no space for 5,000 made operations on arrays of texts.
+const FULL: &str =
+    "--kind array --value string --readers 0 --buffers 8 --words 8192 --make 5000 \"no\"";
 
 /// Compares the exit status of each answer with the expected number.
 fn compare_answers(rt: &HostRuntime, tally: &mut Tally) -> io::Result<()> {
