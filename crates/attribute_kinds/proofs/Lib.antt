@@ -1,5 +1,6 @@
 pub mod StandLemmas
 pub mod ApplyLemmas
+pub mod RecordSums
 pub mod RoomLemmas
 pub mod Opening
 pub mod CommitViews

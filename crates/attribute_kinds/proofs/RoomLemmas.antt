@@ -10,8 +10,9 @@ use Rattle.store_api.specs.Ledgers.{Ledger, OfWidth, buffers_in, capacity, width
 use Rattle.store_api.specs.Units.{MakesAtMost}
 use Rattle.store_api.specs.declared.store.StoreError.{StoreError}
 use Rattle.store_api.specs.declared.store.StoreError.TheVariants.{Full, Memory}
-use Rattle.attr_field.specs.Counts.{lost_values, new_values, entry_weight}
+use Rattle.attr_field.specs.Counts.{change_records, lost_values, new_values, entry_weight}
 use Rattle.attr_index.specs.Changes.{first_weights}
+use Rattle.attr_index.specs.Columns.{column_of}
 use Rattle.attr_types.proofs.TableLemmas.{Sound, step_keeps}
 use Rattle.attr_types.specs.Lawful.{IsLawfulDocument, IsLawfulItems, OpFits}
 use Rattle.attr_types.specs.Table.{Table, after_op, op_doc}
@@ -20,9 +21,11 @@ use Rattle.attr_types.specs.declared.field.Field.{Field}
 use Rattle.attr_types.specs.declared.items.Item.{Item}
 use Rattle.attr_types.specs.declared.op.Op.{Op}
 use Rattle.attr_types.specs.declared.value.Value.{Value}
-use Rattle.value_index.specs.Counts.{MakesFew, is_added, is_gone}
+use Rattle.posting_store.specs.Changes.{MakesWithin}
+use Rattle.value_index.specs.Counts.{by_width, is_added, is_gone, record_sum}
+use Rattle.attribute_kinds.proofs.RecordSums.{field_one, field_sum}
 use Rattle.attr_steps.specs.Calls.{KeepsStore, RefusesUnit}
-use Rattle.attr_steps.specs.Counts.{document_after, document_before, document_nodes, document_records, items_if_there, of_width}
+use Rattle.attr_steps.specs.Counts.{document_after, document_before, document_nodes, document_records, items_if_there, kind_at}
 use Rattle.attr_steps.specs.Counts.{operation_nodes, operation_records, weights_at}
 use Rattle.attribute_kinds.specs.Counts.{operation_values}
 use Rattle.attr_steps.specs.Counts.{MakesOperation, SparesOperation}
@@ -38,20 +41,22 @@ values_few old new = count_by-le-length (is_added (entry_weight old)) new
 lost_few : (old new : List (Value × ℤ)) → lost_values old new ≤ length old
 lost_few old new = count_by-le-length (is_gone (entry_weight new)) old
 
-width_few : (t : Bool) (spare new kept gone : ℕ) → spare ≤ cond t (0 + (34 * new + 17 + 34 * gone)) (0 + (2 * new + 1 + gone)) → new ≤ kept
+width_few : (t : Bool) (spare records new kept gone : ℕ) → spare ≤ cond t (0 + (34 * new + 17 + 34 * gone)) (0 + records) → records ≤ 2 * new + 1 + gone → new ≤ kept
     → spare < 34 * (kept + gone + 1)
-width_few true spare new kept gone most few = omega arith
-width_few false spare new kept gone most few = omega arith
+width_few true spare records new kept gone most sum few = omega arith
+width_few false spare records new kept gone most sum few = omega arith
 
-spares_one : (fields : List Field) (table : Table) (op : Op) (spare width : ℕ) → spare ≤ of_width (operation_nodes fields table op) (operation_records fields table op) width
+spares_one : (fields : List Field) (table : Table) (op : Op) (spare width : ℕ) → spare ≤ by_width (operation_nodes fields table op) (operation_records fields table op) width
     → length fields ≡ 1 → spare < 34 * (operation_values fields table op + 1)
 spares_one fields table op spare width few one =
     let before = document_before table op in
     let after = document_after fields table op in
     let old = weights_at before 0 in
     let new = weights_at after 0 in
-    width_few (nat_eq width 34) spare (new_values old new) (length new) (lost_values old new)
-    (subst (λ n. spare ≤ of_width (document_nodes before after n) (document_records before after n) width) one few) (values_few old new)
+    let records = change_records (kind_at fields 0) (column_of 0 table) (op_doc op) (items_if_there before 0) (items_if_there after 0) in
+    width_few (nat_eq width 34) spare (records width) (new_values old new) (length new) (lost_values old new)
+    (subst (λ n. spare ≤ by_width (document_nodes before after n) (document_records fields table (op_doc op) before after n) width) one few)
+    (field_one (kind_at fields 0) (column_of 0 table) (op_doc op) (length (items_if_there after 0)) old new width) (values_few old new)
 
 pub spares_operation : {H : Type 0} (now : Ledger H) (fields : List Field) (table : Table) (op : Op) (e : StoreError) → SparesOperation now fields table op e
     → SparesOf now fields table op (refusal_of_store e)
@@ -94,7 +99,7 @@ module _ (fields : List Field) (table : Table) (op : Op) (sound : Sound fields t
   after_few : length (weights_at (document_after fields table op) 0) ≤ 1
   after_few = weights_few (document_after fields table op) (found_lawful fields (after_op fields table op) (op_doc op) (document_after fields table op) (step_keeps fields table op fits sound) refl)
 
-  single_few : (operation_nodes fields table op ≤ 85) × (operation_records fields table op ≤ 4)
+  single_few : (operation_nodes fields table op ≤ 85) × (record_sum (operation_records fields table op) ≤ 4)
   single_few =
       let before = document_before table op in
       let after = document_after fields table op in
@@ -105,9 +110,10 @@ module _ (fields : List Field) (table : Table) (op : Op) (sound : Sound fields t
       let was = before_few in
       let is = after_few in
       let nodes : document_nodes before after 1 ≤ 85 = omega (arith, values, lost, was, is) in
-      let records : document_records before after 1 ≤ 4 = omega (arith, values, lost, was, is) in (
+      let sum = field_sum (kind_at fields 0) (column_of 0 table) (op_doc op) (length (items_if_there after 0)) old new in
+      let records : record_sum (document_records fields table (op_doc op) before after 1) ≤ 4 = omega (arith, sum, values, lost, was, is) in (
         subst (λ n. document_nodes before after n ≤ 85) (sym (single_one fields single)) nodes,
-        subst (λ n. document_records before after n ≤ 4) (sym (single_one fields single)) records,
+        subst (λ n. record_sum (document_records fields table (op_doc op) before after n) ≤ 4) (sym (single_one fields single)) records,
       )
 
 -- ---- buffers: where fewer entries are made than fit one, at most one is handed out
@@ -122,16 +128,14 @@ one_buffer room most a b made few = elim (cases_lt (a.buffers + 1) b.buffers) [
   | inr low ↦ low
 ]
 
-few_buffers : {H : Type 0} (old new : Ledger H) (nodes records : ℕ) → MakesFew old new nodes records → nodes < capacity old.work.sizes.words 34
-    → buffers_in new.of_width widths ≤ buffers_in old.of_width widths + records + 1
+few_buffers : {H : Type 0} (old new : Ledger H) (nodes : ℕ) (records : ℕ → ℕ) → MakesWithin old new (by_width nodes records) → nodes < capacity old.work.sizes.words 34
+    → buffers_in new.of_width widths ≤ buffers_in old.of_width widths + record_sum records + 1
 few_buffers old new nodes records made low =
-    let each = made.counts.each in
-    let few = made.nodes_few in
-    let node = one_buffer (capacity old.work.sizes.words 34) (made.most 34) (old.of_width 34) (new.of_width 34) (each 34) (omega arith) in
+    let each = made.each in
+    let node = one_buffer (capacity old.work.sizes.words 34) nodes (old.of_width 34) (new.of_width 34) (each 34) low in
     omega (
       arith,
       node,
-      made.records_few,
       (each 2).buffers,
       (each 4).buffers,
       (each 8).buffers,

@@ -10,7 +10,8 @@ use Rattle.attr_types.specs.declared.op.Op.{Op}
 use Rattle.attr_types.specs.declared.value.Value.{Value}
 use Rattle.attribute_kinds.specs.declared.answers.AttrError.{AttrError}
 use Rattle.attribute_kinds.specs.declared.answers.AttrError.TheVariants.{Full, CommitsSpent, Memory}
-use Rattle.attr_steps.specs.Counts.{weights_at, of_width, document_before, document_after, operation_nodes, operation_records}
+use Rattle.value_index.specs.Counts.{by_width}
+use Rattle.attr_steps.specs.Counts.{weights_at, document_before, document_after, operation_nodes, operation_records}
 use Rattle.attr_steps.specs.Widths.{IsOperationWidth}
 
 -- the number of distinct values of the document's items before or after the operation, in the first attribute
@@ -23,7 +24,7 @@ operation_values fields table op = distinct_values (weights_at (document_before 
 -- a full store has few spare entries of the width at the end of the call; with one attribute, the bound depends on
 -- the values alone
 pub record SparesFew {H : Type 0} (new : Ledger H) (fields : List Field) (table : Table) (op : Op) (width : ℕ) : Type 0 where
-  pub few : (new.of_width width).spare ≤ of_width (operation_nodes fields table op) (operation_records fields table op) width
+  pub few : (new.of_width width).spare ≤ by_width (operation_nodes fields table op) (operation_records fields table op) width
   pub one : length fields ≡ 1 → (new.of_width width).spare < 34 * (operation_values fields table op + 1)
 
 abbrev pub SparesOf : {H : Type 0} → Ledger H → List Field → Table → Op → AttrError → Type 0

@@ -1,10 +1,13 @@
-ghost use Rattle.std.specs.Prelude.{◌≡◌, ◌<◌, ◌≤◌, ◌+◌, ◌-◌, ◌^◌, [], None, false, length, IfOk, IfErr, OnOk, OnErr, Ok, Err, replicate};
+ghost use Rattle.std.specs.Prelude.{◌≡◌, ℕ, ◌<◌, ◌≤◌, ◌+◌, ◌-◌, ◌*◌, ◌^◌, [], None, false, length, IfOk, IfErr, OnOk, OnErr, Ok, Err, replicate};
 ghost use Rattle.entry_ref.specs.Images.{words_at};
 ghost use Rattle.arena_api.specs.Calls.{IsFresh, told_after};
 ghost use Rattle.arena_api.specs.Works.{last_image};
 ghost use Rattle.attr_types.specs.declared.applied.Applied.TheVariants.{Skipped};
 ghost use Rattle.attr_images.specs.Images.{IsLawfulImage, table_of, operations_at};
 ghost use Rattle.attr_images.specs.Shapes.{shape_of, types_of};
+ghost use Rattle.attr_images.specs.Words.{class_of};
+ghost use Rattle.array_store.specs.Adding.{MakesOneOf};
+ghost use Rattle.store_api.specs.Ledgers.{no_counts};
 ghost use Rattle.attr_types.specs.Lawful.{OpFits};
 ghost use Rattle.attr_types.specs.Table.{after_op};
 ghost use Rattle.attr_types.specs.declared.field.TheConstants.{MOST_FIELDS};
@@ -16,6 +19,7 @@ ghost use Rattle.attr_steps.specs.Counts.{MakesOperation};
 ghost use Rattle.attribute_kinds.specs.Counts.{LacksBuffers, NamesWidth, SparesOf};
 ghost use Rattle.attribute_kinds.specs.Compacting.{CompactsTo, IsIdle, RefusesStep};
 ghost use Rattle.compact_steps.specs.Compactions.{KeepsStoreBut};
+ghost use Rattle.compact_steps.specs.Counts.{MakesKeys};
 ghost use Rattle.attribute_kinds.specs.declared.answers.Compacted.TheVariants.{Idle};
 
 use crate::answers::{AttrError, CommitInfo, Compacted, Published, has_finished, refusal, told};
@@ -93,6 +97,8 @@ impl<const OFFSET_BITS: u32, W: Work<OFFSET_BITS, Layout = AttrLayout>> Attribut
         ensures root { IfOk result (λ a. a.root ≡ 0) }
         ensures plan { IfOk result (λ a. a.plan ≡ None) }
         ensures work { IfOk result (λ a. (⟦<EntryStore<OFFSET_BITS, W> as Store<OFFSET_BITS>>⟧.ledger a.store).work ≡ W.knows work) }
+        ensures counts { IfOk result (λ a. (width : ℕ)
+            → (⟦<EntryStore<OFFSET_BITS, W> as Store<OFFSET_BITS>>⟧.ledger a.store).of_width width ≡ no_counts) }
         ensures left { IfErr result (λ e. e.work ≡ work) }
     {
         let _ = dense;
@@ -214,6 +220,8 @@ impl<const OFFSET_BITS: u32, S: Store<OFFSET_BITS, Layout = AttrLayout>> Attribu
             (last_image (S.ledger self.new.store).work.commits)) }
         ensures number { IfOk result (λ info. info.commit ≡ (S.ledger self.old.store).work.commits.last + 1) }
         ensures counts { IfOk result (λ info. info.operations ≡ self.old.operations) }
+        ensures makes { MakesOneOf (class_of (1 + 2 * length self.old.fields)) (S.ledger self.old.store) (S.ledger self.new.store) }
+        ensures trees { self.new.trees ≡ self.old.trees }
         ensures committed { OnOk result (self.new.committed ≡ self.old.table) }
         ensures published { OnOk result (self.new.committed_operations ≡ self.old.operations) }
         ensures told { OnOk result ((S.ledger self.new.store).work.told
@@ -271,6 +279,7 @@ impl<const OFFSET_BITS: u32, S: Store<OFFSET_BITS, Layout = AttrLayout>> Attribu
         ensures steps { IfOk result (CompactsTo OFFSET_BITS S.ledger S.records self.old self.new keys) }
         ensures refuses { IfErr result (RefusesStep OFFSET_BITS S.ledger S.records self.old self.new) }
         ensures idle { IsIdle OFFSET_BITS (S.ledger self.old.store) self.old.plan → result ≡ Ok Idle }
+        ensures makes { MakesKeys self.old.fields self.old.table (S.ledger self.old.store) (S.ledger self.new.store) keys }
         ensures keeps { KeepsStoreBut (S.ledger self.old.store) (S.ledger self.new.store) }
         ensures table { self.new.table ≡ self.old.table }
         ensures operations { self.new.operations ≡ self.old.operations }

@@ -1,3 +1,4 @@
+pub mod KeyCounts
 pub mod KeyLemmas
 pub mod Moving
 pub mod UnitSteps

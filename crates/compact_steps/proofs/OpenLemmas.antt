@@ -25,6 +25,7 @@ use Rattle.attr_compaction.specs.PhaseKeys.{HasType}
 use Rattle.attr_compaction.specs.Counts.{keys_between}
 use Rattle.compact_steps.specs.StepsLaws.{FirstIsCleared}
 use Rattle.compact_steps.proofs.WalkLemmas.{keeps_then, refused_since}
+use Rattle.compact_steps.proofs.KeyCounts.{rises_none, rises_sealed}
 use Rattle.compact_steps.specs.Compactions.{Empties, GoesTo, IsUnderPlan, KeepsStoreBut, OpensPlan, RefusesStep, Went}
 use Rattle.compact_steps.specs.Walks.{HasLastField, IsOver, RefusesFirst, RefusesNext, Stops, Visits}
 
@@ -94,6 +95,7 @@ module _ {H : Type 0} (bits root : ℕ) (old : Ledger H) (m : Records) (fields :
     under = record { victim = refl; all = refl; sealed = refl };
     place = refl;
     keeps = keeps_same old;
+    counts = rises_none old (λ w. 0);
     left = leaves_same old m;
     holds = holds;
     under_way = under_way;
@@ -120,6 +122,7 @@ module _ {H : Type 0} (bits root : ℕ) (old : Ledger H) (m : Records) (fields :
       under = record { unfinished = unfinished; victim = is; all = count_is; sealed = seals.sealed };
       place = refl;
       keeps = keeps_with bits old m fields trees root mid.sealed mid.of_width old.finished;
+      counts = let rises = rises_sealed old mid victim seals in record { made = rises.made; buffers = rises.buffers };
       left = record { status = λ r. inl refl; records = refl };
       holds = holds_with bits old m fields trees root mid.sealed mid.of_width old.finished (λ b e. fewer_by (nat_eq b victim) (old.sealed b) (sym (seals.sealed b) ∙ e)) holds.apart holds;
       under_way = record {

@@ -19,11 +19,12 @@ use Rattle.store_api.specs.declared.store.StoreError.{StoreError}
 use Rattle.store_api.specs.declared.store.StoreError.TheVariants.{Full, Memory}
 use Rattle.store_api.proofs.PartLemmas.{owns-some}
 use Rattle.store_api.proofs.Uses.{used_has}
-use Rattle.tree_read.specs.declared.node_format.TheConstants.{NODE_WORDS}
 use Rattle.compaction_moves.specs.IndexMoves.{IsKeyIn}
 use Rattle.attr_field.specs.Documents.{documents_refer}
 use Rattle.attr_images.specs.Documents.{column_at}
-use Rattle.value_index.specs.Counts.{MakesFew}
+use Rattle.attr_index.specs.Columns.{Column}
+use Rattle.compaction_moves.specs.Counts.{key_nodes, one_record, MakesKey}
+use Rattle.value_index.specs.Counts.{by_width}
 use Rattle.attr_field.specs.Fields.{field_part, IsField}
 use Rattle.compaction_moves.specs.Cleared.{IsCleared, IsClearedField}
 use Rattle.compact_steps.specs.StepsLaws.{OthersStayCleared, StayLeavesCleared}
@@ -37,7 +38,6 @@ use Rattle.attr_types.specs.declared.kind.ValueType.{ValueType}
 use Rattle.attr_field.proofs.CopyLemmas.{refers_some}
 use Rattle.attr_compaction.specs.PhaseKeys.{key_past, phase_keys, HasType}
 use Rattle.attr_steps.specs.Calls.{KeepsStore}
-use Rattle.attr_steps.specs.Counts.{SparesAtMost}
 use Rattle.attr_steps.specs.Fields.{AllReferBeside, HoldsAttributes, IsFieldAt, part_of, parts_of, root_entries}
 use Rattle.attr_steps.proofs.Columns.{FieldLaws}
 use Rattle.attr_steps.proofs.CountLemmas.{spares_among}
@@ -209,15 +209,18 @@ active_begun bits old begun mid new m k o (Full width active held oldest) begins
 active_begun bits old begun mid new m k o Memory begins records recorded left placed refuses = tt
 
 -- ---- what a full store has to spare
-few_below : {H : Type 0} (new : Ledger H) (e : StoreError) → SparesAtMost new 25 1 e → SparesBelow new 34 e
-few_below new (Full width active held oldest) spares = told (nat_eq width NODE_WORDS) spares
+few_below : (width w : ℕ) → by_width (key_nodes 8) (one_record width) w < 34
+few_below width w = told (nat_eq w 34) (nat_eq w width)
   where
-    told : (t : Bool) → (new.of_width width).spare ≤ cond t 25 1 → (new.of_width width).spare < 34
-    told true most = omega arith
-    told false most = omega arith
-few_below new Memory spares = tt
+    told : (t u : Bool) → cond t 25 (cond u 1 0) < 34
+    told true u = omega arith
+    told false true = omega arith
+    told false false = omega arith
 
-pub spares_begun : {H : Type 0} (among : ℕ → Type 0) (old begun mid new : Ledger H) → begun ≡ record old { unit = true } → MakesFew begun mid 25 1 → (m o : Records) (e : StoreError) → IsSettled old m
-    → RefusesOf among begun mid e → Undoes mid new o → SparesBelow new 34 e
-spares_begun among old begun mid new begins made m o e settled refuses undoes =
-    few_below new e (spares_among old begun mid new 25 1 begins made among m o e settled refuses undoes)
+pub spares_begun : {H : Type 0} (among : ℕ → Type 0) (kind : Kind) (type : ValueType) (column : Column) (old begun mid new : Ledger H) → begun ≡ record old { unit = true }
+    → MakesKey kind type column begun mid → (m o : Records) (e : StoreError) → IsSettled old m → RefusesOf among begun mid e → Undoes mid new o → SparesBelow new 34 e
+spares_begun among kind type column old begun mid new begins made m o (Full w active held oldest) settled refuses undoes =
+    let spare = spares_among old begun mid new (by_width (key_nodes 8) (one_record made.width)) begins made.counts among m o (Full w active held oldest) settled refuses undoes in
+    let few = few_below made.width w in
+    omega (arith, spare, few)
+spares_begun among kind type column old begun mid new begins made m o Memory settled refuses undoes = tt

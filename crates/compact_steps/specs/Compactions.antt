@@ -13,6 +13,7 @@ use Rattle.attr_types.specs.declared.field.Field.{Field}
 use Rattle.attr_steps.specs.Calls.{KeepsStore, LeavesEntries}
 use Rattle.attr_steps.specs.Fields.{HoldsAttributes}
 use Rattle.attr_steps.specs.Views.{table_at}
+use Rattle.compact_steps.specs.Counts.{RisesBy}
 use Rattle.compact_steps.specs.Units.{IsUnderWay}
 use Rattle.compact_steps.specs.Walks.{HasLastField, RefusesNext, Stops}
 use Rattle.compact_steps.specs.declared.stepping.Step.{Step}
@@ -58,6 +59,7 @@ pub record OpensPlan {H : Type 0} (bits root : ℕ) (old new : Ledger H) (m n : 
   pub under : IsUnderPlan bits (length fields) old new before plan
   pub place : plan.place ≡ place_of_plan before
   pub keeps : KeepsStoreBut old new
+  pub counts : RisesBy old new (λ width. 0)
   pub left : LeavesEntries old new m n
   pub holds : HoldsAttributes bits new n fields trees root
   pub under_way : IsUnderWay bits new n trees plan

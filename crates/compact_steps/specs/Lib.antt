@@ -1,3 +1,4 @@
+pub mod Counts
 pub mod Units
 pub mod Walks
 pub mod Compactions

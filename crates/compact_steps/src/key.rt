@@ -3,6 +3,8 @@ ghost use Rattle.attr_compaction.specs.declared.plan.TheConstants.{PHASES};
 ghost use Rattle.attr_steps.specs.Calls.{KeepsStore, LeavesEntries, RefusesUnit};
 ghost use Rattle.attr_steps.specs.Fields.{HoldsAttributes, IsFieldAt, trees_of, trees_of_field};
 ghost use Rattle.attr_compaction.specs.PhaseKeys.{key_past, HasType};
+ghost use Rattle.attr_images.specs.Documents.{column_at};
+ghost use Rattle.compaction_moves.specs.Counts.{MakesKey};
 ghost use Rattle.compact_steps.specs.Units.{keys_at, plan_at, CompactsTo, HasActive, IsUnderWay, SparesBelow};
 
 use crate::{same_law, stage_law};
@@ -67,6 +69,8 @@ pub fn move_unit<const OFFSET_BITS: u32, S: Store<OFFSET_BITS>>(
     ensures left { OnErr result (LeavesEntries (S.ledger store.old) (S.ledger store.new) (S.records store.old) (S.records store.new)) }
     ensures refused { IfErr result (RefusesUnit (S.ledger store.old) (S.ledger store.new)) }
     ensures spares { IfErr result (SparesBelow (S.ledger store.new) 34) }
+    ensures counts { MakesKey field.now.kind field.now.value
+        (column_at field.now.kind field.now.value (S.records store.old) own.entry.documents) (S.ledger store.old) (S.ledger store.new) }
     ensures active { IfErr result (HasActive (S.ledger store.new)) }
     ensures keeps { KeepsStore (S.ledger store.old) (S.ledger store.new) }
 {

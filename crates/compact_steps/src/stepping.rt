@@ -1,4 +1,6 @@
 //! A step of a compaction.
+ghost use Rattle.compact_steps.specs.Counts.{MakesKeys};
+ghost use Rattle.attr_steps.specs.Views.{table_at};
 ghost use Rattle.std.specs.Prelude.{◌≡◌, ◌≤◌, None, length, IfSome};
 ghost use Rattle.attr_steps.specs.Fields.{HoldsAttributes, trees_of};
 ghost use Rattle.attr_types.specs.declared.field.TheConstants.{MOST_FIELDS};
@@ -49,6 +51,8 @@ pub fn compact<const OFFSET_BITS: u32, S: Store<OFFSET_BITS>>(
     ensures sized { length roots.new ≡ length fields.now }
     ensures compacts { Compacts OFFSET_BITS root.entry (S.ledger store.old) (S.ledger store.new) (S.records store.old) (S.records store.new)
         fields.now (trees_of fields.now roots.old) (trees_of fields.now roots.new) before result.0 (store.new ≡ store.old) keys result.1 }
+    ensures counts { MakesKeys fields.now (table_at (S.records store.old) (trees_of fields.now roots.old)) (S.ledger store.old)
+        (S.ledger store.new) keys }
 {
     let Some(mut plan) = open_plan(store, fields, roots, root, before) else {
         return (None, Ok(Step::Idle));

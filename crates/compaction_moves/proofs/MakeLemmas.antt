@@ -1,74 +1,192 @@
 -- How many records a move makes.
-use Rattle.std.proofs.Common.{◌≡◌, ℕ, ◌+◌, ◌*◌, ◌≤◌, Bool, true, false, cond, nat_eq, length, refl, arith}
-use Rattle.std.specs.Option.{unwrap_or}
-use Rattle.std.specs.Prelude.{nat_le}
+use Rattle.std.proofs.Common.{◌≡◌, ℕ, zero, suc, ◌+◌, ◌*◌, ◌≤◌, Bool, true, false, cond, nat_eq, nat_le, ℤ, [], ◌∷◌, length, Option, None, Some, refl, sym, ap, subst, ◌∙◌, arith, inl, inr, leb-true}
+use Rattle.std.proofs.lemmas.Bool.{eqb-true}
+use Rattle.std.specs.List.{cons_option, find}
+use Rattle.std.specs.Option.{option_map, unwrap_or}
+use Rattle.std.specs.Ordering.{is_eq}
 use Rattle.entry_ref.specs.Records.{Records}
 use Rattle.tree_read.specs.Pairs.{lookup}
 use Rattle.store_api.specs.Ledgers.{Ledger}
 use Rattle.tree_read.specs.Trees.{tree_pairs}
 use Rattle.frozen_btree.specs.Changes.{levels}
 use Rattle.frozen_btree.specs.Makes.{CountsNodes}
-use Rattle.array_store.proofs.ClassLemmas.{class_no_node}
-use Rattle.attr_images.specs.Postings.{list_form}
+use Rattle.array_store.proofs.ClassLemmas.{class_least, class_no_node}
+use Rattle.attr_field.proofs.CountLemmas.{documents_low}
+use Rattle.attr_field.specs.DocumentsChanges.{documents_most}
+use Rattle.attr_field.specs.Fields.{IsField}
+use Rattle.attr_field.specs.Items.{has_list, items_record}
+use Rattle.attr_images.specs.Documents.{column_at}
+use Rattle.attr_images.specs.Postings.{index_of, list_form}
 use Rattle.attr_images.specs.Values.{value_words}
 use Rattle.attr_images.specs.Words.{class_of}
+use Rattle.attr_index.specs.Columns.{Column, documents_with}
+use Rattle.attr_index.specs.Index.{list_of}
+use Rattle.attr_types.specs.Value.{type_of, value_cmp}
+use Rattle.attr_types.specs.declared.items.Item.{Item}
+use Rattle.attr_types.specs.declared.kind.Kind.{Kind}
+use Rattle.attr_types.specs.declared.kind.Kind.TheVariants.{Single}
+use Rattle.attr_types.specs.declared.kind.ValueType.{ValueType}
+use Rattle.attr_types.specs.declared.kind.ValueType.TheVariants as types
 use Rattle.attr_types.specs.declared.value.Value.{Value}
+use Rattle.attr_types.specs.declared.value.Value.TheVariants as values
 use Rattle.enum_dictionary.specs.Dictionaries.{beside_value}
-use Rattle.value_index.specs.Counts.{MakesFew, record_sum}
-use Rattle.value_index.proofs.WalksCountLemmas.{levels_few, no_node, one_of, form_few}
+use Rattle.value_index.specs.Counts.{by_width, IsLow}
+use Rattle.value_index.specs.Indexes.{IsIndex}
+use Rattle.value_index.proofs.LevelLemmas.{dictionary_low, list_low}
+use Rattle.value_index.proofs.WalksCountLemmas.{levels_few, no_node, form_few}
+use Rattle.compaction_moves.specs.Counts.{key_nodes, one_record, IsLowColumn, MakesKey}
 use Rattle.compaction_moves.specs.IndexMoves.{key_most, move_most}
 use Rattle.posting_store.specs.Changes.{MakesWithin}
-use Rattle.value_index.proofs.CountLemmas.{within_nodes}
+use Rattle.value_index.proofs.CountLemmas.{within_more, within_nodes}
 use Rattle.value_index.specs.Changes.{nodes_most, value_levels}
 
-abbrev one_if : Bool → ℕ
-one_if t = cond t 1 0
+-- ---- a bound by width, from what is made of nodes and of other widths
+by_parts : (w x n r : ℕ) → (nat_eq w 34 ≡ true → x ≤ n) → (nat_eq w 34 ≡ false → x ≤ r) → x ≤ cond (nat_eq w 34) n r
+by_parts w x n r node other = told (nat_eq w 34) refl
+  where
+    told : (t : Bool) → nat_eq w 34 ≡ t → x ≤ cond t n r
+    told true is = node is
+    told false is = other is
 
--- a value's record and nodes of the dictionary
-key_nodes : (k l : ℕ) → one_if (nat_eq 34 k) ≡ 0 → l ≤ 8 → one_if (nat_eq 34 k) + (2 * l + 1) ≤ 17
-key_nodes k l none few = omega arith
+none_there : (w k : ℕ) → nat_eq w 34 ≡ true → (k ≡ 34 → ⊥) → cond {A = ℕ} (nat_eq w k) 1 0 ≡ 0
+none_there w k node none = subst (λ x. cond {A = ℕ} (nat_eq x k) 1 0 ≡ 0) (sym (eqb-true w 34 node)) (no_node k none)
 
-key_records : (k l : ℕ) → record_sum (λ w. cond (nat_eq w k) 1 0 + cond (nat_eq w 34) (2 * l + 1) 0) ≤ 1
-key_records k l = let one = one_of k in omega arith
+in_node : (t : Bool) (n : ℕ) → cond t n 0 ≤ n
+in_node true n = omega arith
+in_node false n = omega arith
 
--- a list and nodes of the dictionary
-list_nodes : (t u : Bool) (h l : ℕ) → h ≤ 8 → l ≤ 8 → cond t (cond u 1 0) h + (2 * l + 1) ≤ 25
-list_nodes true true h l few low = omega arith
-list_nodes true false h l few low = omega arith
-list_nodes false u h l few low = omega arith
+past_node : (t : Bool) (n : ℕ) → t ≡ false → cond t n 0 ≡ 0
+past_node t n is = ap (λ b. cond b n 0) is
 
-list_records : (t : Bool) (k h l : ℕ) → record_sum (λ w. cond t (cond (nat_eq w k) 1 0) (cond (nat_eq w 34) h 0) + cond (nat_eq w 34) (2 * l + 1) 0) ≤ 1
-list_records true k h l = let one = one_of k in omega arith
-list_records false k h l = omega arith
+-- a record of this width, and nodes of the dictionary
+record_nodes : (k l n w : ℕ) → (k ≡ 34 → ⊥) → l ≤ n → cond (nat_eq w k) 1 0 + nodes_most l w ≤ by_width (key_nodes n) (one_record k) w
+record_nodes k l n w none low =
+    by_parts w (cond (nat_eq w k) 1 0 + nodes_most l w) (key_nodes n) (one_record k w)
+    (λ node. let no_record = none_there w k node none in let few = in_node (nat_eq w 34) (2 * l + 1) in omega (arith, no_record, few, low))
+    (λ other. let none = past_node (nat_eq w 34) (2 * l + 1) other in omega (arith, none))
 
-nodes_records : (h : ℕ) → record_sum (nodes_most h) ≤ 1
-nodes_records h = omega arith
+-- a list's record where it is short, else a node of each level; and nodes of the dictionary
+list_nodes : (t : Bool) (k h l n w : ℕ) → (k ≡ 34 → ⊥) → h ≤ n → l ≤ n
+    → cond t (cond (nat_eq w k) 1 0) (cond (nat_eq w 34) h 0) + nodes_most l w ≤ by_width (key_nodes n) (one_record (cond t k 2)) w
+list_nodes true k h l n w none high low = record_nodes k l n w none low
+list_nodes false k h l n w none high low =
+    by_parts w (cond (nat_eq w 34) h 0 + nodes_most l w) (key_nodes n) (one_record 2 w)
+    (λ node. let few = in_node (nat_eq w 34) (2 * l + 1) in let own = in_node (nat_eq w 34) h in omega (arith, few, own, high, low))
+    (λ other. let none = past_node (nat_eq w 34) (2 * l + 1) other in let own = past_node (nat_eq w 34) h other in omega (arith, none, own))
 
-module _ {H : Type 0} (a b : Ledger H) (m : Records) where
-  pub few_key : (value : Value) (root : ℕ) → MakesWithin a b (key_most value m root) → MakesFew a b 25 1
-  few_key value root made = record {
-    most = key_most value m root;
-    counts = made;
-    nodes_few = let few = key_nodes (class_of (length (value_words value))) (levels m root)
-        (no_node (class_of (length (value_words value))) (class_no_node (length (value_words value)))) (levels_few m root) in omega arith;
-    records_few = key_records (class_of (length (value_words value))) (levels m root);
+only_nodes : (l n w : ℕ) → l ≤ n → nodes_most l w ≤ by_width (key_nodes n) (one_record 2) w
+only_nodes l n w low =
+    by_parts w (nodes_most l w) (key_nodes n) (one_record 2 w)
+    (λ node. let few = in_node (nat_eq w 34) (2 * l + 1) in omega (arith, few, low))
+    (λ other. let none = past_node (nat_eq w 34) (2 * l + 1) other in omega (arith, none))
+
+-- a document's items: an array or a weighted set has a record
+items_one : (kind : Kind) (count w : ℕ) → items_record kind count w ≤ one_record (cond (has_list kind) (class_of (1 + count)) 2) w
+items_one kind zero w = omega arith
+items_one kind (suc count) w = told (has_list kind)
+  where
+    told : (t : Bool) → cond t (cond (nat_eq w (class_of (1 + suc count))) 1 0) 0 ≤ one_record (cond t (class_of (1 + suc count)) 2) w
+    told true = omega arith
+    told false = omega arith
+
+items_nodes : (kind : Kind) (count l n w : ℕ) → l ≤ n → documents_most kind count (2 * l + 1) w ≤ by_width (key_nodes n) (one_record (cond (has_list kind) (class_of (1 + count)) 2)) w
+items_nodes kind count l n w low = told (nat_eq w 34)
+  where
+    told : (t : Bool) → cond t (2 * l + 1) (items_record kind count w) ≤ cond t (3 * n + 1) (one_record (cond (has_list kind) (class_of (1 + count)) 2) w)
+    told true = omega arith
+    told false = items_one kind count w
+
+-- ---- the widths of a single attribute of longs
+long_width : (value : Value) → type_of value ≡ types.Long → class_of (length (value_words value)) ≤ 16
+long_width (values.Long number) is = omega arith
+long_width (values.Text bytes) is = absurd (grind (arith, is))
+
+short_width : (t : Bool) (count : ℕ) → nat_le count 8 ≡ t → cond t (class_of (1 + count)) 2 ≤ 16
+short_width true count is = let few = leb-true count 8 is in class_least (1 + count) 16 (inr (inr (inr (inl refl)))) (omega arith)
+short_width false count is = omega arith
+
+single_width : (kind : Kind) (count : ℕ) → kind ≡ Single → cond (has_list kind) (class_of (1 + count)) 2 ≤ 16
+single_width kind count is =
+    let same : cond (has_list kind) (class_of (1 + count)) 2 ≡ 2 = ap (λ k. cond (has_list k) (class_of (1 + count)) 2) is in
+    omega (arith, same)
+
+-- a list of the documents that have a value has no more of them than there are
+documents_few : (value : Value) (column : Column) → length (documents_with value column) ≤ length column
+documents_few value [] = omega arith
+documents_few value (e ∷ column) = told (option_map (λ (item : Item). (e.0, item.weight)) (find (λ (item : Item). is_eq (value_cmp value item.value)) e.1)) (documents_few value column)
+  where
+    told : (o : Option (ℕ × ℤ)) → length (documents_with value column) ≤ length column → length (cons_option o (documents_with value column)) ≤ suc (length column)
+    told None rest = omega arith
+    told (Some p) rest = omega arith
+
+-- ---- what is made of one key
+module _ {H : Type 0} (a b : Ledger H) (m : Records) (kind : Kind) (type : ValueType) (documents dictionary : ℕ) (field : IsField kind type m documents dictionary) where
+  abbrev here : Column
+  here = column_at kind type m documents
+
+  low_index : (most : ℕ) → IsLowColumn most here → IsLow most (index_of type m dictionary)
+  low_index most low = record {
+    some = low.some;
+    values = low.values (index_of type m dictionary) field.index_of_documents;
+    lists = λ value.
+        let same : length (list_of value (index_of type m dictionary)) ≡ length (documents_with value here) = ap length (field.index_of_documents.lists value) in
+        let few = documents_few value here in
+        let all = low.documents in
+        omega (arith, same, few, all);
   }
 
-  list_few : (value : Value) (root : ℕ) → value_levels value m root ≤ 8
-  list_few value root = form_few m (list_form (unwrap_or (lookup (beside_value value m) (tree_pairs m root)) 0))
+  low_dictionary : (most : ℕ) → IsLowColumn most here → levels m dictionary ≤ most
+  low_dictionary most low = dictionary_low type m dictionary most field.index_is (low_index most low)
 
-  pub few_list : (value : Value) (root count : ℕ) → MakesWithin a b (move_most value m root count) → MakesFew a b 25 1
-  few_list value root count made = record {
-    most = move_most value m root count;
-    counts = made;
-    nodes_few = list_nodes (nat_le count 8) (nat_eq 34 (class_of (1 + count))) (value_levels value m root) (levels m root) (list_few value root) (levels_few m root);
-    records_few = list_records (nat_le count 8) (class_of (1 + count)) (value_levels value m root) (levels m root);
+  low_documents : (most : ℕ) → IsLowColumn most here → levels m documents ≤ most
+  low_documents most low = documents_low kind type m documents most field.documents_are low.some low.documents
+
+  -- by the levels of trees, for any bound of them
+  pub any_key : (width : ℕ) → (kind ≡ Single → type ≡ types.Long → width ≤ 16) → (high : ℕ → Type 0) → high 8 → ((most : ℕ) → IsLowColumn most here → high most)
+      → ((most : ℕ) → high most → MakesWithin a b (by_width (key_nodes most) (one_record width))) → MakesKey kind type here a b
+  any_key width narrow high few low makes = record {
+    width = width;
+    narrow = narrow;
+    counts = makes 8 few;
+    low = λ most is. makes most (low most is);
   }
 
-  pub few_nodes : (root : ℕ) → CountsNodes a b (levels m root) → MakesFew a b 25 1
-  few_nodes root counts = record {
-    most = nodes_most (levels m root);
-    counts = within_nodes a b (levels m root) (levels m root) (omega arith) counts;
-    nodes_few = let few = levels_few m root in let same : nodes_most (levels m root) 34 ≡ 2 * levels m root + 1 = refl in omega arith;
-    records_few = nodes_records (levels m root);
-  }
+  pub makes_key : (value : Value) → type_of value ≡ type → MakesWithin a b (key_most value m dictionary) → MakesKey kind type here a b
+  makes_key value typed made =
+      let width = class_of (length (value_words value)) in
+      any_key width (λ single long. long_width value (typed ∙ long)) (λ most. levels m dictionary ≤ most) (levels_few m dictionary) low_dictionary
+      (λ most low. within_more a b (key_most value m dictionary) (by_width (key_nodes most) (one_record width))
+      (λ w. record_nodes width (levels m dictionary) most w (class_no_node (length (value_words value))) low) made)
+
+  record IsHigh (value : Value) (most : ℕ) : Type 0 where
+    pub list : value_levels value m dictionary ≤ most
+    pub own : levels m dictionary ≤ most
+
+  pub makes_list : (value : Value) (count : ℕ) → type_of value ≡ type → MakesWithin a b (move_most value m dictionary count) → MakesKey kind type here a b
+  makes_list value count typed made =
+      let width = cond (nat_le count 8) (class_of (1 + count)) 2 in
+      let is : IsIndex (type_of value) m dictionary = subst (λ t. IsIndex t m dictionary) (sym typed) field.index_is in
+      any_key width (λ single long. short_width (nat_le count 8) count refl) (IsHigh value)
+      (record { list = form_few m (list_form (unwrap_or (lookup (beside_value value m) (tree_pairs m dictionary)) 0)); own = levels_few m dictionary })
+      (λ most low. record { list = list_low value m dictionary most is (subst (λ t. IsLow most (index_of t m dictionary)) (sym typed) (low_index most low)); own = low_dictionary most low })
+      (λ most high. within_more a b (move_most value m dictionary count) (by_width (key_nodes most) (one_record width))
+      (λ w. list_nodes (nat_le count 8) (class_of (1 + count)) (value_levels value m dictionary) (levels m dictionary) most w (class_no_node (1 + count)) high.list high.own) made)
+
+  pub makes_nodes : CountsNodes a b (levels m dictionary) → MakesKey kind type here a b
+  makes_nodes counts =
+      any_key 2 (λ single long. omega arith) (λ most. levels m dictionary ≤ most) (levels_few m dictionary) low_dictionary
+      (λ most low. within_more a b (nodes_most (levels m dictionary)) (by_width (key_nodes most) (one_record 2)) (λ w. only_nodes (levels m dictionary) most w low)
+      (within_nodes a b (levels m dictionary) (levels m dictionary) (omega arith) counts))
+
+  pub makes_map : CountsNodes a b (levels m documents) → MakesKey kind type here a b
+  makes_map counts =
+      any_key 2 (λ single long. omega arith) (λ most. levels m documents ≤ most) (levels_few m documents) low_documents
+      (λ most low. within_more a b (nodes_most (levels m documents)) (by_width (key_nodes most) (one_record 2)) (λ w. only_nodes (levels m documents) most w low)
+      (within_nodes a b (levels m documents) (levels m documents) (omega arith) counts))
+
+  pub makes_items : (count : ℕ) → MakesWithin a b (documents_most kind count (2 * levels m documents + 1)) → MakesKey kind type here a b
+  makes_items count made =
+      let width = cond (has_list kind) (class_of (1 + count)) 2 in
+      any_key width (λ single long. single_width kind count single) (λ most. levels m documents ≤ most) (levels_few m documents) low_documents
+      (λ most low. within_more a b (documents_most kind count (2 * levels m documents + 1)) (by_width (key_nodes most) (one_record width))
+      (λ w. items_nodes kind count (levels m documents) most w low) made)

@@ -8,3 +8,4 @@ pub mod Visits
 pub mod IndexTurns
 pub mod IndexLaws
 pub mod DocumentsCleared
+pub mod Counts

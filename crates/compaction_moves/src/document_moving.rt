@@ -41,7 +41,7 @@ fn set_again<const OFFSET_BITS: u32, S: Store<OFFSET_BITS>>(
     ensures moves { IfOk result (MovesItems OFFSET_BITS buffer doc kind value_type (S.ledger store.old) (S.ledger store.new)
         (S.records store.old) (S.records store.new) documents.entry dictionary.entry) }
     ensures counts { MakesWithin (S.ledger store.old) (S.ledger store.new)
-        (documents_most (1 + length items.now) (2 * levels (S.records store.old) documents.entry + 1)) }
+        (documents_most kind (length items.now) (2 * levels (S.records store.old) documents.entry + 1)) }
     ensures refuses { IfErr result (RefusesOf (IsUsedWidth (S.ledger store.old) (S.records store.old)) (S.ledger store.old)
         (S.ledger store.new)) }
     ensures may { MayDo (S.ledger store.old) (S.ledger store.new) }
@@ -81,7 +81,7 @@ fn read_again<const OFFSET_BITS: u32, S: Store<OFFSET_BITS>>(
     ensures moves { IfOk result (MovesItems OFFSET_BITS buffer doc kind value_type (S.ledger store.old) (S.ledger store.new)
         (S.records store.old) (S.records store.new) documents.entry dictionary.entry) }
     ensures counts { MakesWithin (S.ledger store.old) (S.ledger store.new)
-        (documents_most (1 + length (items_of (column_at kind value_type (S.records store.old) documents.entry) doc))
+        (documents_most kind (length (items_of (column_at kind value_type (S.records store.old) documents.entry) doc))
         (2 * levels (S.records store.old) documents.entry + 1)) }
     ensures refuses { IfErr result (RefusesOf (IsUsedWidth (S.ledger store.old) (S.records store.old)) (S.ledger store.old)
         (S.ledger store.new)) }
@@ -127,7 +127,7 @@ pub fn move_items<const OFFSET_BITS: u32, S: Store<OFFSET_BITS>>(
     ensures still { AreItemsApart OFFSET_BITS buffer kind (S.records store.old) (reference_at (S.records store.old) documents.entry doc)
         → result ≡ Ok documents.entry }
     ensures counts { MakesWithin (S.ledger store.old) (S.ledger store.new)
-        (documents_most (1 + length (items_of (column_at kind value_type (S.records store.old) documents.entry) doc))
+        (documents_most kind (length (items_of (column_at kind value_type (S.records store.old) documents.entry) doc))
         (2 * levels (S.records store.old) documents.entry + 1)) }
     ensures refuses { IfErr result (RefusesOf (IsUsedWidth (S.ledger store.old) (S.records store.old)) (S.ledger store.old)
         (S.ledger store.new)) }

@@ -5,7 +5,8 @@ ghost use Rattle.store_api.specs.Calls.{IsUsedWidth, RefusesOf};
 ghost use Rattle.store_api.specs.Units.{MayDo};
 ghost use Rattle.attr_compaction.specs.declared.plan.TheConstants.{DOCUMENTS, NODES};
 ghost use Rattle.attr_compaction.specs.declared.plan.PlanKey.TheVariants as keys;
-ghost use Rattle.value_index.specs.Counts.{MakesFew};
+ghost use Rattle.attr_images.specs.Documents.{column_at};
+ghost use Rattle.compaction_moves.specs.Counts.{MakesKey};
 ghost use Rattle.compaction_moves.specs.Steps.{CanMove, Moved};
 
 use crate::{can_law, items_law, keys_law, leaves_law, map_law, move_document_nodes, move_items};
@@ -30,7 +31,8 @@ pub fn move_document_items<const OFFSET_BITS: u32, S: Store<OFFSET_BITS>>(
         (keys.Doc doc) }
     ensures moved { IfOk result (λ next. Moved OFFSET_BITS plan.now (keys.Doc doc) (S.ledger store.old) (S.ledger store.new)
         (S.records store.old) (S.records store.new) (trees_of_roots field.now roots.entry) (trees_of_roots field.now next)) }
-    ensures counts { MakesFew (S.ledger store.old) (S.ledger store.new) 25 1 }
+    ensures counts { MakesKey field.now.kind field.now.value
+        (column_at field.now.kind field.now.value (S.records store.old) roots.entry.documents) (S.ledger store.old) (S.ledger store.new) }
     ensures refuses { IfErr result (RefusesOf (IsUsedWidth (S.ledger store.old) (S.records store.old)) (S.ledger store.old)
         (S.ledger store.new)) }
     ensures may { MayDo (S.ledger store.old) (S.ledger store.new) }
@@ -68,7 +70,8 @@ pub fn move_map_nodes<const OFFSET_BITS: u32, S: Store<OFFSET_BITS>>(
         (keys.Doc doc) }
     ensures moved { IfOk result (λ next. Moved OFFSET_BITS plan.now (keys.Doc doc) (S.ledger store.old) (S.ledger store.new)
         (S.records store.old) (S.records store.new) (trees_of_roots field.now roots.entry) (trees_of_roots field.now next)) }
-    ensures counts { MakesFew (S.ledger store.old) (S.ledger store.new) 25 1 }
+    ensures counts { MakesKey field.now.kind field.now.value
+        (column_at field.now.kind field.now.value (S.records store.old) roots.entry.documents) (S.ledger store.old) (S.ledger store.new) }
     ensures refuses { IfErr result (RefusesOf (IsUsedWidth (S.ledger store.old) (S.records store.old)) (S.ledger store.old)
         (S.ledger store.new)) }
     ensures may { MayDo (S.ledger store.old) (S.ledger store.new) }

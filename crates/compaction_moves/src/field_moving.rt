@@ -6,7 +6,8 @@ ghost use Rattle.compaction_moves.specs.Cleared.{trees_of_roots, IsClearedField}
 ghost use Rattle.attr_compaction.specs.declared.plan.TheConstants.{PHASES};
 ghost use Rattle.attr_compaction.specs.declared.plan.PlanKey.TheVariants as keys;
 ghost use Rattle.attr_field.specs.Fields.{field_part, IsField, RefersBeside};
-ghost use Rattle.value_index.specs.Counts.{MakesFew};
+ghost use Rattle.attr_images.specs.Documents.{column_at};
+ghost use Rattle.compaction_moves.specs.Counts.{MakesKey};
 ghost use Rattle.compaction_moves.specs.FieldMoves.{HasBegun, MovesField};
 ghost use Rattle.compaction_moves.specs.Steps.{CanMove, Moved};
 ghost use Rattle.attr_compaction.specs.PhaseKeys.{key_past, phase_keys};
@@ -33,7 +34,8 @@ fn move_by_value<const OFFSET_BITS: u32, S: Store<OFFSET_BITS>>(
         plan.now.place.stage.phase (keys.Value value.now) }
     ensures moved { IfOk result (λ next. Moved OFFSET_BITS plan.now (keys.Value value.now) (S.ledger store.old) (S.ledger store.new)
         (S.records store.old) (S.records store.new) (trees_of_roots field.now roots.entry) (trees_of_roots field.now next)) }
-    ensures counts { MakesFew (S.ledger store.old) (S.ledger store.new) 25 1 }
+    ensures counts { MakesKey field.now.kind field.now.value
+        (column_at field.now.kind field.now.value (S.records store.old) roots.entry.documents) (S.ledger store.old) (S.ledger store.new) }
     ensures refuses { IfErr result (RefusesOf (IsUsedWidth (S.ledger store.old) (S.records store.old)) (S.ledger store.old)
         (S.ledger store.new)) }
     ensures may { MayDo (S.ledger store.old) (S.ledger store.new) }
@@ -59,7 +61,8 @@ fn move_by_document<const OFFSET_BITS: u32, S: Store<OFFSET_BITS>>(
         plan.now.place.stage.phase (keys.Doc number) }
     ensures moved { IfOk result (λ next. Moved OFFSET_BITS plan.now (keys.Doc number) (S.ledger store.old) (S.ledger store.new)
         (S.records store.old) (S.records store.new) (trees_of_roots field.now roots.entry) (trees_of_roots field.now next)) }
-    ensures counts { MakesFew (S.ledger store.old) (S.ledger store.new) 25 1 }
+    ensures counts { MakesKey field.now.kind field.now.value
+        (column_at field.now.kind field.now.value (S.records store.old) roots.entry.documents) (S.ledger store.old) (S.ledger store.new) }
     ensures refuses { IfErr result (RefusesOf (IsUsedWidth (S.ledger store.old) (S.records store.old)) (S.ledger store.old)
         (S.ledger store.new)) }
     ensures may { MayDo (S.ledger store.old) (S.ledger store.new) }
@@ -99,7 +102,8 @@ pub fn move_one<const OFFSET_BITS: u32, S: Store<OFFSET_BITS>>(
     ensures cleared { IfOk result (λ next. IsClearedField OFFSET_BITS plan.now.victim
         (record { stage = plan.now.place.stage; key = key.now }) plan.now.place.stage.field (S.records store.new)
         (trees_of_roots field.now next)) }
-    ensures counts { MakesFew (S.ledger store.old) (S.ledger store.new) 25 1 }
+    ensures counts { MakesKey field.now.kind field.now.value
+        (column_at field.now.kind field.now.value (S.records store.old) roots.entry.documents) (S.ledger store.old) (S.ledger store.new) }
     ensures refuses { IfErr result (RefusesOf (IsUsedWidth (S.ledger store.old) (S.records store.old)) (S.ledger store.old)
         (S.ledger store.new)) }
     ensures may { MayDo (S.ledger store.old) (S.ledger store.new) }

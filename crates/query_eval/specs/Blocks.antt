@@ -1,5 +1,6 @@
 -- The blocks of a bit vector.
-use Rattle.std.specs.Prelude.{◌≡◌, ℕ, ◌≤◌, true, List}
+use Rattle.std.specs.Prelude.{◌≡◌, ℕ, ◌≤◌, ◌/◌, ◌%◌, Bool, true, ◌&&◌, nat_eq, List}
+use Rattle.std.specs.Int.{bit_at}
 use Rattle.std.specs.List.{flat_map}
 use Rattle.entry_ref.specs.Records.{Records}
 use Rattle.attr_images.specs.Postings.{block_documents, IsBlock}
@@ -15,3 +16,7 @@ pub record IsDocumentBlock (m : Records) (p : ℕ × ℕ) : Type 0 where
 -- the documents of blocks
 abbrev pub documents_of : Records → List (ℕ × ℕ) → List ℕ
 documents_of m blocks = flat_map (λ p. block_documents p.0 (m p.1)) blocks
+
+-- a document of word `place` of a bit vector is that of its bit
+abbrev pub in_word : ℕ → ℕ → ℕ → Bool
+in_word place word doc = nat_eq (doc / 64) place && nat_eq (bit_at word (doc % 64)) 1

@@ -1,22 +1,22 @@
-//! An `And` of two values, by their two posting lists.
-ghost use Rattle.std.specs.Prelude.{◌≡◌, ◌&&◌, ℕ, IfOk, IfSome};
+//! An And of values, by their lists.
+ghost use Rattle.std.specs.Prelude.{◌≡◌, ◌<◌, ◌&&◌, ℕ, length, IfOk, IfSome};
 ghost use Rattle.std.specs.Map.{keys_of};
-ghost use Rattle.attr_images.specs.Postings.{index_of, list_form, postings_at, tree, IsPostingList};
+ghost use Rattle.attr_images.specs.Postings.{list_form, postings_at, tree, IsPostingList};
 ghost use Rattle.attr_index.specs.Found.{found};
-ghost use Rattle.attr_index.specs.Leaves.{listed, meeting};
 ghost use Rattle.attr_index.specs.Postings.{HaveDocNumbers};
 ghost use Rattle.attr_index.specs.Sets.{has};
-ghost use Rattle.attr_types.specs.Query.{tree_of, query_trees, and, one};
+ghost use Rattle.attr_types.specs.Query.{query_trees, and};
 ghost use Rattle.query_eval.specs.Indexes.{AreIndexed, indexes_in};
-ghost use Rattle.query_eval.specs.Parts.{IsIndexed};
+ghost use Rattle.query_eval.specs.Lists.{all_have, AreListWords};
 ghost use Rattle.query_eval.specs.Weights.{IsListWord};
 
 use crate::dictionary::Dictionary;
 use crate::kept::keep_marked;
 use crate::lists::{gather_list, keep_list};
 use crate::marks::marks_of_tree;
+use crate::members::{are_vectors, lists_of, word_of_member};
 use crate::sizes::size_of_list;
-use crate::words::word_of;
+use crate::vectors::common_of_vectors;
 use arena_api::Frozen;
 use attr_images::FIRST_VECTOR;
 use attr_index::Gathered;
@@ -113,6 +113,9 @@ fn common_of_lists<const OFFSET_BITS: u32, F: Frozen<OFFSET_BITS>>(
         && has (keys_of (postings_at (F.records frozen.old) (list_form other))) doc)) }
     ensures same { frozen.new ≡ frozen.old }
 {
+    if one >= FIRST_VECTOR && other >= FIRST_VECTOR {
+        return common_of_vectors(alloc, frozen, one, &[other]);
+    }
     if size_of_list(frozen, other) < size_of_list(frozen, one) {
         common_in_order(alloc, frozen, other, one)
     } else {
@@ -120,58 +123,39 @@ fn common_of_lists<const OFFSET_BITS: u32, F: Frozen<OFFSET_BITS>>(
     }
 }
 
-/// Returns the word of the list of a leaf that is one value.
-fn word_of_leaf<const OFFSET_BITS: u32, F: Frozen<OFFSET_BITS>>(
+/// The documents that all of some lists have, if all are bit vectors.
+fn common_of_all<const OFFSET_BITS: u32, F: Frozen<OFFSET_BITS>>(
+    alloc: Global,
     frozen: &mut F,
-    dictionary: Dictionary<OFFSET_BITS>,
-    leaf: &Leaf,
-) -> Option<u64>
-    requires { IsIndexed dictionary.values (F.records frozen.old) dictionary.root }
-    ensures form { IsListWord (F.records frozen.old) result }
-    ensures docs { IfSome result (λ list. keys_of (postings_at (F.records frozen.old) (list_form list))
-        ≡ listed (meeting leaf.now (index_of dictionary.entry.values (F.records frozen.old) dictionary.entry.root))) }
+    lists: &[u64],
+) -> Result<Option<DocList>, AllocError>
+    requires { AreListWords (F.records frozen.old) lists.now }
+    ensures docs { IfOk result (λ common. IfSome common (λ docs. (0 < length lists.now)
+        × ((doc : ℕ) → has docs doc ≡ all_have (F.records frozen.old) lists.now doc))) }
     ensures same { frozen.new ≡ frozen.old }
 {
-    match leaf {
-        Leaf::Is(value) => word_of(frozen, dictionary.root, dictionary.values, value),
-        _ => None,
+    if lists.is_empty() || !are_vectors(lists) {
+        return Ok(None);
     }
+    let common = common_of_vectors(alloc, frozen, lists[0], &lists[1..])?;
+    Ok(Some(common))
 }
 
-/// Returns the word of the list of a leaf that is one value, in an attribute.
-fn word_of_one<const OFFSET_BITS: u32, F: Frozen<OFFSET_BITS>>(
+/// The documents that several members match which are one value each, if the lists of all are bit vectors.
+fn common_of_many<const OFFSET_BITS: u32, F: Frozen<OFFSET_BITS>>(
+    alloc: Global,
     frozen: &mut F,
     dictionaries: &[Dictionary<OFFSET_BITS>],
-    field: u32,
-    leaf: &Leaf,
-) -> Option<u64>
+    queries: &[Query],
+) -> Result<Option<DocList>, AllocError>
     requires { AreIndexed OFFSET_BITS (F.records frozen.old) dictionaries.now }
-    ensures form { IsListWord (F.records frozen.old) result }
-    ensures docs { IfSome result (λ list. (doc : ℕ) → has (keys_of (postings_at (F.records frozen.old) (list_form list))) doc
-        ≡ found (one field leaf.now) (indexes_in OFFSET_BITS (F.records frozen.old) dictionaries.now) doc) }
+    ensures docs { IfOk result (λ common. IfSome common (λ docs. (doc : ℕ) → has docs doc
+        ≡ found (and (query_trees queries.now)) (indexes_in OFFSET_BITS (F.records frozen.old) dictionaries.now) doc)) }
     ensures same { frozen.new ≡ frozen.old }
 {
-    match dictionaries.get(field as usize) {
-        Some(dictionary) => word_of_leaf(frozen, *dictionary, leaf),
-        None => None,
-    }
-}
-
-/// Returns the word of the list of a member that is one value.
-fn word_of_member<const OFFSET_BITS: u32, F: Frozen<OFFSET_BITS>>(
-    frozen: &mut F,
-    dictionaries: &[Dictionary<OFFSET_BITS>],
-    query: &Query,
-) -> Option<u64>
-    requires { AreIndexed OFFSET_BITS (F.records frozen.old) dictionaries.now }
-    ensures form { IsListWord (F.records frozen.old) result }
-    ensures docs { IfSome result (λ list. (doc : ℕ) → has (keys_of (postings_at (F.records frozen.old) (list_form list))) doc
-        ≡ found (tree_of query.now) (indexes_in OFFSET_BITS (F.records frozen.old) dictionaries.now) doc) }
-    ensures same { frozen.new ≡ frozen.old }
-{
-    match query {
-        Query::One { field, leaf } => word_of_one(frozen, dictionaries, *field, leaf),
-        _ => None,
+    match lists_of(alloc, frozen, dictionaries, queries, FIRST_VECTOR)? {
+        Some(lists) => common_of_all(alloc, frozen, lists.as_slice()),
+        None => Ok(None),
     }
 }
 
@@ -186,7 +170,7 @@ fn is_one_value(query: &Query) -> bool {
 }
 
 /// Returns the documents that two members match, if each is one value. Returns `None` if there are other members.
-pub fn common_of_two<const OFFSET_BITS: u32, F: Frozen<OFFSET_BITS>>(
+fn common_of_two<const OFFSET_BITS: u32, F: Frozen<OFFSET_BITS>>(
     alloc: Global,
     frozen: &mut F,
     dictionaries: &[Dictionary<OFFSET_BITS>],
@@ -214,4 +198,24 @@ pub fn common_of_two<const OFFSET_BITS: u32, F: Frozen<OFFSET_BITS>>(
     };
     let common = common_of_lists(alloc, frozen, first, second)?;
     Ok(Some(common))
+}
+
+/// The documents that members match which are one value each. None where there are others, or where there are more than
+/// two and not all lists are bit vectors.
+pub fn common_of_values<const OFFSET_BITS: u32, F: Frozen<OFFSET_BITS>>(
+    alloc: Global,
+    frozen: &mut F,
+    dictionaries: &[Dictionary<OFFSET_BITS>],
+    queries: &[Query],
+) -> Result<Option<DocList>, AllocError>
+    requires { AreIndexed OFFSET_BITS (F.records frozen.old) dictionaries.now }
+    ensures docs { IfOk result (λ common. IfSome common (λ docs. (doc : ℕ) → has docs doc
+        ≡ found (and (query_trees queries.now)) (indexes_in OFFSET_BITS (F.records frozen.old) dictionaries.now) doc)) }
+    ensures same { frozen.new ≡ frozen.old }
+{
+    if queries.len() > 2 {
+        common_of_many(alloc, frozen, dictionaries, queries)
+    } else {
+        common_of_two(alloc, frozen, dictionaries, queries)
+    }
 }

@@ -8,9 +8,9 @@ ghost use Rattle.attr_index.specs.Gathers.{is_gathered};
 ghost use Rattle.attr_index.specs.Postings.{HaveDocNumbers};
 ghost use Rattle.attr_index.specs.Sets.{has, in_words};
 
-use crate::blocks::gather_vector;
 use crate::kept::{keep_marked, marks_of};
 use crate::takers::{Inserted, Pushed};
+use crate::vectors::{gather_vector, kept_in_vector};
 use arena_api::Frozen;
 use array_store::count;
 use attr_images::{FIRST_VECTOR, MOST_SHORT};
@@ -182,12 +182,7 @@ pub fn gather_list<const OFFSET_BITS: u32, F: Frozen<OFFSET_BITS>>(
     ensures same { frozen.new ≡ frozen.old }
 {
     if list >= FIRST_VECTOR {
-        return gather_vector(
-            alloc,
-            frozen,
-            EntryRef::from_raw((list - FIRST_VECTOR) as u32),
-            gathered,
-        );
+        return gather_vector(alloc, frozen, list, gathered);
     }
     let list_root = EntryRef::from_raw((list / 2) as u32);
     if list % 2 == 0 {
@@ -232,7 +227,10 @@ pub fn keep_list<const OFFSET_BITS: u32, F: Frozen<OFFSET_BITS>>(
         ≡ (has docs.now doc && has (keys_of (postings_at (F.records frozen.old) (list_form list))) doc)) }
     ensures same { frozen.new ≡ frozen.old }
 {
-    if list >= FIRST_VECTOR || list % 2 == 0 {
+    if list >= FIRST_VECTOR {
+        return kept_in_vector(alloc, frozen, list, docs);
+    }
+    if list % 2 == 0 {
         let own = gather_list(alloc, frozen, list, Gathered::new(alloc))?;
         return own.kept_of(alloc, docs);
     }

@@ -9,8 +9,9 @@ ghost use Rattle.query_eval.specs.Parts.{IsIndexed};
 ghost use Rattle.attr_images.specs.Postings.{index_of};
 ghost use Rattle.query_eval.specs.Indexes.{AreIndexed, AreMatched, IsMatched, indexes_in};
 
-use crate::common::common_of_two;
+use crate::common::common_of_values;
 use crate::dictionary::Dictionary;
+use crate::members::{gather_lists, lists_of};
 use crate::sizes::shortest_of;
 use crate::walks::{gather_every, gather_leaf};
 use crate::words::{kept_with, with_value};
@@ -150,9 +151,30 @@ fn gather<const OFFSET_BITS: u32, F: Frozen<OFFSET_BITS>>(
     }
 }
 
-/// Adds the documents that some member matches to those gathered.
+/// The documents with those that some member matches. Values are looked up, and then their lists are read.
 #[cycle(gathering)]
 fn gather_some<const OFFSET_BITS: u32, F: Frozen<OFFSET_BITS>>(
+    alloc: Global,
+    frozen: &mut F,
+    dictionaries: &[Dictionary<OFFSET_BITS>],
+    queries: &Vec<Query>,
+    gathered: Gathered,
+) -> Result<Gathered, AllocError>
+    requires { AreIndexed OFFSET_BITS (F.records frozen.old) dictionaries.now }
+    ensures docs { IfOk result (λ all. (doc : ℕ) → is_gathered all doc
+        ≡ (is_gathered gathered doc || found (or (query_trees queries.now.items))
+        (indexes_in OFFSET_BITS (F.records frozen.old) dictionaries.now) doc)) }
+    ensures same { frozen.new ≡ frozen.old }
+{
+    match lists_of(alloc, frozen, dictionaries, queries.as_slice(), 0)? {
+        Some(lists) => gather_lists(alloc, frozen, lists.as_slice(), gathered),
+        None => gather_each(alloc, frozen, dictionaries, queries, gathered),
+    }
+}
+
+/// The documents with those that some member matches, member by member.
+#[cycle(gathering)]
+fn gather_each<const OFFSET_BITS: u32, F: Frozen<OFFSET_BITS>>(
     alloc: Global,
     frozen: &mut F,
     dictionaries: &[Dictionary<OFFSET_BITS>],
@@ -220,8 +242,7 @@ fn kept<const OFFSET_BITS: u32, F: Frozen<OFFSET_BITS>>(
     }
 }
 
-/// Adds the documents that all members match to those gathered. Two members that are one value each are answered from
-/// their lists.
+/// The documents with those that all members match. Those that are one value each may be answered by their lists.
 #[cycle(gathering)]
 fn gather_and<const OFFSET_BITS: u32, F: Frozen<OFFSET_BITS>>(
     alloc: Global,
@@ -236,7 +257,7 @@ fn gather_and<const OFFSET_BITS: u32, F: Frozen<OFFSET_BITS>>(
         (indexes_in OFFSET_BITS (F.records frozen.old) dictionaries.now) doc)) }
     ensures same { frozen.new ≡ frozen.old }
 {
-    match common_of_two(alloc, frozen, dictionaries, queries.as_slice())? {
+    match common_of_values(alloc, frozen, dictionaries, queries.as_slice())? {
         Some(common) => gathered.with_docs(alloc, common.as_slice()),
         None => gather_common(alloc, frozen, dictionaries, queries, gathered),
     }

@@ -52,7 +52,8 @@ fn fill<const OFFSET_BITS: u32, S: Store<OFFSET_BITS, Layout = AttrLayout>>(
 /// Adds an ask for the documents with a number.
 fn push_ask(asks: &mut Asks, number: u32) -> Result<(), AllocError> {
     let leaf = Leaf::Is(Value::Long(i64::from(number)));
-    asks.push(Ask::Hits(Query::One { field: 0, leaf }))
+    asks.push(Ask::Hits(Query::One { field: 0, leaf }))?;
+    Ok(())
 }
 
 /// Writes how many documents an image has, and its answers, each with a slash instead of the end of its line.

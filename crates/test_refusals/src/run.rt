@@ -1,5 +1,6 @@
 //! A run of operations on attributes without documents, and the answers of their last commit.
 ghost use Rattle.std.specs.Prelude.{◌≡◌, ◌<◌, ◌≤◌, length, slice_get, Some, IfOk};
+ghost use Rattle.arena_api.specs.Calls.{IsFresh};
 ghost use Rattle.attr_images.specs.Images.{IsLawfulImage};
 ghost use Rattle.attr_images.specs.Shapes.{shape_of, types_of};
 ghost use Rattle.attr_types.specs.declared.field.TheConstants.{MOST_FIELDS};
@@ -9,7 +10,7 @@ use crate::asking::tell_queries;
 use crate::saves::{push_bytes, saved, tell_saved, tell_writes};
 use crate::script::Script;
 use crate::told::push_answer;
-use arena_api::Frozen;
+use arena_api::{Frozen, Work};
 use attr_images::{AttrLayout, shape_law, shape_of};
 use attr_types::{Fields, Op};
 use attribute_kinds::{Attribute, Published, committed_work};
@@ -106,13 +107,23 @@ fn tell_save<const OFFSET_BITS: u32, F: Frozen<OFFSET_BITS>>(
     }
 }
 
+/// Returns a memory of 40 buffers of 8,192 words.
+fn new_memory(alloc: Global, fields: &Fields) -> Result<MemWork<22, AttrLayout>, AllocError>
+    requires few { length fields.now ≤ MOST_FIELDS }
+    ensures shape { IfOk result (λ w. ⟦<MemWork<22, AttrLayout> as Frozen<22>>⟧.shape w ≡ shape_of (types_of fields.now)) }
+    ensures fresh { IfOk result (λ w. IsFresh (⟦<MemWork<22, AttrLayout> as Work<22>>⟧.knows w)) }
+{
+    let work = MemWork::create(alloc, 40, 8192, shape_of(fields))?;
+    Ok(work)
+}
+
 /// Returns attributes without documents.
 fn new_attribute(alloc: Global, fields: &Fields) -> Result<Kinds, AllocError>
     requires some { 0 < length fields.now }
     requires few { length fields.now ≤ MOST_FIELDS }
     ensures fields { IfOk result (λ a. a.fields ≡ fields.now) }
 {
-    let work = MemWork::<22, AttrLayout>::create(alloc, 40, 8192, shape_of(fields))?;
+    let work = new_memory(alloc, fields)?;
     match Attribute::create(alloc, work, fields, false) {
         Ok(attribute) => Ok(attribute),
         Err(_) => Err(AllocError),

@@ -6,7 +6,10 @@ use Rattle.attr_compaction.specs.PhaseKeys.{key_past}
 use Rattle.attr_steps.specs.Fields.{trees_of, trees_of_field}
 use Rattle.attr_steps.proofs.FieldSteps.{laws_of}
 use Rattle.attr_steps.proofs.Units.{left_unit, refused_among, keeps_unit}
+use Rattle.attr_images.specs.Documents.{column_at}
+use Rattle.compaction_moves.specs.Counts.{MakesKey}
 use Rattle.compact_steps.specs.Units.{keys_at}
+use Rattle.compact_steps.proofs.KeyCounts.{key_unit}
 use Rattle.compact_steps.proofs.UnitSteps.{active_begun, meets_begun, part_begun, spares_begun, unit_compacts}
 use Rattle.compact_steps.proofs.key.move_unit.Goals as goal
 
@@ -69,14 +72,15 @@ returns-in-Err-clause-refused g c =
     let ledger = g.S.Store.ledger in
     let mid = ledger c.move_one.new.store in
     let among = IsUsedWidth (ledger c.begin.new.self) (g.S.Frozen.records c.begin.new.self) in
-    refused_among among (ledger c.args.store.now) mid (ledger c.undo.new.self) c.in-Err.error c.undo.ensures.work
+    refused_among among (ledger c.args.store.now) mid (ledger c.undo.new.self) c.in-Err.error c.undo.ensures.work c.undo.ensures.counts
     (subst (λ l. RefusesOf among l mid c.in-Err.error) c.begin.ensures.ledger c.in-Err.ensures.refuses)
 
 pub returns-in-Err-clause-spares : goal.returns-in-Err-clause-spares
 returns-in-Err-clause-spares g c =
     let ledger = g.S.Store.ledger in
     let among = IsUsedWidth (ledger c.begin.new.self) (g.S.Frozen.records c.begin.new.self) in
-    spares_begun among (ledger c.args.store.now) (ledger c.begin.new.self) (ledger c.move_one.new.store) (ledger c.undo.new.self) c.begin.ensures.ledger c.move_one.ensures.counts
+    let a = trees_of_field c.args.field.now c.args.own in
+    spares_begun among a.kind a.type (column_at a.kind a.type (g.S.Frozen.records c.begin.new.self) a.documents) (ledger c.args.store.now) (ledger c.begin.new.self) (ledger c.move_one.new.store) (ledger c.undo.new.self) c.begin.ensures.ledger c.move_one.ensures.counts
     (g.S.Frozen.records c.args.store.now) (g.S.Frozen.records c.undo.new.self) c.in-Err.error (g.met.S.Store.settled c.args.store.now c.requires.holds.unit)
     c.in-Err.ensures.refuses c.undo.ensures
 
@@ -97,3 +101,21 @@ returns-in-Err-clause-keeps g c =
     let mid = ledger c.move_one.new.store in
     keeps_unit (ledger c.args.store.now) mid (ledger c.undo.new.self) c.requires.holds.unit (subst (λ l. MayDo l mid) c.begin.ensures.ledger c.move_one.ensures.may)
     c.undo.ensures.unit c.undo.ensures.work c.undo.ensures.shape c.undo.ensures.sealed c.undo.ensures.finished
+
+pub returns-in-Ok-clause-counts : goal.returns-in-Ok-clause-counts
+returns-in-Ok-clause-counts g c =
+    let ledger = g.S.Store.ledger in
+    let records = g.S.Frozen.records in
+    let a = trees_of_field c.args.field.now c.args.own in
+    let made = subst (λ (f : Records). MakesKey a.kind a.type (column_at a.kind a.type f a.documents) (ledger c.begin.new.self) (ledger c.move_one.new.store)) c.begin.ensures.records c.move_one.ensures.counts in
+    key_unit a.kind a.type (column_at a.kind a.type (records c.args.store.now) a.documents) (ledger c.args.store.now) (ledger c.begin.new.self) (ledger c.move_one.new.store) (ledger c.accept.new.self)
+    c.begin.ensures.ledger made (records c.accept.new.self) c.accept.ensures.counts (g.met.S.Store.settled c.accept.new.self c.accept.ensures.unit)
+
+pub returns-in-Err-clause-counts : goal.returns-in-Err-clause-counts
+returns-in-Err-clause-counts g c =
+    let ledger = g.S.Store.ledger in
+    let records = g.S.Frozen.records in
+    let a = trees_of_field c.args.field.now c.args.own in
+    let made = subst (λ (f : Records). MakesKey a.kind a.type (column_at a.kind a.type f a.documents) (ledger c.begin.new.self) (ledger c.move_one.new.store)) c.begin.ensures.records c.move_one.ensures.counts in
+    key_unit a.kind a.type (column_at a.kind a.type (records c.args.store.now) a.documents) (ledger c.args.store.now) (ledger c.begin.new.self) (ledger c.move_one.new.store) (ledger c.undo.new.self)
+    c.begin.ensures.ledger made (records c.undo.new.self) c.undo.ensures.counts (g.met.S.Store.settled c.undo.new.self c.undo.ensures.unit)

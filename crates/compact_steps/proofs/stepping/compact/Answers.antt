@@ -1,8 +1,13 @@
-use Rattle.std.proofs.Common.{◌≡◌, Option, None, Some, Result, Ok, Err, refl, ap, subst, ◌∙◌, arith}
+use Rattle.std.proofs.Common.{◌≡◌, Option, None, Some, Result, Ok, Err, refl, sym, ap, subst, ◌∙◌, arith}
 use Rattle.std.specs.Option.{IfNone, IfSome}
 use Rattle.store_api.specs.declared.store.StoreError.{StoreError}
 use Rattle.attr_compaction.specs.Places.{PlanView}
 use Rattle.attr_steps.specs.Fields.{trees_of}
+use Rattle.entry_ref.specs.Records.{Records}
+use Rattle.store_api.specs.Ledgers.{Ledger}
+use Rattle.attr_steps.specs.Views.{table_at}
+use Rattle.compact_steps.specs.Counts.{MakesKeys}
+use Rattle.compact_steps.proofs.KeyCounts.{keys_finished, keys_none, keys_sealed}
 use Rattle.compact_steps.specs.Compactions.{BeginsNone, OpensPlan}
 use Rattle.compact_steps.specs.Walks.{Walks}
 use Rattle.compact_steps.specs.declared.walk.Walk.{Walk}
@@ -124,3 +129,62 @@ returns-in-Err-clause-compacts g c =
     let is = walks (Err c.in-Err.error) c.in-Err.is in
     step_refused g.row.OFFSET_BITS c.args.root (ledger old) (ledger mid) (ledger new) (records old) (records mid) (records new) fields trees next c.args.before c.in-Some.plan c.visit_keys.new.plan opens
     (Some c.visit_keys.new.plan) c.in-Err.error refl is
+
+pub returns-in_default-clause-counts : goal.returns-in_default-clause-counts
+returns-in_default-clause-counts g c =
+    let ledger = g.S.Store.ledger in
+    let old = c.args.store.now in
+    let mid = c.open_plan.new.store in
+    let fields = c.args.fields.now in
+    let table = table_at (g.S.Frozen.records old) (trees_of fields c.args.roots.now) in
+    let none = subst (λ (o : Option PlanView). IfNone o (BeginsNone g.row.OFFSET_BITS (ledger old) c.args.before (mid ≡ old))) c.in_default.is c.open_plan.ensures.none in
+    subst (λ s. MakesKeys fields table (ledger old) (ledger s) c.args.keys) (sym none.store_is) (keys_none fields table (ledger old) c.args.keys)
+
+pub returns-in-Ok-Visited-clause-counts : goal.returns-in-Ok-Visited-clause-counts
+returns-in-Ok-Visited-clause-counts g c =
+    let ledger = g.S.Store.ledger in
+    let records = g.S.Frozen.records in
+    let old = c.args.store.now in
+    let mid = c.open_plan.new.store in
+    let new = c.visit_keys.new.store in
+    let fields = c.args.fields.now in
+    let trees = trees_of fields c.args.roots.now in
+    let opens = subst (λ (o : Option PlanView). IfSome o (OpensPlan g.row.OFFSET_BITS c.args.root (ledger old) (ledger mid) (records old) (records mid) fields trees c.args.before)) c.in-Some.is
+    c.open_plan.ensures.opens in
+    let table = table_at (records old) trees in
+    let visited = subst (λ (f : Records). MakesKeys fields (table_at f trees) (ledger mid) (ledger new) c.args.keys) opens.left.records c.visit_keys.ensures.counts in
+    let made = keys_sealed fields table (ledger old) (ledger mid) (ledger new) c.args.keys opens.counts visited in
+    made
+
+pub returns-in-Err-clause-counts : goal.returns-in-Err-clause-counts
+returns-in-Err-clause-counts g c =
+    let ledger = g.S.Store.ledger in
+    let records = g.S.Frozen.records in
+    let old = c.args.store.now in
+    let mid = c.open_plan.new.store in
+    let new = c.visit_keys.new.store in
+    let fields = c.args.fields.now in
+    let trees = trees_of fields c.args.roots.now in
+    let opens = subst (λ (o : Option PlanView). IfSome o (OpensPlan g.row.OFFSET_BITS c.args.root (ledger old) (ledger mid) (records old) (records mid) fields trees c.args.before)) c.in-Some.is
+    c.open_plan.ensures.opens in
+    let table = table_at (records old) trees in
+    let visited = subst (λ (f : Records). MakesKeys fields (table_at f trees) (ledger mid) (ledger new) c.args.keys) opens.left.records c.visit_keys.ensures.counts in
+    let made = keys_sealed fields table (ledger old) (ledger mid) (ledger new) c.args.keys opens.counts visited in
+    made
+
+pub returns-in-Ok-Over-clause-counts : goal.returns-in-Ok-Over-clause-counts
+returns-in-Ok-Over-clause-counts g c =
+    let ledger = g.S.Store.ledger in
+    let records = g.S.Frozen.records in
+    let old = c.args.store.now in
+    let mid = c.open_plan.new.store in
+    let new = c.visit_keys.new.store in
+    let fields = c.args.fields.now in
+    let trees = trees_of fields c.args.roots.now in
+    let opens = subst (λ (o : Option PlanView). IfSome o (OpensPlan g.row.OFFSET_BITS c.args.root (ledger old) (ledger mid) (records old) (records mid) fields trees c.args.before)) c.in-Some.is
+    c.open_plan.ensures.opens in
+    let table = table_at (records old) trees in
+    let visited = subst (λ (f : Records). MakesKeys fields (table_at f trees) (ledger mid) (ledger new) c.args.keys) opens.left.records c.visit_keys.ensures.counts in
+    let made = keys_sealed fields table (ledger old) (ledger mid) (ledger new) c.args.keys opens.counts visited in
+    let end = c.end_plan-buffer.ensures.ledger in
+    subst (λ (l : Ledger _). MakesKeys fields table (ledger old) l c.args.keys) (sym end) (keys_finished fields table (ledger old) (ledger new) c.args.keys _ made)

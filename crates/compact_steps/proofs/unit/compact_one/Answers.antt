@@ -1,12 +1,17 @@
-use Rattle.std.proofs.Common.{◌≡◌, refl, sym, ap, subst, ◌∙◌, arith, None, Some, inl, rules}
+use Rattle.std.proofs.Common.{◌≡◌, ℕ, refl, sym, ap, subst, ◌∙◌, arith, None, Some, inl, rules}
 use Rattle.std.proofs.lemmas.Result.{err_from_is_err_and}
-use Rattle.std.specs.Prelude.{set}
+use Rattle.std.specs.Prelude.{set, slice_get}
 use Rattle.attr_compaction.specs.PhaseKeys.{key_past}
 use Rattle.attr_steps.specs.Calls.{KeepsStore, LeavesEntries, RefusesUnit}
 use Rattle.attr_steps.specs.Fields.{HoldsAttributes, trees_of, trees_of_field}
 use Rattle.attr_steps.specs.Views.{table_at}
 use Rattle.attr_steps.proofs.StepLemmas.{keeps_same, leaves_same}
 use Rattle.attr_steps.proofs.TreeLists.{set_length}
+use Rattle.attr_images.specs.Documents.{column_at}
+use Rattle.attr_steps.proofs.Columns.{column_at_tree}
+use Rattle.compaction_moves.specs.Counts.{MakesKey}
+use Rattle.compact_steps.specs.Counts.{MakesKeys}
+use Rattle.compact_steps.proofs.KeyCounts.{key_among, keys_none}
 use Rattle.compact_steps.specs.Units.{keys_at, plan_at, CompactsTo, IsUnderWay, KeepKeys}
 use Rattle.compact_steps.proofs.KeyLemmas.{next_fits, same_keys}
 use Rattle.compact_steps.proofs.TurnLemmas.{at_place, below_fields, goes_on, left_all, moved_roots, moved_way, next_is, over_way, past_next}
@@ -436,3 +441,57 @@ returns-clause-keeps g c =
     let ledger = g.S.Store.ledger in
     let same = c.next_of.ensures.same in
     subst (λ s. KeepsStore (ledger s) (ledger c.move_unit.new.store)) same c.move_unit.ensures.keeps
+
+pub returns-in_default-clause-counts : goal.returns-in_default-clause-counts
+returns-in_default-clause-counts g c =
+    let ledger = g.S.Store.ledger in
+    let old = c.args.store.now in
+    let fields = c.args.fields.now in
+    let table = table_at (g.S.Frozen.records old) (trees_of fields c.args.roots.now) in
+    subst (λ s. MakesKeys fields table (ledger old) (ledger s) 1) (sym c.next_of.ensures.same) (keys_none fields table (ledger old) 1)
+
+pub returns-in_default-next-clause-counts : goal.returns-in_default-next-clause-counts
+returns-in_default-next-clause-counts g c =
+    let ledger = g.S.Store.ledger in
+    let old = c.args.store.now in
+    let fields = c.args.fields.now in
+    let table = table_at (g.S.Frozen.records old) (trees_of fields c.args.roots.now) in
+    subst (λ s. MakesKeys fields table (ledger old) (ledger s) 1) (sym c.next_of.ensures.same) (keys_none fields table (ledger old) 1)
+
+pub returns-in_err-roots-clause-counts : goal.returns-in_err-roots-clause-counts
+returns-in_err-roots-clause-counts g c =
+    let ledger = g.S.Store.ledger in
+    let records = g.S.Frozen.records in
+    let m = records c.args.store.now in
+    let fields = c.args.fields.now in
+    let trees = trees_of fields c.args.roots.now in
+    let plan = c.args.plan.now in
+    let field = c.index-fields-i.result in
+    let a = trees_of_field field c.index-roots-i.result in
+    let here = at_place (ledger c.args.store.now) m fields c.args.roots.now c.args.root plan c.field-i.result
+    c.requires.holds c.requires.under_way c.requires.sized c.field-i.ensures.field c.field-i.ensures.below field c.index-roots-i.result c.index-fields-i.is c.index-roots-i.is in
+    let below = below_fields (ledger c.args.store.now) m fields c.args.roots.now c.args.root plan c.field-i.result c.requires.under_way c.requires.sized c.field-i.ensures.below in
+    let reads = column_at_tree m trees c.field-i.result a c.requires.holds.are_fields.documents
+    (subst (λ (j : ℕ). slice_get trees j ≡ Some a) (sym c.field-i.ensures.field) here.at) in
+    key_among fields (table_at m trees) c.field-i.result field (column_at field.kind field.value m a.documents) (ledger c.args.store.now) (ledger c.move_unit.new.store)
+    here.at_field below reads
+    (subst (λ s. MakesKey field.kind field.value (column_at field.kind field.value (records s) a.documents) (ledger s) (ledger c.move_unit.new.store)) c.next_of.ensures.same c.move_unit.ensures.counts)
+
+pub returns-clause-counts : goal.returns-clause-counts
+returns-clause-counts g c =
+    let ledger = g.S.Store.ledger in
+    let records = g.S.Frozen.records in
+    let m = records c.args.store.now in
+    let fields = c.args.fields.now in
+    let trees = trees_of fields c.args.roots.now in
+    let plan = c.args.plan.now in
+    let field = c.index-fields-i.result in
+    let a = trees_of_field field c.index-roots-i.result in
+    let here = at_place (ledger c.args.store.now) m fields c.args.roots.now c.args.root plan c.field-i.result
+    c.requires.holds c.requires.under_way c.requires.sized c.field-i.ensures.field c.field-i.ensures.below field c.index-roots-i.result c.index-fields-i.is c.index-roots-i.is in
+    let below = below_fields (ledger c.args.store.now) m fields c.args.roots.now c.args.root plan c.field-i.result c.requires.under_way c.requires.sized c.field-i.ensures.below in
+    let reads = column_at_tree m trees c.field-i.result a c.requires.holds.are_fields.documents
+    (subst (λ (j : ℕ). slice_get trees j ≡ Some a) (sym c.field-i.ensures.field) here.at) in
+    key_among fields (table_at m trees) c.field-i.result field (column_at field.kind field.value m a.documents) (ledger c.args.store.now) (ledger c.move_unit.new.store)
+    here.at_field below reads
+    (subst (λ s. MakesKey field.kind field.value (column_at field.kind field.value (records s) a.documents) (ledger s) (ledger c.move_unit.new.store)) c.next_of.ensures.same c.move_unit.ensures.counts)

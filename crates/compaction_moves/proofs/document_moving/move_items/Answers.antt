@@ -36,7 +36,7 @@ returns-then-not-document_lies-clause-counts g c =
     let ledger = g.S.Store.ledger in
     let a = ledger c.args.store.now in
     let m = g.S.Frozen.records c.args.store.now in
-    let most = documents_most (1 + length (items_of (column_at c.args.kind c.args.value_type m c.args.documents) c.args.doc)) (2 * levels m c.args.documents + 1) in
+    let most = documents_most c.args.kind (length (items_of (column_at c.args.kind c.args.value_type m c.args.documents) c.args.doc)) (2 * levels m c.args.documents + 1) in
     subst (λ s. MakesWithin a (ledger s) most) (sym c.document_lies.ensures.same) (within_none a most)
 
 pub returns-then-not-document_lies-clause-may : goal.returns-then-not-document_lies-clause-may
@@ -75,7 +75,7 @@ returns-clause-counts g c =
     let ledger = g.S.Store.ledger in
     let records = g.S.Frozen.records in
     let t = c.read_again.new.store in
-    subst (λ s. MakesWithin (ledger s) (ledger t) (documents_most (1 + length (items_of (column_at c.args.kind c.args.value_type (records s) c.args.documents) c.args.doc))
+    subst (λ s. MakesWithin (ledger s) (ledger t) (documents_most c.args.kind (length (items_of (column_at c.args.kind c.args.value_type (records s) c.args.documents) c.args.doc))
     (2 * levels (records s) c.args.documents + 1))) c.document_lies.ensures.same c.read_again.ensures.counts
 
 pub returns-clause-refuses : goal.returns-clause-refuses

@@ -24,7 +24,7 @@ returns-in_default-clause-counts g c =
     let ledger = g.S.Store.ledger in
     let a = ledger c.args.store.now in
     let m = g.S.Frozen.records c.args.store.now in
-    let most = documents_most (1 + length (items_of (column_at c.args.kind c.args.value_type m c.args.documents) c.args.doc)) (2 * levels m c.args.documents + 1) in
+    let most = documents_most c.args.kind (length (items_of (column_at c.args.kind c.args.value_type m c.args.documents) c.args.doc)) (2 * levels m c.args.documents + 1) in
     subst (λ s. MakesWithin a (ledger s) most) (sym c.document_items.ensures.same) (within_none a most)
 
 pub returns-in_default-clause-refuses : goal.returns-in_default-clause-refuses
@@ -73,8 +73,8 @@ returns-in-Some-clause-counts g c =
     let there = c.as_slice.ensures in
     let size : length c.as_slice.result.now ≡ length (items_of (column_at c.args.kind c.args.value_type (records c.args.store.now) c.args.documents) c.args.doc) =
     ap length c.as_slice.ensures ∙ ap (λ found. length (unwrap_or found [])) (sym c.in-Some.is ∙ c.in-Ok.ensures.items) in
-    subst (λ (k : ℕ). MakesWithin (ledger c.args.store.now) (ledger t) (documents_most (1 + k) (2 * levels (records c.args.store.now) c.args.documents + 1))) size
-    (subst (λ s. MakesWithin (ledger s) (ledger t) (documents_most (1 + length c.as_slice.result.now) (2 * levels (records s) c.args.documents + 1)))
+    subst (λ (k : ℕ). MakesWithin (ledger c.args.store.now) (ledger t) (documents_most c.args.kind k (2 * levels (records c.args.store.now) c.args.documents + 1))) size
+    (subst (λ s. MakesWithin (ledger s) (ledger t) (documents_most c.args.kind (length c.as_slice.result.now) (2 * levels (records s) c.args.documents + 1)))
     c.document_items.ensures.same c.set_again.ensures.counts)
 
 pub returns-in-Some-clause-refuses : goal.returns-in-Some-clause-refuses
@@ -105,7 +105,7 @@ returns-in-None-clause-counts g c =
     let ledger = g.S.Store.ledger in
     let a = ledger c.args.store.now in
     let m = g.S.Frozen.records c.args.store.now in
-    let most = documents_most (1 + length (items_of (column_at c.args.kind c.args.value_type m c.args.documents) c.args.doc)) (2 * levels m c.args.documents + 1) in
+    let most = documents_most c.args.kind (length (items_of (column_at c.args.kind c.args.value_type m c.args.documents) c.args.doc)) (2 * levels m c.args.documents + 1) in
     subst (λ s. MakesWithin a (ledger s) most) (sym c.document_items.ensures.same) (within_none a most)
 
 pub returns-in-None-clause-may : goal.returns-in-None-clause-may

@@ -38,7 +38,7 @@ pub returns-in_default-clause-counts : goal.returns-in_default-clause-counts
 returns-in_default-clause-counts g c =
     let ledger = g.S.Store.ledger in
     let a = ledger c.args.store.now in
-    let most = documents_most (1 + length c.args.items.now) (2 * levels (g.S.Frozen.records c.args.store.now) c.args.documents + 1) in
+    let most = documents_most c.args.kind (length c.args.items.now) (2 * levels (g.S.Frozen.records c.args.store.now) c.args.documents + 1) in
     subst (λ s. MakesWithin a (ledger s) most) (sym c.keys_of.ensures.same) (within_none a most)
 
 pub returns-in_default-clause-refuses : goal.returns-in_default-clause-refuses
@@ -116,7 +116,7 @@ pub returns-clause-counts : goal.returns-clause-counts
 returns-clause-counts g c =
     let ledger = g.S.Store.ledger in
     let records = g.S.Frozen.records in
-    subst (λ s. MakesWithin (ledger s) (ledger c.set_document.new.store) (documents_most (1 + length c.args.items.now) (2 * levels (records s) c.args.documents + 1)))
+    subst (λ s. MakesWithin (ledger s) (ledger c.set_document.new.store) (documents_most c.args.kind (length c.args.items.now) (2 * levels (records s) c.args.documents + 1)))
     c.keys_of.ensures.same c.set_document.ensures.counts
 
 pub returns-clause-refuses : goal.returns-clause-refuses

@@ -1,10 +1,9 @@
-use Rattle.std.proofs.Common.{◌≡◌, ◌+◌, length, true, sym, subst, arith}
+use Rattle.std.proofs.Common.{◌≡◌, length, true, sym, subst, arith}
 use Rattle.std.proofs.lemmas.Result.{err_from_is_err_and}
 use Rattle.compaction_moves.specs.Cleared.{trees_of_roots}
-use Rattle.attr_field.proofs.CountLemmas.{few_entry}
 use Rattle.attr_images.specs.Documents.{column_at}
 use Rattle.attr_index.specs.Columns.{items_of}
-use Rattle.value_index.proofs.WalksCountLemmas.{few_more}
+use Rattle.compaction_moves.proofs.MakeLemmas.{makes_items}
 use Rattle.compaction_moves.specs.DocumentMoves.{CanMoveItems, MovesItems}
 use Rattle.compaction_moves.proofs.MoveLemmas.{items_can, items_done}
 use Rattle.compaction_moves.proofs.field_documents.move_document_items.Goals as goal
@@ -33,12 +32,11 @@ returns-in_err-documents-clause-moved g c = let p = err_from_is_err_and c.from_r
 
 pub returns-in_err-documents-clause-counts : goal.returns-in_err-documents-clause-counts
 returns-in_err-documents-clause-counts g c =
-    let old = g.S.Store.ledger c.args.store.now in
-    let new = g.S.Store.ledger c.move_items.new.store in
-    let m = g.S.Frozen.records c.args.store.now in
     let a = trees_of_roots c.args.field.now c.args.roots in
-    few_more old new 17 1 25 1 (omega arith) (omega arith)
-    (few_entry old new m a.documents (1 + length (items_of (column_at a.kind a.type m a.documents) c.args.doc)) c.move_items.ensures.counts)
+    let old = g.S.Store.ledger c.args.store.now in
+    let m = g.S.Frozen.records c.args.store.now in
+    makes_items old (g.S.Store.ledger c.move_items.new.store) m a.kind a.type a.documents a.dictionary c.requires.can.field
+    (length (items_of (column_at a.kind a.type m a.documents) c.args.doc)) c.move_items.ensures.counts
 
 pub returns-in_err-documents-clause-refuses : goal.returns-in_err-documents-clause-refuses
 returns-in_err-documents-clause-refuses g c =
@@ -64,12 +62,11 @@ returns-clause-moved g c =
 
 pub returns-clause-counts : goal.returns-clause-counts
 returns-clause-counts g c =
-    let old = g.S.Store.ledger c.args.store.now in
-    let new = g.S.Store.ledger c.move_items.new.store in
-    let m = g.S.Frozen.records c.args.store.now in
     let a = trees_of_roots c.args.field.now c.args.roots in
-    few_more old new 17 1 25 1 (omega arith) (omega arith)
-    (few_entry old new m a.documents (1 + length (items_of (column_at a.kind a.type m a.documents) c.args.doc)) c.move_items.ensures.counts)
+    let old = g.S.Store.ledger c.args.store.now in
+    let m = g.S.Frozen.records c.args.store.now in
+    makes_items old (g.S.Store.ledger c.move_items.new.store) m a.kind a.type a.documents a.dictionary c.requires.can.field
+    (length (items_of (column_at a.kind a.type m a.documents) c.args.doc)) c.move_items.ensures.counts
 
 pub returns-clause-may : goal.returns-clause-may
 returns-clause-may g c = c.move_items.ensures.may

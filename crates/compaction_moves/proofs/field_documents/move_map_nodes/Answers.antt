@@ -5,7 +5,7 @@ use Rattle.store_api.specs.Calls.{IsUsedWidth}
 use Rattle.store_api.proofs.May.{may_do-same}
 use Rattle.posting_store.proofs.RefusalLemmas.{of_one}
 use Rattle.compaction_moves.specs.DocumentMoves.{MovesDocumentNodes}
-use Rattle.compaction_moves.proofs.MakeLemmas.{few_nodes}
+use Rattle.compaction_moves.proofs.MakeLemmas.{makes_map}
 use Rattle.compaction_moves.proofs.MoveLemmas.{map_done, nodes_can}
 use Rattle.compaction_moves.proofs.field_documents.move_map_nodes.Goals as goal
 
@@ -31,8 +31,10 @@ returns-in_err-documents-clause-moved g c = let p = err_from_is_err_and c.from_r
 
 pub returns-in_err-documents-clause-counts : goal.returns-in_err-documents-clause-counts
 returns-in_err-documents-clause-counts g c =
-    few_nodes (g.S.Store.ledger c.args.store.now) (g.S.Store.ledger c.move_document_nodes.new.store) (g.S.Frozen.records c.args.store.now) c.args.roots.documents
-    c.move_document_nodes.ensures.counts
+    let a = trees_of_roots c.args.field.now c.args.roots in
+    let old = g.S.Store.ledger c.args.store.now in
+    let m = g.S.Frozen.records c.args.store.now in
+    makes_map old (g.S.Store.ledger c.move_document_nodes.new.store) m a.kind a.type a.documents a.dictionary c.requires.can.field c.move_document_nodes.ensures.counts
 
 pub returns-in_err-documents-clause-refuses : goal.returns-in_err-documents-clause-refuses
 returns-in_err-documents-clause-refuses g c =
@@ -62,8 +64,10 @@ returns-clause-moved g c =
 
 pub returns-clause-counts : goal.returns-clause-counts
 returns-clause-counts g c =
-    few_nodes (g.S.Store.ledger c.args.store.now) (g.S.Store.ledger c.move_document_nodes.new.store) (g.S.Frozen.records c.args.store.now) c.args.roots.documents
-    c.move_document_nodes.ensures.counts
+    let a = trees_of_roots c.args.field.now c.args.roots in
+    let old = g.S.Store.ledger c.args.store.now in
+    let m = g.S.Frozen.records c.args.store.now in
+    makes_map old (g.S.Store.ledger c.move_document_nodes.new.store) m a.kind a.type a.documents a.dictionary c.requires.can.field c.move_document_nodes.ensures.counts
 
 pub returns-clause-may : goal.returns-clause-may
 returns-clause-may g c = c.move_document_nodes.ensures.may

@@ -3,7 +3,7 @@ use Rattle.std.proofs.lemmas.Result.{err_from_is_err_and}
 use Rattle.compaction_moves.specs.Cleared.{trees_of_roots}
 use Rattle.attr_compaction.specs.declared.plan.PlanKey.TheVariants.{Value}
 use Rattle.compaction_moves.specs.IndexMoves.{MovesKey}
-use Rattle.compaction_moves.proofs.MakeLemmas.{few_key}
+use Rattle.compaction_moves.proofs.MakeLemmas.{makes_key}
 use Rattle.compaction_moves.proofs.MoveLemmas.{key_done, owned_index, typed_value, value_index}
 use Rattle.compaction_moves.proofs.indexes.move_value_key.Goals as goal
 
@@ -31,8 +31,11 @@ returns-in_err-dictionary-clause-moved g c = let p = err_from_is_err_and c.from_
 
 pub returns-in_err-dictionary-clause-counts : goal.returns-in_err-dictionary-clause-counts
 returns-in_err-dictionary-clause-counts g c =
-    few_key (g.S.Store.ledger c.args.store.now) (g.S.Store.ledger c.move_key.new.store) (g.S.Frozen.records c.args.store.now) c.args.value.now c.args.roots.dictionary
-    c.move_key.ensures.counts
+    let a = trees_of_roots c.args.field.now c.args.roots in
+    let old = g.S.Store.ledger c.args.store.now in
+    let m = g.S.Frozen.records c.args.store.now in
+    let typed = typed_value g.row.OFFSET_BITS c.args.plan.now a old m 0 c.args.value.now (omega arith) c.requires.can in
+    makes_key old (g.S.Store.ledger c.move_key.new.store) m a.kind a.type a.documents a.dictionary c.requires.can.field c.args.value.now typed c.move_key.ensures.counts
 
 pub returns-in_err-dictionary-clause-refuses : goal.returns-in_err-dictionary-clause-refuses
 returns-in_err-dictionary-clause-refuses g c =
@@ -57,8 +60,11 @@ returns-clause-moved g c =
 
 pub returns-clause-counts : goal.returns-clause-counts
 returns-clause-counts g c =
-    few_key (g.S.Store.ledger c.args.store.now) (g.S.Store.ledger c.move_key.new.store) (g.S.Frozen.records c.args.store.now) c.args.value.now c.args.roots.dictionary
-    c.move_key.ensures.counts
+    let a = trees_of_roots c.args.field.now c.args.roots in
+    let old = g.S.Store.ledger c.args.store.now in
+    let m = g.S.Frozen.records c.args.store.now in
+    let typed = typed_value g.row.OFFSET_BITS c.args.plan.now a old m 0 c.args.value.now (omega arith) c.requires.can in
+    makes_key old (g.S.Store.ledger c.move_key.new.store) m a.kind a.type a.documents a.dictionary c.requires.can.field c.args.value.now typed c.move_key.ensures.counts
 
 pub returns-clause-may : goal.returns-clause-may
 returns-clause-may g c = c.move_key.ensures.may

@@ -6,7 +6,7 @@ use Rattle.compaction_moves.specs.IndexMoves.{MovesList}
 use Rattle.attr_images.specs.Postings.{index_of}
 use Rattle.attr_index.specs.Index.{list_of}
 use Rattle.attr_types.specs.Value.{type_of}
-use Rattle.compaction_moves.proofs.MakeLemmas.{few_list}
+use Rattle.compaction_moves.proofs.MakeLemmas.{makes_list}
 use Rattle.compaction_moves.proofs.MoveLemmas.{list_done, owned_index, typed_pair, value_index}
 use Rattle.compaction_moves.proofs.indexes.move_value_list.Goals as goal
 
@@ -37,9 +37,12 @@ returns-in_err-dictionary-clause-moved g c = let p = err_from_is_err_and c.from_
 
 pub returns-in_err-dictionary-clause-counts : goal.returns-in_err-dictionary-clause-counts
 returns-in_err-dictionary-clause-counts g c =
+    let a = trees_of_roots c.args.field.now c.args.roots in
+    let old = g.S.Store.ledger c.args.store.now in
     let m = g.S.Frozen.records c.args.store.now in
-    few_list (g.S.Store.ledger c.args.store.now) (g.S.Store.ledger c.move_list.new.store) m c.args.value.now c.args.roots.dictionary
-    (length (list_of c.args.value.now (index_of (type_of c.args.value.now) m c.args.roots.dictionary))) c.move_list.ensures.counts
+    let typed = typed_pair g.row.OFFSET_BITS c.args.plan.now a old m 2 c.args.value.now c.args.doc (omega arith) c.requires.can in
+    makes_list old (g.S.Store.ledger c.move_list.new.store) m a.kind a.type a.documents a.dictionary c.requires.can.field c.args.value.now
+    (length (list_of c.args.value.now (index_of (type_of c.args.value.now) m c.args.roots.dictionary))) typed c.move_list.ensures.counts
 
 pub returns-in_err-dictionary-clause-refuses : goal.returns-in_err-dictionary-clause-refuses
 returns-in_err-dictionary-clause-refuses g c =
@@ -66,9 +69,12 @@ returns-clause-moved g c =
 
 pub returns-clause-counts : goal.returns-clause-counts
 returns-clause-counts g c =
+    let a = trees_of_roots c.args.field.now c.args.roots in
+    let old = g.S.Store.ledger c.args.store.now in
     let m = g.S.Frozen.records c.args.store.now in
-    few_list (g.S.Store.ledger c.args.store.now) (g.S.Store.ledger c.move_list.new.store) m c.args.value.now c.args.roots.dictionary
-    (length (list_of c.args.value.now (index_of (type_of c.args.value.now) m c.args.roots.dictionary))) c.move_list.ensures.counts
+    let typed = typed_pair g.row.OFFSET_BITS c.args.plan.now a old m 2 c.args.value.now c.args.doc (omega arith) c.requires.can in
+    makes_list old (g.S.Store.ledger c.move_list.new.store) m a.kind a.type a.documents a.dictionary c.requires.can.field c.args.value.now
+    (length (list_of c.args.value.now (index_of (type_of c.args.value.now) m c.args.roots.dictionary))) typed c.move_list.ensures.counts
 
 pub returns-clause-may : goal.returns-clause-may
 returns-clause-may g c = c.move_list.ensures.may

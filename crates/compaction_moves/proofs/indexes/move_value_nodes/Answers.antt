@@ -6,7 +6,7 @@ use Rattle.store_api.specs.Calls.{IsUsedWidth}
 use Rattle.store_api.proofs.May.{may_do-same}
 use Rattle.compaction_moves.specs.IndexMoves.{MovesNodes}
 use Rattle.posting_store.proofs.RefusalLemmas.{of_one}
-use Rattle.compaction_moves.proofs.MakeLemmas.{few_nodes}
+use Rattle.compaction_moves.proofs.MakeLemmas.{makes_nodes}
 use Rattle.compaction_moves.proofs.MoveLemmas.{value_nodes_done, owned_index, typed_value, value_index}
 use Rattle.compaction_moves.proofs.indexes.move_value_nodes.Goals as goal
 
@@ -37,8 +37,10 @@ returns-in_err-dictionary-clause-moved g c = let p = err_from_is_err_and c.from_
 
 pub returns-in_err-dictionary-clause-counts : goal.returns-in_err-dictionary-clause-counts
 returns-in_err-dictionary-clause-counts g c =
+    let a = trees_of_roots c.args.field.now c.args.roots in
+    let old = g.S.Store.ledger c.args.store.now in
     let m = g.S.Frozen.records c.args.store.now in
-    few_nodes (g.S.Store.ledger c.args.store.now) (g.S.Store.ledger c.move_nodes.new.store) m c.args.roots.dictionary c.move_nodes.ensures.counts
+    makes_nodes old (g.S.Store.ledger c.move_nodes.new.store) m a.kind a.type a.documents a.dictionary c.requires.can.field c.move_nodes.ensures.counts
 
 pub returns-in_err-dictionary-clause-refuses : goal.returns-in_err-dictionary-clause-refuses
 returns-in_err-dictionary-clause-refuses g c =
@@ -68,8 +70,10 @@ returns-clause-moved g c =
 
 pub returns-clause-counts : goal.returns-clause-counts
 returns-clause-counts g c =
+    let a = trees_of_roots c.args.field.now c.args.roots in
+    let old = g.S.Store.ledger c.args.store.now in
     let m = g.S.Frozen.records c.args.store.now in
-    few_nodes (g.S.Store.ledger c.args.store.now) (g.S.Store.ledger c.move_nodes.new.store) m c.args.roots.dictionary c.move_nodes.ensures.counts
+    makes_nodes old (g.S.Store.ledger c.move_nodes.new.store) m a.kind a.type a.documents a.dictionary c.requires.can.field c.move_nodes.ensures.counts
 
 pub returns-clause-may : goal.returns-clause-may
 returns-clause-may g c = c.move_nodes.ensures.may

@@ -77,3 +77,9 @@ returns-in_err-store-clause-plan g c = let p = err_from_is_err_and c.from_residu
 
 pub returns-clause-plan : goal.returns-clause-plan
 returns-clause-plan g c = refl
+
+pub returns-in_err-store-clause-counts : goal.returns-in_err-store-clause-counts
+returns-in_err-store-clause-counts g c = let p = err_from_is_err_and c.from_residual.result c.from_residual.ensures.1 in rw p.1 tt
+
+pub returns-clause-counts : goal.returns-clause-counts
+returns-clause-counts g c = c.in_ok-store.ensures.new.counts

@@ -15,6 +15,8 @@ use Rattle.attr_steps.specs.Fields.{HoldsAttributes, trees_of}
 use Rattle.attr_steps.specs.Views.{table_at}
 use Rattle.attribute_kinds.specs.Views.{AttributeView}
 use Rattle.attribute_kinds.proofs.CommitViews.{for_root, image_committed, refuses_commit, spent_same, stands_committed, table_committed}
+use Rattle.array_store.specs.Adding.{MakesOneOf}
+use Rattle.attr_field.proofs.DocumentsCountLemmas.{one-none}
 use Rattle.attribute_kinds.proofs.StandLemmas.{stands_left}
 use Rattle.attr_steps.proofs.StepLemmas.{keeps_same, leaves_same}
 use Rattle.compact_steps.specs.Units.{IsUnderWay}
@@ -365,3 +367,29 @@ returns-in-Ok-clause-plan g c =
 pub returns-in-Err-clause-plan : goal.returns-in-Err-clause-plan
 returns-in-Err-clause-plan g c =
     ap (λ (v : AttributeView g.row.S.Denot). v.plan) c.self.view_is
+
+pub returns-then-commits_left-eq0-clause-makes : goal.returns-then-commits_left-eq0-clause-makes
+returns-then-commits_left-eq0-clause-makes g c = one-none (g.S.Store.ledger c.args.self.now.store) (class_of (1 + 2 * length c.args.self.now.fields))
+
+pub returns-then-commits_left-eq0-clause-trees : goal.returns-then-commits_left-eq0-clause-trees
+returns-then-commits_left-eq0-clause-trees g c = refl
+
+pub returns-in-Ok-clause-makes : goal.returns-in-Ok-clause-makes
+returns-in-Ok-clause-makes g c =
+    let ledger = g.S.Store.ledger in
+    let new = ledger c.commit_attributes.new.store in
+    subst (λ (v : AttributeView g.row.S.Denot). MakesOneOf (class_of (1 + 2 * length v.fields)) (ledger v.store) new) c.self.view_is
+    (subst (λ fs. MakesOneOf (class_of (1 + 2 * length fs)) (ledger c.self.inside.store) new) c.as_slice-fields.ensures c.commit_attributes.ensures.counts)
+
+pub returns-in-Ok-clause-trees : goal.returns-in-Ok-clause-trees
+returns-in-Ok-clause-trees g c = ap (λ (v : AttributeView g.row.S.Denot). v.trees) c.self.view_is
+
+pub returns-in-Err-clause-makes : goal.returns-in-Err-clause-makes
+returns-in-Err-clause-makes g c =
+    let ledger = g.S.Store.ledger in
+    let new = ledger c.commit_attributes.new.store in
+    subst (λ (v : AttributeView g.row.S.Denot). MakesOneOf (class_of (1 + 2 * length v.fields)) (ledger v.store) new) c.self.view_is
+    (subst (λ fs. MakesOneOf (class_of (1 + 2 * length fs)) (ledger c.self.inside.store) new) c.as_slice-fields.ensures c.commit_attributes.ensures.counts)
+
+pub returns-in-Err-clause-trees : goal.returns-in-Err-clause-trees
+returns-in-Err-clause-trees g c = ap (λ (v : AttributeView g.row.S.Denot). v.trees) c.self.view_is

@@ -14,6 +14,9 @@ use Rattle.attr_types.specs.declared.field.TheConstants.{MOST_FIELDS}
 use Rattle.attr_steps.proofs.StepLemmas.{keeps_same}
 use Rattle.attr_steps.specs.Fields.{HoldsAttributes, trees_of}
 use Rattle.compact_steps.specs.Units.{IsUnderWay}
+use Rattle.attr_steps.specs.Views.{table_at}
+use Rattle.compact_steps.proofs.KeyCounts.{keys_none}
+use Rattle.compact_steps.specs.Counts.{MakesKeys}
 use Rattle.compact_steps.specs.Compactions.{Compacts, KeepsStoreBut}
 use Rattle.compact_steps.specs.Walks.{HasLastField}
 use Rattle.attribute_kinds.specs.Compacting.{CompactsTo, IsIdle, RefusesStep}
@@ -322,3 +325,18 @@ returns-clause-committed g c =
     let keeps = keeps_told g.row.OFFSET_BITS ledger records fields inside.operations inside.last.root inside.last.operations old new trees next inside.plan c.compact-plan.result.0 c.args.keys c.compact-plan.result.1
     made in
     ap (λ (i : Image). table_of (shape_of (types_of fields)) (words_at i) inside.last.root) keeps.commits.image ∙ ap (λ (v : AttributeView g.row.S.Denot). v.committed) c.self.view_is
+
+pub returns-then-self-clause-makes : goal.returns-then-self-clause-makes
+returns-then-self-clause-makes g c = keys_none c.args.self.now.fields c.args.self.now.table (g.S.Store.ledger c.args.self.now.store) c.args.keys
+
+pub returns-clause-makes : goal.returns-clause-makes
+returns-clause-makes g c =
+    let ledger = g.S.Store.ledger in
+    let records = g.S.Frozen.records in
+    let inside = c.self.inside in
+    let old = inside.store in
+    let new = c.compact-plan.new.store in
+    let fields = inside.fields in
+    let first = subst (λ (fs : List Field). MakesKeys fs (table_at (records old) (trees_of fs c.deref_mut.result.now)) (ledger old) (ledger new) c.args.keys) c.as_slice.ensures c.compact-plan.ensures.counts in
+    let made = subst (λ (xs : List (FieldRoots g.row.OFFSET_BITS)). MakesKeys fields (table_at (records old) (trees_of fields xs)) (ledger old) (ledger new) c.args.keys) c.deref_mut.ensures.value first in
+    subst (λ (v : AttributeView g.row.S.Denot). MakesKeys v.fields v.table (ledger v.store) (ledger new) c.args.keys) c.self.view_is made

@@ -1,0 +1,32 @@
+-- How many records the move of one key makes at most.
+use Rattle.std.specs.Prelude.{◌≡◌, ℕ, ◌+◌, ◌*◌, ◌^◌, ◌<◌, ◌≤◌, nat_eq, if◌then◌else◌, length}
+use Rattle.store_api.specs.Ledgers.{Ledger}
+use Rattle.attr_index.specs.Columns.{Column}
+use Rattle.attr_index.specs.Index.{Index, IsIndexOf}
+use Rattle.attr_types.specs.declared.kind.Kind.{Kind}
+use Rattle.attr_types.specs.declared.kind.Kind.TheVariants.{Single}
+use Rattle.attr_types.specs.declared.kind.ValueType.{ValueType}
+use Rattle.attr_types.specs.declared.kind.ValueType.TheVariants.{Long}
+use Rattle.posting_store.specs.Changes.{MakesWithin}
+use Rattle.value_index.specs.Counts.{by_width}
+
+-- the nodes, where no tree has more levels: in two trees, of a list one of each level, and of the dictionary two of each and a root
+abbrev pub key_nodes : ℕ → ℕ
+key_nodes levels = 3 * levels + 1
+
+abbrev pub one_record : ℕ → ℕ → ℕ
+one_record width w = if nat_eq w width then 1 else 0
+
+-- no tree of an attribute with this column has more levels, since it has so few values, and so few documents
+pub record IsLowColumn (levels : ℕ) (column : Column) : Type 0 where
+  pub some : 0 < levels
+  pub values : (index : Index) → IsIndexOf column index → length index < 2 * 8 ^ levels
+  pub documents : length column < 2 * 8 ^ levels
+
+-- nodes are made, and one record of some width: of a value, a short list or a document's items. For an attribute of kind single with long
+-- values that width is 16 at most.
+pub record MakesKey {H : Type 0} (kind : Kind) (type : ValueType) (column : Column) (old new : Ledger H) : Type 0 where
+  pub width : ℕ
+  pub narrow : kind ≡ Single → type ≡ Long → width ≤ 16
+  pub counts : MakesWithin old new (by_width (key_nodes 8) (one_record width))
+  pub low : (levels : ℕ) → IsLowColumn levels column → MakesWithin old new (by_width (key_nodes levels) (one_record width))
