@@ -3,6 +3,8 @@ ghost use Rattle.std.specs.Prelude.{◌≡◌, ◌<◌, ◌≤◌, ◌+◌, leng
 ghost use Rattle.std.specs.List.{AllByRecursion, AllZip};
 ghost use Rattle.gen_core.specs.Views.{last_number};
 ghost use Rattle.word_arena.specs.Ruled.{reader_of, writer_of};
+ghost use Rattle.word_arena.specs.Released.{IsWholeRun};
+ghost use Rattle.attr_images.specs.Images.{attr_reaches, IsLawfulImage};
 ghost use Rattle.attr_rounds.specs.Lines.{CanAsk};
 ghost use Rattle.attr_images.specs.Shapes.{shape_of, types_of};
 ghost use Rattle.attr_types.specs.Scores.{ask_tree};
@@ -124,7 +126,8 @@ pub fn read_after<'a, const OFFSET_BITS: u32, R: Threads + Sync, G: Gate + Sync 
     take_all(alloc, writer, readings, question)
 }
 
-/// Returns the answer of the last commit, by one round of one more reader, which passes no gate.
+/// Returns the answer of the last commit, by one round of one more reader, which passes no gate. What the writer has seen is then the
+/// whole run of the memory, in which no buffer was handed out while a reader had a guard from before its hold.
 pub fn last_answer<'a, const OFFSET_BITS: u32, Q: Question<OFFSET_BITS, AttrLayout>>(
     alloc: Global,
     writer: &mut Writer<'a, OFFSET_BITS, AttrLayout>,
@@ -134,6 +137,8 @@ pub fn last_answer<'a, const OFFSET_BITS: u32, Q: Question<OFFSET_BITS, AttrLayo
     requires seat { (writer_of writer.old.place.me.0).made < 64 }
     ensures made { (writer_of writer.new.place.me.0).made ≡ (writer_of writer.old.place.me.0).made + 1 }
     ensures last { IfOk result (IsLastAnswer Q.operations (Q.answers question.now) (writer_of writer.old.place.me.0)) }
+    ensures run { IfOk result (λ answer. IsWholeRun attr_reaches IsLawfulImage (writer_of writer.old.place.me.0).sizes
+        writer.new.place.me.0.seen) }
     ensures keeps { KeepsWriter (writer_of writer.old.place.me.0) (writer_of writer.new.place.me.0) }
 {
     let reader = reader_in(writer);

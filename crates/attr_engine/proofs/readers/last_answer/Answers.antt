@@ -1,5 +1,9 @@
-use Rattle.std.proofs.Common.{◌∙◌, length, ap}
+use Rattle.std.proofs.Common.{◌∙◌, length, ap, subst}
+use Rattle.gen_core.specs.declared.views.Sizes.{Sizes}
+use Rattle.gen_core.specs.declared.views.WriterView.{WriterView}
 use Rattle.word_arena.specs.Ruled.{reader_of, writer_of}
+use Rattle.word_arena.specs.Released.{IsWholeRun}
+use Rattle.attr_images.specs.Images.{attr_reaches, IsLawfulImage}
 use Rattle.attr_engine.proofs.ReaderLemmas.{last_of, keeps_joined, one_of}
 use Rattle.attr_engine.proofs.WriterLemmas.{keeps_on}
 use Rattle.attr_engine.proofs.readers.last_answer.Goals as goal
@@ -15,6 +19,10 @@ returns-clause-last g c =
     let one = one_of taken c.pop.new.self.items c.in-Some.round c.in-Some.ensures.items (ap length c.take_in-rounds.ensures.same ∙ c.in_ok-reading.ensures.count) in
     last_of _ _ _ w v v' c.args.writer.now.place.table_id reader.place.table_id (reader_of reader.place.me.0) (reader_of x.reader.place.me.0) x.rounds.items taken c.in-Some.round
     c.reader_in-reader.ensures.reader c.in_ok-reading.ensures.rounds c.reader_in-reader.ensures.keeps c.take_in-rounds.ensures.view c.take_in-rounds.ensures.same c.take_in-rounds.ensures.rounds one
+
+pub returns-clause-run : goal.returns-clause-run
+returns-clause-run g c =
+    subst (λ (z : Sizes). IsWholeRun attr_reaches IsLawfulImage z c.take_in-rounds.new.writer.place.me.0.seen) (ap (λ (x : WriterView). x.sizes) c.reader_in-reader.ensures.keeps) c.take_in-rounds.ensures.run
 
 pub returns-clause-keeps : goal.returns-clause-keeps
 returns-clause-keeps g c =
