@@ -20,7 +20,8 @@ use Rattle.attr_rounds.specs.declared.rounds.Round.{Round}
 use Rattle.attr_rounds.specs.Lines.{CanAsk}
 use Rattle.attr_rounds.specs.declared.asked.Asked.{Asked}
 use Rattle.attr_rounds.specs.declared.asked.Told.{Told}
-use Rattle.attr_engine.specs.Steps.{operations_of, tells_of, KeepsWriter, IsReader, HasRead, IsReading, IsTakenFrom, AreRoundsOf}
+use Rattle.attr_engine.specs.Steps.{KeepsWriter, IsReader, HasRead, IsReading, IsTakenFrom, AreRoundsOf}
+use Rattle.attr_engine.specs.Rounds.{operations_of, tells_of}
 use Rattle.attr_engine.proofs.ReaderLemmas.{AllOf, zip_all, zip_length, zip_each, reading_of, taken_of}
 
 module _ (bits : ℕ) (G : Type 0) (w : WriterView) (home : TableId) (count : ℕ) (asked : Asked) where

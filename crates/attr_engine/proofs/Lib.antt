@@ -4,3 +4,4 @@ pub mod JobLemmas
 pub mod RunLemmas
 pub mod HistoryLemmas
 pub mod WritingLemmas
+pub mod HappenLemmas

@@ -1,6 +1,6 @@
 -- Readers, their rounds, and these taken in.
 use Rattle.std.proofs.Common.{◌≡◌, ◌++◌, ℕ, suc, List, [], ◌∷◌, length, map, refl, sym, ap, subst, ◌∙◌, arith}
-use Rattle.std.specs.Prelude.{Bool, All}
+use Rattle.std.specs.Prelude.{Bool, All, Result, Ok, Err, IfOk}
 use Rattle.std.specs.List.{AllByRecursion, AllZip}
 use Rattle.std.specs.List.Sorted.{IsNonDecreasing}
 use Rattle.std.proofs.lemmas.List.{length-append, get_or_append_left}
@@ -11,13 +11,15 @@ use Rattle.gen_core.specs.declared.views.Sizes.{Sizes}
 use Rattle.gen_core.specs.declared.views.ReaderView.{ReaderView}
 use Rattle.gen_core.specs.declared.views.WriterView.{WriterView}
 use Rattle.gen_core.specs.Views.{last_number}
+use Rattle.attr_images.specs.Images.{IsLawfulImage}
 use Rattle.attr_types.specs.Scores.{AskTree}
 use Rattle.gen_core.specs.Events.{joined}
 use Rattle.attr_rounds.specs.Rounds.{IsOfCommit, MakesRounds}
 use Rattle.attr_rounds.specs.declared.rounds.Round.{Round}
 use Rattle.attr_rounds.specs.declared.asked.Told.{Told}
 use Rattle.attr_engine.specs.Rounds.{commits_of}
-use Rattle.attr_engine.specs.Steps.{operations_of, tells_of, KeepsWriter, IsReader, HasRead, IsReading, IsTakenFrom, AreRoundsOf, IsLastAnswer}
+use Rattle.attr_engine.specs.Steps.{KeepsWriter, IsReader, HasRead, IsReading, IsTakenFrom, AreRoundsOf, IsLastAnswer}
+use Rattle.attr_engine.specs.Rounds.{operations_of, tells_of}
 
 pub all_first : {X : Type 0} (P : X → Type 0) (x : X) (xs : List X) → All P (x ∷ xs) → P x
 all_first P x xs all = all 0 x (omega arith)
@@ -77,6 +79,12 @@ module _ (counted : Bool) (asks : List AskTree) (w : WriterView) (home : TableId
     forward = subst (λ n. IsNonDecreasing (n ∷ commits_of taken)) has.is.seen_last
         (subst (λ (list : List (Round Told)). IsNonDecreasing (has.start.seen ∷ commits_of list)) (sym from.same)
         (front (has.start.seen ∷ commits_of rounds) r.seen has.makes.forward));
+    guarded = record {
+      before = has.start;
+      after = r;
+      had_seen = has.is.seen_last;
+      makes = subst (MakesRounds operations_of (tells_of counted asks) IsLawfulImage has.start r) (sym from.same) has.makes;
+    };
   }
 
 -- a reader's rounds, taken in by a writer that is still of the same commits
@@ -118,3 +126,7 @@ last_of {A = A} operations answers lawful w v v' home table start r rounds taken
 pub one_of : {X : Type 0} (xs ys : List X) (x : X) → xs ≡ ys ++ x ∷ [] → length xs ≡ 1 → xs ≡ x ∷ []
 one_of xs [] x is one = is
 one_of xs (y ∷ ys) x is one = absurd (let l = ap length is in let m = length-append ys (x ∷ []) in omega (arith, l, m, one))
+
+pub ok_always : {A E : Type 0} (r : Result A E) (P : Type 0) → P → IfOk r (λ _. P)
+ok_always (Ok a) P holds = holds
+ok_always (Err e) P holds = tt

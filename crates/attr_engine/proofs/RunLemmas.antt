@@ -29,7 +29,8 @@ use Rattle.attr_report.specs.Run.{Run, table_after}
 use Rattle.attr_report.specs.History.{IsLoaded}
 use Rattle.attr_engine.specs.Run.{full_of}
 use Rattle.attr_engine.specs.Rounds.{IsRoundAt, AreRoundsAt, IsCame, seen_before}
-use Rattle.attr_engine.specs.Steps.{KeepsWriter, operations_of, tells_of, saves_of, parts, AreRoundsOf, IsLastAnswer, LoadsInto}
+use Rattle.attr_engine.specs.Steps.{KeepsWriter, saves_of, parts, AreRoundsOf, IsLastAnswer, LoadsInto}
+use Rattle.attr_engine.specs.Rounds.{operations_of, tells_of}
 use Rattle.attr_engine.proofs.ReaderLemmas.{AllOf}
 
 -- what is answered at an image, by its table
@@ -55,6 +56,7 @@ module _ (run : Run) (ops : List Op) (last : ℕ) (commits : List Image) (are : 
     made = taken.made;
     each = λ k d below. round_at _ (taken.each k d below);
     forward = taken.forward;
+    guarded = taken.guarded;
   }
 
   -- a round of the last commit answers from the table of all that was loaded
@@ -155,3 +157,8 @@ pub last_on : {A : Type 0} (operations : ℕ → Records → ℕ → ℕ) (answe
 last_on operations answers v x answer keeps is =
     let moved = subst (λ (y : WriterView). IsLastAnswer operations answers y answer) keeps is in
     record { round = moved.round; is = moved.is; of_commit = moved.of_commit; later = moved.later }
+
+-- each reader runs beside the loading or after it
+pub all_parts : (b : Bool) (readers : ℕ) → (parts b readers).0 + (parts b readers).1 ≡ readers
+all_parts true readers = omega arith
+all_parts false readers = omega arith

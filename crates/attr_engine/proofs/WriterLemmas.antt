@@ -1,17 +1,17 @@
 -- What stays of a writer, and what a loading makes of it.
-use Rattle.std.proofs.Common.{◌≡◌, ◌<◌, ℕ, zero, suc, List, [], ◌∷◌, length, Some, refl, sym, ap, subst, ◌∙◌, arith}
+use Rattle.std.proofs.Common.{◌≡◌, ◌<◌, ◌≤◌, ◌+◌, ℕ, zero, suc, List, [], ◌∷◌, length, Some, refl, sym, ap, subst, ◌∙◌, arith}
 use Rattle.std.specs.Prelude.{slice_get, All, ◌^◌}
 use Rattle.std.specs.List.{AllByRecursion}
-use Rattle.std.proofs.lemmas.Option.{slice_get_within}
+use Rattle.std.proofs.lemmas.Option.{slice_get_within, IfSome_then}
 use Rattle.atomic_table.specs.Seated.{TableId}
 use Rattle.entry_ref.specs.declared.images.Image.{Image}
 use Rattle.entry_ref.specs.Images.{no_image, words_at}
 use Rattle.entry_ref.specs.Records.{Records}
-use Rattle.arena_api.specs.Works.{Sizes as ApiSizes, WorkView, last_image}
+use Rattle.arena_api.specs.Works.{Sizes as ApiSizes, WorkView, free_count, last_image}
 use Rattle.gen_core.specs.declared.views.WriterView.{WriterView}
 use Rattle.gen_core.specs.declared.views.ReaderView.{ReaderView}
 use Rattle.gen_core.specs.Views.{last_number}
-use Rattle.store_api.specs.Ledgers.{Ledger}
+use Rattle.store_api.specs.Ledgers.{Ledger, active_count, held_count}
 use Rattle.word_arena.specs.Knows.{view_of}
 use Rattle.attr_images.specs.Images.{table_of, operations_at}
 use Rattle.attr_images.specs.Shapes.{shape_of, types_of}
@@ -22,6 +22,7 @@ use Rattle.attr_types.specs.declared.op.Op.{Op}
 use Rattle.attr_loader.specs.Attributes.{AttributeView, HasCommit}
 use Rattle.attr_loader.specs.Loading.{CanLoad, IsAtStart, Loads, AreCommits, EndsAt}
 use Rattle.attr_loader.specs.declared.loaded.Loaded.{Loaded}
+use Rattle.attr_loader.specs.declared.loaded.NoRoom.{NoRoom}
 use Rattle.attr_engine.specs.Steps.{KeepsWriter, IsReader, IsNewWriter, LoadsInto}
 
 pub keeps_on : (a b c : WriterView) → KeepsWriter a b → KeepsWriter b c → KeepsWriter a c
@@ -33,6 +34,10 @@ reader_on a b home z r table keeps same is = record {
   seen_last = is.seen_last ∙ ap (λ (x : WriterView). last_number x.commits) keeps;
   at_home = is.at_home ∙ same;
 }
+
+-- no buffer of a work is free
+abbrev CountsFull : WorkView TableId → NoRoom → Type 0
+CountsFull x room = (free_count x.buffer x.sizes.buffers ≡ 0) × (room.active ≡ active_count x.buffer x.sizes.buffers) × (room.held ≡ held_count x.buffer x.sizes.buffers)
 
 -- a loading by attributes over a writer, as the writer sees it
 module _ {S : Type 0} (ledger : S → Ledger TableId) (fields : List Field) (batch : ℕ) (ops : List Op) (a b : AttributeView S) (loaded : Loaded) (home z : TableId) (w v : WriterView)
@@ -60,7 +65,14 @@ module _ {S : Type 0} (ledger : S → Ledger TableId) (fields : List Field) (bat
         point = loads.point;
         skips = loads.skips ∙ ap (λ fs. skipped fs ops loaded.operations) fields_are;
         ends = subst (λ n. EndsAt batch (length ops) n loaded.operations loaded.full) buffers_stay loads.ends;
+        full = IfSome_then loaded.full loads.full (λ room at.
+            let here = subst (λ (x : WorkView TableId). CountsFull x room) (sym to) (at.free, at.active_is, at.held_is) in
+            record { free = here.0; active_is = here.1; held_is = here.2 });
       }
+
+  -- as many readers were made
+  pub made_stays : v.made ≡ w.made
+  made_stays = ap (λ (x : WorkView TableId). x.made) to ∙ loads.stays.readers ∙ ap (λ (x : WorkView TableId). x.made) from
 
 pub new_on : (fields : List Field) (home z : TableId) (w v : WriterView) → KeepsWriter w v → z ≡ home → IsNewWriter fields home w → IsNewWriter fields z v
 new_on fields home z w v keeps same is =
@@ -70,19 +82,29 @@ new_on fields home z w v keeps same is =
       shape_is = is.shape_is;
       fresh = record { queue = is.fresh.queue; floor = is.fresh.floor; last = is.fresh.last; image = is.fresh.image; buffers = is.fresh.buffers };
       commits = is.commits;
+      limit = is.limit;
     }))
 
 -- a loading into a writer that had got readers before is one into the writer that it was
 pub loads_from : (fields : List Field) (batch : ℕ) (ops : List Op) (w v x : WriterView) (loaded : Loaded) → KeepsWriter w v → LoadsInto fields batch ops v x loaded → LoadsInto fields batch ops w x loaded
 loads_from fields batch ops w v x loaded keeps is =
     let moved = subst (λ (y : WriterView). LoadsInto fields batch ops y x loaded) keeps is in
-    record { shape_is = moved.shape_is; last = moved.last; commits = moved.commits; count = moved.count; point = moved.point; skips = moved.skips; ends = moved.ends }
+    record { shape_is = moved.shape_is; last = moved.last; commits = moved.commits; count = moved.count; point = moved.point; skips = moved.skips; ends = moved.ends; full = moved.full }
 
 -- and one into a writer that then took readers in
 pub loads_kept : (fields : List Field) (batch : ℕ) (ops : List Op) (w v x : WriterView) (loaded : Loaded) → KeepsWriter v x → LoadsInto fields batch ops w v loaded → LoadsInto fields batch ops w x loaded
 loads_kept fields batch ops w v x loaded keeps is =
     subst (λ (y : WriterView). LoadsInto fields batch ops w y loaded) (sym keeps)
-    (record { shape_is = is.shape_is; last = is.last; commits = is.commits; count = is.count; point = is.point; skips = is.skips; ends = is.ends })
+    (record {
+      shape_is = is.shape_is;
+      last = is.last;
+      commits = is.commits;
+      count = is.count;
+      point = is.point;
+      skips = is.skips;
+      ends = is.ends;
+      full = IfSome_then loaded.full is.full (λ room at. record { free = at.free; active_is = at.active_is; held_is = at.held_is });
+    })
 
 one_image : (image : Image) → All (λ x. x ≡ image) (image ∷ [])
 one_image image zero d below = refl
@@ -113,3 +135,11 @@ can_load ledger fields batch ops a same some few fit start = record {
   fit = subst (λ fs. AllByRecursion (OpFits fs) ops) (sym same) fit;
   start = start;
 }
+
+-- the commits that are left to attributes over a new writer are enough
+pub commits_left : {S : Type 0} (ledger : S → Ledger TableId) (fields : List Field) (home : TableId) (w : WriterView) (a : AttributeView S) (ops : List Op) → IsAtStart ledger a → IsNewWriter fields home w
+    → (ledger a.store).work ≡ view_of home w → length ops < 2 ^ 32 → (ledger a.store).work.commits.last + length ops ≤ (ledger a.store).work.sizes.commits
+commits_left ledger fields home w a ops start new work few =
+    let last : (ledger a.store).work.commits.last ≡ 0 = ap (λ (x : WorkView TableId). x.commits.last) work ∙ new.fresh.last in
+    let limit : (ledger a.store).work.sizes.commits ≡ 4294967295 = ap (λ (x : WorkView TableId). x.sizes.commits) work ∙ new.limit in
+    omega (arith, last, limit, few)

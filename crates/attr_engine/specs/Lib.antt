@@ -1,5 +1,6 @@
 pub mod Run
 pub mod Rounds
+pub mod Happenings
 pub mod Steps
 pub mod Laws
 pub mod Writing

@@ -2,8 +2,13 @@
 use Rattle.std.specs.Prelude.{◌≡◌, ℕ, ◌+◌, ◌≤◌, Bool, true, false, List, ◌∷◌, map, length, Option, is_some, IfSome, All}
 use Rattle.std.specs.List.{AllByRecursion}
 use Rattle.std.specs.List.Sorted.{IsNonDecreasing}
+use Rattle.entry_ref.specs.Records.{Records}
+use Rattle.gen_core.specs.declared.views.ReaderView.{ReaderView}
+use Rattle.attr_images.specs.Images.{operations_at, table_of, IsLawfulImage}
+use Rattle.attr_types.specs.Scores.{AskTree}
 use Rattle.attr_types.specs.declared.op.Op.{Op}
 use Rattle.attr_loader.specs.Loading.{commit_point}
+use Rattle.attr_rounds.specs.Rounds.{MakesRounds}
 use Rattle.attr_rounds.specs.declared.rounds.Round.{Round}
 use Rattle.attr_rounds.specs.declared.asked.Told.{Told}
 use Rattle.attr_rounds.specs.Lines.{TellsTable}
@@ -22,11 +27,27 @@ pub record IsRoundAt (run : Run) (ops : List Op) (last : ℕ) (round : Round Tol
 abbrev pub commits_of : List (Round Told) → List ℕ
 commits_of rounds = map (λ round. round.commit) rounds
 
+-- what is asked of an image, as a question of rounds
+abbrev pub operations_of : ℕ → Records → ℕ → ℕ
+operations_of shape m root = operations_at m root
+
+abbrev pub tells_of : Bool → List AskTree → ℕ → Records → ℕ → Told → Type 0
+tells_of counted asks shape m root told = TellsTable counted asks (table_of shape m root) told
+
+-- the rounds were made by a reader that had seen this commit, each under a guard: its count of operations and its lines are those of
+-- the image that the guard read
+pub record AreGuarded (counted : Bool) (asks : List AskTree) (seen : ℕ) (rounds : List (Round Told)) : Type 0 where
+  pub before : ReaderView
+  pub after : ReaderView
+  pub had_seen : before.seen ≡ seen
+  pub makes : MakesRounds operations_of (tells_of counted asks) IsLawfulImage before after rounds
+
 -- a reader's rounds, as many as were asked for: their commits never fall, and none is below the one that it had seen
 pub record AreRoundsAt (run : Run) (ops : List Op) (seen last : ℕ) (rounds : List (Round Told)) : Type 0 where
   pub made : length rounds ≡ run.rounds
   pub each : All (IsRoundAt run ops last) rounds
   pub forward : IsNonDecreasing (seen ∷ commits_of rounds)
+  pub guarded : AreGuarded (is_some run.make) run.asks seen rounds
 
 -- what readers have seen before their rounds: the last commit where they run after the loading
 abbrev pub seen_before : Bool → ℕ → ℕ

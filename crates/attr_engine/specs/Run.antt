@@ -1,10 +1,12 @@
 -- What a run of the engine comes to, over the plain table alone.
-use Rattle.std.specs.Prelude.{◌≡◌, ℕ, ◌+◌, Option, Some, None, List, length, IfSome}
+use Rattle.std.specs.Prelude.{◌≡◌, ℕ, ◌+◌, ◌<◌, Option, Some, None, List, length, IfSome}
 use Rattle.attr_loader.specs.declared.loaded.NoRoom.{NoRoom}
 use Rattle.attr_types.specs.declared.op.Op.{Op}
 use Rattle.attr_report.specs.Run.{Run, Progress}
 use Rattle.attr_report.specs.Report.{written}
 use Rattle.attr_report.specs.History.{IsLoaded, IsRounds, IsAfterwards, IsSaved}
+use Rattle.attr_engine.specs.declared.error.EngineError.{EngineError}
+use Rattle.attr_engine.specs.declared.error.EngineError.TheVariants.{Memory, TooManyReaders}
 use Rattle.attr_engine.specs.declared.written.Written.{Written}
 
 -- the operation that found no room, if one did
@@ -23,3 +25,8 @@ pub record IsRunOf (run : Run) (ops : List Op) (w : Written) : Type 0 where
   pub in_save : IsSaved run (length ops) (progress_of w)
   pub is_written : w.text.items ≡ written run ops (progress_of w) (full_of w.full)
   pub room : IfSome w.full (λ r. r.active + r.held ≡ run.buffers)
+
+-- why a run was not made: memory is short, or there are more readers than seats, two of which the last answers take
+abbrev pub IsGivenUp : ℕ → EngineError → Type 0
+IsGivenUp readers TooManyReaders = 62 < readers
+IsGivenUp readers Memory = Unit {0}

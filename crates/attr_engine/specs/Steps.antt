@@ -1,5 +1,5 @@
 -- What the steps of a run make of the writer, and what its readers' tasks come to.
-use Rattle.std.specs.Prelude.{◌≡◌, ℕ, ◌+◌, ◌<◌, ◌≤◌, ◌^◌, Bool, true, false, ◌∷◌, List, [], length, is_some, All}
+use Rattle.std.specs.Prelude.{◌≡◌, ℕ, ◌+◌, ◌<◌, ◌≤◌, ◌^◌, Bool, true, false, ◌∷◌, List, [], length, slice_get, is_some, IfSome, All}
 use Rattle.std.specs.BTreeMap.{BTreeMap}
 use Rattle.std.specs.List.Sorted.{IsNonDecreasing}
 use Rattle.atomic_table.specs.Seated.{TableId}
@@ -7,11 +7,13 @@ use Rattle.entry_ref.specs.declared.images.Image.{Image}
 use Rattle.entry_ref.specs.Images.{no_image}
 use Rattle.entry_ref.specs.Records.{Records}
 use Rattle.arena_api.specs.Calls.{IsFresh}
+use Rattle.arena_api.specs.Works.{free_count, Buffer as ApiBuffer}
+use Rattle.store_api.specs.Ledgers.{active_count, held_count}
 use Rattle.gen_core.specs.declared.views.ReaderView.{ReaderView}
 use Rattle.gen_core.specs.declared.views.WriterView.{WriterView}
 use Rattle.gen_core.specs.Views.{last_number}
-use Rattle.word_arena.specs.Knows.{view_of}
-use Rattle.attr_images.specs.Images.{operations_at, table_of, IsLawfulImage}
+use Rattle.word_arena.specs.Knows.{view_of, api_buffer}
+use Rattle.attr_images.specs.Images.{table_of, IsLawfulImage}
 use Rattle.attr_images.specs.Shapes.{shape_of, types_of}
 use Rattle.attr_types.specs.Scores.{AskTree}
 use Rattle.attr_types.specs.Table.{skipped}
@@ -21,13 +23,13 @@ use Rattle.attr_types.specs.declared.items.Item.{Item}
 use Rattle.attr_types.specs.declared.op.Op.{Op}
 use Rattle.attr_loader.specs.Loading.{AreCommits, EndsAt, commit_point}
 use Rattle.attr_loader.specs.declared.loaded.Loaded.{Loaded}
+use Rattle.attr_loader.specs.declared.loaded.NoRoom.{NoRoom}
 use Rattle.attr_rounds.specs.Rounds.{AreSeen, IsOfCommit, MakesRounds}
 use Rattle.attr_rounds.specs.declared.rounds.Round.{Round}
 use Rattle.attr_rounds.specs.declared.asked.Told.{Told}
-use Rattle.attr_rounds.specs.Lines.{TellsTable}
 use Rattle.attr_rounds.specs.Columns.{TellsColumn}
 use Rattle.attr_report.specs.Run.{Run}
-use Rattle.attr_engine.specs.Rounds.{commits_of}
+use Rattle.attr_engine.specs.Rounds.{operations_of, tells_of, commits_of, AreGuarded}
 
 -- how many readers run beside the loading, and how many after it
 abbrev pub parts : Bool → ℕ → ℕ × ℕ
@@ -45,8 +47,19 @@ pub record IsNewWriter (fields : List Field) (home : TableId) (w : WriterView) :
   pub shape_is : w.sizes.shape ≡ shape_of (types_of fields)
   pub fresh : IsFresh (view_of home w)
   pub commits : w.commits ≡ no_image ∷ []
+  pub limit : w.sizes.commit_limit ≡ 4294967295
 
--- what a loading makes of a writer: its commits are those of the operations
+-- the buffers of a writer
+abbrev pub buffers_of : WriterView → ℕ → ApiBuffer
+buffers_of w b = api_buffer (slice_get w.buffers b)
+
+-- no buffer is free: so many are in use, and the others are held for readers
+pub record IsFullWriter (w : WriterView) (room : NoRoom) : Type 0 where
+  pub free : free_count (buffers_of w) w.sizes.buffers ≡ 0
+  pub active_is : room.active ≡ active_count (buffers_of w) w.sizes.buffers
+  pub held_is : room.held ≡ held_count (buffers_of w) w.sizes.buffers
+
+-- what a loading makes of a writer: its commits are those of the operations; where one found no room the buffers are counted
 pub record LoadsInto (fields : List Field) (batch : ℕ) (ops : List Op) (old new : WriterView) (loaded : Loaded) : Type 0 where
   pub shape_is : new.sizes.shape ≡ old.sizes.shape
   pub last : ℕ
@@ -55,13 +68,7 @@ pub record LoadsInto (fields : List Field) (batch : ℕ) (ops : List Op) (old ne
   pub point : loaded.operations ≡ commit_point batch (length ops) last
   pub skips : loaded.skipped ≡ skipped fields ops loaded.operations
   pub ends : EndsAt batch (length ops) old.sizes.buffers loaded.operations loaded.full
-
--- what is asked of an image, as a question of rounds
-abbrev pub operations_of : ℕ → Records → ℕ → ℕ
-operations_of shape m root = operations_at m root
-
-abbrev pub tells_of : Bool → List AskTree → ℕ → Records → ℕ → Told → Type 0
-tells_of counted asks shape m root told = TellsTable counted asks (table_of shape m root) told
+  pub full : IfSome loaded.full (IsFullWriter new)
 
 -- what a save is answered: the documents of an image, each with its items in the first attribute
 abbrev pub saves_of : ℕ → Records → ℕ → BTreeMap ℕ (List (List Item)) → Type 0
@@ -96,12 +103,13 @@ pub record IsTakenFrom (counted : Bool) (asks : List AskTree) (shape : ℕ) (com
   pub same : after ≡ before
   pub each : All (IsOfCommit operations_of (tells_of counted asks) shape commits) after
 
--- the rounds of a reader: so many, each of a commit, the commits never falling, and none below what it had seen
+-- the rounds of a reader that had seen this commit: so many, each of a commit, the commits never falling, and none below what it had seen
 pub record AreRoundsOf (counted : Bool) (asks : List AskTree) (shape seen count : ℕ) (commits : List Image)
     (rounds : List (Round Told)) : Type 0 where
   pub made : length rounds ≡ count
   pub each : All (IsOfCommit operations_of (tells_of counted asks) shape commits) rounds
   pub forward : IsNonDecreasing (seen ∷ commits_of rounds)
+  pub guarded : AreGuarded counted asks seen rounds
 
 -- what is answered in one more round, of a reader that had seen the last commit
 pub record IsLastAnswer {A : Type 0} (operations : ℕ → Records → ℕ → ℕ) (answers : ℕ → Records → ℕ → A

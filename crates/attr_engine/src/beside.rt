@@ -1,5 +1,5 @@
 //! The loading, beside other tasks.
-ghost use Rattle.std.specs.Prelude.{◌≡◌, ◌<◌, ◌^◌, length, map, IfOk, All};
+ghost use Rattle.std.specs.Prelude.{◌≡◌, ◌<◌, ◌≤◌, ◌+◌, ◌^◌, length, map, IfOk, All};
 ghost use Rattle.std.specs.List.{AllByRecursion, AllZip};
 ghost use Rattle.word_arena.specs.Knows.{view_of};
 ghost use Rattle.word_arena.specs.Ruled.{reader_of, writer_of};
@@ -13,7 +13,7 @@ ghost use Rattle.attr_engine.specs.Steps.{HasRead, IsNewWriter, LoadsInto};
 use crate::readers::jobs_of;
 use attr_images::{AttrLayout, image_law};
 use attr_io::{Gate, Task, run_beside};
-use attr_loader::{Attribute, Loaded, Loading};
+use attr_loader::{Attribute, LoadError, Loaded, Loading};
 use attr_rounds::{Asked, Reading, Told};
 use attr_types::{Fields, Op};
 use entry_store::EntryStore;
@@ -84,12 +84,17 @@ fn run_loading<
 ) -> Result<(Attribute<OFFSET_BITS, S>, Loaded, Vec<B>), AllocError>
     requires load { CanLoad S.ledger loading.batch loading.ops.now loading.attribute }
     requires others { All T.can_run others.items }
+    requires left { (S.ledger loading.attribute.store).work.commits.last + length loading.ops.now
+        ≤ (S.ledger loading.attribute.store).work.sizes.commits }
     ensures loads { IfOk result (λ r. Loads S.ledger loading.entry.batch loading.entry.ops.now loading.entry.attribute r.0 r.1) }
     ensures others { IfOk result (λ r. AllZip T.run_gives others.items r.2.items) }
 {
     let (given, gives) = run_beside(rt, alloc, loading, others)?;
-    let (attribute, loaded) = given?;
-    Ok((attribute, loaded, gives))
+    match given {
+        Ok((attribute, loaded)) => Ok((attribute, loaded, gives)),
+        Err(LoadError::Memory) => Err(AllocError),
+        Err(LoadError::CommitsSpent) => unreachable!(),
+    }
 }
 
 /// Loads operations into attributes over a writer, beside other tasks.
@@ -118,6 +123,7 @@ fn load_at<
     ensures table { IfOk result (λ r. r.0.place.table_id ≡ writer.entry.place.table_id) }
     ensures loads { IfOk result (λ r. LoadsInto fields.now batch ops.now (writer_of writer.entry.place.me.0)
         (writer_of r.0.place.me.0) r.1) }
+    ensures made { IfOk result (λ r. (writer_of r.0.place.me.0).made ≡ (writer_of writer.entry.place.me.0).made) }
     ensures others { IfOk result (λ r. AllZip T.run_gives others.items r.2.items) }
 {
     let attribute = opened(alloc, writer, fields)?;
@@ -147,12 +153,14 @@ pub fn load_beside<'a, const OFFSET_BITS: u32, R: Threads + Sync, G: Gate + Sync
 ) -> Result<LoadedBeside<'a, OFFSET_BITS>, AllocError>
     requires new { IsNewWriter question.now.fields.now writer.place.table_id (writer_of writer.place.me.0) }
     requires asks { CanAsk question.now.fields.now (length question.now.asks.now) (writer_of writer.place.me.0).sizes.shape }
+    requires seats { (writer_of writer.place.me.0).made + readers ≤ 64 }
     requires some { 0 < batch }
     requires few { length ops.now < 2 ^ 32 }
     requires fit { AllByRecursion (OpFits question.now.fields.now) ops.now }
     ensures table { IfOk result (λ r. r.writer.place.table_id ≡ writer.entry.place.table_id) }
     ensures loads { IfOk result (λ r. LoadsInto question.now.fields.now batch ops.now (writer_of writer.entry.place.me.0)
         (writer_of r.writer.place.me.0) r.loaded) }
+    ensures made { IfOk result (λ r. (writer_of r.writer.place.me.0).made ≡ (writer_of writer.entry.place.me.0).made + readers) }
     ensures count { IfOk result (λ r. length r.readings.items ≡ readers) }
     ensures readings { IfOk result (λ r. AllByRecursion (λ reading. IfOk reading (λ x.
         HasRead question.now.counted (map ask_tree question.now.asks.now)

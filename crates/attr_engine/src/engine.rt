@@ -1,12 +1,15 @@
 //! A run and what it writes.
-ghost use Rattle.std.specs.Prelude.{◌≡◌, ◌≤◌, ◌<◌, ◌*◌, ◌^◌, length, IfOk};
+ghost use Rattle.std.specs.Prelude.{◌≡◌, ◌≤◌, ◌<◌, ◌*◌, ◌^◌, length, IfOk, IfErr};
 ghost use Rattle.std.specs.List.{AllByRecursion};
 ghost use Rattle.entry_ref.specs.References.{buffer_limit, offset_limit};
 ghost use Rattle.attr_types.specs.Lawful.{OpFits};
 ghost use Rattle.attr_types.specs.declared.field.TheConstants.{MOST_FIELDS};
 ghost use Rattle.attr_report.specs.Run.{run_in};
-ghost use Rattle.attr_engine.specs.Run.{IsRunOf};
+ghost use Rattle.attr_engine.specs.Rounds.{IsCame};
+ghost use Rattle.attr_engine.specs.Run.{IsRunOf, IsGivenUp};
 
+use crate::came::Came;
+use crate::error::EngineError;
 use crate::run::run_engine;
 use crate::saving::saved_run;
 use crate::writing::written_of;
@@ -25,7 +28,7 @@ pub fn engine_run<const OFFSET_BITS: u32, R: Threads + Sync, G: Gate + Sync + 's
     request: &Request,
     ops: &[Op],
     gate: &G,
-) -> Result<Written, AllocError>
+) -> Result<Written, EngineError>
     requires some_buffers { 1 ≤ request.now.buffers }
     requires few_buffers { request.now.buffers < buffer_limit OFFSET_BITS }
     requires some_words { 8192 ≤ request.now.words }
@@ -37,11 +40,27 @@ pub fn engine_run<const OFFSET_BITS: u32, R: Threads + Sync, G: Gate + Sync + 's
     requires some { 0 < request.now.batch }
     requires few { length ops.now < 2 ^ 32 }
     requires fit { AllByRecursion (OpFits request.now.fields) ops.now }
-    ensures { IfOk result (IsRunOf (run_in request.now) ops.now) }
+    ensures run { IfOk result (IsRunOf (run_in request.now) ops.now) }
+    ensures readers { IfErr result (IsGivenUp request.now.readers) }
 {
     let came = run_engine::<OFFSET_BITS, R, G>(rt, alloc, request, ops, gate)?;
+    let written = written_in(alloc, request, ops, &came)?;
+    Ok(written)
+}
+
+/// What a run writes that came so far.
+fn written_in(
+    alloc: Global,
+    request: &Request,
+    ops: &[Op],
+    came: &Came,
+) -> Result<Written, AllocError>
+    requires came { IsCame (run_in request.now) ops.now came.now }
+    requires fit { AllByRecursion (OpFits request.now.fields) ops.now }
+    ensures { IfOk result (IsRunOf (run_in request.now) ops.now) }
+{
     match &came.documents {
-        Some(documents) => saved_run(alloc, request, ops, &came, documents),
-        None => written_of(alloc, request.make, &came),
+        Some(documents) => saved_run(alloc, request, ops, came, documents),
+        None => written_of(alloc, request.make, came),
     }
 }

@@ -4,6 +4,7 @@
 mod beside;
 mod came;
 mod engine;
+mod error;
 mod laws;
 mod readers;
 mod run;
@@ -14,6 +15,7 @@ mod written;
 pub use attr_loader::NoRoom;
 pub use came::Came;
 pub use engine::engine_run;
+pub use error::EngineError;
 pub use laws::came_law;
 pub use run::run_engine;
 pub use written::Written;

@@ -1,5 +1,5 @@
 //! The readers of a run: their tasks, and their rounds taken in at the writer.
-ghost use Rattle.std.specs.Prelude.{◌≡◌, ◌<◌, ◌≤◌, length, map, is_some, IfOk, IfSome, IsOkAnd, All};
+ghost use Rattle.std.specs.Prelude.{◌≡◌, ◌<◌, ◌≤◌, ◌+◌, length, map, is_some, IfOk, IfSome, IsOkAnd, All};
 ghost use Rattle.std.specs.List.{AllByRecursion, AllZip};
 ghost use Rattle.gen_core.specs.Views.{last_number};
 ghost use Rattle.word_arena.specs.Ruled.{reader_of, writer_of};
@@ -7,7 +7,8 @@ ghost use Rattle.attr_rounds.specs.Lines.{CanAsk};
 ghost use Rattle.attr_images.specs.Shapes.{shape_of, types_of};
 ghost use Rattle.attr_types.specs.Scores.{ask_tree};
 ghost use Rattle.attr_types.specs.declared.field.TheConstants.{MOST_FIELDS};
-ghost use Rattle.attr_engine.specs.Steps.{operations_of, saves_of, KeepsWriter, IsReader, IsReading, IsTakenFrom, AreRoundsOf};
+ghost use Rattle.attr_engine.specs.Steps.{saves_of, KeepsWriter, IsReader, IsReading, IsTakenFrom, AreRoundsOf};
+ghost use Rattle.attr_engine.specs.Rounds.{operations_of};
 ghost use Rattle.attr_engine.specs.Steps.{IsLastAnswer};
 
 use attr_images::AttrLayout;
@@ -22,15 +23,17 @@ use word_arena::{Reader, Writer};
 /// A new reader, which has seen the last commit.
 fn reader_in<'a, const OFFSET_BITS: u32>(
     writer: &mut Writer<'a, OFFSET_BITS, AttrLayout>,
-) -> Result<Reader<'a, OFFSET_BITS, AttrLayout>, AllocError>
-    ensures reader { IfOk result (λ r. IsReader (writer_of writer.old.place.me.0) writer.old.place.table_id
-        (reader_of r.place.me.0) r.place.table_id) }
+) -> Reader<'a, OFFSET_BITS, AttrLayout>
+    requires { (writer_of writer.old.place.me.0).made < 64 }
+    ensures reader { IsReader (writer_of writer.old.place.me.0) writer.old.place.table_id
+        (reader_of result.place.me.0) result.place.table_id }
+    ensures made { (writer_of writer.new.place.me.0).made ≡ (writer_of writer.old.place.me.0).made + 1 }
     ensures keeps { KeepsWriter (writer_of writer.old.place.me.0) (writer_of writer.new.place.me.0) }
     ensures table { writer.new.place.table_id ≡ writer.old.place.table_id }
 {
     match writer.reader() {
-        Ok(reader) => Ok(reader),
-        Err(_) => Err(AllocError),
+        Ok(reader) => reader,
+        Err(_) => unreachable!(),
     }
 }
 
@@ -43,7 +46,9 @@ pub fn jobs_of<'a, const OFFSET_BITS: u32, G: Gate>(
     question: &'a Asked<'a>,
     gate: &'a G,
 ) -> Result<Vec<Job<'a, OFFSET_BITS, AttrLayout, Asked<'a>, G>>, AllocError>
+    requires { (writer_of writer.old.place.me.0).made + readers ≤ 64 }
     ensures count { IfOk result (λ jobs. length jobs.items ≡ readers) }
+    ensures made { IfOk result (λ jobs. (writer_of writer.new.place.me.0).made ≡ (writer_of writer.old.place.me.0).made + readers) }
     ensures jobs { IfOk result (λ jobs. All (λ job.
         IsReader (writer_of writer.old.place.me.0) writer.old.place.table_id (reader_of job.reader.place.me.0) job.reader.place.table_id
         × (job.count ≡ rounds) × (job.question.now ≡ question.now)) jobs.items) }
@@ -52,7 +57,7 @@ pub fn jobs_of<'a, const OFFSET_BITS: u32, G: Gate>(
 {
     let mut jobs = Vec::new(alloc);
     for i in 0..readers {
-        let reader = reader_in(writer)?;
+        let reader = reader_in(writer);
         let number = i + 1;
         jobs.push(Job {
             alloc,
@@ -80,6 +85,7 @@ pub fn take_all<'a, const OFFSET_BITS: u32>(
         IsTakenFrom question.now.counted (map ask_tree question.now.asks.now) (writer_of writer.old.place.me.0).sizes.shape
         (writer_of writer.old.place.me.0).commits
         r.rounds.items taken.items)) readings.entry.items rounds.items) }
+    ensures made { (writer_of writer.new.place.me.0).made ≡ (writer_of writer.old.place.me.0).made }
     ensures keeps { KeepsWriter (writer_of writer.old.place.me.0) (writer_of writer.new.place.me.0) }
     ensures table { writer.new.place.table_id ≡ writer.old.place.table_id }
 {
@@ -102,7 +108,9 @@ pub fn read_after<'a, const OFFSET_BITS: u32, R: Threads + Sync, G: Gate + Sync 
     question: &'a Asked<'a>,
     gate: &'a G,
 ) -> Result<Vec<Vec<Round<Told>>>, AllocError>
-    requires { CanAsk question.now.fields.now (length question.now.asks.now) (writer_of writer.old.place.me.0).sizes.shape }
+    requires asks { CanAsk question.now.fields.now (length question.now.asks.now) (writer_of writer.old.place.me.0).sizes.shape }
+    requires seats { (writer_of writer.old.place.me.0).made + readers ≤ 64 }
+    ensures made { IfOk result (λ rounds. (writer_of writer.new.place.me.0).made ≡ (writer_of writer.old.place.me.0).made + readers) }
     ensures count { IfOk result (λ rounds. length rounds.items ≡ readers) }
     ensures rounds { IfOk result (λ rounds. AllByRecursion (λ r.
         AreRoundsOf question.now.counted (map ask_tree question.now.asks.now) (writer_of writer.old.place.me.0).sizes.shape
@@ -122,16 +130,18 @@ pub fn last_answer<'a, const OFFSET_BITS: u32, Q: Question<OFFSET_BITS, AttrLayo
     writer: &mut Writer<'a, OFFSET_BITS, AttrLayout>,
     question: &Q,
 ) -> Result<Q::Answer, AllocError>
-    requires { Q.fits question.now (writer_of writer.old.place.me.0).sizes.shape }
+    requires fits { Q.fits question.now (writer_of writer.old.place.me.0).sizes.shape }
+    requires seat { (writer_of writer.old.place.me.0).made < 64 }
+    ensures made { (writer_of writer.new.place.me.0).made ≡ (writer_of writer.old.place.me.0).made + 1 }
     ensures last { IfOk result (IsLastAnswer Q.operations (Q.answers question.now) (writer_of writer.old.place.me.0)) }
     ensures keeps { KeepsWriter (writer_of writer.old.place.me.0) (writer_of writer.new.place.me.0) }
 {
-    let reader = reader_in(writer)?;
+    let reader = reader_in(writer);
     let reading = go_round(alloc, reader, 0, 1, question, &NoGate)?;
     let mut rounds = take_in(writer, reading, question);
     match rounds.pop() {
         Some(round) => Ok(round.answer),
-        None => Err(AllocError),
+        None => unreachable!(),
     }
 }
 
@@ -145,6 +155,7 @@ pub fn last_documents<'a, const OFFSET_BITS: u32>(
     requires some { 0 < length fields.now }
     requires few { length fields.now ≤ MOST_FIELDS }
     requires shape { (writer_of writer.old.place.me.0).sizes.shape ≡ shape_of (types_of fields.now) }
+    requires seat { (writer_of writer.old.place.me.0).made < 64 }
     ensures asked { IfOk result (λ documents. is_some documents ≡ save) }
     ensures last { IfOk result (λ documents. IfSome documents (IsLastAnswer operations_of saves_of (writer_of writer.old.place.me.0))) }
 {

@@ -1,5 +1,5 @@
 //! A run: the loading and its readers, and the last answers.
-ghost use Rattle.std.specs.Prelude.{◌≡◌, ◌≤◌, ◌<◌, ◌*◌, ◌^◌, length, map, if◌then◌else◌, IfOk};
+ghost use Rattle.std.specs.Prelude.{◌≡◌, ◌≤◌, ◌<◌, ◌+◌, ◌*◌, ◌^◌, length, map, if◌then◌else◌, IfOk, IfErr};
 ghost use Rattle.std.specs.List.{AllByRecursion};
 ghost use Rattle.entry_ref.specs.References.{buffer_limit, offset_limit};
 ghost use Rattle.word_arena.specs.Ruled.{writer_of};
@@ -8,12 +8,15 @@ ghost use Rattle.attr_types.specs.Lawful.{OpFits};
 ghost use Rattle.attr_types.specs.declared.field.TheConstants.{MOST_FIELDS};
 ghost use Rattle.attr_report.specs.Run.{run_in};
 ghost use Rattle.attr_engine.specs.Rounds.{IsCame};
+ghost use Rattle.attr_engine.specs.Happenings.{HasHistory};
+ghost use Rattle.attr_engine.specs.Run.{IsGivenUp};
 ghost use Rattle.attr_engine.specs.Steps.{parts, IsNewWriter, IsQuestionOf, LoadsInto, AreRoundsOf};
 ghost use Rattle.attr_rounds.specs.Lines.{CanAsk};
 ghost use Rattle.gen_core.specs.Views.{last_number};
 
 use crate::beside::load_beside;
 use crate::came::Came;
+use crate::error::EngineError;
 use crate::readers::{last_answer, last_documents, read_after, take_all};
 use attr_images::{AttrLayout, shape_of};
 use attr_io::Gate;
@@ -64,11 +67,13 @@ fn load_first<'a, const OFFSET_BITS: u32, R: Threads + Sync, G: Gate + Sync + 's
 ) -> Result<LoadedFirst<'a, OFFSET_BITS>, AllocError>
     requires new { IsNewWriter question.now.fields.now writer.place.table_id (writer_of writer.place.me.0) }
     requires asks { CanAsk question.now.fields.now (length question.now.asks.now) (writer_of writer.place.me.0).sizes.shape }
+    requires seats { (writer_of writer.place.me.0).made + readers ≤ 64 }
     requires some { 0 < batch }
     requires few { length ops.now < 2 ^ 32 }
     requires fit { AllByRecursion (OpFits question.now.fields.now) ops.now }
     ensures loads { IfOk result (λ r. LoadsInto question.now.fields.now batch ops.now (writer_of writer.entry.place.me.0)
         (writer_of r.writer.place.me.0) r.loaded) }
+    ensures made { IfOk result (λ r. (writer_of r.writer.place.me.0).made ≡ (writer_of writer.entry.place.me.0).made + readers) }
     ensures count { IfOk result (λ r. length r.first.items ≡ readers) }
     ensures rounds { IfOk result (λ r. AllByRecursion
         (λ x. AreRoundsOf question.now.counted (map ask_tree question.now.asks.now) (writer_of r.writer.place.me.0).sizes.shape
@@ -86,6 +91,9 @@ fn load_first<'a, const OFFSET_BITS: u32, R: Threads + Sync, G: Gate + Sync + 's
     })
 }
 
+/// The most readers of a run: a memory has 64 seats, and the last answers take two.
+const MOST_READERS: u32 = 62;
+
 /// A run over a writer that has committed nothing.
 fn run_over<'a, const OFFSET_BITS: u32, R: Threads + Sync, G: Gate + Sync + 'static>(
     rt: &R,
@@ -97,6 +105,8 @@ fn run_over<'a, const OFFSET_BITS: u32, R: Threads + Sync, G: Gate + Sync + 'sta
     gate: &'a G,
 ) -> Result<Came, AllocError>
     requires new { IsNewWriter request.now.fields writer.place.table_id (writer_of writer.place.me.0) }
+    requires unread { (writer_of writer.place.me.0).made ≡ 0 }
+    requires seats { request.now.readers ≤ 62 }
     requires buffers { (writer_of writer.place.me.0).sizes.buffers ≡ request.now.buffers }
     requires question { IsQuestionOf (run_in request.now) question.now.fields.now question.now.counted (map ask_tree question.now.asks.now)
         (length question.now.asks.now) }
@@ -139,14 +149,14 @@ fn run_over<'a, const OFFSET_BITS: u32, R: Threads + Sync, G: Gate + Sync + 'sta
 }
 
 /// A run over a new memory: its operations are loaded in commits, its readers answer beside them or after them, and
-/// all that was loaded answers at the end.
+/// all that was loaded answers at the end. Too many readers are refused, and nothing but want of memory beside.
 pub fn run_engine<const OFFSET_BITS: u32, R: Threads + Sync, G: Gate + Sync + 'static>(
     rt: &R,
     alloc: Global,
     request: &Request,
     ops: &[Op],
     gate: &G,
-) -> Result<Came, AllocError>
+) -> Result<Came, EngineError>
     requires some_buffers { 1 ≤ request.now.buffers }
     requires few_buffers { request.now.buffers < buffer_limit OFFSET_BITS }
     requires some_words { 8192 ≤ request.now.words }
@@ -158,8 +168,13 @@ pub fn run_engine<const OFFSET_BITS: u32, R: Threads + Sync, G: Gate + Sync + 's
     requires some { 0 < request.now.batch }
     requires few { length ops.now < 2 ^ 32 }
     requires fit { AllByRecursion (OpFits request.now.fields) ops.now }
-    ensures { IfOk result (IsCame (run_in request.now) ops.now) }
+    ensures came { IfOk result (IsCame (run_in request.now) ops.now) }
+    ensures history { IfOk result (HasHistory (run_in request.now) ops.now) }
+    ensures readers { IfErr result (IsGivenUp request.now.readers) }
 {
+    if request.readers > MOST_READERS {
+        return Err(EngineError::TooManyReaders);
+    }
     let config = Config {
         buffers: request.buffers,
         words: request.words,
@@ -176,5 +191,6 @@ pub fn run_engine<const OFFSET_BITS: u32, R: Threads + Sync, G: Gate + Sync + 's
         asks: request.asks.as_slice(),
         counted: request.make.is_some(),
     };
-    run_over::<OFFSET_BITS, R, G>(rt, alloc, writer, request, ops, &question, gate)
+    let came = run_over::<OFFSET_BITS, R, G>(rt, alloc, writer, request, ops, &question, gate)?;
+    Ok(came)
 }

@@ -1,8 +1,12 @@
 -- Operations applied one after another, and what stays of a store.
-use Rattle.std.proofs.Common.{◌≡◌, ℕ, ◌+◌, ◌<◌, ◌≤◌, Bool, true, false, if◌then◌else◌, List, [], ◌∷◌, ◌++◌, length, refl, sym, ap, ◌∙◌, subst, arith}
-use Rattle.std.specs.Prelude.{Result, Ok, Err, IfOk}
+use Rattle.std.proofs.Common.{◌≡◌, ℕ, ◌+◌, ◌<◌, ◌≤◌, Bool, true, false, if◌then◌else◌, List, [], ◌∷◌, ◌++◌, length, take, inl, inr, refl, sym, ap, ◌∙◌, subst, arith}
+use Rattle.std.specs.Prelude.{Result, Ok, Err, IfOk, Option, Some, None}
 use Rattle.std.proofs.lemmas.List.{length_push}
 use Rattle.entry_ref.specs.Images.{words_at}
+use Rattle.entry_ref.specs.declared.images.Image.{Image}
+use Rattle.arena_api.specs.Works.{WorkView}
+use Rattle.arena_api.specs.Calls.{published}
+use Rattle.store_api.specs.Calls.{with_hold}
 use Rattle.store_api.specs.Ledgers.{Ledger}
 use Rattle.attr_types.specs.declared.applied.Applied.{Applied}
 use Rattle.attr_types.specs.declared.applied.Applied.TheVariants.{Changed, Skipped}
@@ -12,9 +16,10 @@ use Rattle.attr_types.specs.Table.{Table, after_op, is_skipped, after_ops, skipp
 use Rattle.attr_types.specs.declared.field.Field.{Field}
 use Rattle.attr_types.specs.declared.op.Op.{Op}
 use Rattle.attribute_kinds.specs.Views.{AttributeView}
-use Rattle.attribute_kinds.specs.Calls.{KeepsStore, KeepsStoreBut, applied_to}
+use Rattle.attribute_kinds.specs.Calls.{KeepsStore, KeepsStoreBut, CommitsImage, applied_to}
+use Rattle.attribute_kinds.specs.declared.answers.CommitInfo.{CommitInfo}
 use Rattle.attr_loader.specs.Loading.{StaysIn}
-use Rattle.attr_loader.specs.Batches.{skips_of, AppliesAll, CommitsBatch, KeepsCommit, KeepsTable, LoadsBatch}
+use Rattle.attr_loader.specs.Batches.{skips_of, AppliesAll, CommitsBatch, FindsNoRoom, IsFullStore, KeepsCommit, KeepsTable, LoadsBatch}
 use Rattle.attr_loader.specs.declared.batch.Batch.{Batch}
 use Rattle.attr_loader.specs.declared.batch.Batch.TheVariants.{Done, Full}
 
@@ -49,12 +54,31 @@ skipped_ops-few fields table (x ∷ ops) =
     let one = one_at_most (is_skipped fields table x) in
     omega (arith, rest, one)
 
+-- a commit is one more, and of as many readers
+pub commit_number : {H : Type 0} (old new : Ledger H) (bits : ℕ) (image : Image) (info : CommitInfo) → CommitsImage bits old new image info
+    → new.work.commits.last ≡ old.work.commits.last + 1
+commit_number old new bits image info made =
+    let stores = made.stores in
+    stores.reclaim_keeps.last ∙ stores.advance_keeps.last ∙ stores.adds.last ∙ ap (λ n. n + 1) made.prepares.commits.last
+
+with_hold-made : {H : Type 0} (work : WorkView H) (finished : Option ℕ) → (with_hold work finished).made ≡ work.made
+with_hold-made work None = refl
+with_hold-made work (Some b) = refl
+
+pub commit_readers : {H : Type 0} (old new : Ledger H) (bits : ℕ) (image : Image) (info : CommitInfo) → CommitsImage bits old new image info
+    → new.work.made ≡ old.work.made
+commit_readers {H = H} old new bits image info made =
+    let stores = made.stores in
+    ap (λ (w : WorkView H). w.made) stores.work ∙ ap (λ (w : WorkView H). w.made) stores.next_is
+    ∙ with_hold-made (published made.mid.work stores.commits image) made.mid.finished ∙ made.prepares.readers
+
 module _ {S H : Type 0} (ledger : S → Ledger H) where
   pub keeps_of : (old new : AttributeView S) → KeepsStore (ledger old.store) (ledger new.store) → new.fields ≡ old.fields → new.committed ≡ old.committed → new.committed_operations ≡ old.committed_operations
       → KeepsCommit ledger old new
   keeps_of old new keeps fields committed count = record {
-    stays = record { home = keeps.home; sizes = keeps.sizes; fields = fields };
+    stays = record { home = keeps.home; sizes = keeps.sizes; readers = keeps.readers; fields = fields };
     told = keeps.told;
+    last = keeps.commits.last;
     committed = committed;
     committed_operations = count;
   }
@@ -63,18 +87,25 @@ module _ {S H : Type 0} (ledger : S → Ledger H) where
   pub keeps_table : (old new : AttributeView S) → KeepsStoreBut (ledger old.store) (ledger new.store) → new.fields ≡ old.fields → new.table ≡ old.table → new.operations ≡ old.operations
       → new.committed ≡ old.committed → new.committed_operations ≡ old.committed_operations → KeepsTable ledger old new
   keeps_table old new keeps fields table operations committed count = record {
-    keeps = record { stays = record { home = keeps.home; sizes = keeps.sizes; fields = fields }; told = keeps.told; committed = committed; committed_operations = count };
+    keeps = record {
+      stays = record { home = keeps.home; sizes = keeps.sizes; readers = keeps.readers; fields = fields };
+      told = keeps.told;
+      last = keeps.commits.last;
+      committed = committed;
+      committed_operations = count;
+    };
     table = table;
     operations = operations;
   }
 
   pub stays_on : (a b c : AttributeView S) → StaysIn ledger a b → StaysIn ledger b c → StaysIn ledger a c
-  stays_on a b c first second = record { home = second.home ∙ first.home; sizes = second.sizes ∙ first.sizes; fields = second.fields ∙ first.fields }
+  stays_on a b c first second = record { home = second.home ∙ first.home; sizes = second.sizes ∙ first.sizes; readers = second.readers ∙ first.readers; fields = second.fields ∙ first.fields }
 
   pub keeps_on : (a b c : AttributeView S) → KeepsCommit ledger a b → KeepsCommit ledger b c → KeepsCommit ledger a c
   keeps_on a b c first second = record {
     stays = stays_on a b c first.stays second.stays;
     told = second.told ∙ first.told;
+    last = second.last ∙ first.last;
     committed = second.committed ∙ first.committed;
     committed_operations = second.committed_operations ∙ first.committed_operations;
   }
@@ -91,6 +122,7 @@ module _ {S H : Type 0} (ledger : S → Ledger H) where
           operations = kept.operations ∙ commit.operations;
           committed = kept.keeps.committed ∙ commit.committed ∙ sym kept.table;
           committed_operations = kept.keeps.committed_operations ∙ commit.committed_operations ∙ sym kept.operations;
+          number = kept.keeps.last ∙ commit.number;
           image = commit.image;
           told = kept.keeps.told ∙ commit.told;
           lawful = subst (λ (fs : List Field). IsLawfulImage (shape_of (types_of fs)) (words_at commit.image) commit.image.root) (sym fields) commit.lawful;
@@ -106,12 +138,29 @@ module _ {S H : Type 0} (ledger : S → Ledger H) where
   loads_of a b c ops skipped count (Ok (Done more)) some long applies made =
       record { mid = b; applies = subst (AppliesAll ledger a b ops) (sym made.0) applies; commits = made.1 }
   loads_of a b c ops skipped count (Ok (Full before active held)) some long applies made =
-      let is = made.1 in
-      record { keeps = keeps_on a b c applies.keeps made.0; some = omega (arith, is, long, some); most = omega (arith, is, long); all = made.2 }
+      let is = made.0 in
+      record {
+        keeps = keeps_on a b c applies.keeps made.1.keeps;
+        some = omega (arith, is, long, some);
+        most = omega (arith, is, long);
+        full = made.1.full;
+        at = inr (is ∙ long, made.1.table ∙ applies.table);
+      }
+
+  -- an operation that was refused, after so many
+  pub stops_at : (a b c : AttributeView S) (ops : List Op) (done skipped active held : ℕ) → done < length ops → AppliesAll ledger a b (take done ops) skipped → KeepsCommit ledger b c
+      → c.table ≡ b.table → IsFullStore ledger c active held → FindsNoRoom ledger a c ops (done + 1) active held
+  stops_at a b c ops done skipped active held below applies keeps table full = record {
+    keeps = keeps_on a b c applies.keeps keeps;
+    some = omega arith;
+    most = omega (arith, below);
+    full = full;
+    at = inl (table ∙ applies.table ∙ ap (λ n. after_ops a.fields a.table (take n ops)) (omega arith));
+  }
 
   pub applies_none : (a : AttributeView S) → AppliesAll ledger a a [] 0
   applies_none a = record {
-    keeps = record { stays = record { home = refl; sizes = refl; fields = refl }; told = refl; committed = refl; committed_operations = refl };
+    keeps = record { stays = record { home = refl; sizes = refl; readers = refl; fields = refl }; told = refl; last = refl; committed = refl; committed_operations = refl };
     table = refl;
     operations = omega arith;
     skips = refl;

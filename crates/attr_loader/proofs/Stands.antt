@@ -1,13 +1,15 @@
 -- Where a loading stands between two batches.
-use Rattle.std.proofs.Common.{◌≡◌, ℕ, zero, suc, ◌+◌, ◌-◌, ◌*◌, ◌/◌, ◌<◌, ◌≤◌, List, [], ◌∷◌, ◌++◌, length, Some, None, inl, inr, mul-zero, refl, sym, ap, ◌∙◌, subst, arith}
+use Rattle.std.proofs.Common.{◌≡◌, ℕ, zero, suc, ◌+◌, ◌-◌, ◌*◌, ◌/◌, ◌<◌, ◌≤◌, List, [], ◌∷◌, ◌++◌, length, Some, None, ◌⊎◌, inl, inr, mul-zero, refl, sym, ap, ◌∙◌, subst, arith}
 use Rattle.std.specs.Prelude.{take, drop, min, slice_get}
-use Rattle.std.proofs.lemmas.List.{length-append, length-take, length-drop}
+use Rattle.std.proofs.lemmas.List.{length-append, length-take, length-drop, take-take}
 use Rattle.std.proofs.lemmas.Bool.{cases_lt}
 use Rattle.std.proofs.lemmas.Option.{slice_get_within, get_or_from_slice_get}
+use Rattle.std.proofs.Math.Nat.{mul-le-mul}
 use Rattle.std.proofs.Math.Seq.{take-add}
 use Rattle.entry_ref.specs.declared.images.Image.{Image}
 use Rattle.entry_ref.specs.Images.{no_image, words_at}
 use Rattle.arena_api.specs.Calls.{told_after}
+use Rattle.arena_api.specs.Works.{Sizes}
 use Rattle.store_api.specs.Ledgers.{Ledger}
 use Rattle.attr_images.specs.Images.{IsLawfulImage, table_of}
 use Rattle.attr_images.specs.Shapes.{shape_of, types_of}
@@ -15,8 +17,10 @@ use Rattle.attr_types.specs.Table.{after_ops, after, skipped, skipped_ops}
 use Rattle.attr_types.specs.declared.field.Field.{Field}
 use Rattle.attr_types.specs.declared.op.Op.{Op}
 use Rattle.attribute_kinds.specs.Views.{AttributeView}
-use Rattle.attr_loader.specs.Loading.{commit_point, IsImageAfter, AreCommits, told_of, IsAtStart, StaysIn, Loads}
-use Rattle.attr_loader.specs.Batches.{FindsNoRoom, LoadsAll}
+use Rattle.attr_loader.specs.Loading.{commit_point, IsImageAfter, AreCommits, told_of, IsAtStart, IsSpent, StaysIn, Loads}
+use Rattle.attr_loader.specs.Batches.{FindsNoRoom, HasNoCommit, LoadsAll}
+use Rattle.attr_loader.specs.declared.error.LoadError.{LoadError}
+use Rattle.attr_loader.specs.declared.error.LoadError.TheVariants.{CommitsSpent, Memory}
 use Rattle.attr_loader.proofs.Applying.{after_ops-append, skipped_ops-append, skipped_ops-few, stays_on}
 use Rattle.attr_loader.proofs.Points.{whole, next_point, batch_of}
 
@@ -55,6 +59,7 @@ pub record Stands {S H : Type 0} (ledger : S → Ledger H) (batch : ℕ) (ops : 
   pub stays : StaysIn ledger start now
   pub last : ℕ
   pub told : AreCommits start.fields batch ops last (told_of ledger now)
+  pub commits : (ledger now.store).work.commits.last ≡ (ledger start.store).work.commits.last + last
   pub point : count ≡ commit_point batch (length ops) last
   pub table : now.table ≡ after start.fields ops count
   pub operations : now.operations ≡ count
@@ -69,7 +74,7 @@ module _ {S H : Type 0} (ledger : S → Ledger H) (batch : ℕ) (ops : List Op) 
 
     pub starts : Stands ledger batch ops start start 0 0
     starts = record {
-      stays = record { home = refl; sizes = refl; fields = refl };
+      stays = record { home = refl; sizes = refl; readers = refl; fields = refl };
       last = 0;
       told = record {
         count = λ some. (let few = at.few in omega (arith, few, some));
@@ -80,6 +85,7 @@ module _ {S H : Type 0} (ledger : S → Ledger H) (batch : ℕ) (ops : List Op) 
             subst (λ (y : Image). IsImageAfter start.fields ops (commit_point batch (length ops) k) y) (sym is_none)
             (first_image (commit_point batch (length ops) k) (let z : k ≡ 0 = omega (arith, below, few) in let e = ap (λ n. batch * n) z in let m = mul-zero batch in omega (arith, e, m)));
       };
+      commits = omega arith;
       point = (let m = mul-zero batch in omega (arith, m));
       table = at.table;
       operations = at.operations;
@@ -106,6 +112,23 @@ module _ {S H : Type 0} (ledger : S → Ledger H) (batch : ℕ) (ops : List Op) 
 
     table_after : after_ops start.fields (after start.fields ops count) part ≡ after start.fields ops (count + length part)
     table_after = sym (after_ops-append start.fields [] (take count ops) part) ∙ ap (after_ops start.fields []) (sym front)
+
+    -- the table after a front of the part
+    front_of : (n : ℕ) → n ≤ length part → take (count + n) ops ≡ take count ops ++ take n part
+    front_of n few =
+        let a = ap length part_is ∙ length-take (min (length rest) batch) rest in
+        let within : n ≤ min (length rest) batch = omega (arith, a, few) in
+        take-add count n ops
+        ∙ ap (λ xs. take count ops ++ xs) (ap (λ xs. take n xs) (sym rest_is) ∙ sym (ap (λ xs. take n xs) part_is ∙ take-take n (min (length rest) batch) rest within))
+
+    after_part : (n : ℕ) → n ≤ length part → after_ops b.fields b.table (take n part) ≡ after start.fields ops (count + n)
+    after_part n few =
+        ap (λ fields. after_ops fields b.table (take n part)) stands.stays.fields ∙ ap (λ t. after_ops start.fields t (take n part)) stands.table
+        ∙ sym (after_ops-append start.fields [] (take count ops) (take n part)) ∙ ap (after_ops start.fields []) (sym (front_of n few))
+
+    after_all : after_ops b.fields b.table part ≡ after start.fields ops (count + length part)
+    after_all =
+        ap (λ fields. after_ops fields b.table part) stands.stays.fields ∙ ap (λ t. after_ops start.fields t part) stands.table ∙ table_after
 
     skips_after : skipped start.fields ops count + skipped_ops start.fields (after start.fields ops count) part ≡ skipped start.fields ops (count + length part)
     skips_after = sym (skipped_ops-append start.fields [] (take count ops) part) ∙ ap (skipped_ops start.fields []) (sym front)
@@ -153,6 +176,7 @@ module _ {S H : Type 0} (ledger : S → Ledger H) (batch : ℕ) (ops : List Op) 
         last = suc stands.last;
         told = subst (AreCommits start.fields batch ops (suc stands.last)) (sym (loads.commits.told ∙ ap (λ told. told_after told loads.commits.image) loads.applies.keeps.told))
             (one_image_more start.fields batch ops stands.last (told_of ledger b) loads.commits.image stands.told (subst (λ n. IsImageAfter start.fields ops n loads.commits.image) point_now image_now));
+        commits = (let number = loads.commits.number in let same = loads.applies.keeps.last in let before = stands.commits in omega (arith, number, same, before));
         point = point_now;
         table = table_now;
         operations = operations_now;
@@ -166,7 +190,18 @@ module _ {S H : Type 0} (ledger : S → Ledger H) (batch : ℕ) (ops : List Op) 
             omega (arith, first, more_is, s);
       }
 
-    pub finds_no_room : (c : AttributeView S) (before active held : ℕ) → 0 < batch → FindsNoRoom ledger b c (length part) before active held
+    -- where the operation that found no room was refused
+    full_at : (c : AttributeView S) (before active held : ℕ) → FindsNoRoom ledger b c part before active held
+        → (c.table ≡ after start.fields ops (count + before - 1)) ⊎ ((count + before ≡ min (count + batch) (length ops)) × (c.table ≡ after start.fields ops (count + before)))
+    full_at c before active held full = elim full.at [
+      | inl at ↦ inl (at ∙ after_part (before - 1) (omega (arith, full.most)) ∙ ap (λ n. after start.fields ops n) (let first = full.some in omega (arith, first)))
+      | inr at ↦ inr (
+        (let p = part-long in let long = at.0 in omega (arith, p, long, below)),
+        at.1 ∙ after_all ∙ ap (λ n. after start.fields ops (count + n)) (sym at.0),
+      )
+    ]
+
+    pub finds_no_room : (c : AttributeView S) (before active held : ℕ) → 0 < batch → FindsNoRoom ledger b c part before active held
         → Loads ledger batch ops start c (record { operations = count; skipped = skips; full = Some (record { operation = count + before; active = active; held = held }) })
     finds_no_room c before active held some full = record {
       stays = stays_on ledger start b c stands.stays full.keeps.stays;
@@ -176,6 +211,7 @@ module _ {S H : Type 0} (ledger : S → Ledger H) (batch : ℕ) (ops : List Op) 
       committed = full.keeps.committed ∙ stands.committed ∙ stands.table;
       committed_operations = full.keeps.committed_operations ∙ stands.committed_operations;
       skips = stands.skips_are;
+      commits = (let same = full.keeps.last in let before = stands.commits in omega (arith, same, before));
       ends =
           let first = full.some in
           let most = full.most in
@@ -187,15 +223,33 @@ module _ {S H : Type 0} (ledger : S → Ledger H) (batch : ℕ) (ops : List Op) 
             omega (arith, first),
             omega (arith, most, p, below),
             here ∙ ap (λ n. batch * n) (sym batch_is),
-            full.all,
+            full.full.all,
           );
+      full = record { free = full.full.free; active_is = full.full.active_is; held_is = full.full.held_is; at = full_at c before active held full };
     }
+
+    -- no commit is left: fewer were made than there are operations
+    is_spent : 0 < batch → (ledger b.store).work.commits.last ≡ (ledger b.store).work.sizes.commits
+        → (ledger start.store).work.sizes.commits < (ledger start.store).work.commits.last + length ops
+    is_spent some spent =
+        let k = stands.last in
+        let here : count ≡ batch * k = whole batch (length ops) k count stands.point below in
+        let few : 1 * k ≤ batch * k = mul-le-mul some (omega arith) in
+        let made = stands.commits in
+        let same = ap (λ (sizes : Sizes). sizes.commits) stands.stays.sizes in
+        omega (arith, here, few, made, same, spent, below)
+
+    pub given_up : 0 < batch → (error : LoadError) → HasNoCommit ledger b error → IsSpent ledger ops start error
+    given_up some CommitsSpent spent = is_spent some spent
+    given_up some Memory spent = tt
 
   pub ends_all : (b : AttributeView S) (count skips : ℕ) → Stands ledger batch ops start b count skips → count ≡ length ops → Loads ledger batch ops start b (record { operations = count; skipped = skips; full = None })
   ends_all b count skips stands all = record {
     stays = stands.stays;
     last = stands.last;
     told = stands.told;
+    commits = stands.commits;
+    full = tt;
     point = stands.point;
     committed = stands.committed ∙ stands.table;
     committed_operations = stands.committed_operations;

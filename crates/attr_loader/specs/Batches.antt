@@ -1,9 +1,10 @@
 -- What one batch makes of attributes.
-use Rattle.std.specs.Prelude.{◌≡◌, ℕ, ◌+◌, ◌≤◌, List, length}
+use Rattle.std.specs.Prelude.{◌≡◌, ℕ, ◌+◌, ◌-◌, ◌≤◌, ◌⊎◌, List, length, take}
 use Rattle.entry_ref.specs.declared.images.Image.{Image}
 use Rattle.entry_ref.specs.Images.{words_at}
 use Rattle.arena_api.specs.Calls.{told_after}
-use Rattle.store_api.specs.Ledgers.{Ledger}
+use Rattle.arena_api.specs.Works.{free_count}
+use Rattle.store_api.specs.Ledgers.{Ledger, active_count, held_count}
 use Rattle.attr_types.specs.declared.applied.Applied.{Applied}
 use Rattle.attr_types.specs.declared.applied.Applied.TheVariants.{Changed, Skipped}
 use Rattle.attr_images.specs.Images.{IsLawfulImage, table_of, operations_at}
@@ -12,6 +13,8 @@ use Rattle.attr_types.specs.Table.{after_ops, skipped_ops}
 use Rattle.attr_types.specs.declared.op.Op.{Op}
 use Rattle.attribute_kinds.specs.Views.{AttributeView}
 use Rattle.attr_loader.specs.Loading.{told_of, StaysIn}
+use Rattle.attr_loader.specs.declared.error.LoadError.{LoadError}
+use Rattle.attr_loader.specs.declared.error.LoadError.TheVariants.{CommitsSpent, Memory}
 use Rattle.attr_loader.specs.declared.batch.Batch.{Batch}
 use Rattle.attr_loader.specs.declared.batch.Batch.TheVariants.{Done, Full}
 
@@ -25,6 +28,7 @@ module _ {S H : Type 0} (ledger : S → Ledger H) where
   pub record KeepsCommit (old new : AttributeView S) : Type 0 where
     pub stays : StaysIn ledger old new
     pub told : told_of ledger new ≡ told_of ledger old
+    pub last : (ledger new.store).work.commits.last ≡ (ledger old.store).work.commits.last
     pub committed : new.committed ≡ old.committed
     pub committed_operations : new.committed_operations ≡ old.committed_operations
 
@@ -41,6 +45,7 @@ module _ {S H : Type 0} (ledger : S → Ledger H) where
     pub operations : new.operations ≡ old.operations
     pub committed : new.committed ≡ new.table
     pub committed_operations : new.committed_operations ≡ new.operations
+    pub number : (ledger new.store).work.commits.last ≡ (ledger old.store).work.commits.last + 1
     pub image : Image
     pub told : told_of ledger new ≡ told_after (told_of ledger old) image
     pub lawful : IsLawfulImage (shape_of (types_of new.fields)) (words_at image) image.root
@@ -54,22 +59,41 @@ module _ {S H : Type 0} (ledger : S → Ledger H) where
     pub operations : new.operations ≡ old.operations + length ops
     pub skips : skipped ≡ skipped_ops old.fields old.table ops
 
-  -- there was no room for one of so many operations: every buffer is in use or held
-  pub record FindsNoRoom (old new : AttributeView S) (count before active held : ℕ) : Type 0 where
+  -- no buffer is free: so many are in use, and the others are held for readers
+  pub record IsFullStore (a : AttributeView S) (active held : ℕ) : Type 0 where
+    pub free : free_count (ledger a.store).work.buffer (ledger a.store).work.sizes.buffers ≡ 0
+    pub active_is : active ≡ active_count (ledger a.store).work.buffer (ledger a.store).work.sizes.buffers
+    pub held_is : held ≡ held_count (ledger a.store).work.buffer (ledger a.store).work.sizes.buffers
+    pub all : active + held ≡ (ledger a.store).work.sizes.buffers
+
+  -- there was no room for one of the operations, after those before it; or for their commit, and then the last is named
+  pub record FindsNoRoom (old new : AttributeView S) (ops : List Op) (before active held : ℕ) : Type 0 where
     pub keeps : KeepsCommit old new
     pub some : 1 ≤ before
-    pub most : before ≤ count
-    pub all : active + held ≡ (ledger new.store).work.sizes.buffers
+    pub most : before ≤ length ops
+    pub full : IsFullStore new active held
+    pub at : (new.table ≡ after_ops old.fields old.table (take (before - 1) ops))
+        ⊎ ((before ≡ length ops) × (new.table ≡ after_ops old.fields old.table ops))
+
+  -- there was no room for a commit, and the table stays
+  pub record RefusesCommit (old new : AttributeView S) (active held : ℕ) : Type 0 where
+    pub keeps : KeepsCommit old new
+    pub table : new.table ≡ old.table
+    pub full : IsFullStore new active held
+
+  -- memory is short, or the last commit that there can be is made
+  abbrev pub HasNoCommit : AttributeView S → LoadError → Type 0
+  HasNoCommit old CommitsSpent = (ledger old.store).work.commits.last ≡ (ledger old.store).work.sizes.commits
+  HasNoCommit old Memory = Unit {0}
 
   abbrev pub AppliesBatch : AttributeView S → AttributeView S → List Op → Batch → Type 0
   AppliesBatch old new ops (Done skipped) = AppliesAll old new ops skipped
-  AppliesBatch old new ops (Full before active held) = FindsNoRoom old new (length ops) before active held
+  AppliesBatch old new ops (Full before active held) = FindsNoRoom old new ops before active held
 
   -- a commit of so many operations, of which so many were skipped
   abbrev pub CommitsBatch : AttributeView S → AttributeView S → ℕ → ℕ → Batch → Type 0
   CommitsBatch old new count skipped (Done more) = (more ≡ skipped) × MakesCommit old new
-  CommitsBatch old new count skipped (Full before active held) =
-      KeepsCommit old new × (before ≡ count) × (active + held ≡ (ledger new.store).work.sizes.buffers)
+  CommitsBatch old new count skipped (Full before active held) = (before ≡ count) × RefusesCommit old new active held
 
   -- all operations were applied and committed
   pub record LoadsAll (old new : AttributeView S) (ops : List Op) (skipped : ℕ) : Type 0 where
@@ -79,4 +103,4 @@ module _ {S H : Type 0} (ledger : S → Ledger H) where
 
   abbrev pub LoadsBatch : AttributeView S → AttributeView S → List Op → Batch → Type 0
   LoadsBatch old new ops (Done skipped) = LoadsAll old new ops skipped
-  LoadsBatch old new ops (Full before active held) = FindsNoRoom old new (length ops) before active held
+  LoadsBatch old new ops (Full before active held) = FindsNoRoom old new ops before active held

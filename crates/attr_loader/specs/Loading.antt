@@ -1,10 +1,11 @@
 -- What a loading makes of attributes and of what their store tells.
 use Rattle.std.specs.Prelude.{◌≡◌, ℕ, suc, ◌+◌, ◌-◌, ◌*◌, ◌/◌, ◌^◌, ◌<◌, ◌≤◌, min, List, [], length, slice_get, Option, Some, None}
-use Rattle.std.specs.Prelude.{All}
+use Rattle.std.specs.Prelude.{◌⊎◌, All, IfSome}
 use Rattle.std.specs.List.{AllByRecursion}
 use Rattle.entry_ref.specs.declared.images.Image.{Image}
 use Rattle.entry_ref.specs.Images.{no_image, words_at}
-use Rattle.store_api.specs.Ledgers.{Ledger}
+use Rattle.arena_api.specs.Works.{free_count}
+use Rattle.store_api.specs.Ledgers.{Ledger, active_count, held_count}
 use Rattle.attr_images.specs.Images.{IsLawfulImage, table_of, operations_at}
 use Rattle.attr_images.specs.Shapes.{shape_of, types_of}
 use Rattle.attr_types.specs.Lawful.{OpFits}
@@ -12,6 +13,8 @@ use Rattle.attr_types.specs.Table.{after, skipped}
 use Rattle.attr_types.specs.declared.field.Field.{Field}
 use Rattle.attr_types.specs.declared.op.Op.{Op}
 use Rattle.attribute_kinds.specs.Views.{AttributeView}
+use Rattle.attr_loader.specs.declared.error.LoadError.{LoadError}
+use Rattle.attr_loader.specs.declared.error.LoadError.TheVariants.{CommitsSpent, Memory}
 use Rattle.attr_loader.specs.declared.loaded.Loaded.{Loaded}
 use Rattle.attr_loader.specs.declared.loaded.NoRoom.{NoRoom}
 
@@ -60,7 +63,17 @@ module _ {S H : Type 0} (ledger : S → Ledger H) where
   pub record StaysIn (old new : AttributeView S) : Type 0 where
     pub home : (ledger new.store).work.home ≡ (ledger old.store).work.home
     pub sizes : (ledger new.store).work.sizes ≡ (ledger old.store).work.sizes
+    pub readers : (ledger new.store).work.made ≡ (ledger old.store).work.made
     pub fields : new.fields ≡ old.fields
+
+  -- the operation that found no room: no buffer is free, and so many are in use and held. It was refused after those before it, or
+  -- it is the last of its batch, and their commit was refused
+  pub record IsFullAt (batch : ℕ) (ops : List Op) (old new : AttributeView S) (loaded : ℕ) (full : NoRoom) : Type 0 where
+    pub free : free_count (ledger new.store).work.buffer (ledger new.store).work.sizes.buffers ≡ 0
+    pub active_is : full.active ≡ active_count (ledger new.store).work.buffer (ledger new.store).work.sizes.buffers
+    pub held_is : full.held ≡ held_count (ledger new.store).work.buffer (ledger new.store).work.sizes.buffers
+    pub at : (new.table ≡ after old.fields ops (full.operation - 1))
+        ⊎ ((full.operation ≡ min (loaded + batch) (length ops)) × (new.table ≡ after old.fields ops full.operation))
 
   -- a loading: what is told are the images of its commits, and the last of them has all that was loaded
   pub record Loads (batch : ℕ) (ops : List Op) (old new : AttributeView S) (loaded : Loaded) : Type 0 where
@@ -71,4 +84,12 @@ module _ {S H : Type 0} (ledger : S → Ledger H) where
     pub committed : new.committed ≡ after old.fields ops loaded.operations
     pub committed_operations : new.committed_operations ≡ loaded.operations
     pub skips : loaded.skipped ≡ skipped old.fields ops loaded.operations
+    pub commits : (ledger new.store).work.commits.last ≡ (ledger old.store).work.commits.last + last
     pub ends : EndsAt batch (length ops) (ledger new.store).work.sizes.buffers loaded.operations loaded.full
+    pub full : IfSome loaded.full (IsFullAt batch ops old new loaded.operations)
+
+  -- a loading was given up: memory is short; or the last commit that there can be is one of fewer than the operations
+  abbrev pub IsSpent : List Op → AttributeView S → LoadError → Type 0
+  IsSpent ops old CommitsSpent =
+      (ledger old.store).work.sizes.commits < (ledger old.store).work.commits.last + length ops
+  IsSpent ops old Memory = Unit {0}

@@ -1,9 +1,10 @@
 //! One batch: its operations are applied, it is committed, and a compaction goes one step on.
-ghost use Rattle.std.specs.Prelude.{◌≡◌, ◌<◌, ◌+◌, ◌^◌, length, IfOk, OnOk};
+ghost use Rattle.std.specs.Prelude.{◌≡◌, ◌<◌, ◌+◌, ◌^◌, length, IfOk, IfErr, OnOk};
 ghost use Rattle.std.specs.List.{AllByRecursion};
 ghost use Rattle.attr_types.specs.Lawful.{OpFits};
-ghost use Rattle.attr_loader.specs.Batches.{skips_of, AppliesBatch, CommitsBatch, KeepsTable, LoadsBatch};
+ghost use Rattle.attr_loader.specs.Batches.{skips_of, AppliesBatch, CommitsBatch, HasNoCommit, KeepsTable, LoadsBatch};
 
+use crate::error::LoadError;
 use arena_api::Work;
 use attr_images::AttrLayout;
 use attr_io::{Gate, Point};
@@ -52,7 +53,7 @@ fn apply_all<const OFFSET_BITS: u32, S: Store<OFFSET_BITS, Layout = AttrLayout>>
                     held,
                 });
             }
-            Err(AttrError::CommitsSpent { .. }) => return Err(AllocError),
+            Err(AttrError::CommitsSpent { .. }) => unreachable!(),
             Err(AttrError::Memory) => return Err(AllocError),
         };
         skipped += skips_of(applied);
@@ -74,7 +75,7 @@ fn compact_after<const OFFSET_BITS: u32, S: Store<OFFSET_BITS, Layout = AttrLayo
     match attribute.compact_step(alloc, COMPACT_KEYS) {
         Ok(_) => Ok(()),
         Err(AttrError::Full { .. }) => Ok(()),
-        Err(AttrError::CommitsSpent { .. }) => Err(AllocError),
+        Err(AttrError::CommitsSpent { .. }) => unreachable!(),
         Err(AttrError::Memory) => Err(AllocError),
     }
 }
@@ -85,8 +86,9 @@ fn commit_table<const OFFSET_BITS: u32, S: Store<OFFSET_BITS, Layout = AttrLayou
     count: u32,
     skipped: u32,
     gate: &G,
-) -> Result<Batch, AllocError>
-    ensures { IfOk result (CommitsBatch S.ledger attribute.old attribute.new count skipped) }
+) -> Result<Batch, LoadError>
+    ensures commits { IfOk result (CommitsBatch S.ledger attribute.old attribute.new count skipped) }
+    ensures spent { IfErr result (HasNoCommit S.ledger attribute.old) }
 {
     match attribute.commit() {
         Ok(info) => {
@@ -102,8 +104,8 @@ fn commit_table<const OFFSET_BITS: u32, S: Store<OFFSET_BITS, Layout = AttrLayou
             active,
             held,
         }),
-        Err(AttrError::CommitsSpent { .. }) => Err(AllocError),
-        Err(AttrError::Memory) => Err(AllocError),
+        Err(AttrError::CommitsSpent { .. }) => Err(LoadError::CommitsSpent),
+        Err(AttrError::Memory) => Err(LoadError::Memory),
     }
 }
 
@@ -114,8 +116,9 @@ fn commit_all<const OFFSET_BITS: u32, S: Store<OFFSET_BITS, Layout = AttrLayout>
     count: u32,
     skipped: u32,
     gate: &G,
-) -> Result<Batch, AllocError>
-    ensures { IfOk result (CommitsBatch S.ledger attribute.old attribute.new count skipped) }
+) -> Result<Batch, LoadError>
+    ensures commits { IfOk result (CommitsBatch S.ledger attribute.old attribute.new count skipped) }
+    ensures spent { IfErr result (HasNoCommit S.ledger attribute.old) }
 {
     match commit_table(attribute, count, skipped, gate)? {
         Batch::Done { skipped: more } => {
@@ -140,11 +143,12 @@ pub fn load_batch<const OFFSET_BITS: u32, S: Store<OFFSET_BITS, Layout = AttrLay
     attribute: &mut Attribute<OFFSET_BITS, S>,
     ops: &[Op],
     gate: &G,
-) -> Result<Batch, AllocError>
+) -> Result<Batch, LoadError>
     requires some { 0 < length ops.now }
     requires room { attribute.old.operations + length ops.now < 2 ^ 32 }
     requires fit { AllByRecursion (OpFits attribute.old.fields) ops.now }
-    ensures { IfOk result (LoadsBatch S.ledger attribute.old attribute.new ops.now) }
+    ensures loads { IfOk result (LoadsBatch S.ledger attribute.old attribute.new ops.now) }
+    ensures spent { IfErr result (HasNoCommit S.ledger attribute.old) }
 {
     match apply_all(alloc, attribute, ops)? {
         Batch::Done { skipped } => commit_all(alloc, attribute, ops.len() as u32, skipped, gate),

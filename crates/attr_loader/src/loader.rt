@@ -1,26 +1,28 @@
-ghost use Rattle.std.specs.Prelude.{IfOk};
-ghost use Rattle.attr_loader.specs.Loading.{CanLoad, Loads};
+ghost use Rattle.std.specs.Prelude.{IfOk, IfErr};
+ghost use Rattle.attr_loader.specs.Loading.{CanLoad, IsSpent, Loads};
 
 use crate::batch::{Batch, load_batch};
+use crate::error::LoadError;
 use crate::loaded::{Loaded, NoRoom};
 use attr_images::{AttrLayout, image_law};
 use attr_io::Gate;
 use attr_types::Op;
 use attribute_kinds::Attribute;
-use std::alloc::{AllocError, Global};
+use std::alloc::Global;
 use store_api::Store;
 
 /// Loads operations in batches of this size, with a commit and a pass of the gate after each, the last one maybe
-/// smaller. It stops where there is no room: the last commit stands.
+/// smaller. It stops where there is no room, or no commit is left: the last commit stands.
 pub fn load<const OFFSET_BITS: u32, S: Store<OFFSET_BITS, Layout = AttrLayout>, G: Gate>(
     alloc: Global,
     attribute: &mut Attribute<OFFSET_BITS, S>,
     ops: &[Op],
     batch: u32,
     gate: &G,
-) -> Result<Loaded, AllocError>
+) -> Result<Loaded, LoadError>
     requires { CanLoad S.ledger batch ops.now attribute.old }
-    ensures { IfOk result (Loads S.ledger batch ops.now attribute.old attribute.new) }
+    ensures loads { IfOk result (Loads S.ledger batch ops.now attribute.old attribute.new) }
+    ensures spent { IfErr result (IsSpent S.ledger ops.now attribute.old) }
 {
     image_law();
     let mut rest = ops;

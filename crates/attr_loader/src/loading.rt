@@ -1,13 +1,14 @@
-ghost use Rattle.std.specs.Prelude.{IfOk};
-ghost use Rattle.attr_loader.specs.Loading.{CanLoad, Loads};
+ghost use Rattle.std.specs.Prelude.{IfOk, IfErr};
+ghost use Rattle.attr_loader.specs.Loading.{CanLoad, IsSpent, Loads};
 
+use crate::error::LoadError;
 use crate::loaded::Loaded;
 use crate::loader::load;
 use attr_images::AttrLayout;
 use attr_io::{Gate, Task};
 use attr_types::Op;
 use attribute_kinds::Attribute;
-use std::alloc::{AllocError, Global};
+use std::alloc::Global;
 use store_api::Store;
 
 /// A loading, as a task that gives the attributes back.
@@ -22,13 +23,14 @@ pub struct Loading<'a, const OFFSET_BITS: u32, S: Store<OFFSET_BITS, Layout = At
 
 impl<'a, const OFFSET_BITS: u32, S: Store<OFFSET_BITS, Layout = AttrLayout> + Drop, G: Gate> Task
     for Loading<'a, OFFSET_BITS, S, G> {
-    type Output = Result<(Attribute<OFFSET_BITS, S>, Loaded), AllocError>;
+    type Output = Result<(Attribute<OFFSET_BITS, S>, Loaded), LoadError>;
 
     ghost can_run = { λ loading. CanLoad S.ledger loading.batch loading.ops.now loading.attribute };
 
-    ghost run_gives = { λ loading result. IfOk result (λ r. Loads S.ledger loading.batch loading.ops.now loading.attribute r.0 r.1) };
+    ghost run_gives = { λ loading result. IfOk result (λ r. Loads S.ledger loading.batch loading.ops.now loading.attribute r.0 r.1)
+        × IfErr result (IsSpent S.ledger loading.ops.now loading.attribute) };
 
-    fn run(self) -> Result<(Attribute<OFFSET_BITS, S>, Loaded), AllocError> {
+    fn run(self) -> Result<(Attribute<OFFSET_BITS, S>, Loaded), LoadError> {
         let Loading {
             alloc,
             mut attribute,

@@ -1,7 +1,7 @@
 -- Documents put in one after another, in order.
 use Rattle.tree_read.specs.SearchPlaces.{first_key}
 use Rattle.doc_vector.specs.Documents.{IsDocumentPair}
-use Rattle.std.proofs.Common.{◌≡◌, ◌≢◌, ◌<◌, ◌≤◌, ℕ, cond, List, [], ◌∷◌, ◌++◌, map, drop, refl, sym, ap, subst, ◌∙◌, arith, Some}
+use Rattle.std.proofs.Common.{◌≡◌, ◌≢◌, ◌<◌, ◌≤◌, ℕ, cond, List, [], ◌∷◌, ◌++◌, map, drop, refl, sym, ap, subst, ◌∙◌, arith, Some, IsSome}
 use Rattle.std.proofs.lemmas.Cmp.{nat_cmp_total}
 use Rattle.std.specs.BTreeMap.{insert_entry, is_at}
 use Rattle.std.specs.Cmp.{ranks}
@@ -93,6 +93,17 @@ put_more kind type m es es' [] column doc some is up whole put = absurd (some re
 put_more kind type m es es' (p ∷ ps) column doc some is up whole put =
     put_next kind type m es es' p ps column up whole
     (subst (λ (d : ℕ). (items : List Item) → lookup (is_at (nat_cmp d)) column ≡ Some items → es' ≡ insert_entry nat_cmp es d (items ∷ [])) is put)
+
+-- the document that comes next is there
+pub there_is : (kind : Kind) (type : ValueType) (m : Records) (es : Table) (ps : List (ℕ × ℕ)) (column : Column) (doc : ℕ) → ps ≢ [] → doc ≡ first_key ps → Ascends column
+    → column_of 0 es ++ read_pairs kind type m ps ≡ column → IsSome (lookup (is_at (nat_cmp doc)) column)
+there_is kind type m es [] column doc some is up whole = absurd (some refl)
+there_is kind type m es (p ∷ ps) column doc some is up whole =
+    let items = items_at kind type m p.1 in
+    let rest = read_pairs kind type m ps in
+    let there : lookup (is_at (nat_cmp p.0)) column ≡ Some items =
+    subst (λ (c : Column). lookup (is_at (nat_cmp p.0)) c ≡ Some items) whole (lookup_there (column_of 0 es) p.0 items rest (subst Ascends (sym whole) up)) in
+    subst (λ (d : ℕ). IsSome (lookup (is_at (nat_cmp d)) column)) (sym is) (subst IsSome (sym there) refl)
 
 pub first_number : (ps : List (ℕ × ℕ)) → ps ≢ [] → AllByRecursion IsDocumentPair ps → first_key ps ≤ 1048575
 first_number [] some all = absurd (some refl)

@@ -1,4 +1,4 @@
-ghost use Rattle.std.specs.Prelude.{◌≡◌, ◌∷◌, [], List, Some, IfOk, OnOk};
+ghost use Rattle.std.specs.Prelude.{◌≡◌, ◌∷◌, [], List, Some, IsSome, IfOk, OnOk};
 ghost use Rattle.std.specs.BTreeMap.{insert_entry, is_at};
 ghost use Rattle.std.specs.Map.{lookup};
 ghost use Rattle.std.specs.Ordering.{nat_cmp};
@@ -25,7 +25,8 @@ fn push_document<const OFFSET_BITS: u32, F: Frozen<OFFSET_BITS>>(
     doc: Doc,
     documents: &mut BTreeMap<Doc, FieldItems>,
 ) -> Result<(), AllocError>
-    requires { IsDocuments kind value_type (F.records frozen.old) root }
+    requires documents { IsDocuments kind value_type (F.records frozen.old) root }
+    requires there { IsSome (lookup (is_at (nat_cmp doc)) (column_at kind value_type (F.records frozen.old) root)) }
     ensures put { OnOk result ((items : List Item)
         → lookup (is_at (nat_cmp doc)) (column_at kind value_type (F.records frozen.old) root.entry) ≡ Some items
         → documents.new.entries ≡ insert_entry nat_cmp documents.old.entries doc (items ∷ [])) }
@@ -37,7 +38,7 @@ fn push_document<const OFFSET_BITS: u32, F: Frozen<OFFSET_BITS>>(
             documents.insert(doc, items)?;
             Ok(())
         }
-        None => Err(AllocError),
+        None => unreachable!(),
     }
 }
 

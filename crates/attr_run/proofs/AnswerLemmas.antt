@@ -5,17 +5,20 @@ use Rattle.std.proofs.Common.{IsOkAnd}
 use Rattle.std.specs.Io.KnownBytes.{Appends}
 use Rattle.clap.specs.Walk.{Text}
 use Rattle.clap.specs.Faults.{fault_of}
+use Rattle.attr_io.specs.Bytes.{OfBytes}
 use Rattle.attr_io.specs.Faults.{Rose}
 use Rattle.attr_types.specs.declared.op.Op.{Op}
 use Rattle.attr_words.specs.CommandLine.{attr_app}
-use Rattle.attr_words.specs.Reading.{AskForHelp, AreRefused}
+use Rattle.attr_words.specs.Reading.{AskForHelp}
 use Rattle.attr_report.specs.Run.{Run, Progress}
 use Rattle.attr_report.specs.Report.{written}
 use Rattle.attr_run.specs.Run.{Task, asked, ReadsFeed, task_of}
 use Rattle.attr_run.specs.Texts.{answer_text}
-use Rattle.attr_run.specs.Answers.{EndsRun, IsEnd, OfRun, ComesExactly, ComesExactlyOfFeed}
-use Rattle.attr_run.specs.Answers.{IsBeforeRun, HasNoRun, IsProper, IsRunUntil, IsFullRun, IsDue}
-use Rattle.attr_run.specs.Steps.{IsAnswer}
+use Rattle.attr_run.specs.Answers.{EndsRun, IsEnd, IsRefusedFeed, OfRun, ComesExactly, ComesExactlyOfFeed}
+use Rattle.attr_run.specs.Answers.{IsBeforeRun, HasNoRun, IsRunUntil, IsFullRun, IsDue}
+use Rattle.attr_run.specs.Settings.{QueriesAreRefused}
+use Rattle.attr_run.specs.Refusals.{IsRefusedFor}
+use Rattle.attr_run.specs.Steps.{IsAnswer, IsRuled}
 use Rattle.attr_run.specs.declared.outcome.Status.{Status}
 use Rattle.attr_run.specs.declared.outcome.Status.TheVariants.{Done, Help, Usage, BadFeed}
 use Rattle.attr_run.specs.declared.outcome.Status.TheVariants.{ReadFault, WriteFault, Full, Memory}
@@ -23,7 +26,8 @@ use Rattle.attr_run.specs.declared.outcome.UsageCause.{UsageCause}
 use Rattle.attr_run.specs.declared.outcome.UsageCause.TheVariants as usage
 use Rattle.attr_run.specs.declared.outcome.FeedFault.{FeedFault}
 use Rattle.attr_run.proofs.AskedLemmas.{help-asked, refusal-asked, asked-help, asked-refused}
-use Rattle.attr_run.proofs.TaskLemmas.{task-unasked}
+use Rattle.attr_run.proofs.RuleLemmas.{kind-asked, value-asked, size-asked, also-asked, asked-kind, asked-value, asked-size, asked-also, asked-query}
+use Rattle.attr_run.proofs.TaskLemmas.{at_told, task-unasked, unasked-run}
 
 -- the text that is due was written
 pub answer-written : (words : List Text) (left : Option (List ℕ)) (before now : ℕ) (old new : Option (List ℕ))
@@ -47,17 +51,10 @@ weaker : (r : Result Task Status) (P Q : Run → List Op → Type 0) → ((run :
 weaker (Ok task) P Q follows holds = follows task.run task.ops holds
 weaker (Err status) P Q follows holds = absurd holds
 
-weaker-told : (t : Option (Result Task Status)) (P Q : Run → List Op → Type 0)
-    → ((run : Run) (ops : List Op) → P run ops → Q run ops)
-    → IfSome t (λ said. IsOkAnd said (λ task. P task.run task.ops))
-    → IfSome t (λ said. IsOkAnd said (λ task. Q task.run task.ops))
-weaker-told None P Q follows holds = tt
-weaker-told (Some said) P Q follows holds = weaker said P Q follows holds
-
 pub OfRun-weaker : (words : List Text) (left : Option (List ℕ)) (P Q : Run → List Op → Type 0)
     → ((run : Run) (ops : List Op) → P run ops → Q run ops)
     → OfRun words left P → OfRun words left Q
-OfRun-weaker words left P Q follows holds = (holds.0, weaker-told (task_of words left) P Q follows holds.1)
+OfRun-weaker words left P Q follows holds = (holds.0, holds.1, weaker (task_of words holds.0) P Q follows holds.2)
 
 -- ---- an answer to a call that met these words, source and sink
 
@@ -124,9 +121,6 @@ full-room met status progress answer operation active held is =
 
 -- ---- the words
 
-unasked : (words : List Text) (status : Status) → IsOk (asked words) → asked words ≡ Err status → ⊥
-unasked words status ok err = cc
-
 unasked-feed : (words : List Text) (status : Status) → ReadsFeed (asked words) → asked words ≡ Err status → ⊥
 unasked-feed words status reads err = subst ReadsFeed err reads
 
@@ -134,22 +128,37 @@ unasked-feed words status reads err = subst ReadsFeed err reads
 pub refused-words : (met : Met) (status : Status) (progress : Progress) (why : Status)
     → Answers met status progress → asked met.words ≡ Err why
     → (status ≡ why) ⊎ ((status ≡ WriteFault) ⊎ (status ≡ Memory))
-refused-words met Done progress why answer asks = absurd (unasked met.words why answer.1.0 asks)
+refused-words met Done progress why answer asks = unasked-run met.words met.left why _ asks answer.1
 refused-words met Help progress why answer asks = let is : Help ≡ why = cc (answer.1.0) in inl is
 refused-words met (Usage cause) progress why answer asks = let is : Usage cause ≡ why = cc (answer.1.0) in inl is
 refused-words met (BadFeed fault) progress why answer asks = absurd (unasked-feed met.words why answer.1.0.0 asks)
 refused-words met ReadFault progress why answer asks = absurd (unasked-feed met.words why answer.1.0.0 asks)
 refused-words met WriteFault progress why answer asks = inr (inl refl)
-refused-words met (Full operation active held) progress why answer asks =
-    absurd (unasked met.words why answer.1.0 asks)
+refused-words met (Full operation active held) progress why answer asks = unasked-run met.words met.left why _ asks answer.1
 refused-words met Memory progress why answer asks = inr (inr refl)
 
-pub exactly-usage : (met : Met) (status : Status) (progress : Progress) (cause : UsageCause)
-    → Answers met status progress
-    → ComesExactly (asked met.words ≡ Err (Usage cause)) (Usage cause) status
-exactly-usage met status progress cause answer = record {
-  only = λ is. (at met status (Usage cause) progress answer is).1.0;
-  always = refused-words met status progress (Usage cause) answer;
+-- by the rule of each cause
+usage-asked : (met : Met) (cause : UsageCause) → length (fault_of attr_app met.words) ≤ 1 → IsRuled met.words (Usage cause) → asked met.words ≡ Err (Usage cause) → IsRefusedFor met.words cause
+usage-asked met usage.Words one ruled is = refusal-asked met.words one is
+usage-asked met usage.KindName one ruled is = kind-asked met.words is
+usage-asked met usage.ValueName one ruled is = value-asked met.words is
+usage-asked met (usage.Size buffers each) one ruled is = size-asked met.words buffers each is
+usage-asked met (usage.Also place) one ruled is = also-asked met.words place is
+usage-asked met (usage.Query number error) one ruled is = ruled
+
+asked-usage : QueriesAreRefused → (words : List Text) (cause : UsageCause) → IsRefusedFor words cause → asked words ≡ Err (Usage cause)
+asked-usage law words usage.Words rule = asked-refused words rule
+asked-usage law words usage.KindName rule = asked-kind words rule
+asked-usage law words usage.ValueName rule = asked-value words rule
+asked-usage law words (usage.Size buffers each) rule = asked-size words buffers each rule
+asked-usage law words (usage.Also place) rule = asked-also words place rule
+asked-usage law words (usage.Query number error) rule = asked-query law words number error rule
+
+pub exactly-usage : (met : Met) (status : Status) (progress : Progress) → QueriesAreRefused → length (fault_of attr_app met.words) ≤ 1
+    → IsRuled met.words status → Answers met status progress → (cause : UsageCause) → ComesExactly (IsRefusedFor met.words cause) (Usage cause) status
+exactly-usage met status progress law one ruled answer cause = record {
+  only = λ is. usage-asked met cause one (subst (IsRuled met.words) is ruled) (at met status (Usage cause) progress answer is).1.0;
+  always = λ rule. refused-words met status progress (Usage cause) answer (asked-usage law met.words cause rule);
 }
 
 pub exactly-help : (met : Met) (status : Status) (progress : Progress)
@@ -160,57 +169,54 @@ exactly-help met status progress one answer = record {
   always = λ help. refused-words met status progress Help answer (asked-help met.words help);
 }
 
-pub exactly-refused : (met : Met) (status : Status) (progress : Progress)
-    → length (fault_of attr_app met.words) ≤ 1 → Answers met status progress
-    → ComesExactly (AreRefused met.words) (Usage usage.Words) status
-exactly-refused met status progress one answer = record {
-  only = λ is. refusal-asked met.words one (at met status (Usage usage.Words) progress answer is).1.0;
-  always = λ refused. refused-words met status progress (Usage usage.Words) answer
-      (asked-refused met.words refused);
-}
-
 -- ---- the feed
 
 -- a run is not refused
-unfed : (t : Option (Result Task Status)) (said : Result Task Status) (P : Task → Type 0) (why : Status)
-    → t ≡ Some said → IfSome t (λ s. IsOkAnd s P) → said ≡ Err why → ⊥
-unfed t said P why told holds is =
-    let here : IsOkAnd said P = subst (λ (t : Option (Result Task Status)). IfSome t (λ s. IsOkAnd s P)) told holds in
-    subst (λ (r : Result Task Status). IsOkAnd r P) is here
+unfed : (words : List Text) (bytes : List ℕ) (left : Option (List ℕ)) (why : Status) (P : Run → List Op → Type 0) → left ≡ Some bytes
+    → OfRun words left P → task_of words bytes ≡ Err why → ⊥
+unfed words bytes left why P told of is =
+    let here = at_told bytes (λ b. IsOkAnd (task_of words b) (λ task. P task.run task.ops)) (subst (λ (l : Option (List ℕ)). OfRun words l P) told of) in
+    subst (λ (r : Result Task Status). IsOkAnd r (λ task. P task.run task.ops)) is here
+
+same_refusal : (r : Result Task Status) (a b : Status) → r ≡ Err a → r ≡ Err b → a ≡ b
+same_refusal r a b first second = cc
 
 -- a feed is refused for one reason
-one_reason : (t : Option (Result Task Status)) (said : Result Task Status) (a b : Status) → t ≡ Some said
-    → IfSome t (λ s. s ≡ Err a) → said ≡ Err b → a ≡ b
-one_reason t said a b told holds is =
-    let here : said ≡ Err a = subst (λ (t : Option (Result Task Status)). IfSome t (λ s. s ≡ Err a)) told holds in cc
+one_reason : (words : List Text) (bytes : List ℕ) (left : Option (List ℕ)) (a b : Status) → left ≡ Some bytes
+    → OfBytes left (λ told. task_of words told ≡ Err a) → task_of words bytes ≡ Err b → a ≡ b
+one_reason words bytes left a b told of is =
+    same_refusal (task_of words bytes) a b (at_told bytes (λ b. task_of words b ≡ Err a) (subst (λ (l : Option (List ℕ)). OfBytes l (λ b. task_of words b ≡ Err a)) told of)) is
+
+other_refusal : (words : List Text) (bytes : List ℕ) (a b : Status) → asked words ≡ Err a → task_of words bytes ≡ Err b → a ≡ b
+other_refusal words bytes a b asks is = same_refusal (task_of words bytes) a b (task-unasked words bytes a asks) is
 
 -- where the feed is refused, the answer is why, or a fault or want of memory in its place
-refused-feed : (met : Met) (said : Result Task Status) (status : Status) (progress : Progress)
-    (fault : FeedFault) → task_of met.words met.left ≡ Some said → Answers met status progress
-    → said ≡ Err (BadFeed fault) → (status
+refused-feed : (met : Met) (bytes : List ℕ) (status : Status) (progress : Progress)
+    (fault : FeedFault) → met.left ≡ Some bytes → Answers met status progress
+    → task_of met.words bytes ≡ Err (BadFeed fault) → (status
     ≡ BadFeed fault) ⊎ ((status ≡ ReadFault) ⊎ ((status ≡ WriteFault) ⊎ (status ≡ Memory)))
-refused-feed met said Done progress fault told answer refused = absurd (unfed _ said _ _ told answer.1.1 refused)
-refused-feed met said (Full operation active held) progress fault told answer refused =
-    absurd (unfed _ said _ _ told answer.1.1 refused)
-refused-feed met said Help progress fault told answer refused =
-    let other = task-unasked met.words met.left Help answer.1.0 in absurd (cc)
-refused-feed met said (Usage cause) progress fault told answer refused =
-    let other = task-unasked met.words met.left (Usage cause) answer.1.0 in absurd (cc)
-refused-feed met said (BadFeed other) progress fault told answer refused =
-    inl (one_reason _ said _ _ told answer.1.0.1 refused)
-refused-feed met said ReadFault progress fault told answer refused = inr (inl refl)
-refused-feed met said WriteFault progress fault told answer refused = inr (inr (inl refl))
-refused-feed met said Memory progress fault told answer refused = inr (inr (inr refl))
+refused-feed met bytes Done progress fault told answer refused = absurd (unfed met.words bytes met.left _ _ told answer.1 refused)
+refused-feed met bytes (Full operation active held) progress fault told answer refused =
+    absurd (unfed met.words bytes met.left _ _ told answer.1 refused)
+refused-feed met bytes Help progress fault told answer refused =
+    let same = other_refusal met.words bytes Help (BadFeed fault) answer.1.0 refused in absurd (cc)
+refused-feed met bytes (Usage cause) progress fault told answer refused =
+    let same = other_refusal met.words bytes (Usage cause) (BadFeed fault) answer.1.0 refused in absurd (cc)
+refused-feed met bytes (BadFeed other) progress fault told answer refused =
+    inl (one_reason met.words bytes met.left (BadFeed other) (BadFeed fault) told answer.1.0.1 refused)
+refused-feed met bytes ReadFault progress fault told answer refused = inr (inl refl)
+refused-feed met bytes WriteFault progress fault told answer refused = inr (inr (inl refl))
+refused-feed met bytes Memory progress fault told answer refused = inr (inr (inr refl))
 
 pub exactly-feed : (met : Met) (status : Status) (progress : Progress) (fault : FeedFault)
     → Answers met status progress
-    → (t : Option (Result Task Status)) → task_of met.words met.left ≡ t → IfSome t (λ said. ComesExactlyOfFeed
-    (said ≡ Err (BadFeed fault)) (BadFeed fault) status)
+    → (left : Option (List ℕ)) → met.left ≡ left → IfSome left (λ bytes. ComesExactlyOfFeed
+    (task_of met.words bytes ≡ Err (BadFeed fault)) (BadFeed fault) status)
 exactly-feed met status progress fault answer None told = tt
-exactly-feed met status progress fault answer (Some said) told = record {
-  only = λ is. subst (λ (t : Option (Result Task Status)). IfSome t (λ s. s ≡ Err (BadFeed fault))) told
-      (at met status (BadFeed fault) progress answer is).1.0.1;
-  always = refused-feed met said status progress fault told answer;
+exactly-feed met status progress fault answer (Some bytes) told = record {
+  only = λ is. at_told bytes (λ b. task_of met.words b ≡ Err (BadFeed fault))
+      (subst (λ (l : Option (List ℕ)). OfBytes l (λ b. task_of met.words b ≡ Err (BadFeed fault))) told (at met status (BadFeed fault) progress answer is).1.0.1);
+  always = refused-feed met bytes status progress fault told answer;
 }
 
 -- ---- what is written and left
@@ -243,35 +249,17 @@ early-no_run met Memory progress answer early = absurd early
 
 -- ---- where nothing is refused and nothing fails
 
-unrefused : (t : Option (Result Task Status)) (said : Result Task Status) (why : Status) → t ≡ Some said → IsOk said
-    → IfSome t (λ s. s ≡ Err why) → ⊥
-unrefused t said why told ok holds =
-    let here : said ≡ Err why = subst (λ (t : Option (Result Task Status)). IfSome t (λ s. s ≡ Err why)) told holds in cc
+unasked-ok : (words : List Text) (why : Status) → IsOk (asked words) → asked words ≡ Err why → ⊥
+unasked-ok words why ok asks = cc
 
-unasked-ok : (words : List Text) (left : Option (List ℕ)) (said : Result Task Status) (why : Status)
-    → task_of words left ≡ Some said → IsOk said → asked words ≡ Err why → ⊥
-unasked-ok words left said why told ok asks = let other = task-unasked words left why asks in cc
-
-complete : (met : Met) (said : Result Task Status) (status : Status) (progress : Progress)
-    → IsProper status → task_of met.words met.left ≡ Some said → Answers met status progress
-    → IsOk said → (Rose met.before met.now → ⊥) → (Rose met.sink_before met.sink_now → ⊥)
-    → IsEnd status ⊎ (status ≡ Memory)
-complete met said Done progress proper told answer ok reads writes = inl tt
-complete met said Help progress proper told answer ok reads writes =
-    absurd (unasked-ok met.words met.left said Help told ok answer.1.0)
-complete met said (Usage cause) progress proper told answer ok reads writes =
-    absurd (unasked-ok met.words met.left said (Usage cause) told ok answer.1.0)
-complete met said (BadFeed fault) progress proper told answer ok reads writes =
-    absurd (unrefused _ said (BadFeed fault) told ok answer.1.0.1)
-complete met said ReadFault progress proper told answer ok reads writes = absurd (reads answer.1.0.1)
-complete met said WriteFault progress proper told answer ok reads writes = absurd (writes answer.0)
-complete met said (Full operation active held) progress proper told answer ok reads writes = inl tt
-complete met said Memory progress proper told answer ok reads writes = inr refl
-
-pub complete-told : (met : Met) (status : Status) (progress : Progress) → IsProper status
-    → Answers met status progress → (t : Option (Result Task Status)) → task_of met.words met.left ≡ t
-    → IfSome t (λ said. IsOk said → (Rose met.before met.now → ⊥) →
-    (Rose met.sink_before met.sink_now → ⊥) → IsEnd status ⊎ (status ≡ Memory))
-complete-told met status progress proper answer None told = tt
-complete-told met status progress proper answer (Some said) told =
-    complete met said status progress proper told answer
+pub complete-told : (met : Met) (status : Status) (progress : Progress) → Answers met status progress
+    → IsOk (asked met.words) → (Rose met.before met.now → ⊥) → (Rose met.sink_before met.sink_now → ⊥)
+    → IsEnd status ⊎ (IsRefusedFeed status ⊎ (status ≡ Memory))
+complete-told met Done progress answer ok reads writes = inl tt
+complete-told met Help progress answer ok reads writes = absurd (unasked-ok met.words Help ok answer.1.0)
+complete-told met (Usage cause) progress answer ok reads writes = absurd (unasked-ok met.words (Usage cause) ok answer.1.0)
+complete-told met (BadFeed fault) progress answer ok reads writes = inr (inl (fault, refl))
+complete-told met ReadFault progress answer ok reads writes = absurd (reads answer.1.0.1)
+complete-told met WriteFault progress answer ok reads writes = absurd (writes answer.0)
+complete-told met (Full operation active held) progress answer ok reads writes = inl tt
+complete-told met Memory progress answer ok reads writes = inr (inr refl)

@@ -1,5 +1,5 @@
 -- What the words ask for, step by step.
-use Rattle.std.proofs.Common.{◌≡◌, ◌≤◌, ap, refl, ℕ, List, [], ◌∷◌, length, ◌+◌}
+use Rattle.std.proofs.Common.{◌≡◌, ◌≤◌, ◌∙◌, sym, ap, refl, ℕ, List, [], ◌∷◌, length, ◌+◌}
 use Rattle.std.proofs.Common.{Result, Ok, Err, IfErr, subst}
 use Rattle.clap.specs.Walk.{Text}
 use Rattle.clap.specs.Faults.{fault_of}
@@ -13,14 +13,14 @@ use Rattle.attr_words.specs.declared.reading.WordsError.TheVariants as words
 use Rattle.attr_types.specs.Scores.{AskTree}
 use Rattle.query_text.specs.Asks.{ask_of}
 use Rattle.attr_report.specs.Run.{Run, run_in}
-use Rattle.attr_run.specs.Run.{◌>>=◌, given_or_refused, ask_or_refused, asks_from, run_of, asked}
+use Rattle.attr_run.specs.Run.{◌>>=◌, refusal_of, given_or_refused, ask_or_refused, asks_from, run_of, asked}
 use Rattle.attr_run.specs.Steps.{Says, words_stop, IsWordsStop}
 use Rattle.attr_run.specs.declared.outcome.Status.{Status}
 use Rattle.attr_run.specs.declared.outcome.Status.TheVariants.{Help, Usage}
 use Rattle.attr_run.specs.declared.outcome.UsageCause.TheVariants as usage
 use Rattle.attr_run.specs.declared.stop.Stop.{Stop}
 use Rattle.attr_run.specs.declared.stop.Stop.TheVariants as stops
-use Rattle.attr_run.proofs.HelpLemmas.{help-found, refusal-found, found-help, found-refusal}
+use Rattle.attr_run.proofs.HelpLemmas.{IsLate, help-found, refusal-found, found-help, found-refusal}
 
 -- ---- the settings
 
@@ -93,25 +93,30 @@ refused_first (Ok given) rest status early later is =
     absurd (early (subst (λ (r : Result Run Status). IfErr r IsOfAsks) is (later given)))
 refused_first (Err error) rest status early later is = cc
 
-by_help : (said : Result Given WordsError) → given_or_refused said ≡ Err Help → said ≡ Err words.Help
-by_help (Ok given) is = cc
-by_help (Err words.Help) is = refl
-by_help (Err words.Refused) is = cc
-by_help (Err words.Kind) is = cc
-by_help (Err words.Value) is = cc
-by_help (Err (words.Size buffers each)) is = cc
-by_help (Err (words.Also place)) is = cc
-by_help (Err words.Memory) is = cc
+-- the words' own refusal behind an answer
+abbrev error_of : Status → WordsError
+error_of Help = words.Help
+error_of (Usage usage.Words) = words.Refused
+error_of (Usage usage.KindName) = words.Kind
+error_of (Usage usage.ValueName) = words.Value
+error_of (Usage (usage.Size buffers each)) = words.Size buffers each
+error_of (Usage (usage.Also place)) = words.Also place
+error_of _ = words.Memory
 
-by_refusal : (said : Result Given WordsError) → given_or_refused said ≡ Err (Usage usage.Words) → said ≡ Err words.Refused
-by_refusal (Ok given) is = cc
-by_refusal (Err words.Help) is = cc
-by_refusal (Err words.Refused) is = refl
-by_refusal (Err words.Kind) is = cc
-by_refusal (Err words.Value) is = cc
-by_refusal (Err (words.Size buffers each)) is = cc
-by_refusal (Err (words.Also place)) is = cc
-by_refusal (Err words.Memory) is = cc
+back : (error : WordsError) → error_of (refusal_of error) ≡ error
+back words.Help = refl
+back words.Refused = refl
+back words.Kind = refl
+back words.Value = refl
+back (words.Size buffers each) = refl
+back (words.Also place) = refl
+back words.Memory = refl
+
+by_error : (said : Result Given WordsError) (error : WordsError) → given_or_refused said ≡ Err (refusal_of error) → said ≡ Err error
+by_error (Ok given) error is = cc
+by_error (Err other) error is =
+    let same : refusal_of other ≡ refusal_of error = cc in
+    ap (λ (e : WordsError). Err e) (sym (back other) ∙ ap error_of same ∙ back error)
 
 rest_later : (given : Given)
     → IfErr (asks_from given.fields 1 given.queries >>= (λ asks. Ok (run_of given asks))) IsOfAsks
@@ -120,13 +125,13 @@ rest_later given = later-next _ _ (later-asks given.fields 1 given.queries) (λ 
 pub help-asked : (line : List Text) → length (fault_of attr_app line) ≤ 1 → asked line ≡ Err Help → AskForHelp line
 unfolding asked
 help-asked line one is = help-found line one
-    (by_help (settings_in line) (refused_first (settings_in line) _ Help (λ none. none) rest_later is))
+    (by_error (settings_in line) words.Help (refused_first (settings_in line) _ Help (λ none. none) rest_later is))
 
 pub refusal-asked : (line : List Text) → length (fault_of attr_app line) ≤ 1
     → asked line ≡ Err (Usage usage.Words) → AreRefused line
 unfolding asked
 refusal-asked line one is = refusal-found line one
-    (by_refusal (settings_in line) (refused_first (settings_in line) _ (Usage usage.Words) (λ none. none) rest_later is))
+    (by_error (settings_in line) words.Refused (refused_first (settings_in line) _ (Usage usage.Words) (λ none. none) rest_later is))
 
 pub asked-help : (line : List Text) → AskForHelp line → asked line ≡ Err Help
 unfolding asked
@@ -135,3 +140,17 @@ asked-help line help = rw (ap given_or_refused (found-help line help)) refl
 pub asked-refused : (line : List Text) → AreRefused line → asked line ≡ Err (Usage usage.Words)
 unfolding asked
 asked-refused line refused = rw (ap given_or_refused (found-refusal line refused)) refl
+
+early : (error : WordsError) → IsLate error → IsOfAsks (refusal_of error) → ⊥
+early words.Help late of = of
+early words.Refused late of = of
+early words.Kind late of = of
+early words.Value late of = of
+early (words.Size buffers each) late of = of
+early (words.Also place) late of = of
+early words.Memory late of = of
+
+pub early-asked : (line : List Text) (error : WordsError) → IsLate error → asked line ≡ Err (refusal_of error) → settings_in line ≡ Err error
+unfolding asked
+early-asked line error late is =
+    by_error (settings_in line) error (refused_first (settings_in line) _ (refusal_of error) (early error late) rest_later is)

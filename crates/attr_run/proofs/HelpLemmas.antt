@@ -18,61 +18,79 @@ use Rattle.attr_words.specs.declared.reading.WordsError.{WordsError}
 use Rattle.attr_words.specs.declared.reading.WordsError.TheVariants as words
 
 -- a refusal of what the options say
-abbrev IsLate : WordsError → Type 0
+abbrev pub IsLate : WordsError → Type 0
 IsLate words.Help = ⊥
 IsLate words.Refused = ⊥
 IsLate _ = Unit {0}
 
-late_next : {A B : Type 0} (r : Result A WordsError) (next : A → Result B WordsError) → IfErr r IsLate
-    → ((a : A) → IfErr (next a) IsLate) → IfErr (r >>= next) IsLate
-late_next (Ok a) next here after = after a
-late_next (Err error) next here after = here
+-- a refusal of the text of `--also`
+abbrev pub IsAlso : WordsError → Type 0
+IsAlso (words.Also place) = Unit {0}
+IsAlso _ = ⊥
+
+err_next : {A B : Type 0} (P : WordsError → Type 0) (r : Result A WordsError) (next : A → Result B WordsError) → IfErr r P
+    → ((a : A) → IfErr (next a) P) → IfErr (r >>= next) P
+err_next P (Ok a) next here after = after a
+err_next P (Err error) next here after = here
+
+also_part : {A : Type 0} (part : Piece) (o : Option A) → IfErr (or_broken part o) IsAlso
+also_part part (Some a) = tt
+also_part part None = tt
+
+also_surplus : (o : Option Piece) (field : Field) → IfErr (or_surplus o field) IsAlso
+also_surplus None field = tt
+also_surplus (Some part) field = tt
+
+also_parts : (before : List Field) (whole : Piece) (parts : List Piece) → IfErr (field_of_parts before whole parts) IsAlso
+also_parts before whole parts =
+    err_next IsAlso _ _ (also_part (part_at whole parts 0) (new_name before (part_at whole parts 0).text)) (λ name.
+    err_next IsAlso _ _ (also_part (part_at whole parts 1) (kind_named (part_at whole parts 1).text)) (λ kind.
+    err_next IsAlso _ _ (also_part (part_at whole parts 2) (value_named (part_at whole parts 2).text)) (λ value.
+    also_surplus (slice_get parts 3) (record { name = name; kind = kind; value = value }))))
+
+also_if : (b : Bool) (before : List Field) (piece : Piece)
+    → IfErr (cond b (field_of_parts before piece (pieces 58 piece)) (Err (words.Also piece.place))) IsAlso
+also_if true before piece = also_parts before piece (pieces 58 piece)
+also_if false before piece = tt
+
+also_field : (before : List Field) (piece : Piece) → IfErr (next_field before piece) IsAlso
+unfolding next_field field_in
+also_field before piece = also_if (nat_lt (length before) 8) before piece
+
+also_fields : (before : List Field) (list : List Piece) → IfErr (fields_from before list) IsAlso
+unfolding fields_from
+also_fields before [] = tt
+also_fields before (piece ∷ more) = err_next IsAlso _ _ (also_field before piece) (λ field. also_fields (before ++ field ∷ []) more)
+
+pub only_also : (first : Field) (also : Option Text) → IfErr (named_fields first also) IsAlso
+unfolding named_fields
+only_also first None = tt
+only_also first (Some text) = also_fields (first ∷ []) (pieces 44 (record { place = 0; text = text }))
+
+also_is_late : (error : WordsError) → IsAlso error → IsLate error
+also_is_late (words.Also place) is = tt
+also_is_late words.Help is = is
+also_is_late words.Refused is = is
+also_is_late words.Kind is = tt
+also_is_late words.Value is = tt
+also_is_late (words.Size buffers each) is = tt
+also_is_late words.Memory is = tt
+
+late_fields : (r : Result (List Field) WordsError) → IfErr r IsAlso → IfErr r IsLate
+late_fields (Ok fields) is = tt
+late_fields (Err error) is = also_is_late error is
 
 late_option : {A : Type 0} (error : WordsError) (o : Option A) → IsLate error → IfErr (or_refused error o) IsLate
 late_option error (Some a) late = tt
 late_option error None late = late
 
-late_part : {A : Type 0} (part : Piece) (o : Option A) → IfErr (or_broken part o) IsLate
-late_part part (Some a) = tt
-late_part part None = tt
-
-late_surplus : (o : Option Piece) (field : Field) → IfErr (or_surplus o field) IsLate
-late_surplus None field = tt
-late_surplus (Some part) field = tt
-
-late_parts : (before : List Field) (whole : Piece) (parts : List Piece) → IfErr (field_of_parts before whole parts) IsLate
-late_parts before whole parts =
-    late_next _ _ (late_part (part_at whole parts 0) (new_name before (part_at whole parts 0).text)) (λ name.
-    late_next _ _ (late_part (part_at whole parts 1) (kind_named (part_at whole parts 1).text)) (λ kind.
-    late_next _ _ (late_part (part_at whole parts 2) (value_named (part_at whole parts 2).text)) (λ value.
-    late_surplus (slice_get parts 3) (record { name = name; kind = kind; value = value }))))
-
-late_if : (b : Bool) (before : List Field) (piece : Piece)
-    → IfErr (cond b (field_of_parts before piece (pieces 58 piece)) (Err (words.Also piece.place))) IsLate
-late_if true before piece = late_parts before piece (pieces 58 piece)
-late_if false before piece = tt
-
-late_field : (before : List Field) (piece : Piece) → IfErr (next_field before piece) IsLate
-unfolding next_field field_in
-late_field before piece = late_if (nat_lt (length before) 8) before piece
-
-late_fields : (before : List Field) (list : List Piece) → IfErr (fields_from before list) IsLate
-unfolding fields_from
-late_fields before [] = tt
-late_fields before (piece ∷ more) = late_next _ _ (late_field before piece) (λ field. late_fields (before ++ field ∷ []) more)
-
-late_also : (first : Field) (also : Option Text) → IfErr (named_fields first also) IsLate
-unfolding named_fields
-late_also first None = tt
-late_also first (Some text) = late_fields (first ∷ []) (pieces 44 (record { place = 0; text = text }))
-
 late_settings : (said : Said) → IfErr (settings_by said) IsLate
 unfolding settings_by
 late_settings said =
-    late_next _ _ (late_option words.Kind (kind_named said.kind) tt) (λ kind.
-    late_next _ _ (late_option words.Value (value_named said.value) tt) (λ value.
-    late_next _ _ (late_option (words.Size said.buffers said.words) (if_room said.wide said.buffers said.words) tt) (λ room.
-    late_next _ _ (late_also (record { name = said.field; kind = kind; value = value }) said.also) (λ fields. tt))))
+    err_next IsLate _ _ (late_option words.Kind (kind_named said.kind) tt) (λ kind.
+    err_next IsLate _ _ (late_option words.Value (value_named said.value) tt) (λ value.
+    err_next IsLate _ _ (late_option (words.Size said.buffers said.words) (if_room said.wide said.buffers said.words) tt) (λ room.
+    err_next IsLate _ _ (late_fields _ (only_also (record { name = said.field; kind = kind; value = value }) said.also)) (λ fields. tt))))
 
 -- ---- from what is read
 

@@ -6,4 +6,5 @@ pub mod TaskLemmas
 pub mod AnswerLemmas
 pub mod SettingsLemmas
 pub mod RefusalLemmas
+pub mod RuleLemmas
 pub mod MadeLemmas

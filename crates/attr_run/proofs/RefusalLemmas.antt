@@ -109,10 +109,10 @@ unfolding asked
 asked_by line given is = ap (λ r. given_or_refused r >>= (λ g. asks_from g.fields 1 g.queries >>= (λ asks. Ok (run_of g asks)))) is
 
 pub queries_are_refused : ReadsByGrammar → AnswersOnce → QueriesAreRefused
-queries_are_refused reads once line given number error is utf8 =
+queries_are_refused reads once line given number error is =
     let whole = asked_by line given is in
     record {
-      only = λ refused.
+      only = λ utf8 refused.
           let found = first_refused reads given.fields 1 given.queries number error
           (err_first (asks_from given.fields 1 given.queries) (run_of given) (refusal number error) (sym whole ∙ refused)) utf8 in
           record {

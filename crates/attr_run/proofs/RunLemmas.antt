@@ -3,6 +3,7 @@ use Rattle.std.proofs.Common.{◌≡◌, ◌+◌, ◌*◌, ◌≤◌, ◌<◌, r
 use Rattle.std.proofs.lemmas.Bool.Decides.{nat_tests}
 use Rattle.std.proofs.Math.Nat.{mul-le-mul}
 use Rattle.clap.specs.Walk.{Text}
+use Rattle.attr_io.specs.Bytes.{OfBytes}
 use Rattle.attr_types.specs.declared.op.Op.{Op}
 use Rattle.attr_words.specs.Settings.{are_too_many}
 use Rattle.attr_engine.specs.FullStore.{NoRoom}
@@ -36,7 +37,7 @@ until run ops w full is at = record {
 
 -- its text is due at its answer
 due-by : (words : List Text) (left : Option (List ℕ)) (before now : ℕ) (run : Run) (ops : List Op) (w : Written) (full : Option NoRoom)
-    → asked words ≡ Ok run → IfSome (fed run left) (λ said. said ≡ Ok ops) → IsRunOf run ops w → w.full ≡ full
+    → asked words ≡ Ok run → OfBytes left (λ bytes. fed run bytes ≡ Ok ops) → IsRunOf run ops w → w.full ≡ full
     → IsDue words left before now (ended_status full) (progress_of w) w.text.items
 due-by words left before now run ops w None asks feeds is at =
     of-run words left run ops (IsRunUntil (progress_of w) None w.text.items) asks feeds (until run ops w None is at)
@@ -47,7 +48,7 @@ due-by words left before now run ops w (Some room) asks feeds is at =
     })
 
 pub due-of : (words : List Text) (left : Option (List ℕ)) (before now : ℕ) (run : Run) (ops : List Op) (w : Written)
-    → asked words ≡ Ok run → IfSome (fed run left) (λ said. said ≡ Ok ops) → IsRunOf run ops w
+    → asked words ≡ Ok run → OfBytes left (λ bytes. fed run bytes ≡ Ok ops) → IsRunOf run ops w
     → IsDue words left before now (ended_status w.full) (progress_of w) w.text.items
 due-of words left before now run ops w asks feeds is = due-by words left before now run ops w w.full asks feeds is refl
 
@@ -55,7 +56,7 @@ due-of words left before now run ops w asks feeds is = due-by words left before 
 pub answered : (words : List Text) (left : Option (List ℕ)) (before now : ℕ) (run : Run) (ops : List Op) (w : Written)
     (status : Status) (loaded : ℕ) (rounds : List (List ℕ)) (saved : Option ℕ) (text : List ℕ)
     → status ≡ ended_status w.full → loaded ≡ w.loaded → rounds ≡ w.rounds → saved ≡ w.saved → text ≡ w.text.items
-    → asked words ≡ Ok run → IfSome (fed run left) (λ said. said ≡ Ok ops) → IsRunOf run ops w
+    → asked words ≡ Ok run → OfBytes left (λ bytes. fed run bytes ≡ Ok ops) → IsRunOf run ops w
     → IsDue words left before now status (record { loaded = loaded; rounds = rounds; saved = saved }) text
 answered words left before now run ops w status loaded rounds saved text st l r s t asks feeds is =
     let same : progress_of w ≡ so_far loaded rounds saved = λ i. record { loaded = sym l i; rounds = sym r i; saved = sym s i } in

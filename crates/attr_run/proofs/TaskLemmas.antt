@@ -1,10 +1,11 @@
 -- What words and a feed's bytes say to do, step by step.
-use Rattle.std.proofs.Common.{◌≡◌, sym, ap, refl, subst, ℕ, ◌≤◌, ◌<◌, nat_lt, true}
-use Rattle.std.proofs.Common.{false, List, length, Option, Some, None}
-use Rattle.std.proofs.Common.{option_map, Result, Ok, Err, IsOk, IfOk, IfErr, IfSome, IsOkAnd, arith}
+use Rattle.std.proofs.Common.{◌≡◌, ◌∙◌, sym, ap, refl, subst, ℕ, ◌≤◌, ◌<◌, nat_lt, true}
+use Rattle.std.proofs.Common.{false, List, [], ◌++◌, length, append-nil, Option, Some, None}
+use Rattle.std.proofs.Common.{Result, Ok, Err, IfOk, IfErr, IsOkAnd, arith}
 use Rattle.std.proofs.lemmas.Bool.Decides.{nat_tests}
+use Rattle.std.specs.Io.KnownBytes.{Consumes, IsAtEnd}
 use Rattle.clap.specs.Walk.{Text}
-use Rattle.attr_io.specs.Bytes.{HasMoreThan}
+use Rattle.attr_io.specs.Bytes.{OfBytes, HasMoreThan}
 use Rattle.attr_io.specs.Faults.{Rose}
 use Rattle.attr_types.specs.declared.field.Field.{Field}
 use Rattle.attr_types.specs.declared.op.Op.{Op}
@@ -17,7 +18,7 @@ use Rattle.attr_run.specs.Made.{made}
 use Rattle.attr_report.specs.Run.{Run, Progress}
 use Rattle.attr_report.specs.declared.request.Make.{Make}
 use Rattle.attr_run.specs.Run.{Task, asked, ReadsFeed, refusal_number, ops_or_refused, ops_in, fed_by, fed}
-use Rattle.attr_run.specs.Run.{with_ops, task_of}
+use Rattle.attr_run.specs.Run.{task_of}
 use Rattle.attr_run.specs.Texts.{answer_text}
 use Rattle.attr_run.specs.Answers.{EndsRun, OfRun, HasCause, HasNoRun, IsDue, IsProper}
 use Rattle.attr_run.specs.Steps.{Says, IsStopped, IsWordsStop, IsProperStop, IsEarly, IsFeedStop, IsUnfed, feed_stop}
@@ -28,20 +29,48 @@ use Rattle.attr_run.specs.declared.outcome.FeedFault.TheVariants as feed
 use Rattle.attr_run.specs.declared.stop.Stop.{Stop}
 use Rattle.attr_run.specs.declared.stop.Stop.TheVariants as stops
 
--- what words and a source say, where the words ask for a run
-pub task-asked : (words : List Text) (left : Option (List ℕ)) (run : Run) → asked words ≡ Ok run
-    → task_of words left ≡ option_map (with_ops run) (fed run left)
-unfolding task_of
-task-asked words left run asks = rw asks refl
+-- ---- bytes that are told, or are there
 
--- and where they do not
-pub task-unasked : (words : List Text) (left : Option (List ℕ)) (status : Status) → asked words ≡ Err status
-    → task_of words left ≡ Some (Err status)
-unfolding task_of
-task-unasked words left status asks = rw asks refl
+pub some_bytes : (left : Option (List ℕ)) (P : List ℕ → Type 0) → ((bytes : List ℕ) → P bytes) → OfBytes left P
+some_bytes None P all = ([], tt, all [])
+some_bytes (Some told) P all = (told, refl, all told)
 
-is_asked : (words : List Text) (run : Run) → asked words ≡ Ok run → IsOk (asked words)
-is_asked words run asks = rw asks refl
+pub OfBytes-weaker : (left : Option (List ℕ)) (P Q : List ℕ → Type 0) → ((bytes : List ℕ) → P bytes → Q bytes) → OfBytes left P → OfBytes left Q
+OfBytes-weaker left P Q follows of = (of.0, of.1, follows of.0 of.2)
+
+pub at_told : (bytes : List ℕ) (P : List ℕ → Type 0) → OfBytes (Some bytes) P → P bytes
+at_told bytes P of = subst P (sym of.1) of.2
+
+-- all that a source had was read
+pub read_whole : (left new : Option (List ℕ)) (bytes : List ℕ) (P : List ℕ → Type 0) → Consumes left new bytes → IsAtEnd new → P bytes → OfBytes left P
+read_whole None new bytes P taken end holds = (bytes, tt, holds)
+read_whole (Some told) None bytes P taken end holds = absurd taken
+read_whole (Some told) (Some rest) bytes P taken end holds =
+    (bytes, taken ∙ ap (λ (more : List ℕ). bytes ++ more) end ∙ append-nil bytes, holds)
+
+-- ---- what words and bytes say
+
+task-asked : (words : List Text) (bytes : List ℕ) (run : Run) (ops : List Op) → asked words ≡ Ok run → fed run bytes ≡ Ok ops
+    → task_of words bytes ≡ Ok (record { run = run; ops = ops })
+unfolding task_of
+task-asked words bytes run ops asks feeds = rw (asks, feeds) refl
+
+task-unfed : (words : List Text) (bytes : List ℕ) (run : Run) (status : Status) → asked words ≡ Ok run → fed run bytes ≡ Err status
+    → task_of words bytes ≡ Err status
+unfolding task_of
+task-unfed words bytes run status asks feeds = rw (asks, feeds) refl
+
+-- and where the words ask for no run
+pub task-unasked : (words : List Text) (bytes : List ℕ) (status : Status) → asked words ≡ Err status
+    → task_of words bytes ≡ Err status
+unfolding task_of
+task-unasked words bytes status asks = rw asks refl
+
+-- so these say nothing of a run
+pub unasked-run : {A : Type 0} (words : List Text) (left : Option (List ℕ)) (status : Status) (P : Run → List Op → Type 0) → asked words ≡ Err status
+    → OfRun words left P → A
+unasked-run words left status P asks of =
+    absurd (subst (λ (r : Result Task Status). IsOkAnd r (λ task. P task.run task.ops)) (task-unasked words of.0 status asks) of.2)
 
 -- ---- the bytes of a feed
 
@@ -62,51 +91,57 @@ unfolding ops_in
 ops_in-long fields bytes many = rw (long bytes many) refl
 
 -- a feed that gives operations
-pub read-ops : (fields : List Field) (left new : Option (List ℕ)) (ops : List Op)
-    → IfSome left (λ bytes. feed_of fields bytes ≡ Ok ops) → ReadsAll left new
-    → IfSome left (λ bytes. ops_in fields bytes ≡ Ok ops)
-read-ops fields None new ops says all = tt
-read-ops fields (Some bytes) new ops says all = ops_in-short fields bytes (Ok ops) all.0 says
+pub read-ops : (fields : List Field) (bytes : List ℕ) (new : Option (List ℕ)) (ops : List Op)
+    → feed_of fields bytes ≡ Ok ops → ReadsAll (Some bytes) new → ops_in fields bytes ≡ Ok ops
+read-ops fields bytes new ops says all = ops_in-short fields bytes (Ok ops) all.0 says
 
-refused-line : (fields : List Field) (left new : Option (List ℕ)) (line : ℕ) (refusal : Refusal)
-    → IfSome left (λ bytes. feed_of fields bytes ≡ Err (line, refusal)) → ReadsAll left new
-    → IfSome left (λ bytes. ops_in fields bytes ≡ Err (BadFeed (feed.Line line (refusal_number refusal))))
-refused-line fields None new line refusal says all = tt
-refused-line fields (Some bytes) new line refusal says all =
-    ops_in-short fields bytes (Err (line, refusal)) all.0 says
+refused-line : (fields : List Field) (bytes : List ℕ) (new : Option (List ℕ)) (line : ℕ) (refusal : Refusal)
+    → feed_of fields bytes ≡ Err (line, refusal) → ReadsAll (Some bytes) new
+    → OfBytes (Some bytes) (λ told. ops_in fields told ≡ Err (BadFeed (feed.Line line (refusal_number refusal))))
+refused-line fields bytes new line refusal says all = (bytes, refl, ops_in-short fields bytes (Err (line, refusal)) all.0 says)
 
-refused-long : (fields : List Field) (left : Option (List ℕ)) → IfSome left (λ bytes. most_bytes < length bytes)
-    → IfSome left (λ bytes. ops_in fields bytes ≡ Err (BadFeed feed.TooLong))
-refused-long fields None many = tt
-refused-long fields (Some bytes) many = ops_in-long fields bytes many
+-- a feed that is too long
+pub refused-long : (fields : List Field) (left : Option (List ℕ)) → HasMoreThan most_bytes left
+    → OfBytes left (λ bytes. ops_in fields bytes ≡ Err (BadFeed feed.TooLong))
+refused-long fields left many =
+    OfBytes-weaker left (λ bytes. most_bytes < length bytes) (λ bytes. ops_in fields bytes ≡ Err (BadFeed feed.TooLong)) (λ bytes more. ops_in-long fields bytes more) many
 
--- where the source tells its bytes, it is they that are too many
-pub told-long : (limit : ℕ) (left : Option (List ℕ)) → HasMoreThan limit left → IfSome left (λ bytes. limit < length bytes)
-told-long limit None long = tt
-told-long limit (Some told) long = subst (λ (bytes : List ℕ). limit < length bytes) (sym long.1) long.2
-
--- a feed that is refused, or a source that failed
-pub feed-stopped : (fields : List Field) (left new : Option (List ℕ)) (before now : ℕ) (e : FeedError)
-    → IfSome left (λ bytes. FeedSays (Err e) (feed_of fields bytes))
-    → OnLines (Err e) (ReadsAll left new)
-    → (e ≡ errors.FeedTooLong → IfSome left (λ bytes. most_bytes < length bytes))
+-- a feed whose bytes are told, and which is refused
+pub feed-stopped : (fields : List Field) (bytes : List ℕ) (new : Option (List ℕ)) (before now : ℕ) (e : FeedError)
+    → FeedSays (Err e) (feed_of fields bytes)
+    → OnLines (Err e) (ReadsAll (Some bytes) new)
+    → (e ≡ errors.FeedTooLong → HasMoreThan most_bytes (Some bytes))
     → (e ≡ errors.ReadFault → Rose before now)
-    → IsFeedStop fields left before now (feed_stop e)
-feed-stopped fields left new before now (errors.NotJson line) says all many fault =
-    refused-line fields left new line refusals.NotJson says all
-feed-stopped fields left new before now (errors.NoOperation line) says all many fault =
-    refused-line fields left new line refusals.NoOperation says all
-feed-stopped fields left new before now (errors.BadId line) says all many fault =
-    refused-line fields left new line refusals.BadId says all
-feed-stopped fields left new before now (errors.BadValue line) says all many fault =
-    refused-line fields left new line refusals.BadValue says all
-feed-stopped fields left new before now (errors.Unsupported line) says all many fault =
-    refused-line fields left new line refusals.Unsupported says all
-feed-stopped fields left new before now (errors.TooManyItems line) says all many fault =
-    refused-line fields left new line refusals.TooManyItems says all
-feed-stopped fields left new before now errors.FeedTooLong says all many fault = refused-long fields left (many refl)
-feed-stopped fields left new before now errors.ReadFault says all many fault = fault refl
-feed-stopped fields left new before now errors.Memory says all many fault = tt
+    → IsFeedStop fields (Some bytes) before now (feed_stop e)
+feed-stopped fields bytes new before now (errors.NotJson line) says all many fault =
+    refused-line fields bytes new line refusals.NotJson says all
+feed-stopped fields bytes new before now (errors.NoOperation line) says all many fault =
+    refused-line fields bytes new line refusals.NoOperation says all
+feed-stopped fields bytes new before now (errors.BadId line) says all many fault =
+    refused-line fields bytes new line refusals.BadId says all
+feed-stopped fields bytes new before now (errors.BadValue line) says all many fault =
+    refused-line fields bytes new line refusals.BadValue says all
+feed-stopped fields bytes new before now (errors.Unsupported line) says all many fault =
+    refused-line fields bytes new line refusals.Unsupported says all
+feed-stopped fields bytes new before now (errors.TooManyItems line) says all many fault =
+    refused-line fields bytes new line refusals.TooManyItems says all
+feed-stopped fields bytes new before now errors.FeedTooLong says all many fault = refused-long fields (Some bytes) (many refl)
+feed-stopped fields bytes new before now errors.ReadFault says all many fault = fault refl
+feed-stopped fields bytes new before now errors.Memory says all many fault = tt
+
+-- the same of a source that these bytes were read of; bytes in memory give no fault
+pub read-stopped : (fields : List Field) (left new : Option (List ℕ)) (bytes : List ℕ) (before now : ℕ) (stop : Stop) → Consumes left new bytes → IsAtEnd new
+    → IsFeedStop fields (Some bytes) 0 0 stop → IsFeedStop fields left before now stop
+read-stopped fields left new bytes before now (stops.Answer (BadFeed fault)) taken end is =
+    read_whole left new bytes (λ told. ops_in fields told ≡ Err (BadFeed fault)) taken end (at_told bytes (λ told. ops_in fields told ≡ Err (BadFeed fault)) is)
+read-stopped fields left new bytes before now (stops.Answer ReadFault) taken end is = absurd (omega (arith, is))
+read-stopped fields left new bytes before now (stops.Answer Done) taken end is = absurd is
+read-stopped fields left new bytes before now (stops.Answer Help) taken end is = absurd is
+read-stopped fields left new bytes before now (stops.Answer (Usage cause)) taken end is = absurd is
+read-stopped fields left new bytes before now (stops.Answer WriteFault) taken end is = absurd is
+read-stopped fields left new bytes before now (stops.Answer (Full operation active held)) taken end is = absurd is
+read-stopped fields left new bytes before now (stops.Answer Memory) taken end is = absurd is
+read-stopped fields left new bytes before now stops.Memory taken end is = tt
 
 pub feed_stop-proper : (e : FeedError) → IsProperStop (feed_stop e)
 feed_stop-proper (errors.NotJson line) = (omega arith, omega arith)
@@ -122,20 +157,15 @@ feed_stop-proper errors.Memory = tt
 -- ---- the operations of a run
 
 pub fed-made : (run : Run) (make : Make) (left : Option (List ℕ)) → run.make ≡ Some make
-    → fed run left ≡ Some (Ok (made make.count make.seed run.fields))
+    → OfBytes left (λ bytes. fed run bytes ≡ Ok (made make.count make.seed run.fields))
 unfolding fed
-fed-made run make left is = ap (λ (m : Option Make). fed_by m run.fields left) is
-
-read_by : (fields : List Field) (left : Option (List ℕ)) (said : Result (List Op) Status)
-    → IfSome left (λ bytes. ops_in fields bytes ≡ said) → IfSome (option_map (ops_in fields) left) (λ s. s ≡ said)
-read_by fields None said is = tt
-read_by fields (Some bytes) said is = is
+fed-made run make left is = some_bytes left _ (λ bytes. ap (λ (m : Option Make). fed_by m run.fields bytes) is)
 
 pub fed-read : (run : Run) (left : Option (List ℕ)) (said : Result (List Op) Status) → run.make ≡ None
-    → IfSome left (λ bytes. ops_in run.fields bytes ≡ said) → IfSome (fed run left) (λ s. s ≡ said)
+    → OfBytes left (λ bytes. ops_in run.fields bytes ≡ said) → OfBytes left (λ bytes. fed run bytes ≡ said)
 unfolding fed
-fed-read run left said none is = subst (λ (m : Option Make). IfSome (fed_by m run.fields left) (λ s. s ≡ said)) (sym none)
-    (read_by run.fields left said is)
+fed-read run left said none is = OfBytes-weaker left (λ bytes. ops_in run.fields bytes ≡ said) _
+    (λ bytes says. ap (λ (m : Option Make). fed_by m run.fields bytes) none ∙ says) is
 
 pub unfed-read : (run : Run) (left : Option (List ℕ)) (before now : ℕ) (stop : Stop) → run.make ≡ None
     → IsFeedStop run.fields left before now stop → IsUnfed run left before now stop
@@ -157,30 +187,15 @@ pub ok_always : {A E : Type 0} (r : Result A E) (P : Type 0) → P → IfOk r (�
 ok_always (Ok a) P holds = holds
 ok_always (Err e) P holds = tt
 
-told : (f : Option (Result (List Op) Status)) (run : Run) (ops : List Op) (P : Run → List Op → Type 0)
-    → IfSome f (λ s. s ≡ Ok ops) → P run ops
-    → IfSome (option_map (with_ops run) f) (λ said. IsOkAnd said (λ task. P task.run task.ops))
-told None run ops P is holds = tt
-told (Some said) run ops P is holds =
-    subst (λ (s : Result (List Op) Status). IsOkAnd (with_ops run s) (λ task. P task.run task.ops)) (sym is) holds
-
 pub of-run : (words : List Text) (left : Option (List ℕ)) (run : Run) (ops : List Op) (P : Run → List Op → Type 0)
-    → asked words ≡ Ok run → IfSome (fed run left) (λ s. s ≡ Ok ops) → P run ops → OfRun words left P
-of-run words left run ops P asks is holds = (
-  is_asked words run asks,
-  subst (λ (t : Option (Result Task Status)). IfSome t (λ said. IsOkAnd said (λ task. P task.run task.ops)))
-      (sym (task-asked words left run asks)) (told (fed run left) run ops P is holds),
-)
-
-refused_by : (f : Option (Result (List Op) Status)) (run : Run) (why : Status) → IfSome f (λ s. s ≡ Err why)
-    → IfSome (option_map (with_ops run) f) (λ said. said ≡ Err why)
-refused_by None run why is = tt
-refused_by (Some said) run why is = ap (with_ops run) is
+    → asked words ≡ Ok run → OfBytes left (λ bytes. fed run bytes ≡ Ok ops) → P run ops → OfRun words left P
+of-run words left run ops P asks feeds holds = OfBytes-weaker left (λ bytes. fed run bytes ≡ Ok ops) _ (λ bytes is.
+    subst (λ (r : Result Task Status). IsOkAnd r (λ task. P task.run task.ops)) (sym (task-asked words bytes run ops asks is)) holds) feeds
 
 refused : (words : List Text) (left : Option (List ℕ)) (run : Run) (why : Status) → asked words ≡ Ok run
-    → IfSome (fed run left) (λ s. s ≡ Err why) → IfSome (task_of words left) (λ said. said ≡ Err why)
-refused words left run why asks is = subst (λ (t : Option (Result Task Status)). IfSome t (λ said. said ≡ Err why))
-    (sym (task-asked words left run asks)) (refused_by (fed run left) run why is)
+    → OfBytes left (λ bytes. fed run bytes ≡ Err why) → OfBytes left (λ bytes. task_of words bytes ≡ Err why)
+refused words left run why asks is = OfBytes-weaker left (λ bytes. fed run bytes ≡ Err why) (λ bytes. task_of words bytes ≡ Err why)
+    (λ bytes says. task-unfed words bytes run why asks says) is
 
 reads_feed : (words : List Text) (run : Run) → asked words ≡ Ok run → run.make ≡ None → ReadsFeed (asked words)
 reads_feed words run asks none = subst ReadsFeed (sym asks) none
@@ -273,5 +288,3 @@ pub unended-early : {A : Type 0} (words : List Text) (left : Option (List ℕ)) 
     → IsStopped words left before now stop → IsEarly stop status progress text → EndsRun status full → A
 unended-early words left before now stop status progress text full cause early ends = unended words left before now
     status full (subst (IsStopped words left before now) early.answers cause) ends
-
--- ---- a source that is not read

@@ -1,9 +1,9 @@
 -- When each answer of a call comes, and what it leaves.
-use Rattle.std.specs.Prelude.{◌≡◌, ◌≢◌, ℕ, ◌+◌, ◌≤◌, ◌⊎◌, List, [], length, Option, Some, None, IfSome}
-use Rattle.std.specs.Prelude.{Err, IsOk, IsOkAnd}
+use Rattle.std.specs.Prelude.{◌≡◌, ◌≢◌, ℕ, ◌+◌, ◌≤◌, ◌⊎◌, List, [], length, Option, Some, None}
+use Rattle.std.specs.Prelude.{Err, IsOkAnd}
 use Rattle.std.specs.Io.KnownBytes.{IsAtEnd}
 use Rattle.clap.specs.Walk.{Text}
-use Rattle.attr_io.specs.Bytes.{AppendsFront}
+use Rattle.attr_io.specs.Bytes.{AppendsFront, OfBytes}
 use Rattle.attr_io.specs.Faults.{Rose}
 use Rattle.attr_types.specs.declared.op.Op.{Op}
 use Rattle.attr_types.specs.declared.error.QueryError.TheVariants as refusal
@@ -18,6 +18,7 @@ use Rattle.attr_run.specs.declared.outcome.Status.{Status}
 use Rattle.attr_run.specs.declared.outcome.Status.TheVariants.{Done, Help, Usage, BadFeed}
 use Rattle.attr_run.specs.declared.outcome.Status.TheVariants.{ReadFault, WriteFault, Full, Memory}
 use Rattle.attr_run.specs.declared.outcome.UsageCause.TheVariants as usage
+use Rattle.attr_run.specs.declared.outcome.FeedFault.{FeedFault}
 use Rattle.attr_run.specs.declared.outcome.FeedFault.TheVariants as feed
 
 -- ---- when an answer comes
@@ -39,10 +40,14 @@ IsEnd Done = Unit {0}
 IsEnd (Full operation active held) = Unit {0}
 IsEnd _ = ⊥
 
--- the words ask for a run, its operations are there where they are told, and of both this holds
+-- the words and some bytes, which are the source's where it tells them, say what is to be run, and of that run and its
+-- operations this holds
 abbrev pub OfRun : List Text → Option (List ℕ) → (Run → List Op → Type 0) → Type 0
-OfRun words left P = IsOk (asked words)
-    × IfSome (task_of words left) (λ said. IsOkAnd said (λ task. P task.run task.ops))
+OfRun words left P = OfBytes left (λ bytes. IsOkAnd (task_of words bytes) (λ task. P task.run task.ops))
+
+-- the feed is refused
+abbrev pub IsRefusedFeed : Status → Type 0
+IsRefusedFeed status = (fault : FeedFault) × (status ≡ BadFeed fault)
 
 -- an answer comes only where its cause holds; and where that does, it comes, or a failed write or
 -- want of memory in its place
@@ -62,7 +67,7 @@ abbrev pub HasCause : List Text → Option (List ℕ) → ℕ → ℕ → Status
 HasCause words left before now Help = asked words ≡ Err Help
 HasCause words left before now (Usage cause) = asked words ≡ Err (Usage cause)
 HasCause words left before now (BadFeed fault) =
-    ReadsFeed (asked words) × IfSome (task_of words left) (λ said. said ≡ Err (BadFeed fault))
+    ReadsFeed (asked words) × OfBytes left (λ bytes. task_of words bytes ≡ Err (BadFeed fault))
 HasCause words left before now ReadFault = ReadsFeed (asked words) × Rose before now
 HasCause words left before now _ = ⊥
 

@@ -1,5 +1,6 @@
 pub mod Run
 pub mod Settings
+pub mod Refusals
 pub mod Texts
 pub mod Answers
 pub mod Steps

@@ -112,28 +112,22 @@ ops_in fields bytes =
     if nat_lt most_bytes (length bytes) then Err (BadFeed feed.TooLong)
     else ops_or_refused (feed_of fields bytes)
 
-abbrev pub fed_by : Option Make → List Field → Option (List ℕ) → Option (Result (List Op) Status)
-fed_by (Some make) fields left = Some (Ok (made make.count make.seed fields))
-fed_by None fields left = option_map (ops_in fields) left
+abbrev pub fed_by : Option Make → List Field → List ℕ → Result (List Op) Status
+fed_by (Some make) fields bytes = Ok (made make.count make.seed fields)
+fed_by None fields bytes = ops_in fields bytes
 
--- the operations of a run: made, or by what its source has left to give; none where the source doesn't tell
-unfoldable pub fed : Run → Option (List ℕ) → Option (Result (List Op) Status)
-fed run left = fed_by run.make run.fields left
+-- the operations of a run: made, or by the bytes of its feed
+unfoldable pub fed : Run → List ℕ → Result (List Op) Status
+fed run bytes = fed_by run.make run.fields bytes
 
 -- a run with its operations
 pub record Task : Type 0 where
   pub run : Run
   pub ops : List Op
 
-abbrev pub with_ops : Run → Result (List Op) Status → Result Task Status
-with_ops run (Ok ops) = Ok (record { run = run; ops = ops })
-with_ops run (Err status) = Err status
-
-abbrev pub task_by : Result Run Status → Option (List ℕ) → Option (Result Task Status)
-task_by (Err status) left = Some (Err status)
-task_by (Ok run) left = option_map (with_ops run) (fed run left)
-
--- what words and a source say to do, or the first refusal of either; none where the words ask for
--- a run whose operations are not told
-unfoldable pub task_of : List Text → Option (List ℕ) → Option (Result Task Status)
-task_of line left = task_by (asked line) left
+-- what words and the bytes of a feed say to do, or the first refusal of either
+unfoldable pub task_of : List Text → List ℕ → Result Task Status
+task_of line bytes = do
+  run ← asked line
+  ops ← fed run bytes
+  Ok (record { run = run; ops = ops })

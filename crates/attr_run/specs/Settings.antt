@@ -60,11 +60,12 @@ pub record IsFirstRefused (fields : List Field) (texts : List Text) (number : �
   pub utf8 : IsUtf8 text
   pub refused : Answers any_word fields text (Err error)
 
--- words with these settings are refused by a query exactly where the grammar refuses it first
+-- words with these settings are refused by a query exactly where the grammar refuses it first; only texts in UTF-8 say by which
 pub record IsRefusedSo (line : List Text) (given : Given) (number : ℕ) (error : QueryError) : Type 0 where
-  pub only : asked line ≡ Err (Usage (usage.Query number error)) → IsFirstRefused given.fields given.queries number error
+  pub only : AllByRecursion IsUtf8 given.queries → asked line ≡ Err (Usage (usage.Query number error))
+      → IsFirstRefused given.fields given.queries number error
   pub always : IsFirstRefused given.fields given.queries number error → asked line ≡ Err (Usage (usage.Query number error))
 
 abbrev pub QueriesAreRefused : Type 0
 QueriesAreRefused = (line : List Text) (given : Given) (number : ℕ) (error : QueryError) → settings_in line ≡ Ok given
-    → AllByRecursion IsUtf8 given.queries → IsRefusedSo line given number error
+    → IsRefusedSo line given number error

@@ -1,7 +1,8 @@
 -- What the steps of a call answer, before its text is made and written.
-use Rattle.std.specs.Prelude.{◌≡◌, ℕ, List, Option, Some, None, Result, Ok, Err, IfSome, IsOkAnd}
+use Rattle.std.specs.Prelude.{◌≡◌, ℕ, List, Option, Some, None, ◌⊎◌, Result, Ok, Err, IsOkAnd}
 use Rattle.std.specs.Io.KnownBytes.{Appends, Keeps}
 use Rattle.clap.specs.Walk.{Text}
+use Rattle.attr_io.specs.Bytes.{OfBytes}
 use Rattle.attr_io.specs.Faults.{Rose}
 use Rattle.attr_types.specs.declared.field.Field.{Field}
 use Rattle.attr_words.specs.declared.reading.WordsError.{WordsError}
@@ -12,6 +13,7 @@ use Rattle.attr_engine.specs.FullStore.{NoRoom}
 use Rattle.attr_report.specs.Run.{Run, Progress}
 use Rattle.attr_run.specs.Run.{asked, ops_in, fed}
 use Rattle.attr_run.specs.Settings.{IsAskedBy}
+use Rattle.attr_run.specs.Refusals.{AsksBadQuery}
 use Rattle.attr_run.specs.Texts.{answer_text}
 use Rattle.attr_run.specs.Answers.{OfRun, ReadsAsAsked, HasCause, HasNoRun, IsDue, IsProper}
 use Rattle.attr_run.specs.Answers.{WritesFront}
@@ -62,7 +64,7 @@ IsStopped words left before now stops.Memory = Unit {0}
 -- why a feed has no operations
 abbrev pub IsFeedStop : List Field → Option (List ℕ) → ℕ → ℕ → Stop → Type 0
 IsFeedStop fields left before now (stops.Answer (BadFeed fault)) =
-    IfSome left (λ bytes. ops_in fields bytes ≡ Err (BadFeed fault))
+    OfBytes left (λ bytes. ops_in fields bytes ≡ Err (BadFeed fault))
 IsFeedStop fields left before now (stops.Answer ReadFault) = Rose before now
 IsFeedStop fields left before now (stops.Answer _) = ⊥
 IsFeedStop fields left before now stops.Memory = Unit {0}
@@ -70,7 +72,7 @@ IsFeedStop fields left before now stops.Memory = Unit {0}
 -- why a run has no operations
 abbrev pub IsUnfed : Run → Option (List ℕ) → ℕ → ℕ → Stop → Type 0
 IsUnfed run left before now (stops.Answer (BadFeed fault)) =
-    (run.make ≡ None) × IfSome (fed run left) (λ said. said ≡ Err (BadFeed fault))
+    (run.make ≡ None) × OfBytes left (λ bytes. fed run bytes ≡ Err (BadFeed fault))
 IsUnfed run left before now (stops.Answer ReadFault) = (run.make ≡ None) × Rose before now
 IsUnfed run left before now (stops.Answer _) = ⊥
 IsUnfed run left before now stops.Memory = Unit {0}
@@ -112,3 +114,16 @@ IsAnswer words left before now old new sink_before sink_now status progress =
 abbrev pub ended_status : Option NoRoom → Status
 ended_status None = Done
 ended_status (Some room) = Full room.operation room.active room.held
+
+-- no read failed, or that is the answer
+abbrev pub TellsFault : ℕ → ℕ → Status → Type 0
+TellsFault before now status = (now ≡ before) ⊎ (status ≡ ReadFault)
+
+-- a query is refused by its rule
+abbrev pub IsRuled : List Text → Status → Type 0
+IsRuled line (Usage (usage.Query number error)) = AsksBadQuery line number error
+IsRuled line _ = Unit {0}
+
+abbrev pub IsRuledStop : List Text → Stop → Type 0
+IsRuledStop line (stops.Answer status) = IsRuled line status
+IsRuledStop line stops.Memory = Unit {0}

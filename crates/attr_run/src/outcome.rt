@@ -1,7 +1,12 @@
 ghost use Rattle.std.specs.Prelude.{◌≡◌};
+ghost use Rattle.std.specs.Process.{exit_status};
+ghost use Rattle.attr_run.specs.Answers.{progress_of, HasNoRun};
 ghost use Rattle.attr_run.specs.Texts.{exit_code};
+ghost use Rattle.attr_run.specs.declared.outcome.Status.TheVariants.{Memory};
 
 use attr_types::{QueryError, RoundList};
+use std::alloc::Global;
+use std::process::ExitCode;
 
 /// Why the words of a command line ask for no run. The checks go in this order.
 #[derive(Debug, Drop)]
@@ -84,4 +89,26 @@ pub struct Outcome {
     pub loaded: u32,
     pub rounds: RoundList,
     pub saved: Option<u32>,
+}
+
+impl Outcome {
+    /// What is answered where there is no memory: nothing was done.
+    pub fn out_of_memory(alloc: Global) -> Outcome
+        ensures status { result.status ≡ Memory }
+        ensures no_run { HasNoRun (progress_of result) }
+    {
+        Outcome {
+            status: Status::Memory,
+            loaded: 0,
+            rounds: RoundList::new(alloc),
+            saved: None,
+        }
+    }
+}
+
+/// The exit status of a program whose run this was.
+pub fn exit_of(outcome: &Outcome) -> ExitCode
+    ensures { exit_status result ≡ exit_code outcome.now.status }
+{
+    ExitCode::from(outcome.status.exit_code())
 }

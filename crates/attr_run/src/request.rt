@@ -9,7 +9,7 @@ ghost use Rattle.query_text.specs.Asks.{ask_of};
 ghost use Rattle.attr_report.specs.Run.{run_in};
 ghost use Rattle.attr_run.specs.Run.{given_or_refused, make_of, run_of, ask_or_refused, asks_from, asked};
 ghost use Rattle.attr_run.specs.Settings.{IsAskedBy};
-ghost use Rattle.attr_run.specs.Steps.{Says, IsWordsStop};
+ghost use Rattle.attr_run.specs.Steps.{Says, IsWordsStop, IsRuledStop};
 
 use crate::laws::settings_law;
 use crate::outcome::UsageCause;
@@ -99,6 +99,7 @@ pub fn request_in(alloc: Global, words: &Words) -> Result<Request, Stop>
     ensures refusal { IfErr result IsWordsStop }
     ensures one_kind { length (fault_of attr_app words.now) ≤ 1 }
     ensures lawful { IfOk result (λ request. IsAskedBy words.now (run_in request)) }
+    ensures ruled { IfErr result (IsRuledStop words.now) }
 {
     settings_law();
     let settings = settings_in(alloc, words)?;

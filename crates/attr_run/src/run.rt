@@ -1,23 +1,26 @@
 ghost use Rattle.std.specs.Prelude.{◌≡◌, ◌⊎◌, ◌<◌, ◌≤◌, ◌^◌, ℕ, [], Some, Ok, Err, length, Option};
-ghost use Rattle.std.specs.Prelude.{IsOk, IsOkAnd, IfOk, IfErr, OnOk, IfSome};
+ghost use Rattle.std.specs.Prelude.{IsOk, IsOkAnd, IfOk, IfErr, IsErrOf, OnOk, IfSome};
 ghost use Rattle.std.specs.Io.KnownBytes.{Appends, Keeps};
-ghost use Rattle.attr_io.specs.Bytes.{ReadsPieces};
+ghost use Rattle.attr_io.specs.Bytes.{OfBytes, ReadsPieces};
 ghost use Rattle.attr_io.specs.Faults.{Rose};
-ghost use Rattle.attr_types.specs.declared.error.QueryError.{QueryError};
 ghost use Rattle.clap.specs.Faults.{fault_of};
 ghost use Rattle.attr_words.specs.CommandLine.{attr_app};
-ghost use Rattle.attr_words.specs.Reading.{AskForHelp, AreRefused};
+ghost use Rattle.attr_words.specs.Reading.{AskForHelp};
 ghost use Rattle.feed_reader.specs.Feed.{most_bytes};
 ghost use Rattle.attr_report.specs.Report.{written};
 ghost use Rattle.attr_report.specs.History.{IsLoaded, IsRounds, IsAfterwards, IsSaved};
 ghost use Rattle.attr_report.specs.History.{IsLegalHistory, history};
 ghost use Rattle.attr_run.specs.Run.{asked, ReadsFeed, task_of};
 ghost use Rattle.attr_run.specs.Settings.{IsAskedBy};
+ghost use Rattle.attr_run.specs.Refusals.{IsRefusedFor};
 ghost use Rattle.attr_run.specs.Texts.{answer_text};
 ghost use Rattle.attr_run.specs.Answers.{progress_of, EndsRun, IsEnd, OfRun, ComesExactly};
-ghost use Rattle.attr_run.specs.Answers.{ComesExactlyOfFeed, IsBeforeRun, IsProper, HasNoRun};
+ghost use Rattle.attr_run.specs.Answers.{ComesExactlyOfFeed, IsRefusedFeed, IsBeforeRun, IsProper, HasNoRun};
 ghost use Rattle.attr_run.specs.Answers.{ReadsAsAsked, IsDue, WritesFront};
 ghost use Rattle.attr_run.specs.Steps.{IsStopped, IsProperStop, IsEarly, IsAnswer, HasEnded, ended_status};
+ghost use Rattle.attr_run.specs.Steps.{TellsFault, IsRuled, IsRuledStop};
+ghost use Rattle.attr_run.specs.declared.outcome.Status.TheVariants.{ReadFault};
+ghost use Rattle.attr_run.specs.declared.stop.Stop.TheVariants as stops;
 ghost use Rattle.std.specs.Prelude.{◌+◌, false};
 ghost use Rattle.std.specs.List.{AllByRecursion};
 ghost use Rattle.attr_words.specs.Settings.{are_too_many};
@@ -26,12 +29,13 @@ ghost use Rattle.attr_report.specs.Run.{run_in};
 ghost use Rattle.attr_engine.specs.Run.{IsRunOf};
 
 use crate::feed::ops_in;
+use crate::laws::settings_law;
 use crate::outcome::{FeedFault, Outcome, Status, UsageCause};
 use crate::request::request_in;
 use crate::stop::Stop;
 use crate::texts::text_in;
 use crate::words::Words;
-use attr_engine::{NoRoom, Written, engine_run};
+use attr_engine::{EngineError, NoRoom, Written, engine_run};
 use attr_io::{Gate, Sink, Source, write_all};
 use attr_report::Request;
 use attr_types::{Op, RoundList};
@@ -75,14 +79,23 @@ fn run_by<R: Threads + Sync, G: Gate + Sync + 'static>(
     requires room { are_too_many request.now.wide request.now.buffers request.now.words ≡ false }
     requires some_fields { 1 ≤ length request.now.fields }
     requires few_fields { length request.now.fields ≤ 8 }
+    requires few_readers { request.now.readers ≤ 8 }
     requires few { length ops.now < 2 ^ 32 }
     requires fit { AllByRecursion (OpFits request.now.fields) ops.now }
     ensures { IfOk result (IsRunOf (run_in request.now) ops.now) }
 {
     if request.wide {
-        engine_run::<19, R, G>(rt, alloc, request, ops, gate)
+        match engine_run::<19, R, G>(rt, alloc, request, ops, gate) {
+            Ok(written) => Ok(written),
+            Err(EngineError::Memory) => Err(AllocError),
+            Err(EngineError::TooManyReaders) => unreachable!(),
+        }
     } else {
-        engine_run::<22, R, G>(rt, alloc, request, ops, gate)
+        match engine_run::<22, R, G>(rt, alloc, request, ops, gate) {
+            Ok(written) => Ok(written),
+            Err(EngineError::Memory) => Err(AllocError),
+            Err(EngineError::TooManyReaders) => unreachable!(),
+        }
     }
 }
 
@@ -126,10 +139,12 @@ fn reported<R: Threads + Sync, S: Source, G: Gate + Sync + 'static>(
     ensures stopped { IfErr result (IsStopped words.now (S.left source.old)
         (S.faults source.old) (S.faults source.new)) }
     ensures proper { IfErr result IsProperStop }
+    ensures answered { (S.faults source.new ≡ S.faults source.old) ⊎ IsErrOf result (stops.Answer ReadFault) }
     ensures unread { ¬ ReadsFeed (asked words.now) → source.new ≡ source.old }
     ensures reads { ReadsPieces most_bytes 65536
         (S.left source.old) (S.left source.new) (S.reads source.old) (S.reads source.new) }
     ensures one_kind { length (fault_of attr_app words.now) ≤ 1 }
+    ensures ruled { IfErr result (IsRuledStop words.now) }
 {
     let request = request_in(alloc, words)?;
     let ops = ops_in(alloc, source, &request)?;
@@ -170,12 +185,14 @@ fn answer_to<R: Threads + Sync, S: Source, G: Gate + Sync + 'static>(
         (S.left source.old) (S.faults source.old) (S.faults source.new)
         a.outcome.status (progress_of a.outcome) a.text.items) }
     ensures proper { IfOk result (λ a. IsProper a.outcome.status) }
+    ensures answered { IfOk result (λ a. TellsFault (S.faults source.old) (S.faults source.new) a.outcome.status) }
     ensures ended { IfOk result (λ a. (full : Option ℕ) → EndsRun a.outcome.status full
         → HasEnded words.now (S.left source.old) (S.left source.new)) }
     ensures unread { ¬ ReadsFeed (asked words.now) → source.new ≡ source.old }
     ensures reads { ReadsPieces most_bytes 65536
         (S.left source.old) (S.left source.new) (S.reads source.old) (S.reads source.new) }
     ensures one_kind { length (fault_of attr_app words.now) ≤ 1 }
+    ensures ruled { IfOk result (λ a. IsRuled words.now a.outcome.status) }
 {
     match reported(rt, alloc, words, source, gate) {
         Ok(answer) => Ok(answer),
@@ -197,20 +214,19 @@ fn whole_run<R: Threads + Sync, S: Source, K: Sink, G: Gate + Sync + 'static>(
         (K.taken sink.old) (K.taken sink.new) (K.faults sink.old) (K.faults sink.new)
         result.status (progress_of result) }
     ensures proper { IsProper result.status }
+    ensures read_answered { (S.faults source.new ≡ S.faults source.old) ⊎ ((result.status ≡ Status.ReadFault)
+        ⊎ ((result.status ≡ Status.WriteFault) ⊎ (result.status ≡ Status.Memory))) }
+    ensures write_answered { (K.faults sink.new ≡ K.faults sink.old) ⊎ (result.status ≡ Status.WriteFault) }
     ensures ended { (full : Option ℕ) → EndsRun result.status full
         → HasEnded words.now (S.left source.old) (S.left source.new) }
     ensures unread { ¬ ReadsFeed (asked words.now) → source.new ≡ source.old }
     ensures reads { ReadsPieces most_bytes 65536
         (S.left source.old) (S.left source.new) (S.reads source.old) (S.reads source.new) }
     ensures one_kind { length (fault_of attr_app words.now) ≤ 1 }
+    ensures ruled { IsRuled words.now result.status }
 {
     match answer_to(rt, alloc, words, source, gate) {
-        Err(_) => Outcome {
-            status: Status::Memory,
-            loaded: 0,
-            rounds: RoundList::new(alloc),
-            saved: None,
-        },
+        Err(_) => Outcome::out_of_memory(alloc),
         Ok(answer) => match write_all(sink, answer.text.as_slice()) {
             Ok(()) => answer.outcome,
             Err(_) => Outcome {
@@ -228,7 +244,8 @@ fn whole_run<R: Threads + Sync, S: Source, K: Sink, G: Gate + Sync + 'static>(
 /// size of the store, the further attributes, the queries in order, and then at the feed; the first
 /// refusal is the answer.
 ///
-/// What a clause says of bytes holds where the source tells its bytes and the sink what it took.
+/// What a clause says of a feed's bytes holds of some bytes, and of those that the source has left where it tells them; what
+/// it says of written bytes holds where the sink tells what it took.
 /// Out of memory may be the answer in place of any other. Each reader is a thread; the loading stays on the caller's
 /// own, and with `--readers 0` no thread is started. `--dense` changes no answer.
 pub fn attr_main<R: Threads + Sync, S: Source, K: Sink, G: Gate + Sync + 'static>(
@@ -269,20 +286,10 @@ pub fn attr_main<R: Threads + Sync, S: Source, K: Sink, G: Gate + Sync + 'static
 
     // The words.
     ensures help { ComesExactly (AskForHelp words.now) Status.Help result.status }
-    ensures usage_words { ComesExactly (AreRefused words.now)
-        (Status.Usage UsageCause.Words) result.status }
-    ensures kind_name { let cause = Status.Usage UsageCause.KindName in
-        ComesExactly (asked words.now ≡ Err cause) cause result.status }
-    ensures value_name { let cause = Status.Usage UsageCause.ValueName in
-        ComesExactly (asked words.now ≡ Err cause) cause result.status }
-    ensures size { (buffers each : ℕ) → let cause = Status.Usage (UsageCause.Size buffers each) in
-        ComesExactly (asked words.now ≡ Err cause) cause result.status }
-    ensures also { (place : ℕ) → let cause = Status.Usage (UsageCause.Also place) in
-        ComesExactly (asked words.now ≡ Err cause) cause result.status }
-    ensures usage_query { (number : ℕ) (error : QueryError)
-        → let cause = Status.Usage (UsageCause.Query number error) in
-        ComesExactly (asked words.now ≡ Err cause) cause result.status }
+    ensures usage { (cause : UsageCause) → ComesExactly (IsRefusedFor words.now cause) (Status.Usage cause) result.status }
     ensures unread { ¬ ReadsFeed (asked words.now) → source.new ≡ source.old }
+    // The command finds one fault in the words at most, so that what is said of them is one thing.
+    ensures one_kind { length (fault_of attr_app words.now) ≤ 1 }
 
     // The feed, which is not read where operations are made. The source is read on only while at most
     // so many bytes were read, and each read but the last took a byte.
@@ -290,15 +297,19 @@ pub fn attr_main<R: Threads + Sync, S: Source, K: Sink, G: Gate + Sync + 'static
         (S.left source.old) (S.left source.new) (S.reads source.old) (S.reads source.new) }
     ensures read_fault { result.status ≡ Status.ReadFault
         → ReadsFeed (asked words.now) × Rose (S.faults source.old) (S.faults source.new) }
+    // A read that failed is answered.
+    ensures read_answered { (S.faults source.new ≡ S.faults source.old) ⊎ ((result.status ≡ Status.ReadFault)
+        ⊎ ((result.status ≡ Status.WriteFault) ⊎ (result.status ≡ Status.Memory))) }
     ensures bad_feed { (fault : FeedFault) → result.status ≡ Status.BadFeed fault
-        → ReadsFeed (asked words.now) }
+        → ReadsFeed (asked words.now)
+        × OfBytes (S.left source.old) (λ bytes. task_of words.now bytes ≡ Err (Status.BadFeed fault)) }
     ensures too_long { let cause = Status.BadFeed FeedFault.TooLong in
-        IfSome (task_of words.now (S.left source.old)) (λ said.
-        ComesExactlyOfFeed (said ≡ Err cause) cause result.status) }
+        IfSome (S.left source.old) (λ bytes.
+        ComesExactlyOfFeed (task_of words.now bytes ≡ Err cause) cause result.status) }
     ensures bad_line { (line number : ℕ)
         → let cause = Status.BadFeed (FeedFault.Line line number) in
-        IfSome (task_of words.now (S.left source.old)) (λ said.
-        ComesExactlyOfFeed (said ≡ Err cause) cause result.status) }
+        IfSome (S.left source.old) (λ bytes.
+        ComesExactlyOfFeed (task_of words.now bytes ≡ Err cause) cause result.status) }
 
     // What is written and left at an answer before any run, and where the sink or memory fails.
     ensures text { IsBeforeRun result.status → Appends (K.taken sink.old) (K.taken sink.new)
@@ -306,6 +317,8 @@ pub fn attr_main<R: Threads + Sync, S: Source, K: Sink, G: Gate + Sync + 'static
     ensures no_run { IsBeforeRun result.status → HasNoRun (progress_of result) }
     ensures write_fault { result.status ≡ Status.WriteFault
         → Rose (K.faults sink.old) (K.faults sink.new) }
+    // A write that failed is answered.
+    ensures write_answered { (K.faults sink.new ≡ K.faults sink.old) ⊎ (result.status ≡ Status.WriteFault) }
     ensures front { result.status ≡ Status.WriteFault → WritesFront words.now (S.left source.old)
         (S.faults source.old) (S.faults source.new) (progress_of result)
         (K.taken sink.old) (K.taken sink.new) }
@@ -313,11 +326,13 @@ pub fn attr_main<R: Threads + Sync, S: Source, K: Sink, G: Gate + Sync + 'static
         Keeps (K.taken sink.old) (K.taken sink.new) × HasNoRun (progress_of result) }
     ensures proper { IsProper result.status }
 
-    // Where nothing is refused and nothing fails, the run is done or finds no room, or is out of memory.
-    ensures complete { IfSome (task_of words.now (S.left source.old)) (λ said. IsOk said
+    // Where the words ask for a run and nothing fails, the run is done or finds no room, or its feed is refused (`bad_feed`
+    // says when), or it is out of memory.
+    ensures complete { IsOk (asked words.now)
         → ¬ Rose (S.faults source.old) (S.faults source.new)
         → ¬ Rose (K.faults sink.old) (K.faults sink.new)
-        → IsEnd result.status ⊎ (result.status ≡ Status.Memory)) }
+        → IsEnd result.status ⊎ (IsRefusedFeed result.status ⊎ (result.status ≡ Status.Memory)) }
 {
+    settings_law();
     whole_run(rt, alloc, words, source, sink, gate)
 }

@@ -1,9 +1,20 @@
-use attr_run::{FeedFault, Status, UsageCause};
+//! Exit statuses: of each answer, and of real runs.
+use crate::run::{outcome_of, words_in};
+use attr_io::{SliceSource, VecSink};
+use attr_run::{FeedFault, Outcome, Status, UsageCause, exit_of};
+use std::alloc::{AllocError, Global};
 use std::io;
+use std::process::ExitCode;
+use std::thread::Threads;
 use test_kit::Tally;
 
+const PUT: &str = "{\"put\":\"id:n:t::1\",\"fields\":{\"f\":5}}\n";
+
+/// A store of one buffer has no room for a put.
+const FULL: &str = "--kind single --value long --readers 0 --buffers 1 --words 8192 5";
+
 /// The exit status of each answer, beside the number that it must be.
-pub fn compare(rt: &HostRuntime) -> io::Result<()> {
+fn compare_answers(rt: &HostRuntime, tally: &mut Tally) -> io::Result<()> {
     let full = Status::Full {
         operation: 22,
         active: 8,
@@ -27,11 +38,86 @@ pub fn compare(rt: &HostRuntime) -> io::Result<()> {
         (full, "6"),
         (Status::Memory, "7"),
     ];
-    let mut tally = Tally::default();
     for (status, wanted) in &rows {
         let code = status.exit_code();
         let found = format!(in rt.alloc(); "{code}")?;
         tally.note(rt, "exit status", &found, wanted)?;
     }
-    tally.print(rt, "exit statuses")
+    Ok(())
+}
+
+/// A real run, with room for so many bytes.
+fn run_of<R: Threads + Sync>(
+    threads: &R,
+    alloc: Global,
+    words: &str,
+    feed: &str,
+    room: usize,
+) -> Result<Outcome, AllocError> {
+    let words = words_in(alloc, words)?;
+    let mut source = SliceSource::new(feed.as_bytes());
+    let mut sink = VecSink::create(alloc, room)?;
+    Ok(outcome_of(threads, alloc, &words, &mut source, &mut sink))
+}
+
+/// A real run, and the exit status of a program that makes it.
+fn compare_run<R: Threads + Sync>(
+    rt: &HostRuntime,
+    threads: &R,
+    tally: &mut Tally,
+    words: &str,
+    room: usize,
+    code: u8,
+) -> io::Result<()> {
+    let outcome = run_of(threads, rt.alloc(), words, PUT, room)?;
+    let found = if exit_of(&outcome) == ExitCode::from(code) {
+        "as wanted"
+    } else {
+        "another"
+    };
+    tally.note(rt, words, found, "as wanted")
+}
+
+/// The exit statuses of a program, for runs that end in each way but for want of memory and a failed read.
+fn compare_runs<R: Threads + Sync>(
+    rt: &HostRuntime,
+    threads: &R,
+    tally: &mut Tally,
+) -> io::Result<()> {
+    let done = "--kind single --value long --readers 0 --buffers 8 --words 8192 5";
+    compare_run(rt, threads, tally, done, 4096, 0)?;
+    compare_run(rt, threads, tally, "--help", 4096, 0)?;
+    compare_run(rt, threads, tally, "--kind double --value long 5", 4096, 2)?;
+    compare_run(
+        rt,
+        threads,
+        tally,
+        "--kind single --value string 5",
+        4096,
+        2,
+    )?;
+    compare_run(
+        rt,
+        threads,
+        tally,
+        "--kind single --value string --readers 0",
+        4096,
+        3,
+    )?;
+    compare_run(rt, threads, tally, done, 7, 5)?;
+    compare_run(rt, threads, tally, FULL, 4096, 6)
+}
+
+pub fn compare<R: Threads + Sync>(rt: &HostRuntime, threads: &R) -> io::Result<()> {
+    let mut answers = Tally::default();
+    compare_answers(rt, &mut answers)?;
+    answers.print(rt, "exit statuses")?;
+    let mut runs = Tally::default();
+    compare_runs(rt, threads, &mut runs)?;
+    runs.print(rt, "exit statuses of runs")
+}
+
+/// A run that finds no room: this program ends with its exit status.
+pub fn full<R: Threads + Sync>(threads: &R, alloc: Global) -> Result<Outcome, AllocError> {
+    run_of(threads, alloc, FULL, PUT, 4096)
 }

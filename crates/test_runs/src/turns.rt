@@ -2,6 +2,7 @@
 //! Readers on the loader's thread, or one after another, don't come; and a round at an older commit tells other lines.
 use crate::run::{line_of, outcome_at, words_in};
 use attr_io::{Gate, Point, SliceSource, VecSink};
+use attr_run::Outcome;
 use std::alloc::{AllocError, Global};
 use std::sync::atomic::{AtomicU64, Ordering};
 use std::thread::Threads;
@@ -126,9 +127,80 @@ fn compare_turns<R: Threads + Sync>(
     tally.note(rt, "threads that waited in vain", in_vain, "none")
 }
 
+/// How many operations the rounds of a reader saw.
+fn push_counts(text: &mut String, counts: &[u32]) -> Result<(), AllocError> {
+    for count in counts {
+        write!(text, "{count} ")?;
+    }
+    text.push_str("/")
+}
+
+/// How many operations the rounds of each reader saw.
+fn rounds_in(alloc: Global, outcome: &Outcome) -> Result<String, AllocError> {
+    let mut text = String::new(alloc);
+    for counts in outcome.rounds.as_slice() {
+        push_counts(&mut text, counts.as_slice())?;
+    }
+    Ok(text)
+}
+
+/// The rounds of a run.
+fn rounds_of<R: Threads + Sync>(
+    threads: &R,
+    alloc: Global,
+    turns: &Turns,
+    words: &str,
+    feed: &str,
+) -> Result<String, AllocError> {
+    let words = words_in(alloc, words)?;
+    let mut source = SliceSource::new(feed.as_bytes());
+    let mut sink = VecSink::create(alloc, 4096)?;
+    let outcome = outcome_at(threads, alloc, &words, &mut source, &mut sink, turns);
+    rounds_in(alloc, &outcome)
+}
+
+/// The same order in a run that writes no rounds: its readers are made all the same.
+fn compare_rounds<R: Threads + Sync>(
+    rt: &HostRuntime,
+    threads: &R,
+    tally: &mut Tally,
+    before: u64,
+    words: &str,
+    feed: &str,
+    wanted: &str,
+) -> io::Result<()> {
+    let turns = Turns::new(before);
+    let found = rounds_of(threads, rt.alloc(), &turns, words, feed)?;
+    tally.note(rt, words, &found, wanted)?;
+    let in_vain = if turns.gave_up.load(Ordering::SeqCst) == 0 {
+        "none"
+    } else {
+        "some"
+    };
+    tally.note(rt, "threads that waited in vain", in_vain, "none")
+}
+
+/// Both orders, where operations are made and where the table is saved.
+fn compare_modes<R: Threads + Sync>(
+    rt: &HostRuntime,
+    threads: &R,
+    tally: &mut Tally,
+) -> io::Result<()> {
+    let two = "--kind single --value long --batch 1 --readers 2 --rounds 2 --make 2 5";
+    compare_rounds(rt, threads, tally, 0, two, "", "1 2 /1 2 /")?;
+    let three = "--kind single --value long --batch 1 --readers 2 --rounds 2 --make 3 5";
+    compare_rounds(rt, threads, tally, 1, three, "", "2 3 /2 3 /")?;
+    let save = "--kind single --value long --batch 1 --readers 2 --rounds 2 --save 5";
+    compare_rounds(rt, threads, tally, 0, save, TWO, "1 2 /1 2 /")?;
+    compare_rounds(rt, threads, tally, 1, save, THREE, "2 3 /2 3 /")
+}
+
 pub fn compare<R: Threads + Sync>(rt: &HostRuntime, threads: &R) -> io::Result<()> {
     let mut tally = Tally::default();
     compare_turns(rt, threads, &mut tally, 0, TWO, AT_ONE_AND_TWO)?;
     compare_turns(rt, threads, &mut tally, 1, THREE, AT_TWO_AND_THREE)?;
-    tally.print(rt, "rounds held at the gate")
+    tally.print(rt, "rounds held at the gate")?;
+    let mut modes = Tally::default();
+    compare_modes(rt, threads, &mut modes)?;
+    modes.print(rt, "rounds that are not written")
 }

@@ -1,4 +1,4 @@
-use Rattle.std.proofs.Common.{◌≡◌, length}
+use Rattle.std.proofs.Common.{◌≡◌, ◌+◌, length}
 use Rattle.std.specs.Prelude.{All}
 use Rattle.word_arena.specs.Ruled.{reader_of, writer_of}
 use Rattle.attr_engine.specs.Steps.{KeepsWriter, IsReader}
@@ -10,5 +10,6 @@ invariant-loop-i g l = record {
   jobs : All (λ job. IsReader (writer_of l.fn.writer.place.me.0) l.fn.writer.place.table_id (reader_of job.reader.place.me.0) job.reader.place.table_id
       × (job.count ≡ l.fn.rounds) × (job.question.now ≡ l.fn.question)) l.jobs.items;
   keeps : KeepsWriter (writer_of l.fn.writer.place.me.0) (writer_of l.writer.place.me.0);
+  made : (writer_of l.writer.place.me.0).made ≡ (writer_of l.fn.writer.place.me.0).made + l.i;
   table : l.writer.place.table_id ≡ l.fn.writer.place.table_id;
 }

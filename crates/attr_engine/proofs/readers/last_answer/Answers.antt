@@ -4,30 +4,22 @@ use Rattle.attr_engine.proofs.ReaderLemmas.{last_of, keeps_joined, one_of}
 use Rattle.attr_engine.proofs.WriterLemmas.{keeps_on}
 use Rattle.attr_engine.proofs.readers.last_answer.Goals as goal
 
-pub returns-in-Some-clause-last : goal.returns-in-Some-clause-last
-returns-in-Some-clause-last g c =
+pub returns-clause-last : goal.returns-clause-last
+returns-clause-last g c =
     let w = writer_of c.args.writer.now.place.me.0 in
-    let v = writer_of c.reader_in.new.writer.place.me.0 in
+    let v = writer_of c.reader_in-reader.new.writer.place.me.0 in
     let v' = writer_of c.take_in-rounds.new.writer.place.me.0 in
-    let reader = c.in_ok-reader.reader in
+    let reader = c.reader_in-reader.result in
     let x = c.in_ok-reading.reading in
     let taken = c.take_in-rounds.result.items in
     let one = one_of taken c.pop.new.self.items c.in-Some.round c.in-Some.ensures.items (ap length c.take_in-rounds.ensures.same ∙ c.in_ok-reading.ensures.count) in
     last_of _ _ _ w v v' c.args.writer.now.place.table_id reader.place.table_id (reader_of reader.place.me.0) (reader_of x.reader.place.me.0) x.rounds.items taken c.in-Some.round
-    c.in_ok-reader.ensures.reader c.in_ok-reading.ensures.rounds c.reader_in.ensures.keeps c.take_in-rounds.ensures.view c.take_in-rounds.ensures.same c.take_in-rounds.ensures.rounds one
-
-pub returns-in-Some-clause-keeps : goal.returns-in-Some-clause-keeps
-returns-in-Some-clause-keeps g c =
-    let w = writer_of c.args.writer.now.place.me.0 in
-    let v = writer_of c.reader_in.new.writer.place.me.0 in
-    let v' = writer_of c.take_in-rounds.new.writer.place.me.0 in
-    let r = reader_of c.in_ok-reading.reading.reader.place.me.0 in
-    keeps_on w v v' c.reader_in.ensures.keeps (keeps_joined v v' r c.take_in-rounds.ensures.view)
+    c.reader_in-reader.ensures.reader c.in_ok-reading.ensures.rounds c.reader_in-reader.ensures.keeps c.take_in-rounds.ensures.view c.take_in-rounds.ensures.same c.take_in-rounds.ensures.rounds one
 
 pub returns-clause-keeps : goal.returns-clause-keeps
 returns-clause-keeps g c =
     let w = writer_of c.args.writer.now.place.me.0 in
-    let v = writer_of c.reader_in.new.writer.place.me.0 in
+    let v = writer_of c.reader_in-reader.new.writer.place.me.0 in
     let v' = writer_of c.take_in-rounds.new.writer.place.me.0 in
     let r = reader_of c.in_ok-reading.reading.reader.place.me.0 in
-    keeps_on w v v' c.reader_in.ensures.keeps (keeps_joined v v' r c.take_in-rounds.ensures.view)
+    keeps_on w v v' c.reader_in-reader.ensures.keeps (keeps_joined v v' r c.take_in-rounds.ensures.view)

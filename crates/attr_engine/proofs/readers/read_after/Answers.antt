@@ -3,6 +3,7 @@ use Rattle.std.proofs.Common.{◌∙◌, ap, arith}
 use Rattle.std.proofs.lemmas.Result.{IfOk-weaker}
 use Rattle.gen_core.specs.declared.views.WriterView.{WriterView}
 use Rattle.word_arena.specs.Ruled.{writer_of}
+use Rattle.attr_engine.proofs.ReaderLemmas.{ok_always}
 use Rattle.attr_engine.proofs.JobLemmas.{all_given, all_read, all_taken, all_home}
 use Rattle.attr_engine.proofs.readers.read_after.Goals as goal
 
@@ -53,6 +54,9 @@ returns-clause-rounds g c =
     all_home g.row.OFFSET_BITS g.row.G.Denot w home c.args.count asked v here shape c.in_ok-jobs.ensures.table c.in_ok-jobs.ensures.keeps rounds.items
     (all_taken g.row.OFFSET_BITS g.row.G.Denot w home c.args.count asked v here shape c.in_ok-jobs.ensures.table readings rounds.items given.each zip).each)
     c.take_all.ensures.rounds
+
+pub returns-clause-made : goal.returns-clause-made
+returns-clause-made g c = ok_always c.take_all.result _ (c.take_all.ensures.made ∙ c.in_ok-jobs.ensures.made)
 
 pub run_each-requires-lives-T-Task-2 : goal.run_each-requires-lives-T-Task-2
 run_each-requires-lives-T-Task-2 g c κs within = λ a member. ⊑_static _ a (c.type_bounds.static-G a member)

@@ -1,4 +1,4 @@
-use Rattle.std.proofs.Common.{◌≡◌, ◌∷◌, ◌++◌, map, sym, subst, ◌∙◌, arith, rules}
+use Rattle.std.proofs.Common.{◌≡◌, ◌∷◌, ◌++◌, map, sym, ap, subst, ◌∙◌, arith, rules}
 use Rattle.std.proofs.lemmas.Grind.{common_steps}
 use Rattle.std.specs.Prelude.{[], Result, IfOk, IsOkAnd, Vec}
 use Rattle.std.specs.Global.{Global}
@@ -6,6 +6,7 @@ use Rattle.std.specs.Vec.Iter.{into_iter_items}
 use Rattle.std.specs.List.{AllZip}
 use Rattle.std.specs.declared.alloc.AllocError.{AllocError}
 use Rattle.list_facts.proofs.Pairs.{AllZip-push}
+use Rattle.gen_core.specs.declared.views.WriterView.{WriterView}
 use Rattle.word_arena.specs.Ruled.{reader_of, writer_of}
 use Rattle.attr_images.specs.declared.layout.AttrLayout.{AttrLayout}
 use Rattle.attr_types.specs.Scores.{ask_tree}
@@ -43,6 +44,7 @@ loop-reading-preserved g c =
       all = grind (arith, common_steps);
       zip = subst (AllZip Taken (c.loop-reading.yielded ++ c.in-Some.reading ∷ [])) (sym c.in_ok-push.ensures.items)
           (AllZip-push Taken c.loop-reading.yielded c.loop-reading.rounds.items c.in-Some.reading c.take_in-taken.result i.zip here);
+      made = ap (λ (x : WriterView). x.made) c.take_in-taken.ensures.view ∙ i.made;
       keeps = keeps_on w v v' i.keeps (keeps_joined v v' r c.take_in-taken.ensures.view);
       table = c.take_in-taken.ensures.table ∙ i.table;
     }

@@ -16,6 +16,7 @@ invariant-loop-reading g l =
           (reader_of r.reader.place.me.0) r.reader.place.table_id r.rounds.items)) (into_iter_items l.reading-iterator);
       all : l.yielded ++ into_iter_items l.reading-iterator ≡ l.fn.readings.items;
       zip : AllZip (λ reading taken. IsOkAnd reading (λ r. IsTakenFrom l.fn.question.counted asks w.sizes.shape w.commits r.rounds.items taken.items)) l.yielded l.rounds.items;
+      made : (writer_of l.writer.place.me.0).made ≡ w.made;
       keeps : KeepsWriter w (writer_of l.writer.place.me.0);
       table : l.writer.place.table_id ≡ l.fn.writer.place.table_id;
     }

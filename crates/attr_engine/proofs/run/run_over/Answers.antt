@@ -6,7 +6,8 @@ use Rattle.word_arena.specs.Ruled.{writer_of}
 use Rattle.attr_types.specs.Scores.{ask_tree}
 use Rattle.attr_types.specs.declared.field.Field.{Field}
 use Rattle.attr_report.specs.Run.{run_in}
-use Rattle.attr_engine.specs.Steps.{operations_of, tells_of, saves_of, LoadsInto}
+use Rattle.attr_engine.specs.Steps.{saves_of, LoadsInto}
+use Rattle.attr_engine.specs.Rounds.{operations_of, tells_of}
 use Rattle.attr_engine.proofs.RunLemmas.{Documents, asked_as, last_as, last_on, came_of}
 use Rattle.attr_engine.proofs.WriterLemmas.{keeps_on}
 use Rattle.attr_engine.proofs.run.run_over.Goals as goal

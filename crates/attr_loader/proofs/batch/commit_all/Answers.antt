@@ -3,8 +3,8 @@ use Rattle.attr_loader.specs.Batches.{CommitsBatch}
 use Rattle.attr_loader.proofs.Applying.{commits_on}
 use Rattle.attr_loader.proofs.batch.commit_all.Goals as goal
 
-pub returns-in_ok-compact_after-in-Done : goal.returns-in_ok-compact_after-in-Done
-returns-in_ok-compact_after-in-Done g c =
+pub returns-in_ok-compact_after-in-Done-clause-commits : goal.returns-in_ok-compact_after-in-Done-clause-commits
+returns-in_ok-compact_after-in-Done-clause-commits g c =
     let ledger = g.S.Store.ledger in
-    let made = subst (CommitsBatch ledger c.args.attribute.now c.commit_table.new.attribute c.args.count c.args.skipped) c.in-Done.is c.in_ok-more.ensures in
+    let made = subst (CommitsBatch ledger c.args.attribute.now c.commit_table.new.attribute c.args.count c.args.skipped) c.in-Done.is c.in_ok-more.ensures.commits in
     commits_on ledger c.args.attribute.now c.commit_table.new.attribute c.compact_after.new.attribute c.args.count c.args.skipped c.in-Done.more made c.in_ok-compact_after-in-Done.ensures

@@ -1,4 +1,4 @@
-use Rattle.std.proofs.Common.{◌≡◌, ◌≢◌, ◌∷◌, ◌++◌, List, [], drop, sym, ap, subst, ◌∙◌, arith, true≢false, Some}
+use Rattle.std.proofs.Common.{◌≡◌, ◌≢◌, ◌∷◌, ◌++◌, List, [], drop, sym, ap, subst, ◌∙◌, arith, true≢false, Some, IsSome}
 use Rattle.std.specs.BTreeMap.{insert_entry, is_at}
 use Rattle.std.specs.List.{AllByRecursion}
 use Rattle.std.specs.Map.{lookup}
@@ -6,11 +6,31 @@ use Rattle.std.specs.Ordering.{nat_cmp}
 use Rattle.tree_read.specs.Trees.{tree_pairs}
 use Rattle.tree_read.specs.SearchPlaces.{IsAt, first_key, pairs_from}
 use Rattle.doc_vector.specs.Documents.{IsDocumentPair}
+use Rattle.attr_field.specs.Documents.{IsDocuments}
 use Rattle.attr_images.specs.Documents.{column_at}
 use Rattle.attr_index.specs.Columns.{column_of}
 use Rattle.attr_types.specs.declared.items.Item.{Item}
-use Rattle.attr_rounds.proofs.ColumnLemmas.{put_more, column_ascends, first_number, others, read_pairs}
+use Rattle.attr_rounds.proofs.ColumnLemmas.{put_more, there_is, column_ascends, first_number, others, read_pairs}
 use Rattle.attr_rounds.proofs.reading.documents_in.Goals as goal
+
+-- the cursor stands at a document of the column
+pub push_document-requires : goal.push_document-requires
+push_document-requires g c =
+    let kind = c.args.kind in
+    let type = c.args.value_type in
+    let m = g.F.Frozen.records c.args.frozen.now in
+    let before = c.loop-alloc.invariant in
+    let ps = pairs_from m c.loop-alloc.cursor in
+    let some : ps ≢ [] = λ none. true≢false (sym ((c.at_end.ensures.pairs m before.at).1 none) ∙ c.loop-alloc-test.true) in
+    let key = c.key.ensures m before.at in
+    let least = first_number ps some before.numbers in
+    let made = c.new-doc.ensures in
+    let doc : c.new-doc.result ≡ first_key ps = omega (arith, key, least, made) in
+    let documents = subst (λ (f : g.row.F.Denot). IsDocuments kind type (g.F.Frozen.records f) c.args.root) (sym before.same) c.requires in
+    let there = subst (λ (f : g.row.F.Denot). IsSome (lookup (is_at (nat_cmp c.new-doc.result)) (column_at kind type (g.F.Frozen.records f) c.args.root))) (sym before.same)
+    (there_is kind type m c.loop-alloc.documents.entries ps (column_at kind type m c.args.root) c.new-doc.result some doc
+    (column_ascends kind type m (tree_pairs m c.args.root) c.requires.map_is.tree_is.ascends) before.whole) in
+    (omega arith, (documents, there))
 
 pub loop-alloc-preserved : goal.loop-alloc-preserved
 loop-alloc-preserved g c =

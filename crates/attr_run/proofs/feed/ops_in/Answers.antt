@@ -1,23 +1,21 @@
-use Rattle.std.proofs.Common.{◌≡◌, ap, sym, refl, subst, Ok, List, Option, Result, IfSome}
+use Rattle.std.proofs.Common.{◌∙◌, ap, sym, refl, subst, Ok, Option}
 use Rattle.std.proofs.lemmas.Result.{IfOk-weaker}
 use Rattle.attr_io.proofs.ReadLemmas.{reads_none}
 use Rattle.feed_reader.specs.Feed.{most_bytes}
-use Rattle.attr_types.specs.declared.op.Op.{Op}
 use Rattle.attr_report.specs.Run.{run_in}
 use Rattle.attr_report.specs.declared.request.Make.{Make}
 use Rattle.attr_run.specs.Answers.{ReadsBy}
 use Rattle.attr_run.specs.Steps.{IsUnfed, IsProperStop}
-use Rattle.attr_run.specs.declared.outcome.Status.{Status}
 use Rattle.attr_run.specs.declared.stop.Stop.{Stop}
-use Rattle.attr_run.proofs.TaskLemmas.{fed-made, fed-read, unfed-read, err_then, ok_always}
+use Rattle.attr_run.proofs.TaskLemmas.{OfBytes-weaker, fed-made, fed-read, unfed-read, err_then, ok_always}
 use Rattle.attr_run.proofs.feed.ops_in.Goals as goal
 
 pub returns-in-Some-clause-fed : goal.returns-in-Some-clause-fed
 returns-in-Some-clause-fed g c =
     let run = run_in c.args.request.now in
     let told = fed-made run c.in-Some.make (g.S.Source.left c.args.source.now) c.in-Some.is in
-    IfOk-weaker c.made_in.result _ _ (λ ops is. subst (λ (f : Option (Result (List Op) Status)). IfSome f (λ s. s ≡ Ok ops))
-    (sym told) (ap Ok (sym is))) c.made_in.ensures.made
+    IfOk-weaker c.made_in.result _ _ (λ ops is. OfBytes-weaker (g.S.Source.left c.args.source.now) _ _ (λ bytes feeds. feeds ∙ ap Ok (sym is)) told)
+    c.made_in.ensures.made
 
 pub returns-in-Some-clause-reads_all : goal.returns-in-Some-clause-reads_all
 returns-in-Some-clause-reads_all g c = ok_always c.made_in.result _

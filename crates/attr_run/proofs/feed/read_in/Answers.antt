@@ -1,18 +1,21 @@
-use Rattle.std.proofs.Common.{◌∙◌, ap, Err}
-use Rattle.std.proofs.lemmas.Result.{err_from_is_err_and}
-use Rattle.attr_run.proofs.TaskLemmas.{read-ops, feed-stopped, told-long}
+use Rattle.std.proofs.Common.{◌≡◌, rules, subst, ℕ, List, Some, Ok}
+use Rattle.std.proofs.lemmas.Result.{IfOk-weaker}
+use Rattle.attr_run.specs.Run.{ops_in}
+use Rattle.attr_run.specs.Steps.{IsFeedStop}
+use Rattle.attr_run.proofs.TaskLemmas.{read_whole, read-stopped, refused-long, err_then}
 use Rattle.attr_run.proofs.feed.read_in.Goals as goal
 
-pub returns-in_err-ops-clause-unfed : goal.returns-in_err-ops-clause-unfed
-returns-in_err-ops-clause-unfed g c =
-    let p = err_from_is_err_and c.from_residual.result c.from_residual.ensures.1 in
-    rw (p.1 ∙ ap Err p.2) (feed-stopped c.args.fields.now (g.S.Source.left c.args.source.now) _ _ _ c.in_err-ops.field-0.0
-    c.in_err-ops.ensures.feed c.in_err-ops.ensures.all (λ is. told-long _ _ (c.in_err-ops.ensures.too_long (ap Err is)))
-    (λ is. c.in_err-ops.ensures.fault (ap Err is)))
+pub returns-in-Ok-clause-fed : goal.returns-in-Ok-clause-fed
+returns-in-Ok-clause-fed g c = IfOk-weaker c.lines_in.result _ _ (λ ops is.
+    read_whole (g.S.Source.left c.args.source.now) (g.S.Source.left c.read_all.new.source) c.in-Ok.bytes.items (λ bytes. ops_in c.args.fields.now bytes ≡ Ok ops)
+    c.in-Ok.ensures.bytes c.in-Ok.ensures.end (subst (λ (bytes : List ℕ). ops_in c.args.fields.now bytes ≡ Ok ops) c.deref.ensures.value is))
+    c.lines_in.ensures.fed
 
-pub returns-clause-fed : goal.returns-clause-fed
-returns-clause-fed g c = read-ops c.args.fields.now (g.S.Source.left c.args.source.now) _ c.in_ok-ops.ops
-    c.in_ok-ops.ensures.feed c.in_ok-ops.ensures.all
+pub returns-in-Ok-clause-unfed : goal.returns-in-Ok-clause-unfed
+returns-in-Ok-clause-unfed g c = err_then c.lines_in.result _ _ (λ stop is.
+    read-stopped c.args.fields.now (g.S.Source.left c.args.source.now) (g.S.Source.left c.read_all.new.source) c.in-Ok.bytes.items _ _ stop
+    c.in-Ok.ensures.bytes c.in-Ok.ensures.end (subst (λ (bytes : List ℕ). IsFeedStop c.args.fields.now (Some bytes) 0 0 stop) c.deref.ensures.value is))
+    c.lines_in.ensures.unfed
 
-pub returns-clause-reads_all : goal.returns-clause-reads_all
-returns-clause-reads_all g c = c.in_ok-ops.ensures.all.1
+pub returns-in-Err-TooLong-clause-unfed : goal.returns-in-Err-TooLong-clause-unfed
+returns-in-Err-TooLong-clause-unfed g c = refused-long c.args.fields.now (g.S.Source.left c.args.source.now) (c.in-Err-TooLong.ensures.too_long (search rules))

@@ -1,9 +1,8 @@
 use Rattle.std.proofs.Common.{refl}
 use Rattle.attr_run.specs.declared.outcome.Status.TheVariants.{BadFeed, ReadFault, WriteFault, Memory}
-use Rattle.attr_run.specs.declared.outcome.UsageCause.TheVariants as usage
 use Rattle.attr_run.specs.declared.outcome.FeedFault.TheVariants as feed
 use Rattle.attr_run.proofs.AnswerLemmas.{Met, at, ended-report, ended-run, exactly-usage}
-use Rattle.attr_run.proofs.AnswerLemmas.{exactly-help, exactly-refused, exactly-feed, early-text}
+use Rattle.attr_run.proofs.AnswerLemmas.{exactly-help, exactly-feed, early-text}
 use Rattle.attr_run.proofs.AnswerLemmas.{early-no_run, complete-told, full-room}
 use Rattle.attr_run.proofs.run.attr_main.Given.{Over}
 use Rattle.attr_run.proofs.run.attr_main.Goals as goal
@@ -56,24 +55,17 @@ returns-clause-room g c = full-room (met g c) _ _ c.whole_run.ensures.answer
 pub returns-clause-help : goal.returns-clause-help
 returns-clause-help g c = exactly-help (met g c) _ _ c.whole_run.ensures.one_kind c.whole_run.ensures.answer
 
-pub returns-clause-usage_words : goal.returns-clause-usage_words
-returns-clause-usage_words g c = exactly-refused (met g c) _ _ c.whole_run.ensures.one_kind c.whole_run.ensures.answer
+pub returns-clause-usage : goal.returns-clause-usage
+returns-clause-usage g c = exactly-usage (met g c) _ _ c.settings_law.ensures.refused c.whole_run.ensures.one_kind c.whole_run.ensures.ruled c.whole_run.ensures.answer
 
-pub returns-clause-kind_name : goal.returns-clause-kind_name
-returns-clause-kind_name g c = exactly-usage (met g c) _ _ usage.KindName c.whole_run.ensures.answer
+pub returns-clause-one_kind : goal.returns-clause-one_kind
+returns-clause-one_kind g c = c.whole_run.ensures.one_kind
 
-pub returns-clause-value_name : goal.returns-clause-value_name
-returns-clause-value_name g c = exactly-usage (met g c) _ _ usage.ValueName c.whole_run.ensures.answer
+pub returns-clause-read_answered : goal.returns-clause-read_answered
+returns-clause-read_answered g c = c.whole_run.ensures.read_answered
 
-pub returns-clause-size : goal.returns-clause-size
-returns-clause-size g c = λ buffers each. exactly-usage (met g c) _ _ (usage.Size buffers each) c.whole_run.ensures.answer
-
-pub returns-clause-also : goal.returns-clause-also
-returns-clause-also g c = λ place. exactly-usage (met g c) _ _ (usage.Also place) c.whole_run.ensures.answer
-
-pub returns-clause-usage_query : goal.returns-clause-usage_query
-returns-clause-usage_query g c = λ number error. exactly-usage (met g c) _ _
-    (usage.Query number error) c.whole_run.ensures.answer
+pub returns-clause-write_answered : goal.returns-clause-write_answered
+returns-clause-write_answered g c = c.whole_run.ensures.write_answered
 
 pub returns-clause-unread : goal.returns-clause-unread
 returns-clause-unread g c = c.whole_run.ensures.unread
@@ -82,7 +74,7 @@ pub returns-clause-read_fault : goal.returns-clause-read_fault
 returns-clause-read_fault g c = λ is. (at (met g c) _ ReadFault _ c.whole_run.ensures.answer is).1.0
 
 pub returns-clause-bad_feed : goal.returns-clause-bad_feed
-returns-clause-bad_feed g c = λ fault is. (at (met g c) _ (BadFeed fault) _ c.whole_run.ensures.answer is).1.0.0
+returns-clause-bad_feed g c = λ fault is. (at (met g c) _ (BadFeed fault) _ c.whole_run.ensures.answer is).1.0
 
 pub returns-clause-too_long : goal.returns-clause-too_long
 returns-clause-too_long g c = exactly-feed (met g c) _ _ feed.TooLong c.whole_run.ensures.answer _ refl
@@ -110,4 +102,4 @@ pub returns-clause-proper : goal.returns-clause-proper
 returns-clause-proper g c = c.whole_run.ensures.proper
 
 pub returns-clause-complete : goal.returns-clause-complete
-returns-clause-complete g c = complete-told (met g c) _ _ c.whole_run.ensures.proper c.whole_run.ensures.answer _ refl
+returns-clause-complete g c = complete-told (met g c) _ _ c.whole_run.ensures.answer

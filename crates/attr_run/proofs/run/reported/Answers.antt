@@ -11,6 +11,7 @@ use Rattle.attr_types.specs.declared.op.Op.{Op}
 use Rattle.attr_engine.specs.Run.{IsRunOf}
 use Rattle.attr_run.proofs.RunLemmas.{answered, proper-of}
 use Rattle.attr_run.proofs.TaskLemmas.{of-run, unfed-stopped, unread-run}
+use Rattle.attr_run.proofs.RuleLemmas.{ruled-unfed}
 use Rattle.attr_run.proofs.run.reported.Goals as goal
 
 pub returns-in_err-ops-clause-stopped : goal.returns-in_err-ops-clause-stopped
@@ -54,3 +55,8 @@ returns-clause-ended g c =
 pub returns-in_err-request-clause-reads : goal.returns-in_err-request-clause-reads
 returns-in_err-request-clause-reads g c =
     reads_none most_bytes 65536 (g.S.Source.left c.args.source.now) (g.S.Source.reads c.args.source.now)
+
+pub returns-in_err-ops-clause-ruled : goal.returns-in_err-ops-clause-ruled
+returns-in_err-ops-clause-ruled g c =
+    let p = err_from_is_err_and c.from_residual-in_err-ops.result c.from_residual-in_err-ops.ensures.1 in
+    rw (p.1 ∙ ap Err p.2) (ruled-unfed c.args.words.now (run_in c.in_ok-request.request) (g.S.Source.left c.args.source.now) _ _ c.in_err-ops.field-0.0 c.in_err-ops.ensures.unfed)

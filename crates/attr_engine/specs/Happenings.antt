@@ -1,0 +1,61 @@
+-- What happened in a run: its commits, and the rounds of its readers with what each told.
+use Rattle.std.specs.Prelude.{◌≡◌, ℕ, ◌+◌, ◌≤◌, ◌==◌, if◌then◌else◌, List, [], ◌∷◌, map, length, is_some, Option, Some, None, Vec}
+use Rattle.std.specs.Global.{Global}
+use Rattle.std.specs.List.{filter_map}
+use Rattle.attr_types.specs.declared.op.Op.{Op}
+use Rattle.attr_loader.specs.Loading.{commit_point}
+use Rattle.attr_rounds.specs.declared.rounds.Round.{Round}
+use Rattle.attr_rounds.specs.declared.asked.Told.{Told}
+use Rattle.attr_rounds.specs.Lines.{TellsTable}
+use Rattle.attr_report.specs.Run.{Run, table_after}
+use Rattle.attr_report.specs.History.{numbers_to}
+use Rattle.attr_engine.specs.declared.came.Came.{Came}
+
+-- a commit of that number with the first so many operations; or a round of a reader with what it told, both numbered from 1
+pub data Happening : Type 0 where
+  Committed : (commit operations : ℕ) → Happening
+  Answered : (reader number : ℕ) → (round : Round Told) → Happening
+
+-- the commits among them
+abbrev pub commit_of : Happening → Option (ℕ × ℕ)
+commit_of (Committed commit operations) = Some (commit, operations)
+commit_of (Answered reader number round) = None
+
+-- a round of this reader, with its number
+abbrev pub round_of : ℕ → Happening → Option (ℕ × Round Told)
+round_of reader (Committed commit operations) = None
+round_of reader (Answered other number round) = if other == reader then Some (number, round) else None
+
+-- commits 0 to `last`, each with its operations
+abbrev pub commits_to : Run → List Op → ℕ → List (ℕ × ℕ)
+commits_to run ops last = map (λ k. (k, commit_point run.batch (length ops) k)) (numbers_to last)
+
+-- rounds, each with its number
+abbrev pub with_numbers : ℕ → List (Round Told) → List (ℕ × Round Told)
+with_numbers number [] = []
+with_numbers number (round ∷ rounds) = (number, round) ∷ with_numbers (number + 1) rounds
+
+-- the rounds of each reader, from number `reader` on, happened once each and in order
+abbrev pub AreInOrder : List Happening → ℕ → List (Vec (Round Told) Global) → Type 0
+AreInOrder events reader [] = Unit {0}
+AreInOrder events reader (rounds ∷ others) =
+    (filter_map (round_of reader) events ≡ with_numbers 1 rounds.items) × AreInOrder events (reader + 1) others
+
+-- each round is of one of so many readers, comes after its own commit and before the next one, and tells the table of that commit
+abbrev pub AreAtCommits : Run → List Op → ℕ → Option (ℕ × ℕ) → List Happening → Type 0
+AreAtCommits run ops readers last [] = Unit {0}
+AreAtCommits run ops readers last (Committed commit operations ∷ events) =
+    AreAtCommits run ops readers (Some (commit, operations)) events
+AreAtCommits run ops readers last (Answered reader number round ∷ events) =
+    (1 ≤ reader) × (reader ≤ readers) × (last ≡ Some (round.commit, round.operations))
+    × TellsTable (is_some run.make) run.asks (table_after run ops round.operations) round.answer
+    × AreAtCommits run ops readers last events
+
+-- a history of what a run came to: its commits up to the last, in order, and each round of each reader in its place
+pub record HasHistory (run : Run) (ops : List Op) (came : Came) : Type 0 where
+  pub last : ℕ
+  pub loaded : came.loaded.operations ≡ commit_point run.batch (length ops) last
+  pub events : List Happening
+  pub commits : filter_map commit_of events ≡ commits_to run ops last
+  pub in_order : AreInOrder events 1 came.rounds.items
+  pub in_place : AreAtCommits run ops (length came.rounds.items) None events

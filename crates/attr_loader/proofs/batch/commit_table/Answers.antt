@@ -1,0 +1,31 @@
+use Rattle.std.proofs.Common.{refl, rules}
+use Rattle.arena_api.specs.Works.{last_image}
+use Rattle.attr_loader.proofs.Applying.{commit_number, commit_readers}
+use Rattle.attr_loader.proofs.batch.commit_table.Goals as goal
+
+pub returns-in-Ok-clause-commits : goal.returns-in-Ok-clause-commits
+returns-in-Ok-clause-commits g c =
+    let ledger = g.S.Store.ledger in
+    let old = c.args.attribute.now in
+    let new = c.commit.new.self in
+    let made = c.in-Ok.ensures.commits in (
+      refl,
+      record {
+        stays = record {
+          home = search rules;
+          sizes = search rules;
+          readers = commit_readers (ledger old.store) (ledger new.store) _ _ _ made;
+          fields = c.commit.ensures.fields;
+        };
+        table = c.commit.ensures.table;
+        operations = c.commit.ensures.operations;
+        committed = search rules;
+        committed_operations = search rules;
+        number = commit_number (ledger old.store) (ledger new.store) _ _ _ made;
+        image = last_image (ledger new.store).work.commits;
+        told = c.in-Ok.ensures.told;
+        lawful = search rules;
+        image_operations = search rules;
+        image_table = search rules;
+      },
+    )

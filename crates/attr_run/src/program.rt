@@ -1,0 +1,19 @@
+use crate::outcome::Outcome;
+use crate::run::attr_main;
+use crate::words::Words;
+use attr_io::{NoGate, StdSink, StdSource};
+use std::rt::Env;
+use std::thread::Threads;
+
+/// The run of a program: of the words after its name, over standard input and standard output. `attr_main` has the contract;
+/// a program ends with `exit_of` of this.
+pub fn run_program<R: Threads + Sync + Env + AllocGlobal + Input + Print>(rt: &R) -> Outcome {
+    match Words::of_program(rt) {
+        Ok(words) => {
+            let mut source = StdSource::new(rt);
+            let mut sink = StdSink::new(rt);
+            attr_main(rt, rt.alloc(), &words, &mut source, &mut sink, &NoGate)
+        }
+        Err(_) => Outcome::out_of_memory(rt.alloc()),
+    }
+}

@@ -1,0 +1,9 @@
+//! The program `attr` with a feed that is refused: it ends with 3.
+#![tactic(auto)]
+
+use attr_run::{exit_of, run_program};
+use std::process::ExitCode;
+
+fn main(rt: HostRuntime) -> ExitCode {
+    exit_of(&run_program(&rt))
+}

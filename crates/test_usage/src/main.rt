@@ -1,0 +1,9 @@
+//! The program `attr` with a query that is refused: it ends with 2.
+#![tactic(auto)]
+
+use attr_run::{exit_of, run_program};
+use std::process::ExitCode;
+
+fn main(rt: HostRuntime) -> ExitCode {
+    exit_of(&run_program(&rt))
+}
