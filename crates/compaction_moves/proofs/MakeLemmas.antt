@@ -38,7 +38,7 @@ use Rattle.compaction_moves.specs.Counts.{key_nodes, one_record, IsLowColumn, Ma
 use Rattle.compaction_moves.specs.IndexMoves.{key_most, move_most}
 use Rattle.posting_store.specs.Changes.{MakesWithin}
 use Rattle.value_index.proofs.CountLemmas.{within_more, within_nodes}
-use Rattle.value_index.specs.Changes.{nodes_most, record_most, value_levels}
+use Rattle.value_index.specs.Changes.{nodes_most, value_levels}
 
 -- ---- a bound by width, from what is made of nodes and of other widths
 by_parts : (w x n r : ℕ) → (nat_eq w 34 ≡ true → x ≤ n) → (nat_eq w 34 ≡ false → x ≤ r) → x ≤ cond (nat_eq w 34) n r

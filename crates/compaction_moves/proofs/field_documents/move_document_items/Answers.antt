@@ -1,4 +1,4 @@
-use Rattle.std.proofs.Common.{◌≡◌, ◌+◌, length, true, sym, subst, arith}
+use Rattle.std.proofs.Common.{◌≡◌, length, true, sym, subst, arith}
 use Rattle.std.proofs.lemmas.Result.{err_from_is_err_and}
 use Rattle.compaction_moves.specs.Cleared.{trees_of_roots}
 use Rattle.attr_images.specs.Documents.{column_at}
