@@ -19,7 +19,7 @@ use Rattle.compaction_moves.specs.Counts.{key_nodes, one_record, IsLowColumn, Ma
 use Rattle.posting_store.specs.Changes.{MakesWithin}
 use Rattle.value_index.proofs.WalksCountLemmas.{one_of}
 use Rattle.value_index.specs.Counts.{by_width}
-use Rattle.compact_steps.specs.Counts.{AreSingleLong, MakesKeys, RisesBy}
+use Rattle.compact_steps.specs.Counts.{MakesKeys, RisesBy}
 
 -- ---- counts that rise
 module _ {H : Type 0} where
@@ -37,6 +37,12 @@ module _ {H : Type 0} where
 
   pub rises_none : (a : Ledger H) (f : ℕ → ℕ) → RisesBy a a f
   rises_none a f = record { made = λ w. omega arith; buffers = λ w. omega arith }
+
+  rises_from : (a b c : Ledger H) (f : ℕ → ℕ) → RisesBy a b (λ w. 0) → RisesBy b c f → RisesBy a c f
+  rises_from a b c f none rises = record {
+    made = λ w. let one = none.made w in let two = rises.made w in omega (arith, one, two);
+    buffers = λ w. let one = none.buffers w in let two = rises.buffers w in omega (arith, one, two);
+  }
 
   rises_within : (a b : Ledger H) (f : ℕ → ℕ) → MakesWithin a b f → RisesBy a b f
   rises_within a b f within = record { made = λ w. (within.each w).made; buffers = λ w. (within.each w).buffers }
@@ -112,8 +118,8 @@ module _ {H : Type 0} (fields : List Field) (table : Table) where
     records = made.records;
     few = made.few;
     narrow = made.narrow;
-    counts = rises_then a b c (λ w. 0) (by_width (key_nodes 8 * n) made.records) none made.counts;
-    low = λ levels stay. rises_then a b c (λ w. 0) (by_width (key_nodes levels * n) made.records) none (made.low levels stay);
+    counts = rises_from a b c (by_width (key_nodes 8 * n) made.records) none made.counts;
+    low = λ levels stay. rises_from a b c (by_width (key_nodes levels * n) made.records) none (made.low levels stay);
   }
 
   -- a buffer was marked as finished since

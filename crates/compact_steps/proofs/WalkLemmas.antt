@@ -65,6 +65,8 @@ refused_since old mid new (Full width active held oldest) fewer room = record {
   hold = room.hold;
   newest = room.newest;
   stopped = λ e. let s = room.stopped e in (s.0, s.1, (let more = s.2 in omega arith));
+  made = room.made;
+  found = room.found;
 }
 refused_since old mid new Memory fewer room = tt
 

@@ -70,7 +70,7 @@ pub fn move_unit<const OFFSET_BITS: u32, S: Store<OFFSET_BITS>>(
     ensures refused { IfErr result (RefusesUnit (S.ledger store.old) (S.ledger store.new)) }
     ensures spares { IfErr result (SparesBelow (S.ledger store.new) 34) }
     ensures counts { MakesKey field.now.kind field.now.value
-        (column_at field.now.kind field.now.value (S.records store.old) own.documents) (S.ledger store.old) (S.ledger store.new) }
+        (column_at field.now.kind field.now.value (S.records store.old) own.entry.documents) (S.ledger store.old) (S.ledger store.new) }
     ensures active { IfErr result (HasActive (S.ledger store.new)) }
     ensures keeps { KeepsStore (S.ledger store.old) (S.ledger store.new) }
 {
