@@ -13,6 +13,8 @@ use Rattle.attr_types.specs.Table.{after, skipped}
 use Rattle.attr_types.specs.declared.field.Field.{Field}
 use Rattle.attr_types.specs.declared.op.Op.{Op}
 use Rattle.attribute_kinds.specs.Views.{AttributeView}
+use Rattle.attr_room.specs.Runs.{IsOwed}
+use Rattle.attr_loader.specs.Room.{load_of, HasMadeNothing}
 use Rattle.attr_loader.specs.declared.error.LoadError.{LoadError}
 use Rattle.attr_loader.specs.declared.error.LoadError.TheVariants.{CommitsSpent, Memory}
 use Rattle.attr_loader.specs.declared.loaded.Loaded.{Loaded}
@@ -87,6 +89,13 @@ module _ {S H : Type 0} (ledger : S → Ledger H) where
     pub commits : (ledger new.store).work.commits.last ≡ (ledger old.store).work.commits.last + last
     pub ends : EndsAt batch (length ops) (ledger new.store).work.sizes.buffers loaded.operations loaded.full
     pub full : IfSome loaded.full (IsFullAt batch ops old new loaded.operations)
+    -- a full store is owed to what one attribute makes, in a store of which nothing was made before
+    pub owed : length old.fields ≡ 1 → HasMadeNothing (ledger old.store) → IfSome loaded.full
+        (λ full. IsOwed (load_of (ledger old.store).work.sizes old.fields batch ops) full.operation loaded.operations)
+    -- and where there are no readers none of it is held, while generations last
+    pub unheld : (ledger old.store).work.made ≡ 0
+        → (ledger old.store).work.commits.last + length ops < (ledger old.store).work.sizes.generations
+        → IfSome loaded.full (λ full. full.held ≡ 0)
 
   -- a loading was given up: memory is short; or the last commit that there can be is one of fewer than the operations
   abbrev pub IsSpent : List Op → AttributeView S → LoadError → Type 0
