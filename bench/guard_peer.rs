@@ -1,8 +1,11 @@
 //! What `bench/guard` compares with, in plain Rust. Each run prints the nanoseconds that it took.
-//! Usage: guard_peer add LOOPS | copy LOOPS | rwlock READERS LOOPS COMMITS | arc READERS LOOPS COMMITS
+//! Usage: guard_peer add LOOPS | copy LOOPS | KIND READERS LOOPS COMMITS, where KIND is rwlock, arc, or one of four that do what the running
+//! memory does: packed and padded make guards, packed-again and padded-again load the root under one. Packed words stand side by side, as the
+//! formats have them, so that the root, the newest hold's name and eight holds share what a processor takes in at once. Padded words do not.
+use std::collections::VecDeque;
 use std::hint::black_box;
 use std::sync::atomic::{AtomicBool, AtomicU64, Ordering::SeqCst};
-use std::sync::{Arc, RwLock};
+use std::sync::{Arc, Mutex, RwLock};
 use std::thread;
 use std::time::Instant;
 
@@ -55,6 +58,73 @@ fn beside(readers: u64, loops: u64, commits: u64, look: impl Fn() -> u64 + Sync,
     looks.load(SeqCst)
 }
 
+/// The named words of the running memory: the root, the newest hold, and the counts of 16 holds.
+struct Named {
+    words: Vec<AtomicU64>,
+    stride: usize,
+    open: Mutex<(u64, VecDeque<usize>)>,
+}
+
+impl Named {
+    fn new(stride: usize) -> Named {
+        let words: Vec<AtomicU64> = (0..18 * stride + 16).map(|_| AtomicU64::new(0)).collect();
+        let named = Named { words, stride, open: Mutex::new((0, VecDeque::from([0]))) };
+        for hold in 1..16 {
+            named.at(2 + hold).store(1, SeqCst);
+        }
+        named
+    }
+
+    fn at(&self, i: usize) -> &AtomicU64 {
+        &self.words[i * self.stride]
+    }
+
+    /// The root under a guard, which is given back.
+    fn guard(&self) -> u64 {
+        loop {
+            let hold = (self.at(1).load(SeqCst) % 65536) as usize;
+            let open = self.at(2 + hold).fetch_add(2, SeqCst) % 2 == 0;
+            let root = if open { self.at(0).load(SeqCst) } else { 0 };
+            self.at(2 + hold).fetch_sub(2, SeqCst);
+            if open {
+                return root;
+            }
+        }
+    }
+
+    /// A commit, the next generation, and the oldest holds closed that are not in use.
+    fn commit(&self, number: u64) {
+        let mut open = self.open.lock().unwrap();
+        let (generation, queue) = &mut *open;
+        self.at(0).store(number + 1, SeqCst);
+        *generation += 1;
+        let newest = *queue.back().unwrap();
+        if self.at(2 + newest).load(SeqCst) == 0 {
+            self.at(1).store(*generation * 65536 + newest as u64, SeqCst);
+        } else if let Some(hold) = (0..16).find(|hold| !queue.contains(hold)) {
+            self.at(2 + hold).fetch_sub(1, SeqCst);
+            self.at(1).store(*generation * 65536 + hold as u64, SeqCst);
+            queue.push_back(hold);
+        }
+        while queue.len() > 1 && self.at(2 + queue[0]).compare_exchange(0, 1, SeqCst, SeqCst).is_ok() {
+            queue.pop_front();
+        }
+    }
+}
+
+/// How far words stand apart that share nothing.
+const APART: usize = 16;
+
+fn named(words: &[String], readers: u64, loops: u64, commits: u64) -> u64 {
+    let stride = if words[0].starts_with("padded") { APART } else { 1 };
+    let named = Named::new(stride);
+    if words[0].ends_with("again") {
+        beside(readers, loops, commits, || named.at(0).load(SeqCst), |n| named.commit(n))
+    } else {
+        beside(readers, loops, commits, || named.guard(), |n| named.commit(n))
+    }
+}
+
 fn main() {
     let words: Vec<String> = std::env::args().skip(1).collect();
     let number = |i: usize| words.get(i).and_then(|word| word.parse::<u64>().ok()).unwrap_or(0);
@@ -76,7 +146,8 @@ fn main() {
             let root = Arc::new(AtomicU64::new(0));
             beside(number(1), number(2), number(3), || Arc::clone(&root).load(SeqCst), |n| root.store(n, SeqCst))
         }
-        _ => panic!("guard_peer add LOOPS | copy LOOPS | rwlock READERS LOOPS COMMITS | arc READERS LOOPS COMMITS"),
+        Some("packed" | "padded" | "packed-again" | "padded-again") => named(&words, number(1), number(2), number(3)),
+        _ => panic!("guard_peer add LOOPS | copy LOOPS | KIND READERS LOOPS COMMITS"),
     };
     println!("{looks} looks {} ns", start.elapsed().as_nanos());
 }

@@ -1,4 +1,4 @@
--- Open holds and generations: what an advance and a reclaim make of them, and how buffers go on hold and become free.
+-- Open holds and generations: how an advance and a reclaim change them, and how buffers go on hold and become free.
 use Rattle.std.specs.Prelude.{◌≡◌, ◌⊎◌, ℕ, suc, ◌<◌, ◌≤◌, true, false, nat_lt, if◌then◌else◌, List, [], ◌∷◌, ◌++◌, length, drop}
 use Rattle.std.specs.Prelude.{Option, Some, None}
 use Rattle.std.specs.List.{AllByRecursion}
@@ -14,7 +14,7 @@ use Rattle.arena_api.specs.declared.answers.Oldest.{Oldest}
 abbrev pub current : {H : Type 0} → WorkView H → ℕ
 current work = (newest_of work.queue).generation
 
--- the holds are below 16 and differ, their generations rise, and their first commits never fall
+-- hold numbers are below 16 and distinct, generations rise, and first commits never fall
 pub record IsBefore (a b : Hold) : Type 0 where
   pub generation : a.generation < b.generation
   pub hold : a.hold ≡ b.hold → ⊥
@@ -35,30 +35,30 @@ pub record IsQueue {H : Type 0} (work : WorkView H) : Type 0 where
   pub order : AreInOrder work.queue
   pub each : AllByRecursion (IsOpenHold work) work.queue
 
--- the closed hold of lowest number
+-- the closed hold with the lowest number
 pub record IsLowestClosed (queue : List Hold) (hold : ℕ) : Type 0 where
   pub below : hold < 16
   pub closed : AllByRecursion (λ h. h.hold ≡ hold → ⊥) queue
   pub lowest : (k : ℕ) → k < hold → AllByRecursion (λ h. h.hold ≡ k → ⊥) queue → ⊥
 
--- the next generation on a hold, for readers from the last commit on
+-- the next generation on a hold, for readers of the last commit or later ones
 abbrev pub next_hold : {H : Type 0} → WorkView H → ℕ → Hold
 next_hold work hold = record { generation = suc (current work); hold = hold; first = work.commits.last }
 
--- holds with another newest one
+-- the holds with another newest one
 abbrev pub with_newest : List Hold → Hold → List Hold
 with_newest [] new = new ∷ []
 with_newest (h ∷ []) new = new ∷ []
 with_newest (h ∷ g ∷ hs) new = h ∷ with_newest (g ∷ hs) new
 
--- the newest hold was found unused: it has the next generation in place
+-- the newest hold was found unused: it takes the next generation
 pub record Renews {H : Type 0} (old new : WorkView H) (on : ℕ) : Type 0 where
   pub hold : on ≡ (newest_of old.queue).hold
   pub queue : new.queue ≡ with_newest old.queue (next_hold old on)
   pub stops : new.stops ≡ old.stops
   pub found : new.found ≡ old.found
 
--- the newest hold was found in use: a closed one is opened behind it
+-- the newest hold was found in use: a closed one is opened after it
 pub record Opens {H : Type 0} (old new : WorkView H) (on : ℕ) : Type 0 where
   pub closed : IsLowestClosed old.queue on
   pub queue : new.queue ≡ old.queue ++ next_hold old on ∷ []
@@ -70,7 +70,7 @@ pub record GoesTo {H : Type 0} (old new : WorkView H) (generation hold : ℕ) : 
   pub next : generation ≡ suc (current old)
   pub holds : Renews old new hold ⊎ Opens old new hold
 
--- the newest hold was found in use and all are open: the generation stays
+-- the newest hold was found in use and all are open: the generation does not change
 pub record FindsNoHold {H : Type 0} (old new : WorkView H) (holds count : ℕ) : Type 0 where
   pub below : current old < old.sizes.generations
   pub all : holds ≡ 16
@@ -80,19 +80,19 @@ pub record FindsNoHold {H : Type 0} (old new : WorkView H) (holds count : ℕ) :
   pub stops : new.stops ≡ suc old.stops
   pub found : new.found ≡ count
 
--- the last generation that there can be
+-- the current generation is the last possible one
 pub record IsSpent {H : Type 0} (old new : WorkView H) (generation : ℕ) : Type 0 where
   pub limit : current old ≡ old.sizes.generations
   pub tells : generation ≡ current old
   pub same : new ≡ old
 
--- what an advance answers, and what it makes of the holds
+-- what an advance returns, and how it changes the holds
 abbrev pub Advances : {H : Type 0} → Advance → WorkView H → WorkView H → Type 0
 Advances (To generation hold) old new = GoesTo old new generation hold
 Advances (NoHold holds found) old new = FindsNoHold old new holds found
 Advances (Spent generation) old new = IsSpent old new generation
 
--- only old commits are let go
+-- only old commits are released
 pub record LetsGo (old new : Commits) : Type 0 where
   pub last : new.last ≡ old.last
   pub rises : old.floor ≤ new.floor
@@ -103,36 +103,37 @@ pub record LetsGo (old new : Commits) : Type 0 where
 abbrev pub advanced : {H : Type 0} → WorkView H → WorkView H → WorkView H
 advanced old new = record old { queue = new.queue; commits = new.commits; stops = new.stops; found = new.found }
 
--- an active buffer of which neither the last commit nor what was stored since has anything
+-- the buffer is active, and has nothing of the last commit and nothing stored since then
 pub record MayRetire {H : Type 0} (bits : ℕ) (work : WorkView H) (b : ℕ) : Type 0 where
   pub below : b < work.sizes.buffers
   pub active : 0 < active_width (work.buffer b)
   pub uncommitted : (r : ℕ) → buffer_of bits r ≡ b → words_at (last_image work.commits) r ≡ []
   pub unstored : (r i : ℕ) → buffer_of bits r ≡ b → work.stored r i ≡ None
 
--- a buffer went on hold under this tag: no commit that is kept, from the tag's on, has anything in it, nor was anything stored
--- there since; a reader that can have it stands on a hold of the tag's generation or an older one
+-- a buffer is on hold with this tag: no kept commit from the tag's on has anything in it, and nothing was stored in
+-- it since then; a reader that can reach it stands on a hold of the tag's generation or an older one
 pub record IsHeldUnder {H : Type 0} (bits : ℕ) (work : WorkView H) (b : ℕ) (tag : Tag) : Type 0 where
   pub generation : tag.generation ≤ current work
   pub commit : tag.commit ≤ work.commits.last
   pub unused : (n r : ℕ) → IsKept work.commits n → tag.commit ≤ n → buffer_of bits r ≡ b → words_at (work.commits.image n) r ≡ []
   pub later : AllByRecursion (λ h. tag.generation < h.generation → tag.commit ≤ h.first) work.queue
 
--- the tag of what goes on hold now
+-- the tag of a buffer that is put on hold now
 abbrev pub tag_now : {H : Type 0} → WorkView H → Tag
 tag_now work = record { generation = current work; commit = work.commits.last }
 
 abbrev pub retired : {H : Type 0} → WorkView H → ℕ → WorkView H
 retired work b = record work { buffer = with_buffer work.buffer b (Buffer.held (active_width (work.buffer b)) (tag_now work)) }
 
--- a buffer on hold whose tag is below a generation is free
+-- a buffer on hold becomes free if its tag is below a generation
 abbrev pub freed_below : ℕ → Buffer → Buffer
 freed_below generation (Buffer.free last) = Buffer.free last
 freed_below generation (Buffer.active width last) = Buffer.active width last
 freed_below generation (Buffer.held width tag) =
     if nat_lt tag.generation generation then Buffer.free (Some tag) else Buffer.held width tag
 
--- the oldest holds are closed up to the first that is in use or the newest; what is tagged below what is left becomes free
+-- the oldest holds are closed, up to the first that is in use or the newest; buffers whose tag is below the oldest
+-- open generation become free
 pub record Reclaims {H : Type 0} (answer : Oldest) (old new : WorkView H) : Type 0 where
   pub closed : ℕ
   pub queue : new.queue ≡ drop closed old.queue

@@ -1,15 +1,16 @@
--- What a work knows: the sizes, each buffer, the open holds, the commits that are kept, and what was stored since the last.
+-- What a work knows: the sizes, each buffer, the open holds, the kept commits, and what was stored since the last
+-- commit.
 use Rattle.std.specs.Prelude.{ℕ, suc, zero, ◌+◌, Bool, true, false, if◌then◌else◌, List, [], ◌∷◌, Option, Some}
 use Rattle.entry_ref.specs.declared.images.Image.{Image}
 
--- the numbers of buffers and of words in each, and the highest numbers of a commit and of a generation
+-- the number of buffers, the words of each, and the highest numbers of a commit and of a generation
 pub record Sizes : Type 0 where
   pub buffers : ℕ
   pub words : ℕ
   pub commits : ℕ
   pub generations : ℕ
 
--- the generation and the commit at which a buffer went on hold
+-- the generation and the last commit at the time when a buffer was put on hold
 pub record Tag : Type 0 where
   pub generation : ℕ
   pub commit : ℕ
@@ -20,13 +21,13 @@ pub data Buffer : Type 0 where
   active : ℕ → Option Tag → Buffer
   held : ℕ → Tag → Buffer
 
--- an open hold, with the first commit that a reader of it can have
+-- an open hold, with the first commit that its readers can have
 pub record Hold : Type 0 where
   pub generation : ℕ
   pub hold : ℕ
   pub first : ℕ
 
--- what a work begins with: generation 0 on hold 0, for readers from commit 0 on
+-- the first hold of a work: generation 0 on hold 0, for readers of commit 0 or later ones
 abbrev pub first_hold : Hold
 first_hold = record { generation = 0; hold = 0; first = 0 }
 
@@ -49,7 +50,7 @@ pub record Commits : Type 0 where
 abbrev pub Stored : Type 0
 Stored = ℕ → ℕ → Option ℕ
 
--- all that a work knows; its home says of which arena it is
+-- all that a work knows; `home` says to which arena it belongs
 pub record WorkView (H : Type 0) : Type 0 where
   pub home : H
   pub sizes : Sizes
@@ -59,21 +60,21 @@ pub record WorkView (H : Type 0) : Type 0 where
   pub commits : Commits
   -- what was stored since the last commit
   pub stored : Stored
-  -- the images of all commits, or nothing
+  -- the images of all commits, or none
   pub told : List Image
-  -- how often a hold was found in use, and the count that was found last
+  -- how often a hold was found in use, and the last count that was found
   pub stops : ℕ
   pub found : ℕ
-  -- how many readers were made
+  -- the number of readers made
   pub made : ℕ
 
--- the width of an active buffer's entries, 0 for the others
+-- the width of the entries of an active buffer, otherwise 0
 abbrev pub active_width : Buffer → ℕ
 active_width (Buffer.free tag) = 0
 active_width (Buffer.active width tag) = width
 active_width (Buffer.held width tag) = 0
 
--- the width of a buffer's entries, 0 where it is free
+-- the width of the entries of a buffer, or 0 if it is free
 abbrev pub width_of : Buffer → ℕ
 width_of (Buffer.free tag) = 0
 width_of (Buffer.active width tag) = width
@@ -90,7 +91,7 @@ last_tag (Buffer.free tag) = tag
 last_tag (Buffer.active width tag) = tag
 last_tag (Buffer.held width tag) = Some tag
 
--- how many of the first n buffers are free
+-- the number of free buffers among the first n
 abbrev pub free_count : (ℕ → Buffer) → ℕ → ℕ
 free_count buffer zero = 0
 free_count buffer (suc n) = free_count buffer n + (if is_free (buffer n) then 1 else 0)

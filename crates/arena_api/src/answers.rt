@@ -1,11 +1,11 @@
-/// What an advance of the generation comes to.
+/// The outcome of an advance of the generation.
 #[derive(Clone, Copy, PartialEq, Eq, Debug, Drop)]
 pub enum Advance {
-    /// This generation is current now, on this hold.
+    /// This generation is now current, on this hold.
     To { generation: u64, hold: u32 },
-    /// All holds are open, and the newest was found in use, with this count: the generation stays.
+    /// All holds are open and the newest is in use, with this count. The generation does not change.
     NoHold { holds: u32, found: u64 },
-    /// The current generation is the last that there can be.
+    /// The current generation is the last possible one.
     Spent { generation: u64 },
 }
 
@@ -14,7 +14,7 @@ pub enum Advance {
 pub struct Oldest {
     pub generation: u64,
     pub hold: u32,
-    /// The count with which it was found in use; 0 where it is the newest, and means nothing then.
+    /// The count with which it was found in use. It is 0 and has no meaning if the hold is the newest.
     pub found: u64,
     pub newest: bool,
 }

@@ -1,4 +1,4 @@
-//! Records that can be read: what every structure asks of the memory that it is read from.
+//! Records that can be read: what structures require of the memory that they are read from.
 #![tactic(auto)]
 
 ghost use Rattle.std.specs.Prelude.{◌≡◌, ◌<◌, ◌≤◌, ◌+◌, ◌^◌, ℕ, length, take, drop};
@@ -6,20 +6,20 @@ ghost use Rattle.entry_ref.specs.Records.{Records, HasWord, word_at};
 
 use entry_ref::EntryRef;
 
-/// Records that stay as they are.
+/// Records that do not change.
 pub trait Frozen<const OFFSET_BITS: u32> {
-    /// By which the layout of an image is read.
+    /// The shape by which a layout reads an image.
     ghost shape: { Self → ℕ };
 
     ghost records: { Self → Records };
 
-    /// Word `i` of a record. Reading changes nothing.
+    /// Returns word `i` of a record. Reading changes nothing.
     fn word(&mut self, entry: EntryRef<OFFSET_BITS>, i: u32) -> u64
         requires { HasWord (records self.old) entry i }
         ensures value { result ≡ word_at (records self.old) entry.entry i }
         ensures same { self.new ≡ self.old };
 
-    /// Reads words of a record, from word `first` on, as many as there is room for.
+    /// Reads words of a record into `into`, starting at word `first`, until `into` is full.
     fn read(&mut self, entry: EntryRef<OFFSET_BITS>, first: u32, into: &mut [u64])
         requires there { first + length into.old ≤ length (records self.old entry) }
         requires few { first + length into.old < 2 ^ 32 }
@@ -31,6 +31,6 @@ pub trait Frozen<const OFFSET_BITS: u32> {
         }
     }
 
-    // a record's reference fits 32 bits
+    // a record's reference fits in 32 bits
     ghost references: { (s : Self) (r : ℕ) → 0 < length (records s r) → r < 2 ^ 32 };
 }

@@ -1,5 +1,5 @@
-//! What every memory does: a work stores words, hands out buffers, publishes roots, and gives
-//! buffers again once no reader can have them.
+//! The traits of a memory. A work stores words, hands out buffers, publishes roots, and reuses buffers that no reader
+//! can reach any more.
 #![tactic(auto)]
 
 mod answers;

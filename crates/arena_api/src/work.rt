@@ -14,9 +14,9 @@ use crate::Frozen;
 use crate::answers::{Advance, Oldest};
 use entry_ref::{EntryRef, Layout};
 
-/// Buffers of words, over which records are made and roots are published.
+/// A memory with its writer: buffers of words, in which records are made and roots are published.
 ///
-/// Its records are those of the last commit and those that were stored whole since.
+/// Its records are those of the last commit and those that were stored whole since then.
 pub trait Work<const OFFSET_BITS: u32>: Frozen<OFFSET_BITS> {
     type Layout: Layout;
 
@@ -24,8 +24,8 @@ pub trait Work<const OFFSET_BITS: u32>: Frozen<OFFSET_BITS> {
 
     ghost knows: { Self → WorkView Self.Home };
 
-    /// Stores one word of an entry that no kept commit has. What the entry holds is a record again once
-    /// each of its words was stored.
+    /// Stores one word of an entry that is not a record of a kept commit. The entry is a record once each of its
+    /// words was stored.
     fn store(&mut self, entry: EntryRef<OFFSET_BITS>, i: u32, word: u64)
         requires { MayStore OFFSET_BITS (knows self.old) entry i }
         ensures knows { knows self.new
@@ -33,7 +33,7 @@ pub trait Work<const OFFSET_BITS: u32>: Frozen<OFFSET_BITS> {
         ensures others { (q : ℕ) → q ≢ entry.entry → Self.records self.new q ≡ Self.records self.old q }
         ensures shape { Self.shape self.new ≡ Self.shape self.old };
 
-    /// Stores a record whole: the given words, and zeros after them.
+    /// Stores a whole record: the given words, followed by zeros.
     fn put(&mut self, entry: EntryRef<OFFSET_BITS>, width: u32, words: &[u64])
         requires entry { IsEntry OFFSET_BITS (knows self.old).sizes.buffers (knows self.old).sizes.words width entry }
         requires width { active_width ((knows self.old).buffer (buffer_of OFFSET_BITS entry)) ≡ width }
@@ -50,7 +50,8 @@ pub trait Work<const OFFSET_BITS: u32>: Frozen<OFFSET_BITS> {
         }
     }
 
-    /// Takes the free buffer of lowest number for entries of `width` words, if one is free.
+    /// Takes the free buffer with the lowest number for entries of `width` words. Returns `None` if no buffer is
+    /// free.
     fn hand_out(&mut self, width: u32) -> Option<u32>
         requires { 0 < width }
         ensures none { IsNone result ↔ (free_count (knows self.old).buffer (knows self.old).sizes.buffers ≡ 0) }
@@ -60,7 +61,7 @@ pub trait Work<const OFFSET_BITS: u32>: Frozen<OFFSET_BITS> {
         ensures records { Self.records self.new ≡ Self.records self.old }
         ensures shape { Self.shape self.new ≡ Self.shape self.old };
 
-    /// Commits what the root reaches, under the number answered.
+    /// Commits the records that the root reaches, and returns the number of the commit.
     fn publish(&mut self, root: EntryRef<OFFSET_BITS>) -> u32
         requires lawful { Self.Layout.lawful (Self.shape self.old) (Self.records self.old) root }
         requires room { (knows self.old).commits.last < (knows self.old).sizes.commits }
@@ -73,14 +74,14 @@ pub trait Work<const OFFSET_BITS: u32>: Frozen<OFFSET_BITS> {
             ≡ words_at (next_image Self.Layout.reaches (Self.shape self.old) (Self.records self.old) root.entry) }
         ensures shape { Self.shape self.new ≡ Self.shape self.old };
 
-    /// Puts an active buffer on hold, under the current generation and the last commit.
+    /// Puts an active buffer on hold, with the current generation and the last commit as its tag.
     fn retire_buffer(&mut self, buffer: u32)
         requires { MayRetire OFFSET_BITS (knows self.old) buffer }
         ensures knows { knows self.new ≡ retired (knows self.old) buffer }
         ensures records { Self.records self.new ≡ Self.records self.old }
         ensures shape { Self.shape self.new ≡ Self.shape self.old };
 
-    /// Makes the next generation current, so that readers to come can be told from those that are there.
+    /// Begins the next generation, so that later readers can be told from earlier ones.
     fn advance(&mut self) -> Advance
         ensures holds { Advances result (knows self.old) (knows self.new) }
         ensures commits { LetsGo (knows self.old).commits (knows self.new).commits }
@@ -89,7 +90,7 @@ pub trait Work<const OFFSET_BITS: u32>: Frozen<OFFSET_BITS> {
         ensures records { Self.records self.new ≡ Self.records self.old }
         ensures shape { Self.shape self.new ≡ Self.shape self.old };
 
-    /// Closes the oldest holds up to the first that is in use, and frees the buffers on hold that no reader can have.
+    /// Closes the oldest holds up to the first that is in use, and frees the held buffers that no reader can reach.
     fn reclaim(&mut self) -> Oldest
         ensures holds { Reclaims result (knows self.old) (knows self.new) }
         ensures commits { LetsGo (knows self.old).commits (knows self.new).commits }
@@ -98,18 +99,18 @@ pub trait Work<const OFFSET_BITS: u32>: Frozen<OFFSET_BITS> {
         ensures records { Self.records self.new ≡ Self.records self.old }
         ensures shape { Self.shape self.new ≡ Self.shape self.old };
 
-    /// How many buffers are free.
+    /// Returns the number of free buffers.
     fn free_buffers(&self) -> u32
         ensures { result ≡ free_count (knows self.now).buffer (knows self.now).sizes.buffers };
 
     fn buffers(&self) -> u32
         ensures { result ≡ (knows self.now).sizes.buffers };
 
-    /// The words of each buffer.
+    /// Returns the number of words of each buffer.
     fn words(&self) -> u32
         ensures { result ≡ (knows self.now).sizes.words };
 
-    /// How many commits can still be made.
+    /// Returns how many more commits are possible.
     fn commits_left(&self) -> u32
         ensures { result ≡ (knows self.now).sizes.commits - (knows self.now).commits.last };
 
@@ -125,12 +126,12 @@ pub trait Work<const OFFSET_BITS: u32>: Frozen<OFFSET_BITS> {
     ghost entries: { (s : Self) (r : ℕ) → 0 < length (Self.records s r)
         → FitsEntry OFFSET_BITS (knows s).sizes (active_width ((knows s).buffer (buffer_of OFFSET_BITS r))) r (length (Self.records s r)) };
 
-    // a kept commit's record fills one of an active or held buffer
+    // a record of a kept commit fills an entry of an active or held buffer
     ghost kept: { (s : Self) (n r : ℕ) → IsKept (knows s).commits n → 0 < length (words_at ((knows s).commits.image n) r)
         → FitsEntry OFFSET_BITS (knows s).sizes (width_of ((knows s).buffer (buffer_of OFFSET_BITS r))) r
         (length (words_at ((knows s).commits.image n) r)) };
 
-    // the last commit's records are records
+    // the records of the last commit are records
     ghost last: { (s : Self) (r : ℕ) → 0 < length (words_at (last_image (knows s).commits) r)
         → Self.records s r ≡ words_at (last_image (knows s).commits) r };
 
@@ -139,7 +140,7 @@ pub trait Work<const OFFSET_BITS: u32>: Frozen<OFFSET_BITS> {
         → length ws ≡ active_width ((knows s).buffer (buffer_of OFFSET_BITS r))
         → ((i : ℕ) → i < length ws → (knows s).stored r i ≡ Some (slice_index ws i)) → Self.records s r ≡ ws };
 
-    // a record is of the last commit, or was stored whole since
+    // a record is in the last commit, or was stored whole since then
     ghost only: { (s : Self) (r : ℕ) → 0 < length (Self.records s r)
         → (Self.records s r ≡ words_at (last_image (knows s).commits) r)
         ⊎ ((i : ℕ) → i < length (Self.records s r) → (knows s).stored r i ≡ Some (slice_index (Self.records s r) i)) };
@@ -147,7 +148,8 @@ pub trait Work<const OFFSET_BITS: u32>: Frozen<OFFSET_BITS> {
     // only words of active buffers were stored
     ghost stored: { (s : Self) (r i w : ℕ) → (knows s).stored r i ≡ Some w → IsWordIn OFFSET_BITS (knows s) r i };
 
-    // what is on hold went there by the current generation and the last commit, and no commit since has anything in it
+    // a buffer on hold has a tag of the current generation and the last commit or earlier ones, and no commit since
+    // then has anything in it
     ghost held: { (s : Self) (b w : ℕ) (t : _) → (knows s).buffer b ≡ Buffer.held w t → IsHeldUnder OFFSET_BITS (knows s) b t };
 
     // the last tag of a free buffer is below each open generation

@@ -1,4 +1,4 @@
--- Arrays, and what the classes of records are, as laws.
+-- Arrays and the classes of records, as laws.
 use Rattle.std.specs.Prelude.{◌≡◌, ◌≢◌, ℕ, ◌<◌, ◌≤◌, true, List, ◌∷◌, length}
 use Rattle.entry_ref.specs.Records.{Among}
 use Rattle.tree_read.specs.declared.node_format.TheConstants.{NODE_WORDS}
@@ -11,28 +11,28 @@ pub record IsArray (ws : List ℕ) : Type 0 where
   pub few : length (stored_items ws) ≤ MOST_ITEMS
   pub words : ws ≡ filled (length (stored_items ws) ∷ stored_items ws)
 
--- the items of the record that is made of a list are that list
+-- the record made of a list has the items of that list
 abbrev pub ArrayReads : Type 0
 ArrayReads = (items : List ℕ) → stored_items (filled (length items ∷ items)) ≡ items
 
 abbrev pub ArrayIsMade : Type 0
 ArrayIsMade = (items : List ℕ) → length items ≤ MOST_ITEMS → IsArray (filled (length items ∷ items))
 
--- an array with items is a stored list, and the other way round
+-- an array with items is a stored list, and vice versa
 abbrev pub ListIsArray : Type 0
 ListIsArray = (most : ℕ) (ws : List ℕ) → most ≤ MOST_ITEMS → IsStoredList most ws → IsArray ws
 
 abbrev pub ArrayIsList : Type 0
 ArrayIsList = (ws : List ℕ) → IsArray ws → 0 < length (stored_items ws) → IsStoredList (length (stored_items ws)) ws
 
--- a class holds the words that it is of, and is the least that does
+-- a class holds its number of words, and is the least that does
 abbrev pub ClassHolds : Type 0
 ClassHolds = (n : ℕ) → n ≤ MOST_WORDS → n ≤ class_of n
 
 abbrev pub ClassIsLeast : Type 0
 ClassIsLeast = (n width : ℕ) → Among width classes → n ≤ width → class_of n ≤ width
 
--- a class is a width of a store, and not that of nodes
+-- a class is a width of a store, and not that of tree nodes
 abbrev pub ClassIsWidth : Type 0
 ClassIsWidth = (n : ℕ) → is_width (class_of n) ≡ true
 

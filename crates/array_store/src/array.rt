@@ -21,7 +21,7 @@ fn write_array(words: &mut [u64], items: &[u64])
     rest.copy_from_slice(items);
 }
 
-/// Adds an array, by a buffer with room for its record.
+/// Adds an array, with a buffer in which its record fits.
 fn add_by<const OFFSET_BITS: u32, S: Store<OFFSET_BITS>>(
     store: &mut S,
     items: &[u64],
@@ -65,7 +65,7 @@ pub fn add<const OFFSET_BITS: u32, S: Store<OFFSET_BITS>>(
     }
 }
 
-/// How many items an array has.
+/// Returns the number of items of an array.
 pub fn count<const OFFSET_BITS: u32, F: Frozen<OFFSET_BITS>>(
     frozen: &mut F,
     array: EntryRef<OFFSET_BITS>,
@@ -78,7 +78,7 @@ pub fn count<const OFFSET_BITS: u32, F: Frozen<OFFSET_BITS>>(
     frozen.word(array, 0) as u32
 }
 
-/// Item `i` of an array.
+/// Returns item `i` of an array.
 pub fn get<const OFFSET_BITS: u32, F: Frozen<OFFSET_BITS>>(
     frozen: &mut F,
     array: EntryRef<OFFSET_BITS>,

@@ -6,7 +6,7 @@ use crate::MOST_WORDS;
 
 const CLASSES: [u32; 10] = [2, 4, 8, 16, 32, 64, 128, 256, 512, 1024];
 
-/// The least width of a record that holds so many words.
+/// Returns the least width of a record that holds `words` words.
 pub fn class_of(words: u32) -> u32
     requires { words ≤ MOST_WORDS }
     ensures class { result ≡ class_of words }

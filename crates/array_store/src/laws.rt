@@ -1,8 +1,8 @@
-//! Laws of classes and arrays. Each function does nothing: its contract is the law.
+//! Laws of classes and arrays. Each function does nothing; its contract is the law.
 ghost use Rattle.array_store.specs.Arrays.{ArrayReads, ArrayIsMade, ListIsArray, ArrayIsList};
 ghost use Rattle.array_store.specs.Arrays.{ClassHolds, ClassIsLeast, ClassIsWidth, ClassIsNoNode, RecordHasClass};
 
-/// A class is the least width of records that holds so many words.
+/// A class is the least record width that holds a number of words.
 pub fn class_law()
     ensures holds { ClassHolds }
     ensures least { ClassIsLeast }
@@ -11,7 +11,7 @@ pub fn class_law()
     ensures record { RecordHasClass }
 {}
 
-/// An array reads back as the items that it was made of; one with items is a stored list.
+/// An array reads back as the items of which it was made. An array with items is a stored list.
 pub fn array_law()
     ensures made { ArrayIsMade }
     ensures reads { ArrayReads }

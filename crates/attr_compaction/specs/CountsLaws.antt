@@ -1,4 +1,4 @@
--- How many keys lie between two places, as laws.
+-- The number of keys between two places, as laws.
 use Rattle.std.specs.Prelude.{◌≡◌, ◌≢◌, ℕ, suc, ◌<◌, List, length, slice_get, None, Some}
 use Rattle.std.specs.List.{AllZip}
 use Rattle.std.specs.List.Sorted.{IsStrictlySortedBy}
@@ -12,7 +12,7 @@ use Rattle.attr_images.specs.Tables.{AttributeTrees}
 use Rattle.attr_compaction.specs.PhaseKeys.{key_past}
 use Rattle.attr_compaction.specs.Counts.{keys_between, keys_of_phase}
 
--- none lies between a place and itself
+-- no key lies between a place and itself
 abbrev pub NoneAreBetween : Type 0
 NoneAreBetween = (m : Records) (trees : List AttributeTrees) (at : PlanPlace) → keys_between at at m trees ≡ 0
 
@@ -23,13 +23,13 @@ NextIsOneMore = (m : Records) (trees : List AttributeTrees) (a : AttributeTrees)
     → place_cmp from at ≢ Greater → key_past at.key (keys_of_phase m a at.stage.phase) ≡ Some key
     → keys_between from (record { stage = at.stage; key = key }) m trees ≡ suc (keys_between from at m trees)
 
--- where the phase has none there is none up to the next phase
+-- if the phase has no further key, there is no key up to the next phase
 abbrev pub EndIsNoMore : Type 0
 EndIsNoMore = (m : Records) (trees : List AttributeTrees) (a : AttributeTrees) (from at : PlanPlace)
     → slice_get trees at.stage.field ≡ Some a → at.stage.phase < PHASES → key_past at.key (keys_of_phase m a at.stage.phase) ≡ None
     → keys_between from (place_after (length trees) at Start) m trees ≡ keys_between from at m trees
 
--- attributes with the same keys in each phase have as many
+-- attributes with the same keys in each phase have the same counts
 abbrev pub SameAreBetween : Type 0
 SameAreBetween = (m n : Records) (trees next : List AttributeTrees) (from to : PlanPlace)
     → AllZip (λ a b. (phase : ℕ) → keys_of_phase n b phase ≡ keys_of_phase m a phase) trees next

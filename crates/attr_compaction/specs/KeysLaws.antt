@@ -1,4 +1,4 @@
--- What the keys of a phase are, as a law.
+-- The keys of a phase, as a law.
 use Rattle.std.specs.Prelude.{ℕ}
 use Rattle.std.specs.List.Sorted.{IsStrictlySortedBy}
 use Rattle.entry_ref.specs.Records.{Records}

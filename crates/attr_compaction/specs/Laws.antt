@@ -1,4 +1,4 @@
--- What places and keys are, as laws.
+-- Places and keys, as laws.
 use Rattle.std.specs.Prelude.{◌≡◌, ◌⊎◌, ℕ, ◌<◌}
 use Rattle.std.specs.Cmp.{IsTotalOrder}
 use Rattle.std.specs.declared.cmp.Ordering.TheVariants.{Less, Equal}
@@ -11,11 +11,11 @@ use Rattle.attr_compaction.specs.Places.{key_cmp, place_after, place_cmp, IsPast
 abbrev pub PlacesAreOrdered : Type 0
 PlacesAreOrdered = IsTotalOrder key_cmp × IsTotalOrder place_cmp
 
--- equal keys are the same
+-- keys that compare as equal are the same
 abbrev pub KeysAreExact : Type 0
 KeysAreExact = (a b : PlanKey) → key_cmp a b ≡ Equal → a ≡ b
 
--- the place after one is above it
+-- the place after a place is above it
 abbrev pub NextIsAbove : Type 0
 NextIsAbove = (fields : ℕ) (at : PlanPlace) (done : PlanKey) → at.stage.phase < PHASES → (done ≡ Start) ⊎ IsPast at done
     → place_cmp at (place_after fields at done) ≡ Less

@@ -1,4 +1,4 @@
--- The keys of the phases of a compaction, by the trees of an attribute; each phase has them in order.
+-- The keys of the phases of a compaction, from the trees of an attribute. Each phase has them in order.
 use Rattle.std.specs.Prelude.{◌≡◌, ℕ, List, [], ◌∷◌, map, ◌++◌, Option, None, Some, nat_eq, nat_lt, if◌then◌else◌}
 use Rattle.std.specs.List.{find, flat_map}
 use Rattle.std.specs.Option.{option_map}
@@ -23,7 +23,7 @@ value_keys type m root = map (λ p. Value (stored_value type m p.0)) (tree_pairs
 abbrev pub document_keys : Records → ℕ → List PlanKey
 document_keys m root = map (λ p. Doc p.0) (tree_pairs m root)
 
--- the documents of a list, as keys have them: a list that is one record is one key
+-- the documents of a list in the form of keys: a list that is a single record is one key
 abbrev pub form_docs : Records → ListForm → List ℕ
 form_docs m (short ref) = 0 ∷ []
 form_docs m (tree root) = map (λ p. p.0) (tree_pairs m root)
@@ -40,7 +40,7 @@ pair_keys type m root = keys_of_pairs type m (tree_pairs m root)
 abbrev pub node_phase_keys : ValueType → Records → ℕ → ℕ → List PlanKey
 node_phase_keys type m documents dictionary = value_keys type m dictionary ++ document_keys m documents
 
--- the keys of a phase, of an attribute with these trees
+-- the keys of a phase, for an attribute with these trees
 abbrev pub phase_keys : ValueType → Records → ℕ → ℕ → ℕ → List PlanKey
 phase_keys type m documents dictionary phase =
     if nat_eq phase KEYS then value_keys type m dictionary
@@ -48,27 +48,27 @@ phase_keys type m documents dictionary phase =
     else if nat_eq phase LISTS then pair_keys type m dictionary
     else node_phase_keys type m documents dictionary
 
--- a value's record, and its list
+-- a value's record, and its posting list
 pub record IsListPair (type : ValueType) (m : Records) (p : ℕ × ℕ) : Type 0 where
   pub record_is : IsValueRecord type (m p.0)
   pub pair_is : IsValuePair m p
 
--- the next key in the list of a pair, where there is one
+-- the next key in the list of a pair, if there is one
 abbrev pub next_in_list : ValueType → Records → ℕ → Option (ℕ × ℕ) → Option PlanKey
 next_in_list type m doc None = None
 next_in_list type m doc (Some p) = option_map (λ next. Pair (stored_value type m p.0) next)
     (find (nat_lt doc) (form_docs m (list_form p.1)))
 
--- the first key that is past another
+-- the first key after another
 abbrev pub key_past : PlanKey → List PlanKey → Option PlanKey
 key_past key keys = find (λ next. is_lt (key_cmp key next)) keys
 
--- the first of a list
+-- the first item of a list, if there is one
 abbrev pub first_item : {A : Type 0} → List A → Option A
 first_item [] = None
 first_item (x ∷ xs) = Some x
 
--- what value a key names is one of this type
+-- if a key names a value, the value has this type
 abbrev pub HasType : ValueType → PlanKey → Type 0
 HasType type Start = Unit {0}
 HasType type (Value value) = type_of value ≡ type

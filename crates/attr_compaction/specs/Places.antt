@@ -1,4 +1,4 @@
--- The place of a compaction: an attribute, a phase of it, and the last key of the phase that was visited.
+-- The place of a compaction: an attribute, one of its phases, and the last visited key of the phase.
 use Rattle.std.specs.Prelude.{◌≡◌, ℕ, pos, ◌+◌, ◌<◌, ◌≤◌, Bool, true, false, ◌||◌, nat_eq, nat_lt, if◌then◌else◌}
 use Rattle.std.specs.declared.cmp.Ordering.{Ordering}
 use Rattle.std.specs.declared.cmp.Ordering.TheVariants.{Less}
@@ -11,14 +11,14 @@ use Rattle.attr_compaction.specs.declared.plan.PlanKey.{PlanKey}
 use Rattle.attr_compaction.specs.declared.plan.PlanKey.TheVariants.{Start, Value, Doc, Pair}
 use Rattle.attr_compaction.specs.declared.plan.Stage.{Stage}
 
--- ---- keys in order: by their kinds, and then by the value and the document that they name
+-- ---- the order of keys: by their variant, then by the value and the document that they name
 abbrev pub rank_of : PlanKey → ℕ
 rank_of Start = 0
 rank_of (Value value) = 1
 rank_of (Doc doc) = 2
 rank_of (Pair value doc) = 3
 
--- 0 where a key names none
+-- 0 if a key names no value
 abbrev pub value_in : PlanKey → AnyValue
 value_in Start = values.Long (pos 0)
 value_in (Value value) = value
@@ -40,19 +40,19 @@ is_start (Value value) = false
 is_start (Doc doc) = false
 is_start (Pair value doc) = false
 
--- the keys of a phase: values, documents, documents in lists, and values and then documents
+-- the keys of a phase: values; documents; documents in lists; or values and then documents
 abbrev pub has_key : ℕ → PlanKey → Bool
 has_key phase Start = false
 has_key phase (Value value) = nat_eq phase KEYS || nat_eq phase NODES
 has_key phase (Doc doc) = nat_eq phase DOCUMENTS || nat_eq phase NODES
 has_key phase (Pair value doc) = nat_eq phase LISTS
 
--- ---- places in order
+-- ---- the order of places
 pub record PlanPlace : Type 0 where
   pub stage : Stage
   pub key : PlanKey
 
--- a compaction of a buffer, over so many attributes
+-- a compaction of a buffer, over this many attributes
 pub record PlanView : Type 0 where
   pub victim : ℕ
   pub fields : ℕ
@@ -67,7 +67,7 @@ place_cmp = then_cmp (on (λ (a : PlanPlace). a.stage) stage_cmp) (on (λ (a : P
 abbrev pub first_place : PlanPlace
 first_place = record { stage = record { field = 0; phase = KEYS }; key = Start }
 
--- no key yet, or one of the phase
+-- no key, or one of the phase
 pub record HasKey (phase : ℕ) (key : PlanKey) : Type 0 where
   pub of_phase : is_start key ≡ false → has_key phase key ≡ true
 
@@ -76,19 +76,19 @@ pub record IsPlanPlace (fields : ℕ) (at : PlanPlace) : Type 0 where
   pub phase : at.stage.phase ≤ PHASES
   pub key : HasKey at.stage.phase at.key
 
--- a key of the place's phase that is past the place
+-- a key of the place's phase, after the place
 pub record IsPast (at : PlanPlace) (key : PlanKey) : Type 0 where
   pub of_phase : has_key at.stage.phase key ≡ true
   pub above : key_cmp at.key key ≡ Less
 
--- the next phase; after the last one the next attribute's first, and past all keys after the last attribute's
+-- the next phase; after the last phase, the first of the next attribute; after the last attribute, past all keys
 abbrev pub next_stage : ℕ → Stage → Stage
 next_stage fields stage =
     if nat_lt stage.phase NODES then record { field = stage.field; phase = stage.phase + 1 }
     else if nat_lt (stage.field + 1) fields then record { field = stage.field + 1; phase = KEYS }
     else record { field = stage.field; phase = PHASES }
 
--- the place after a key was visited; Start stands for the end of the phase
+-- the place after a visited key; `Start` means the end of the phase
 abbrev pub place_after : ℕ → PlanPlace → PlanKey → PlanPlace
 place_after fields at done =
     record { stage = (if is_start done then next_stage fields at.stage else at.stage); key = done }

@@ -1,8 +1,8 @@
-//! Laws of the keys between two places. The function does nothing: its contract is the law.
+//! Laws of the keys between two places. The function does nothing; its contract is the law.
 ghost use Rattle.attr_compaction.specs.CountsLaws.{EndIsNoMore, NextIsOneMore, NoneAreBetween, SameAreBetween};
 
-/// None lies between a place and itself; there is one more up to the next key of a place, and none more where a phase has no further
-/// key. Attributes with the same keys have as many.
+/// No key lies between a place and itself. Up to the next key of a place there is one more, and none more if the
+/// phase has no further key. Attributes with the same keys have the same counts.
 #[tactic(none)]
 pub fn count_law()
     ensures none { NoneAreBetween }

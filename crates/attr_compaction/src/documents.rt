@@ -9,7 +9,7 @@ use crate::numbers::{first_number, number_past};
 use arena_api::Frozen;
 use entry_ref::EntryRef;
 
-/// The key of a document.
+/// Returns the key of a document.
 fn document_key(number: Option<u32>) -> Option<PlanKey>
     ensures { result ≡ option_map (λ doc. keys.Doc doc) number }
 {
@@ -19,7 +19,7 @@ fn document_key(number: Option<u32>) -> Option<PlanKey>
     }
 }
 
-/// The first document that is past a key.
+/// Returns the first document after a key.
 #[tactic(none)]
 pub fn document_after<const OFFSET_BITS: u32, F: Frozen<OFFSET_BITS>>(
     frozen: &mut F,

@@ -1,8 +1,8 @@
-//! Where a compaction stands: which keys of which attribute were visited, in the order in which they are.
+//! The plan of a compaction: which keys of which attribute were visited, in the order of places.
 //!
-//! Which keys the phases of a compaction have, and which is the next one past a place.
+//! The phases of a compaction: their keys, and which key is the next after a place.
 //!
-//! How many keys of a compaction lie between two of its places.
+//! Counts of keys between two places of a compaction.
 #![tactic(auto)]
 
 mod counts_laws;

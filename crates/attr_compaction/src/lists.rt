@@ -8,7 +8,7 @@ use crate::numbers::{first_number, number_past};
 use arena_api::Frozen;
 use entry_ref::EntryRef;
 
-/// Whether a list is one record.
+/// Returns whether a list is a single record.
 fn is_short(list: u64) -> bool
     ensures even { result ≡ true → list % 2 ≡ 0 }
     ensures odd { result ≡ false → list % 2 ≡ 1 }
@@ -16,7 +16,7 @@ fn is_short(list: u64) -> bool
     list % 2 == 0
 }
 
-/// The root of a list that is a tree.
+/// Returns the root of a list that is a tree.
 fn root_of<const OFFSET_BITS: u32>(list: u64) -> EntryRef<OFFSET_BITS>
     requires { IsPlain list }
     ensures { result ≡ list / 2 }
@@ -24,7 +24,7 @@ fn root_of<const OFFSET_BITS: u32>(list: u64) -> EntryRef<OFFSET_BITS>
     EntryRef::from_raw((list / 2) as u32)
 }
 
-/// The first document of a list, as a key has it: 0 of a list that is one record.
+/// Returns the first document of a list in the form of a key, which is 0 if the list is a single record.
 pub fn first_in_list<const OFFSET_BITS: u32, F: Frozen<OFFSET_BITS>>(
     frozen: &mut F,
     list: u64,
@@ -41,7 +41,7 @@ pub fn first_in_list<const OFFSET_BITS: u32, F: Frozen<OFFSET_BITS>>(
     first_number(frozen, root_of(list))
 }
 
-/// The first document of a list that is above another, as keys have them.
+/// Returns the first document of a list above another one, in the form of a key.
 pub fn past_in_list<const OFFSET_BITS: u32, F: Frozen<OFFSET_BITS>>(
     frozen: &mut F,
     list: u64,

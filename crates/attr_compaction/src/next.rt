@@ -13,7 +13,7 @@ use attr_types::ValueType;
 use entry_ref::EntryRef;
 use std::alloc::{AllocError, Global};
 
-/// The first key past another of the last phase: a value, or where none follows a document.
+/// Returns the first key of the last phase after another one: a value, or, if there is none, a document.
 #[tactic(none)]
 fn node_after<const OFFSET_BITS: u32, F: Frozen<OFFSET_BITS>>(
     alloc: Global,
@@ -37,7 +37,7 @@ fn node_after<const OFFSET_BITS: u32, F: Frozen<OFFSET_BITS>>(
     }
 }
 
-/// The first key of a phase of a compaction that is past another, by the trees of an attribute.
+/// Returns the first key of a phase of a compaction after another one, from the trees of an attribute.
 #[tactic(none)]
 pub fn next_key<const OFFSET_BITS: u32, F: Frozen<OFFSET_BITS>>(
     alloc: Global,

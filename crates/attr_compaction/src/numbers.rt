@@ -12,7 +12,7 @@ use arena_api::Frozen;
 use entry_ref::EntryRef;
 use frozen_btree::{Cursor, NumberKey};
 
-/// The document of the pair that follows, where one does.
+/// Returns the document of the next pair, if there is one.
 fn number_at<const OFFSET_BITS: u32, F: Frozen<OFFSET_BITS>>(
     frozen: &mut F,
     cursor: &Cursor<OFFSET_BITS>,
@@ -30,7 +30,7 @@ fn number_at<const OFFSET_BITS: u32, F: Frozen<OFFSET_BITS>>(
     Some(number)
 }
 
-/// The first document of a tree by document.
+/// Returns the first document of a tree by document.
 pub fn first_number<const OFFSET_BITS: u32, F: Frozen<OFFSET_BITS>>(
     frozen: &mut F,
     root: EntryRef<OFFSET_BITS>,
@@ -44,7 +44,7 @@ pub fn first_number<const OFFSET_BITS: u32, F: Frozen<OFFSET_BITS>>(
     number_at(frozen, &cursor)
 }
 
-/// The first document of a tree by document that is above a number.
+/// Returns the first document of a tree by document above a number.
 pub fn number_past<const OFFSET_BITS: u32, F: Frozen<OFFSET_BITS>>(
     frozen: &mut F,
     root: EntryRef<OFFSET_BITS>,

@@ -20,7 +20,7 @@ use frozen_btree::Cursor;
 use std::alloc::{AllocError, Global};
 use unique_store::get;
 
-/// The key of a document in the list of a value, whose record is given.
+/// Returns the key of a document in the list of a value, whose record is given.
 fn pair_key<const OFFSET_BITS: u32, F: Frozen<OFFSET_BITS>>(
     alloc: Global,
     frozen: &mut F,
@@ -36,7 +36,7 @@ fn pair_key<const OFFSET_BITS: u32, F: Frozen<OFFSET_BITS>>(
     Ok(Some(PlanKey::Pair(value, doc)))
 }
 
-/// The first key of the list of the pair that follows, where one does.
+/// Returns the first key of the list of the next pair, if there is one.
 fn pair_at<const OFFSET_BITS: u32, F: Frozen<OFFSET_BITS>>(
     alloc: Global,
     frozen: &mut F,
@@ -60,7 +60,7 @@ fn pair_at<const OFFSET_BITS: u32, F: Frozen<OFFSET_BITS>>(
     }
 }
 
-/// The first key of the lists.
+/// Returns the first key of the lists.
 fn first_pair<const OFFSET_BITS: u32, F: Frozen<OFFSET_BITS>>(
     alloc: Global,
     frozen: &mut F,
@@ -75,7 +75,7 @@ fn first_pair<const OFFSET_BITS: u32, F: Frozen<OFFSET_BITS>>(
     pair_at(alloc, frozen, value_type, &cursor)
 }
 
-/// The next key in a list.
+/// Returns the next key in a list.
 fn next_in<const OFFSET_BITS: u32, F: Frozen<OFFSET_BITS>>(
     alloc: Global,
     frozen: &mut F,
@@ -94,7 +94,7 @@ fn next_in<const OFFSET_BITS: u32, F: Frozen<OFFSET_BITS>>(
     }
 }
 
-/// The next key in the list of a value, where it is there.
+/// Returns the next key in the list of a value, if the value exists.
 fn next_of_value<const OFFSET_BITS: u32, F: Frozen<OFFSET_BITS>>(
     alloc: Global,
     frozen: &mut F,
@@ -115,7 +115,7 @@ fn next_of_value<const OFFSET_BITS: u32, F: Frozen<OFFSET_BITS>>(
     }
 }
 
-/// The first key of the lists of the values above one.
+/// Returns the first key of the lists of the values above a value.
 fn first_behind<const OFFSET_BITS: u32, F: Frozen<OFFSET_BITS>>(
     alloc: Global,
     frozen: &mut F,
@@ -133,7 +133,7 @@ fn first_behind<const OFFSET_BITS: u32, F: Frozen<OFFSET_BITS>>(
     pair_at(alloc, frozen, value_type, &cursor)
 }
 
-/// The first key of the lists that is past a document in the list of a value.
+/// Returns the first key of the lists after a document in the list of a value.
 #[tactic(none)]
 fn pair_past<const OFFSET_BITS: u32, F: Frozen<OFFSET_BITS>>(
     alloc: Global,
@@ -156,7 +156,7 @@ fn pair_past<const OFFSET_BITS: u32, F: Frozen<OFFSET_BITS>>(
     }
 }
 
-/// The first key of the lists that is past a key.
+/// Returns the first key of the lists after a key.
 #[tactic(none)]
 pub fn pair_after<const OFFSET_BITS: u32, F: Frozen<OFFSET_BITS>>(
     alloc: Global,

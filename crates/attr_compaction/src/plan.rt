@@ -12,17 +12,17 @@ pub const KEYS: u32 = 0;
 /// The phase of the documents with their items.
 pub const DOCUMENTS: u32 = 1;
 
-/// The phase of the lists of the values.
+/// The phase of the posting lists of the values.
 pub const LISTS: u32 = 2;
 
 /// The phase of the nodes of the dictionary, and then of the tree of documents.
 pub const NODES: u32 = 3;
 
-/// How many phases there are; this one is past all keys.
+/// The number of phases. As a phase it is after all keys.
 pub const PHASES: u32 = 4;
 
-/// What a step of a compaction visits: a value in its dictionary, a document, or a document in the list of a value, which
-/// is 0 for a list that is one record.
+/// What a step of a compaction visits: a value in the dictionary, a document, or a document in the list of a value (0
+/// for a list that is a single record).
 #[derive(Drop)]
 pub enum PlanKey {
     /// Before the first key of a phase.
@@ -39,7 +39,7 @@ struct Stage {
     phase: u32,
 }
 
-/// The place of a compaction that empties one buffer: all keys up to it were visited. It rises, and never falls.
+/// The place of a compaction that empties one buffer. All keys up to it were visited. It only moves forward.
 #[derive(Drop)]
 pub struct Plan {
     victim: u32,
@@ -59,7 +59,7 @@ impl Model for Plan {
 }
 
 impl Plan {
-    /// Before the first key of the first of so many attributes, in a compaction of this buffer.
+    /// Returns the plan before the first key of the first of `fields` attributes, for a compaction of this buffer.
     pub fn start(victim: u32, fields: u32) -> Plan
         requires { 0 < fields }
         ensures victim { result.victim ≡ victim }
@@ -77,14 +77,14 @@ impl Plan {
         }
     }
 
-    /// The buffer that is emptied.
+    /// Returns the buffer that is emptied.
     pub fn victim(&self) -> u32
         ensures { result ≡ self.now.victim }
     {
         self.victim
     }
 
-    /// The attribute in which the place is.
+    /// Returns the attribute of the place.
     pub fn field(&self) -> u32
         ensures field { result ≡ self.now.place.stage.field }
         ensures below { result < self.now.fields }
@@ -92,7 +92,7 @@ impl Plan {
         self.stage.field
     }
 
-    /// The phase in which the place is, `PHASES` where all keys were visited.
+    /// Returns the phase of the place, or `PHASES` if all keys were visited.
     pub fn phase(&self) -> u32
         ensures phase { result ≡ self.now.place.stage.phase }
         ensures most { result ≤ PHASES }
@@ -100,7 +100,7 @@ impl Plan {
         self.stage.phase
     }
 
-    /// The last key of the phase that was visited.
+    /// Returns the last visited key of the phase.
     pub fn key(&self) -> &PlanKey
         ensures key { result.now ≡ self.now.place.key }
         ensures of_phase { HasKey self.now.place.stage.phase self.now.place.key }
@@ -108,9 +108,9 @@ impl Plan {
         &self.next_key
     }
 
-    /// A key was visited that is past the place; the place is this key then. With `Start` the phase has no further key,
-    /// and the place is before the first key of the next phase, or of the next attribute after the last phase; past all
-    /// keys after the last attribute.
+    /// Moves the place to `done`, a visited key after it. If `done` is `Start`, the phase has no further key, and the
+    /// place moves before the first key of the next phase, or of the next attribute after the last phase. After the
+    /// last attribute it is past all keys.
     pub fn next(&mut self, done: PlanKey)
         requires phase { self.old.place.stage.phase < PHASES }
         requires done { (done ≡ keys.Start) ⊎ IsPast self.old.place done }
@@ -125,7 +125,7 @@ impl Plan {
     }
 }
 
-/// Whether it is before the first key.
+/// Returns whether the key is `Start`.
 fn is_start(key: &PlanKey) -> bool
     ensures { result ≡ is_start key.now }
 {
@@ -137,7 +137,7 @@ fn is_start(key: &PlanKey) -> bool
     }
 }
 
-/// The same phase, or where it is over the next one.
+/// Returns the same phase, or the next one if it is over.
 fn stage_after(fields: u32, stage: Stage, is_over: bool) -> Stage
     requires { stage.field < fields }
     ensures { result ≡ (if is_over then next_stage fields stage else stage) }

@@ -17,7 +17,7 @@ use frozen_btree::Cursor;
 use std::alloc::{AllocError, Global};
 use unique_store::get;
 
-/// The value of the pair that follows, where one does.
+/// Returns the value of the next pair, if there is one.
 fn value_at<const OFFSET_BITS: u32, F: Frozen<OFFSET_BITS>>(
     alloc: Global,
     frozen: &mut F,
@@ -40,7 +40,7 @@ fn value_at<const OFFSET_BITS: u32, F: Frozen<OFFSET_BITS>>(
     Ok(Some(PlanKey::Value(value)))
 }
 
-/// The first value of a dictionary.
+/// Returns the first value of a dictionary.
 fn first_value<const OFFSET_BITS: u32, F: Frozen<OFFSET_BITS>>(
     alloc: Global,
     frozen: &mut F,
@@ -55,7 +55,7 @@ fn first_value<const OFFSET_BITS: u32, F: Frozen<OFFSET_BITS>>(
     value_at(alloc, frozen, value_type, &cursor)
 }
 
-/// The first value of a dictionary above another.
+/// Returns the first value of a dictionary above another.
 fn value_past<const OFFSET_BITS: u32, F: Frozen<OFFSET_BITS>>(
     alloc: Global,
     frozen: &mut F,
@@ -73,7 +73,7 @@ fn value_past<const OFFSET_BITS: u32, F: Frozen<OFFSET_BITS>>(
     value_at(alloc, frozen, value_type, &cursor)
 }
 
-/// The first value of a dictionary that is past a key.
+/// Returns the first value of a dictionary after a key.
 #[tactic(none)]
 pub fn value_after<const OFFSET_BITS: u32, F: Frozen<OFFSET_BITS>>(
     alloc: Global,

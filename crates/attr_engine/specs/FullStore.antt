@@ -1,2 +1,2 @@
--- What the crates above see of a loading that found no room.
+-- What the crates above see of a loading that ran out of space.
 pub use Rattle.attr_loader.specs.declared.loaded.NoRoom.{NoRoom}

@@ -1,4 +1,4 @@
--- What happened in a run: its commits, and the rounds of its readers with what each told.
+-- What happened in a run: its commits, and the rounds of its readers with their answers.
 use Rattle.std.specs.Prelude.{◌≡◌, ℕ, ◌+◌, ◌≤◌, ◌==◌, if◌then◌else◌, List, [], ◌∷◌, map, length, is_some, Option, Some, None, Vec}
 use Rattle.std.specs.Global.{Global}
 use Rattle.std.specs.List.{filter_map}
@@ -11,7 +11,8 @@ use Rattle.attr_report.specs.Run.{Run, table_after}
 use Rattle.attr_report.specs.History.{numbers_to}
 use Rattle.attr_engine.specs.declared.came.Came.{Came}
 
--- a commit of that number with the first so many operations; or a round of a reader with what it told, both numbered from 1
+-- a commit, with its number and its number of operations; or a round of a reader with its answers, both numbered from
+-- 1
 pub data Happening : Type 0 where
   Committed : (commit operations : ℕ) → Happening
   Answered : (reader number : ℕ) → (round : Round Told) → Happening
@@ -41,7 +42,8 @@ AreInOrder events reader [] = Unit {0}
 AreInOrder events reader (rounds ∷ others) =
     (filter_map (round_of reader) events ≡ with_numbers 1 rounds.items) × AreInOrder events (reader + 1) others
 
--- each round is of one of so many readers, comes after its own commit and before the next one, and tells the table of that commit
+-- each round is a round of one of the readers, comes after its own commit and before the next one, and has the
+-- answers of that commit's table
 abbrev pub AreAtCommits : Run → List Op → ℕ → Option (ℕ × ℕ) → List Happening → Type 0
 AreAtCommits run ops readers last [] = Unit {0}
 AreAtCommits run ops readers last (Committed commit operations ∷ events) =

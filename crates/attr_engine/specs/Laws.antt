@@ -1,4 +1,4 @@
--- What a run came to is what its report's statement wants.
+-- The result of a run meets the statement of its report.
 use Rattle.std.specs.Prelude.{ℕ, List, length, Option}
 use Rattle.attr_types.specs.declared.op.Op.{Op}
 use Rattle.attr_report.specs.Run.{Run}
@@ -6,12 +6,12 @@ use Rattle.attr_report.specs.History.{IsRounds, IsAfterwards}
 use Rattle.attr_engine.specs.declared.came.Came.{Came}
 use Rattle.attr_engine.specs.Rounds.{IsCame, progress_at}
 
--- its rounds stand at commit points that were loaded, and those of a reader never fall
+-- its rounds are at loaded commit points, and those of one reader never fall
 abbrev pub RoundsStand : Type 0
 RoundsStand = (run : Run) (ops : List Op) (came : Came) (saved : Option ℕ) → IsCame run ops came
     → IsRounds run (length ops) (progress_at came saved)
 
--- where the readers run after the loading, each round sees all that was loaded
+-- if the readers run after the loading, each round sees everything that was loaded
 abbrev pub RoundsComeAfter : Type 0
 RoundsComeAfter = (run : Run) (ops : List Op) (came : Came) (saved : Option ℕ) → IsCame run ops came
     → IsAfterwards run (progress_at came saved)

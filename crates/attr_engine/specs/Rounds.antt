@@ -1,4 +1,4 @@
--- The rounds of a run: each of one commit, with the lines of the plain table there.
+-- The rounds of a run: each is at one commit, with the lines of the plain table there.
 use Rattle.std.specs.Prelude.{◌≡◌, ℕ, ◌+◌, ◌≤◌, Bool, true, false, List, ◌∷◌, map, length, Option, is_some, IfSome, All}
 use Rattle.std.specs.List.{AllByRecursion}
 use Rattle.std.specs.List.Sorted.{IsNonDecreasing}
@@ -18,7 +18,7 @@ use Rattle.attr_report.specs.History.{IsLoaded}
 use Rattle.attr_engine.specs.declared.came.Came.{Came}
 use Rattle.attr_engine.specs.Run.{full_of}
 
--- a round is of a commit up to the last, and tells the table of the operations that this commit has
+-- a round is at a commit up to the last, with the answers of the table after the operations of that commit
 pub record IsRoundAt (run : Run) (ops : List Op) (last : ℕ) (round : Round Told) : Type 0 where
   pub commit : round.commit ≤ last
   pub point : round.operations ≡ commit_point run.batch (length ops) round.commit
@@ -27,34 +27,35 @@ pub record IsRoundAt (run : Run) (ops : List Op) (last : ℕ) (round : Round Tol
 abbrev pub commits_of : List (Round Told) → List ℕ
 commits_of rounds = map (λ round. round.commit) rounds
 
--- what is asked of an image, as a question of rounds
+-- the asks of an image, as a question of rounds
 abbrev pub operations_of : ℕ → Records → ℕ → ℕ
 operations_of shape m root = operations_at m root
 
 abbrev pub tells_of : Bool → List AskTree → ℕ → Records → ℕ → Told → Type 0
 tells_of counted asks shape m root told = TellsTable counted asks (table_of shape m root) told
 
--- the rounds were made by a reader that had seen this commit, each under a guard: its count of operations and its lines are those of
--- the image that the guard read
+-- the rounds were made by a reader that had seen this commit, each under a guard: its number of operations and its
+-- lines are those of the image that was read under the guard
 pub record AreGuarded (counted : Bool) (asks : List AskTree) (seen : ℕ) (rounds : List (Round Told)) : Type 0 where
   pub before : ReaderView
   pub after : ReaderView
   pub had_seen : before.seen ≡ seen
   pub makes : MakesRounds operations_of (tells_of counted asks) IsLawfulImage before after rounds
 
--- a reader's rounds, as many as were asked for: their commits never fall, and none is below the one that it had seen
+-- a reader's rounds, as many as requested: their commits never fall, and none is older than the one that it saw
+-- before
 pub record AreRoundsAt (run : Run) (ops : List Op) (seen last : ℕ) (rounds : List (Round Told)) : Type 0 where
   pub made : length rounds ≡ run.rounds
   pub each : All (IsRoundAt run ops last) rounds
   pub forward : IsNonDecreasing (seen ∷ commits_of rounds)
   pub guarded : AreGuarded (is_some run.make) run.asks seen rounds
 
--- what readers have seen before their rounds: the last commit where they run after the loading
+-- what readers have seen before their rounds: the last commit if they run after the loading
 abbrev pub seen_before : Bool → ℕ → ℕ
 seen_before true last = last
 seen_before false last = 0
 
--- how far a run came, with all rounds and the last answers, and with the documents where the table is saved
+-- the progress of a run, with all rounds and the last answers, and with the documents if the table is saved
 pub record IsCame (run : Run) (ops : List Op) (came : Came) : Type 0 where
   pub last : ℕ
   pub is_loaded : IsLoaded run (length ops) came.loaded.operations (full_of came.loaded.full)
@@ -67,7 +68,7 @@ pub record IsCame (run : Run) (ops : List Op) (came : Came) : Type 0 where
   pub asked : is_some came.documents ≡ run.save
   pub column : IfSome came.documents (λ documents. TellsColumn (table_after run ops came.loaded.operations) documents.entries)
 
--- the counts of operations that the rounds saw, as the report's statement has them
+-- the counts of operations that the rounds saw, in the form of the report's statement
 abbrev pub progress_at : Came → Option ℕ → Progress
 progress_at came saved = record {
   loaded = came.loaded.operations;

@@ -1,4 +1,4 @@
--- What a run of the engine comes to, over the plain table alone.
+-- The result of a run of the engine, over the plain table alone.
 use Rattle.std.specs.Prelude.{◌≡◌, ℕ, ◌+◌, ◌<◌, Option, Some, None, List, length, IfSome}
 use Rattle.attr_loader.specs.declared.loaded.NoRoom.{NoRoom}
 use Rattle.attr_types.specs.declared.op.Op.{Op}
@@ -9,7 +9,7 @@ use Rattle.attr_engine.specs.declared.error.EngineError.{EngineError}
 use Rattle.attr_engine.specs.declared.error.EngineError.TheVariants.{Memory, TooManyReaders}
 use Rattle.attr_engine.specs.declared.written.Written.{Written}
 
--- the operation that found no room, if one did
+-- the operation that ran out of space, if any
 abbrev pub full_of : Option NoRoom → Option ℕ
 full_of None = None
 full_of (Some room) = Some room.operation
@@ -17,7 +17,8 @@ full_of (Some room) = Some room.operation
 abbrev pub progress_of : Written → Progress
 progress_of written = record { loaded = written.loaded; rounds = written.rounds; saved = written.saved }
 
--- a run: what was loaded, where its readers' rounds stand, and what is written; where there was no room, every buffer is in use or held
+-- a run: what was loaded, where its readers' rounds are, and what is written; if it ran out of space, every buffer is
+-- in use or held
 pub record IsRunOf (run : Run) (ops : List Op) (w : Written) : Type 0 where
   pub is_loaded : IsLoaded run (length ops) w.loaded (full_of w.full)
   pub in_rounds : IsRounds run (length ops) (progress_of w)
@@ -26,7 +27,8 @@ pub record IsRunOf (run : Run) (ops : List Op) (w : Written) : Type 0 where
   pub is_written : w.text.items ≡ written run ops (progress_of w) (full_of w.full)
   pub room : IfSome w.full (λ r. r.active + r.held ≡ run.buffers)
 
--- why a run was not made: memory is short, or there are more readers than seats, two of which the last answers take
+-- why a run was not made: memory was exhausted, or there are more readers than seats, two of which the last answers
+-- take
 abbrev pub IsGivenUp : ℕ → EngineError → Type 0
 IsGivenUp readers TooManyReaders = 62 < readers
 IsGivenUp readers Memory = Unit {0}

@@ -1,4 +1,4 @@
--- What the steps of a run make of the writer, and what its readers' tasks come to.
+-- How the steps of a run change the writer, and the results of its readers' tasks.
 use Rattle.std.specs.Prelude.{◌≡◌, ℕ, ◌+◌, ◌<◌, ◌≤◌, ◌^◌, Bool, true, false, ◌∷◌, List, [], length, slice_get, is_some, IfSome, All}
 use Rattle.std.specs.BTreeMap.{BTreeMap}
 use Rattle.std.specs.List.Sorted.{IsNonDecreasing}
@@ -53,13 +53,14 @@ pub record IsNewWriter (fields : List Field) (home : TableId) (w : WriterView) :
 abbrev pub buffers_of : WriterView → ℕ → ApiBuffer
 buffers_of w b = api_buffer (slice_get w.buffers b)
 
--- no buffer is free: so many are in use, and the others are held for readers
+-- no buffer is free: this many are in use, and the others are held for readers
 pub record IsFullWriter (w : WriterView) (room : NoRoom) : Type 0 where
   pub free : free_count (buffers_of w) w.sizes.buffers ≡ 0
   pub active_is : room.active ≡ active_count (buffers_of w) w.sizes.buffers
   pub held_is : room.held ≡ held_count (buffers_of w) w.sizes.buffers
 
--- what a loading makes of a writer: its commits are those of the operations; where one found no room the buffers are counted
+-- how a loading changes a writer: its commits are those of the operations; if one ran out of space, the buffers are
+-- counted
 pub record LoadsInto (fields : List Field) (batch : ℕ) (ops : List Op) (old new : WriterView) (loaded : Loaded) : Type 0 where
   pub shape_is : new.sizes.shape ≡ old.sizes.shape
   pub last : ℕ
@@ -70,17 +71,17 @@ pub record LoadsInto (fields : List Field) (batch : ℕ) (ops : List Op) (old ne
   pub ends : EndsAt batch (length ops) old.sizes.buffers loaded.operations loaded.full
   pub full : IfSome loaded.full (IsFullWriter new)
 
--- what a save is answered: the documents of an image, each with its items in the first attribute
+-- the answer for a save: the documents of an image, each with its items in the first attribute
 abbrev pub saves_of : ℕ → Records → ℕ → BTreeMap ℕ (List (List Item)) → Type 0
 saves_of shape m root documents = TellsColumn (table_of shape m root) documents.entries
 
--- a reader that was made of the writer, before any round
+-- a reader made by the writer, before any round
 pub record IsReader (w : WriterView) (home : TableId) (r : ReaderView) (table : TableId) : Type 0 where
   pub same_sizes : r.sizes ≡ w.sizes
   pub seen_last : r.seen ≡ last_number w.commits
   pub at_home : table ≡ home
 
--- a reader after so many rounds, that was made of this writer
+-- a reader made by this writer, after this many rounds
 pub record HasRead (counted : Bool) (asks : List AskTree) (w : WriterView) (home : TableId) (count : ℕ) (r : ReaderView) (table : TableId)
     (rounds : List (Round Told)) : Type 0 where
   pub start : ReaderView
@@ -90,20 +91,21 @@ pub record HasRead (counted : Bool) (asks : List AskTree) (w : WriterView) (home
   pub made : length rounds ≡ count
   pub same : table ≡ seat
 
--- a reader after its rounds, which can be taken in
+-- a reader after its rounds, which can be joined
 pub record IsReading (counted : Bool) (asks : List AskTree) (shape : ℕ) (home : TableId) (r : ReaderView) (table : TableId)
     (rounds : List (Round Told)) : Type 0 where
   pub shape_is : r.sizes.shape ≡ shape
   pub are_seen : AreSeen operations_of (tells_of counted asks) IsLawfulImage r rounds
   pub at_home : table ≡ home
 
--- its rounds, taken in at the writer
+-- its rounds, after the reader is joined
 pub record IsTakenFrom (counted : Bool) (asks : List AskTree) (shape : ℕ) (commits : List Image)
     (before after : List (Round Told)) : Type 0 where
   pub same : after ≡ before
   pub each : All (IsOfCommit operations_of (tells_of counted asks) shape commits) after
 
--- the rounds of a reader that had seen this commit: so many, each of a commit, the commits never falling, and none below what it had seen
+-- the rounds of a reader that had seen this commit: `count` of them, each at a commit; commits never fall, and none
+-- is older than what the reader saw before
 pub record AreRoundsOf (counted : Bool) (asks : List AskTree) (shape seen count : ℕ) (commits : List Image)
     (rounds : List (Round Told)) : Type 0 where
   pub made : length rounds ≡ count
@@ -111,7 +113,7 @@ pub record AreRoundsOf (counted : Bool) (asks : List AskTree) (shape seen count 
   pub forward : IsNonDecreasing (seen ∷ commits_of rounds)
   pub guarded : AreGuarded counted asks seen rounds
 
--- what is answered in one more round, of a reader that had seen the last commit
+-- the answer of one more round, by a reader that has seen the last commit
 pub record IsLastAnswer {A : Type 0} (operations : ℕ → Records → ℕ → ℕ) (answers : ℕ → Records → ℕ → A
     → Type 0) (w : WriterView) (answer : A) : Type 0 where
   pub round : Round A

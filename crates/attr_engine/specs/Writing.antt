@@ -1,4 +1,4 @@
--- What is written of a run, by how far it came.
+-- What is written about a run, by its progress.
 use Rattle.std.specs.Prelude.{◌≡◌, ℕ, ◌+◌, List, [], ◌∷◌, ◌++◌, map, string_bytes, Option, Some, None, Vec}
 use Rattle.std.specs.Global.{Global}
 use Rattle.attr_rounds.specs.declared.rounds.Round.{Round}
@@ -12,7 +12,7 @@ use Rattle.attr_engine.specs.declared.came.Came.{Came}
 use Rattle.attr_engine.specs.declared.written.Written.{Written}
 use Rattle.attr_engine.specs.Run.{full_of}
 
--- a round, and the lines that it tells
+-- a round, and its lines
 abbrev pub round_text : ℕ → ℕ → Round Told → List ℕ
 round_text reader number round = reader_line reader number round.operations ++ string_bytes round.answer.lines
 
@@ -21,12 +21,12 @@ abbrev pub rounds_text : ℕ → ℕ → List (Round Told) → List ℕ
 rounds_text reader number [] = []
 rounds_text reader number (round ∷ rounds) = round_text reader number round ++ rounds_text reader (number + 1) rounds
 
--- those of the readers from number `reader` on
+-- the rounds of the readers from number `reader` on
 abbrev pub readers_text : ℕ → List (Vec (Round Told) Global) → List ℕ
 readers_text reader [] = []
 readers_text reader (rounds ∷ others) = rounds_text reader 1 rounds.items ++ readers_text (reader + 1) others
 
--- the operation that found no room, if one did, and how many were loaded and skipped
+-- the operation that ran out of space, if any, and how many were loaded and skipped
 abbrev pub end_text : Loaded → List ℕ
 end_text loaded = full_line (full_of loaded.full) ++ done_line loaded.operations loaded.skipped
 
@@ -38,16 +38,16 @@ abbrev pub summary_text : Make → Came → List ℕ
 summary_text make came = made_line make ++ documents_line came.loaded.operations came.last.documents ++ string_bytes came.last.lines
     ++ end_text came.loaded
 
--- the report, or the summary where the operations were made
+-- the report, or the summary if the operations were made
 abbrev pub text_of : Option Make → Came → List ℕ
 text_of None came = report_text came
 text_of (Some make) came = summary_text make came
 
--- how many operations a reader's rounds saw
+-- how many operations each round of a reader saw
 abbrev pub operations_of_rounds : List (Round Told) → List ℕ
 operations_of_rounds rounds = map (λ round. round.operations) rounds
 
--- what is written of a run that saves no table
+-- what is written about a run that does not save its table
 pub record IsWrittenOf (make : Option Make) (came : Came) (w : Written) : Type 0 where
   pub loaded : w.loaded ≡ came.loaded.operations
   pub full : w.full ≡ came.loaded.full
@@ -55,7 +55,7 @@ pub record IsWrittenOf (make : Option Make) (came : Came) (w : Written) : Type 0
   pub saved : w.saved ≡ None
   pub text : w.text.items ≡ text_of make came
 
--- what is written of a run that saves the table, after all that was loaded
+-- what is written about a run that saves the table, after everything that was loaded
 pub record IsSavedOf (run : Run) (ops : List Op) (came : Came) (w : Written) : Type 0 where
   pub loaded : w.loaded ≡ came.loaded.operations
   pub full : w.full ≡ came.loaded.full

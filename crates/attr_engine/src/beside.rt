@@ -30,7 +30,7 @@ pub struct LoadedBeside<'a, const OFFSET_BITS: u32> {
     pub readings: Vec<Result<Reading<'a, OFFSET_BITS, AttrLayout, Told>, AllocError>>,
 }
 
-/// Attributes without a document over a writer that has committed nothing.
+/// Returns attributes without documents, over a writer that has committed nothing.
 fn opened<'a, const OFFSET_BITS: u32>(
     alloc: Global,
     writer: Writer<'a, OFFSET_BITS, AttrLayout>,
@@ -55,7 +55,7 @@ fn opened<'a, const OFFSET_BITS: u32>(
     Ok(attribute)
 }
 
-/// The writer again, with all that was committed.
+/// Returns the writer, with all that was committed.
 fn closed<'a, const OFFSET_BITS: u32>(
     attribute: Attribute<OFFSET_BITS, EntryStore<OFFSET_BITS, Writer<'a, OFFSET_BITS, AttrLayout>>>,
 ) -> Writer<'a, OFFSET_BITS, AttrLayout>
@@ -67,7 +67,7 @@ fn closed<'a, const OFFSET_BITS: u32>(
     store.into_work()
 }
 
-/// Loads operations into attributes beside other tasks; no thread is started where there are none.
+/// Loads operations into attributes beside other tasks. Starts no thread if there are none.
 fn run_loading<
     'a,
     const OFFSET_BITS: u32,
@@ -139,7 +139,7 @@ fn load_at<
     Ok((writer, loaded, gives))
 }
 
-/// Loads operations into attributes over a writer, beside so many readers; no thread is started where there are none.
+/// Loads operations into attributes over a writer, beside a number of readers. Starts no thread if there are none.
 pub fn load_beside<'a, const OFFSET_BITS: u32, R: Threads + Sync, G: Gate + Sync + 'static>(
     rt: &R,
     alloc: Global,

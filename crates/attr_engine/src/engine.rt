@@ -20,8 +20,8 @@ use attr_types::Op;
 use std::alloc::{AllocError, Global};
 use std::thread::Threads;
 
-/// A run over a new memory, and what it writes: the report, the summary where its operations were made, or the table
-/// where it is saved.
+/// Makes a run over a new memory, and returns what it writes: the report, the summary if its operations were made, or
+/// the table if it is saved.
 pub fn engine_run<const OFFSET_BITS: u32, R: Threads + Sync, G: Gate + Sync + 'static>(
     rt: &R,
     alloc: Global,
@@ -48,7 +48,7 @@ pub fn engine_run<const OFFSET_BITS: u32, R: Threads + Sync, G: Gate + Sync + 's
     Ok(written)
 }
 
-/// What a run writes that came so far.
+/// Returns what a run with this progress writes.
 fn written_in(
     alloc: Global,
     request: &Request,

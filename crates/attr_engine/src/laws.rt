@@ -1,7 +1,7 @@
-//! A law of runs. The function does nothing: its contract is the law.
+//! A law of runs. The function does nothing; its contract is the law.
 ghost use Rattle.attr_engine.specs.Laws.{RoundsStand, RoundsComeAfter};
 
-/// The rounds of a run stand where its report's statement wants them.
+/// The rounds of a run are as the statement of its report requires.
 pub fn came_law()
     ensures stand { RoundsStand }
     ensures after { RoundsComeAfter }

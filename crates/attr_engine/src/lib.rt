@@ -1,4 +1,4 @@
-//! A run over the running memory: operations are loaded in commits while readers answer beside.
+//! A run over the running memory: operations are loaded and committed while readers answer.
 #![tactic(auto)]
 
 mod beside;

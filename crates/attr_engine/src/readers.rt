@@ -1,4 +1,4 @@
-//! The readers of a run: their tasks, and their rounds taken in at the writer.
+//! The readers of a run: their tasks, and joining them with their rounds.
 ghost use Rattle.std.specs.Prelude.{◌≡◌, ◌<◌, ◌≤◌, ◌+◌, length, map, is_some, IfOk, IfSome, IsOkAnd, All};
 ghost use Rattle.std.specs.List.{AllByRecursion, AllZip};
 ghost use Rattle.gen_core.specs.Views.{last_number};
@@ -20,7 +20,7 @@ use std::collections::BTreeMap;
 use std::thread::Threads;
 use word_arena::{Reader, Writer};
 
-/// A new reader, which has seen the last commit.
+/// Makes a reader that has seen the last commit.
 fn reader_in<'a, const OFFSET_BITS: u32>(
     writer: &mut Writer<'a, OFFSET_BITS, AttrLayout>,
 ) -> Reader<'a, OFFSET_BITS, AttrLayout>
@@ -37,7 +37,7 @@ fn reader_in<'a, const OFFSET_BITS: u32>(
     }
 }
 
-/// The tasks of so many new readers, each of which has seen the last commit.
+/// Returns the tasks of new readers, each of which has seen the last commit.
 pub fn jobs_of<'a, const OFFSET_BITS: u32, G: Gate>(
     alloc: Global,
     writer: &mut Writer<'a, OFFSET_BITS, AttrLayout>,
@@ -71,7 +71,7 @@ pub fn jobs_of<'a, const OFFSET_BITS: u32, G: Gate>(
     Ok(jobs)
 }
 
-/// Takes readers in after their rounds.
+/// Joins readers after their rounds.
 pub fn take_all<'a, const OFFSET_BITS: u32>(
     alloc: Global,
     writer: &mut Writer<'a, OFFSET_BITS, AttrLayout>,
@@ -98,7 +98,7 @@ pub fn take_all<'a, const OFFSET_BITS: u32>(
     Ok(rounds)
 }
 
-/// The rounds of so many readers after the loading.
+/// Makes the rounds of readers after the loading.
 pub fn read_after<'a, const OFFSET_BITS: u32, R: Threads + Sync, G: Gate + Sync + 'static>(
     rt: &R,
     alloc: Global,
@@ -124,7 +124,7 @@ pub fn read_after<'a, const OFFSET_BITS: u32, R: Threads + Sync, G: Gate + Sync 
     take_all(alloc, writer, readings, question)
 }
 
-/// What the last commit answers: one round of one more reader, which passes no gate.
+/// Returns the answer of the last commit, by one round of one more reader, which passes no gate.
 pub fn last_answer<'a, const OFFSET_BITS: u32, Q: Question<OFFSET_BITS, AttrLayout>>(
     alloc: Global,
     writer: &mut Writer<'a, OFFSET_BITS, AttrLayout>,
@@ -145,7 +145,7 @@ pub fn last_answer<'a, const OFFSET_BITS: u32, Q: Question<OFFSET_BITS, AttrLayo
     }
 }
 
-/// The documents of the last commit, each with its items in the first attribute, where the table is saved.
+/// Returns the documents of the last commit, each with its items in the first attribute, if the table is saved.
 pub fn last_documents<'a, const OFFSET_BITS: u32>(
     alloc: Global,
     writer: &mut Writer<'a, OFFSET_BITS, AttrLayout>,

@@ -1,4 +1,4 @@
-//! A run: the loading and its readers, and the last answers.
+//! A run: the loading with its readers, and the last answers.
 ghost use Rattle.std.specs.Prelude.{◌≡◌, ◌≤◌, ◌<◌, ◌+◌, ◌*◌, ◌^◌, length, map, if◌then◌else◌, IfOk, IfErr};
 ghost use Rattle.std.specs.List.{AllByRecursion};
 ghost use Rattle.entry_ref.specs.References.{buffer_limit, offset_limit};
@@ -28,7 +28,7 @@ use std::alloc::{AllocError, Global};
 use std::thread::Threads;
 use word_arena::{Arena, Config, Limits, Writer};
 
-/// How many readers run beside the loading, and how many after it.
+/// Returns how many readers run beside the loading, and how many after it.
 fn parts(after: bool, readers: u32) -> (u32, u32)
     ensures { result ≡ parts after readers }
 {
@@ -53,7 +53,7 @@ pub struct LoadedFirst<'a, const OFFSET_BITS: u32> {
     pub first: Vec<Vec<Round<Told>>>,
 }
 
-/// Loads operations beside so many readers, and takes these in.
+/// Loads operations beside readers, and joins the readers.
 fn load_first<'a, const OFFSET_BITS: u32, R: Threads + Sync, G: Gate + Sync + 'static>(
     rt: &R,
     alloc: Global,
@@ -91,10 +91,10 @@ fn load_first<'a, const OFFSET_BITS: u32, R: Threads + Sync, G: Gate + Sync + 's
     })
 }
 
-/// The most readers of a run: a memory has 64 seats, and the last answers take two.
+/// The greatest number of readers of a run: a memory has 64 seats, and the last answers take two.
 const MOST_READERS: u32 = 62;
 
-/// A run over a writer that has committed nothing.
+/// Makes a run over a writer that has committed nothing.
 fn run_over<'a, const OFFSET_BITS: u32, R: Threads + Sync, G: Gate + Sync + 'static>(
     rt: &R,
     alloc: Global,
@@ -148,8 +148,9 @@ fn run_over<'a, const OFFSET_BITS: u32, R: Threads + Sync, G: Gate + Sync + 'sta
     })
 }
 
-/// A run over a new memory: its operations are loaded in commits, its readers answer beside them or after them, and
-/// all that was loaded answers at the end. Too many readers are refused, and nothing but want of memory beside.
+/// Makes a run over a new memory: its operations are loaded and committed, its readers answer beside the loading or
+/// after it, and at the end everything loaded answers. It is refused only if there are too many readers or memory is
+/// exhausted.
 pub fn run_engine<const OFFSET_BITS: u32, R: Threads + Sync, G: Gate + Sync + 'static>(
     rt: &R,
     alloc: Global,

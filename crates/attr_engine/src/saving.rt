@@ -17,7 +17,7 @@ use attr_types::{Doc, FieldItems, Op, step_law};
 use std::alloc::{AllocError, Global};
 use std::collections::BTreeMap;
 
-/// The bytes of the table after so many operations, by the documents of its first attribute.
+/// Returns the bytes of the table after a number of operations, from the documents of its first attribute.
 fn saved_bytes(
     alloc: Global,
     request: &Request,
@@ -37,7 +37,8 @@ fn saved_bytes(
     }
 }
 
-/// What a run writes that came so far and saves its table, by the documents of the first attribute at the last commit.
+/// Returns what a run with this progress writes if it saves its table, from the documents of the first attribute at
+/// the last commit.
 pub fn saved_run(
     alloc: Global,
     request: &Request,

@@ -1,4 +1,4 @@
-//! What is written of a run, by how far it came: the report, or the summary of made operations.
+//! What is written about a run, by its progress: the report, or the summary of made operations.
 ghost use Rattle.std.specs.Prelude.{◌≡◌, ◌++◌, ◌<◌, ◌^◌, length, map, OnOk, IfOk, string_bytes};
 ghost use Rattle.attr_report.specs.Report.{reader_line, full_line};
 ghost use Rattle.attr_engine.specs.Run.{full_of};
@@ -38,7 +38,7 @@ fn push_round(
     text.push_str(round.answer.lines.as_str())
 }
 
-/// Writes the rounds of a reader, each with the lines that it tells.
+/// Writes the rounds of a reader, each with its lines.
 fn push_rounds(text: &mut String, reader: u64, rounds: &[Round<Told>]) -> Result<(), AllocError>
     requires { length rounds.now < 2 ^ 63 }
     ensures { OnOk result (string_bytes text.new ≡ string_bytes text.old ++ rounds_text reader 1 rounds.now) }
@@ -77,7 +77,7 @@ fn push_full_line(text: &mut String, full: Option<NoRoom>) -> Result<(), AllocEr
     }
 }
 
-/// Writes which operation found no room, if one did, and how many were loaded and skipped.
+/// Writes which operation ran out of space, if any, and how many were loaded and skipped.
 fn push_end(text: &mut String, loaded: Loaded) -> Result<(), AllocError>
     ensures { OnOk result (string_bytes text.new ≡ string_bytes text.old ++ end_text loaded) }
 {
@@ -85,7 +85,7 @@ fn push_end(text: &mut String, loaded: Loaded) -> Result<(), AllocError>
     push_done_line(text, loaded.operations, loaded.skipped)
 }
 
-/// The report: the rounds of the readers, the last answers, and how far the run came.
+/// Returns the report: the rounds of the readers, the last answers, and the progress.
 fn report_text(alloc: Global, came: &Came) -> Result<String, AllocError>
     ensures { IfOk result (λ text. string_bytes text ≡ report_text came.now) }
 {
@@ -97,7 +97,7 @@ fn report_text(alloc: Global, came: &Came) -> Result<String, AllocError>
     Ok(text)
 }
 
-/// The summary of a run whose operations were made.
+/// Returns the summary of a run whose operations were made.
 fn summary_text(alloc: Global, make: Make, came: &Came) -> Result<String, AllocError>
     ensures { IfOk result (λ text. string_bytes text ≡ summary_text make came.now) }
 {
@@ -119,7 +119,7 @@ fn text_of(alloc: Global, make: Option<Make>, came: &Came) -> Result<String, All
     }
 }
 
-/// How many operations a reader's rounds saw.
+/// Returns how many operations each round of a reader saw.
 fn counts_of(alloc: Global, rounds: &[Round<Told>]) -> Result<RoundCounts, AllocError>
     ensures { IfOk result (λ counts. counts ≡ operations_of_rounds rounds.now) }
 {
@@ -130,7 +130,7 @@ fn counts_of(alloc: Global, rounds: &[Round<Told>]) -> Result<RoundCounts, Alloc
     Ok(counts)
 }
 
-/// How many operations the rounds of each reader saw.
+/// Returns how many operations each round of each reader saw.
 pub fn all_counts(alloc: Global, rounds: &[Vec<Round<Told>>]) -> Result<RoundList, AllocError>
     ensures { IfOk result (λ list. list ≡ map (λ r. operations_of_rounds r.items) rounds.now) }
 {
@@ -141,7 +141,7 @@ pub fn all_counts(alloc: Global, rounds: &[Vec<Round<Told>>]) -> Result<RoundLis
     Ok(list)
 }
 
-/// What is written of a run that saves no table.
+/// Returns what is written about a run that does not save its table.
 pub fn written_of(alloc: Global, make: Option<Make>, came: &Came) -> Result<Written, AllocError>
     ensures { IfOk result (IsWrittenOf make came.now) }
 {

@@ -1,12 +1,12 @@
 use attr_loader::NoRoom;
 use attr_types::RoundList;
 
-/// How far a run came, and what it writes.
+/// The progress of a run, and what it writes.
 #[derive(Drop)]
 pub struct Written {
-    /// How many operations it loaded.
+    /// The number of operations that were loaded.
     pub loaded: u32,
-    /// The operation that found no room, if one did.
+    /// The operation that ran out of space, if any.
     pub full: Option<NoRoom>,
     /// How many operations each round saw, by reader.
     pub rounds: RoundList,

@@ -1,4 +1,4 @@
--- How many records a change of one document's items makes at most, by what they are and by width.
+-- Bounds on the records that a change of one document's items makes, by what they are and by width.
 use Rattle.std.specs.Prelude.{ℕ, ℤ, ◌+◌, ◌*◌, ◌^◌, ◌<◌, List, [], length, Option}
 use Rattle.std.specs.BTreeMap.{is_at}
 use Rattle.std.specs.Map.{lookup}
@@ -16,34 +16,35 @@ use Rattle.value_index.specs.Counts.{added_count, added_records, gone_count, gon
 abbrev pub entry_weight : List (Value × ℤ) → Value → Option ℤ
 entry_weight entries value = lookup (is_at (value_cmp value)) entries
 
--- the values of a document that are new or get another weight, and those that are no more
+-- the number of values of a document that are new or get another weight, and the number of values that disappear
 abbrev pub new_values : List (Value × ℤ) → List (Value × ℤ) → ℕ
 new_values old new = added_count (entry_weight old) new
 
 abbrev pub lost_values : List (Value × ℤ) → List (Value × ℤ) → ℕ
 lost_values old new = gone_count (entry_weight new) old
 
--- the nodes that a document's change makes at most: in two trees for each such value, and in the tree of documents
+-- a bound on the nodes that a document's change makes: in two trees for each such value, and in the tree of documents
 abbrev pub field_nodes : List (Value × ℤ) → List (Value × ℤ) → ℕ
 field_nodes old new = 34 * new_values old new + 17 + 34 * lost_values old new
 
--- and the other records, by width, of a document that gets so many items: for each such value its list's where it is short, and its own
--- where no document had it; and one of the items
+-- bounds on the other records, by width, for a document that gets this many items: for each such value its list if
+-- that is short, and its own record if no document had it; and one record for the items
 abbrev pub field_records : Kind → Column → ℕ → ℕ → List (Value × ℤ) → List (Value × ℤ) → ℕ → ℕ
 field_records kind column doc count old new width = added_records (λ value. documents_with value column) doc (entry_weight old) new width
     + items_record kind count width + gone_records (λ value. documents_with value column) doc (entry_weight new) old width
 
--- by the items that it had and gets
+-- the same, by the items before and after
 abbrev pub change_records : Kind → Column → ℕ → List Item → List Item → ℕ → ℕ
 change_records kind column doc before after =
     field_records kind column doc (length after) (first_weights [] before) (first_weights [] after)
 
--- no tree of an attribute gets more levels while a document gets these values: it has so few values, and so few documents
+-- no tree of an attribute gets more levels while a document gets these values, by the number of its values and of its
+-- documents
 pub record StaysLow (levels : ℕ) (column : Column) (new : List (Value × ℤ)) : Type 0 where
   pub some : 0 < levels
   pub values : (index : Index) → IsIndexOf column index → length index + length new < 2 * 8 ^ levels
   pub documents : length column + 1 < 2 * 8 ^ levels
 
--- the nodes of a change that such trees make at most
+-- a bound on the nodes that a change makes in such trees
 abbrev pub low_nodes : ℕ → List (Value × ℤ) → List (Value × ℤ) → ℕ
 low_nodes levels old new = value_nodes levels * new_values old new + (2 * levels + 1) + value_nodes levels * lost_values old new

@@ -1,5 +1,5 @@
--- The documents of an attribute with their items: a map by document, and for each document of an array or a weighted set a record.
--- These are owned. The records of the values are another's: documents refer to them.
+-- The documents of an attribute with their items: a map by document, and a record for each document of an array or a
+-- weighted set. These are owned. The records of the values belong to another part; documents refer to them.
 use Rattle.std.specs.Prelude.{ℕ, zero, suc, List, [], ◌∷◌, ◌++◌, map}
 use Rattle.std.specs.List.{flat_map, AllByRecursion}
 use Rattle.entry_ref.specs.Records.{Records}
@@ -13,7 +13,7 @@ use Rattle.attr_types.specs.declared.kind.Kind.TheVariants.{Single, Array, Weigh
 use Rattle.attr_types.specs.declared.kind.ValueType.{ValueType}
 use Rattle.attr_field.specs.ProofsForDocuments.{owned-same}
 
--- the record that a document's items have of their own
+-- the record that a document's items own
 abbrev pub items_own : Kind → ℕ → List ℕ
 items_own kind zero = []
 items_own Single (suc ref) = []
@@ -34,7 +34,7 @@ documents_refer kind m root = flat_map (λ p. items_refer kind p.1 (m p.1)) (tre
 abbrev pub documents_part : Kind → ℕ → Part
 documents_part kind root = record { reach = λ m. documents_own kind m root; stays = λ m n same. owned-same (items_own kind) m n root same }
 
--- a document's reference reads as lawful items, by records that have their form
+-- a document's reference reads as lawful items, by well-formed records
 pub record AreItemsAt (kind : Kind) (type : ValueType) (m : Records) (ref : ℕ) : Type 0 where
   pub records : AreItemRecords kind type m ref
   pub lawful : IsLawfulItems kind (items_at kind type m ref)

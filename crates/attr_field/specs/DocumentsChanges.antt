@@ -1,4 +1,4 @@
--- What a change of one document asks for, and what it leaves.
+-- What a change of one document requires, and what it leaves.
 use Rattle.std.specs.Prelude.{◌≡◌, ◌⊎◌, ℕ, ◌+◌, ◌<◌, nat_eq, if◌then◌else◌, List, [], ◌∷◌}
 use Rattle.std.specs.List.{flat_map, AllZip}
 use Rattle.entry_ref.specs.Records.{Records, Among, SameAt}
@@ -36,7 +36,8 @@ pub record IsKeyOf (type : ValueType) (m : Records) (value : Value) (key : ℕ) 
 abbrev pub AreKeysOf : ValueType → Records → List ℕ → List Item → Type 0
 AreKeysOf type m keys items = AllZip (λ key item. IsKeyOf type m item.value key) keys items
 
--- documents stand in place of others, with this column; the values that they refer to are those of before, or these
+-- documents were made in place of others, with this column; the values to which they refer are among the old ones and
+-- these
 pub record MakesDocuments {H : Type 0} (kind : Kind) (type : ValueType) (old new : Ledger H) (m n : Records) (root : ℕ) (keys : List ℕ)
     (column : Column) (next : ℕ) : Type 0 where
   pub documents_are : IsDocuments kind type n next
@@ -46,11 +47,11 @@ pub record MakesDocuments {H : Type 0} (kind : Kind) (type : ValueType) (old new
   pub owns : Owns new n (documents_part kind next ∷ [])
   pub turns : Turns old new m n (documents_part kind root ∷ []) (documents_part kind next ∷ [])
 
--- so many nodes, and the record of so many items
+-- this many nodes, and the record of this many items
 abbrev pub documents_most : Kind → ℕ → ℕ → ℕ → ℕ
 documents_most kind count nodes = by_width nodes (items_record kind count)
 
--- the records that pairs' references have of their own
+-- the records that the references of pairs own
 abbrev pub pairs_own : Kind → List (ℕ × ℕ) → List ℕ
 pairs_own kind pairs = flat_map (λ p. items_own kind p.1) pairs
 
@@ -63,14 +64,15 @@ pub record ChangesPair {H : Type 0} (kind : Kind) (old new : Ledger H) (m n : Re
   pub nodes : ComesFrom old (tree_nodes n next) (tree_nodes m root)
   pub turns : Turns old new m n (documents_part kind root ∷ []) (tree next ∷ entries (pairs_own kind others) ∷ [])
 
--- a document's items were set: a record that it has of its own is new, and it refers to exactly these. All others have the references that
--- they had, and the records that they own are as they were
+-- a document's items were set: if it owns a record, that is new, and it refers to exactly these keys. All other
+-- documents have the same references as before, and the records that they own are unchanged
 pub record SetsItems {H : Type 0} (kind : Kind) (old : Ledger H) (m n : Records) (root doc : ℕ) (keys : List ℕ) (next : ℕ) : Type 0 where
   pub fresh : (r : ℕ) → Among r (own_at kind n next doc) → uses old r ≡ 0
   pub refer : refer_at kind n next doc ≡ keys
   pub others : take_out (beside_document doc) (tree_pairs n next) ≡ take_out (beside_document doc) (tree_pairs m root)
   pub stay : SameAt (pairs_own kind (take_out (beside_document doc) (tree_pairs m root))) m n
 
--- a width for which a change of a document may be refused, by how many items it has then: of nodes, or of the record of its items
+-- a width for which a change of a document may be refused, by the number of its items then: that of nodes, or of the
+-- record of its items
 abbrev pub IsDocumentWidth : Kind → ℕ → ℕ → Type 0
 IsDocumentWidth kind count width = (width ≡ NODE_WORDS) ⊎ IsItemsWidth kind count width

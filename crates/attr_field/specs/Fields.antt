@@ -12,7 +12,7 @@ use Rattle.attr_types.specs.declared.kind.ValueType.{ValueType}
 use Rattle.value_index.specs.Indexes.{index_reach, IsIndex, IsKey}
 use Rattle.attr_field.specs.ProofsForFields.{field_own-same}
 
--- what an attribute owns: what its documents own, and what its index does
+-- what an attribute owns: what its documents own, and what its index owns
 abbrev pub field_part : Kind → ℕ → ℕ → Part
 field_part kind documents dictionary = record {
   reach = λ m. documents_own kind m documents ++ index_reach m dictionary;
@@ -25,7 +25,8 @@ pub record IsField (kind : Kind) (type : ValueType) (m : Records) (documents dic
   pub index_is : IsIndex type m dictionary
   pub index_of_documents : IsIndexOf (column_at kind type m documents) (index_of type m dictionary)
 
--- each record that documents refer to is a key of their index; or it is the old copy of one, in use still, which none of these parts own
+-- each record to which documents refer is a key of their index, or an old copy of one, which is still in use and
+-- which none of these parts owns
 pub record RefersBeside {H : Type 0} (ledger : Ledger H) (kind : Kind) (m : Records) (documents dictionary : ℕ) (parts : List Part)
     : Type 0 where
   pub each : (r : ℕ) → Among r (documents_refer kind m documents) → IsKey m dictionary r ⊎ (count_in r m parts < uses ledger r)

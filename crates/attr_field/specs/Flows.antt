@@ -1,4 +1,4 @@
--- What a change of one attribute takes over of what was in use when the unit began.
+-- What a change of one attribute keeps of the entries that were in use when the unit began.
 use Rattle.std.specs.Prelude.{◌≡◌, ◌⊎◌, ℕ, true}
 use Rattle.entry_ref.specs.Records.{Records, Among}
 use Rattle.store_api.specs.Ledgers.{Ledger}
@@ -11,8 +11,8 @@ use Rattle.attr_types.specs.declared.kind.ValueType.{ValueType}
 use Rattle.value_index.specs.Flows.{FlowsIndex}
 use Rattle.value_index.specs.Indexes.{IsKey}
 
--- in the index no role changes, nodes of documents come from nodes of documents, a document's own record was its own, and what it refers to
--- it referred to before, or it was a key of the index
+-- no role changes in the index; nodes of documents come from nodes of documents; the record that a document owns was
+-- its own before; and a document refers to what it referred to before, or to keys of the index
 pub record FlowsField {H : Type 0} (kind : Kind) (type : ValueType) (old : Ledger H) (m n : Records) (documents dictionary : ℕ)
     (next_documents next_dictionary : ℕ) : Type 0 where
   pub index : FlowsIndex type old m n dictionary next_dictionary

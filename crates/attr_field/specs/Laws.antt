@@ -1,4 +1,4 @@
--- What an attribute in a store is, as laws.
+-- An attribute in a store, as laws.
 use Rattle.std.specs.Prelude.{◌≡◌, ◌↔◌, ◌⊎◌, ℕ, []}
 use Rattle.entry_ref.specs.Records.{Records, SameAt, Among}
 use Rattle.attr_field.specs.Documents.{documents_refer}
@@ -21,7 +21,7 @@ pub record FieldIsSame (kind : Kind) (type : ValueType) (m n : Records) (documen
   pub refers : documents_refer kind n documents ≡ documents_refer kind m documents
   pub keys : (r : ℕ) → IsKey m dictionary r → IsKey n dictionary r
 
--- it stays where the records stay that it owns, and those that its documents refer to
+-- it stays the same while the records stay the same that it owns, and those to which its documents refer
 abbrev pub FieldStays : Type 0
 FieldStays = (kind : Kind) (type : ValueType) (m n : Records) (documents dictionary : ℕ)
     → SameAt ((field_part kind documents dictionary).reach m) m n → SameAt (documents_refer kind m documents) m n
@@ -37,13 +37,13 @@ abbrev pub FieldOwnsKeys : Type 0
 FieldOwnsKeys = (kind : Kind) (type : ValueType) (m : Records) (documents dictionary r : ℕ) → IsField kind type m documents dictionary
     → IsKey m dictionary r → Among r ((field_part kind documents dictionary).reach m)
 
--- an image reaches of it exactly the records that it owns, and those that its documents refer to
+-- an image reaches exactly the records that the attribute owns, and those to which its documents refer
 abbrev pub FieldReaches : Type 0
 FieldReaches = (kind : Kind) (m : Records) (documents dictionary r : ℕ)
     → Among r (trees_reach kind m documents dictionary)
     ↔ (Among r ((field_part kind documents dictionary).reach m) ⊎ Among r (documents_refer kind m documents))
 
--- where there are no old copies it owns exactly the records that an image reaches of it
+-- without old copies, an attribute owns exactly the records that an image reaches of it
 abbrev pub FieldReachesOwn : Type 0
 FieldReachesOwn = (kind : Kind) (type : ValueType) (m : Records) (documents dictionary r : ℕ) → IsField kind type m documents dictionary
     → RefersToKeys kind m documents dictionary

@@ -1,4 +1,5 @@
--- Nobody has to read this: what documents own stays where these records stay. It stands here since a part cites it.
+-- Proof that what documents own stays the same while these records do. It is in specs/ since a part cites it, and is
+-- not part of the specification.
 use Rattle.std.proofs.Common.{◌≡◌, ℕ, List, ◌++◌, ap, ◌∙◌}
 use Rattle.std.specs.List.{flat_map}
 use Rattle.entry_ref.specs.Records.{Records, SameAt}

@@ -1,4 +1,5 @@
--- Nobody has to read this: what an attribute owns stays where these records stay. It stands here since a part cites it.
+-- Proof that what an attribute owns stays the same while these records do. It is in specs/ since a part cites it, and
+-- is not part of the specification.
 use Rattle.std.proofs.Common.{◌≡◌, ℕ, ◌++◌, ap, ◌∙◌}
 use Rattle.entry_ref.specs.Records.{Records, SameAt}
 use Rattle.tree_read.specs.ProofsForTrees.{SameAt-left, SameAt-right}

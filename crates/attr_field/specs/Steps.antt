@@ -1,4 +1,4 @@
--- The steps of a change: documents and an index that have to become one another's again.
+-- The steps of a change: documents and an index that differ until the change is complete.
 use Rattle.std.specs.Prelude.{◌≡◌, ℕ, [], ◌∷◌}
 use Rattle.entry_ref.specs.Records.{Records}
 use Rattle.store_api.specs.Ledgers.{Ledger}
@@ -15,7 +15,7 @@ use Rattle.attr_field.specs.Changes.{KeepsCopies}
 use Rattle.attr_field.specs.Fields.{RefersBeside}
 use Rattle.attr_field.specs.Flows.{FlowsField}
 
--- documents and an index to whose keys they refer, or to old copies of these, whatever its lists are
+-- documents and an index: the documents refer to its keys or to old copies of them, whatever its lists are
 pub record StandsField {H : Type 0} (kind : Kind) (type : ValueType) (ledger : Ledger H) (m : Records) (documents dictionary : ℕ)
     : Type 0 where
   pub documents_are : IsDocuments kind type m documents
@@ -23,7 +23,7 @@ pub record StandsField {H : Type 0} (kind : Kind) (type : ValueType) (ledger : L
   pub refers : RefersBeside ledger kind m documents dictionary (documents_part kind documents ∷ index_part dictionary ∷ [])
   pub owns : Owns ledger m (documents_part kind documents ∷ index_part dictionary ∷ [])
 
--- others stand in their place, with this column
+-- others were made in their place, with this column
 pub record StepsField {H : Type 0} (kind : Kind) (type : ValueType) (old new : Ledger H) (m n : Records) (documents dictionary : ℕ)
     (column : Column) (next_documents next_dictionary : ℕ) : Type 0 where
   pub stands : StandsField kind type new n next_documents next_dictionary

@@ -1,4 +1,4 @@
--- For which widths a change of a document's items may be refused.
+-- The widths for which a change of a document's items may be refused.
 use Rattle.std.specs.Prelude.{◌⊎◌, ℕ, List, length, IsSome}
 use Rattle.attr_field.specs.DocumentsChanges.{IsDocumentWidth}
 use Rattle.attr_index.specs.Columns.{Column, documents_with}
@@ -8,12 +8,13 @@ use Rattle.attr_types.specs.declared.kind.Kind.{Kind}
 use Rattle.attr_types.specs.declared.value.Value.{Value}
 use Rattle.value_index.specs.Changes.{IsValueWidth}
 
--- a width is that of a record which an image of a column has for a value of these items
+-- the width of a record that an image of a column has for a value of these items
 pub record IsWidthInColumn (column : Column) (before after : List Item) (width : ℕ) : Type 0 where
   pub value : Value
   pub had : IsSome (weight_in value before) ⊎ IsSome (weight_in value after)
   pub is : IsValueWidth value (length (documents_with value column)) width
 
--- by the column after a change: that of nodes, of the document's record, or of a record for a value that the document had or has
+-- by the column after a change: the width of nodes, of the document's record, or of a record for a value that the
+-- document had or has
 abbrev pub IsFieldWidth : Kind → Column → List Item → List Item → ℕ → Type 0
 IsFieldWidth kind column before after width = IsDocumentWidth kind (length after) width ⊎ IsWidthInColumn column before after width

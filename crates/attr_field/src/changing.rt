@@ -27,7 +27,7 @@ use std::collections::BTreeMap;
 use store_api::{Store, StoreError};
 use value_index::key_law;
 
-/// Sets the items of a document, by the weights of its values before and after.
+/// Sets the items of a document, given the weights of its values before and after.
 #[tactic(none)]
 fn put_weighed<const OFFSET_BITS: u32, S: Store<OFFSET_BITS>>(
     alloc: Global,
@@ -94,8 +94,8 @@ fn put_weighed<const OFFSET_BITS: u32, S: Store<OFFSET_BITS>>(
     })
 }
 
-/// Sets the items of a document, which had these before, if any. The answer is the new roots. Lists of documents are
-/// sparse, whatever the number of documents.
+/// Sets the items of a document, where `old` are the items that it had, or none. Returns the new roots. Posting lists
+/// are never made as bit vectors.
 #[tactic(none)]
 pub fn put<const OFFSET_BITS: u32, S: Store<OFFSET_BITS>>(
     alloc: Global,
@@ -162,14 +162,14 @@ pub fn put<const OFFSET_BITS: u32, S: Store<OFFSET_BITS>>(
     )
 }
 
-/// No weights.
+/// Returns an empty map of weights.
 fn no_weights(alloc: Global) -> BTreeMap<Value, i32>
     ensures { result.entries ≡ [] }
 {
     BTreeMap::new(alloc)
 }
 
-/// Takes a document out, by the weights of its values.
+/// Removes a document, given the weights of its values.
 #[tactic(none)]
 fn remove_weighed<const OFFSET_BITS: u32, S: Store<OFFSET_BITS>>(
     alloc: Global,
@@ -229,7 +229,7 @@ fn remove_weighed<const OFFSET_BITS: u32, S: Store<OFFSET_BITS>>(
     })
 }
 
-/// Takes a document out, which is there with these items. The answer is the new roots.
+/// Removes a document that exists with these items. Returns the new roots.
 #[tactic(none)]
 pub fn remove<const OFFSET_BITS: u32, S: Store<OFFSET_BITS>>(
     alloc: Global,

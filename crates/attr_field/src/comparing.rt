@@ -13,21 +13,21 @@ use attr_types::{Doc, Item, Kind, Value, ValueType};
 use entry_ref::EntryRef;
 use std::alloc::{AllocError, Global};
 
-/// Whether two values are the same.
+/// Returns whether two values are equal.
 fn same_value(a: &Value, b: &Value) -> bool
     ensures { result ≡ is_eq (value_cmp a.now b.now) }
 {
     a == b
 }
 
-/// Whether two weights are the same.
+/// Returns whether two weights are equal.
 fn same_weight(a: i32, b: i32) -> bool
     ensures { result ≡ int_eq a b }
 {
     a == b
 }
 
-/// Whether two items are the same.
+/// Returns whether two items are equal.
 #[tactic(none)]
 fn same_item(a: &Item, b: &Item) -> bool
     ensures { IsTrue result ↔ (a.now ≡ b.now) }
@@ -38,7 +38,7 @@ fn same_item(a: &Item, b: &Item) -> bool
     same_weight(a.weight, b.weight)
 }
 
-/// Whether two lists of items are the same.
+/// Returns whether two lists of items are equal.
 #[tactic(none)]
 fn same_items(a: &[Item], b: &[Item]) -> bool
     ensures { IsTrue result ↔ (a.now ≡ b.now) }
@@ -54,7 +54,7 @@ fn same_items(a: &[Item], b: &[Item]) -> bool
     true
 }
 
-/// Whether a document is there.
+/// Returns whether a document exists.
 fn is_there<const OFFSET_BITS: u32, F: Frozen<OFFSET_BITS>>(
     alloc: Global,
     frozen: &mut F,
@@ -71,7 +71,7 @@ fn is_there<const OFFSET_BITS: u32, F: Frozen<OFFSET_BITS>>(
     Ok(document_items(alloc, frozen, kind, value_type, root, doc)?.is_some())
 }
 
-/// Whether a document has these items already, where it has those before, if it is there.
+/// Returns whether a document exists and already has these items. `old` are the items that it has if it exists.
 #[tactic(none)]
 pub fn has_already<const OFFSET_BITS: u32, F: Frozen<OFFSET_BITS>>(
     alloc: Global,

@@ -27,7 +27,7 @@ use entry_ref::EntryRef;
 use std::alloc::Global;
 use store_api::{Store, StoreError};
 
-/// The reference of a document's items, 0 where it has none or is not there.
+/// Returns the reference of a document's items, or 0 if it has none or does not exist.
 fn reference_of<const OFFSET_BITS: u32, F: Frozen<OFFSET_BITS>>(
     frozen: &mut F,
     root: EntryRef<OFFSET_BITS>,
@@ -43,7 +43,7 @@ fn reference_of<const OFFSET_BITS: u32, F: Frozen<OFFSET_BITS>>(
     }
 }
 
-/// Sets the reference of a document's items, and drops the record that the old one had of its own.
+/// Sets the reference of a document's items, and drops the record that the old reference owned.
 fn set_reference<const OFFSET_BITS: u32, S: Store<OFFSET_BITS>>(
     store: &mut S,
     kind: Kind,
@@ -67,8 +67,8 @@ fn set_reference<const OFFSET_BITS: u32, S: Store<OFFSET_BITS>>(
     Ok(next)
 }
 
-/// Sets the items of a document, by the records of their values, one for each item. The answer is the root of the
-/// new documents.
+/// Sets the items of a document, given the records of their values, one for each item. Returns the root of the new
+/// documents.
 pub fn set_document<const OFFSET_BITS: u32, S: Store<OFFSET_BITS>>(
     alloc: Global,
     store: &mut S,
@@ -100,7 +100,7 @@ pub fn set_document<const OFFSET_BITS: u32, S: Store<OFFSET_BITS>>(
     set_reference(store, kind, root, doc, reference)
 }
 
-/// Takes a document out that is there. The answer is the root of the new documents.
+/// Removes a document that exists. Returns the root of the new documents.
 pub fn remove_document<const OFFSET_BITS: u32, S: Store<OFFSET_BITS>>(
     store: &mut S,
     kind: Kind,

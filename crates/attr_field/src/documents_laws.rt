@@ -1,7 +1,8 @@
 ghost use Rattle.attr_field.specs.DocumentsLaws.{NothingIsDocuments, DocumentsStay, DocumentsAreLawful, DocumentsReach, DocumentsHaveValues};
 
-/// Root 0 has no documents; documents stay where their records and those of their values stay; they are what a lawful
-/// image asks for, and refer to the records of exactly their values. It does nothing: its contract is the law.
+/// Root 0 has no documents. Documents stay the same while their records and those of their values stay the same. They
+/// meet the conditions of a lawful image, and refer to the records of exactly their values. The function does
+/// nothing; its contract is the law.
 pub fn documents_law()
     ensures nothing { NothingIsDocuments }
     ensures stays { DocumentsStay }

@@ -20,7 +20,7 @@ use entry_ref::EntryRef;
 use std::alloc::{AllocError, Global};
 use unique_store::{get as stored, value_law};
 
-/// The value of a record, by its reference as a number.
+/// Returns the value of a record, by its reference as a number.
 fn read_value<const OFFSET_BITS: u32, F: Frozen<OFFSET_BITS>>(
     alloc: Global,
     frozen: &mut F,
@@ -35,14 +35,14 @@ fn read_value<const OFFSET_BITS: u32, F: Frozen<OFFSET_BITS>>(
     stored(alloc, frozen, EntryRef::from_raw(key as u32), value_type)
 }
 
-/// The weight in a word of a weighted set.
+/// Returns the weight in a word of a weighted set.
 fn weight_of(word: u64) -> i32
     ensures { result ≡ (unpacked word).1 }
 {
     ((word % WEIGHT_BASE) as u32).cast_signed()
 }
 
-/// The item of a word.
+/// Returns the item of a word.
 fn read_item<const OFFSET_BITS: u32, F: Frozen<OFFSET_BITS>>(
     alloc: Global,
     frozen: &mut F,
@@ -70,7 +70,7 @@ fn read_item<const OFFSET_BITS: u32, F: Frozen<OFFSET_BITS>>(
     }
 }
 
-/// The items of a record.
+/// Returns the items of a record.
 fn read_list<const OFFSET_BITS: u32, F: Frozen<OFFSET_BITS>>(
     alloc: Global,
     frozen: &mut F,
@@ -94,7 +94,7 @@ fn read_list<const OFFSET_BITS: u32, F: Frozen<OFFSET_BITS>>(
     Ok(Items::from_vec(items))
 }
 
-/// The items of a reference.
+/// Returns the items of a reference.
 fn read_items<const OFFSET_BITS: u32, F: Frozen<OFFSET_BITS>>(
     alloc: Global,
     frozen: &mut F,
@@ -119,7 +119,7 @@ fn read_items<const OFFSET_BITS: u32, F: Frozen<OFFSET_BITS>>(
     }
 }
 
-/// The items of a document. There is no answer where it is not there.
+/// Returns the items of a document, or `None` if it does not exist.
 pub fn document_items<const OFFSET_BITS: u32, F: Frozen<OFFSET_BITS>>(
     alloc: Global,
     frozen: &mut F,

@@ -13,7 +13,7 @@ use entry_ref::EntryRef;
 use std::alloc::{AllocError, Global};
 use value_index::{key, key_law};
 
-/// The key of a value that a document has.
+/// Returns the key of a value that a document has.
 #[tactic(none)]
 fn key_of<const OFFSET_BITS: u32, F: Frozen<OFFSET_BITS>>(
     frozen: &mut F,
@@ -35,7 +35,7 @@ fn key_of<const OFFSET_BITS: u32, F: Frozen<OFFSET_BITS>>(
     }
 }
 
-/// The keys of the values of items, which a document has each.
+/// Returns the keys of the values of items, all of which a document has.
 #[tactic(none)]
 pub fn keys_of<const OFFSET_BITS: u32, F: Frozen<OFFSET_BITS>>(
     alloc: Global,

@@ -4,8 +4,9 @@ ghost use Rattle.attr_field.specs.Laws.{FieldOwnsKeys, FieldReaches, FieldReache
 use crate::documents_law;
 use value_index::{index_law, key_law};
 
-/// Roots 0 are an attribute without documents; an attribute stays where its records stay, is lawful as a part of an
-/// image, and owns what an image reaches of it but for old copies. It does nothing: its contract is the law.
+/// Roots 0 are an attribute without documents. An attribute stays the same while its records stay the same, and is
+/// lawful as a part of an image. It owns what an image reaches of it, except old copies. The function does nothing;
+/// its contract is the law.
 #[tactic(none)]
 pub fn field_law()
     ensures nothing { NothingIsField }

@@ -17,7 +17,7 @@ use entry_ref::EntryRef;
 use std::alloc::{AllocError, Global};
 use store_api::{Store, StoreError, drop_one, may_do_law};
 
-/// The word of an item, by the record of its value.
+/// Returns the word of an item, given the record of its value.
 fn word_of<const OFFSET_BITS: u32>(kind: Kind, key: EntryRef<OFFSET_BITS>, item: &Item) -> u64
     requires { IsWeightOf kind item.now.weight }
     ensures { word_entry kind result ≡ (key.entry, item.now.weight) }
@@ -30,7 +30,7 @@ fn word_of<const OFFSET_BITS: u32>(kind: Kind, key: EntryRef<OFFSET_BITS>, item:
     }
 }
 
-/// The words of items, by the records of their values.
+/// Returns the words of items, given the records of their values.
 fn words_of<const OFFSET_BITS: u32>(
     alloc: Global,
     kind: Kind,
@@ -75,8 +75,8 @@ fn make_list<const OFFSET_BITS: u32, S: Store<OFFSET_BITS>>(
     add(store, &words)
 }
 
-/// Makes what a document's reference is to be: 0 where it has no items, the value's record of a single item, else a
-/// record of its own.
+/// Makes a document's reference: 0 if it has no items, the record of the value for a single item, otherwise a record
+/// of its own.
 pub fn make_items<const OFFSET_BITS: u32, S: Store<OFFSET_BITS>>(
     alloc: Global,
     store: &mut S,
@@ -105,7 +105,7 @@ pub fn make_items<const OFFSET_BITS: u32, S: Store<OFFSET_BITS>>(
     }
 }
 
-/// Drops the record that a document's reference has of its own.
+/// Drops the record that a document's reference owns.
 pub fn drop_items<const OFFSET_BITS: u32, S: Store<OFFSET_BITS>>(
     store: &mut S,
     kind: Kind,

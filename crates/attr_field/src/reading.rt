@@ -11,7 +11,7 @@ use arena_api::Frozen;
 use attr_types::{Doc, Items, Kind, ValueType};
 use std::alloc::{AllocError, Global};
 
-/// The items of a document, if it is there.
+/// Returns the items of a document, if it exists.
 pub fn items<const OFFSET_BITS: u32, F: Frozen<OFFSET_BITS>>(
     alloc: Global,
     frozen: &mut F,

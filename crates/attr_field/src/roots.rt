@@ -1,6 +1,6 @@
 use entry_ref::EntryRef;
 
-/// An attribute by the roots of its two trees, each 0 where it has no documents.
+/// An attribute, by the roots of its two trees. Each root is 0 if the attribute has no documents.
 #[derive(Clone, Copy, Debug, PartialEq, Eq, Drop)]
 pub struct FieldRoots<const OFFSET_BITS: u32> {
     /// The tree of documents, each with the reference of its items.

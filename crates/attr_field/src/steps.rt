@@ -1,5 +1,5 @@
-//! The steps of a change: the index gets the document's new values, the documents its new items, and the index loses its
-//! old values.
+//! The steps of a change: the document is added to the index by its new values, its items are set, and it is removed
+//! from the index by its old values.
 ghost use Rattle.std.specs.Prelude.{◌≡◌, ℕ, ◌+◌, ◌*◌, ◌^◌, ◌<◌, ◌∷◌, [], true, length, IsSome, None, Some, IfOk, IfErr};
 ghost use Rattle.std.specs.BTreeMap.{get, is_at};
 ghost use Rattle.std.specs.List.{AllByRecursion};
@@ -31,7 +31,7 @@ use std::collections::BTreeMap;
 use store_api::{Store, StoreError};
 use value_index::{add_all, index_law, key_law, remove_all};
 
-/// Puts the document into the lists of its new values. The answer is the root of the new index.
+/// Adds the document to the lists of its new values. Returns the root of the new index.
 #[tactic(none)]
 pub fn add_values<const OFFSET_BITS: u32, S: Store<OFFSET_BITS>>(
     store: &mut S,
@@ -77,7 +77,7 @@ pub fn add_values<const OFFSET_BITS: u32, S: Store<OFFSET_BITS>>(
     add_all(store, value_type, dictionary, doc, old, new)
 }
 
-/// Sets the items of the document, by the keys of their values. The answer is the root of the new documents.
+/// Sets the items of the document, given the keys of their values. Returns the root of the new documents.
 #[tactic(none)]
 pub fn set_items<const OFFSET_BITS: u32, S: Store<OFFSET_BITS>>(
     alloc: Global,
@@ -122,7 +122,7 @@ pub fn set_items<const OFFSET_BITS: u32, S: Store<OFFSET_BITS>>(
     )
 }
 
-/// Takes the document out, which is there. The answer is the root of the new documents.
+/// Removes the document, which must exist. Returns the root of the new documents.
 #[tactic(none)]
 pub fn take_out<const OFFSET_BITS: u32, S: Store<OFFSET_BITS>>(
     store: &mut S,
@@ -152,8 +152,8 @@ pub fn take_out<const OFFSET_BITS: u32, S: Store<OFFSET_BITS>>(
     remove_document(store, kind, value_type, documents, doc)
 }
 
-/// Takes the document out of the lists of its old values. The answer is the root of the new index, which is that of the
-/// documents.
+/// Removes the document from the lists of its old values. Returns the root of the new index, which is the index of
+/// the documents.
 #[tactic(none)]
 pub fn remove_values<const OFFSET_BITS: u32, S: Store<OFFSET_BITS>>(
     store: &mut S,

@@ -18,14 +18,14 @@ abbrev pub trees_reach : Kind → Records → ℕ → ℕ → List ℕ
 trees_reach kind m documents dictionary =
     (tree_nodes m documents ++ documents_reach kind m documents) ++ (tree_nodes m dictionary ++ dictionary_reach m dictionary)
 
--- each record has its form: nodes with keys that ascend, items, values and posting lists
+-- each record is well formed: nodes with ascending keys, items, values and posting lists
 pub record AreFormed (kind : Kind) (type : ValueType) (m : Records) (documents dictionary : ℕ) : Type 0 where
   pub documents_tree : IsTree nat_cmp by_number m documents
   pub items : AllByRecursion (λ p. AreItemRecords kind type m p.1) (tree_pairs m documents)
   pub dictionary_tree : IsTree value_cmp (stored_value type) m dictionary
   pub entries : AllByRecursion (IsDictionaryEntry type m) (tree_pairs m dictionary)
 
--- the records have their forms, the documents have lawful items, and the dictionary has exactly their values and lists
+-- the records are well formed, the documents have lawful items, and the dictionary has exactly their values and lists
 pub record IsLawfulAttribute (kind : Kind) (type : ValueType) (m : Records) (documents dictionary : ℕ) : Type 0 where
   pub forms : AreFormed kind type m documents dictionary
   pub column : IsLawfulColumn kind (column_at kind type m documents)

@@ -1,4 +1,4 @@
--- The items of a document, as its reference in the document tree reads.
+-- The items of a document, by its reference in the document tree.
 use Rattle.std.specs.Prelude.{ℕ, zero, suc, ℤ, pos, List, [], ◌∷◌, map}
 use Rattle.std.specs.List.{flat_map, AllByRecursion}
 use Rattle.entry_ref.specs.Records.{Records}
@@ -37,7 +37,7 @@ items_reach WeightedSet (suc ref) ws = suc ref ∷ map (λ e. e.0) (weighted Wei
 abbrev pub items_at : Kind → ValueType → Records → ℕ → List Item
 items_at kind type m ref = map (λ e. record { value = stored_value type m e.0; weight = e.1 }) (weighted kind ref (m ref))
 
--- their records have their form
+-- the records of its items are well formed
 abbrev pub AreItemRecords : Kind → ValueType → Records → ℕ → Type 0
 AreItemRecords kind type m ref =
     IsItemsRecord kind ref (m ref) × AllByRecursion (λ e. IsValueRecord type (m e.0)) (weighted kind ref (m ref))

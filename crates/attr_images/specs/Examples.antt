@@ -1,4 +1,5 @@
--- Images made by hand: one of a weighted set of texts, one with a second attribute, and a broken one for each part of what is lawful.
+-- Images made by hand: one of a weighted set of texts, one with a second attribute, and one broken image for each
+-- condition.
 use Rattle.std.specs.Prelude.{◌≡◌, ℕ, ◌+◌, ◌*◌, ◌^◌, pos, negsuc, List, [], ◌∷◌}
 use Rattle.entry_ref.specs.Images.{words_at}
 use Rattle.entry_ref.specs.declared.images.Image.{Image}
@@ -6,7 +7,7 @@ use Rattle.tree_read.specs.Nodes.{node_words}
 use Rattle.attr_images.specs.Images.{table_of, IsLawfulImage}
 use Rattle.attr_types.specs.declared.value.Value.TheVariants as values
 
--- document 7 has the text `te` with weight -3: one operation
+-- document 7 has the text `te` with weight -3, after one operation
 abbrev pub one_text : Image
 one_text = record {
   root = 1027;
@@ -18,7 +19,7 @@ one_text = record {
       ∷ (2048, 1 ∷ 34359738365 ∷ []) ∷ [];
 }
 
--- the same with the words of one record replaced
+-- the same after the words of one record are replaced
 abbrev pub broken : ℕ → List ℕ → Image
 broken ref ws = record { root = 1027; records = (ref, ws) ∷ one_text.records }
 
@@ -76,6 +77,6 @@ TwoFieldsRead = table_of 14 (words_at (two_fields 7)) 1028
           ∷ (record { value = values.Long (pos 5); weight = pos 1 } ∷ []) ∷ [],
     ) ∷ []
 
--- it is another document than the first attribute's
+-- it has another document than the first attribute
 abbrev pub OtherDocument : Type 0
 OtherDocument = ¬ IsLawfulImage 14 (words_at (two_fields 8)) 1028

@@ -1,4 +1,4 @@
--- Images: a root record that names the two trees of each attribute; what an image reads as, and when it is lawful.
+-- Images: a root record that names the two trees of each attribute; what an image represents, and when it is lawful.
 use Rattle.std.specs.Prelude.{◌≡◌, ℕ, zero, suc, ◌+◌, ◌*◌, ◌<◌, ◌^◌, List, [], ◌∷◌, length, slice_index, drop}
 use Rattle.std.specs.List.{flat_map, AllByRecursion}
 use Rattle.entry_ref.specs.Records.{Records}
@@ -14,18 +14,19 @@ abbrev pub root_words : Records → ℕ → List ℕ
 root_words m zero = []
 root_words m (suc root) = m (suc root)
 
--- word 0: the operations committed
+-- word 0: the number of operations committed
 abbrev pub operations_at : Records → ℕ → ℕ
 operations_at m root = slice_index (root_words m root) 0
 
--- then two words for each attribute, by its number: the roots of its document tree and of its dictionary
+-- then two words for each attribute, in the order of their numbers: the roots of its document tree and of its
+-- dictionary
 abbrev pub documents_at : Records → ℕ → ℕ → ℕ
 documents_at m root i = slice_index (root_words m root) (1 + 2 * i)
 
 abbrev pub dictionary_at : Records → ℕ → ℕ → ℕ
 dictionary_at m root i = slice_index (root_words m root) (2 + 2 * i)
 
--- the attributes that the words name, from number `i` on
+-- the attributes in the words, from number `i` on
 abbrev pub attributes_from : ℕ → List (Kind × ValueType) → List ℕ → List AttributeTrees
 attributes_from i [] ws = []
 attributes_from i (t ∷ ts) ws =
@@ -40,7 +41,7 @@ attributes_of shape m root = attributes_from 0 (types_of_shape shape) (root_word
 abbrev pub root_record : ℕ → List AttributeTrees → List ℕ
 root_record operations attributes = filled (operations ∷ flat_map (λ a. a.documents ∷ a.dictionary ∷ []) attributes)
 
--- the form of one of `n` attributes
+-- the form of a root record of `n` attributes
 pub record IsRootRecord (n : ℕ) (ws : List ℕ) : Type 0 where
   pub size : length ws ≡ class_of (1 + 2 * n)
   pub few : slice_index ws 0 < 2 ^ 32
@@ -50,7 +51,7 @@ pub record IsRootRecord (n : ℕ) (ws : List ℕ) : Type 0 where
 abbrev pub table_of : ℕ → Records → ℕ → Table
 table_of shape m root = table_of_columns (columns_at m (attributes_of shape m root))
 
--- what its root reaches
+-- what the root reaches
 abbrev pub attr_reaches : ℕ → Records → ℕ → List ℕ
 attr_reaches shape m zero = []
 attr_reaches shape m (suc root) = suc root ∷ attributes_reach m (attributes_of shape m (suc root))

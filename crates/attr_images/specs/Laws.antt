@@ -1,4 +1,4 @@
--- What the definitions mean, as laws.
+-- The meaning of the definitions, as laws.
 use Rattle.std.specs.Prelude.{◌≡◌, ℕ, ◌+◌, ◌*◌, ◌/◌, ◌%◌, ◌<◌, ◌≤◌, ◌^◌, ◌&&◌, nat_eq, ℤ, FitsSigned}
 use Rattle.std.specs.Prelude.{List, [], ◌∷◌, length, slice_index, slice_get, Some}
 use Rattle.std.specs.Int.{w64}
@@ -32,12 +32,12 @@ use Rattle.attr_types.specs.declared.value.Value.TheVariants as values
 use Rattle.attr_index.specs.Sets.{has, in_words, IsAscending}
 
 -- ---- shapes
--- a shape tells the kinds and value types that it was made of
+-- a shape determines the kinds and value types from which it was made
 abbrev pub ShapeTells : Type 0
 ShapeTells = (ts : List (Kind × ValueType)) → length ts ≤ MOST_FIELDS → types_of_shape (shape_of ts) ≡ ts
 
 -- ---- posting lists
--- a dictionary's value tells the form
+-- the value in a dictionary determines the form
 abbrev pub WordTellsForm : Type 0
 WordTellsForm = (ref : ℕ) → ref < 2 ^ 32
     → (list_form (ref * 2) ≡ short ref) × (list_form (ref * 2 + 1) ≡ tree ref) × (list_form (FIRST_VECTOR + ref) ≡ vector ref)
@@ -46,7 +46,7 @@ WordTellsForm = (ref : ℕ) → ref < 2 ^ 32
 abbrev pub ListsAreFilled : Type 0
 ListsAreFilled = (m : Records) (form : ListForm) → IsPostingList m form → 0 < length (postings_at m form)
 
--- document 4096 * k + i is in block `k` exactly where bit i is 1
+-- document 4096 * k + i is in block `k` if and only if bit i is 1
 abbrev pub BlockHasBits : Type 0
 BlockHasBits = (k doc : ℕ) (ws : List ℕ)
     → has (block_documents k ws) doc ≡ (nat_eq (doc / BLOCK_DOCUMENTS) k && in_words ws (doc % BLOCK_DOCUMENTS))
@@ -54,13 +54,13 @@ BlockHasBits = (k doc : ℕ) (ws : List ℕ)
 abbrev pub BlockAscends : Type 0
 BlockAscends = (k : ℕ) (ws : List ℕ) → IsAscending (block_documents k ws)
 
--- no node of a dictionary is there twice
+-- no node occurs twice in a dictionary
 abbrev pub DictionaryNodesAreDistinct : Type 0
 DictionaryNodesAreDistinct = (type : ValueType) (m : Records) (root : ℕ) → IsTree value_cmp (stored_value type) m root
     → IsDistinct nat_eq (tree_nodes m root)
 
 -- ---- attributes
--- where the records of an attribute have their forms, each that is reached is there
+-- if the records of an attribute are well formed, each record that it reaches exists
 abbrev pub FormsAreThere : Type 0
 FormsAreThere = (kind : Kind) (type : ValueType) (m : Records) (documents dictionary : ℕ)
     → AreFormed kind type m documents dictionary → AllThere (trees_reach kind m documents dictionary) m
@@ -75,7 +75,7 @@ abbrev pub ValuesAscend : Type 0
 ValuesAscend = (kind : Kind) (type : ValueType) (m : Records) (documents dictionary : ℕ)
     → IsLawfulAttribute kind type m documents dictionary → IsStrictlySortedBy value_cmp (keys_of (index_of type m dictionary))
 
--- and an attribute whose records have their forms, with a lawful column and its index, is lawful
+-- an attribute whose records are well formed, with a lawful column and its index, is lawful
 abbrev pub AttributeIsLawful : Type 0
 AttributeIsLawful = (kind : Kind) (type : ValueType) (m : Records) (documents dictionary : ℕ)
     → AreFormed kind type m documents dictionary → IsLawfulColumn kind (column_at kind type m documents)
@@ -83,19 +83,19 @@ AttributeIsLawful = (kind : Kind) (type : ValueType) (m : Records) (documents di
     → IsLawfulAttribute kind type m documents dictionary
 
 -- ---- tables
--- each column of a table of columns is that column
+-- each column of a table of columns is one of these columns
 abbrev pub TableHasColumns : Type 0
 TableHasColumns = (columns : List Column) (i : ℕ) (column : Column) → HaveSameDocuments columns
     → slice_get columns i ≡ Some column → column_of i (table_of_columns columns) ≡ column
 
--- and a lawful table is the table of its columns
+-- a lawful table is the table of its columns
 abbrev pub ColumnsMakeTable : Type 0
 ColumnsMakeTable = (fields : List Field) (table : Table) (columns : List Column) → IsLawfulTable fields table → 0 < length fields
     → length columns ≡ length fields
     → ((i : ℕ) (column : Column) → slice_get columns i ≡ Some column → column ≡ column_of i table)
     → table_of_columns columns ≡ table
 
--- whose columns have the same documents
+-- the columns of a table have the same documents
 abbrev pub ColumnsHaveSameDocuments : Type 0
 ColumnsHaveSameDocuments = (table : Table) (columns : List Column)
     → ((i : ℕ) (column : Column) → slice_get columns i ≡ Some column → column ≡ column_of i table) → HaveSameDocuments columns
@@ -108,12 +108,12 @@ ImageIsThere = (shape : ℕ) (m : Records) (root : ℕ) → IsLawfulImage shape 
 abbrev pub AttributesAreLawful : Type 0
 AttributesAreLawful = (shape : ℕ) (m : Records) (root : ℕ) → IsLawfulImage shape m root → AreLawfulAttributes m (attributes_of shape m root)
 
--- and a root record that names lawful attributes makes a lawful image
+-- a root record that names lawful attributes makes a lawful image
 abbrev pub ImageIsLawful : Type 0
 ImageIsLawful = (shape : ℕ) (m : Records) (root : ℕ) → IsRootRecord (length (types_of_shape shape)) (root_words m root)
     → AreLawfulAttributes m (attributes_of shape m root) → IsLawfulImage shape m root
 
--- what is read at the root where it is made of attributes
+-- what a root that is made of attributes represents
 pub record IsImageOf (operations : ℕ) (attributes : List AttributeTrees) (shape : ℕ) (m : Records) (root : ℕ) : Type 0 where
   pub lawful : IsLawfulImage shape m root
   pub named : attributes_of shape m root ≡ attributes
@@ -126,7 +126,7 @@ RootMakesImage = (operations : ℕ) (attributes : List AttributeTrees) (m : Reco
     → length attributes ≤ MOST_FIELDS → m root ≡ root_record operations attributes → AreLawfulAttributes m attributes
     → IsImageOf operations attributes (shape_of (types_at attributes)) m root
 
--- what a lawful image says of the attribute of a field
+-- what a lawful image implies for the attribute of a field
 pub record HasField (field : Field) (table : Table) (m : Records) (documents dictionary i : ℕ) : Type 0 where
   pub attribute : IsLawfulAttribute field.kind field.value m documents dictionary
   pub column : column_of i table ≡ column_at field.kind field.value m documents
@@ -142,7 +142,7 @@ abbrev pub RootHasWords : Type 0
 RootHasWords = (fields : List Field) (m : Records) (root : ℕ) → length fields ≤ MOST_FIELDS → 0 < root
     → IsLawfulImage (shape_of (types_of fields)) m root → 1 + 2 * length fields ≤ length (m root)
 
--- which is 0, or that of a record
+-- each root is 0 or refers to a record
 abbrev pub RootsAreThere : Type 0
 RootsAreThere = (kind : Kind) (type : ValueType) (m : Records) (documents dictionary : ℕ)
     → IsLawfulAttribute kind type m documents dictionary
@@ -152,7 +152,7 @@ RootsAreThere = (kind : Kind) (type : ValueType) (m : Records) (documents dictio
 abbrev pub EmptyTable : Type 0
 EmptyTable = (shape : ℕ) (m : Records) → table_of shape m 0 ≡ []
 
--- the table of a lawful image is lawful, with values of the attributes' types
+-- the table of a lawful image is lawful, and its values have the types of the attributes
 abbrev pub TableIsLawful : Type 0
 TableIsLawful = (fields : List Field) (m : Records) (root : ℕ) → length fields ≤ MOST_FIELDS
     → IsLawfulImage (shape_of (types_of fields)) m root → IsLawfulTable fields (table_of (shape_of (types_of fields)) m root)

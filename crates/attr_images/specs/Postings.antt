@@ -18,7 +18,8 @@ pub data ListForm : Type 0 where
   tree : ℕ → ListForm
   vector : ℕ → ListForm
 
--- a dictionary's value tells the form: a bit vector's root is counted from FIRST_VECTOR, and below it the lowest bit tells
+-- the value in a dictionary determines the form: from FIRST_VECTOR on it is the root of a bit vector, counted from
+-- there; below, its lowest bit decides
 abbrev pub list_form : ℕ → ListForm
 list_form word =
     if nat_le FIRST_VECTOR word then vector (word - FIRST_VECTOR)
@@ -28,7 +29,7 @@ list_form word =
 unfoldable pub block_documents : ℕ → List ℕ → List ℕ
 block_documents k ws = map (λ i. BLOCK_DOCUMENTS * k + i) (filter (in_words ws) (range_with_len 0 BLOCK_DOCUMENTS))
 
--- the documents of a bit vector: a tree of its blocks by their numbers
+-- the documents of a bit vector: a tree of its blocks, by block number
 abbrev pub vector_documents : Records → ℕ → List ℕ
 vector_documents m root = flat_map (λ p. block_documents p.0 (m p.1)) (tree_pairs m root)
 
@@ -38,13 +39,13 @@ postings_at m (short ref) = map unpacked (stored_items (m ref))
 postings_at m (tree root) = map (λ p. (p.0, weight_in_bits p.1)) (tree_pairs m root)
 postings_at m (vector root) = map (λ doc. (doc, pos 1)) (vector_documents m root)
 
--- a block, some bit of which is 1, and whose documents have 32 bits
+-- a block, which has at least one bit set, and whose document numbers fit in 32 bits
 pub record IsBlock (k : ℕ) (ws : List ℕ) : Type 0 where
   pub few : k < 2 ^ 20
   pub size : length ws ≡ BLOCK_WORDS
   pub some : 0 < length (block_documents k ws)
 
--- a short list has at most MOST_SHORT documents, a tree more; a bit vector has some block
+-- a short list has at most MOST_SHORT documents, a tree has more; a bit vector has at least one block
 abbrev pub IsPostingList : Records → ListForm → Type 0
 IsPostingList m (short ref) = IsStoredList MOST_SHORT (m ref)
 IsPostingList m (tree root) = IsTree nat_cmp by_number m root × (MOST_SHORT < length (tree_pairs m root))
@@ -62,7 +63,7 @@ postings_reach m (vector root) = tree_nodes m root ++ map (λ p. p.1) (tree_pair
 abbrev pub index_of : ValueType → Records → ℕ → List (Value × List (ℕ × ℤ))
 index_of type m root = map (λ p. (stored_value type m p.0, postings_at m (list_form p.1))) (tree_pairs m root)
 
--- the records behind a pair of the dictionary have their form
+-- the records of a pair of the dictionary are well formed
 abbrev pub IsDictionaryEntry : ValueType → Records → ℕ × ℕ → Type 0
 IsDictionaryEntry type m p = IsValueRecord type (m p.0) × IsPostingList m (list_form p.1)
 

@@ -1,5 +1,6 @@
--- Nobody has to read this: proofs, which stand here since the layout's laws cite them.
--- A lawful image reaches records that are there; it stays lawful, and reaches the same, where these records stay.
+-- Proofs, which are in specs/ since the laws of the layout cite them. They are not part of the specification.
+-- A lawful image reaches existing records. It stays lawful, and reaches the same records, while these records stay
+-- the same.
 use Rattle.std.proofs.Common.{◌≡◌, ℕ, zero, suc, ◌+◌, ◌*◌, ◌<◌, ◌^◌, List, [], ◌∷◌, ◌++◌, length, length-append, map, refl, sym, ap, subst}
 use Rattle.std.proofs.Common.{◌∙◌, arith}
 use Rattle.std.specs.Prelude.{ℤ, pos, Bool, true, false, cond, nat_le, Some}
@@ -140,7 +141,7 @@ IsPostingList-same m n (vector root) h list =
       are_blocks-same m n root h list.2,
     )
 
--- what a document tree is read as stays
+-- what a document tree represents does not change
 module _ (kind : Kind) (type : ValueType) (m n : Records) (root : ℕ) (nodes : SameAt (tree_nodes m root) m n)
     (rest : SameAt (documents_reach kind m root) m n) where
   column_at-same : column_at kind type n root ≡ column_at kind type m root
@@ -167,7 +168,7 @@ module _ (kind : Kind) (type : ValueType) (m n : Records) (root : ℕ) (nodes : 
       (all-same m n (λ (p : ℕ × ℕ). items_reach kind p.1 (m p.1)) P Q (λ p s. AreItemRecords-same kind type m n p.1 s)
       (tree_pairs m root) rest all)
 
--- and what a dictionary is read as
+-- what a dictionary represents does not change
 module _ (type : ValueType) (m n : Records) (root : ℕ) (nodes : SameAt (tree_nodes m root) m n)
     (rest : SameAt (dictionary_reach m root) m n) where
   index_of-same : index_of type n root ≡ index_of type m root
@@ -284,7 +285,7 @@ module _ (m n : Records) (attributes : List AttributeTrees) (same : SameAt (attr
         documents = subst HaveSameDocuments (sym columns_at-same) lawful.documents;
       }
 
--- records that have their form are there
+-- well-formed records exist
 some-words : (ws front : List ℕ) → ws ≡ filled front → 0 < length front → 0 < length ws
 some-words ws front is some = let size = ap length is in let more = length-append front in omega (arith, length-append {A = ℕ}, size)
 

@@ -7,7 +7,7 @@ use Rattle.attr_types.specs.declared.kind.Kind.TheVariants.{Single, Array, Weigh
 use Rattle.attr_types.specs.declared.kind.ValueType.{ValueType}
 use Rattle.attr_types.specs.declared.kind.ValueType.TheVariants as types
 
--- kinds and value types, each counted from 0
+-- the numbers of kinds and value types, counted from 0
 abbrev pub kind_number : Kind → ℕ
 kind_number Single = 0
 kind_number Array = 1
@@ -26,19 +26,19 @@ abbrev pub type_numbered : ℕ → ValueType
 type_numbered zero = types.Long
 type_numbered (suc n) = types.Text
 
--- an attribute's digit, from 1 to 6, and what it tells
+-- an attribute's digit, from 1 to 6, and the attribute of a digit
 abbrev pub digit_of : Kind × ValueType → ℕ
 digit_of t = 1 + 2 * kind_number t.0 + type_number t.1
 
 abbrev pub type_of_digit : ℕ → Kind × ValueType
 type_of_digit digit = (kind_numbered ((digit - 1) / 2), type_numbered ((digit - 1) % 2))
 
--- the digits to base 8, the first attribute's lowest
+-- the digits to base 8, the first attribute's digit lowest
 abbrev pub shape_of : List (Kind × ValueType) → ℕ
 shape_of [] = 0
 shape_of (t ∷ ts) = digit_of t + 8 * shape_of ts
 
--- what the lowest `n` digits tell
+-- the attributes of the lowest `n` digits
 abbrev pub types_below : ℕ → ℕ → List (Kind × ValueType)
 types_below zero shape = []
 types_below (suc n) shape = if nat_eq shape 0 then [] else (type_of_digit (shape % 8) ∷ types_below n (shape / 8))

@@ -20,13 +20,13 @@ pub record AttributeTrees : Type 0 where
 abbrev pub types_at : List AttributeTrees → List (Kind × ValueType)
 types_at attributes = map (λ a. (a.kind, a.type)) attributes
 
--- columns of the same documents as one table: each document with its items in each
+-- columns with the same documents as one table: each document with its items in each column
 abbrev pub table_of_columns : List Column → Table
 table_of_columns [] = []
 table_of_columns (column ∷ []) = table_of_column column
 table_of_columns (column ∷ next ∷ rest) = map (λ p. (p.0.0, p.0.1 ∷ p.1.1)) (zip column (table_of_columns (next ∷ rest)))
 
--- all have the documents of the first
+-- all columns have the documents of the first
 abbrev pub HaveSameDocuments : List Column → Type 0
 HaveSameDocuments [] = Unit {0}
 HaveSameDocuments (column ∷ rest) = AllByRecursion (λ other. keys_of other ≡ keys_of column) rest

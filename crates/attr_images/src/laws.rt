@@ -1,4 +1,4 @@
-//! Laws of images. Each function does nothing: its contract is the law.
+//! Laws of images. Each function does nothing; its contract is the law.
 ghost use Rattle.attr_images.specs.Examples.{OneTextIsLawful, OneTextReads, TwoFieldsAreLawful, TwoFieldsRead};
 ghost use Rattle.attr_images.specs.Examples.{MissingRecord, WrongCount, UnlawfulTable, MissingValue, WrongWeight, OtherDocument};
 ghost use Rattle.attr_images.specs.Laws.{ShapeTells, WordTellsForm, ListsAreFilled, BlockHasBits, BlockAscends};
@@ -8,12 +8,12 @@ ghost use Rattle.attr_images.specs.Laws.{ImageIsThere, AttributesAreLawful, Imag
 ghost use Rattle.attr_images.specs.Laws.{TableIsLawful, TableHasType, OperationsFit, FieldsAreThere, RootHasWords, RootsAreThere};
 ghost use Rattle.attr_images.specs.Laws.{DictionaryNodesAreDistinct, LongReads, TextReads};
 
-/// A shape tells its kinds and value types.
+/// The shape determines the kinds and value types.
 pub fn shape_law()
     ensures { ShapeTells }
 {}
 
-/// A dictionary's value tells the form of its list, and a block of a bit vector has the documents of its bits.
+/// The value in a dictionary determines the form of its list. A block of a bit vector has the documents of its bits.
 pub fn list_law()
     ensures form { WordTellsForm }
     ensures filled { ListsAreFilled }
@@ -21,7 +21,7 @@ pub fn list_law()
     ensures ascends { BlockAscends }
 {}
 
-/// An attribute is lawful where its records have their forms and its dictionary is the index of its column.
+/// An attribute is lawful if its records are well formed and its dictionary is the index of its column.
 pub fn attribute_law()
     ensures index { DictionaryIsIndex }
     ensures values { ValuesAscend }
@@ -30,14 +30,15 @@ pub fn attribute_law()
     ensures distinct { DictionaryNodesAreDistinct }
 {}
 
-/// Columns of the same documents and their table.
+/// Columns with the same documents, and their table.
 pub fn table_law()
     ensures columns { TableHasColumns }
     ensures made { ColumnsMakeTable }
     ensures same { ColumnsHaveSameDocuments }
 {}
 
-/// What a lawful image reads as: a lawful table of its types, each field's column with its index, and operations of 32 bits.
+/// A lawful image represents a lawful table with the image's types, has the column and the index of each field, and
+/// its number of operations fits in 32 bits.
 pub fn image_law()
     ensures table { TableIsLawful }
     ensures values { TableHasType }
@@ -46,7 +47,7 @@ pub fn image_law()
     ensures empty { EmptyTable }
 {}
 
-/// An image is lawful where its root record names lawful attributes of the same documents.
+/// An image is lawful if its root record names lawful attributes with the same documents.
 pub fn root_law()
     ensures attributes { AttributesAreLawful }
     ensures lawful { ImageIsLawful }
@@ -54,31 +55,31 @@ pub fn root_law()
     ensures words { RootHasWords }
 {}
 
-/// Records that have their forms are there, and so are all that a lawful image reaches.
+/// Well-formed records exist, and so do all records that a lawful image reaches.
 pub fn there_law()
     ensures forms { FormsAreThere }
     ensures image { ImageIsThere }
 {}
 
-/// The words that a value is stored as read as that value.
+/// The stored words of a value read as that value.
 pub fn value_law()
     ensures long { LongReads }
     ensures text { TextReads }
 {}
 
-/// An image of one document, made by hand, is lawful, and reads as that document.
+/// An image of one document, made by hand, is lawful and reads as that document.
 pub fn one_text_law()
     ensures lawful { OneTextIsLawful }
     ensures reads { OneTextReads }
 {}
 
-/// So is an image of two attributes.
+/// An image of two attributes, made by hand, is lawful.
 pub fn two_fields_law()
     ensures lawful { TwoFieldsAreLawful }
     ensures reads { TwoFieldsRead }
 {}
 
-/// An image that is broken in one record is not lawful: one for each part of what is lawful.
+/// An image with one broken record is not lawful: one example for each condition.
 pub fn broken_law()
     ensures missing { MissingRecord }
     ensures count { WrongCount }

@@ -3,7 +3,7 @@ ghost use Rattle.attr_images.specs.Images.{attr_reaches, IsLawfulImage};
 
 use entry_ref::Layout;
 
-/// The layout of images of one to eight attributes, whose kinds and value types the shape tells.
+/// The layout of images of one to eight attributes, whose kinds and value types the shape determines.
 pub struct AttrLayout;
 
 impl Layout for AttrLayout {

@@ -1,4 +1,4 @@
-//! Images of an attribute: which records a root reaches, what they read as, and when they are lawful.
+//! Images of attributes: which records a root reaches, what they represent, and when they are lawful.
 #![tactic(auto)]
 
 mod laws;
@@ -12,14 +12,14 @@ pub use laws::{
 pub use layout::AttrLayout;
 pub use shape::shape_of;
 
-/// How many documents a short posting list has at most; a longer one is a tree or a bit vector.
+/// The greatest number of documents of a short posting list. A longer list is a tree or a bit vector.
 pub const MOST_SHORT: usize = 8;
 
-/// A value of a dictionary from this one on is the reference of a bit vector's root, counted from here.
+/// The first dictionary value that refers to a bit vector; the reference of its root is counted from here.
 pub const FIRST_VECTOR: u64 = 8_589_934_592;
 
-/// How many words a block of a bit vector has.
+/// The number of words of a bit vector's block.
 pub const BLOCK_WORDS: usize = 64;
 
-/// How many documents have a bit in a block.
+/// The number of documents that have a bit in a block.
 pub const BLOCK_DOCUMENTS: u64 = 4096;

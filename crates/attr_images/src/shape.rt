@@ -24,7 +24,7 @@ fn type_number(value_type: ValueType) -> u32
     }
 }
 
-/// An attribute's digit: 1 for a single long to 6 for a weighted set of texts.
+/// Returns the digit of an attribute, from 1 for a single long to 6 for a weighted set of texts.
 fn digit_of(kind: Kind, value_type: ValueType) -> u32
     ensures value { result ≡ digit_of (kind, value_type) }
     ensures small { result ≤ 6 }
@@ -43,7 +43,7 @@ fn digits_of(fields: &[Field]) -> u32
     }
 }
 
-/// The shape of images of these attributes: their digits to base 8, the first attribute's lowest.
+/// Returns the shape of images with these attributes: their digits to base 8, the first attribute's digit lowest.
 pub fn shape_of(fields: &Fields) -> u32
     requires { length fields.now ≤ MOST_FIELDS }
     ensures { result ≡ shape_of (types_of fields.now) }

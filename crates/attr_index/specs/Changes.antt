@@ -1,4 +1,4 @@
--- The index between, while one document's items change: two walks, over the new items and then over the old.
+-- The index during a change of one document's items: two walks, over the new items and then over the old.
 use Rattle.std.specs.Prelude.{◌≡◌, ℕ, ℤ, Bool, false, List, [], ◌∷◌, Option, None, Some, is_some}
 use Rattle.std.specs.Prelude.{option_and_then}
 use Rattle.std.specs.Prelude.{if◌then◌else◌}
@@ -14,27 +14,27 @@ abbrev pub is_weight : ℤ → Option ℤ → Bool
 is_weight weight None = false
 is_weight weight (Some other) = int_eq weight other
 
--- the list of a value where the document has been given the weight among the items added, if any,
--- and has been taken out of the lists of the items removed, if it has none
+-- the list of a value during the walks: the document has the weight among the added items if there is one; otherwise
+-- it is removed if the removed items have the value
 abbrev pub settled : Option ℤ → Option ℤ → ℕ → List (ℕ × ℤ) → List (ℕ × ℤ)
 settled (Some weight) removed doc docs = insert_entry nat_cmp docs doc weight
 settled None (Some weight) doc docs = remove_entry (is_at (nat_cmp doc)) docs
 settled None None doc docs = docs
 
--- the lists that have a document are those of its items' values, with the weights of these
+-- a list has the document if and only if its items have the value, with the same weight
 abbrev pub HasItems : Index → ℕ → List Item → Type 0
 HasItems index doc items = (value : Value) → lookup (is_at (nat_cmp doc)) (list_of value index) ≡ weight_in value items
 
--- between: each list is the old one but for the document, with weights added so far and weights taken out so far
+-- each list is the old one except for the document, by the weights added and those removed so far
 pub record IsBetween (start : Index) (doc : ℕ) (added removed : Value → Option ℤ) (index : Index) : Type 0 where
   pub formed : IsFormed index
   pub lists : (value : Value) → list_of value index ≡ settled (added value) (removed value) doc (list_of value start)
 
--- with items added so far and items removed so far
+-- the same, by items added and removed so far
 abbrev pub IsPartway : Index → ℕ → List Item → List Item → Index → Type 0
 IsPartway start doc added removed index = IsBetween start doc (λ value. weight_in value added) (λ value. weight_in value removed) index
 
--- the state in the middle: the document has each value's new weight, or else the old one
+-- the state between the walks: for each value the document has the new weight if there is one, otherwise the old one
 abbrev pub first_given : Option ℤ → Option ℤ → Option ℤ
 first_given (Some weight) other = Some weight
 first_given None other = other
@@ -43,7 +43,7 @@ abbrev pub HasBoth : Index → ℕ → List Item → List Item → Type 0
 HasBoth index doc old new = (value : Value)
     → lookup (is_at (nat_cmp doc)) (list_of value index) ≡ first_given (weight_in value new) (weight_in value old)
 
--- a map from value to weight, with items that it lacks the values of, one after another
+-- a map from value to weight, after items whose values it lacks are inserted, one after another
 abbrev pub first_weights : List (Value × ℤ) → List Item → List (Value × ℤ)
 first_weights es [] = es
 first_weights es (item ∷ items) = first_weights

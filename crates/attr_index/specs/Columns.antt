@@ -1,4 +1,4 @@
--- The part of a table that is one attribute's.
+-- The part of a table that belongs to one attribute.
 use Rattle.std.specs.Prelude.{ℕ, ℤ, List, [], ◌∷◌, map, Option, None, Some, unwrap_or, option_map}
 use Rattle.std.specs.BTreeMap.{insert_entry, is_at}
 use Rattle.std.specs.List.{find, filter_map, flat_map, AllByRecursion}
@@ -17,34 +17,34 @@ use Rattle.attr_types.specs.declared.value.Value.{Value}
 abbrev pub Column : Type 0
 Column = List (ℕ × List Item)
 
--- documents ascend, each with lawful items
+-- documents ascend, and each has lawful items
 pub record IsLawfulColumn (kind : Kind) (column : Column) : Type 0 where
   pub ascends : IsStrictlySortedBy nat_cmp (keys_of column)
   pub numbers : AllByRecursion IsDocNumber (keys_of column)
   pub items : AllByRecursion (λ e. IsLawfulItems kind e.1) column
 
--- the table of an attribute alone: each document has one list of items
+-- the table of a single attribute: each document has one list of items
 abbrev pub table_of_column : Column → Table
 table_of_column column = map (λ e. (e.0, e.1 ∷ [])) column
 
--- the column of the attribute of this number
+-- the column of the attribute with this number
 abbrev pub column_of : ℕ → Table → Column
 column_of i table = map (λ e. (e.0, items_in e.1 i)) table
 
--- the values that the items of a column have
+-- the values of the items of a column
 abbrev pub column_values : Column → List Value
 column_values column = flat_map (λ e. values_of e.1) column
 
--- the documents that have a value, each with its weight, which is that of its first item of that value
+-- the documents that have a value, each with the weight of its first item with that value
 abbrev pub documents_with : Value → Column → List (ℕ × ℤ)
 documents_with value column =
     filter_map (λ e. option_map (λ item. (e.0, item.weight)) (find (λ item. is_eq (value_cmp value item.value)) e.1)) column
 
--- a document's list of items, none where it is not there
+-- the items of a document, or none if it does not exist
 abbrev pub items_of : Column → ℕ → List Item
 items_of column doc = unwrap_or (lookup (is_at (nat_cmp doc)) column) []
 
--- the column with a document's items changed, or without the document
+-- the column after a document's items change, or without the document
 abbrev pub with_change : Column → ℕ → Option (List Item) → Column
 with_change column doc None = remove_entry (is_at (nat_cmp doc)) column
 with_change column doc (Some items) = insert_entry nat_cmp column doc items

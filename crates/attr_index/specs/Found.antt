@@ -1,4 +1,4 @@
--- The documents that the indexes of a table's attributes hold for a query.
+-- The documents that the indexes of a table's attributes determine for a query.
 use Rattle.std.specs.Prelude.{ℕ, ◌+◌, Bool, true, false, ◌&&◌, ◌||◌, List, [], ◌∷◌, slice_get, unwrap_or}
 use Rattle.std.specs.List.{list_any}
 use Rattle.attr_index.specs.Columns.{column_of}
@@ -8,21 +8,21 @@ use Rattle.attr_types.specs.Table.{Table}
 use Rattle.attr_index.specs.Sets.{has}
 use Rattle.attr_index.specs.Leaves.{listed, meeting}
 
--- the indexes of a table's attributes, from one of them on
+-- the indexes of a table's attributes, from number i on
 abbrev pub AreIndexesFrom : ℕ → Table → List Index → Type 0
 AreIndexesFrom i table [] = Unit {0}
 AreIndexesFrom i table (index ∷ rest) = IsIndexOf (column_of i table) index × AreIndexesFrom (i + 1) table rest
 
--- the index of the attribute of this number
+-- the index of the attribute with this number
 abbrev pub index_at : List Index → ℕ → Index
 index_at indexes field = unwrap_or (slice_get indexes field) []
 
--- a document has some value in some attribute
+-- a document has a value in some attribute
 abbrev pub is_listed : List Index → ℕ → Bool
 is_listed indexes doc = list_any (λ index. has (listed index) doc) indexes
 
--- what the indexes hold for a query: a leaf's documents, those of all members, or those of some; an And without members holds
--- all documents that have a value
+-- the documents that the indexes determine for a query: those of a leaf, those of all members, or those of some
+-- member; an `And` without members has all documents that have a value
 abbrev mutual
   pub found : QueryTree → List Index → ℕ → Bool
   found (one field leaf) indexes doc = has (listed (meeting leaf (index_at indexes field))) doc

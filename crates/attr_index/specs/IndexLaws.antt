@@ -1,4 +1,4 @@
--- What the indexes of a table say of queries.
+-- How the indexes of a table answer queries.
 use Rattle.std.specs.Prelude.{◌≡◌, ℕ, List, length}
 use Rattle.std.specs.List.{AllByRecursion}
 use Rattle.std.specs.List.Sorted.{IsStrictlySortedBy}
@@ -17,18 +17,18 @@ use Rattle.attr_index.specs.Sets.{Holds}
 use Rattle.attr_index.specs.Found.{AreIndexesFrom, found}
 use Rattle.attr_index.specs.Leaves.{meeting, from, run, sought, from_sought}
 
--- what the indexes of a table hold for a query, in order, are its hits
+-- what the indexes of a table determine for a query is, in ascending order, its hits
 abbrev pub FoundAreHits : Type 0
 FoundAreHits = (fields : List Field) (table : Table) (indexes : List Index) (query : QueryTree) (docs : List ℕ)
     → IsLawfulTable fields table → length indexes ≡ length fields → AreIndexesFrom 0 table indexes
     → Holds docs (found query indexes) → docs ≡ hits query table
 
--- the values that meet a leaf are one run of the ascending values
+-- the values that meet a leaf are consecutive among the ascending values
 abbrev pub RunIsFilter : Type 0
 RunIsFilter = (index : Index) (leaf : Leaf) → IsStrictlySortedBy value_cmp (keys_of index)
     → run leaf (from leaf index) ≡ meeting leaf index
 
--- and the run begins at the value that the leaf seeks, or behind it
+-- they begin at the value that the leaf seeks, or after it
 abbrev pub SoughtIsFilter : Type 0
 SoughtIsFilter = (index : Index) (leaf : Leaf) → IsStrictlySortedBy value_cmp (keys_of index)
     → run leaf (from leaf (from_sought (sought leaf) index)) ≡ meeting leaf index

@@ -1,4 +1,4 @@
--- What the changes of an index come to, as laws.
+-- How the changes of an index end, as laws.
 use Rattle.std.specs.Prelude.{◌≡◌, false, ◌↔◌, ◌<◌, ◌≤◌, ℕ, ℤ, List, [], length, slice_get, Option, None, Some, IsSome, Contains}
 use Rattle.std.specs.Prelude.{unwrap_or, option_map}
 use Rattle.std.specs.BTreeMap.{is_at}
@@ -29,13 +29,13 @@ abbrev pub ColumnIsLawful : Type 0
 ColumnIsLawful = (fields : List Field) (table : Table) (i : ℕ) (field : Field) → IsLawfulTable fields table
     → slice_get fields i ≡ Some field → IsLawfulColumn field.kind (column_of i table)
 
--- an operation changes the items of its document alone: to what the next table has there, if anything
+-- an operation changes only the items of its document: to those in the next table, if it has any
 abbrev pub OperationChangesColumn : Type 0
 OperationChangesColumn = (fields : List Field) (table next : Table) (op : Op) (i : ℕ) → IsLawfulTable fields table
     → step fields table op ≡ Some next
     → column_of i next ≡ with_change (column_of i table) (op_doc op) (option_map (λ d. items_in d i) (document_at next (op_doc op)))
 
--- an update makes each attribute's change on the document's items in it
+-- an update applies the change of each attribute to the document's items in it
 abbrev pub UpdateChangesItems : Type 0
 UpdateChangesItems = (fields : List Field) (changes : List Change) (document next : Document) (i : ℕ) (field : Field) (change : Change)
     → IsLawfulDocument fields document → updated fields changes document ≡ Some next
@@ -44,16 +44,17 @@ UpdateChangesItems = (fields : List Field) (changes : List Change) (document nex
 
 -- ---- an index of a column
 
--- it ascends, and has exactly the column's values, each with its documents; and what does so is it
+-- it ascends, and has exactly the values of the column, each with its documents; and every index with these
+-- properties is the index of the column
 abbrev pub IndexHasAll : Type 0
 IndexHasAll = (kind : Kind) (column : Column) (index : Index) → IsLawfulColumn kind column
     → IsIndexOf column index ↔ (IsStrictlySortedBy value_cmp (keys_of index) × HasValues column index × HasLists column index)
 
--- there is no other
+-- a column has only one index
 abbrev pub OneIndex : Type 0
 OneIndex = (column : Column) (index other : Index) → IsIndexOf column index → IsIndexOf column other → index ≡ other
 
--- a document is in the lists of its items' values
+-- a document is in the lists of the values of its items
 abbrev pub IndexHasItems : Type 0
 IndexHasItems = (kind : Kind) (column : Column) (doc : ℕ) (index : Index) → IsLawfulColumn kind column → IsIndexOf column index
     → HasItems index doc (items_of column doc)
@@ -68,7 +69,7 @@ WalkEnds = (kind : Kind) (column : Column) (start : Index) (doc : ℕ) (new : Op
     → IsPartway start doc (unwrap_or new []) (items_of column doc) index → IsIndexOf (with_change column doc new) index
 
 -- ---- what a step finds
--- a value whose list a removal empties is no item's in the new column
+-- a value whose list becomes empty by a removal is not a value of the new column
 abbrev pub RemovedItemsAreGone : Type 0
 RemovedItemsAreGone = (kind : Kind) (column : Column) (start : Index) (doc : ℕ) (new : Option (List Item)) (removed : List Item)
     (index : Index)
@@ -78,7 +79,7 @@ RemovedItemsAreGone = (kind : Kind) (column : Column) (start : Index) (doc : ℕ
     → remove_entry (is_at (nat_cmp doc)) (list_of value index) ≡ []
     → Contains (column_values (with_change column doc new)) value → ⊥
 
--- in the first walk every value of the index stays
+-- in the first walk every value of the index remains
 abbrev pub OldValuesStay : Type 0
 OldValuesStay = (start : Index) (doc : ℕ) (added : List Item) (index : Index) (value : Value) → IsFormed start
     → IsPartway start doc added [] index → IsSome (lookup (is_at (value_cmp value)) start) → IsSome (lookup (is_at (value_cmp value)) index)
@@ -90,18 +91,18 @@ NewValuesStay = (kind : Kind) (column : Column) (start : Index) (doc : ℕ) (new
     → IsLawfulColumn kind column → IsIndexOf column start → IsPartway start doc (unwrap_or new []) removed index
     → Contains (column_values (with_change column doc new)) value → IsSome (lookup (is_at (value_cmp value)) index)
 
--- values keep their places where a posting is put to one that is there
+-- adding a posting to a value of the index does not change the values
 abbrev pub AdditionKeepsKeys : Type 0
 AdditionKeepsKeys = (value : Value) (doc : ℕ) (weight : ℤ) (index : Index) → IsFormed index
     → IsSome (lookup (is_at (value_cmp value)) index) → keys_of (with_posting value doc weight index) ≡ keys_of index
 
--- and where a removal leaves a document
+-- removing a posting does not change the values if a document remains
 abbrev pub RemovalKeepsKeys : Type 0
 RemovalKeepsKeys = (value : Value) (doc : ℕ) (index : Index) → IsFormed index
     → IsSome (lookup (is_at (value_cmp value)) index) → 0 < length (remove_entry (is_at (nat_cmp doc)) (list_of value index))
     → keys_of (without_posting value doc index) ≡ keys_of index
 
--- ---- the middle, as the start of the second walk; the weights may stand in any form
+-- ---- between the walks, as the start of the second; the weights may have any form
 abbrev pub MiddleHasBoth : Type 0
 MiddleHasBoth = (start : Index) (doc : ℕ) (old new : Value → Option ℤ) (middle : Index)
     → ((value : Value) → lookup (is_at (nat_cmp doc)) (list_of value start) ≡ old value)
@@ -117,7 +118,7 @@ abbrev pub WalksJoin : Type 0
 WalksJoin = (start : Index) (doc : ℕ) (old new : Value → Option ℤ) (middle index : Index) → IsFormed start
     → IsBetween start doc new (λ value. None) middle → IsBetween middle doc new old index → IsBetween start doc new old index
 
--- only the weights of values count
+-- only the weights of values matter
 abbrev pub WeightsCount : Type 0
 WeightsCount = (start : Index) (doc : ℕ) (a b r s : Value → Option ℤ) (index : Index) → IsBetween start doc a r index
     → ((value : Value) → b value ≡ a value) → ((value : Value) → s value ≡ r value) → IsBetween start doc b s index
@@ -143,7 +144,7 @@ abbrev pub EmptyIndex : Type 0
 EmptyIndex = IsIndexOf [] []
 
 -- ---- an operation
--- ---- the same steps where the weights stand in another form, as in a map
+-- ---- the same steps for weights in another form, such as a map
 abbrev pub IsOtherwise : Value → (Value → Option ℤ) → (Value → Option ℤ) → Type 0
 IsOtherwise value a b = (q : Value) → is_eq (value_cmp q value) ≡ false → b q ≡ a q
 
@@ -166,6 +167,6 @@ abbrev pub StayGoesOn : Type 0
 StayGoesOn = (start : Index) (doc : ℕ) (index : Index) (value : Value) (weight : ℤ) (a b : Value → Option ℤ) → IsOtherwise value a b
     → (new : Value → Option ℤ) (other : ℤ) → IsBetween start doc new a index → new value ≡ Some other → IsBetween start doc new b index
 
--- the map that is made of items has their weights
+-- the map made of items has their weights
 abbrev pub MapHasWeights : Type 0
 MapHasWeights = (value : Value) (items : List Item) → lookup (is_at (value_cmp value)) (first_weights [] items) ≡ weight_in value items

@@ -1,4 +1,4 @@
--- The part of an index that a leaf asks for.
+-- The part of an index that a leaf needs.
 use Rattle.std.specs.Prelude.{ℕ, Bool, not, List, [], ◌∷◌, filter, Option, Some, None, if◌then◌else◌, false}
 use Rattle.std.specs.List.{flat_map}
 use Rattle.std.specs.Map.{keys_of}
@@ -19,7 +19,7 @@ listed index = flat_map (λ e. keys_of e.1) index
 abbrev pub meeting : Leaf → Index → Index
 meeting leaf index = filter (λ e. meets leaf e.0) index
 
--- a value stands before those that meet a leaf, or behind them
+-- a value is before those that meet a leaf, or after them
 abbrev pub stands_before : Leaf → Value → Bool
 stands_before (Is wanted) value = is_lt (value_cmp value wanted)
 stands_before (Prefix bytes) value = is_lt (value_cmp value (values.Text bytes))
@@ -36,17 +36,17 @@ stands_beyond (Range low (Some high)) value = is_lt (value_cmp high value)
 stands_beyond (Below high) value = is_le (value_cmp high value)
 stands_beyond (Above low) value = false
 
--- from the first value that is not before
+-- the index from the first value that is not before those that meet the leaf
 abbrev pub from : Leaf → Index → Index
 from leaf [] = []
 from leaf (e ∷ es) = if stands_before leaf e.0 then from leaf es else (e ∷ es)
 
--- up to the first value that is beyond
+-- the index up to the first value that is after those that meet the leaf
 abbrev pub run : Leaf → Index → Index
 run leaf [] = []
 run leaf (e ∷ es) = if stands_beyond leaf e.0 then [] else (e ∷ run leaf es)
 
--- the value that a leaf's walk seeks first: none begins at the first value
+-- the value at which the walk of a leaf begins; without one it begins at the first value
 abbrev pub sought : Leaf → Option Value
 sought (Is wanted) = Some wanted
 sought (Prefix bytes) = Some (values.Text bytes)
@@ -54,7 +54,7 @@ sought (Range low high) = low
 sought (Below high) = None
 sought (Above low) = Some low
 
--- from the first value that is not below one sought
+-- the index from the first value that is not below this one
 abbrev pub from_value : Value → Index → Index
 from_value low [] = []
 from_value low (e ∷ es) = if is_lt (value_cmp e.0 low) then from_value low es else (e ∷ es)

@@ -3,7 +3,7 @@ use Rattle.std.specs.Prelude.{ℕ, ℤ, List, [], ◌∷◌}
 use Rattle.std.specs.List.{AllByRecursion}
 use Rattle.attr_types.specs.Lawful.{IsDocNumber}
 
--- the document in front
+-- the first document
 abbrev pub first_doc : List (ℕ × ℤ) → ℕ
 first_doc [] = 0
 first_doc (p ∷ ps) = p.0

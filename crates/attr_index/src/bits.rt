@@ -6,10 +6,10 @@ use attr_types::{Doc, DocList};
 use std::alloc::{AllocError, Global};
 use std::marker::Model;
 
-/// How many words have a bit for each document.
+/// The number of words with one bit for each document.
 const WORDS: usize = 16_384;
 
-/// A set of documents, seen as its words.
+/// A set of documents. Contracts see its words.
 #[derive(Drop)]
 pub struct DocSet {
     words: Vec<u64>,
@@ -27,7 +27,7 @@ impl Model for DocSet {
 }
 
 impl DocSet {
-    /// No documents.
+    /// Creates the empty set.
     pub fn new(alloc: Global) -> Result<DocSet, AllocError>
         ensures { IfOk result (λ set. (doc : ℕ) → in_words set doc ≡ false) }
     {
@@ -36,7 +36,7 @@ impl DocSet {
         })
     }
 
-    /// One document more.
+    /// Inserts a document.
     pub fn insert(&mut self, doc: Doc)
         ensures { (other : ℕ) → in_words self.new other ≡ (in_words self.old other || nat_eq other doc) }
     {
@@ -45,7 +45,7 @@ impl DocSet {
         self.words[place] |= 1 << (number % 64);
     }
 
-    /// Whether a document is in the set.
+    /// Returns whether a document is in the set.
     pub fn contains(&self, doc: Doc) -> bool
         ensures { result ≡ in_words self.now doc }
     {
@@ -54,7 +54,7 @@ impl DocSet {
         (self.words[place] >> (number % 64)) & 1 == 1
     }
 
-    /// The documents, ascending.
+    /// Returns the documents in ascending order.
     pub fn to_list(&self, alloc: Global) -> Result<DocList, AllocError>
         ensures { IfOk result (λ docs. Holds docs (in_words self.now)) }
     {

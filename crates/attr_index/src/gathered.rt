@@ -1,4 +1,4 @@
-//! Documents gathered in any order: few in a list that is sorted at the end, many in a bit vector.
+//! Documents gathered in any order: a few in a list that is sorted at the end, many in a bit vector.
 ghost use Rattle.std.specs.Prelude.{◌≡◌, ◌≤◌, ◌||◌, ◌&&◌, ℕ, false, true, length, filter, IfOk};
 ghost use Rattle.attr_index.specs.Gathers.{is_gathered};
 ghost use Rattle.attr_index.specs.Sets.{has, in_words, IsAscending, AreBelow, IsPlaceOf, Holds};
@@ -7,10 +7,10 @@ use crate::bits::DocSet;
 use attr_types::{Doc, DocList};
 use std::alloc::{AllocError, Global};
 
-/// How many documents a list takes before it becomes a bit vector.
+/// A list with more documents than this becomes a bit vector.
 const FEW: usize = 1024;
 
-/// A list that is this many times as long as the documents that are sought in it is searched for each.
+/// If a list is this many times as long as the list of sought documents, each of them is searched in it.
 const MUCH_LONGER: usize = 8;
 
 /// Documents in any order.
@@ -20,7 +20,7 @@ pub enum Gathered {
     Many(DocSet),
 }
 
-/// Whether documents ascend already, each once, as those of one list of the index do.
+/// Returns whether documents already ascend strictly, as those of a single list of the index do.
 fn is_sorted(docs: &[Doc]) -> bool
     ensures { result ≡ true → IsAscending docs.now }
 {
@@ -32,7 +32,7 @@ fn is_sorted(docs: &[Doc]) -> bool
     true
 }
 
-/// The documents of a list, ascending, each once.
+/// Returns the documents of a list in ascending order, without duplicates.
 pub fn sorted_list(mut docs: Vec<Doc>) -> DocList
     ensures { Holds result (has docs.items) }
 {
@@ -72,7 +72,8 @@ fn kept_searched(alloc: Global, docs: &DocList, list: &DocList) -> Result<DocLis
     Ok(kept)
 }
 
-/// Where a walk to a document begins: at a place that all before are below the document, else at the start.
+/// Returns where a walk to a document begins: at `from` if the documents before it are below `doc`, otherwise at the
+/// start.
 fn start_near(list: &[Doc], from: usize, doc: Doc) -> usize
     requires ascends { IsAscending list.now }
     requires within { from ≤ length list.now }
@@ -84,7 +85,7 @@ fn start_near(list: &[Doc], from: usize, doc: Doc) -> usize
     from
 }
 
-/// The place of the first document that is not below a document, sought from a place on.
+/// Returns the index of the first document that is not below `doc`, with a search that begins near `from`.
 fn place_near(list: &[Doc], from: usize, doc: Doc) -> usize
     requires ascends { IsAscending list.now }
     requires within { from ≤ length list.now }
@@ -120,7 +121,8 @@ fn kept_walked(alloc: Global, docs: &DocList, list: &DocList) -> Result<DocList,
     Ok(kept)
 }
 
-/// Those of some documents that are in a list. A list that is much the longer is searched, another is walked along.
+/// Returns the documents of `docs` that are in `list`. If `list` is much longer it is searched, otherwise both are
+/// walked.
 fn kept_listed(alloc: Global, docs: &DocList, list: &DocList) -> Result<DocList, AllocError>
     requires { IsAscending list.now }
     ensures { IfOk result (λ kept. kept ≡ filter (has list.now) docs.now) }
@@ -145,14 +147,14 @@ fn kept_in(alloc: Global, docs: &DocList, set: &DocSet) -> Result<DocList, Alloc
 }
 
 impl Gathered {
-    /// No documents.
+    /// Creates the empty collection.
     pub fn new(alloc: Global) -> Gathered
         ensures { (doc : ℕ) → is_gathered result doc ≡ false }
     {
         Gathered::Few(Vec::new(alloc))
     }
 
-    /// The documents with others.
+    /// Adds documents.
     pub fn with_docs(self, alloc: Global, more: &[Doc]) -> Result<Gathered, AllocError>
         ensures { IfOk result (λ all. (doc : ℕ) → is_gathered all doc ≡ (is_gathered self doc || has more.now doc)) }
     {
@@ -175,7 +177,7 @@ impl Gathered {
         }
     }
 
-    /// The documents in a bit vector.
+    /// Returns the documents as a bit vector.
     pub fn into_set(self, alloc: Global) -> Result<DocSet, AllocError>
         ensures { IfOk result (λ set. (doc : ℕ) → in_words set doc ≡ is_gathered self doc) }
     {
@@ -189,7 +191,7 @@ impl Gathered {
         }
     }
 
-    /// The documents, ascending.
+    /// Returns the documents in ascending order.
     pub fn into_list(self, alloc: Global) -> Result<DocList, AllocError>
         ensures { IfOk result (λ docs. Holds docs (is_gathered self)) }
     {
@@ -199,7 +201,7 @@ impl Gathered {
         }
     }
 
-    /// Those of a list's documents that were gathered.
+    /// Returns the documents of `docs` that were gathered.
     pub fn kept_of(self, alloc: Global, docs: &DocList) -> Result<DocList, AllocError>
         ensures { IfOk result (λ kept. (doc : ℕ) → has kept doc ≡ (has docs.now doc && is_gathered self doc)) }
     {

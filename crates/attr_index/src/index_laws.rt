@@ -1,7 +1,7 @@
 ghost use Rattle.attr_index.specs.IndexLaws.{FoundAreHits, RunIsFilter, SoughtIsFilter, IndexListsDocuments};
 
-/// What the indexes of a table hold for a query, in ascending order, are the query's hits; and the values that meet a
-/// leaf are one run of an index, which begins at the value that the leaf seeks or behind it.
+/// The documents that the indexes of a table determine for a query are, in ascending order, its hits. The values that
+/// meet a leaf are consecutive in an index. They begin at the value that the leaf seeks, or after it.
 pub fn query_law()
     ensures hits { FoundAreHits }
     ensures run { RunIsFilter }

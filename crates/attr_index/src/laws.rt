@@ -1,4 +1,4 @@
-//! Laws of the index. Each function does nothing: its contract is the law.
+//! Laws of the index. Each function does nothing; its contract is the law.
 ghost use Rattle.attr_index.specs.Laws.{ColumnIsLawful, OperationChangesColumn, UpdateChangesItems};
 ghost use Rattle.attr_index.specs.Laws.{IndexHasAll, OneIndex, IndexHasItems, EmptyIndex};
 ghost use Rattle.attr_index.specs.Laws.{WalkBegins, PutGoesOn, SameGoesOn, TakeGoesOn, StayGoesOn, WalkEnds};
@@ -6,14 +6,15 @@ ghost use Rattle.attr_index.specs.Laws.{MiddleHasBoth, WalkBeginsAgain, WalksJoi
 ghost use Rattle.attr_index.specs.Laws.{RemovedItemsAreGone, OldValuesStay, NewValuesStay, AdditionKeepsKeys, RemovalKeepsKeys};
 ghost use Rattle.attr_index.specs.Laws.{ListsAreFew, ListsHaveDocuments, ValuesAreFew};
 
-/// An attribute's column of a lawful table is lawful, and an operation changes the items of its document in it.
+/// An attribute's column of a lawful table is lawful. An operation changes only the items of its document in the
+/// column.
 pub fn column_law()
     ensures lawful { ColumnIsLawful }
     ensures changes { OperationChangesColumn }
     ensures updates { UpdateChangesItems }
 {}
 
-/// A column has one index, with its values and its lists.
+/// A column has exactly one index, with its values and lists.
 pub fn index_law()
     ensures all { IndexHasAll }
     ensures one { OneIndex }
@@ -21,7 +22,8 @@ pub fn index_law()
     ensures empty { EmptyIndex }
 {}
 
-/// Two walks, over the new weights of a document and over the old, make the index that of the column changed.
+/// Two walks turn the index of a column into that of the changed column: one over the document's new weights, and one
+/// over its old weights.
 pub fn walk_law()
     ensures begins { WalkBegins }
     ensures puts { PutGoesOn }
@@ -31,7 +33,7 @@ pub fn walk_law()
     ensures ends { WalkEnds }
 {}
 
-/// The state in the middle of the walks is a start of the second, and only the weights of values count.
+/// The state between the two walks is a start for the second, and only the weights of values matter.
 pub fn middle_law()
     ensures both { MiddleHasBoth }
     ensures again { WalkBeginsAgain }
@@ -40,7 +42,7 @@ pub fn middle_law()
     ensures weights { MapHasWeights }
 {}
 
-/// Which values are in the index between.
+/// Which values an index has during the walks.
 pub fn value_law()
     ensures gone { RemovedItemsAreGone }
     ensures old { OldValuesStay }
@@ -49,7 +51,7 @@ pub fn value_law()
     ensures removes { RemovalKeepsKeys }
 {}
 
-/// In every state there are few values, and few documents with each.
+/// In every state, the number of values and the number of documents of each value are bounded.
 pub fn bound_law()
     ensures lists { ListsAreFew }
     ensures documents { ListsHaveDocuments }

@@ -1,4 +1,4 @@
-//! Where a value stands to those that meet a leaf.
+//! Where a value is relative to the values that meet a leaf.
 ghost use Rattle.std.specs.Prelude.{◌≡◌};
 ghost use Rattle.attr_types.specs.Query.{begins_with};
 ghost use Rattle.attr_types.specs.declared.query.Leaf.TheVariants.{Prefix};
@@ -27,7 +27,7 @@ fn begins(value: &Value, prefix: &Text) -> bool
     }
 }
 
-/// Whether a value stands before those that meet a leaf.
+/// Returns whether a value is before those that meet a leaf.
 pub fn is_before(leaf: &Leaf, value: &Value) -> bool
     ensures { result ≡ stands_before leaf.now value.now }
 {
@@ -43,7 +43,7 @@ pub fn is_before(leaf: &Leaf, value: &Value) -> bool
     }
 }
 
-/// Whether a value that is not before stands behind those that meet a leaf.
+/// Returns whether a value is after those that meet a leaf. The value must not be before them.
 pub fn is_beyond(leaf: &Leaf, value: &Value) -> bool
     ensures { result ≡ stands_beyond leaf.now value.now }
 {

@@ -1,9 +1,10 @@
-//! The index of an attribute, from each value to the documents that have it, and how it changes where one document's
-//! items change: laws.
+//! The index of an attribute, from each value to the documents that have it, and how it changes when the items of one
+//! document change, as laws.
 //!
-//! Sets of documents: few in a list, many in a bit vector, gathered in any order and listed ascending.
+//! Sets of documents: a list for a few, a bit vector for many. They are gathered in any order and listed in ascending
+//! order.
 //!
-//! What the indexes of a table's attributes hold for a query, and that these are its hits.
+//! The indexes of a table's attributes determine the hits of a query.
 #![tactic(auto)]
 
 mod bits;

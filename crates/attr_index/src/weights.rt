@@ -5,7 +5,7 @@ use attr_types::{Item, Value};
 use std::alloc::{AllocError, Global};
 use std::collections::BTreeMap;
 
-/// The values of items, each with the weight of the first that has it.
+/// Returns the values of items, each with the weight of the first item that has it.
 pub fn weights_of(alloc: Global, items: &[Item]) -> Result<BTreeMap<Value, i32>, AllocError>
     ensures weights { IfOk result (λ map. map.entries ≡ first_weights [] items.now) }
 {

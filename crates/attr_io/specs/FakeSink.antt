@@ -1,10 +1,10 @@
--- A fake sink, and what a write does to it.
+-- A fake sink, and the effect of a write on it.
 use Rattle.std.specs.Prelude.{ℕ, ◌-◌, ◌≤◌, ◌⊎◌, min, List, ◌++◌, length, take}
 use Rattle.attr_io.specs.FakeSource.{IsListed}
 use Rattle.attr_io.specs.Faults.{counted_up}
 
--- the bytes taken, how many it takes at most, the most that a call takes, the numbers of the calls
--- that fail, how many calls were made, and the count of faults
+-- the bytes taken, how many it takes in all, the most that a call takes, the numbers of the calls that fail, the
+-- number of calls made, and the count of faults
 pub record FakeSinkState : Type 0 where
   pub taken : List ℕ
   pub room : ℕ
@@ -13,11 +13,11 @@ pub record FakeSinkState : Type 0 where
   pub calls : ℕ
   pub faults : ℕ
 
--- the next call fails: it is listed, or no room is left
+-- the next call fails: it is listed, or no space is left
 abbrev pub FailsNext : FakeSinkState → Type 0
 FailsNext s = IsListed s.fails s.calls ⊎ (s.room ≤ length s.taken)
 
--- how many bytes of a piece a call that does not fail takes
+-- the number of bytes of a piece that a call takes if it does not fail
 abbrev pub taken_count : FakeSinkState → List ℕ → ℕ
 taken_count s piece = min (min (length piece) s.step) (s.room - length s.taken)
 

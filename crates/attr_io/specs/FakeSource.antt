@@ -1,9 +1,9 @@
--- A fake source, and what a read does to it.
+-- A fake source, and the effect of a read on it.
 use Rattle.std.specs.Prelude.{ℕ, ◌+◌, min, List, length, drop, Contains}
 use Rattle.attr_io.specs.Faults.{counted_up}
 
--- the bytes left, the most that a call gives, the numbers of the calls that fail, how many calls
--- were made, and the count of faults
+-- the bytes left, the most that a call gives, the numbers of the calls that fail, the number of calls made, and the
+-- count of faults
 pub record FakeSourceState : Type 0 where
   pub left : List ℕ
   pub step : ℕ
@@ -11,12 +11,12 @@ pub record FakeSourceState : Type 0 where
   pub calls : ℕ
   pub faults : ℕ
 
--- the call after so many is one of the list; calls are numbered from 1, and their count stands
--- still only where the next number is past all that a list of 64 bits can name
+-- the next call is in the list; calls are numbered from 1, and their count stops only where the next number is
+-- greater than any in a list of 64-bit numbers
 abbrev pub IsListed : List ℕ → ℕ → Type 0
 IsListed fails calls = Contains fails (calls + 1)
 
--- how many bytes a call that does not fail gives into a piece of this length
+-- the number of bytes that a call gives into a piece of this length if it does not fail
 abbrev pub given_count : FakeSourceState → ℕ → ℕ
 given_count s len = min (min len s.step) (length s.left)
 

@@ -1,18 +1,18 @@
--- A sink in memory, and what a write does to it.
+-- A sink in memory, and the effect of a write on it.
 use Rattle.std.specs.Prelude.{ℕ, ◌-◌, ◌≤◌, min, List, ◌++◌, length, take}
 use Rattle.attr_io.specs.Faults.{counted_up}
 
--- the bytes taken, how many it takes at most, and its count of faults
+-- the bytes taken, how many it takes in all, and its count of faults
 pub record VecSinkState : Type 0 where
   pub taken : List ℕ
   pub room : ℕ
   pub faults : ℕ
 
--- no room is left
+-- no space is left
 abbrev pub IsSinkFull : VecSinkState → Type 0
 IsSinkFull s = s.room ≤ length s.taken
 
--- how many bytes of a piece fit
+-- the number of bytes of a piece that fit
 abbrev pub fitting_count : VecSinkState → List ℕ → ℕ
 fitting_count s piece = min (length piece) (s.room - length s.taken)
 

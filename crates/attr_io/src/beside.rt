@@ -6,7 +6,7 @@ use crate::task::Task;
 use std::alloc::{AllocError, Global};
 use std::thread::{Threads, join, map_vec};
 
-/// Two tasks, each in a thread.
+/// Runs two tasks, each in a thread.
 pub fn run_both<
     R: Threads,
     S: Task<Output = A> + Send + Drop,
@@ -32,7 +32,7 @@ pub fn run_both<
     )
 }
 
-/// Each task in a thread, and what they give, in order.
+/// Runs each task in a thread, and returns their results in order.
 pub fn run_each<R: Threads + Sync, T: Task<Output = A> + Send + Drop, A: Send + Drop>(
     rt: &R,
     tasks: Vec<T>,
@@ -50,8 +50,8 @@ pub fn run_each<R: Threads + Sync, T: Task<Output = A> + Send + Drop, A: Send + 
     )
 }
 
-/// A task on the caller's own thread, beside others of one kind, each in a thread; no thread is started where there are
-/// no others.
+/// Runs a task on the caller's own thread, and others of the same kind, each in a thread. Starts no thread if there
+/// are no others.
 pub fn run_beside<
     R: Threads + Sync,
     S: Task<Output = A> + Drop,

@@ -10,7 +10,7 @@ use crate::traffic::{Failed, Sink, Source};
 use std::alloc::{AllocError, Global};
 use std::marker::Model;
 
-/// How a fake moves bytes: at most `step` a call, and none at the calls whose numbers are listed.
+/// How a fake moves bytes: at most `step` in a call, and none in the calls whose numbers are listed.
 #[derive(Drop)]
 struct Schedule {
     step: usize,
@@ -32,7 +32,7 @@ impl Schedule {
         })
     }
 
-    /// Counts a call, and says whether it is one that fails.
+    /// Counts a call, and returns whether it is one that fails.
     fn is_next_listed(&mut self) -> bool
         ensures listed { IsTrue result ↔ IsListed self.old.fails.items self.old.calls }
         ensures calls { self.new.calls ≡ counted_up self.old.calls }
@@ -47,8 +47,8 @@ impl Schedule {
     }
 }
 
-/// A source for tests: it gives at most `step` bytes a call, and fails at the calls whose numbers
-/// are listed. Calls are numbered from 1, and a call that fails is a call.
+/// A source for tests. It gives at most `step` bytes in a call, and fails in the calls whose numbers are listed.
+/// Calls are numbered from 1, including those that fail.
 #[derive(Drop)]
 pub struct FakeSource {
     bytes: Vec<u8>,
@@ -75,7 +75,7 @@ impl Model for FakeSource {
 }
 
 impl FakeSource {
-    /// A source of these bytes, which it copies.
+    /// Creates a source with a copy of these bytes.
     pub fn create(
         alloc: Global,
         bytes: &[u8],
@@ -116,7 +116,7 @@ impl Source for FakeSource {
 
     ghost reads = { λ s. s.calls };
 
-    /// Fails exactly at the listed calls, and otherwise gives as much as it may.
+    /// Fails in exactly the listed calls, and otherwise gives as many bytes as it may.
     fn read(&mut self, into: &mut [u8]) -> Result<usize, Failed>
         requires { 0 < length into.old }
         ensures bound { ReadsAtMost result into.new }
@@ -141,9 +141,8 @@ impl Source for FakeSource {
     }
 }
 
-/// A sink for tests with room for a number of bytes: it takes at most `step` bytes a call, and
-/// fails at the calls whose numbers are listed, and where no room is left. Calls are numbered
-/// from 1, and a call that fails is a call.
+/// A sink for tests, with space for a number of bytes. It takes at most `step` bytes in a call, and fails in the
+/// calls whose numbers are listed and when no space is left. Calls are numbered from 1, including those that fail.
 #[derive(Drop)]
 pub struct FakeSink {
     sink: VecSink,
@@ -169,7 +168,7 @@ impl Model for FakeSink {
 }
 
 impl FakeSink {
-    /// An empty sink with room for `room` bytes.
+    /// Creates an empty sink with space for `room` bytes.
     pub fn create(
         alloc: Global,
         room: usize,
@@ -213,8 +212,7 @@ impl Sink for FakeSink {
 
     ghost faults = { λ s. s.faults };
 
-    /// Fails exactly at the listed calls and where no room is left, and otherwise takes as much
-    /// as it may.
+    /// Fails in exactly the listed calls and when no space is left, and otherwise takes as many bytes as it may.
     fn write(&mut self, piece: &[u8]) -> Result<usize, Failed>
         requires { 0 < length piece.now }
         ensures bound { TakesSome result piece.now }

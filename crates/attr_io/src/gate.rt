@@ -1,5 +1,5 @@
-/// Where a run stands: after a commit of the loader, or before or after a round of a reader.
-/// Readers and their rounds are numbered from 1; `operations` is how many the commit has.
+/// A point of a run: after a commit of the loader, or before or after a round of a reader. Readers and their rounds
+/// are numbered from 1; `operations` is the number of operations in the commit.
 #[derive(Clone, Copy, Debug, PartialEq, Eq)]
 pub enum Point {
     Committed {
@@ -17,12 +17,12 @@ pub enum Point {
     },
 }
 
-/// What a run calls as it passes its points. It changes no answer, and lets a test hold a thread.
+/// What a run calls when it passes a point. It changes no answer, and lets a test hold a thread.
 pub trait Gate {
     fn pass(&self, point: Point);
 }
 
-/// The gate of the program: it does nothing.
+/// The gate of the program, which does nothing.
 #[derive(Clone, Copy, Debug)]
 pub struct NoGate;
 

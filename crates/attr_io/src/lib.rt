@@ -1,10 +1,9 @@
-//! Where bytes come from, where they go, and where a run may be held up for a test.
+//! Sources and sinks of bytes, gates that hold up a run in tests, and tasks in threads.
 //!
-//! A source tells the bytes that it has left and a sink those that it took, where they are known,
-//! and both count their faults. Sources and sinks in memory tell all; standard input and output
-//! tell nothing of content.
+//! In contracts, a source has the bytes that it has left, and a sink those that it took, if they are known. Both
+//! count their faults. Sources and sinks in memory know their bytes; standard input and output do not.
 //!
-//! Work in threads of its own: a task beside others of one kind.
+//! A task can run in a thread of its own, beside other tasks of the same kind.
 #![tactic(auto)]
 
 mod beside;

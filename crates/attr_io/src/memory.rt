@@ -7,7 +7,7 @@ use crate::traffic::{Failed, Sink, Source};
 use std::alloc::{AllocError, Global};
 use std::marker::Model;
 
-/// A source that gives the bytes of a slice and never fails. A clause sees the bytes left.
+/// A source that gives the bytes of a slice and never fails. Contracts see the bytes left.
 #[derive(Drop)]
 pub struct SliceSource<'a> {
     rest: &'a [u8],
@@ -43,7 +43,7 @@ impl Source for SliceSource<'_> {
     }
 }
 
-/// Copies as many bytes as there are and have room, and says how many.
+/// Copies as many bytes as exist and fit, and returns their number.
 pub(crate) fn copy_front(from: &[u8], into: &mut [u8]) -> usize
     ensures count { result ≡ min (length into.old) (length from.now) }
     ensures front { take result into.new ≡ take result from.now }
@@ -53,7 +53,7 @@ pub(crate) fn copy_front(from: &[u8], into: &mut [u8]) -> usize
     count
 }
 
-/// A sink in memory with room for a number of bytes.
+/// A sink in memory with space for a number of bytes.
 #[derive(Drop)]
 pub struct VecSink {
     bytes: Vec<u8>,
@@ -75,7 +75,7 @@ impl Model for VecSink {
 impl VecSink {
     ghost use Rattle.attr_io.specs.VecSink.{after_fault};
 
-    /// An empty sink with room for `room` bytes.
+    /// Creates an empty sink with space for `room` bytes.
     pub fn create(alloc: Global, room: usize) -> Result<VecSink, AllocError>
         ensures { IfOk result (λ s. s ≡ record { taken = []; room = room; faults = 0 }) }
     {
@@ -117,7 +117,7 @@ impl Sink for VecSink {
 
     ghost faults = { λ s. s.faults };
 
-    /// Takes what fits, and fails exactly where no room is left.
+    /// Takes what fits, and fails if and only if no space is left.
     fn write(&mut self, piece: &[u8]) -> Result<usize, Failed>
         requires { 0 < length piece.now }
         ensures bound { TakesSome result piece.now }

@@ -35,14 +35,14 @@ impl From<AllocError> for ReadError {
     }
 }
 
-/// How many bytes are asked for at a time.
+/// The number of bytes that one read asks for.
 const PIECE: usize = 65536;
 
 /// Reads a source to its end, unless it fails or has more than `limit` bytes.
 ///
-/// It reads on only while at most `limit` bytes were read: whatever the answer, the source loses at
-/// most one piece of 65,536 bytes past the limit, and each read but the last took a byte. A read that
-/// fails is the last one, and is answered.
+/// Each read is made only if at most `limit` bytes were read before it. So with every result the source loses at most
+/// one piece of 65,536 bytes beyond the limit, and each read but the last took at least one byte. If a read fails, no
+/// further read is made, and the failure is returned.
 pub fn read_all<S: Source>(
     alloc: Global,
     source: &mut S,
@@ -62,7 +62,7 @@ pub fn read_all<S: Source>(
     read_pieces(alloc, source, limit, &mut piece)
 }
 
-/// The loop of `read_all`, over a piece of any size.
+/// The loop of `read_all`, for pieces of any size.
 fn read_pieces<S: Source>(
     alloc: Global,
     source: &mut S,

@@ -7,8 +7,7 @@ use std::io;
 use std::io::{ErrorKind, Read, Write};
 use std::marker::Model;
 
-/// Standard input. It tells nothing of its bytes, and counts the reads that fail.
-/// A clause sees the count.
+/// Standard input. Contracts do not see its bytes, only the number of reads that failed.
 #[derive(Drop)]
 pub struct StdSource<'a, R: Input> {
     rt: &'a R,
@@ -44,8 +43,8 @@ impl<R: Input> Source for StdSource<'_, R> {
     }
 }
 
-/// Standard output. It tells nothing of its bytes, and counts the writes that fail, that take
-/// nothing, or whose flush fails. A clause sees the count.
+/// Standard output. Contracts do not see its bytes, only the number of writes that failed, took nothing, or could not
+/// be flushed.
 #[derive(Drop)]
 pub struct StdSink<'a, R: Print> {
     rt: &'a R,
@@ -81,8 +80,7 @@ impl<R: Print> Sink for StdSink<'_, R> {
     }
 }
 
-/// Writes some of a piece, and then flushes. A write that takes nothing is an error, and so is a
-/// flush that fails.
+/// Writes some of a piece, and then flushes. A write that takes nothing is an error, and so is a flush that fails.
 pub fn write_and_flush<W: Write>(to: &mut W, piece: &[u8]) -> io::Result<usize>
     ensures { TakesSome result piece.now }
 {
@@ -94,7 +92,7 @@ pub fn write_and_flush<W: Write>(to: &mut W, piece: &[u8]) -> io::Result<usize>
     Ok(count)
 }
 
-/// Passes an answer on, and counts an error.
+/// Passes a result on, and counts an error.
 fn note_fault(faults: &mut u64, answer: io::Result<usize>) -> Result<usize, Failed>
     ensures same { IfOk result (λ n. answer ≡ Ok n) }
     ensures kept { OnOk result (faults.new ≡ faults.old) }

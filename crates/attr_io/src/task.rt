@@ -1,5 +1,5 @@
-/// Work that is done once. What it needs and what it gives is told across a thread, which of a closure that captures
-/// borrowed values is not.
+/// Work that is done once. Unlike a closure that captures borrowed values, its input and result can be stated across
+/// a thread.
 pub trait Task {
     type Output;
 

@@ -14,13 +14,13 @@ pub struct Failed;
 
 /// Bytes to read.
 pub trait Source {
-    // The bytes that reads give from here on, where the source tells them.
+    // The bytes that later reads give, if the source knows them.
     ghost left: { Self → Option (List ℕ) };
 
-    // How many reads failed, in 64 bits: the count stands still at its last value.
+    // The number of reads that failed. The count has 64 bits and stops at its greatest value.
     ghost faults: { Self → ℕ };
 
-    // A count that no read raises by more than one.
+    // A count that each read raises by at most one.
     ghost reads: { Self → ℕ } = { λ _. 0 };
 
     /// Reads the next bytes into the front of a piece. `Ok(0)` is the end.
@@ -34,13 +34,13 @@ pub trait Source {
 
 /// A place to write bytes to.
 pub trait Sink {
-    // The bytes taken so far, where the sink tells them.
+    // The bytes taken so far, if the sink knows them.
     ghost taken: { Self → Option (List ℕ) };
 
-    // How many writes failed, in 64 bits: the count stands still at its last value.
+    // The number of writes that failed. The count has 64 bits and stops at its greatest value.
     ghost faults: { Self → ℕ };
 
-    /// Takes the front of a piece. A call that fails takes nothing that the sink tells.
+    /// Takes the front of a piece. A call that fails does not change the known bytes.
     fn write(&mut self, piece: &[u8]) -> Result<usize, Failed>
         requires { 0 < length piece.now }
         ensures bound { TakesSome result piece.now }

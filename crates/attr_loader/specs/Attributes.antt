@@ -1,3 +1,3 @@
--- What the crates above see of attributes that are loaded.
+-- What the crates above see of loaded attributes.
 pub use Rattle.attribute_kinds.specs.Calls.{HasCommit}
 pub use Rattle.attribute_kinds.specs.Views.{AttributeView}

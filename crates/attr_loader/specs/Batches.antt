@@ -1,4 +1,4 @@
--- What one batch makes of attributes.
+-- How one batch changes attributes.
 use Rattle.std.specs.Prelude.{◌≡◌, ℕ, ◌+◌, ◌-◌, ◌<◌, ◌≤◌, ◌⊎◌, List, length, take}
 use Rattle.entry_ref.specs.declared.images.Image.{Image}
 use Rattle.entry_ref.specs.Images.{words_at}
@@ -22,13 +22,13 @@ use Rattle.attr_loader.specs.declared.error.LoadError.TheVariants.{CommitsSpent,
 use Rattle.attr_loader.specs.declared.batch.Batch.{Batch}
 use Rattle.attr_loader.specs.declared.batch.Batch.TheVariants.{Done, Full}
 
--- how many operations were skipped, of one
+-- the number of skipped operations for one result
 abbrev pub skips_of : Applied → ℕ
 skips_of Skipped = 1
 skips_of Changed = 0
 
 module _ {S H : Type 0} (ledger : S → Ledger H) where
-  -- the last commit stands
+  -- the last commit is unchanged
   pub record KeepsCommit (old new : AttributeView S) : Type 0 where
     pub stays : StaysIn ledger old new
     pub told : told_of ledger new ≡ told_of ledger old
@@ -36,13 +36,13 @@ module _ {S H : Type 0} (ledger : S → Ledger H) where
     pub committed : new.committed ≡ old.committed
     pub committed_operations : new.committed_operations ≡ old.committed_operations
 
-  -- the table and the last commit stand
+  -- the table and the last commit are unchanged
   pub record KeepsTable (old new : AttributeView S) : Type 0 where
     pub keeps : KeepsCommit old new
     pub table : new.table ≡ old.table
     pub operations : new.operations ≡ old.operations
 
-  -- one commit more, of the table as it is
+  -- there is one more commit, of the current table
   pub record MakesCommit (old new : AttributeView S) : Type 0 where
     pub stays : StaysIn ledger old new
     pub table : new.table ≡ old.table
@@ -56,14 +56,14 @@ module _ {S H : Type 0} (ledger : S → Ledger H) where
     pub image_operations : operations_at (words_at image) image.root ≡ new.operations
     pub image_table : table_of (shape_of (types_of new.fields)) (words_at image) image.root ≡ new.table
 
-  -- all operations were applied, so many of them skipped
+  -- all operations were applied, and this many of them skipped
   pub record AppliesAll (old new : AttributeView S) (ops : List Op) (skipped : ℕ) : Type 0 where
     pub keeps : KeepsCommit old new
     pub table : new.table ≡ after_ops old.fields old.table ops
     pub operations : new.operations ≡ old.operations + length ops
     pub skips : skipped ≡ skipped_ops old.fields old.table ops
 
-  -- no buffer is free: so many are in use, and the others are held for readers
+  -- no buffer is free: this many are in use, and the others are held for readers
   pub record IsFullStore (a : AttributeView S) (active held : ℕ) : Type 0 where
     pub free : free_count (ledger a.store).work.buffer (ledger a.store).work.sizes.buffers ≡ 0
     pub active_is : active ≡ active_count (ledger a.store).work.buffer (ledger a.store).work.sizes.buffers
@@ -71,7 +71,8 @@ module _ {S H : Type 0} (ledger : S → Ledger H) where
     pub all : active + held ≡ (ledger a.store).work.sizes.buffers
     pub unread : (ledger a.store).work.made ≡ 0 → current (ledger a.store).work < (ledger a.store).work.sizes.generations → held ≡ 0
 
-  -- there was no room for one of the operations, after those before it; or for their commit, and then the last is named
+  -- there was no space for one of the operations, after those before it; or for their commit, and then the last is
+  -- named
   pub record FindsNoRoom (old new : AttributeView S) (ops : List Op) (before active held : ℕ) : Type 0 where
     pub keeps : KeepsCommit old new
     pub some : 1 ≤ before
@@ -80,13 +81,13 @@ module _ {S H : Type 0} (ledger : S → Ledger H) where
     pub at : (new.table ≡ after_ops old.fields old.table (take (before - 1) ops))
         ⊎ ((before ≡ length ops) × (new.table ≡ after_ops old.fields old.table ops))
 
-  -- there was no room for a commit, and the table stays
+  -- there was no space for a commit, and the table is unchanged
   pub record RefusesCommit (old new : AttributeView S) (active held : ℕ) : Type 0 where
     pub keeps : KeepsCommit old new
     pub table : new.table ≡ old.table
     pub full : IsFullStore new active held
 
-  -- memory is short, or the last commit that there can be is made
+  -- memory was exhausted, or the last possible commit is made
   abbrev pub HasNoCommit : AttributeView S → LoadError → Type 0
   HasNoCommit old CommitsSpent = (ledger old.store).work.commits.last ≡ (ledger old.store).work.sizes.commits
   HasNoCommit old Memory = Unit {0}
@@ -95,7 +96,7 @@ module _ {S H : Type 0} (ledger : S → Ledger H) where
   AppliesBatch old new ops (Done skipped) = AppliesAll old new ops skipped
   AppliesBatch old new ops (Full before active held) = FindsNoRoom old new ops before active held
 
-  -- a commit of so many operations, of which so many were skipped
+  -- a commit of this many operations, with this many skipped
   abbrev pub CommitsBatch : AttributeView S → AttributeView S → ℕ → ℕ → Batch → Type 0
   CommitsBatch old new count skipped (Done more) = (more ≡ skipped) × MakesCommit old new
   CommitsBatch old new count skipped (Full before active held) = (before ≡ count) × RefusesCommit old new active held

@@ -1,4 +1,4 @@
--- What a loading makes of attributes and of what their store tells.
+-- How a loading changes attributes and the recorded images of their store.
 use Rattle.std.specs.Prelude.{◌≡◌, ℕ, suc, ◌+◌, ◌-◌, ◌*◌, ◌/◌, ◌^◌, ◌<◌, ◌≤◌, min, List, [], length, slice_get, Option, Some, None}
 use Rattle.std.specs.Prelude.{◌⊎◌, All, IfSome}
 use Rattle.std.specs.List.{AllByRecursion}
@@ -20,7 +20,7 @@ use Rattle.attr_loader.specs.declared.error.LoadError.TheVariants.{CommitsSpent,
 use Rattle.attr_loader.specs.declared.loaded.Loaded.{Loaded}
 use Rattle.attr_loader.specs.declared.loaded.NoRoom.{NoRoom}
 
--- how many operations commit k has, of so many in all
+-- the number of operations of commit k, out of this total
 abbrev pub commit_point : ℕ → ℕ → ℕ → ℕ
 commit_point batch total k = min (batch * k) total
 
@@ -30,12 +30,13 @@ pub record IsImageAfter (fields : List Field) (ops : List Op) (n : ℕ) (image :
   pub operations : operations_at (words_at image) image.root ≡ n
   pub table : table_of (shape_of (types_of fields)) (words_at image) image.root ≡ after fields ops n
 
--- the images of commits 0 to `last`, where images are told
+-- the images of commits 0 to `last`, if images are recorded
 pub record AreCommits (fields : List Field) (batch : ℕ) (ops : List Op) (last : ℕ) (told : List Image) : Type 0 where
   pub count : 0 < length told → length told ≡ suc last
   pub each : (k : ℕ) (image : Image) → slice_get told k ≡ Some image → IsImageAfter fields ops (commit_point batch (length ops) k) image
 
--- all operations are committed; or, where one found no room, those of the whole batches before it, and every buffer is in use or held
+-- all operations are committed; or, if one ran out of space, those of the whole batches before it, and every buffer
+-- is in use or held
 abbrev pub EndsAt : ℕ → ℕ → ℕ → ℕ → Option NoRoom → Type 0
 EndsAt batch total buffers n None = n ≡ total
 EndsAt batch total buffers n (Some full) = (1 ≤ full.operation) × (full.operation ≤ total)
@@ -45,7 +46,7 @@ module _ {S H : Type 0} (ledger : S → Ledger H) where
   abbrev pub told_of : AttributeView S → List Image
   told_of a = (ledger a.store).work.told
 
-  -- nothing was applied yet, and only the empty commit 0 is told
+  -- nothing was applied, and at most the empty commit 0 is recorded
   pub record IsAtStart (a : AttributeView S) : Type 0 where
     pub table : a.table ≡ []
     pub operations : a.operations ≡ 0
@@ -68,8 +69,8 @@ module _ {S H : Type 0} (ledger : S → Ledger H) where
     pub readers : (ledger new.store).work.made ≡ (ledger old.store).work.made
     pub fields : new.fields ≡ old.fields
 
-  -- the operation that found no room: no buffer is free, and so many are in use and held. It was refused after those before it, or
-  -- it is the last of its batch, and their commit was refused
+  -- the operation that ran out of space: no buffer is free, and this many are in use and held. It was refused after
+  -- those before it; or it is the last of its batch, and their commit was refused
   pub record IsFullAt (batch : ℕ) (ops : List Op) (old new : AttributeView S) (loaded : ℕ) (full : NoRoom) : Type 0 where
     pub free : free_count (ledger new.store).work.buffer (ledger new.store).work.sizes.buffers ≡ 0
     pub active_is : full.active ≡ active_count (ledger new.store).work.buffer (ledger new.store).work.sizes.buffers
@@ -77,7 +78,7 @@ module _ {S H : Type 0} (ledger : S → Ledger H) where
     pub at : (new.table ≡ after old.fields ops (full.operation - 1))
         ⊎ ((full.operation ≡ min (loaded + batch) (length ops)) × (new.table ≡ after old.fields ops full.operation))
 
-  -- a loading: what is told are the images of its commits, and the last of them has all that was loaded
+  -- a loading: the recorded images are those of its commits, and the last has everything that was loaded
   pub record Loads (batch : ℕ) (ops : List Op) (old new : AttributeView S) (loaded : Loaded) : Type 0 where
     pub stays : StaysIn old new
     pub last : ℕ
@@ -97,7 +98,7 @@ module _ {S H : Type 0} (ledger : S → Ledger H) where
         → (ledger old.store).work.commits.last + length ops < (ledger old.store).work.sizes.generations
         → IfSome loaded.full (λ full. full.held ≡ 0)
 
-  -- a loading was given up: memory is short; or the last commit that there can be is one of fewer than the operations
+  -- why a loading failed: memory was exhausted; or the last possible commit has fewer than all operations
   abbrev pub IsSpent : List Op → AttributeView S → LoadError → Type 0
   IsSpent ops old CommitsSpent =
       (ledger old.store).work.sizes.commits < (ledger old.store).work.commits.last + length ops

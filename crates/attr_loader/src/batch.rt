@@ -1,4 +1,4 @@
-//! One batch: its operations are applied, it is committed, and a compaction goes one step on.
+//! One batch: its operations are applied and committed, and a compaction makes one step.
 ghost use Rattle.std.specs.Prelude.{◌≡◌, ◌<◌, ◌+◌, ◌^◌, length, IfOk, IfErr, OnOk};
 ghost use Rattle.std.specs.List.{AllByRecursion};
 ghost use Rattle.attr_types.specs.Lawful.{OpFits};
@@ -16,8 +16,8 @@ use attribute_kinds::{AttrError, Attribute};
 use std::alloc::{AllocError, Global};
 use store_api::Store;
 
-/// What became of a batch: how many of its operations were skipped; or the operation, counted from 1, that found no
-/// room, or before whose commit there was none.
+/// The result of a batch: how many of its operations were skipped; or the operation, counted from 1, for which there
+/// was no space, either for itself or for the commit after it.
 #[derive(Clone, Copy, Drop)]
 pub enum Batch {
     Done { skipped: u32 },
@@ -33,7 +33,7 @@ fn skips_of(applied: Applied) -> u32
     }
 }
 
-/// Applies the operations of a batch, as far as there is room.
+/// Applies the operations of a batch, as far as there is space.
 fn apply_all<const OFFSET_BITS: u32, S: Store<OFFSET_BITS, Layout = AttrLayout>>(
     alloc: Global,
     attribute: &mut Attribute<OFFSET_BITS, S>,
@@ -66,10 +66,10 @@ fn apply_all<const OFFSET_BITS: u32, S: Store<OFFSET_BITS, Layout = AttrLayout>>
     Ok(Batch::Done { skipped })
 }
 
-/// How many keys of a compaction are visited after a commit.
+/// The number of compaction keys visited after a commit.
 const COMPACT_KEYS: u32 = 256;
 
-/// One step of a compaction. Where it finds no room the loading goes on without it.
+/// Makes one step of a compaction. If there is no space for it, the loading continues without it.
 fn compact_after<const OFFSET_BITS: u32, S: Store<OFFSET_BITS, Layout = AttrLayout>>(
     alloc: Global,
     attribute: &mut Attribute<OFFSET_BITS, S>,
@@ -85,7 +85,7 @@ fn compact_after<const OFFSET_BITS: u32, S: Store<OFFSET_BITS, Layout = AttrLayo
     }
 }
 
-/// Commits what was applied, if there is room, and passes the gate.
+/// Commits what was applied, if there is space, and passes the gate.
 fn commit_table<const OFFSET_BITS: u32, S: Store<OFFSET_BITS, Layout = AttrLayout>, G: Gate>(
     attribute: &mut Attribute<OFFSET_BITS, S>,
     count: u32,
@@ -115,7 +115,7 @@ fn commit_table<const OFFSET_BITS: u32, S: Store<OFFSET_BITS, Layout = AttrLayou
     }
 }
 
-/// Commits what was applied, and goes one step on in a compaction.
+/// Commits what was applied, and makes one step of a compaction.
 fn commit_all<const OFFSET_BITS: u32, S: Store<OFFSET_BITS, Layout = AttrLayout>, G: Gate>(
     alloc: Global,
     attribute: &mut Attribute<OFFSET_BITS, S>,

@@ -4,12 +4,12 @@ ghost use Rattle.attr_loader.specs.declared.error.LoadError.TheVariants as error
 use std::alloc::AllocError;
 use thiserror::Error;
 
-/// Why a loading was given up.
+/// Why a loading failed.
 #[derive(Clone, Copy, Debug, PartialEq, Eq, Error)]
 pub enum LoadError {
     #[error("out of memory")]
     Memory,
-    /// The last commit that there can be is made, and there are operations after it.
+    /// The last possible commit is made, and there are operations after it.
     #[error("no commit is left")]
     CommitsSpent,
 }

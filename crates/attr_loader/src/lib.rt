@@ -1,4 +1,4 @@
-//! Operations loaded into attributes in batches, with a commit after each.
+//! Loads operations into attributes in batches, with a commit after each batch.
 #![tactic(auto)]
 
 mod batch;

@@ -1,5 +1,5 @@
-/// The operation that found no room, by its number from 1, and how many buffers were in use and how many waited for
-/// readers.
+/// The operation that ran out of space, numbered from 1, with the number of buffers in use and of buffers that wait
+/// for readers.
 #[derive(Clone, Copy, Drop)]
 pub struct NoRoom {
     pub operation: u32,
@@ -7,8 +7,8 @@ pub struct NoRoom {
     pub held: u32,
 }
 
-/// What a loading came to: how many operations are committed, how many of these were skipped, and which one found no
-/// room, if one did.
+/// The result of a loading: how many operations are committed, how many of these were skipped, and which operation
+/// ran out of space, if any.
 #[derive(Clone, Copy, Drop)]
 pub struct Loaded {
     pub operations: u32,

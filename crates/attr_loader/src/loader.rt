@@ -11,8 +11,8 @@ use attribute_kinds::Attribute;
 use std::alloc::Global;
 use store_api::Store;
 
-/// Loads operations in batches of this size, with a commit and a pass of the gate after each, the last one maybe
-/// smaller. It stops where there is no room, or no commit is left: the last commit stands.
+/// Loads operations in batches of this size, with a commit and a pass of the gate after each batch; the last batch
+/// may be smaller. Stops when space runs out, or no commit is left; the last commit remains.
 pub fn load<const OFFSET_BITS: u32, S: Store<OFFSET_BITS, Layout = AttrLayout>, G: Gate>(
     alloc: Global,
     attribute: &mut Attribute<OFFSET_BITS, S>,

@@ -11,7 +11,7 @@ use attribute_kinds::Attribute;
 use std::alloc::Global;
 use store_api::Store;
 
-/// A loading, as a task that gives the attributes back.
+/// A loading as a task, which returns the attributes.
 #[derive(Drop)]
 pub struct Loading<'a, const OFFSET_BITS: u32, S: Store<OFFSET_BITS, Layout = AttrLayout>, G> {
     pub alloc: Global,

@@ -1,4 +1,4 @@
--- What an operation makes of a plain table, and what is answered.
+-- How an operation changes a plain table, and its answers.
 use Rattle.std.specs.Prelude.{if◌then◌else◌}
 use Rattle.attr_types.specs.Table.{after_op, is_skipped}
 use Rattle.attr_types.specs.declared.op.Op.{Op}

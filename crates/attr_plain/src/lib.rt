@@ -1,5 +1,5 @@
-//! The plain program: the table in an ordered map, and hits by a scan. Slow and obvious, it is what
-//! every other way to keep attributes is compared with.
+//! The plain program: a table in an ordered map, and queries by a scan. It is slow and obvious, and other
+//! implementations are compared with it.
 #![tactic(auto)]
 
 mod matching;

@@ -68,7 +68,7 @@ fn has_some_item(document: &[Items]) -> bool
     document.iter().any(|items| !items.is_empty())
 }
 
-/// Whether a query matches a document.
+/// Returns whether a query matches a document.
 pub fn matches_document(query: &Query, document: &FieldItems) -> bool
     ensures { result ≡ matches (tree_of query.now) document.now }
 {

@@ -32,7 +32,7 @@ impl Model for PlainTable {
 }
 
 impl PlainTable {
-    /// An empty table.
+    /// Creates an empty table.
     pub fn new(alloc: Global, fields: Fields) -> PlainTable
         ensures { result ≡ record { fields = fields; table = [] } }
     {
@@ -42,14 +42,14 @@ impl PlainTable {
         }
     }
 
-    /// The attributes that it keeps.
+    /// Returns the attributes of the table.
     pub fn fields(&self) -> &Fields
         ensures { result.now ≡ self.now.fields }
     {
         &self.fields
     }
 
-    /// The documents that are there, each with its items in each attribute.
+    /// Returns the existing documents, each with its items in each attribute.
     pub fn documents(&self) -> &BTreeMap<Doc, FieldItems>
         ensures entries { result.now.entries ≡ self.now.table }
         ensures lawful { IsLawfulTable self.now.fields self.now.table }
@@ -58,14 +58,14 @@ impl PlainTable {
         &self.documents
     }
 
-    /// A document's items in each attribute, if it is there.
+    /// Returns a document's items in each attribute, if the document exists.
     pub fn document(&self, doc: Doc) -> Option<&FieldItems>
         ensures { option_copied result ≡ document_at self.now.table doc }
     {
         self.documents.get(&doc)
     }
 
-    /// Applies an operation. Where memory runs out the table is as it was.
+    /// Applies an operation. If memory is exhausted, the table is unchanged.
     pub fn apply(&mut self, alloc: Global, op: Op) -> Result<Applied, AllocError>
         requires { OpFits self.old.fields op }
         ensures table { OnOk result (self.new ≡ plain_after self.old op) }
@@ -125,7 +125,7 @@ impl PlainTable {
         updated_document(alloc, fields, create, change.as_slice(), document)
     }
 
-    /// The documents that a query matches, ascending.
+    /// Returns the documents that a query matches, ascending.
     pub fn hits(&self, alloc: Global, query: &Query) -> Result<DocList, AllocError>
         ensures hits { IfOk result (λ docs. docs ≡ hits_of (tree_of query.now) self.now.table) }
         ensures ascend { IfOk result IsStrictlyIncreasing }

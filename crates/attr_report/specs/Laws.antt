@@ -5,7 +5,7 @@ use Rattle.attr_types.specs.Scores.{Answer}
 use Rattle.attr_report.specs.Run.{Run, Progress}
 use Rattle.attr_report.specs.History.{RunEvent, Round, IsRounds, IsLegalHistory, history}
 
--- where the rounds of a run are what was asked for, its history is legal
+-- if the rounds of a run are as requested, its history is legal
 abbrev pub HistoriesAreLegal : Type 0
 HistoriesAreLegal = (run : Run) (ops : List Op) (progress : Progress) → IsRounds run (length ops) progress
     → IsLegalHistory run ops progress (history run ops progress)

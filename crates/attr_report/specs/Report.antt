@@ -17,14 +17,14 @@ use Rattle.attr_report.specs.declared.request.Make.{Make}
 unfoldable pub score_text : Score → List ℕ
 score_text score = codes " " ++ decimal score.doc ++ codes "=" ++ signed_decimal score.score
 
--- `Q:`, and each document after a space, with its score where there is one
+-- `Q:`, and each document after a space, with its score if it has one
 unfoldable pub answer_line : ℕ → Answer → List ℕ
 answer_line number (documents docs) =
     decimal number ++ codes ":" ++ flat_map (λ doc. codes " " ++ decimal doc) docs ++ codes "\n"
 answer_line number (scored list) =
     decimal number ++ codes ":" ++ flat_map score_text list ++ codes "\n"
 
--- the answers to what is asked, numbered from `number` on, over a table
+-- the answers to the asks, numbered from `number` on, over a table
 unfoldable pub answers_from : ℕ → List AskTree → Table → List ℕ
 answers_from number [] table = []
 answers_from number (ask ∷ asks) table =
@@ -55,7 +55,7 @@ readers_from run ops reader (counts ∷ rounds) =
 unfoldable pub final_line : ℕ → List ℕ
 final_line loaded = codes "final at " ++ decimal loaded ++ codes "\n"
 
--- the operation that found no room, if one did
+-- the operation that ran out of space, if any
 unfoldable pub full_line : Option ℕ → List ℕ
 full_line None = []
 full_line (Some operation) = codes "full at operation " ++ decimal operation ++ codes "\n"
@@ -64,7 +64,7 @@ unfoldable pub done_line : ℕ → ℕ → List ℕ
 done_line loaded skipped =
     codes "done " ++ decimal loaded ++ codes " operations " ++ decimal skipped ++ codes " skipped\n"
 
--- the report of a run that came so far, and of the operation that found no room, if one did
+-- the report of a run with this progress, and of the operation that ran out of space, if any
 unfoldable pub report : Run → List Op → Progress → Option ℕ → List ℕ
 report run ops progress full =
     readers_from run ops 1 progress.rounds
@@ -84,13 +84,13 @@ documents_line loaded count =
 unfoldable pub count_line : ℕ → ℕ → List ℕ
 count_line number count = decimal number ++ codes ": " ++ decimal count ++ codes "\n"
 
--- how many documents each answer has, numbered from `number` on
+-- the number of documents of each answer, numbered from `number` on
 unfoldable pub counts_from : ℕ → List AskTree → Table → List ℕ
 counts_from number [] table = []
 counts_from number (ask ∷ asks) table =
     count_line number (documents_in (answer_on ask table)) ++ counts_from (number + 1) asks table
 
--- the summary of a run that came so far; it tells no rounds
+-- the summary of a run with this progress; it has no rounds
 unfoldable pub summary : Make → Run → List Op → Progress → Option ℕ → List ℕ
 summary make run ops progress full =
     made_line make
@@ -106,16 +106,16 @@ abbrev pub saved_text : List Field → Table → ℕ → List ℕ
 saved_text [] table operations = []
 saved_text (field ∷ fields) table operations = saved_bytes (save_of field.kind field.value operations table)
 
--- the report, or the summary where the operations were made
+-- the report, or the summary if the operations were made
 abbrev pub told_by : Option Make → Run → List Op → Progress → Option ℕ → List ℕ
 told_by None run ops progress full = report run ops progress full
 told_by (Some make) run ops progress full = summary make run ops progress full
 
--- the same, or the table after so many operations in its place
+-- the same, or instead the table after this many operations
 abbrev pub saved_or_told : Option ℕ → Run → List Op → Progress → Option ℕ → List ℕ
 saved_or_told None run ops progress full = told_by run.make run ops progress full
 saved_or_told (Some n) run ops progress full = saved_text run.fields (table_after run ops n) n
 
--- what a run writes that came so far
+-- what a run with this progress writes
 unfoldable pub written : Run → List Op → Progress → Option ℕ → List ℕ
 written run ops progress full = saved_or_told progress.saved run ops progress full

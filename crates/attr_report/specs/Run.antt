@@ -1,4 +1,4 @@
--- A run that was asked for, how far it came, and its table on the way.
+-- A requested run, its progress, and its tables.
 use Rattle.std.specs.Prelude.{ℕ, Bool, List, map, Option}
 use Rattle.attr_types.specs.Scores.{AskTree, Answer, ask_tree, answer_on}
 use Rattle.attr_types.specs.declared.field.Field.{Field}
@@ -7,7 +7,7 @@ use Rattle.attr_types.specs.Table.{Table, after, skipped}
 use Rattle.attr_report.specs.declared.request.Make.{Make}
 use Rattle.attr_report.specs.declared.request.Request.{Request}
 
--- a run that was asked for; its attributes are numbered from 0
+-- a requested run; its attributes are numbered from 0
 pub record Run : Type 0 where
   pub fields : List Field
   pub batch : ℕ
@@ -43,16 +43,16 @@ run_in request = record {
 abbrev pub table_after : Run → List Op → ℕ → Table
 table_after run ops n = after run.fields ops n
 
--- how many of its first n operations are skipped
+-- the number of skipped operations among the first n
 abbrev pub skipped_at : Run → List Op → ℕ → ℕ
 skipped_at run ops n = skipped run.fields ops n
 
--- what the table after the first n operations answers
+-- the answers of the table after the first n operations
 abbrev pub answers_of : Run → List Op → ℕ → List Answer
 answers_of run ops n = map (λ ask. answer_on ask (table_after run ops n)) run.asks
 
--- how far a run came: how many operations it loaded, for each reader the counts of operations that its rounds
--- saw, and at how many operations the table was saved, if it was
+-- the progress of a run: the number of operations loaded, for each reader the counts of operations that its rounds
+-- saw, and the number of operations at which the table was saved, if it was
 pub record Progress : Type 0 where
   pub loaded : ℕ
   pub rounds : List (List ℕ)

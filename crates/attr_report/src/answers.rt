@@ -42,7 +42,7 @@ fn push_score(text: &mut String, score: &Score) -> Result<(), AllocError>
     write!(text, " {doc}={score}")
 }
 
-/// Writes the line of how many documents an answer has.
+/// Writes the line with the number of documents of an answer.
 #[tactic(auto, unfolding(crate::specs::Report::count_line))]
 pub fn push_count(text: &mut String, number: u64, count: usize) -> Result<(), AllocError>
     ensures { OnOk result (string_bytes text.new ≡ string_bytes text.old ++ count_line number count) }

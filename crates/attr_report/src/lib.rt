@@ -1,4 +1,4 @@
-//! A run of `attr` that was asked for, what it writes, and its history.
+//! A requested run of `attr`, what it writes, and its history.
 #![tactic(auto)]
 
 mod answers;

@@ -22,7 +22,7 @@ pub fn push_done_line(text: &mut String, loaded: u32, skipped: u32) -> Result<()
     writeln!(text, "done {loaded} operations {skipped} skipped")
 }
 
-/// Writes from what operations were made.
+/// Writes how the operations were made.
 #[tactic(auto, unfolding(crate::specs::Report::made_line))]
 pub fn push_made_line(text: &mut String, make: Make) -> Result<(), AllocError>
     ensures { OnOk result (string_bytes text.new ≡ string_bytes text.old ++ made_line make) }
@@ -31,7 +31,7 @@ pub fn push_made_line(text: &mut String, make: Make) -> Result<(), AllocError>
     writeln!(text, "made {count} seed {seed}")
 }
 
-/// Writes how many documents there are after all that was loaded.
+/// Writes the number of documents after everything is loaded.
 #[tactic(auto, unfolding(crate::specs::Report::documents_line))]
 pub fn push_documents_line(
     text: &mut String,

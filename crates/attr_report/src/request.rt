@@ -1,39 +1,39 @@
 use attr_types::{Asks, Fields};
 
-/// Operations that are made from a number in place of a feed.
+/// Operations that are made from a number instead of reading a feed.
 #[derive(Clone, Copy, Debug)]
 pub struct Make {
     /// How many.
     pub count: u32,
-    /// What they are made from.
+    /// The number from which they are made.
     pub seed: u32,
 }
 
-/// A run that was asked for.
+/// A requested run.
 #[derive(Debug, Drop)]
 pub struct Request {
     /// The attributes, numbered from 0.
     pub fields: Fields,
-    /// How many operations are committed together.
+    /// The number of operations of each commit.
     pub batch: u32,
-    /// How many readers run.
+    /// The number of readers.
     pub readers: u32,
-    /// How often each of them answers.
+    /// How often each reader answers.
     pub rounds: u32,
-    /// How many buffers the store has.
+    /// The number of buffers of the store.
     pub buffers: u32,
-    /// How many words each buffer has.
+    /// The number of words of each buffer.
     pub words: u32,
-    /// The readers run after all operations are loaded, and not beside the loading.
+    /// The readers run after all operations are loaded, not beside the loading.
     pub after: bool,
     /// The operations are made, and no feed is read.
     pub make: Option<Make>,
-    /// References have 19 and 13 bits in place of 22 and 10.
+    /// References have 19 and 13 bits instead of 22 and 10.
     pub wide: bool,
-    /// Long posting lists are bit vectors where that is shorter.
+    /// The flag `--dense`, which changes no answer.
     pub dense: bool,
-    /// The table is saved in place of a report.
+    /// The table is saved instead of a report.
     pub save: bool,
-    /// What is asked of the table, numbered from 1.
+    /// The asks, numbered from 1.
     pub asks: Asks,
 }

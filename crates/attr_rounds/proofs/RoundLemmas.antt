@@ -10,12 +10,10 @@ use Rattle.entry_ref.specs.declared.images.Image.{Image}
 use Rattle.entry_ref.specs.Records.{Records}
 use Rattle.gen_core.specs.declared.views.Sizes.{Sizes}
 use Rattle.gen_core.specs.declared.views.ReaderView.{ReaderView}
-use Rattle.gen_core.specs.declared.views.ReaderState.TheVariants.{Idle}
-use Rattle.gen_core.specs.Events.{with_state}
 use Rattle.entry_ref.specs.Images.{words_at}
 use Rattle.word_arena.specs.Ruled.{seen_image, seen_number, IsLater}
 use Rattle.attr_rounds.specs.declared.rounds.Round.{Round}
-use Rattle.attr_rounds.specs.Rounds.{seen_last, IsOfSeen, MakesRounds, MakesRound}
+use Rattle.attr_rounds.specs.Rounds.{seen_last, SeesSame, IsOfSeen, MakesRounds, MakesRound}
 
 long : {X : Type 0} (xs : List X) (x : X) → length (xs ++ x ∷ []) ≡ suc (length xs)
 long xs x = let l = length_push xs x in omega (arith, l)
@@ -52,34 +50,41 @@ module _ {A : Type 0} (operations : ℕ → Records → ℕ → ℕ) (answers : 
   commit_of round = round.commit
 
   -- the round of a guard that was given back
-  pub of_guard : (reaches : ℕ → Records → ℕ → List ℕ) (r g t : ReaderView) (round : Round A) → IsLater reaches lawful r g → t ≡ with_state g Idle → round.commit ≡ seen_number g
+  pub of_guard : (reaches : ℕ → Records → ℕ → List ℕ) (r g t : ReaderView) (round : Round A) → IsLater reaches lawful r g → SeesSame g t → round.commit ≡ seen_number g
       → round.operations ≡ operations g.sizes.shape (words_at (seen_image g)) (seen_image g).root → answers g.sizes.shape (words_at (seen_image g)) (seen_image g).root round.answer
       → MakesRound operations answers lawful r t round
-  of_guard reaches r g t round later is commit count answer =
-      subst (λ (v : ReaderView). MakesRound operations answers lawful r v round) (sym is) (record {
-        same_sizes = later.same_sizes;
-        image = seen_image g;
-        saw = later.saw ∙ ap (λ n. (n, seen_image g) ∷ r.saw) (sym commit);
-        later = subst (λ n. r.seen ≤ n) (sym commit) later.later;
-        seen = later.seen ∙ sym commit;
-        is = subst (λ (z : Sizes). IsOfSeen operations answers lawful z.shape round (round.commit, seen_image g)) later.same_sizes
-            (record { commit = refl; lawful_image = later.commit.lawful_image; is = record { count = count; answer = answer } });
-      })
+  of_guard reaches r g t round later same commit count answer = record {
+    same_sizes = same.same_sizes ∙ later.same_sizes;
+    image = seen_image g;
+    saw = same.saw ∙ later.saw ∙ ap (λ n. (n, seen_image g) ∷ r.saw) (sym commit);
+    later = subst (λ n. r.seen ≤ n) (sym commit) later.later;
+    seen = same.seen ∙ later.seen ∙ sym commit;
+    is = subst (λ (z : Sizes). IsOfSeen operations answers lawful z.shape round (round.commit, seen_image g)) later.same_sizes
+        (record { commit = refl; lawful_image = later.commit.lawful_image; is = record { count = count; answer = answer } });
+  }
 
-  -- the same, by what was asked of the guard under its own sizes and root
-  pub of_question : (reaches : ℕ → Records → ℕ → List ℕ) (z : Sizes) (r g t : ReaderView) (root : ℕ) (round : Round A) → g.sizes ≡ z → root ≡ (seen_image g).root → IsLater reaches lawful r g → t ≡ with_state g Idle
-      → round.commit ≡ seen_number g → round.operations ≡ operations z.shape (words_at (seen_image g)) root → answers z.shape (words_at (seen_image g)) root round.answer
+  -- the same, by what was asked of the guard under its root
+  pub of_question : (reaches : ℕ → Records → ℕ → List ℕ) (r g t : ReaderView) (root : ℕ) (round : Round A) → root ≡ (seen_image g).root → IsLater reaches lawful r g → SeesSame g t
+      → round.commit ≡ seen_number g → round.operations ≡ operations g.sizes.shape (words_at (seen_image g)) root → answers g.sizes.shape (words_at (seen_image g)) root round.answer
       → MakesRound operations answers lawful r t round
-  of_question reaches z r g t root round same named later is commit count answer =
-      of_guard reaches r g t round later is commit
-      (count ∙ ap (λ (s : Sizes). operations s.shape (words_at (seen_image g)) root) (sym same) ∙ ap (λ n. operations g.sizes.shape (words_at (seen_image g)) n) named)
-      (subst (λ n. answers g.sizes.shape (words_at (seen_image g)) n round.answer) named
-      (subst (λ (s : Sizes). answers s.shape (words_at (seen_image g)) root round.answer) (sym same) answer))
+  of_question reaches r g t root round named later same commit count answer =
+      of_guard reaches r g t round later same commit (count ∙ ap (operations g.sizes.shape (words_at (seen_image g))) named)
+      (subst (λ n. answers g.sizes.shape (words_at (seen_image g)) n round.answer) named answer)
 
-  pub lawful_at : (z : Sizes) (g : ReaderView) (root : ℕ) → g.sizes ≡ z → root ≡ (seen_image g).root → lawful g.sizes.shape (words_at (seen_image g)) (seen_image g).root
-      → lawful z.shape (words_at (seen_image g)) root
-  lawful_at z g root same named is =
-      subst (λ n. lawful z.shape (words_at (seen_image g)) n) (sym named) (subst (λ (s : Sizes). lawful s.shape (words_at (seen_image g)) (seen_image g).root) same is)
+  pub lawful_at : (g : ReaderView) (root : ℕ) → root ≡ (seen_image g).root → lawful g.sizes.shape (words_at (seen_image g)) (seen_image g).root → lawful g.sizes.shape (words_at (seen_image g)) root
+  lawful_at g root named is = subst (lawful g.sizes.shape (words_at (seen_image g))) (sym named) is
+
+  -- the same rounds, where nothing more was seen
+  pub sight_kept : (r m t : ReaderView) (rounds : List (Round A)) → Makes r m rounds → SeesSame m t → Makes r t rounds
+  sight_kept r m t rounds before same = record {
+    same_sizes = same.same_sizes ∙ before.same_sizes;
+    are_seen = record {
+      each = subst (λ (z : Sizes). AllZip (IsOfSeen operations answers lawful z.shape) rounds (seen_last (length rounds) t.saw)) (sym same.same_sizes)
+          (subst (λ saw. AllZip (IsOfSeen operations answers lawful m.sizes.shape) rounds (seen_last (length rounds) saw)) (sym same.saw) before.are_seen.each);
+    };
+    nothing_else = ap (drop (length rounds)) same.saw ∙ before.nothing_else;
+    forward = subst (λ n. IsNonDecreasing ((r.seen ∷ map commit_of rounds) ++ n ∷ [])) (sym same.seen) before.forward;
+  }
 
   pub no_rounds : (r : ReaderView) → Makes r r []
   no_rounds r = record {

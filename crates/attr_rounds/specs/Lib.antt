@@ -1,3 +1,4 @@
 pub mod Rounds
+pub mod Posts
 pub mod Lines
 pub mod Columns

@@ -1,4 +1,4 @@
--- The lines that a table's answers are written as.
+-- The lines in which a table's answers are written.
 use Rattle.std.specs.Prelude.{◌≡◌, ℕ, ◌+◌, ◌<◌, ◌≤◌, ◌^◌, Bool, true, false, List, [], ◌∷◌, ◌++◌, length, string_bytes}
 use Rattle.attr_types.specs.Scores.{AskTree, Answer, answer_on, documents_in}
 use Rattle.attr_images.specs.Shapes.{shape_of, types_of}
@@ -13,17 +13,17 @@ abbrev pub line_of : Bool → ℕ → Answer → List ℕ
 line_of false number answer = answer_line number answer
 line_of true number answer = count_line number (documents_in answer)
 
--- those of what is asked, numbered from `number` on, over a table
+-- the lines of asks, numbered from `number` on, over a table
 abbrev pub lines_from : Bool → ℕ → List AskTree → Table → List ℕ
 lines_from counted number [] table = []
 lines_from counted number (ask ∷ asks) table = line_of counted number (answer_on ask table) ++ lines_from counted (number + 1) asks table
 
--- a table is told: how many documents it has, and the lines of its answers
+-- what is told of a table: its number of documents, and the lines of its answers
 pub record TellsTable (counted : Bool) (asks : List AskTree) (table : Table) (told : Told) : Type 0 where
   pub documents : told.documents ≡ length table
   pub lines : string_bytes told.lines ≡ lines_from counted 1 asks table
 
--- so many things can be asked of images of this shape
+-- this many asks can be answered at images of this shape
 pub record CanAsk (fields : List Field) (count shape : ℕ) : Type 0 where
   pub few : length fields ≤ MOST_FIELDS
   pub shape_is : shape ≡ shape_of (types_of fields)

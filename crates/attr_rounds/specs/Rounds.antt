@@ -1,4 +1,4 @@
--- What a reader's rounds say of the commits that it saw.
+-- What a reader's rounds imply for the commits that it saw.
 use Rattle.std.specs.Prelude.{◌≡◌, ℕ, List, [], ◌∷◌, ◌++◌, ◌≤◌, map, length, take, drop, reverse, slice_get, Some}
 use Rattle.std.specs.List.{AllZip}
 use Rattle.std.specs.List.Sorted.{IsNonDecreasing}
@@ -8,43 +8,49 @@ use Rattle.entry_ref.specs.Images.{words_at}
 use Rattle.gen_core.specs.declared.views.ReaderView.{ReaderView}
 use Rattle.attr_rounds.specs.declared.rounds.Round.{Round}
 
--- what the last so many guards saw, the earliest first
+-- what the last guards saw, the earliest first
 abbrev pub seen_last : ℕ → List (ℕ × Image) → List (ℕ × Image)
 seen_last count saw = reverse (take count saw)
 
--- what is asked: how many operations an image has, and what answers at it
+-- a reader has seen the same commits as before, and nothing else, whatever hold it stands on
+pub record SeesSame (r r' : ReaderView) : Type 0 where
+  pub same_sizes : r'.sizes ≡ r.sizes
+  pub seen : r'.seen ≡ r.seen
+  pub saw : r'.saw ≡ r.saw
+
+-- what is asked: the number of operations of an image, and the answers to a question at it
 module _ {A : Type 0} (operations : ℕ → Records → ℕ → ℕ) (answers : ℕ → Records → ℕ → A → Type 0) where
-  -- a round says this of an image
+  -- a round has these contents for an image
   pub record IsOfImage (shape : ℕ) (image : Image) (round : Round A) : Type 0 where
     pub count : round.operations ≡ operations shape (words_at image) image.root
     pub answer : answers shape (words_at image) image.root round.answer
 
-  -- a round is of the commit of its number among these
+  -- a round is at the commit with its number
   pub record IsOfCommit (shape : ℕ) (commits : List Image) (round : Round A) : Type 0 where
     pub image : Image
     pub there : slice_get commits round.commit ≡ Some image
     pub is : IsOfImage shape image round
 
   module _ (lawful : ℕ → Records → ℕ → Type 0) where
-    -- a round is of a lawful image that was seen, under its number
+    -- a round is at a lawful image that was seen, with its number
     pub record IsOfSeen (shape : ℕ) (round : Round A) (seen : ℕ × Image) : Type 0 where
       pub commit : round.commit ≡ seen.0
       pub lawful_image : lawful shape (words_at seen.1) seen.1.root
       pub is : IsOfImage shape seen.1 round
 
-    -- the rounds, in order, are of what a reader's last guards saw, a guard each
+    -- the rounds, in order, are at what the reader's last guards saw, one guard each
     pub record AreSeen (r : ReaderView) (rounds : List (Round A)) : Type 0 where
       pub each : AllZip (IsOfSeen r.sizes.shape) rounds (seen_last (length rounds) r.saw)
 
-    -- rounds that take a reader from one view to another: it saw their commits and nothing else, and none of these is
-    -- below one that it had seen before
+    -- the rounds lead from one view of a reader to another: it saw their commits and nothing else, and none of these
+    -- is older than one that it saw before
     pub record MakesRounds (r r' : ReaderView) (rounds : List (Round A)) : Type 0 where
       pub same_sizes : r'.sizes ≡ r.sizes
       pub are_seen : AreSeen r' rounds
       pub nothing_else : drop (length rounds) r'.saw ≡ r.saw
       pub forward : IsNonDecreasing ((r.seen ∷ map (λ round. round.commit) rounds) ++ r'.seen ∷ [])
 
-    -- one round that takes a reader from one view to another
+    -- one round that leads from one view of a reader to another
     pub record MakesRound (r r' : ReaderView) (round : Round A) : Type 0 where
       pub same_sizes : r'.sizes ≡ r.sizes
       pub image : Image

@@ -12,7 +12,7 @@ use entry_ref::EntryRef;
 use query_eval::documents;
 use std::alloc::{AllocError, Global};
 
-/// What is asked in a run of these attributes: answers, or how many documents each has.
+/// The asks of a run over these attributes, answered in full or by the number of documents.
 #[derive(Drop)]
 pub struct Asked<'a> {
     pub fields: &'a Fields,
@@ -20,7 +20,7 @@ pub struct Asked<'a> {
     pub counted: bool,
 }
 
-/// What an image answers: how many documents it has, and a line for each answer.
+/// The answers of an image: its number of documents, and a line for each answer.
 #[derive(Drop)]
 pub struct Told {
     pub documents: u32,

@@ -11,7 +11,7 @@ use entry_ref::EntryRef;
 use std::alloc::{AllocError, Global};
 use std::collections::BTreeMap;
 
-/// The root that word `i` of the root record names.
+/// Returns the root in word `i` of the root record.
 fn root_at<const OFFSET_BITS: u32, F: Frozen<OFFSET_BITS>>(
     frozen: &mut F,
     root: EntryRef<OFFSET_BITS>,
@@ -29,7 +29,7 @@ fn root_at<const OFFSET_BITS: u32, F: Frozen<OFFSET_BITS>>(
     }
 }
 
-/// The documents of an image of these attributes, each with its items in the first of them.
+/// Returns the documents of an image of these attributes, each with its items in the first attribute.
 pub fn first_documents<const OFFSET_BITS: u32, F: Frozen<OFFSET_BITS>>(
     alloc: Global,
     frozen: &mut F,

@@ -14,9 +14,9 @@ use word_arena::Reader;
 pub struct Job<'a, const OFFSET_BITS: u32, L: Layout, Q, G> {
     pub alloc: Global,
     pub reader: Reader<'a, OFFSET_BITS, L>,
-    /// Which reader it is, from 1.
+    /// The number of the reader, from 1.
     pub number: u32,
-    /// How many rounds it makes.
+    /// The number of its rounds.
     pub count: u32,
     pub question: &'a Q,
     pub gate: &'a G,

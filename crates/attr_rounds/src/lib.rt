@@ -1,12 +1,13 @@
-//! A reader's rounds over the running memory: in each it takes a guard, what is asked is answered at the guard's
-//! commit, and it gives the guard back.
+//! The rounds of a reader over the running memory. In each round the reader has a guard of the last commit, at which
+//! it answers the asks. It keeps its hold between rounds, and releases it after every 64 rounds.
 //!
-//! What is asked in a run, answered at an image as the lines that are written.
+//! The asks of a run are answered at an image as lines of the report.
 //!
-//! The documents of an attribute of an image, each with its items.
+//! The documents of an attribute of an image are read with their items.
 #![tactic(auto)]
 
 mod asked;
+mod climbing;
 mod first;
 mod job;
 mod lines;
@@ -21,6 +22,6 @@ pub use first::first_documents;
 pub use job::Job;
 pub use question::Question;
 pub use reading::documents_in;
-pub use rounds::{Reading, Round, go_round};
+pub use rounds::{ROUNDS_ON_A_HOLD, Reading, Round, go_round};
 pub use saving::Saving;
 pub use taking::take_in;

@@ -13,7 +13,7 @@ use entry_ref::EntryRef;
 use query_eval::{hits, scores};
 use std::alloc::{AllocError, Global};
 
-/// How many operations an image has.
+/// Returns the number of operations of an image.
 pub fn operations_in<const OFFSET_BITS: u32, F: Frozen<OFFSET_BITS>>(
     frozen: &mut F,
     root: EntryRef<OFFSET_BITS>,
@@ -83,7 +83,7 @@ fn push_answer<const OFFSET_BITS: u32, F: Frozen<OFFSET_BITS>>(
     }
 }
 
-/// Writes the answers of an image to what is asked, a line each: the answers, or how many documents each has.
+/// Writes a line for each ask: its answer at an image, or the number of documents of the answer.
 pub fn push_lines<const OFFSET_BITS: u32, F: Frozen<OFFSET_BITS>>(
     alloc: Global,
     frozen: &mut F,

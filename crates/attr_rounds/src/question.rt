@@ -5,17 +5,17 @@ use arena_api::Frozen;
 use entry_ref::{EntryRef, Layout};
 use std::alloc::{AllocError, Global};
 
-/// What is asked of a commit in each round.
+/// What each round asks of a commit.
 pub trait Question<const OFFSET_BITS: u32, L: Layout> {
     type Answer: Drop;
 
-    /// How many operations an image has, by its shape, its records and its root.
+    /// The number of operations of an image, by its shape, its records and its root.
     ghost operations: { ℕ → Records → ℕ → ℕ };
 
-    /// What is the answer to this at an image.
+    /// The value is the answer to the question at an image.
     ghost answers: { Self → ℕ → Records → ℕ → Self.Answer → Type 0 };
 
-    /// Of which shapes of images it can be asked.
+    /// The shapes of images to which the question applies.
     ghost fits: { Self → ℕ → Type 0 };
 
     fn operations<F: Frozen<OFFSET_BITS>>(&self, frozen: &mut F, root: EntryRef<OFFSET_BITS>) -> u32

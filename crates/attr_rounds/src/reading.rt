@@ -15,7 +15,7 @@ use frozen_btree::Cursor;
 use std::alloc::{AllocError, Global};
 use std::collections::BTreeMap;
 
-/// Puts a document in, with its items.
+/// Inserts a document with its items.
 fn push_document<const OFFSET_BITS: u32, F: Frozen<OFFSET_BITS>>(
     alloc: Global,
     frozen: &mut F,
@@ -42,7 +42,7 @@ fn push_document<const OFFSET_BITS: u32, F: Frozen<OFFSET_BITS>>(
     }
 }
 
-/// The documents of an attribute, each with its items there and in no other attribute.
+/// Returns the documents of an attribute, each with its items in that attribute only.
 pub fn documents_in<const OFFSET_BITS: u32, F: Frozen<OFFSET_BITS>>(
     alloc: Global,
     frozen: &mut F,

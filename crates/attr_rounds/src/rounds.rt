@@ -1,15 +1,19 @@
 ghost use Rattle.std.specs.Prelude.{◌≡◌, ◌<◌, ◌+◌, ◌-◌, ◌^◌, length, IfOk, OnOk};
 ghost use Rattle.gen_core.specs.declared.views.ReaderView.{ReaderView};
 ghost use Rattle.word_arena.specs.Ruled.{reader_of, IsLater};
-ghost use Rattle.attr_rounds.specs.Rounds.{MakesRounds};
+ghost use Rattle.attr_rounds.specs.Rounds.{MakesRounds, SeesSame};
+ghost use Rattle.attr_rounds.specs.Posts.{view_at, table_at};
 
+use crate::climbing::{Climb, climbed};
 use crate::question::Question;
 use attr_io::{Gate, Point};
 use entry_ref::Layout;
 use std::alloc::{AllocError, Global};
-use word_arena::{Again, Guarded, Reader};
+use std::marker::Brand;
+use std::sync::ledger::{Blank, Ledger};
+use word_arena::{Guarded, Reader, Steps};
 
-/// A round of a reader: the number of its commit, how many operations that has, and the answer.
+/// A round of a reader: the number of its commit, the number of operations of the commit, and the answer.
 #[derive(Debug, Drop)]
 pub struct Round<A> {
     pub commit: u32,
@@ -24,71 +28,130 @@ pub struct Reading<'a, const OFFSET_BITS: u32, L: Layout, A> {
     pub rounds: Vec<Round<A>>,
 }
 
-/// A guard after as many tries as it takes.
-fn guarded<'a, const OFFSET_BITS: u32, L: Layout>(
-    reader: Reader<'a, OFFSET_BITS, L>,
-) -> Guarded<'a, OFFSET_BITS, L>
-    ensures later { IsLater L.reaches L.lawful (reader_of reader.entry.place.me.0) (reader_of result.place.me.0) }
-    ensures table { result.place.table_id ≡ reader.entry.place.table_id }
-{
-    let mut reader = reader;
-    loop {
-        match reader.try_guard() {
-            Ok(guard) => return guard,
-            Err(again) => {
-                let Again {
-                    reader: next,
-                    found: _,
-                } = again;
-                reader = next;
-            }
-        }
+/// The number of rounds for which a reader keeps its hold, before it takes a new one. While it keeps the hold, no
+/// buffer that was put on hold since becomes free, so a reader that never released it would stop the writer. A new
+/// guard costs an addition to a word that all readers share, and another at its release; loading the root under the
+/// hold costs none. Over 64 rounds that is a thirtieth of an addition for each round.
+pub const ROUNDS_ON_A_HOLD: u32 = 64;
+
+/// The state of a reader between two rounds: without a guard, or still under the guard of the last round.
+#[derive(Drop)]
+enum Post<'a, const OFFSET_BITS: u32, L: Layout> {
+    Idle(Reader<'a, OFFSET_BITS, L>),
+    Under(Guarded<'a, OFFSET_BITS, L>),
+}
+
+/// Returns a guard, after as many tries as it takes.
+impl<'a, const OFFSET_BITS: u32, L: Layout> Climb for Reader<'a, OFFSET_BITS, L> {
+    type Output = Guarded<'a, OFFSET_BITS, L>;
+
+    ghost climbs_to = { λ reader guard. IsLater L.reaches L.lawful (reader_of reader.place.me.0) (reader_of guard.place.me.0)
+        × (guard.place.table_id ≡ reader.place.table_id) };
+
+    fn climb<C: Ledger>(self, steps: &mut Steps<C>) -> Guarded<'a, OFFSET_BITS, L> {
+        self.guard(steps)
     }
 }
 
-/// One round more. The gate is passed before and after it.
+/// Returns the guard of the next round: a new one, or one of the last commit under the hold of the round before.
+fn next_guard<'a, const OFFSET_BITS: u32, L: Layout>(
+    post: Post<'a, OFFSET_BITS, L>,
+) -> Guarded<'a, OFFSET_BITS, L>
+    ensures later { IsLater L.reaches L.lawful (view_at post.entry) (reader_of result.place.me.0) }
+    ensures table { result.place.table_id ≡ table_at post.entry }
+{
+    match post {
+        Post::Idle(reader) => climbed::<Reader<'a, OFFSET_BITS, L>, Brand>(reader, Blank::new(1)),
+        Post::Under(guard) => guard.again(),
+    }
+}
+
+/// Releases the guard, or keeps it.
+fn post_after<'a, const OFFSET_BITS: u32, L: Layout>(
+    guard: Guarded<'a, OFFSET_BITS, L>,
+    ends: bool,
+) -> Post<'a, OFFSET_BITS, L>
+    ensures same { SeesSame (reader_of guard.entry.place.me.0) (view_at result) }
+    ensures table { table_at result ≡ guard.entry.place.table_id }
+{
+    if ends {
+        Post::Idle(guard.release())
+    } else {
+        Post::Under(guard)
+    }
+}
+
+/// Returns the reader without a guard.
+fn let_go<'a, const OFFSET_BITS: u32, L: Layout>(
+    post: Post<'a, OFFSET_BITS, L>,
+) -> Reader<'a, OFFSET_BITS, L>
+    ensures same { SeesSame (view_at post.entry) (reader_of result.place.me.0) }
+    ensures table { result.place.table_id ≡ table_at post.entry }
+{
+    match post {
+        Post::Idle(reader) => reader,
+        Post::Under(guard) => guard.release(),
+    }
+}
+
+/// Returns whether a reader releases its hold after the round with this number.
+fn ends_hold(round: u32, last: u32) -> bool {
+    round % ROUNDS_ON_A_HOLD == 0 || round == last
+}
+
+/// Makes one more round, of at most `last`. Passes the gate before and after it. If memory is exhausted, no hold is
+/// kept.
 fn one_round<'a, const OFFSET_BITS: u32, L: Layout, Q: Question<OFFSET_BITS, L>, G: Gate>(
     alloc: Global,
-    reader: Reader<'a, OFFSET_BITS, L>,
+    post: Post<'a, OFFSET_BITS, L>,
     number: u32,
+    last: u32,
     question: &Q,
     gate: &G,
     rounds: &mut Vec<Round<Q::Answer>>,
-) -> Result<Reader<'a, OFFSET_BITS, L>, AllocError>
-    requires fits { Q.fits question.now (reader_of reader.place.me.0).sizes.shape }
+) -> Result<Post<'a, OFFSET_BITS, L>, AllocError>
+    requires fits { Q.fits question.now (view_at post).sizes.shape }
     requires few { length rounds.old.items < 2 ^ 32 - 1 }
     ensures rounds { IfOk result (λ next. (start : ReaderView)
-        → MakesRounds Q.operations (Q.answers question.now) L.lawful start (reader_of reader.entry.place.me.0) rounds.old.items
-        → MakesRounds Q.operations (Q.answers question.now) L.lawful start (reader_of next.place.me.0) rounds.new.items) }
+        → MakesRounds Q.operations (Q.answers question.now) L.lawful start (view_at post.entry) rounds.old.items
+        → MakesRounds Q.operations (Q.answers question.now) L.lawful start (view_at next) rounds.new.items) }
     ensures count { OnOk result (length rounds.new.items ≡ length rounds.old.items + 1) }
-    ensures table { IfOk result (λ next. next.place.table_id ≡ reader.entry.place.table_id) }
+    ensures table { IfOk result (λ next. table_at next ≡ table_at post.entry) }
 {
     let round = rounds.len() as u32 + 1;
     gate.pass(Point::RoundStart {
         reader: number,
         round,
     });
-    let mut guard = guarded(reader);
+    let mut guard = next_guard(post);
     let commit = guard.commit();
     let root = guard.root();
     let operations = question.operations(&mut guard, root);
     let answer = question.answer(alloc, &mut guard, root);
-    let reader = guard.release();
+    let ends = answer.is_err() || ends_hold(round, last);
+    let post = post_after(guard, ends);
     gate.pass(Point::RoundEnd {
         reader: number,
         round,
         operations,
     });
     let answer = answer?;
-    rounds.push(Round {
+    let made = Round {
         commit,
         operations,
         answer,
-    })?;
-    Ok(reader)
+    };
+    match rounds.push(made) {
+        Ok(()) => Ok(post),
+        Err(_) => {
+            let _reader = let_go(post);
+            Err(AllocError)
+        }
+    }
 }
 
-/// So many rounds of the reader of a number, both counted from 1. The gate is passed before and after each.
+/// Makes a number of rounds with a reader; readers and rounds are counted from 1. Passes the gate before and after
+/// each round. The reader keeps its hold between rounds, and releases it after every 64 rounds.
 pub fn go_round<'a, const OFFSET_BITS: u32, L: Layout, Q: Question<OFFSET_BITS, L>, G: Gate>(
     alloc: Global,
     reader: Reader<'a, OFFSET_BITS, L>,
@@ -103,10 +166,11 @@ pub fn go_round<'a, const OFFSET_BITS: u32, L: Layout, Q: Question<OFFSET_BITS, 
     ensures count { IfOk result (λ r. length r.rounds.items ≡ count) }
     ensures table { IfOk result (λ r. r.reader.place.table_id ≡ reader.entry.place.table_id) }
 {
-    let mut reader = reader;
+    let mut post = Post::Idle(reader);
     let mut rounds = Vec::new(alloc);
     for _ in 0..count {
-        reader = one_round(alloc, reader, number, question, gate, &mut rounds)?;
+        post = one_round(alloc, post, number, count, question, gate, &mut rounds)?;
     }
+    let reader = let_go(post);
     Ok(Reading { reader, rounds })
 }

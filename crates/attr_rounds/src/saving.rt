@@ -11,7 +11,7 @@ use entry_ref::EntryRef;
 use std::alloc::{AllocError, Global};
 use std::collections::BTreeMap;
 
-/// What a save asks of an image of these attributes: its documents, each with its items in the first of them.
+/// What a save asks of an image of these attributes: its documents, each with its items in the first attribute.
 #[derive(Drop)]
 pub struct Saving<'a> {
     pub fields: &'a Fields,
@@ -51,7 +51,7 @@ impl<'a, const OFFSET_BITS: u32> Question<OFFSET_BITS, AttrLayout> for Saving<'a
     }
 }
 
-/// How many operations an image has.
+/// Returns the number of operations of an image.
 fn operations_in<const OFFSET_BITS: u32, F: Frozen<OFFSET_BITS>>(
     frozen: &mut F,
     root: EntryRef<OFFSET_BITS>,

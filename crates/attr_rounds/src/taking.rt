@@ -1,6 +1,7 @@
 ghost use Rattle.std.specs.Prelude.{◌≡◌, All};
 ghost use Rattle.gen_core.specs.Events.{joined};
 ghost use Rattle.word_arena.specs.Ruled.{reader_of, writer_of};
+ghost use Rattle.word_arena.specs.Released.{IsWholeRun};
 ghost use Rattle.attr_rounds.specs.Rounds.{AreSeen, IsOfCommit};
 
 use crate::question::Question;
@@ -8,7 +9,7 @@ use crate::rounds::{Reading, Round};
 use entry_ref::Layout;
 use word_arena::Writer;
 
-/// Ends a reader after its rounds to this question. Each of them is then known to be of a commit of the writer.
+/// Joins a reader after its rounds with this question. Each round is then known to be at a commit of the writer.
 pub fn take_in<'a, const OFFSET_BITS: u32, L: Layout, Q: Question<OFFSET_BITS, L>>(
     writer: &mut Writer<'a, OFFSET_BITS, L>,
     reading: Reading<'a, OFFSET_BITS, L, Q::Answer>,
@@ -21,6 +22,7 @@ pub fn take_in<'a, const OFFSET_BITS: u32, L: Layout, Q: Question<OFFSET_BITS, L
     ensures same { result.items ≡ reading.entry.rounds.items }
     ensures view { writer_of writer.new.place.me.0 ≡ joined (writer_of writer.old.place.me.0) (reader_of reading.entry.reader.place.me.0) }
     ensures table { writer.new.place.table_id ≡ writer.old.place.table_id }
+    ensures run { IsWholeRun L.reaches L.lawful (writer_of writer.old.place.me.0).sizes writer.new.place.me.0.seen }
 {
     let Reading { reader, rounds } = reading;
     writer.take_in(reader);

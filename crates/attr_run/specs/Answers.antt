@@ -1,4 +1,4 @@
--- When each answer of a call comes, and what it leaves.
+-- When each answer of a call occurs, and what it leaves.
 use Rattle.std.specs.Prelude.{◌≡◌, ◌≢◌, ℕ, ◌+◌, ◌≤◌, ◌⊎◌, List, [], length, Option, Some, None}
 use Rattle.std.specs.Prelude.{Err, IsOkAnd}
 use Rattle.std.specs.Io.KnownBytes.{IsAtEnd}
@@ -21,27 +21,27 @@ use Rattle.attr_run.specs.declared.outcome.UsageCause.TheVariants as usage
 use Rattle.attr_run.specs.declared.outcome.FeedFault.{FeedFault}
 use Rattle.attr_run.specs.declared.outcome.FeedFault.TheVariants as feed
 
--- ---- when an answer comes
+-- ---- when an answer occurs
 
--- how far the run of an outcome came
+-- the progress of the run of an outcome
 abbrev pub progress_of : Outcome → Progress
 progress_of outcome =
     record { loaded = outcome.loaded; rounds = outcome.rounds; saved = outcome.saved }
 
--- an answer that ends a run, and the operation that found no room, if one did
+-- an answer that ends a run, and the operation that ran out of space, if any
 abbrev pub EndsRun : Status → Option ℕ → Type 0
 EndsRun Done full = full ≡ None
 EndsRun (Full operation active held) full = full ≡ Some operation
 EndsRun _ full = ⊥
 
--- an answer where nothing is refused and nothing fails: the run is done, or it found no room
+-- an answer if nothing is refused and nothing fails: the run is done, or it ran out of space
 abbrev pub IsEnd : Status → Type 0
 IsEnd Done = Unit {0}
 IsEnd (Full operation active held) = Unit {0}
 IsEnd _ = ⊥
 
--- the words and some bytes, which are the source's where it tells them, say what is to be run, and of that run and its
--- operations this holds
+-- the words and some bytes, which are those of the source if they are known, give a run and its operations with this
+-- property
 abbrev pub OfRun : List Text → Option (List ℕ) → (Run → List Op → Type 0) → Type 0
 OfRun words left P = OfBytes left (λ bytes. IsOkAnd (task_of words bytes) (λ task. P task.run task.ops))
 
@@ -49,20 +49,20 @@ OfRun words left P = OfBytes left (λ bytes. IsOkAnd (task_of words bytes) (λ t
 abbrev pub IsRefusedFeed : Status → Type 0
 IsRefusedFeed status = (fault : FeedFault) × (status ≡ BadFeed fault)
 
--- an answer comes only where its cause holds; and where that does, it comes, or a failed write or
--- want of memory in its place
+-- an answer occurs only if its cause holds; if the cause holds, the answer occurs, or a failed write or exhausted
+-- memory instead
 pub record ComesExactly (cause : Type 0) (expected status : Status) : Type 0 where
   pub only : status ≡ expected → cause
   pub always : cause → (status ≡ expected) ⊎ ((status ≡ WriteFault) ⊎ (status ≡ Memory))
 
--- the same of an answer that comes of the feed, where a failed read may come in its place too
+-- the same for an answer that depends on the feed, which a failed read may also replace
 pub record ComesExactlyOfFeed (cause : Type 0) (expected status : Status) : Type 0 where
   pub only : status ≡ expected → cause
   pub always : cause →
       (status ≡ expected) ⊎ ((status ≡ ReadFault) ⊎ ((status ≡ WriteFault) ⊎ (status ≡ Memory)))
 
--- why an answer before any run comes, by the words, what the source has left to give, and its
--- counts of faults before and after
+-- why an answer before any run occurs, by the words, what the source has left, and its counts of faults before and
+-- after
 abbrev pub HasCause : List Text → Option (List ℕ) → ℕ → ℕ → Status → Type 0
 HasCause words left before now Help = asked words ≡ Err Help
 HasCause words left before now (Usage cause) = asked words ≡ Err (Usage cause)
@@ -71,7 +71,7 @@ HasCause words left before now (BadFeed fault) =
 HasCause words left before now ReadFault = ReadsFeed (asked words) × Rose before now
 HasCause words left before now _ = ⊥
 
--- an answer before any run: it has a text of its own
+-- an answer before any run, which has a text of its own
 abbrev pub IsBeforeRun : Status → Type 0
 IsBeforeRun Help = Unit {0}
 IsBeforeRun (Usage cause) = Unit {0}
@@ -79,7 +79,7 @@ IsBeforeRun (BadFeed fault) = Unit {0}
 IsBeforeRun ReadFault = Unit {0}
 IsBeforeRun _ = ⊥
 
--- a refused query is no want of memory, and a faulty line has one of the six refusals of the feed's grammar
+-- a refused query is not exhausted memory, and a faulty line has one of the six refusals of the feed's grammar
 abbrev pub IsProper : Status → Type 0
 IsProper (Usage (usage.Query number error)) = error ≢ refusal.Memory
 IsProper (BadFeed (feed.Line line number)) = (1 ≤ number) × (number ≤ 6)
@@ -93,7 +93,7 @@ pub record HasNoRun (progress : Progress) : Type 0 where
   pub no_rounds : progress.rounds ≡ []
   pub nothing_saved : progress.saved ≡ None
 
--- the source of a run is read to its end, and where its operations are made it is not read
+-- the source of a run is read to its end; if the operations are made, it is not read
 abbrev pub ReadsBy : Option Make → Option (List ℕ) → Option (List ℕ) → Type 0
 ReadsBy None old new = IsAtEnd new
 ReadsBy (Some make) old new = new ≡ old
@@ -101,7 +101,7 @@ ReadsBy (Some make) old new = new ≡ old
 abbrev pub ReadsAsAsked : Run → Option (List ℕ) → Option (List ℕ) → Type 0
 ReadsAsAsked run old new = ReadsBy run.make old new
 
--- how far a run came that ended so, and its text
+-- the progress of a run that ended in this way, and its text
 pub record IsRunUntil (progress : Progress) (full : Option ℕ) (text : List ℕ) (run : Run)
     (ops : List Op) : Type 0 where
   pub all_loaded : IsLoaded run (length ops) progress.loaded full
@@ -111,13 +111,13 @@ pub record IsRunUntil (progress : Progress) (full : Option ℕ) (text : List ℕ
   pub legal : IsLegalHistory run ops progress (history run ops progress)
   pub is_written : text ≡ written run ops progress full
 
--- the same of a run that found no room at an operation: each of its buffers is in use, or held for readers
+-- the same for a run that ran out of space at an operation: each of its buffers is in use, or held for readers
 pub record IsFullRun (progress : Progress) (operation active held : ℕ) (text : List ℕ) (run : Run) (ops : List Op) : Type 0 where
   pub until : IsRunUntil progress (Some operation) text run ops
   pub room : active + held ≡ run.buffers
 
--- the text that is due at an answer, by the words, what the source has left to give, its counts of
--- faults before and after, and how far the run came
+-- the text that is due for an answer, by the words, what the source has left, its counts of faults before and after,
+-- and the progress of the run
 abbrev pub IsDue : List Text → Option (List ℕ) → ℕ → ℕ → Status → Progress → List ℕ → Type 0
 IsDue words left before now Done progress text =
     OfRun words left (IsRunUntil progress None text)
@@ -126,7 +126,7 @@ IsDue words left before now (Full operation active held) progress text =
 IsDue words left before now status progress text =
     HasCause words left before now status × HasNoRun progress × (text ≡ answer_text status)
 
--- of a text that was due at an answer the front was written, and not all of it
+-- a front of the text that was due for an answer was written, but not all of it
 pub record WritesFront (words : List Text) (left : Option (List ℕ)) (before now : ℕ)
     (progress : Progress) (old new : Option (List ℕ)) : Type 0 where
   pub status : Status

@@ -1,4 +1,4 @@
--- Operations made from a number: each takes three draws of one sequence.
+-- Operations made from a number. Each takes three draws of one sequence.
 use Rattle.std.specs.Prelude.{ℕ, zero, suc, ◌+◌, ◌*◌, ◌/◌, ◌%◌, ◌==◌, pos, ◌-ℤ◌, if◌then◌else◌, false}
 use Rattle.std.specs.Prelude.{List, [], ◌∷◌, ◌++◌, map, codes}
 use Rattle.std.specs.Fmt.{decimal}
@@ -15,11 +15,11 @@ use Rattle.attr_types.specs.declared.op.Op.TheVariants.{Put, Update, Remove}
 use Rattle.attr_types.specs.declared.value.Value.{Value}
 use Rattle.attr_types.specs.declared.value.Value.TheVariants as values
 
--- the draw after a draw, or the first one after the seed: from 0 to 65,535
+-- the draw after a draw, or the first draw after the seed: from 0 to 65,535
 abbrev pub next_draw : ℕ → ℕ
 next_draw x = (x * 25173 + 13849) % 65536
 
--- a value by a number: it is less 512, or `t` and its digits
+-- the value of a number: the number less 512, or `t` and its digits
 abbrev pub value_by : ValueType → ℕ → Value
 value_by types.Long n = values.Long (pos n -ℤ pos 512)
 value_by types.Text n = values.Text (codes "t" ++ decimal n)
@@ -42,13 +42,13 @@ abbrev pub put_items : List Field → ℕ → ℕ → List (List Item)
 put_items [] a b = []
 put_items (field ∷ fields) a b = items_by field.kind field.value a b ∷ map (λ _. []) fields
 
--- the changes of an update: the other attributes stay
+-- the changes of an update: the other attributes do not change
 abbrev pub update_changes : List Field → ℕ → ℕ → List Change
 update_changes [] a b = []
 update_changes (field ∷ fields) a b =
     change_of_kind field.kind (items_by field.kind field.value a b) ∷ map (λ _. Keep) fields
 
--- an operation by its three draws: one in eight is a remove, one in eight an update, the others are puts
+-- the operation of three draws: one in eight is a remove, one in eight an update, and the others are puts
 abbrev pub op_by : List Field → ℕ → ℕ → ℕ → Op
 op_by fields a b c =
     if c / 8192 == 0 then Remove (a / 16 + 1)

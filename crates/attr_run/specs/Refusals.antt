@@ -1,4 +1,4 @@
--- Which words ask for no run, and why: each refusal by its own rule. A later one comes only where none before it does.
+-- Which words request no run, and why: each refusal by its own rule. A rule applies only if none before it does.
 use Rattle.std.specs.Prelude.{◌≡◌, ℕ, true, false, List, IsSome, Some, None, Ok, Err}
 use Rattle.clap.specs.Walk.{Text}
 use Rattle.clap.specs.Simple.{matches_of}
@@ -14,22 +14,22 @@ use Rattle.attr_run.specs.Settings.{IsFirstRefused}
 use Rattle.attr_run.specs.declared.outcome.UsageCause.{UsageCause}
 use Rattle.attr_run.specs.declared.outcome.UsageCause.TheVariants as usage
 
--- what the options of words say that the command takes
+-- the contents of the options, if the command accepts the words
 abbrev pub said_of : List Text → Said
 said_of line = said_by (matches_of attr_app line)
 
--- the kind's name is none
+-- the name is not that of a kind
 pub record NamesNoKind (line : List Text) : Type 0 where
   pub taken : AreTaken line
   pub kind : kind_named (said_of line).kind ≡ None
 
--- the kind's name is one, and the value type's name is none
+-- the name of the kind is right, and the other is not that of a value type
 pub record NamesNoValue (line : List Text) : Type 0 where
   pub taken : AreTaken line
   pub kind : IsSome (kind_named (said_of line).kind)
   pub value : value_named (said_of line).value ≡ None
 
--- both names are good, and the store is too large
+-- both names are right, and the store is too large
 pub record AsksTooMuch (line : List Text) (buffers each : ℕ) : Type 0 where
   pub taken : AreTaken line
   pub kind : IsSome (kind_named (said_of line).kind)
@@ -38,7 +38,7 @@ pub record AsksTooMuch (line : List Text) (buffers each : ℕ) : Type 0 where
   pub words_are : each ≡ (said_of line).words
   pub many : are_too_many (said_of line).wide buffers each ≡ true
 
--- the store is not too large, and the text of `--also` breaks its form first at this offset
+-- the store is not too large, and the text of `--also` has its first wrong part at this offset
 pub record NamesBadField (line : List Text) (place : ℕ) : Type 0 where
   pub taken : AreTaken line
   pub first : Field
@@ -54,7 +54,7 @@ pub record AsksBadQuery (line : List Text) (number : ℕ) (error : QueryError) :
   pub is : settings_in line ≡ Ok given
   pub first : IsFirstRefused given.fields given.queries number error
 
--- why words ask for no run, by the rule of each cause
+-- why words request no run, by the rule of each cause
 abbrev pub IsRefusedFor : List Text → UsageCause → Type 0
 IsRefusedFor line usage.Words = AreRefused line
 IsRefusedFor line usage.KindName = NamesNoKind line

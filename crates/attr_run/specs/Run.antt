@@ -1,6 +1,6 @@
--- What the words of a command line ask for, and what operations a run has.
--- Each is the first refusal on its way, or what was wanted: so the order of the lines below is the
--- order in which a run looks at its words and its feed.
+-- What the words of a command line request, and which operations a run has.
+-- Each step gives its first refusal or its result, so the order of the lines below is the order in which a run checks
+-- its words and its feed.
 use Rattle.std.specs.Prelude.{◌≡◌, ℕ, ◌+◌, nat_lt, if◌then◌else◌, List, [], ◌∷◌, length}
 use Rattle.std.specs.Prelude.{Option, Some, None, option_map, Result, Ok, Err}
 use Rattle.clap.specs.Walk.{Text}
@@ -23,7 +23,7 @@ use Rattle.attr_run.specs.declared.outcome.Status.TheVariants.{Help, Usage, BadF
 use Rattle.attr_run.specs.declared.outcome.UsageCause.TheVariants as usage
 use Rattle.attr_run.specs.declared.outcome.FeedFault.TheVariants as feed
 
--- the next step, where none so far was refused
+-- the next step, if nothing was refused so far
 infixl 10 ◌>>=◌
 abbrev pub ◌>>=◌ : {A B : Type 0} → Result A Status → (A → Result B Status) → Result B Status
 Ok a >>= next = next a
@@ -45,12 +45,12 @@ abbrev pub given_or_refused : Result Given WordsError → Result Given Status
 given_or_refused (Ok given) = Ok given
 given_or_refused (Err error) = Err (refusal_of error)
 
--- what is asked, or its refusal with its number
+-- an ask, or its refusal with its number
 abbrev pub ask_or_refused : ℕ → Result AskTree QueryError → Result AskTree Status
 ask_or_refused number (Ok ask) = Ok ask
 ask_or_refused number (Err error) = Err (Usage (usage.Query number error))
 
--- what texts ask, numbered from `number` on: the first bad one decides
+-- the asks of texts, numbered from `number` on; the first bad one decides
 unfoldable pub asks_from : List Field → ℕ → List Text → Result (List AskTree) Status
 asks_from fields number [] = Ok []
 asks_from fields number (text ∷ texts) = do
@@ -61,7 +61,7 @@ asks_from fields number (text ∷ texts) = do
 abbrev pub make_of : Option ℕ → ℕ → Option Make
 make_of count seed = option_map (λ n. record { count = n; seed = seed }) count
 
--- the run of these settings that asks this
+-- the run with these settings and asks
 abbrev pub run_of : Given → List AskTree → Run
 run_of given asks = record {
   fields = given.fields;
@@ -78,14 +78,14 @@ run_of given asks = record {
   asks = asks;
 }
 
--- the run that words ask for, or why they ask for none
+-- the run that words request, or why they request none
 unfoldable pub asked : List Text → Result Run Status
 asked line = do
   given ← given_or_refused (settings_in line)
   asks ← asks_from given.fields 1 given.queries
   Ok (run_of given asks)
 
--- they ask for a run that reads a feed
+-- they request a run that reads a feed
 abbrev pub ReadsFeed : Result Run Status → Type 0
 ReadsFeed (Ok run) = run.make ≡ None
 ReadsFeed (Err status) = ⊥
@@ -116,7 +116,7 @@ abbrev pub fed_by : Option Make → List Field → List ℕ → Result (List Op)
 fed_by (Some make) fields bytes = Ok (made make.count make.seed fields)
 fed_by None fields bytes = ops_in fields bytes
 
--- the operations of a run: made, or by the bytes of its feed
+-- the operations of a run: made ones, or those of the bytes of its feed
 unfoldable pub fed : Run → List ℕ → Result (List Op) Status
 fed run bytes = fed_by run.make run.fields bytes
 
@@ -125,7 +125,7 @@ pub record Task : Type 0 where
   pub run : Run
   pub ops : List Op
 
--- what words and the bytes of a feed say to do, or the first refusal of either
+-- the task that words and the bytes of a feed give, or the first refusal of either
 unfoldable pub task_of : List Text → List ℕ → Result Task Status
 task_of line bytes = do
   run ← asked line

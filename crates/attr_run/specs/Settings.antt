@@ -1,5 +1,5 @@
--- What holds of a run that words ask for: its numbers lie in the ranges of their options, and what it
--- asks is what its texts say.
+-- What holds of a run that words request: its numbers are in the ranges of their options, and its asks are what its
+-- texts say.
 use Rattle.std.specs.Prelude.{◌≡◌, ◌≤◌, ◌+◌, ℕ, false, List, ◌∷◌, ◌++◌, length, IfSome, Ok, Err}
 use Rattle.std.specs.List.{AllByRecursion, AllZip}
 use Rattle.std.specs.Str.{IsUtf8}
@@ -17,14 +17,14 @@ use Rattle.attr_run.specs.Run.{asked}
 use Rattle.attr_run.specs.declared.outcome.Status.TheVariants.{Usage}
 use Rattle.attr_run.specs.declared.outcome.UsageCause.TheVariants as usage
 
--- a text in UTF-8 that asks this of these attributes, as the grammar of query words has it
+-- a text in UTF-8 that asks this of these attributes, according to the grammar of query words
 abbrev pub IsTextOf : List Field → Text → AskTree → Type 0
 IsTextOf fields text ask = IsUtf8 text × Answers any_word fields text (Ok ask)
 
 abbrev pub IsWithinRanges : Make → Type 0
 IsWithinRanges made = IsWithin make made.count × IsWithin seed made.seed
 
--- lawful settings, and what these texts ask
+-- lawful settings, and the asks of these texts
 pub record IsLawfulRun (texts : List Text) (run : Run) : Type 0 where
   pub in_batch : IsWithin batch run.batch
   pub in_readers : IsWithin readers run.readers
@@ -37,13 +37,13 @@ pub record IsLawfulRun (texts : List Text) (run : Run) : Type 0 where
   pub few : length run.fields ≤ 8
   pub asks : AllZip (IsTextOf run.fields) texts run.asks
 
--- the run is lawful, and asks what the words say that belong to no option
+-- the run is lawful, and its asks are those of the words that belong to no option
 pub record IsAskedBy (line : List Text) (run : Run) : Type 0 where
   pub given : Given
   pub is : settings_in line ≡ Ok given
   pub lawful : IsLawfulRun given.queries run
 
--- this holds of every run that words ask for
+-- this holds of every run that words request
 abbrev pub RunsAreAsked : Type 0
 RunsAreAsked = (line : List Text) (run : Run) (given : Given) → asked line ≡ Ok run
     → settings_in line ≡ Ok given → AllByRecursion IsUtf8 given.queries → IsAskedBy line run
@@ -60,7 +60,8 @@ pub record IsFirstRefused (fields : List Field) (texts : List Text) (number : �
   pub utf8 : IsUtf8 text
   pub refused : Answers any_word fields text (Err error)
 
--- words with these settings are refused by a query exactly where the grammar refuses it first; only texts in UTF-8 say by which
+-- words with these settings are refused because of a query if and only if it is the first that the grammar refuses;
+-- for texts that are not UTF-8, the refused query is not stated
 pub record IsRefusedSo (line : List Text) (given : Given) (number : ℕ) (error : QueryError) : Type 0 where
   pub only : AllByRecursion IsUtf8 given.queries → asked line ≡ Err (Usage (usage.Query number error))
       → IsFirstRefused given.fields given.queries number error

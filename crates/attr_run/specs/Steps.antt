@@ -1,4 +1,4 @@
--- What the steps of a call answer, before its text is made and written.
+-- The results of the steps of a call, before its text is made and written.
 use Rattle.std.specs.Prelude.{◌≡◌, ℕ, List, Option, Some, None, ◌⊎◌, Result, Ok, Err, IsOkAnd}
 use Rattle.std.specs.Io.KnownBytes.{Appends, Keeps}
 use Rattle.clap.specs.Walk.{Text}
@@ -25,13 +25,13 @@ use Rattle.attr_run.specs.declared.outcome.FeedFault.TheVariants as feed
 use Rattle.attr_run.specs.declared.stop.Stop.{Stop}
 use Rattle.attr_run.specs.declared.stop.Stop.TheVariants as stops
 
--- what a step returns is what was wanted, or its refusal; want of memory says nothing
+-- the result of a step is what was expected, or its refusal; after memory is exhausted nothing is claimed
 abbrev pub Says : {A B : Type 0} → (A → B) → Result A Stop → Result B Status → Type 0
 Says shown (Ok a) wanted = wanted ≡ Ok (shown a)
 Says shown (Err (stops.Answer status)) wanted = wanted ≡ Err status
 Says shown (Err stops.Memory) wanted = Unit {0}
 
--- what a refusal of the words stops a call with
+-- the stop of a call for a refusal of the words
 abbrev pub words_stop : WordsError → Stop
 words_stop words.Help = stops.Answer Help
 words_stop words.Refused = stops.Answer (Usage usage.Words)
@@ -41,7 +41,7 @@ words_stop (words.Size buffers each) = stops.Answer (Usage (usage.Size buffers e
 words_stop (words.Also place) = stops.Answer (Usage (usage.Also place))
 words_stop words.Memory = stops.Memory
 
--- what a refusal of the feed stops a call with
+-- the stop of a call for a refusal of the feed
 abbrev pub line_stop : ℕ → ℕ → Stop
 line_stop line number = stops.Answer (BadFeed (feed.Line line number))
 
@@ -77,7 +77,7 @@ IsUnfed run left before now (stops.Answer ReadFault) = (run.make ≡ None) × Ro
 IsUnfed run left before now (stops.Answer _) = ⊥
 IsUnfed run left before now stops.Memory = Unit {0}
 
--- a stop for which the words are the reason
+-- a stop because of the words
 abbrev pub IsWordsStop : Stop → Type 0
 IsWordsStop (stops.Answer Help) = Unit {0}
 IsWordsStop (stops.Answer (Usage cause)) = IsProper (Usage cause)
@@ -88,19 +88,19 @@ abbrev pub IsProperStop : Stop → Type 0
 IsProperStop (stops.Answer status) = IsProper status
 IsProperStop stops.Memory = Unit {0}
 
--- what holds where a run has ended: lawful words asked for it, and the source was read as they ask
+-- what holds if a run has ended: lawful words request it, and the source was read accordingly
 pub record HasEnded (words : List Text) (left new : Option (List ℕ)) : Type 0 where
   pub asks : IsOkAnd (asked words) (IsAskedBy words)
   pub reads : OfRun words left (λ run ops. ReadsAsAsked run left new)
 
--- the answer of a call that stopped: it is no want of memory, and its text is the status's own
+-- the answer of a call that stopped: it is not exhausted memory, and its text is the status's own
 pub record IsEarly (stop : Stop) (status : Status) (progress : Progress) (text : List ℕ)
     : Type 0 where
   pub answers : stop ≡ stops.Answer status
   pub no_run : HasNoRun progress
   pub own_text : text ≡ answer_text status
 
--- an answer of a call: the text that is due is written, or a front of it, or nothing
+-- the effect of an answer: the text that is due is written, or a front of it, or nothing
 abbrev pub IsAnswer : List Text → Option (List ℕ) → ℕ → ℕ → Option (List ℕ) → Option (List ℕ)
     → ℕ → ℕ → Status → Progress → Type 0
 IsAnswer words left before now old new sink_before sink_now WriteFault progress =
@@ -110,12 +110,12 @@ IsAnswer words left before now old new sink_before sink_now Memory progress =
 IsAnswer words left before now old new sink_before sink_now status progress =
     (text : List ℕ) × IsDue words left before now status progress text × Appends old new text
 
--- the answer to a run that ended, by the operation that found no room, if one did
+-- the status of a run that ended, by the operation that ran out of space, if any
 abbrev pub ended_status : Option NoRoom → Status
 ended_status None = Done
 ended_status (Some room) = Full room.operation room.active room.held
 
--- no read failed, or that is the answer
+-- no read failed, or the status says so
 abbrev pub TellsFault : ℕ → ℕ → Status → Type 0
 TellsFault before now status = (now ≡ before) ⊎ (status ≡ ReadFault)
 

@@ -14,7 +14,7 @@ help_text =
     ++ codes "     [--rounds N] [--buffers U] [--words W] [--after] [--make N] [--seed S]"
     ++ codes " [--wide] [--dense] [--also A] [--save] [QUERY..]\n"
 
--- the refusal of a query, in words
+-- the text of a refused query
 unfoldable pub query_refusal : QueryError → List ℕ
 query_refusal (refusal.Syntax place) = codes "Syntax at " ++ decimal place
 query_refusal (refusal.NoField place) = codes "NoField"
@@ -40,7 +40,7 @@ unfoldable pub feed_line : ℕ → ℕ → List ℕ
 feed_line line number =
     codes "attr: feed line " ++ decimal line ++ codes ": " ++ line_refusal number ++ codes "\n"
 
--- what is written at an answer before any run; what a run writes is attr_report's `written`
+-- what an answer before any run writes; what a run writes is `written` of attr_report
 unfoldable pub answer_text : Status → List ℕ
 answer_text status.Done = []
 answer_text status.Help = help_text

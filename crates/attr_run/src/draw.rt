@@ -1,7 +1,7 @@
 ghost use Rattle.std.specs.Prelude.{◌≡◌, ◌<◌};
 ghost use Rattle.attr_run.specs.Made.{next_draw};
 
-/// The draw after a draw, or the first one after the seed.
+/// Returns the draw after a draw, or the first draw after the seed.
 pub fn next_draw(x: u32) -> u32
     ensures value { result ≡ next_draw x }
     ensures small { result < 65536 }

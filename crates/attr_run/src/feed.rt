@@ -25,7 +25,7 @@ use std::alloc::Global;
 /// The most bytes that a feed may have.
 const MOST_BYTES: usize = 16_777_216;
 
-/// The operations that the bytes of a feed give.
+/// Returns the operations in the bytes of a feed.
 fn lines_in(alloc: Global, bytes: &[u8], fields: &Fields) -> Result<Ops, Stop>
     requires { length bytes.now ≤ most_bytes }
     ensures fed { IfOk result (λ ops. ops_of fields.now bytes.now ≡ Ok ops) }
@@ -39,7 +39,7 @@ fn lines_in(alloc: Global, bytes: &[u8], fields: &Fields) -> Result<Ops, Stop>
     Ok(ops)
 }
 
-/// The operations of a feed, which is read to its end before any of its lines is looked at.
+/// Returns the operations of a feed, which is read to its end before any of its lines is interpreted.
 fn read_in<S: Source>(alloc: Global, source: &mut S, fields: &Fields) -> Result<Ops, Stop>
     ensures fed { IfOk result (λ ops. OfBytes (S.left source.old) (λ bytes. ops_of fields.now bytes ≡ Ok ops)) }
     ensures few { IfOk result (λ ops. length ops < 2 ^ 32) }
@@ -70,7 +70,7 @@ fn made_in(alloc: Global, count: u32, seed: u32, fields: &Fields) -> Result<Ops,
     Ok(ops)
 }
 
-/// The operations of a run: made where it asks for that, else those that its source gives.
+/// Returns the operations of a run: made ones if it requests them, otherwise those of its source.
 pub fn ops_in<S: Source>(alloc: Global, source: &mut S, request: &Request) -> Result<Ops, Stop>
     ensures fed { IfOk result (λ ops. OfBytes (S.left source.old) (λ bytes. fed (run_in request.now) bytes ≡ Ok ops)) }
     ensures few { IfOk result (λ ops. length ops < 2 ^ 32) }

@@ -1,7 +1,6 @@
-//! The whole run of `attr`: from the words of its command line and the bytes of its feed to the
-//! bytes that it writes.
+//! The whole run of `attr`: from the words of its command line and the bytes of its feed to the bytes that it writes.
 //!
-//! Operations that are made from a number, in place of a feed.
+//! It can also make operations from a number, instead of reading a feed.
 #![tactic(auto)]
 
 mod draw;

@@ -82,8 +82,8 @@ fn op_by(alloc: Global, fields: &[Field], a: u32, b: u32, c: u32) -> Result<Op, 
     Ok(Op::Put { doc, items })
 }
 
-/// `count` operations, made from a seed: one in eight is a remove, one in eight an update and the others
-/// are puts, on documents from 1 to 4,096. Of several attributes the first alone gets items.
+/// Returns `count` operations made from a seed, on documents from 1 to 4,096: one in eight is a remove, one in eight
+/// an update, and the others are puts. Only the first attribute gets items.
 pub fn make_ops(alloc: Global, count: u32, seed: u32, fields: &Fields) -> Result<Ops, AllocError>
     ensures made { IfOk result (λ ops. ops ≡ made count seed fields.now) }
     ensures count { IfOk result (λ ops. length ops ≡ count) }

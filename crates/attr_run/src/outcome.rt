@@ -8,29 +8,29 @@ use attr_types::{QueryError, RoundList};
 use std::alloc::Global;
 use std::process::ExitCode;
 
-/// Why the words of a command line ask for no run. The checks go in this order.
+/// Why the words of a command line request no run. The checks run in this order.
 #[derive(Debug, Drop)]
 pub enum UsageCause {
-    /// The command does not take the words.
+    /// The command refuses the words.
     Words,
-    /// The kind's name is none.
+    /// The name is not that of a kind.
     KindName,
-    /// The value type's name is none.
+    /// The name is not that of a value type.
     ValueName,
-    /// Buffers are above 1,023 without `--wide`, or the words of all of them above 67,108,864 with it.
+    /// There are more than 1,023 buffers without `--wide`, or more than 67,108,864 words in all with it.
     Size { buffers: u32, words: u32 },
-    /// The text of `--also` is not one to seven fields `name:kind:value` with names of their own.
-    /// `place` is the offset of the first part that breaks this.
+    /// The text of `--also` does not consist of one to seven fields `name:kind:value` with distinct names. `place` is
+    /// the offset of the first wrong part.
     Also { place: u64 },
-    /// The first bad query, by its number from 1. `error` is never `Memory`.
+    /// The first bad query, numbered from 1. `error` is never `Memory`.
     Query { number: u64, error: QueryError },
 }
 
 /// Why a feed is refused.
 #[derive(Debug, Drop)]
 pub enum FeedFault {
-    /// The first faulty line, from 1, and the number of its first refusal: 1 NotJson,
-    /// 2 NoOperation, 3 BadId, 4 BadValue, 5 Unsupported, 6 TooManyItems.
+    /// The first faulty line, from 1, and the number of its first refusal: 1 NotJson, 2 NoOperation, 3 BadId, 4
+    /// BadValue, 5 Unsupported, 6 TooManyItems.
     Line { line: u32, number: u32 },
     /// It has more than 16,777,216 bytes.
     TooLong,
@@ -39,32 +39,32 @@ pub enum FeedFault {
 /// How a run ended.
 #[derive(Debug, Drop)]
 pub enum Status {
-    /// The report is written.
+    /// The report was written.
     Done,
     /// The words asked for help.
     Help,
-    /// The words ask for no run.
+    /// The words request no run.
     Usage(UsageCause),
-    /// The feed is refused.
+    /// The feed was refused.
     BadFeed(FeedFault),
     /// The source failed.
     ReadFault,
-    /// The sink failed, in place of the answer that was to be written.
+    /// The sink failed before the whole answer was written.
     WriteFault,
-    /// The operation of that number, from 1, found no room, with `active` buffers in use and `held`
-    /// waiting for readers. The report of what was committed before it is written.
+    /// The store had no space for the operation with that number, from 1. `active` buffers were in use, and `held`
+    /// waited for readers. The report of what was committed before was written.
     Full {
         operation: u32,
         active: u32,
         held: u32,
     },
-    /// Memory was refused. Nothing is written.
+    /// Memory was exhausted. Nothing was written.
     Memory,
 }
 
 impl Status {
-    /// The exit status of the program: 0 where the report or the help text is written, or the
-    /// number of what stands in its place.
+    /// Returns the exit status of the program: 0 if the report or the help text was written, otherwise the number of
+    /// the failure.
     pub fn exit_code(&self) -> u8
         ensures { result ≡ exit_code self.now }
     {
@@ -81,7 +81,7 @@ impl Status {
     }
 }
 
-/// What a run did: its answer, how many operations it loaded, the rounds of its readers, and at how
+/// The result of a run: its status, the number of operations that it loaded, the rounds of its readers, and at how
 /// many operations the table was saved, if it was.
 #[derive(Debug, Drop)]
 pub struct Outcome {
@@ -92,7 +92,7 @@ pub struct Outcome {
 }
 
 impl Outcome {
-    /// What is answered where there is no memory: nothing was done.
+    /// Returns the outcome if memory is exhausted: nothing was done.
     pub fn out_of_memory(alloc: Global) -> Outcome
         ensures status { result.status ≡ Memory }
         ensures no_run { HasNoRun (progress_of result) }
@@ -106,7 +106,7 @@ impl Outcome {
     }
 }
 
-/// The exit status of a program whose run this was.
+/// Returns the exit status of a program with this outcome.
 pub fn exit_of(outcome: &Outcome) -> ExitCode
     ensures { exit_status result ≡ exit_code outcome.now.status }
 {

@@ -5,8 +5,8 @@ use attr_io::{NoGate, StdSink, StdSource};
 use std::rt::Env;
 use std::thread::Threads;
 
-/// The run of a program: of the words after its name, over standard input and standard output. `attr_main` has the contract;
-/// a program ends with `exit_of` of this.
+/// Makes the run of a program: with the words after its name, standard input and standard output. The contract is
+/// that of `attr_main`; a program ends with `exit_of` of the outcome.
 pub fn run_program<R: Threads + Sync + Env + AllocGlobal + Input + Print>(rt: &R) -> Outcome {
     match Words::of_program(rt) {
         Ok(words) => {

@@ -21,7 +21,7 @@ use attr_words::{Settings, read_words};
 use query_text::parse_ask;
 use std::alloc::Global;
 
-/// The settings that the words give, unless they ask for help or are refused.
+/// Returns the settings that the words give, unless they ask for help or are refused.
 fn settings_in(alloc: Global, words: &Words) -> Result<Settings, Stop>
     ensures says { Says given_by result (given_or_refused (given_in words.now)) }
     ensures given { IfOk result (λ s. given_in words.now ≡ Ok (given_by s)) }
@@ -93,7 +93,7 @@ fn request_of(settings: Settings, asks: Asks) -> Request
     }
 }
 
-/// Reads the words: first the settings, then what is asked.
+/// Reads the words: first the settings, then the asks.
 pub fn request_in(alloc: Global, words: &Words) -> Result<Request, Stop>
     ensures asked { Says run_in result (asked words.now) }
     ensures refusal { IfErr result IsWordsStop }

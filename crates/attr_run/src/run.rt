@@ -42,14 +42,14 @@ use attr_types::{Op, RoundList};
 use std::alloc::{AllocError, Global};
 use std::thread::Threads;
 
-/// What is to be answered and written.
+/// The outcome, and the text to write.
 #[derive(Debug, Drop)]
 struct Answer {
     outcome: Outcome,
     text: Vec<u8>,
 }
 
-/// The answer to a run that ended.
+/// Returns the status of a run that ended.
 fn status_of(full: Option<NoRoom>) -> Status
     ensures { result ≡ ended_status full }
 {
@@ -63,7 +63,7 @@ fn status_of(full: Option<NoRoom>) -> Status
     }
 }
 
-/// The run, with references as it asks for them.
+/// Makes the run, with the references that it requests.
 fn run_by<R: Threads + Sync, G: Gate + Sync + 'static>(
     rt: &R,
     alloc: Global,
@@ -99,7 +99,7 @@ fn run_by<R: Threads + Sync, G: Gate + Sync + 'static>(
     }
 }
 
-/// What is answered where a run ended.
+/// Returns the answer of a run that ended.
 fn answer_of(written: Written) -> Answer
     ensures status { result.outcome.status ≡ ended_status written.full }
     ensures loaded { result.outcome.loaded ≡ written.loaded }
@@ -123,7 +123,7 @@ fn answer_of(written: Written) -> Answer
     Answer { outcome, text }
 }
 
-/// Reads the words and then the feed, loads it beside the readers and makes what is written.
+/// Reads the words and then the feed, loads the feed beside the readers, and makes the text to write.
 fn reported<R: Threads + Sync, S: Source, G: Gate + Sync + 'static>(
     rt: &R,
     alloc: Global,
@@ -152,7 +152,7 @@ fn reported<R: Threads + Sync, S: Source, G: Gate + Sync + 'static>(
     Ok(answer_of(written))
 }
 
-/// The answer of a call that stops before it has a report.
+/// Returns the answer of a call that stops before it has a report.
 fn stopped(alloc: Global, stop: Stop) -> Result<Answer, AllocError>
     ensures { IfOk result (λ a. IsEarly stop a.outcome.status (progress_of a.outcome)
         a.text.items) }
@@ -173,7 +173,7 @@ fn stopped(alloc: Global, stop: Stop) -> Result<Answer, AllocError>
     }
 }
 
-/// The answer to words and a source, with every cause but those of the sink.
+/// Returns the answer to words and a source, for every outcome except failures of the sink.
 fn answer_to<R: Threads + Sync, S: Source, G: Gate + Sync + 'static>(
     rt: &R,
     alloc: Global,
@@ -200,7 +200,7 @@ fn answer_to<R: Threads + Sync, S: Source, G: Gate + Sync + 'static>(
     }
 }
 
-/// Plans the whole answer, and then writes it.
+/// Makes the whole answer, and then writes it.
 fn whole_run<R: Threads + Sync, S: Source, K: Sink, G: Gate + Sync + 'static>(
     rt: &R,
     alloc: Global,
@@ -239,15 +239,14 @@ fn whole_run<R: Threads + Sync, S: Source, K: Sink, G: Gate + Sync + 'static>(
     }
 }
 
-/// The whole run of `attr`: reads the words, then the feed, and writes the report, the summary or the
-/// saved table, or why there is none. It looks at the words, the kind's name, the value type's name, the
-/// size of the store, the further attributes, the queries in order, and then at the feed; the first
-/// refusal is the answer.
+/// The whole run of `attr`: reads the words, then the feed, and writes the report, the summary or the saved table, or
+/// why there is none. It checks the words, the name of the kind, the name of the value type, the size of the store,
+/// the further attributes, and the queries in order, and then the feed. The first refusal is the answer.
 ///
-/// What a clause says of a feed's bytes holds of some bytes, and of those that the source has left where it tells them; what
-/// it says of written bytes holds where the sink tells what it took.
-/// Out of memory may be the answer in place of any other. Each reader is a thread; the loading stays on the caller's
-/// own, and with `--readers 0` no thread is started. `--dense` changes no answer.
+/// Statements about the bytes of a feed hold for some bytes, and for those that the source has left if they are
+/// known. Statements about written bytes hold if the sink knows what it took. Exhausted memory may be the answer
+/// instead of any other. Each reader is a thread; the loading stays on the caller's thread, and with `--readers 0` no
+/// thread is started. `--dense` changes no answer.
 pub fn attr_main<R: Threads + Sync, S: Source, K: Sink, G: Gate + Sync + 'static>(
     rt: &R,
     alloc: Global,
@@ -256,8 +255,8 @@ pub fn attr_main<R: Threads + Sync, S: Source, K: Sink, G: Gate + Sync + 'static
     sink: &mut K,
     gate: &G,
 ) -> Outcome
-    // A run that ended, done or out of room at an operation: the words ask for it, the source gave
-    // its operations and was read as the run asks, and exactly its text was written.
+    // A run that ended, done or out of space at an operation: the words request it, the source gave its operations
+    // and was read accordingly, and exactly its text was written.
     ensures report { (full : Option ℕ) → EndsRun result.status full
         → OfRun words.now (S.left source.old) (λ run ops. Appends (K.taken sink.old)
         (K.taken sink.new) (written run ops (progress_of result) full)) }
@@ -280,7 +279,7 @@ pub fn attr_main<R: Threads + Sync, S: Source, K: Sink, G: Gate + Sync + 'static
     ensures history { (full : Option ℕ) → EndsRun result.status full
         → OfRun words.now (S.left source.old) (λ run ops. IsLegalHistory run ops
         (progress_of result) (history run ops (progress_of result))) }
-    // Where an operation found no room, each buffer is in use, or held for readers.
+    // If an operation ran out of space, each buffer is in use, or held for readers.
     ensures room { (operation active held : ℕ) → result.status ≡ Status.Full operation active held
         → OfRun words.now (S.left source.old) (λ run ops. active + held ≡ run.buffers) }
 
@@ -288,16 +287,16 @@ pub fn attr_main<R: Threads + Sync, S: Source, K: Sink, G: Gate + Sync + 'static
     ensures help { ComesExactly (AskForHelp words.now) Status.Help result.status }
     ensures usage { (cause : UsageCause) → ComesExactly (IsRefusedFor words.now cause) (Status.Usage cause) result.status }
     ensures unread { ¬ ReadsFeed (asked words.now) → source.new ≡ source.old }
-    // The command finds one fault in the words at most, so that what is said of them is one thing.
+    // The command finds at most one fault in the words, so there is only one answer to them.
     ensures one_kind { length (fault_of attr_app words.now) ≤ 1 }
 
-    // The feed, which is not read where operations are made. The source is read on only while at most
-    // so many bytes were read, and each read but the last took a byte.
+    // The feed, which is not read if operations are made. Each read is made only if at most `most_bytes` bytes were
+    // read before it, and each read but the last took at least one byte.
     ensures reads { ReadsPieces most_bytes 65536
         (S.left source.old) (S.left source.new) (S.reads source.old) (S.reads source.new) }
     ensures read_fault { result.status ≡ Status.ReadFault
         → ReadsFeed (asked words.now) × Rose (S.faults source.old) (S.faults source.new) }
-    // A read that failed is answered.
+    // A failed read is reported.
     ensures read_answered { (S.faults source.new ≡ S.faults source.old) ⊎ ((result.status ≡ Status.ReadFault)
         ⊎ ((result.status ≡ Status.WriteFault) ⊎ (result.status ≡ Status.Memory))) }
     ensures bad_feed { (fault : FeedFault) → result.status ≡ Status.BadFeed fault
@@ -311,13 +310,13 @@ pub fn attr_main<R: Threads + Sync, S: Source, K: Sink, G: Gate + Sync + 'static
         IfSome (S.left source.old) (λ bytes.
         ComesExactlyOfFeed (task_of words.now bytes ≡ Err cause) cause result.status) }
 
-    // What is written and left at an answer before any run, and where the sink or memory fails.
+    // What is written and what is left for an answer before any run, and if the sink or memory fails.
     ensures text { IsBeforeRun result.status → Appends (K.taken sink.old) (K.taken sink.new)
         (answer_text result.status) }
     ensures no_run { IsBeforeRun result.status → HasNoRun (progress_of result) }
     ensures write_fault { result.status ≡ Status.WriteFault
         → Rose (K.faults sink.old) (K.faults sink.new) }
-    // A write that failed is answered.
+    // A failed write is reported.
     ensures write_answered { (K.faults sink.new ≡ K.faults sink.old) ⊎ (result.status ≡ Status.WriteFault) }
     ensures front { result.status ≡ Status.WriteFault → WritesFront words.now (S.left source.old)
         (S.faults source.old) (S.faults source.new) (progress_of result)
@@ -326,8 +325,8 @@ pub fn attr_main<R: Threads + Sync, S: Source, K: Sink, G: Gate + Sync + 'static
         Keeps (K.taken sink.old) (K.taken sink.new) × HasNoRun (progress_of result) }
     ensures proper { IsProper result.status }
 
-    // Where the words ask for a run and nothing fails, the run is done or finds no room, or its feed is refused (`bad_feed`
-    // says when), or it is out of memory.
+    // If the words request a run and nothing fails, the run is done or out of space, or its feed is refused
+    // (`bad_feed` says when), or memory is exhausted.
     ensures complete { IsOk (asked words.now)
         → ¬ Rose (S.faults source.old) (S.faults source.new)
         → ¬ Rose (K.faults sink.old) (K.faults sink.new)

@@ -7,7 +7,7 @@ use attr_words::WordsError;
 use feed_reader::FeedError;
 use std::alloc::{AllocError, AllocFailed};
 
-/// Why a call has no report to write: another answer, or want of memory.
+/// Why a call has no report to write: another answer, or exhausted memory.
 #[derive(Debug, Drop)]
 pub enum Stop {
     Answer(Status),
@@ -21,7 +21,7 @@ impl Stop {
         Stop::Answer(Status::Usage(cause))
     }
 
-    /// The stop for words that give no settings.
+    /// Returns the stop for words that give no settings.
     pub fn of_words(error: WordsError) -> Stop
         ensures { result ≡ words_stop error }
     {

@@ -94,7 +94,7 @@ fn feed_text(alloc: Global, fault: &FeedFault) -> Result<String, AllocError>
     }
 }
 
-/// The text of an answer that has one of its own.
+/// Returns the text of an answer that has a text of its own.
 #[tactic(auto, unfolding(crate::specs::Texts::answer_text))]
 pub fn text_in(alloc: Global, status: &Status) -> Result<String, AllocError>
     ensures { IfOk result (λ text. string_bytes text ≡ answer_text status.now) }

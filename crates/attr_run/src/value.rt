@@ -45,7 +45,7 @@ fn one(alloc: Global, value: Value, weight: i32) -> Result<Items, AllocError>
     Items::of_one(alloc, Item { value, weight })
 }
 
-/// The items of a put, or those that an update gives: in a weighted set the first draw is the weight.
+/// Returns the items of a put, or those of an update; in a weighted set the first draw is the weight.
 pub fn items_by(alloc: Global, field: &Field, a: u32, b: u32) -> Result<Items, AllocError>
     requires { a < 65536 }
     ensures { IfOk result (λ items. items ≡ items_by field.now.kind field.now.value a b) }
@@ -59,7 +59,7 @@ pub fn items_by(alloc: Global, field: &Field, a: u32, b: u32) -> Result<Items, A
     }
 }
 
-/// What an update does with items: it assigns a single one, and adds to the others.
+/// Returns the change of an update with items: a single one is assigned, others are added.
 pub fn change_by(kind: Kind, items: Items) -> Change
     ensures { result ≡ change_of_kind kind items }
 {

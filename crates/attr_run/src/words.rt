@@ -7,7 +7,7 @@ use std::io::ErrorKind;
 use std::marker::Model;
 use std::rt::Env;
 
-/// The words of a command line after the program's name, seen as a list of texts of any length.
+/// The words of a command line after the program's name. Contracts see a list of texts of any length.
 #[derive(Debug, Drop)]
 pub struct Words {
     alloc: Global,
@@ -40,8 +40,8 @@ impl Words {
         Ok(())
     }
 
-    /// The words of the running program, after its name, each of which is UTF-8. Where one of them is not the answer is
-    /// the list of no words, which the command refuses.
+    /// Returns the arguments of the running program, after its name. If any argument is not UTF-8, returns an empty
+    /// list, which the command refuses.
     pub fn of_program<R: Env + AllocGlobal>(rt: &R) -> Result<Words, AllocError>
         ensures utf8 { IfOk result (λ words. AllByRecursion IsUtf8 words) }
     {

@@ -182,17 +182,17 @@ documents_chain kind type before (document ∷ documents) above ascends numbers 
   documents_chain kind type document.doc documents ascends.0 ascends.1 numbers.1 fit.1 stored.1,
 )
 
-above_none : (docs : List ℕ) → AllByRecursion IsDocNumber docs → AllByRecursion (λ doc. nat_cmp 0 doc ≡ Less) docs
-above_none [] numbers = tt
-above_none (doc ∷ docs) numbers = let some : 0 < doc = omega (arith, numbers.0.0) in (sym (nat_cmp_is 0 doc Less some), above_none docs numbers.1)
+pub none_above : (docs : List ℕ) → AllByRecursion IsDocNumber docs → AllByRecursion (λ doc. nat_cmp 0 doc ≡ Less) docs
+none_above [] numbers = tt
+none_above (doc ∷ docs) numbers = let some : 0 < doc = omega (arith, numbers.0.0) in (sym (nat_cmp_is 0 doc Less some), none_above docs numbers.1)
 
 pub column_chain : (kind : Kind) (type : ValueType) (documents : List SavedDocument) → AreLawfulDocuments kind type documents
     → AllByRecursion StoresItems documents → DocumentChain kind type 0 documents
 column_chain kind type documents lawful stored =
-    documents_chain kind type 0 documents (above_none (docs_of documents) lawful.numbers) lawful.ascends lawful.numbers lawful.items stored
+    documents_chain kind type 0 documents (none_above (docs_of documents) lawful.numbers) lawful.ascends lawful.numbers lawful.items stored
 
 -- there are no more documents than numbers
-docs_few : (before : ℕ) (docs : List ℕ) → before ≤ last_doc → AllByRecursion (λ doc. nat_cmp before doc ≡ Less) docs → IsStrictlySortedBy nat_cmp docs
+pub docs_few : (before : ℕ) (docs : List ℕ) → before ≤ last_doc → AllByRecursion (λ doc. nat_cmp before doc ≡ Less) docs → IsStrictlySortedBy nat_cmp docs
     → AllByRecursion IsDocNumber docs → length docs + before ≤ last_doc
 unfolding IsStrictlySortedBy
 docs_few before [] le above ascends numbers = omega (arith, le)
@@ -202,7 +202,7 @@ docs_few before (doc ∷ docs) le above ascends numbers =
 
 pub column_few : (kind : Kind) (type : ValueType) (documents : List SavedDocument) → AreLawfulDocuments kind type documents → length documents ≤ last_doc
 column_few kind type documents lawful =
-    omega (arith, docs_few 0 (docs_of documents) (omega arith) (above_none (docs_of documents) lawful.numbers) lawful.ascends lawful.numbers, length-map documents (λ (d : SavedDocument). d.doc))
+    omega (arith, docs_few 0 (docs_of documents) (omega arith) (none_above (docs_of documents) lawful.numbers) lawful.ascends lawful.numbers, length-map documents (λ (d : SavedDocument). d.doc))
 
 -- each has so few items
 pub items_few : (kind : Kind) (type : ValueType) (documents : List SavedDocument) → AllByRecursion (HasItemsThatFit kind type) documents

@@ -1,8 +1,11 @@
 pub mod ColumnLemmas
 pub mod Columns
 pub mod FieldLemmas
+pub mod ImageLemmas
 pub mod Loops
 pub mod Rows
 pub mod SaveLemmas
 pub mod SavingLemmas
+pub mod StoredLemmas
 pub mod Wholes
+pub mod WriteLemmas

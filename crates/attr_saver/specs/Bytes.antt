@@ -25,16 +25,16 @@ abbrev pub type_byte : ValueType → ℕ
 type_byte types.Long = 0
 type_byte types.Text = 1
 
--- what a save is of
+-- the kind and value type of a save
 unfoldable pub form_bytes : Kind → ValueType → List ℕ
 form_bytes kind type = magic ++ kind_byte kind ∷ type_byte type ∷ []
 
--- the fields in front of the documents: how many operations made the table, and how many documents it has
+-- the fields before the documents: the number of operations that made the table, and its number of documents
 unfoldable pub head_bytes : Kind → ValueType → ℕ → ℕ → List ℕ
 head_bytes kind type operations documents =
     form_bytes kind type ++ to_be_bytes w32 operations ++ to_be_bytes w32 documents
 
--- a text: its length, and then its bytes
+-- a text: its length, followed by its bytes
 abbrev pub text_bytes : List ℕ → List ℕ
 text_bytes text = to_be_bytes w16 (length text) ++ text
 
@@ -52,7 +52,7 @@ weight_bytes WeightedSet weight = to_be_bytes w32 (cast_unsigned w32 weight)
 abbrev pub item_bytes : Kind → Item → List ℕ
 item_bytes kind item = value_bytes item.value ++ weight_bytes kind item.weight
 
--- a document: its number, how many items it has, and these
+-- a document: its number, its number of items, and the items
 abbrev pub document_bytes : Kind → SavedDocument → List ℕ
 document_bytes kind document =
     to_be_bytes w32 document.doc ++ to_be_bytes w16 (length document.items) ++ flat_map (item_bytes kind) document.items

@@ -1,5 +1,5 @@
--- A save read field by field, each with its rule. A reader gives the field's value and the bytes after it. The first
--- field that breaks its rule, or ends past the input, is told by how many bytes are left where it begins.
+-- A save read field by field, each with its rule. A reader returns the field's value and the bytes after it. The
+-- first field that breaks its rule, or ends past the input, is reported by the number of bytes left where it begins.
 use Rattle.std.specs.Prelude.{ℕ, ℤ, zero, suc, pos, ◌-◌, ◌&&◌, Bool, true, nat_lt, nat_le, nat_eq, if◌then◌else◌}
 use Rattle.std.specs.Prelude.{List, [], ◌∷◌, length, take, drop, slice_get, Option, Some, None, option_map, Result, Ok, Err}
 use Rattle.std.specs.Int.{Width, w8, w16, w32, w64, byte_len, from_be_bytes, cast_signed}
@@ -20,11 +20,11 @@ use Rattle.attr_saver.specs.Bytes.{magic}
 use Rattle.attr_saver.specs.declared.saved.Saved.{Saved}
 use Rattle.attr_saver.specs.declared.saved.SavedDocument.{SavedDocument}
 
--- a value and the bytes after it, or how many bytes are left where the first bad field begins
+-- a value and the bytes after it, or the number of bytes left where the first bad field begins
 abbrev pub Read : Type 0 → Type 0
 Read A = Result (A × List ℕ) ℕ
 
--- the next field, where none so far was bad
+-- the next field, if no field was bad so far
 infixl 10 ◌>>=◌
 abbrev pub ◌>>=◌ : {A B : Type 0} → Result A ℕ → (A → Result B ℕ) → Result B ℕ
 (Ok a) >>= next = next a
@@ -42,7 +42,7 @@ read_number w bytes =
     if nat_lt (length bytes) (byte_len w) then bad bytes
     else Ok (from_be_bytes w (take (byte_len w) bytes), drop (byte_len w) bytes)
 
--- so many things in a row, each read with what the one before it leaves
+-- a number of things in a row, each read after the previous one
 unfoldable pub read_row : {A S : Type 0} → (S → List ℕ → Read A) → (A → S) → ℕ → S → List ℕ → Read (List A)
 read_row read left zero before bytes = Ok ([], bytes)
 read_row read left (suc count) before bytes = do
@@ -50,12 +50,12 @@ read_row read left (suc count) before bytes = do
   others ← read_row read left count (left first.0) first.1
   Ok (first.0 ∷ others.0, others.1)
 
--- ---- the fields in front of the documents
+-- ---- the fields before the documents
 
 abbrev pub read_magic : List ℕ → Result (List ℕ) ℕ
 read_magic bytes = if starts_with nat_eq bytes magic then Ok (drop 4 bytes) else bad bytes
 
--- a value that a byte stands for, and the bytes after it
+-- the value of a byte, and the bytes after it
 abbrev pub or_bad : {A : Type 0} → List ℕ → Option A → List ℕ → Read A
 or_bad bytes (Some a) rest = Ok (a, rest)
 or_bad bytes None rest = bad bytes
@@ -81,7 +81,7 @@ read_type bytes = do
   byte ← read_number w8 bytes
   or_bad bytes (type_by_byte byte.0) byte.1
 
--- how many documents: no more than there are numbers
+-- the number of documents, at most the number of document numbers
 unfoldable pub read_count : List ℕ → Read ℕ
 read_count bytes = do
   count ← read_number w32 bytes
@@ -89,14 +89,14 @@ read_count bytes = do
 
 -- ---- the fields of an item
 
--- whether a value may stand behind another: in a weighted set values ascend
+-- whether a value may follow another: in a weighted set values ascend
 abbrev pub may_follow : Kind → Option Value → Value → Bool
 may_follow Single before value = true
 may_follow Array before value = true
 may_follow WeightedSet None value = true
 may_follow WeightedSet (Some before) value = is_lt (value_cmp before value)
 
--- a value as read, if it may stand behind another; so many bytes are left where its field begins
+-- a value as read, if it may follow another; `left` bytes are left where its field begins
 abbrev pub following : Kind → Option Value → ℕ → Value → Result Value ℕ
 following kind before left value = if may_follow kind before value then Ok value else Err left
 
@@ -128,7 +128,7 @@ read_value kind types.Text before bytes = do
   value ← following kind before (length len.1) read.0
   Ok (value, read.1)
 
--- only a weighted set has a field of the weight, in two's complement
+-- only a weighted set has a field for the weight, in two's complement
 unfoldable pub read_weight : Kind → List ℕ → Read ℤ
 read_weight Single bytes = Ok (pos 1, bytes)
 read_weight Array bytes = Ok (pos 1, bytes)
@@ -151,7 +151,7 @@ last_value items = option_map (λ item. item.value) (slice_get items (length ite
 
 -- ---- the fields of a document
 
--- its number: above the one before
+-- its number, which is above the previous one
 unfoldable pub read_doc : ℕ → List ℕ → Read ℕ
 read_doc before bytes = do
   doc ← read_number w32 bytes
@@ -162,7 +162,7 @@ most_by_kind Single = 1
 most_by_kind Array = most_in_a_list
 most_by_kind WeightedSet = most_in_a_list
 
--- how many items it has
+-- its number of items
 unfoldable pub read_item_count : Kind → List ℕ → Read ℕ
 read_item_count kind bytes = do
   count ← read_number w16 bytes
@@ -180,7 +180,7 @@ read_documents kind type count before = read_row (read_document kind type) (λ d
 
 -- ---- all fields
 
--- behind them nothing follows
+-- after the fields nothing follows
 unfoldable pub read_fields : List ℕ → Result Saved ℕ
 read_fields bytes = do
   start ← read_magic bytes
@@ -193,11 +193,11 @@ read_fields bytes = do
       then Ok (record { kind = kind.0; value = type.0; operations = operations.0; table = documents.0 })
       else bad documents.1
 
--- how many bytes come before the last so many, of bytes of this number
+-- the offset of the place with this many bytes left, in bytes of this length
 abbrev pub with_offset : {A : Type 0} → ℕ → Result A ℕ → Result A ℕ
 with_offset len (Ok a) = Ok a
 with_offset len (Err left) = Err (len - left)
 
--- what bytes tell, or the offset of the first bad field
+-- the content of bytes, or the offset of the first bad field
 unfoldable pub read_of : List ℕ → Result Saved ℕ
 read_of bytes = with_offset (length bytes) (read_fields bytes)

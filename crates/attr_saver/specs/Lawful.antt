@@ -1,4 +1,4 @@
--- What may be saved: a table's first attribute, and the saves that there are.
+-- What may be saved: the first attribute of a table, and the lawful saves.
 use Rattle.std.specs.Prelude.{ℕ, ◌^◌, ◌<◌, ◌≤◌, FitsSigned, List, length, map}
 use Rattle.std.specs.Int.{w32, w64}
 use Rattle.std.specs.List.{AllByRecursion}
@@ -28,7 +28,7 @@ save_of kind type operations table =
 abbrev pub docs_of : List SavedDocument → List ℕ
 docs_of column = map (λ d. d.doc) column
 
--- documents ascend, each with items that its kind and value type allow
+-- documents ascend, each with items that their kind and value type allow
 pub record AreLawfulDocuments (kind : Kind) (type : ValueType) (column : List SavedDocument) : Type 0 where
   pub ascends : IsStrictlySortedBy nat_cmp (docs_of column)
   pub numbers : AllByRecursion IsDocNumber (docs_of column)
@@ -38,7 +38,7 @@ pub record IsStorableText (text : List ℕ) : Type 0 where
   pub utf8 : IsUtf8 text
   pub short : length text ≤ 1024
 
--- numbers have the widths of their fields, texts are short and UTF-8
+-- numbers have the widths of their fields, texts are short and in UTF-8
 abbrev pub IsStorableValue : Value → Type 0
 IsStorableValue (values.Long number) = FitsSigned w64 number
 IsStorableValue (values.Text text) = IsStorableText text
@@ -47,7 +47,7 @@ pub record IsStorable (item : Item) : Type 0 where
   pub value : IsStorableValue item.value
   pub weight : FitsSigned w32 item.weight
 
--- what a save may tell
+-- a save that is lawful
 pub record IsLawfulSaved (saved : Saved) : Type 0 where
   pub operations : saved.operations < 2 ^ 32
   pub column : AreLawfulDocuments saved.kind saved.value saved.table

@@ -1,4 +1,4 @@
--- What the bytes of a save and their grammar have to do with each other.
+-- How the bytes of a save and their grammar are related.
 use Rattle.std.specs.Prelude.{ℕ, ◌≡◌, ◌<◌, List, ◌∷◌, Ok, slice_index}
 use Rattle.attr_types.specs.Lawful.{IsLawfulTable, DocumentsHaveType}
 use Rattle.attr_types.specs.Table.{Table}
@@ -8,7 +8,7 @@ use Rattle.attr_saver.specs.Fields.{read_of}
 use Rattle.attr_saver.specs.Lawful.{AreLawfulDocuments, IsLawfulSaved, first_column}
 use Rattle.attr_saver.specs.declared.saved.Saved.{Saved}
 
--- what was saved is read again
+-- what was saved can be read again
 abbrev pub ReadAgain : Type 0
 ReadAgain = (saved : Saved) → IsLawfulSaved saved → read_of (saved_bytes saved) ≡ Ok saved
 
@@ -20,12 +20,12 @@ abbrev pub ReadsSaves : Type 0
 ReadsSaves = (bytes : List ℕ) (saved : Saved) → AreBytes bytes → read_of bytes ≡ Ok saved
     → IsLawfulSaved saved × (bytes ≡ saved_bytes saved)
 
--- two saves with the same bytes are one
+-- two saves with the same bytes are equal
 abbrev pub SavesDiffer : Type 0
 SavesDiffer = (one other : Saved) → IsLawfulSaved one → IsLawfulSaved other
     → saved_bytes one ≡ saved_bytes other → one ≡ other
 
--- the first attribute of a lawful table with values of its attributes' types may be saved
+-- the first attribute of a lawful table whose values have the types of its attributes may be saved
 abbrev pub FirstColumnIsLawful : Type 0
 FirstColumnIsLawful = (field : Field) (fields : List Field) (table : Table)
     → IsLawfulTable (field ∷ fields) table → DocumentsHaveType (field ∷ fields) table

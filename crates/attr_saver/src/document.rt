@@ -1,4 +1,4 @@
-//! The fields of documents, and all fields.
+//! Reading the fields of a document, and all fields of a save.
 ghost use Rattle.std.specs.Prelude.{◌≡◌, ◌≤◌, IfOk};
 ghost use Rattle.attr_saver.specs.Answers.{Gives};
 ghost use Rattle.attr_saver.specs.Fields.{kind_of, read_kind, type_by_byte, read_type, read_count};
@@ -56,7 +56,7 @@ fn read_type(reader: &mut Reader) -> Result<ValueType, Broken>
     }
 }
 
-/// How many documents follow.
+/// Reads the number of documents that follow.
 #[tactic(auto, unfolding(crate::specs::Fields::read_count))]
 fn read_count(reader: &mut Reader) -> Result<u32, Broken>
     ensures { Gives (λ x. (x, reader.new)) result (read_count reader.old) }
@@ -69,7 +69,7 @@ fn read_count(reader: &mut Reader) -> Result<u32, Broken>
     Ok(count)
 }
 
-/// The number of a document that comes after the one with number `before`.
+/// Reads the number of a document, which must be above `before`.
 #[tactic(auto, unfolding(crate::specs::Fields::read_doc))]
 fn read_doc(reader: &mut Reader, before: u32) -> Result<Doc, Broken>
     ensures { Gives (λ x. (x, reader.new)) result (read_doc before reader.old) }
@@ -91,7 +91,7 @@ fn most_items(kind: Kind) -> u16
     }
 }
 
-/// How many items of a document follow.
+/// Reads the number of items of a document.
 #[tactic(auto, unfolding(crate::specs::Fields::read_item_count))]
 fn read_item_count(reader: &mut Reader, kind: Kind) -> Result<u16, Broken>
     ensures { Gives (λ x. (x, reader.new)) result (read_item_count kind reader.old) }
@@ -104,7 +104,7 @@ fn read_item_count(reader: &mut Reader, kind: Kind) -> Result<u16, Broken>
     Ok(count)
 }
 
-/// A document that comes after the one with number `before`.
+/// Reads a document, whose number must be above `before`.
 #[tactic(auto, unfolding(crate::specs::Fields::read_document))]
 fn read_document(
     alloc: Global,
@@ -140,7 +140,7 @@ fn read_documents(
     Ok(SavedTable::from_vec(documents))
 }
 
-/// What bytes tell, all of the bytes.
+/// Reads all of the bytes as a save.
 #[tactic(auto, unfolding(crate::specs::Fields::read_fields))]
 pub(crate) fn saved_in_bytes(alloc: Global, bytes: &[u8]) -> Result<Saved, Broken>
     ensures { Gives (λ x. x) result (read_fields bytes.now) }

@@ -7,10 +7,10 @@ use attr_io::{Failed, ReadError};
 use std::alloc::{AllocError, AllocFailed};
 use thiserror::Error;
 
-/// Why bytes are not read as a save.
+/// Why bytes are not a save.
 #[derive(Clone, Copy, Debug, PartialEq, Eq)]
 pub enum Broken {
-    /// The first bad field begins where so many bytes are left.
+    /// The first bad field begins where this many bytes are left.
     Field { left: usize },
     Memory,
 }
@@ -31,11 +31,11 @@ impl<T: Drop> From<AllocFailed<T>> for Broken {
     }
 }
 
-/// Why a save is not read.
+/// Why a save was not read.
 #[derive(Clone, Copy, Debug, PartialEq, Eq, Error)]
 pub enum LoadError {
-    /// The first field that breaks its rule, or ends past the input, begins at this offset; or all fields are good,
-    /// and at this offset the first byte too many stands.
+    /// At this offset begins the first field that breaks its rule or ends past the input; or all fields are good, and
+    /// the first superfluous byte is at this offset.
     #[error("no save: the field at {place}")]
     BadForm { place: u64 },
     #[error("a read failed")]
@@ -57,13 +57,11 @@ impl From<ReadError> for LoadError {
     }
 }
 
-/// Why a save is not written whole.
+/// Why a save was not written completely.
 #[derive(Clone, Copy, Debug, PartialEq, Eq, Error)]
 pub enum SaveError {
     #[error("a write failed")]
     WriteFault,
-    #[error("out of memory")]
-    Memory,
 }
 
 impl From<Failed> for SaveError {
@@ -71,13 +69,5 @@ impl From<Failed> for SaveError {
 
     fn from(_failed: Failed) -> SaveError {
         SaveError::WriteFault
-    }
-}
-
-impl From<AllocError> for SaveError {
-    ghost from_gives = { λ _ e. e ≡ saving.Memory };
-
-    fn from(_e: AllocError) -> SaveError {
-        SaveError::Memory
     }
 }

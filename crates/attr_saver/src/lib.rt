@@ -1,20 +1,24 @@
-//! Saves the first attribute of a table as bytes, and reads such bytes again.
+//! Saves the first attribute of an image or of a table as bytes, and reads such bytes.
 #![tactic(auto)]
 
 mod document;
 mod error;
+mod images;
 mod laws;
 mod loading;
 mod reader;
 mod saved;
 mod saving;
 mod sizing;
+mod stored_documents;
+mod stored_items;
+mod stored_values;
 mod value;
 mod writing;
 
 pub use error::{LoadError, SaveError};
-pub use laws::{column_law, saved_law};
+pub use images::{save, saved_size};
+pub use laws::{column_law, image_save_law, saved_law};
 pub use loading::read_saved;
 pub use saved::{Saved, SavedDocument, SavedTable};
-pub use saving::{save, saved_in};
-pub use sizing::saved_size;
+pub use saving::saved_in;

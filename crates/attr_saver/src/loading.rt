@@ -12,7 +12,7 @@ use crate::saved::Saved;
 use attr_io::{Source, read_all};
 use std::alloc::Global;
 
-/// What bytes tell, or the place of the first bad field.
+/// Reads all of the bytes as a save, or returns the place of the first bad field.
 fn saved_or_refused(alloc: Global, bytes: &[u8]) -> Result<Saved, LoadError>
     ensures form { ReadsAs result (read_of bytes.now) }
     ensures lawful { IfOk result IsLawfulSaved }
@@ -28,11 +28,11 @@ fn saved_or_refused(alloc: Global, bytes: &[u8]) -> Result<Saved, LoadError>
     }
 }
 
-/// Reads a source to its end, and what its bytes tell as a save.
+/// Reads a source to its end, and interprets its bytes as a save.
 pub fn read_saved<S: Source>(alloc: Global, source: &mut S) -> Result<Saved, LoadError>
-    // What is read, or the first bad field, is what the grammar says of all the bytes that the source had.
+    // The save, or the first bad field, is what the grammar says of all the bytes of the source.
     ensures form { IfSome (S.left source.old) (λ bytes. ReadsAs result (read_of bytes)) }
-    // What is read is lawful, and exactly its bytes were there.
+    // What is read is lawful, and the source had exactly its bytes.
     ensures lawful { IfOk result IsLawfulSaved }
     ensures bytes { IfOk result (λ saved.
         Consumes (S.left source.old) (S.left source.new) (saved_bytes saved)) }

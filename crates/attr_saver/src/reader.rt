@@ -6,10 +6,10 @@ ghost use Rattle.attr_saver.specs.Fields.{read_number, read_bytes, read_magic};
 use crate::error::Broken;
 use std::marker::Model;
 
-/// What a save begins with.
+/// The first bytes of a save.
 pub(crate) const MAGIC: &[u8; 4] = b"ATS1";
 
-/// Bytes that are read from the front. A clause sees those that are left.
+/// Bytes that are read from the front. Contracts see those that are left.
 #[derive(Drop)]
 pub(crate) struct Reader<'a> {
     rest: &'a [u8],
@@ -30,7 +30,7 @@ impl<'a> Reader<'a> {
         Reader { rest: bytes }
     }
 
-    /// How many bytes are left.
+    /// Returns the number of bytes left.
     pub(crate) fn left(&self) -> usize
         ensures { result ≡ length self.now }
     {
@@ -80,7 +80,7 @@ impl<'a> Reader<'a> {
         ]))
     }
 
-    /// Goes over what a save begins with.
+    /// Skips the first bytes of a save.
     pub(crate) fn magic(&mut self) -> Result<(), Broken>
         ensures { Gives (λ _. self.new) result (read_magic self.old) }
     {

@@ -1,21 +1,21 @@
 use attr_types::{Doc, Items, Kind, ListOf, ValueType};
 
-/// A document with its items in the attribute that was saved.
+/// A document with its items in the saved attribute.
 #[derive(Debug, Drop)]
 pub struct SavedDocument {
     pub doc: Doc,
     pub items: Items,
 }
 
-/// Documents, ascending.
+/// Documents in ascending order.
 pub type SavedTable = ListOf<SavedDocument>;
 
-/// What a save tells.
+/// The content of a save.
 #[derive(Debug, Drop)]
 pub struct Saved {
     pub kind: Kind,
     pub value: ValueType,
-    /// How many operations made the table.
+    /// The number of operations that made the table.
     pub operations: u32,
     pub table: SavedTable,
 }

@@ -1,4 +1,4 @@
-//! How long a save is.
+//! The size of a save.
 ghost use Rattle.std.specs.Prelude.{◌≡◌, ◌<◌, ◌≤◌, ◌^◌, ℕ, ℤ, length};
 ghost use Rattle.std.specs.List.{flat_map, AllByRecursion};
 ghost use Rattle.attr_saver.specs.Bytes.{value_bytes, weight_bytes, item_bytes, document_bytes, saved_bytes};
@@ -8,10 +8,10 @@ use crate::writing::first_items;
 use attr_types::{Doc, FieldItems, Item, Kind, Value, ValueType};
 use std::collections::BTreeMap;
 
-/// The bytes in front of the documents.
-const HEAD: usize = 14;
+/// The number of bytes before the documents.
+pub(crate) const HEAD: usize = 14;
 
-/// The bytes of a document in front of its items.
+/// The number of bytes of a document before its items.
 const DOCUMENT_HEAD: usize = 6;
 
 fn value_size(value: &Value) -> usize
@@ -67,8 +67,12 @@ fn documents_size(kind: Kind, documents: &BTreeMap<Doc, FieldItems>) -> usize
     size
 }
 
-/// How many bytes a save of the first attribute, of this kind and value type, has.
-pub fn saved_size(kind: Kind, value: ValueType, documents: &BTreeMap<Doc, FieldItems>) -> usize
+/// Returns the number of bytes of a save of the first attribute, of this kind and value type.
+pub(crate) fn table_size(
+    kind: Kind,
+    value: ValueType,
+    documents: &BTreeMap<Doc, FieldItems>,
+) -> usize
     requires { AreLawfulDocuments kind value (first_column documents.now.entries) }
     ensures { (operations : ℕ) → result
         ≡ length (saved_bytes (save_of kind value operations documents.now.entries)) }

@@ -1,4 +1,4 @@
-//! The fields of an item.
+//! Reading the fields of an item.
 ghost use Rattle.std.specs.Prelude.{◌≡◌, ◌≤◌, IfOk, None};
 ghost use Rattle.attr_saver.specs.Answers.{Gives};
 ghost use Rattle.attr_saver.specs.Fields.{read_long, read_text_len, read_text, last_value, may_follow};
@@ -44,7 +44,7 @@ fn read_text(alloc: Global, reader: &mut Reader, len: usize) -> Result<Value, Br
     }
 }
 
-/// Whether a value may stand behind items: in a weighted set it is above the last.
+/// Returns whether a value may follow items: in a weighted set it must be above the last.
 fn may_follow(kind: Kind, items: &[Item], value: &Value) -> bool
     ensures { result ≡ may_follow kind (last_value items.now) value.now }
 {
@@ -57,7 +57,7 @@ fn may_follow(kind: Kind, items: &[Item], value: &Value) -> bool
     }
 }
 
-/// The value of an item that stands behind others.
+/// Reads the value of an item that follows others.
 #[tactic(auto, unfolding(crate::specs::Fields::read_value))]
 fn read_value(
     alloc: Global,
@@ -84,7 +84,7 @@ fn read_value(
     }
 }
 
-/// A value, if it may stand behind items. So many bytes are left where its field begins.
+/// Returns a value if it may follow items. `left` bytes are left where its field begins.
 fn following(kind: Kind, items: &[Item], value: Value, left: usize) -> Result<Value, Broken>
     ensures { Gives (λ x. x) result (following kind (last_value items.now) left value) }
 {
@@ -107,7 +107,7 @@ fn read_weight(reader: &mut Reader, kind: Kind) -> Result<i32, Broken>
     }
 }
 
-/// An item that stands behind others.
+/// Reads an item that follows others.
 #[tactic(auto, unfolding(crate::specs::Fields::read_item))]
 fn read_item(
     alloc: Global,
@@ -124,7 +124,7 @@ fn read_item(
     Ok(Item { value, weight })
 }
 
-/// The items of a document.
+/// Reads the items of a document.
 pub(crate) fn read_items(
     alloc: Global,
     reader: &mut Reader,

@@ -1,4 +1,4 @@
-//! The bytes of fields, written at the end of others.
+//! Writing the bytes of fields after others.
 ghost use Rattle.std.specs.Prelude.{◌≡◌, ◌≤◌, ◌++◌, length, OnOk};
 ghost use Rattle.std.specs.Int.{w32, to_be_bytes};
 ghost use Rattle.std.specs.List.{flat_map, AllByRecursion};
@@ -12,7 +12,7 @@ use attr_types::{Doc, FieldItems, Item, Kind, Text, Value, ValueType};
 use std::alloc::AllocError;
 use std::collections::BTreeMap;
 
-fn kind_byte(kind: Kind) -> u8
+pub(crate) fn kind_byte(kind: Kind) -> u8
     ensures { result ≡ kind_byte kind }
 {
     match kind {
@@ -22,7 +22,7 @@ fn kind_byte(kind: Kind) -> u8
     }
 }
 
-fn type_byte(value_type: ValueType) -> u8
+pub(crate) fn type_byte(value_type: ValueType) -> u8
     ensures { result ≡ type_byte value_type }
 {
     match value_type {
@@ -47,7 +47,7 @@ fn push_form(out: &mut Vec<u8>, kind: Kind, value_type: ValueType) -> Result<(),
     Ok(())
 }
 
-/// The fields in front of the documents.
+/// Writes the fields before the documents.
 #[tactic(auto, unfolding(crate::specs::Bytes::head_bytes))]
 pub(crate) fn push_head(
     out: &mut Vec<u8>,
@@ -117,7 +117,7 @@ fn push_items(out: &mut Vec<u8>, kind: Kind, items: &[Item]) -> Result<(), Alloc
     Ok(())
 }
 
-/// The items of a document in its first attribute.
+/// Returns the items of a document in its first attribute.
 pub(crate) fn first_items(document: &FieldItems) -> &[Item]
     ensures { result.now ≡ items_in document.now 0 }
 {
@@ -139,7 +139,7 @@ fn push_document(out: &mut Vec<u8>, kind: Kind, doc: Doc, items: &[Item]) -> Res
     push_items(out, kind, items)
 }
 
-/// The documents of a table, each with its items in the first attribute.
+/// Writes the documents of a table, each with its items in the first attribute.
 pub(crate) fn push_documents(
     out: &mut Vec<u8>,
     kind: Kind,

@@ -1,4 +1,4 @@
--- What a unit leaves of the store, and why one was refused.
+-- What a unit preserves of the store, and why a unit is refused.
 use Rattle.std.specs.Prelude.{◌≡◌, ℕ, ◌+◌, ◌*◌, ◌<◌, ◌≤◌, true, false, length}
 use Rattle.entry_ref.specs.Records.{Records}
 use Rattle.arena_api.specs.Generations.{current}
@@ -23,7 +23,8 @@ pub record KeepsStore {H : Type 0} (old new : Ledger H) : Type 0 where
   pub sealed : new.sealed ≡ old.sealed
   pub finished : new.finished ≡ old.finished
 
--- each entry is what it was, but that one taken or given back since is free; and so is each record
+-- each entry has the same status as before, except that one taken or given back since then is free; and each record
+-- is the same
 pub record LeavesEntries {H : Type 0} (old new : Ledger H) (m n : Records) : Type 0 where
   pub status : (r : ℕ) → IsSameBack (old.status r) (new.status r)
   pub records : n ≡ m
@@ -45,7 +46,7 @@ pub record IsOutOfRoom {H : Type 0} (old new : Ledger H) (width active held : �
   pub stopped : oldest.newest ≡ false → (1 < length new.work.queue) × (0 < oldest.found) × (old.work.stops < new.work.stops)
   pub found : oldest.newest ≡ false → oldest.found ≡ new.work.found
 
--- why a unit was refused: a width has no room, or memory is short
+-- why a unit was refused: there is no space for an entry of a width, or memory is exhausted
 abbrev pub RefusesUnit : {H : Type 0} → Ledger H → Ledger H → StoreError → Type 0
 RefusesUnit old new (errors.Full width active held oldest) = IsOutOfRoom old new width active held oldest
 RefusesUnit old new errors.Memory = Unit {0}

@@ -1,4 +1,5 @@
--- What a commit makes of attributes: a root record in a unit of its own, and then the commit of what it reaches.
+-- How a commit changes attributes: a root record is made in a unit of its own, and then the store commits what it
+-- reaches.
 use Rattle.std.specs.Prelude.{◌≡◌, ℕ, ◌+◌, ◌<◌, false, List, [], ◌∷◌}
 use Rattle.std.specs.List.{flat_map}
 use Rattle.entry_ref.specs.References.{buffer_of}
@@ -22,29 +23,31 @@ use Rattle.attr_steps.specs.Calls.{KeepsStore, IsOutOfRoom}
 use Rattle.attr_steps.specs.Fields.{HoldsAttributes, parts_of, root_entries}
 use Rattle.attr_steps.specs.Views.{table_at}
 
--- the roots of attributes, as the words of a root record
+-- the roots of attributes, as words of a root record
 abbrev pub roots_listed : {bits : ℕ} → List (FieldRoots bits) → List ℕ
 roots_listed roots = flat_map (λ root. root.documents ∷ root.dictionary ∷ []) roots
 
--- a root record of these words was made in place of another, which is 0 where there was none; it lies in no sealed buffer
+-- a root record with these words was made in place of another (0 if there was none); it lies in no sealed buffer
 pub record MakesRootRecord {H : Type 0} (bits : ℕ) (old new : Ledger H) (m n : Records) (words : List ℕ) (before root : ℕ) : Type 0 where
   pub some : 0 < root
   pub words_are : n root ≡ filled words
   pub unsealed : new.sealed (buffer_of bits root) ≡ false
   pub turns : Turns old new m n (entries (root_entries before) ∷ []) (entries (root_entries root) ∷ [])
 
--- why no root record was made: its width has nothing to spare, and no buffer is free nor was one before; or memory is short
+-- why no root record was made: its width has no spare entry, and no buffer is free or was free before; or memory is
+-- exhausted
 abbrev pub RefusesRoot : {H : Type 0} → Ledger H → Ledger H → StoreError → Type 0
 RefusesRoot old new (errors.Full width active held oldest) = IsOutOfRoom old new width active held oldest × ((new.of_width width).spare ≡ 0)
     × (free_count old.work.buffer old.work.sizes.buffers ≡ 0)
 RefusesRoot old new errors.Memory = Unit {0}
 
--- a full store is told for this width
+-- a full store is reported for this width
 abbrev pub IsForWidth : ℕ → StoreError → Type 0
 IsForWidth width (errors.Full other active held oldest) = other ≡ width
 IsForWidth width errors.Memory = Unit {0}
 
--- attributes were committed, after so many operations: the last image is of them, and they are all that is in use
+-- attributes were committed after this many operations: the last image represents them, and they are all that is in
+-- use
 pub record CommitsAttributes {H : Type 0} (bits : ℕ) (fields : List Field) (trees : List AttributeTrees) (operations : ℕ)
     (old new : Ledger H) (m n : Records) (root : ℕ) (answer : Stored) : Type 0 where
   pub mid : Ledger H

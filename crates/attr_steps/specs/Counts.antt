@@ -1,4 +1,4 @@
--- How many records an operation makes at most, and what a store has to spare where it refused one.
+-- Bounds on the records that an operation makes, and on the spare entries of a store that refused it.
 use Rattle.std.specs.Prelude.{ℕ, ℤ, zero, suc, ◌+◌, ◌<◌, ◌≤◌, List, [], length, slice_get, Option, option_map, unwrap_or}
 use Rattle.store_api.specs.Ledgers.{Ledger}
 use Rattle.store_api.specs.declared.store.StoreError.{StoreError}
@@ -18,7 +18,8 @@ use Rattle.attr_types.specs.declared.op.Op.{Op}
 use Rattle.attr_types.specs.declared.value.Value.{Value}
 use Rattle.value_index.specs.Counts.{by_width}
 
--- the items that a document has in the attribute of this number, none where it is not there; and their values, with first weights
+-- the items of a document in the attribute with this number, or none if it does not exist; and their values, with
+-- first weights
 abbrev pub items_if_there : Option Document → ℕ → List Item
 items_if_there document field = unwrap_or (option_map (λ d. items_in d field) document) []
 
@@ -40,29 +41,30 @@ document_records fields table doc old new zero width = 0
 document_records fields table doc old new (suc field) width = document_records fields table doc old new field width
     + change_records (kind_at fields field) (column_of field table) doc (items_if_there old field) (items_if_there new field) width
 
--- no tree of the first so many attributes gets more levels while the document becomes this one: each has so few values, and so few
--- documents
+-- no tree of the first attributes gets more levels while the document is changed to this one, by the number of values
+-- and of documents of each
 abbrev pub StayLow : ℕ → Table → Option Document → ℕ → Type 0
 StayLow levels table after count = (field : ℕ) → field < count → StaysLow levels (column_of field table) (weights_at after field)
 
--- the nodes that a document's change makes at most then
+-- a bound on the nodes that the change of a document then makes
 abbrev pub low_document : ℕ → Option Document → Option Document → ℕ → ℕ
 low_document levels old new zero = 0
 low_document levels old new (suc field) = low_document levels old new field + low_nodes levels (weights_at old field) (weights_at new field)
 
--- what a document's change in the first so many attributes makes at most: whatever their trees are, and where these have few levels
+-- bounds on what a change of a document makes in the first `count` attributes: for any trees, and for trees with few
+-- levels
 pub record MakesDocument {H : Type 0} (old new : Ledger H) (fields : List Field) (table : Table) (doc : ℕ) (before after : Option Document)
     (count : ℕ) : Type 0 where
   pub few : MakesWithin old new (by_width (document_nodes before after count) (document_records fields table doc before after count))
   pub low : (levels : ℕ) → StayLow levels table after count → MakesWithin old new
       (by_width (low_document levels before after count) (document_records fields table doc before after count))
 
--- where a store was full for a width, it has at most so many entries of it to spare as the call ends
+-- if a store was full for a width, at most this many entries of it are spare at the end of the call
 abbrev pub SparesAtMost : {H : Type 0} → Ledger H → (ℕ → ℕ) → StoreError → Type 0
 SparesAtMost new most (errors.Full width active held oldest) = (new.of_width width).spare ≤ most width
 SparesAtMost new most errors.Memory = Unit {0}
 
--- the document that an operation is about, before it and after
+-- the document that an operation changes, before it and after it
 abbrev pub document_before : Table → Op → Option Document
 document_before table op = document_at table (op_doc op)
 
@@ -76,7 +78,7 @@ abbrev pub operation_records : List Field → Table → Op → ℕ → ℕ
 operation_records fields table op =
     document_records fields table (op_doc op) (document_before table op) (document_after fields table op) (length fields)
 
--- what an operation makes at most, and what is to spare where it was refused
+-- bounds on what an operation makes, and on what is spare if it was refused
 abbrev pub MakesOperation : {H : Type 0} → Ledger H → Ledger H → List Field → Table → Op → Type 0
 MakesOperation old new fields table op =
     MakesDocument old new fields table (op_doc op) (document_before table op) (document_after fields table op) (length fields)

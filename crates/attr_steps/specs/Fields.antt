@@ -45,52 +45,54 @@ column_in m a = column_at a.kind a.type m a.documents
 abbrev pub IsFieldAt : Records → AttributeTrees → Type 0
 IsFieldAt m a = IsField a.kind a.type m a.documents a.dictionary
 
--- one or more attributes stand in the records, of the same documents
+-- one or more attributes with the same documents, in the records
 pub record AreFields (m : Records) (fields : List Field) (trees : List AttributeTrees) : Type 0 where
   pub some : 0 < length fields
   pub sized : length trees ≡ length fields
   pub each : AllByRecursion (IsFieldAt m) trees
   pub documents : HaveSameDocuments (columns_at m trees)
 
--- what the documents of each attribute refer to is a key of its index, or an old copy of one, which none of these parts own
+-- what the documents of each attribute refer to is a key of its index, or an old copy of one, which none of these
+-- parts owns
 abbrev pub AllReferBeside : {H : Type 0} → Ledger H → Records → List AttributeTrees → List Part → Type 0
 AllReferBeside ledger m trees parts = AllByRecursion (λ a. RefersBeside ledger a.kind m a.documents a.dictionary parts) trees
 
--- what attributes own is in use, and what their documents refer to
+-- what the attributes own is in use, and so is what their documents refer to
 pub record OwnsFields {H : Type 0} (ledger : Ledger H) (m : Records) (trees : List AttributeTrees) : Type 0 where
   pub owns : Owns ledger m (parts_of trees)
   pub refer : AllReferBeside ledger m trees (parts_of trees)
 
--- the documents of others refer to keys and old copies as those before them did, whatever records are owned beside them
+-- the new documents refer to keys and old copies as the old ones did, whatever records are owned beside them
 abbrev pub StillRefer : {H : Type 0} → Ledger H → Ledger H → Records → Records → List AttributeTrees → List AttributeTrees → Type 0
 StillRefer old new m n trees next = (others : List ℕ) → AllReferBeside old m trees (entries others ∷ parts_of trees)
     → AllReferBeside new n next (entries others ∷ parts_of next)
 
--- an attribute stands in place of another, of its kind and type: what it takes over of what was in use when the unit began
+-- an attribute replaces another of the same kind and type: what it keeps of the entries that were in use when the
+-- unit began
 pub record FlowsTrees {H : Type 0} (old : Ledger H) (m n : Records) (a b : AttributeTrees) : Type 0 where
   pub kind : b.kind ≡ a.kind
   pub type : b.type ≡ a.type
   pub flows : FlowsField a.kind a.type old m n a.documents a.dictionary b.documents b.dictionary
 
--- what is in use in a sealed buffer was so before
+-- what is in use in a sealed buffer was in use before
 pub record MakesUnsealed {H : Type 0} (old new : Ledger H) : Type 0 where
   pub each : (r : ℕ) → in_use (new.status r) ≡ true → old.sealed (buffer_of old.bits r) ≡ true → in_use (old.status r) ≡ true
 
--- what was in use when the unit began, and is in use, has the words that it had
+-- what was in use when the unit began, and still is, has the same words
 pub record KeepsWords {H : Type 0} (old new : Ledger H) (m n : Records) : Type 0 where
   pub each : (r : ℕ) → in_use (old.back r) ≡ true → in_use (new.status r) ≡ true → n r ≡ m r
 
--- a document that may stand in a table of these fields
+-- a document that may be in a table of these fields
 pub record FitsFields (fields : List Field) (document : Document) : Type 0 where
   pub lawful : IsLawfulDocument fields document
   pub typed : DocumentHasType fields document
 
--- a table with a document's items changed, or without the document
+-- a table after the items of a document change, or without the document
 abbrev pub table_with : Table → ℕ → Option Document → Table
 table_with table doc None = without_document table doc
 table_with table doc (Some document) = with_document table doc document
 
--- a document of all attributes was changed: these trees stand in place of others, and own what they owned
+-- a document of all attributes was changed: these trees replace others, and own what they owned
 pub record ChangesFields {H : Type 0} (fields : List Field) (old new : Ledger H) (m n : Records) (trees : List AttributeTrees) (doc : ℕ)
     (document : Option Document) (next : List AttributeTrees) : Type 0 where
   pub are_fields : AreFields n fields next
@@ -102,18 +104,18 @@ pub record ChangesFields {H : Type 0} (fields : List Field) (old new : Ledger H)
   pub unsealed : MakesUnsealed old new
   pub words : KeepsWords old new m n
 
--- the root record, where there is one
+-- the root record, if there is one
 abbrev pub root_entries : ℕ → List ℕ
 root_entries zero = []
 root_entries (suc root) = suc root ∷ []
 
--- what parts own is in use, and outside the sealed buffers nothing else is
+-- what the parts own is in use, and outside sealed buffers nothing else is
 pub record OwnsOutside {H : Type 0} (bits : ℕ) (ledger : Ledger H) (m : Records) (parts : List Part) : Type 0 where
   pub each : (r : ℕ) → count_in r m parts ≤ uses ledger r
   pub all : (r : ℕ) → ledger.sealed (buffer_of bits r) ≡ false → uses ledger r ≤ count_in r m parts
 
--- the attributes and the root record of the last commit are, but for old copies in sealed buffers, exactly what is in use; no unit is under
--- way, and nothing that the attributes reach lies in the buffer that goes on hold
+-- the attributes and the root record of the last commit are, except for old copies in sealed buffers, exactly what is
+-- in use; no unit is open, and nothing that the attributes reach lies in the buffer that goes on hold
 pub record HoldsAttributes {H : Type 0} (bits : ℕ) (ledger : Ledger H) (m : Records) (fields : List Field) (trees : List AttributeTrees)
     (root : ℕ) : Type 0 where
   pub are_fields : AreFields m fields trees

@@ -1,4 +1,4 @@
--- What one operation makes of the attributes in their store.
+-- How one operation changes the attributes in their store.
 use Rattle.std.specs.Prelude.{◌≡◌, ℕ, List, length, Result, Ok, Err, Option, Some, None, Vec}
 use Rattle.std.specs.declared.alloc.Global.{Global}
 use Rattle.std.specs.List.{AllZip}
@@ -15,7 +15,7 @@ use Rattle.attr_steps.specs.Calls.{LeavesEntries, RefusesUnit}
 use Rattle.attr_steps.specs.Fields.{AreFields, FlowsTrees, KeepsWords, MakesUnsealed, StillRefer, parts_of, trees_of}
 use Rattle.attr_steps.specs.Views.{table_at}
 
--- the operation was made: these trees stand in place of others, own what they owned, and read as the next table
+-- the operation was applied: these trees replace others, own what they owned, and represent the next table
 pub record StepsTo {H : Type 0} (fields : List Field) (old new : Ledger H) (m n : Records) (trees : List AttributeTrees) (op : Op)
     (next : List AttributeTrees) : Type 0 where
   pub are_fields : AreFields n fields next
@@ -36,7 +36,7 @@ pub record SkippedStep (fields : List Field) (m : Records) (trees : List Attribu
   pub step_is : step fields (table_at m trees) op ≡ None
   pub store_is : same
 
--- it was refused: each entry is what it was
+-- it was refused: each entry has the same status as before
 pub record RefusedStep {H : Type 0} (old new : Ledger H) (m n : Records) (error : StoreError) : Type 0 where
   pub left : LeavesEntries old new m n
   pub refused : RefusesUnit old new error

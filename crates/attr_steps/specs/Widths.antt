@@ -1,4 +1,4 @@
--- For which widths an operation may be refused.
+-- The widths for which an operation may be refused.
 use Rattle.std.specs.Prelude.{◌≡◌, ℕ, List, slice_get, Option, Some}
 use Rattle.store_api.specs.declared.store.StoreError.{StoreError}
 use Rattle.store_api.specs.declared.store.StoreError.TheVariants as errors
@@ -10,7 +10,7 @@ use Rattle.attr_types.specs.declared.field.Field.{Field}
 use Rattle.attr_types.specs.declared.op.Op.{Op}
 use Rattle.attr_steps.specs.Counts.{document_after, document_before, items_if_there}
 
--- by the table after a document's change: a width for which its change in one attribute may be refused
+-- by the table after a document's change: a width for which the change in one attribute may be refused
 pub record IsChangedWidth (fields : List Field) (table : Table) (before after : Option Document) (width : ℕ) : Type 0 where
   pub number : ℕ
   pub field : Field
@@ -22,7 +22,7 @@ abbrev pub IsOperationWidth : List Field → Table → Op → ℕ → Type 0
 IsOperationWidth fields table op =
     IsChangedWidth fields (after_op fields table op) (document_before table op) (document_after fields table op)
 
--- where a store was full it was so for such a width
+-- if the store was full, it was full for such a width
 abbrev pub IsFullAmong : (ℕ → Type 0) → StoreError → Type 0
 IsFullAmong among (errors.Full width active held oldest) = among width
 IsFullAmong among errors.Memory = Unit {0}

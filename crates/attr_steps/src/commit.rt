@@ -1,4 +1,4 @@
-//! Attributes committed: their root record is made, and the store commits what it reaches.
+//! Committing attributes: their root record is made, and the store commits what it reaches.
 ghost use Rattle.std.specs.Prelude.{◌≡◌, ◌+◌, ◌*◌, ◌<◌, ◌≤◌, length, IfOk, IfErr, OnErr};
 ghost use Rattle.array_store.specs.Adding.{MakesOneOf};
 ghost use Rattle.attr_images.specs.Shapes.{shape_of, types_of};
@@ -15,8 +15,7 @@ use attr_types::Field;
 use entry_ref::EntryRef;
 use store_api::{Store, StoreError, Stored};
 
-/// Commits attributes that are all that is in use, beside the root record of the commit before. The answer is the
-/// new root record.
+/// Commits attributes that are all that is in use, apart from the previous root record. Returns the new root record.
 #[tactic(none)]
 pub fn commit_attributes<const OFFSET_BITS: u32, S: Store<OFFSET_BITS, Layout = AttrLayout>>(
     store: &mut S,

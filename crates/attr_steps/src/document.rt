@@ -1,4 +1,4 @@
-//! One document of all attributes, read and changed.
+//! Reading and changing one document of all attributes.
 ghost use Rattle.std.specs.Prelude.{◌≡◌, ℕ, ◌<◌, ◌∷◌, [], true, length, IsSome, IfOk, IfErr, OnOk};
 ghost use Rattle.std.specs.Prelude.{IfSome, IfNone, option_copied, option_map, unwrap_or};
 ghost use Rattle.std.specs.BTreeMap.{is_at};
@@ -30,7 +30,7 @@ use attr_types::{Doc, Field, FieldItems, Item};
 use std::alloc::{AllocError, Global};
 use store_api::{Store, StoreError, may_do_law};
 
-/// A document with its items in each attribute, if it is there.
+/// Returns a document with its items in each attribute, if it exists.
 #[tactic(none)]
 pub fn read_document<const OFFSET_BITS: u32, F: Frozen<OFFSET_BITS>>(
     alloc: Global,
@@ -57,7 +57,7 @@ pub fn read_document<const OFFSET_BITS: u32, F: Frozen<OFFSET_BITS>>(
     Ok(Some(FieldItems::from_vec(document)))
 }
 
-/// The items that a document has in an attribute, none where it is not there.
+/// Returns the items of a document in an attribute, or none if it does not exist.
 fn items_before(document: Option<&FieldItems>, i: usize) -> &[Item]
     requires { IfSome (option_copied document) (λ d. i < length d) }
     ensures { result.now ≡ unwrap_or (option_map (λ d. items_in d i) (option_copied document.entry)) [] }
@@ -68,7 +68,7 @@ fn items_before(document: Option<&FieldItems>, i: usize) -> &[Item]
     }
 }
 
-/// The items that a document is to have in an attribute, if it is to be there.
+/// Returns the items that a document gets in an attribute, or `None` if it is removed.
 fn items_after(document: Option<&FieldItems>, i: usize) -> Option<&[Item]>
     requires { IfSome (option_copied document) (λ d. i < length d) }
     ensures { option_copied result ≡ option_map (λ d. items_in d i) (option_copied document.entry) }
@@ -79,8 +79,7 @@ fn items_after(document: Option<&FieldItems>, i: usize) -> Option<&[Item]>
     }
 }
 
-/// Sets a document's items in one attribute, or takes the document out. Lists are sparse, whatever the number of
-/// documents.
+/// Sets a document's items in one attribute, or removes the document. Posting lists are never made as bit vectors.
 fn change_field<const OFFSET_BITS: u32, S: Store<OFFSET_BITS>>(
     alloc: Global,
     store: &mut S,
@@ -176,7 +175,7 @@ fn change_each<const OFFSET_BITS: u32, S: Store<OFFSET_BITS>>(
     Ok(())
 }
 
-/// Changes a document's items in each attribute, or takes the document out. The answer is the new roots.
+/// Changes a document's items in each attribute, or removes the document. Returns the new roots.
 pub fn change_document<const OFFSET_BITS: u32, S: Store<OFFSET_BITS>>(
     alloc: Global,
     store: &mut S,

@@ -1,4 +1,4 @@
-//! What one operation and one commit make of the attributes in their store, each in a unit of its own.
+//! How one operation and one commit change the attributes in their store, each in a unit of its own.
 #![tactic(auto)]
 
 mod commit;

@@ -48,7 +48,7 @@ fn put_document<const OFFSET_BITS: u32, S: Store<OFFSET_BITS>>(
     Ok(Some(next))
 }
 
-/// Takes a document out, where it is there.
+/// Removes a document, if it exists.
 #[tactic(none)]
 fn remove_document<const OFFSET_BITS: u32, S: Store<OFFSET_BITS>>(
     alloc: Global,
@@ -82,7 +82,7 @@ fn remove_document<const OFFSET_BITS: u32, S: Store<OFFSET_BITS>>(
     Ok(Some(next))
 }
 
-/// Makes each attribute's change of a document, or none of them.
+/// Applies the changes of an update to a document in all attributes, or in none.
 #[tactic(none)]
 fn update_document<const OFFSET_BITS: u32, S: Store<OFFSET_BITS>>(
     alloc: Global,
@@ -121,7 +121,7 @@ fn update_document<const OFFSET_BITS: u32, S: Store<OFFSET_BITS>>(
     Ok(Some(next))
 }
 
-/// Applies an operation. The answer is the new roots, or none where it is skipped.
+/// Applies an operation. Returns the new roots, or `None` if the operation is skipped.
 #[tactic(none)]
 pub fn step<const OFFSET_BITS: u32, S: Store<OFFSET_BITS>>(
     alloc: Global,

@@ -1,4 +1,4 @@
-//! The root record of a commit: the operations, and the roots of each attribute's two trees.
+//! The root record of a commit: the number of operations, and the roots of each attribute's two trees.
 ghost use Rattle.std.specs.Prelude.{◌≡◌, ◌<◌, ◌≤◌, ◌∷◌, ℕ, [], true, false, length, IfOk, IfErr, OnErr};
 ghost use Rattle.attr_images.specs.Words.{class_of};
 ghost use Rattle.attr_types.specs.declared.field.TheConstants.{MOST_FIELDS};
@@ -16,10 +16,10 @@ use attr_field::FieldRoots;
 use entry_ref::EntryRef;
 use store_api::{Store, StoreError, drop_one, may_do_law};
 
-/// How many words a root record says at most: the operations, and two roots for each of eight attributes.
+/// The greatest number of words in a root record: the operations, and two roots for each of eight attributes.
 const MOST_ROOT_WORDS: usize = 17;
 
-/// The words of a root record.
+/// Returns the words of a root record.
 fn root_words<const OFFSET_BITS: u32>(
     roots: &[FieldRoots<OFFSET_BITS>],
     operations: u32,
@@ -76,7 +76,7 @@ fn drop_root<const OFFSET_BITS: u32, S: Store<OFFSET_BITS>>(
     }
 }
 
-/// Makes a root record, and drops the one before, if there is one.
+/// Makes a root record, and drops the previous one, if any.
 #[tactic(none)]
 fn turn_root<const OFFSET_BITS: u32, S: Store<OFFSET_BITS>>(
     store: &mut S,
@@ -102,7 +102,7 @@ fn turn_root<const OFFSET_BITS: u32, S: Store<OFFSET_BITS>>(
     Ok(root)
 }
 
-/// One unit in which a root record is made in place of the one before.
+/// Makes a root record in place of the previous one, in a unit of its own.
 #[tactic(none)]
 pub fn root_unit<const OFFSET_BITS: u32, S: Store<OFFSET_BITS>>(
     store: &mut S,

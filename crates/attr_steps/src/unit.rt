@@ -1,4 +1,4 @@
-//! Units of work on the attributes' store: each is whole, or leaves all as it was.
+//! Units on the attributes' store. Each is complete, or leaves everything as it was.
 ghost use Rattle.std.specs.Prelude.{◌≡◌, ◌<◌, false, length, IsSome, IfOk, IfErr, OnErr, IfSome, IfNone, option_copied};
 ghost use Rattle.attr_types.specs.Lawful.{IsDocNumber};
 ghost use Rattle.attr_types.specs.Table.{document_at};
@@ -15,7 +15,7 @@ use attr_types::{Doc, Field, FieldItems};
 use std::alloc::Global;
 use store_api::{Store, StoreError};
 
-/// One unit in which a document's items are changed in each attribute, or the document is taken out.
+/// Changes a document's items in each attribute, or removes the document, in a unit of its own.
 #[tactic(none)]
 pub fn change_unit<const OFFSET_BITS: u32, S: Store<OFFSET_BITS>>(
     alloc: Global,

@@ -1,5 +1,5 @@
--- What a change makes of the items that a document has in one attribute.
--- Changes are those of Vespa's document JSON format, on an attribute's collection types:
+-- How a change affects the items of a document in one attribute.
+-- Changes are those of Vespa's document JSON format, on the collection types of attributes:
 -- docs.vespa.ai/en/reference/document-json-format.html and docs.vespa.ai/en/attributes.html.
 use Rattle.std.specs.Prelude.{ℕ, ℤ, pos, ◌+ℤ◌, neg_ℤ, int_le, int_lt, ◌^◌, Bool, ◌&&◌, List, [], ◌∷◌, ◌++◌}
 use Rattle.std.specs.Prelude.{length, filter, not, nat_le, Option, Some, None, option_map, option_and_then}
@@ -21,13 +21,13 @@ use Rattle.attr_types.specs.declared.kind.ValueType.TheVariants as types
 use Rattle.attr_types.specs.declared.value.Value.{Value}
 use Rattle.attr_types.specs.declared.value.Value.TheVariants as values
 
--- a weighted set with one item more, or with its weight replaced, in the order of the values
+-- a weighted set after an item is inserted in the order of values, or replaces the weight of its value
 abbrev pub with_item : List Item → Item → List Item
 with_item [] item = item ∷ []
 with_item (first ∷ items) item = match_ordering (value_cmp item.value first.value)
     (item ∷ first ∷ items) (record first { weight = item.weight } ∷ items) (first ∷ with_item items item)
 
--- a weighted set with items, one after another
+-- a weighted set after items are inserted, one after another
 abbrev pub with_items : List Item → List Item → List Item
 with_items items [] = items
 with_items items (item ∷ more) = with_items (with_item items item) more
@@ -39,19 +39,19 @@ is_named names item = list_any (λ name. is_eq (value_cmp name item.value)) name
 abbrev pub without_values : List Item → List Value → List Item
 without_values items names = filter (λ item. not (is_named names item)) items
 
--- own: a document has at most 1,023 items in an attribute
+-- a limit of this engine: a document has at most 1,023 items in an attribute
 abbrev pub most_items : ℕ
 most_items = 1023
 
 abbrev pub if_within_limit : List Item → Option (List Item)
 if_within_limit items = if nat_le (length items) most_items then Some items else None
 
--- a number from - 2 ^ bits to below 2 ^ bits; any other is none
+-- the number, if it is at least - 2 ^ bits and below 2 ^ bits
 abbrev pub if_signed : ℕ → ℤ → Option ℤ
 if_signed bits number =
     if int_le (neg_ℤ (pos (2 ^ bits))) number && int_lt number (pos (2 ^ bits)) then Some number else None
 
--- a whole number moved by an amount, if the result has 64 signed bits
+-- a whole number plus an amount, if the result fits in 64 signed bits
 abbrev pub shifted : ℤ → Value → Option Value
 shifted amount (values.Long number) = option_map values.Long (if_signed 63 (number +ℤ amount))
 shifted amount (values.Text text) = None
@@ -60,7 +60,7 @@ abbrev pub new_value : Act → Value → Option Value
 new_value (acts.Set value) old = Some value
 new_value (acts.Shift amount) old = shifted amount old
 
--- a weight may be moved as long as the result has 32 signed bits
+-- the weight after a change, if the result fits in 32 signed bits
 abbrev pub new_weight : WeightAct → ℤ → Option ℤ
 new_weight (weights.Set weight) old = Some weight
 new_weight (weights.Shift amount) old = if_signed 31 (old +ℤ amount)
@@ -71,15 +71,15 @@ with_new_value act item = option_map (λ value. record item { value = value }) (
 abbrev pub with_new_weight : WeightAct → Item → Option Item
 with_new_weight act item = option_map (λ weight. record item { weight = weight }) (new_weight act item.weight)
 
--- the items with the one at a place changed, or none where there is none there or its change has no answer
+-- the items after the one at a place is changed; none if there is no item or the item has no change
 abbrev pub changed_at : (Item → Option Item) → List Item → ℕ → Option (List Item)
 changed_at change items place = option_map (slice_set items place) (option_and_then change (slice_get items place))
 
--- the place of a value
+-- the index of a value
 abbrev pub place_of : Value → List Item → Option ℕ
 place_of value items = position (λ item. is_eq (value_cmp value item.value)) items
 
--- what a change makes of items, or none where it is skipped; where it does not fit the attribute it is skipped too
+-- the items after a change; none if the change is skipped, also because it does not fit the attribute
 abbrev pub changed : Kind → ValueType → Change → List Item → Option (List Item)
 changed kind type Keep items = Some items
 changed kind type (Assign others) items = Some others

@@ -1,4 +1,5 @@
--- What the test whether an operation fits computes. `fits` is proved to decide `OpFits`, which is what to read.
+-- The computation of the test whether an operation fits. `fits` is proved to decide `OpFits`, which is the definition
+-- to read.
 use Rattle.std.specs.Prelude.{pos, Bool, true, false, ◌&&◌, nat_le, List, [], ◌∷◌, length}
 use Rattle.std.specs.List.{list_all}
 use Rattle.std.specs.Ordering.{int_eq, is_lt}
@@ -83,7 +84,7 @@ changes_fit (field ∷ fields) [] = false
 changes_fit (field ∷ fields) (change ∷ changes) =
     change_fits field.kind field.value change && changes_fit fields changes
 
--- of an operation on a document that there can be
+-- whether an operation fits; its document number is valid by its type
 abbrev pub op_fits : List Field → Op → Bool
 op_fits fields (Put doc items) = document_fits fields items
 op_fits fields (Update doc create changes) = changes_fit fields changes

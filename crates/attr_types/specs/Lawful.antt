@@ -20,7 +20,7 @@ use Rattle.attr_types.specs.declared.kind.ValueType.TheVariants as types
 use Rattle.attr_types.specs.declared.op.Op.{Op}
 use Rattle.attr_types.specs.declared.op.Op.TheVariants.{Put, Update, Remove}
 
--- own: documents are numbered from 1 to 1,048,575
+-- a limit of this engine: documents are numbered from 1 to 1,048,575
 abbrev pub last_doc : ℕ
 last_doc = 1048575
 
@@ -30,7 +30,7 @@ IsDocNumber doc = (1 ≤ doc) × (doc ≤ last_doc)
 abbrev pub HaveWeightOne : List Item → Type 0
 HaveWeightOne items = AllByRecursion (λ item. item.weight ≡ pos 1) items
 
--- each value is below those after it, so no two are equal
+-- each value is below the later ones, so no two are equal
 abbrev pub AscendByValue : List Item → Type 0
 AscendByValue items = IsStrictlySortedBy value_cmp (values_of items)
 
@@ -44,30 +44,30 @@ IsLawfulItems WeightedSet items = (length items ≤ most_items) × AscendByValue
 abbrev pub IsLawfulDocument : List Field → Document → Type 0
 IsLawfulDocument fields document = AllZip (λ field items. IsLawfulItems field.kind items) fields document
 
--- documents ascend, each lawful
+-- documents ascend, and each is lawful
 pub record IsLawfulTable (fields : List Field) (table : Table) : Type 0 where
   pub ascends : IsStrictlySortedBy nat_cmp (keys_of table)
   pub numbers : AllByRecursion IsDocNumber (keys_of table)
   pub documents : AllByRecursion (λ e. IsLawfulDocument fields e.1) table
 
--- the values of a document are of their attributes' types
+-- the values of a document have the types of their attributes
 abbrev pub DocumentHasType : List Field → Document → Type 0
 DocumentHasType fields document = AllZip (λ field items. AreOfType field.value (values_of items)) fields document
 
 abbrev pub DocumentsHaveType : List Field → Table → Type 0
 DocumentsHaveType fields table = AllByRecursion (λ e. DocumentHasType fields e.1) table
 
--- items that may stand in an operation
+-- items that may occur in an operation
 abbrev pub ItemsFit : Kind → ValueType → List Item → Type 0
 ItemsFit kind type items = IsLawfulItems kind items × AreOfType type (values_of items)
 
--- a value of the type may be set, a whole number may be moved
+-- a value of the attribute's type may be set, and a whole number may be shifted
 abbrev pub ActFits : ValueType → Act → Type 0
 ActFits type (acts.Set value) = type_of value ≡ type
 ActFits types.Long (acts.Shift amount) = Unit {0}
 ActFits types.Text (acts.Shift amount) = ⊥
 
--- the changes that there are for an attribute of this kind and value type
+-- the changes that exist for an attribute of this kind and value type
 abbrev pub ChangeFits : Kind → ValueType → Change → Type 0
 ChangeFits kind type Keep = Unit {0}
 ChangeFits kind type (Assign items) = ItemsFit kind type items

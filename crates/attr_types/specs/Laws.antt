@@ -1,4 +1,4 @@
--- What the definitions of the plain table mean, as laws.
+-- The meaning of the definitions of the plain table, as laws.
 use Rattle.std.specs.Prelude.{ℕ, ◌≡◌, ◌≢◌, ◌↔◌, IsTrue, IsSomeAnd, Contains, List, [], ◌∷◌, Some, None}
 use Rattle.std.specs.List.{AllByRecursion}
 use Rattle.std.specs.List.Sorted.{IsStrictlyIncreasing}
@@ -10,22 +10,22 @@ use Rattle.attr_types.specs.declared.field.Field.{Field}
 use Rattle.attr_types.specs.declared.op.Op.{Op}
 use Rattle.attr_types.specs.declared.op.Op.TheVariants.{Put, Remove}
 
--- hits ascend strictly, so each document is there once
+-- hits ascend strictly, so each document occurs once
 abbrev pub HitsAscend : Type 0
 HitsAscend = (query : QueryTree) (fields : List Field) (table : Table) → IsLawfulTable fields table
     → IsStrictlyIncreasing (hits query table)
 
--- a document is hit exactly where it is there and matches
+-- a document is a hit if and only if it exists and matches
 abbrev pub HitsAreMatches : Type 0
 HitsAreMatches = (query : QueryTree) (fields : List Field) (table : Table) (doc : ℕ) → IsLawfulTable fields table
     → Contains (hits query table) doc ↔ IsSomeAnd (document_at table doc) (Matches query)
 
--- a skipped operation leaves the table
+-- a skipped operation does not change the table
 abbrev pub SkippedLeaves : Type 0
 SkippedLeaves = (fields : List Field) (table : Table) (op : Op) → IsTrue (is_skipped fields table op)
     → after_op fields table op ≡ table
 
--- an operation that fits keeps a table lawful, with values of the attributes' types
+-- an operation that fits keeps a table lawful, with values of the types of the attributes
 abbrev pub StepKeeps : Type 0
 StepKeeps = (fields : List Field) (table : Table) (op : Op) → OpFits fields op
     → IsLawfulTable fields table × DocumentsHaveType fields table
@@ -36,18 +36,18 @@ abbrev pub RunKeeps : Type 0
 RunKeeps = (fields : List Field) (ops : List Op) (n : ℕ) → AllByRecursion (OpFits fields) ops
     → IsLawfulTable fields (after fields ops n) × DocumentsHaveType fields (after fields ops n)
 
--- an operation changes no document but its own
+-- an operation changes only its own document
 abbrev pub OthersStay : Type 0
 OthersStay = (fields : List Field) (table : Table) (op : Op) (other : ℕ) → IsLawfulTable fields table
     → other ≢ op_doc op
     → document_at (after_op fields table op) other ≡ document_at table other
 
--- a document that was put is there with its items
+-- after a put the document exists with its items
 abbrev pub PutIsThere : Type 0
 PutIsThere = (fields : List Field) (table : Table) (doc : ℕ) (items : Document)
     → document_at (after_op fields table (Put doc items)) doc ≡ Some items
 
--- a put and then a remove leave no document
+-- after a put and then a remove the document does not exist
 abbrev pub RemoveAfterPut : Type 0
 RemoveAfterPut = (fields : List Field) (table : Table) (doc : ℕ) (items : Document) → IsLawfulTable fields table
     → document_at (after_ops fields table (Put doc items ∷ Remove doc ∷ [])) doc ≡ None

@@ -1,4 +1,4 @@
--- The names that a user writes: of attributes, of their kinds and of their value types.
+-- The names of attributes, kinds and value types.
 use Rattle.std.specs.Prelude.{ℕ, Bool, false, ◌&&◌, ◌||◌, ◌==◌, nat_le, List, codes}
 use Rattle.std.specs.Prelude.{slice_get, if◌then◌else◌, Option, Some, None}
 use Rattle.std.specs.List.{list_all, position}
@@ -13,7 +13,7 @@ use Rattle.attr_types.specs.declared.kind.ValueType.TheVariants as types
 abbrev pub begins_name : ℕ → Bool
 begins_name byte = (nat_le 65 byte && nat_le byte 90) || (nat_le 97 byte && nat_le byte 122) || (byte == 95)
 
--- such a byte, or a digit
+-- a byte that may begin a name, or a digit
 abbrev pub continues_name : ℕ → Bool
 continues_name byte = begins_name byte || (nat_le 48 byte && nat_le byte 57)
 
@@ -21,18 +21,18 @@ abbrev pub is_begun : Option ℕ → Bool
 is_begun None = false
 is_begun (Some byte) = begins_name byte
 
--- a name that an attribute may have in queries and beside `--field`: one or more such bytes, not a digit first
+-- an attribute name in queries and for `--field`: one or more such bytes, and the first is not a digit
 abbrev pub is_name : List ℕ → Bool
 is_name text = is_begun (slice_get text 0) && list_all continues_name text
 
--- the kinds by their names
+-- the kind with this name
 abbrev pub kind_named : List ℕ → Option Kind
 kind_named name =
     if bytes_eq name (codes "single") then Some kinds.Single
     else (if bytes_eq name (codes "array") then Some kinds.Array
     else (if bytes_eq name (codes "weightedset") then Some kinds.WeightedSet else None))
 
--- the value types by their names
+-- the value type with this name
 abbrev pub value_named : List ℕ → Option ValueType
 value_named name =
     if bytes_eq name (codes "long") then Some types.Long

@@ -1,5 +1,5 @@
--- Nobody has to read this: proofs that the `impl`s of comparison cite. What they prove is the contract of `order_law`:
--- the order of values is total, and only a value itself is equal to it.
+-- Proofs that the `impl`s of comparison cite. They are not part of the specification; `order_law` has the result as
+-- its contract: the order of values is total, and a value is equal only to itself.
 use Rattle.std.proofs.Common.{◌≡◌, Less, Equal, is_lt, is_eq, true≢false, refl, sym, ap}
 use Rattle.std.proofs.lemmas.Cmp.{int_cmp_total, nat_list_cmp_total}
 use Rattle.std.proofs.lemmas.Map.Lookups.{exact_bytes, exact_signed}

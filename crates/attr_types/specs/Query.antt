@@ -1,4 +1,4 @@
--- A query as a tree, and what it matches.
+-- Queries as trees, and which documents they match.
 use Rattle.std.specs.Prelude.{ℕ, Bool, true, false, ◌&&◌, ◌||◌, IsTrue, List, [], ◌∷◌, map, Option, Some}
 use Rattle.std.specs.Prelude.{None, nat_eq, slice_get, unwrap_or}
 use Rattle.std.specs.List.{list_any, starts_with}
@@ -12,7 +12,7 @@ use Rattle.attr_types.specs.declared.query.Query.TheOpen.{Query-F}
 use Rattle.attr_types.specs.declared.value.Value.{Value}
 use Rattle.attr_types.specs.declared.value.Value.TheVariants as values
 
--- a query without where it lies in memory
+-- a query, without its place in memory
 mutual
   pub data QueryTree : Type 0 where
     one : ℕ → Leaf → QueryTree
@@ -27,7 +27,7 @@ abbrev pub trees : List QueryTree → QueryTrees
 trees [] = no_trees
 trees (t ∷ ts) = tree t (trees ts)
 
--- one level, with each member already seen as its tree
+-- one level of a query whose members are already trees
 abbrev pub tree_step : Query-F QueryTree → QueryTree
 tree_step (Query-F.One field leaf) = one field leaf
 tree_step (Query-F.And queries) = and (trees queries.items)
@@ -44,7 +44,7 @@ abbrev pub begins_with : Value → List ℕ → Bool
 begins_with (values.Text text) bytes = starts_with nat_eq text bytes
 begins_with (values.Long number) bytes = false
 
--- a bound left out bounds nothing
+-- a missing bound sets no limit
 abbrev pub is_from : Option Value → Value → Bool
 is_from None value = true
 is_from (Some low) value = is_le (value_cmp low value)
@@ -53,7 +53,7 @@ abbrev pub is_up_to : Option Value → Value → Bool
 is_up_to None value = true
 is_up_to (Some high) value = is_le (value_cmp value high)
 
--- a value meets a leaf: both bounds of a range are included, `Below` and `Above` are strict
+-- a value meets a leaf: the bounds of a range are included, those of `Below` and `Above` are not
 abbrev pub meets : Leaf → Value → Bool
 meets (Is wanted) value = is_eq (value_cmp wanted value)
 meets (Prefix bytes) value = begins_with value bytes
@@ -61,7 +61,7 @@ meets (Range low high) value = is_from low value && is_up_to high value
 meets (Below high) value = is_lt (value_cmp value high)
 meets (Above low) value = is_lt (value_cmp low value)
 
--- some one item meets the leaf
+-- some item meets the leaf
 abbrev pub meets_some : Leaf → List Item → Bool
 meets_some leaf items = list_any (λ item. meets leaf item.value) items
 
@@ -69,12 +69,12 @@ abbrev pub has_items : List Item → Bool
 has_items [] = false
 has_items (item ∷ items) = true
 
--- the items that a document has in the attribute of this number
+-- the items of a document in the attribute with this number
 abbrev pub items_in : Document → ℕ → List Item
 items_in document field = unwrap_or (slice_get document field) []
 
--- what a query matches: a leaf asks for some one item of its attribute, and so a document without items in any
--- attribute matches nothing
+-- whether a query matches a document: a leaf requires a single item of its attribute that meets it, so a document
+-- without items in any attribute matches nothing
 abbrev mutual
   pub matches : QueryTree → Document → Bool
   matches (one field leaf) document = meets_some leaf (items_in document field)

@@ -1,4 +1,4 @@
--- The plain table, what an operation makes of it, and which documents a query hits.
+-- The plain table, how an operation changes it, and which documents a query hits.
 use Rattle.std.specs.Prelude.{ℕ, ◌+◌, ◌*◌, ◌≡◌, ◌≤◌, ◌⊎◌, Bool, true, false, List, [], ◌∷◌, map, filter, take}
 use Rattle.std.specs.Prelude.{Option, Some, None, is_none, option_map, option_and_then, unwrap_or, if◌then◌else◌}
 use Rattle.std.specs.BTreeMap.{insert_entry, is_at}
@@ -13,11 +13,11 @@ use Rattle.attr_types.specs.declared.items.Item.{Item}
 use Rattle.attr_types.specs.declared.op.Op.{Op}
 use Rattle.attr_types.specs.declared.op.Op.TheVariants.{Put, Update, Remove}
 
--- the documents that are there, ascending, each with its items in each attribute
+-- the existing documents, ascending, each with its items in each attribute
 abbrev pub Table : Type 0
 Table = List (ℕ × Document)
 
--- a document, if it is there
+-- a document, if it exists
 abbrev pub document_at : Table → ℕ → Option Document
 document_at table doc = lookup (is_at (nat_cmp doc)) table
 
@@ -31,19 +31,19 @@ without_document table doc = remove_entry (is_at (nat_cmp doc)) table
 abbrev pub without_items : List Field → Document
 without_items fields = map (λ _. []) fields
 
--- the document that an update changes, if there is one: the one that is there, or with `create` one without items
+-- the document that an update changes, if any: the existing one, or, with `create`, one without items
 abbrev pub to_update : List Field → Bool → Option Document → Option Document
 to_update fields create (Some document) = Some document
 to_update fields true None = Some (without_items fields)
 to_update fields false None = None
 
--- both answers, or none
+-- both results, or none
 abbrev pub both : Option (List Item) → Option Document → Option Document
 both (Some items) (Some document) = Some (items ∷ document)
 both (Some items) None = None
 both None document = None
 
--- what an update makes of a document: each attribute's change of its items, or none where one of these is skipped
+-- a document after an update: one change of the items in each attribute; none if one of them is skipped
 abbrev pub updated : List Field → List Change → Document → Option Document
 updated [] changes document = Some []
 updated (field ∷ fields) [] document = Some []
@@ -51,13 +51,13 @@ updated (field ∷ fields) (change ∷ changes) [] = Some []
 updated (field ∷ fields) (change ∷ changes) (items ∷ document) =
     both (changed field.kind field.value change items) (updated fields changes document)
 
--- the document that an operation is about
+-- the document that an operation changes
 abbrev pub op_doc : Op → ℕ
 op_doc (Put doc items) = doc
 op_doc (Update doc create changes) = doc
 op_doc (Remove doc) = doc
 
--- the table after an operation, or none where it is skipped
+-- the table after an operation; none if the operation is skipped
 abbrev pub step : List Field → Table → Op → Option Table
 step fields table (Put doc items) = Some (with_document table doc items)
 step fields table (Update doc create changes) =
@@ -68,7 +68,7 @@ step fields table (Remove doc) = option_map (λ _. without_document table doc) (
 abbrev pub is_skipped : List Field → Table → Op → Bool
 is_skipped fields table op = is_none (step fields table op)
 
--- a skipped operation leaves the table
+-- a skipped operation does not change the table
 abbrev pub after_op : List Field → Table → Op → Table
 after_op fields table op = unwrap_or (step fields table op) table
 
@@ -85,11 +85,11 @@ skipped_ops fields table (op ∷ ops) =
 abbrev pub after : List Field → List Op → ℕ → Table
 after fields ops n = after_ops fields [] (take n ops)
 
--- how many of the first n operations of a feed are skipped
+-- the number of skipped operations among the first n of a feed
 abbrev pub skipped : List Field → List Op → ℕ → ℕ
 skipped fields ops n = skipped_ops fields [] (take n ops)
 
--- a run commits after each batch of operations and after the last, and begins with nothing committed
+-- a run commits after each batch of operations and after the last operation; at the start, 0 operations are committed
 abbrev pub IsCommitPoint : ℕ → ℕ → ℕ → Type 0
 IsCommitPoint batch total n = (n ≤ total) × (((k : ℕ) × (n ≡ batch * k)) ⊎ (n ≡ total))
 

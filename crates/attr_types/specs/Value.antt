@@ -1,4 +1,4 @@
--- The order of values, their types, and the documents that have them.
+-- The order of values, their types, and the values of items.
 use Rattle.std.specs.Prelude.{◌≡◌, List, map}
 use Rattle.std.specs.declared.cmp.Ordering.{Ordering}
 use Rattle.std.specs.declared.cmp.Ordering.TheVariants.{Less, Greater}
@@ -11,7 +11,8 @@ use Rattle.attr_types.specs.declared.kind.ValueType.TheVariants as types
 use Rattle.attr_types.specs.declared.value.Value.{Value}
 use Rattle.attr_types.specs.declared.value.Value.TheVariants as values
 
--- whole numbers by size, texts by their bytes; no attribute has both, and here a number is below each text
+-- whole numbers by size, texts by their bytes; an attribute never has both, and in this order every number is below
+-- every text
 abbrev pub value_cmp : Value → Value → Ordering
 value_cmp (values.Long a) (values.Long b) = int_cmp a b
 value_cmp (values.Text a) (values.Text b) = slice_cmp nat_cmp a b

@@ -1,4 +1,4 @@
--- Items as a map from their values to their weights.
+-- Items as a map from values to weights.
 use Rattle.std.specs.Prelude.{ℤ, List, [], ◌∷◌, map}
 use Rattle.std.specs.BTreeMap.{insert_entry}
 use Rattle.attr_types.specs.Value.{value_cmp}
@@ -9,7 +9,7 @@ use Rattle.attr_types.specs.declared.value.Value.{Value}
 abbrev pub weights_of : List Item → List (Value × ℤ)
 weights_of items = map (λ item. (item.value, item.weight)) items
 
--- the weights with those of items put into them, one after another
+-- the weights after those of items are inserted, one after another
 abbrev pub put_weights : List (Value × ℤ) → List Item → List (Value × ℤ)
 put_weights weights [] = weights
 put_weights weights (item ∷ items) = put_weights (insert_entry value_cmp weights item.value item.weight) items

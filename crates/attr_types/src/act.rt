@@ -55,7 +55,7 @@ fn with_item_at(items: &Items, place: usize, item: Item) -> Result<Items, AllocE
     Ok(Items::from_vec(list))
 }
 
-/// The items with the value at a place set or moved, or none where that can't be.
+/// Returns the items after the value at a place is set or shifted, or `None` if that is not possible.
 pub fn act_at(items: &Items, place: usize, act: &Act) -> Result<Option<Items>, AllocError>
     ensures { IfOk result (λ new. new ≡ changed_at (with_new_value act.now) items.now place) }
 {
@@ -98,7 +98,7 @@ fn weigh_at(items: &Items, place: usize, act: &WeightAct) -> Result<Option<Items
     Ok(Some(with_item_at(items, place, new)?))
 }
 
-/// The items with the weight of a value set or moved, or none where that can't be.
+/// Returns the items after the weight of a value is set or shifted, or `None` if that is not possible.
 pub fn weigh(items: &Items, value: &Value, act: &WeightAct) -> Result<Option<Items>, AllocError>
     ensures { IfOk result (λ new. new ≡ option_and_then (changed_at (with_new_weight act.now) items.now) (place_of value.now items.now)) }
 {

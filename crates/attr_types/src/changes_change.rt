@@ -100,7 +100,7 @@ fn changed_set(
     }
 }
 
-/// The items of a document in an attribute after a change, or none where the change is skipped.
+/// Returns the items of a document in an attribute after a change, or `None` if the change is skipped.
 pub fn changed_items(
     alloc: Global,
     kind: Kind,

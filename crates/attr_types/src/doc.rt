@@ -22,7 +22,7 @@ impl Model for Doc {
 }
 
 impl Doc {
-    /// The number of the last document.
+    /// The highest document number.
     pub const LAST: u32 = 1_048_575;
 
     pub fn new(number: u32) -> Doc
@@ -42,5 +42,5 @@ impl Doc {
     }
 }
 
-/// Documents in order, seen as the list of their numbers.
+/// Documents in order. Contracts see the list of their numbers.
 pub type DocList = ListOf<Doc>;

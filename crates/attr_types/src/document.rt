@@ -1,4 +1,4 @@
-//! What an update makes of a document.
+//! How an update changes a document.
 ghost use Rattle.std.specs.Prelude.{◌≡◌, IfOk, IfSome, option_and_then, option_copied};
 ghost use Rattle.attr_types.specs.Lawful.{IsLawfulDocument};
 ghost use Rattle.attr_types.specs.Table.{to_update, updated, without_items};
@@ -7,7 +7,7 @@ use crate::changes_change::changed_items;
 use crate::{Change, Field, FieldItems, Items};
 use std::alloc::{AllocError, Global};
 
-/// A document without items.
+/// Returns a document without items.
 fn empty_document(alloc: Global, fields: &[Field]) -> Result<FieldItems, AllocError>
     ensures { IfOk result (λ document. document ≡ without_items fields.now) }
 {
@@ -18,7 +18,7 @@ fn empty_document(alloc: Global, fields: &[Field]) -> Result<FieldItems, AllocEr
     Ok(FieldItems::from_vec(document))
 }
 
-/// A document after each attribute's change, or none where one of these is skipped.
+/// Returns a document after the change of each attribute, or `None` if one of them is skipped.
 fn changed_document(
     alloc: Global,
     fields: &[Field],
@@ -48,8 +48,8 @@ fn changed_document(
     Ok(Some(FieldItems::from_vec(new)))
 }
 
-/// What an update makes of a document that may be there, or none where it is skipped. With `create` a document
-/// that is not there is changed as one without items.
+/// Returns a document after an update, or `None` if the update is skipped. The document may be missing; with `create`
+/// a missing document is treated as one without items.
 pub fn updated_document(
     alloc: Global,
     fields: &[Field],

@@ -5,7 +5,7 @@ use crate::list::ListOf;
 use std::alloc::{AllocError, Global};
 use std::marker::Model;
 
-/// The name of a field, seen as its bytes.
+/// The name of a field. Contracts see its bytes.
 #[derive(Clone, Debug, Drop)]
 pub struct Name {
     text: String,
@@ -40,7 +40,7 @@ impl Name {
     }
 }
 
-/// An attribute: the field of a document that it keeps, and what it keeps of it.
+/// An attribute: the field of a document that it stores, and what it stores of it.
 #[derive(Clone, Debug, Drop)]
 pub struct Field {
     pub name: Name,
@@ -51,5 +51,5 @@ pub struct Field {
 /// The attributes, numbered from 0.
 pub type Fields = ListOf<Field>;
 
-/// How many attributes a run has at most.
+/// The greatest number of attributes of a run.
 pub const MOST_FIELDS: usize = 8;

@@ -1,4 +1,4 @@
-//! Whether an operation fits the attributes, told at run time.
+//! Whether an operation fits the attributes, decided at run time.
 ghost use Rattle.std.specs.Prelude.{◌≡◌, ◌≤◌, ◌↔◌, IsTrue, pos};
 ghost use Rattle.std.specs.List.{list_all};
 ghost use Rattle.std.specs.Ordering.{int_eq};
@@ -141,7 +141,7 @@ fn do_changes_fit(fields: &[Field], changes: &[Change]) -> bool
 }
 
 impl Op {
-    /// The document that it is about.
+    /// Returns the document that the operation changes.
     pub fn doc(&self) -> Doc
         ensures doc { result ≡ op_doc self.now }
         ensures first { 1 ≤ result }
@@ -165,7 +165,7 @@ fn does_op_fit(fields: &[Field], op: &Op) -> bool
     }
 }
 
-/// Whether an operation fits the attributes.
+/// Returns whether an operation fits the attributes.
 pub fn fits(fields: &Fields, op: &Op) -> bool
     ensures { IsTrue result ↔ OpFits fields.now op.now }
 {

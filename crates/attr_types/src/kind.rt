@@ -1,8 +1,8 @@
-/// How many values a document has: the collection type of an attribute.
+/// The collection type of an attribute: how many values a document has.
 /// <https://docs.vespa.ai/en/attributes.html>
 #[derive(Clone, Copy, Debug, PartialEq, Eq)]
 pub enum Kind {
-    /// One value, or none.
+    /// At most one value.
     Single,
     /// Values in order.
     Array,
@@ -10,11 +10,11 @@ pub enum Kind {
     WeightedSet,
 }
 
-/// What the values of an attribute are.
+/// The type of the values of an attribute.
 #[derive(Clone, Copy, Debug, PartialEq, Eq)]
 pub enum ValueType {
     /// Whole numbers of 64 signed bits.
     Long,
-    /// Texts, matched by their bytes.
+    /// Texts, compared by their bytes.
     Text,
 }

@@ -1,4 +1,4 @@
-//! Laws of the plain table. Each function does nothing: its contract is the law.
+//! Laws of the plain table. Each function does nothing; its contract is the law.
 ghost use Rattle.attr_types.specs.Laws.{HitsAscend, HitsAreMatches, SkippedLeaves, StepKeeps, RunKeeps};
 ghost use Rattle.attr_types.specs.Laws.{OthersStay, PutIsThere, RemoveAfterPut};
 
@@ -8,7 +8,7 @@ pub fn hits_law()
     ensures exact { HitsAreMatches }
 {}
 
-/// A skipped operation leaves the table.
+/// A skipped operation does not change the table.
 pub fn skip_law()
     ensures { SkippedLeaves }
 {}
@@ -19,7 +19,8 @@ pub fn step_law()
     ensures run { RunKeeps }
 {}
 
-/// An operation is about its own document alone: a put makes it be there, a remove after it leaves none.
+/// An operation changes only its own document: after a put the document exists, and after a remove that follows it,
+/// the document does not.
 pub fn document_law()
     ensures others { OthersStay }
     ensures put { PutIsThere }

@@ -1,11 +1,11 @@
-//! Documents, values, operations and queries, and the plain table that all answers are compared with.
+//! Documents, values, operations and queries, and the plain table over which every answer is defined.
 //!
-//! What an update makes of a document: each attribute's change of its items.
+//! An update consists of one change of the items in each attribute.
 //!
-//! The names that a user writes: of attributes, of their kinds and of their value types.
+//! Names identify attributes, kinds and value types.
 //!
-//! What is asked of a table: documents that a query matches, or documents with their scores by a
-//! dot product of weights.
+//! An ask is either a query, answered by the matching documents, or a dot product of weights, answered by documents
+//! with their scores.
 #![tactic(auto)]
 
 mod act;

@@ -3,7 +3,7 @@ ghost use Rattle.std.specs.Prelude.{◌≡◌, [], ◌∷◌, ◌++◌, length, 
 use std::alloc::{AllocError, Global};
 use std::marker::Model;
 
-/// Things in order, seen as a list. It is made from a `Vec`, and gives it back, without taking memory.
+/// A list of things in order. It is made from a `Vec` and returns it, without allocation.
 #[derive(Debug, Drop)]
 pub struct ListOf<T> {
     list: Vec<T>,
@@ -70,7 +70,7 @@ impl<T> ListOf<T> {
 }
 
 impl<T: Drop> ListOf<T> {
-    /// The list of one thing.
+    /// Makes a list of one thing.
     pub fn of_one(alloc: Global, item: T) -> Result<ListOf<T>, AllocError>
         ensures { IfOk result (λ list. list ≡ item ∷ []) }
     {

@@ -4,14 +4,14 @@ ghost use Rattle.attr_types.specs.Names.{begins_name, continues_name, is_begun, 
 
 use crate::Field;
 
-/// Whether a name may begin with this byte: a letter or `_`.
+/// Returns whether a name may begin with this byte: a letter or `_`.
 pub fn begins_name(byte: u8) -> bool
     ensures { result ≡ begins_name byte }
 {
     byte.is_ascii_alphabetic() || byte == b'_'
 }
 
-/// Whether a name may go on with this byte: a letter, a digit or `_`.
+/// Returns whether a name may continue with this byte: a letter, a digit or `_`.
 pub fn continues_name(byte: u8) -> bool
     ensures { result ≡ continues_name byte }
 {
@@ -33,14 +33,14 @@ fn all_continue(text: &[u8]) -> bool
     text.iter().all(|byte| continues_name(*byte))
 }
 
-/// Whether a text is a name: letters, digits and `_`, one or more, and not a digit first.
+/// Returns whether a text is a name: one or more letters, digits and `_`, and the first is not a digit.
 pub fn is_name(text: &[u8]) -> bool
     ensures { result ≡ is_name text.now }
 {
     is_begun(text.first().copied()) && all_continue(text)
 }
 
-/// The number of the attribute with this name.
+/// Returns the number of the attribute with this name.
 pub fn field_named(fields: &[Field], name: &[u8]) -> Option<usize>
     ensures value { result ≡ field_named fields.now name.now }
     ensures inside { IfSome result (λ number. number < length fields.now) }

@@ -6,19 +6,19 @@ use crate::list::ListOf;
 /// An operation on one document.
 #[derive(Debug, Drop)]
 pub enum Op {
-    /// The document is there with these items alone.
+    /// Stores the document with exactly these items.
     Put {
         doc: Doc,
         items: FieldItems,
     },
-    /// Each attribute's change of the document, or none of them. With `create` a document that is not there is
-    /// changed as one without items.
+    /// Changes the document by one change for each attribute, or not at all. With `create` a missing document is
+    /// treated as one without items.
     Update {
         doc: Doc,
         create: bool,
         change: FieldChanges,
     },
-    /// The document is gone.
+    /// Removes the document.
     Remove {
         doc: Doc,
     },

@@ -9,7 +9,7 @@ ghost use Rattle.attr_types.specs.declared.value.Value.{Value};
 use crate::value::Value;
 use std::cmp::Ordering;
 
-/// Compares values: whole numbers by size, texts by their bytes. A number is below every text.
+/// Compares values: whole numbers by size, texts by their bytes. Every number is below every text.
 pub fn compare(a: &Value, b: &Value) -> Ordering
     ensures { result ≡ value_cmp a.now b.now }
 {
@@ -59,7 +59,7 @@ impl Ord for Value {
     }
 }
 
-/// The order of values is total, and only a value itself is equal to it.
+/// The order of values is total, and a value is equal only to itself.
 pub fn order_law()
     ensures total { IsTotalOrder value_cmp }
     ensures exact { (a b : Value) → value_cmp a b ≡ Equal → a ≡ b }

@@ -8,7 +8,7 @@ pub enum Leaf {
     Is(Value),
     /// Texts that begin with these bytes.
     Prefix(Text),
-    /// From `low` to `high`, both included. A bound left out bounds nothing.
+    /// From `low` to `high`, both included. A missing bound sets no limit.
     Range {
         low: Option<Value>,
         high: Option<Value>,
@@ -22,12 +22,12 @@ pub enum Leaf {
 /// Queries in order.
 pub type Queries = Vec<Query>;
 
-/// What is asked of a document.
+/// A condition on a document.
 #[derive(Debug, Drop)]
 pub enum Query {
-    /// Some item of the attribute with this number meets the leaf.
+    /// Some item in the attribute with this number meets the leaf.
     One { field: u32, leaf: Leaf },
-    /// The document has some item in some attribute, and every member matches.
+    /// The document has an item in some attribute, and every member matches.
     And(Queries),
     /// Some member matches.
     Or(Queries),

@@ -1,7 +1,7 @@
 use crate::list::ListOf;
 
-/// How many operations each round of one reader saw, in the rounds' order.
+/// How many operations each round of one reader saw, in the order of the rounds.
 pub type RoundCounts = ListOf<u32>;
 
-/// The counts of each reader, in the readers' order.
+/// The counts of each reader, in the order of the readers.
 pub type RoundList = ListOf<RoundCounts>;

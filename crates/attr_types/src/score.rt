@@ -9,8 +9,8 @@ use crate::{Doc, FieldItems, Item, Items, ListOf, Value, compare};
 use std::alloc::{AllocError, Global};
 use std::collections::BTreeMap;
 
-/// A document and its score: the sum over the parts of a dot product of the part's weight times that
-/// of the document's item with the part's value.
+/// A document and its score: the sum, over the parts of a dot product, of the part's weight times the weight of the
+/// document's item with the part's value.
 #[derive(Debug, Drop)]
 pub struct Score {
     pub doc: Doc,
@@ -70,8 +70,7 @@ fn items_at(document: &[Items], field: u32) -> &[Item]
     }
 }
 
-/// The documents of which some item in an attribute has the value of a part, ascending, each with its
-/// score.
+/// Returns the documents that have the value of some part in an attribute, ascending, each with its score.
 pub fn scores_of(
     alloc: Global,
     documents: &BTreeMap<Doc, FieldItems>,

@@ -1,7 +1,7 @@
-//! Laws of what a table answers. Each function does nothing: its contract is the law.
+//! Laws of the answers of a table. Each function does nothing; its contract is the law.
 ghost use Rattle.attr_types.specs.ScoresLaws.{ScoresFit, ScoresAscend};
 
-/// No score leaves 128 signed bits, and scores ascend by document.
+/// Each score fits in 128 signed bits, and scores ascend by document.
 pub fn scores_law()
     ensures fit { ScoresFit }
     ensures ascend { ScoresAscend }

@@ -30,7 +30,7 @@ fn items_of(alloc: Global, weights: BTreeMap<Value, i32>) -> Result<Items, Alloc
     Ok(items)
 }
 
-/// A weighted set with more items: a value that is there takes the new weight.
+/// Returns a weighted set with more items. A value that is already in the set takes the new weight.
 pub fn with_more(alloc: Global, items: &[Item], more: &[Item]) -> Result<Items, AllocError>
     requires { AscendByValue items.now }
     ensures { IfOk result (λ joined. joined ≡ with_items items.now more.now) }
@@ -51,7 +51,7 @@ fn set_of(alloc: Global, names: &[Value]) -> Result<BTreeSet<Value>, AllocError>
     Ok(set)
 }
 
-/// A weighted set without the values named.
+/// Returns a weighted set without the named values.
 pub fn without_named(alloc: Global, items: &[Item], names: &[Value]) -> Result<Items, AllocError>
     ensures { IfOk result (λ kept. kept ≡ without_values items.now names.now) }
 {

@@ -20,7 +20,7 @@ impl Model for Text {
 }
 
 impl Text {
-    /// How many bytes a text has at most.
+    /// The greatest number of bytes of a text.
     pub const MAX_LEN: usize = 1024;
 
     pub fn new(text: String) -> Text

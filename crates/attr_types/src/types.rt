@@ -3,7 +3,7 @@ ghost use Rattle.attr_types.specs.Names.{kind_named, value_named};
 
 use crate::{Kind, ValueType};
 
-/// The kind of this name.
+/// Returns the kind with this name.
 pub fn kind_named(name: &str) -> Option<Kind>
     ensures { result ≡ kind_named name.now }
 {
@@ -18,7 +18,7 @@ pub fn kind_named(name: &str) -> Option<Kind>
     }
 }
 
-/// The value type of this name.
+/// Returns the value type with this name.
 pub fn value_named(name: &str) -> Option<ValueType>
     ensures { result ≡ value_named name.now }
 {

@@ -1,7 +1,7 @@
 use crate::list::ListOf;
 use crate::text::Text;
 
-/// A value that a document has.
+/// A value of a document.
 #[derive(Clone, Debug, Drop)]
 pub enum Value {
     Long(i64),

@@ -1,4 +1,4 @@
--- The text of `--also`: further attributes, `name:kind:value` each, parted by commas.
+-- The text of `--also`: further attributes, each as `name:kind:value`, separated by commas.
 use Rattle.std.specs.Prelude.{ℕ, ◌+◌, ◌≤◌, ◌&&◌, ◌==◌, not, nat_lt, is_some, List, [], ◌∷◌, ◌++◌, length}
 use Rattle.std.specs.Prelude.{if◌then◌else◌, slice_get, unwrap_or, Option, Some, None, Result, Ok, Err}
 use Rattle.std.specs.List.{slice_split}
@@ -9,7 +9,7 @@ use Rattle.attr_words.specs.declared.also.Part.{Part}
 use Rattle.attr_words.specs.declared.reading.WordsError.{WordsError}
 use Rattle.attr_words.specs.declared.reading.WordsError.TheVariants.{Also}
 
--- the next step, where none so far was refused
+-- the next step, if nothing was refused so far
 infixl 10 ◌>>=◌
 abbrev pub ◌>>=◌ : {A B : Type 0} → Result A WordsError → (A → Result B WordsError) → Result B WordsError
 Ok a >>= next = next a
@@ -23,35 +23,35 @@ pub record Piece : Type 0 where
 abbrev pub piece_of : Part → Piece
 piece_of part = record { place = part.place; text = part.text.now }
 
--- texts that stand one after another, with one byte between them
+-- texts that follow each other, with one byte between them
 abbrev pub placed : ℕ → List Text → List Piece
 placed place [] = []
 placed place (text ∷ texts) = record { place = place; text = text } ∷ placed (place + length text + 1) texts
 
--- how far such texts reach, with a byte after each
+-- the length of such texts, with a byte after each
 abbrev pub span : List Text → ℕ
 span [] = 0
 span (text ∷ texts) = length text + 1 + span texts
 
--- a piece does not reach beyond this offset
+-- a piece ends at or before this offset
 abbrev pub EndsBefore : ℕ → Piece → Type 0
 EndsBefore offset piece = piece.place + length piece.text ≤ offset
 
--- the pieces of a piece, parted by a byte
+-- the pieces of a piece, separated by a byte
 abbrev pub pieces : ℕ → Piece → List Piece
 pieces mark piece = placed piece.place (slice_split (λ byte. byte == mark) piece.text)
 
--- the part of a list with this number; one that is missing is empty, and stands at the end of the whole
+-- the part of a list with this number; a missing one is empty, at the end of the whole
 abbrev pub part_at : Piece → List Piece → ℕ → Piece
 part_at whole parts n =
     unwrap_or (slice_get parts n) (record { place = whole.place + length whole.text; text = [] })
 
--- what is there, or the place of the part that should have said it
+-- what exists, or the place of the part that should have it
 abbrev pub or_broken : {A : Type 0} → Piece → Option A → Result A WordsError
 or_broken part (Some a) = Ok a
 or_broken part None = Err (Also part.place)
 
--- a name that none of the attributes before it has
+-- a name that no attribute before it has
 abbrev pub new_name : List Field → Text → Option Text
 new_name before text = if is_name text && not (is_some (field_named before text)) then Some text else None
 
@@ -67,23 +67,22 @@ field_of_parts before whole parts = do
   value ← or_broken (part_at whole parts 2) (value_named (part_at whole parts 2).text)
   or_surplus (slice_get parts 3) (record { name = name; kind = kind; value = value })
 
--- the attribute of a field `name:kind:value` after those before it, or the place of its first part that breaks
--- this form
+-- the attribute of a field `name:kind:value` after those before it, or the place of its first wrong part
 unfoldable pub field_in : List Field → Piece → Result Field WordsError
 field_in before piece = field_of_parts before piece (pieces 58 piece)
 
--- there are eight attributes at most
+-- there are at most eight attributes
 unfoldable pub next_field : List Field → Piece → Result Field WordsError
 next_field before piece = if nat_lt (length before) 8 then field_in before piece else Err (Also piece.place)
 
--- the attributes with those of further fields: the first field that breaks the form decides
+-- the attributes followed by those of further fields; the first wrong field decides
 unfoldable pub fields_from : List Field → List Piece → Result (List Field) WordsError
 fields_from before [] = Ok before
 fields_from before (piece ∷ more) = do
   field ← next_field before piece
   fields_from (before ++ field ∷ []) more
 
--- the attribute of `--field`, and those of `--also` where it is given
+-- the attribute of `--field`, and those of `--also` if it is given
 unfoldable pub named_fields : Field → Option Text → Result (List Field) WordsError
 named_fields first None = Ok (first ∷ [])
 named_fields first (Some text) = fields_from (first ∷ []) (pieces 44 (record { place = 0; text = text }))

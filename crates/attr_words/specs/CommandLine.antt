@@ -1,11 +1,11 @@
--- The command `attr`, as `clap` sees it: the one place of its options, their ranges and defaults.
+-- The command `attr` as `clap` sees it, with its options, their ranges and defaults.
 use Rattle.std.specs.Prelude.{ℕ, true, List, [], ◌∷◌, codes, Some}
 use Rattle.clap.specs.Walk.{Rule, Text}
 use Rattle.clap.specs.Simple.{App, new_app, new_rule, with_rule, on_top}
 use Rattle.clap.specs.declared.builder.action.ArgAction.TheVariants.{Append, SetTrue}
 use Rattle.clap.specs.declared.builder.value_parser.ValueParser.TheVariants as parsers
 
--- an option with a number: the least and the most that it takes, and its default, if it has one
+-- an option with a number: the least and the greatest that it takes, and its default, if any
 pub record NumberOption : Type 0 where
   pub name : Text
   pub least : ℕ
@@ -77,6 +77,6 @@ abbrev pub with_flags : App → App
 with_flags a = with_rule (with_rule (with_rule (with_rule a (flag_rule (codes "after"))) (flag_rule (codes "wide")))
     (flag_rule (codes "dense"))) (flag_rule (codes "save"))
 
--- attr with these and [QUERY..]
+-- `attr` with these and [QUERY..]
 unfoldable pub attr_app : App
 attr_app = with_rule (with_flags (with_numbers (with_fields bare))) (words_rule (codes "query"))

@@ -1,4 +1,4 @@
--- What `read_words` has found on its way: the texts of the options, and clap's kinds of error.
+-- What `read_words` finds on its way: the texts of the options, and clap's kinds of error.
 use Rattle.std.specs.Prelude.{◌≡◌, ◌<◌, ◌^◌, ◌⊎◌, List, Some, None, codes}
 use Rattle.std.specs.Str.Parse.{IsNumeral, digits_value, without_leading_plus}
 use Rattle.clap.specs.Walk.{Row, Text, first_of, one_of}
@@ -8,12 +8,12 @@ use Rattle.attr_words.specs.CommandLine.{batch, readers, rounds, buffers, words,
 use Rattle.attr_words.specs.declared.reading.WordsError.{WordsError}
 use Rattle.attr_words.specs.declared.reading.WordsError.TheVariants as errors
 
--- an argument has a text, read as it was written, of which P holds
+-- an argument has a text, as it was written, with property P
 abbrev pub HasText : (Text → Type 0) → Text → List Row → Type 0
 HasText P name rows = (text : Text) × (first_of name rows ≡ Some text)
     × (one_of name rows ≡ Some text) × P text
 
--- it has such a text, or none
+-- it has such a text, or no text
 abbrev pub MayHaveText : (Text → Type 0) → Text → List Row → Type 0
 MayHaveText P name rows = ((first_of name rows ≡ None) × (one_of name rows ≡ None)) ⊎ HasText P name rows
 
@@ -43,7 +43,7 @@ pub record HasTexts (rows : List Row) : Type 0 where
   pub dense : HasFlagText (codes "dense") rows
   pub save : HasFlagText (codes "save") rows
 
--- the error that a kind of clap's becomes
+-- the error for a kind of error of clap
 abbrev pub error_of : ErrorKind → WordsError
 error_of kinds.DisplayHelp = errors.Help
 error_of kinds.OutOfMemory = errors.Memory

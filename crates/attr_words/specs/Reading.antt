@@ -1,4 +1,4 @@
--- What a list of words is read as: by clap's `fault_of` and `matches_of` over the command `attr`.
+-- How a list of words is read, by clap's `fault_of` and `matches_of` over the command `attr`.
 use Rattle.std.specs.Prelude.{◌≡◌, ◌≢◌, ◌≤◌, ℕ, Bool, List, [], ◌∷◌, map, codes, Result, Ok, Err}
 use Rattle.std.specs.Prelude.{Option, Some, IfSome, option_map, unwrap_or, string_bytes, String}
 use Rattle.std.specs.declared.alloc.Global.{Global}
@@ -14,9 +14,9 @@ use Rattle.attr_words.specs.declared.options.Options.{Options}
 use Rattle.attr_words.specs.declared.reading.WordsError.{WordsError}
 use Rattle.attr_words.specs.declared.reading.WordsError.TheVariants as errors
 
--- ---- when the words are taken
+-- ---- when the words are accepted
 
--- the command takes the words
+-- the command accepts the words
 abbrev pub AreTaken : List Text → Type 0
 AreTaken line = fault_of attr_app line ≡ []
 
@@ -29,9 +29,9 @@ abbrev pub AreRefused : List Text → Type 0
 AreRefused line = (kind : ErrorKind) × (kind ≢ kinds.DisplayHelp)
     × (fault_of attr_app line ≡ kind ∷ [])
 
--- ---- what they then say
+-- ---- the contents of the options
 
--- what each option says, as texts and numbers
+-- the content of each option, as texts and numbers
 pub record Said : Type 0 where
   pub kind : Text
   pub value : Text
@@ -50,7 +50,7 @@ pub record Said : Type 0 where
   pub save : Bool
   pub queries : List Text
 
--- the text of an option; one that is required, or has a default, has a text
+-- the text of an option; an option that is required or has a default has a text
 abbrev pub text_at : Text → List Row → Text
 text_at name rows = unwrap_or (first_of name rows) []
 
@@ -69,7 +69,7 @@ flag_at name rows = bytes_eq (text_at name rows) (codes "true")
 abbrev pub texts_at : Text → List Row → List Text
 texts_at name rows = unwrap_or (all_of name rows) []
 
--- what the options say, from the matches that clap gives
+-- the contents of the options, from clap's matches
 abbrev pub said_by : List Row → Said
 said_by rows = record {
   kind = text_at (codes "kind") rows;
@@ -104,11 +104,11 @@ pub record IsInRange (said : Said) : Type 0 where
   pub in_make : IfSome said.make (IsWithin make)
   pub in_seed : IsWithin seed said.seed
 
--- so it does in all words that the command takes
+-- this holds for all words that the command accepts
 abbrev pub RangesHold : Type 0
 RangesHold = (line : List Text) → AreTaken line → IsInRange (said_by (matches_of attr_app line))
 
--- kind, value type and field are texts that the matches have, and none is made up
+-- kind, value type and field are texts in the matches, and none is made up
 abbrev pub HasGivenTexts : List Row → Type 0
 HasGivenTexts rows = (first_of (codes "kind") rows ≡ Some (said_by rows).kind)
     × (first_of (codes "value") rows ≡ Some (said_by rows).value)
@@ -117,7 +117,7 @@ HasGivenTexts rows = (first_of (codes "kind") rows ≡ Some (said_by rows).kind)
 abbrev pub TextsAreGiven : Type 0
 TextsAreGiven = (line : List Text) → AreTaken line → HasGivenTexts (matches_of attr_app line)
 
--- ---- what is read of them
+-- ---- what is read
 
 abbrev pub text_option : Option (String Global) → Option Text
 text_option text = option_map (λ s. string_bytes s) text
@@ -143,7 +143,7 @@ options_said o = record {
   queries = map (λ q. string_bytes q) o.queries.items;
 }
 
--- what the command answers to a list of words; the three causes exclude each other
+-- the result of the command for a list of words; the three cases exclude each other
 abbrev pub AnswersWords : List Text → Result Options WordsError → Type 0
 AnswersWords line (Ok o) = AreTaken line × (options_said o ≡ said_by (matches_of attr_app line))
 AnswersWords line (Err errors.Help) = AskForHelp line

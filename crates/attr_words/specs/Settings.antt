@@ -1,6 +1,6 @@
 -- The settings of a run that words give, or why they give none.
--- Each is the first refusal on its way, or what was wanted: so the order of the lines of `settings_by` is the order
--- in which the words are looked at.
+-- Each step gives its first refusal or its result, so the order of the lines of `settings_by` is the order of the
+-- checks.
 use Rattle.std.specs.Prelude.{◌≡◌, ◌≤◌, ◌*◌, ℕ, Bool, true, false, List, [], ◌∷◌, length, map}
 use Rattle.std.specs.Prelude.{nat_lt, if◌then◌else◌, string_bytes, Option, Some, None, IfSome, Result, Ok, Err}
 use Rattle.clap.specs.Walk.{Row, Text}
@@ -33,7 +33,7 @@ pub record Given : Type 0 where
   pub save : Bool
   pub queries : List Text
 
--- what the options say, with the attributes that they name
+-- the contents of the options, with the attributes that they name
 abbrev pub given_with : Said → List Field → Given
 given_with said fields = record {
   fields = fields;
@@ -51,12 +51,12 @@ given_with said fields = record {
   queries = said.queries;
 }
 
--- what is there, or this refusal
+-- what exists, or this refusal
 abbrev pub or_refused : {A : Type 0} → WordsError → Option A → Result A WordsError
 or_refused error (Some a) = Ok a
 or_refused error None = Err error
 
--- references have 10 bits for the buffer, or 13 with `--wide`; with those 2 ^ 26 words are the most
+-- references have 10 bits for the buffer, or 13 with `--wide`, which allows at most 2 ^ 26 words
 abbrev pub are_too_many : Bool → ℕ → ℕ → Bool
 are_too_many true buffers words = nat_lt 67108864 (buffers * words)
 are_too_many false buffers words = nat_lt 1023 buffers
@@ -72,7 +72,7 @@ settings_by said = do
   fields ← named_fields (record { name = said.field; kind = kind; value = value }) said.also
   Ok (given_with said fields)
 
--- what the options say, help or a refusal, as clap finds faults in the words and matches them
+-- the contents of the options, a request for help, or a refusal, from clap's faults and matches
 abbrev pub said_or_refused : Kinds → List Row → Result Said WordsError
 said_or_refused [] rows = Ok (said_by rows)
 said_or_refused (kinds.DisplayHelp ∷ _) rows = Err errors.Help
@@ -81,11 +81,11 @@ said_or_refused (_ ∷ _) rows = Err errors.Refused
 unfoldable pub said_in : List Text → Result Said WordsError
 said_in line = said_or_refused (fault_of attr_app line) (matches_of attr_app line)
 
--- the settings that a list of words gives to the command `attr`
+-- the settings that a list of words gives for the command `attr`
 unfoldable pub settings_in : List Text → Result Given WordsError
 settings_in line = said_in line >>= settings_by
 
--- ---- what `read_words` answers
+-- ---- the result of `read_words`
 
 -- the texts and numbers of the settings
 abbrev pub given_by : Settings → Given
@@ -105,7 +105,7 @@ given_by s = record {
   queries = map (λ q. string_bytes q) s.queries.items;
 }
 
--- what was returned is what was wanted, or its refusal; out of memory says nothing
+-- the result is what was expected, or its refusal; after memory is exhausted nothing is claimed
 abbrev pub Says : {A B : Type 0} → (A → B) → Result A WordsError → Result B WordsError → Type 0
 Says shown (Ok a) wanted = wanted ≡ Ok (shown a)
 Says shown (Err errors.Help) wanted = wanted ≡ Err errors.Help
@@ -116,7 +116,7 @@ Says shown (Err (errors.Size buffers words)) wanted = wanted ≡ Err (errors.Siz
 Says shown (Err (errors.Also place)) wanted = wanted ≡ Err (errors.Also place)
 Says shown (Err errors.Memory) wanted = Unit {0}
 
--- each number lies in the range of its option, the buffers fit, and there are one to eight attributes
+-- each number is in the range of its option, the buffers can be named, and there are one to eight attributes
 pub record IsLawful (given : Given) : Type 0 where
   pub in_batch : IsWithin batch given.batch
   pub in_readers : IsWithin readers given.readers
@@ -129,6 +129,6 @@ pub record IsLawful (given : Given) : Type 0 where
   pub some : 1 ≤ length given.fields
   pub few : length given.fields ≤ 8
 
--- so are the settings of all words
+-- the settings of all words are lawful
 abbrev pub SettingsAreLawful : Type 0
 SettingsAreLawful = (line : List Text) (given : Given) → settings_in line ≡ Ok given → IsLawful given

@@ -21,7 +21,7 @@ pub(crate) struct Part<'a> {
     pub text: &'a str,
 }
 
-/// What stands between these characters.
+/// Returns the texts between occurrences of a character.
 fn texts_in<'a>(alloc: Global, text: &'a str, mark: char) -> Result<Vec<&'a str>, AllocError>
     requires { mark < 128 }
     ensures { IfOk result (λ texts. map (λ t. t.now) texts.items
@@ -30,7 +30,7 @@ fn texts_in<'a>(alloc: Global, text: &'a str, mark: char) -> Result<Vec<&'a str>
     text.split(mark).collect(alloc)
 }
 
-/// Texts that stand one after another, with one byte between them, as parts.
+/// Returns texts that follow each other, with one byte between them, as parts.
 fn placed<'a>(alloc: Global, place: u64, texts: &[&'a str]) -> Result<Vec<Part<'a>>, AllocError>
     requires { place + span (map (λ t. t.now) texts.now) < 2 ^ 64 }
     ensures { IfOk result (λ parts. map piece_of parts.items ≡ placed place (map (λ t. t.now) texts.now)) }
@@ -44,7 +44,7 @@ fn placed<'a>(alloc: Global, place: u64, texts: &[&'a str]) -> Result<Vec<Part<'
     Ok(parts)
 }
 
-/// The pieces of a piece, parted by this character.
+/// Splits a piece at a character.
 fn cut<'a>(alloc: Global, whole: Part<'a>, mark: char) -> Result<Vec<Part<'a>>, AllocError>
     requires ascii { mark < 128 }
     requires small { whole.place + length whole.text.now + 1 < 2 ^ 64 }
@@ -56,7 +56,7 @@ fn cut<'a>(alloc: Global, whole: Part<'a>, mark: char) -> Result<Vec<Part<'a>>, 
     placed(alloc, whole.place, texts.as_slice())
 }
 
-/// The part with this number of a whole, or the empty one at its end.
+/// Returns the part with this number, or an empty part at the end of the whole.
 fn part_at<'a>(whole: Part<'a>, parts: &[Part<'a>], number: usize) -> Part<'a>
     requires { whole.place + length whole.text.now < 2 ^ 64 }
     ensures { piece_of result ≡ part_at (piece_of whole.entry) (map piece_of parts.now) number }
@@ -70,7 +70,7 @@ fn part_at<'a>(whole: Part<'a>, parts: &[Part<'a>], number: usize) -> Part<'a>
     }
 }
 
-/// The name of a field, where no attribute before it has it.
+/// Returns the name of a field, if no attribute before it has the same name.
 fn name_in(alloc: Global, before: &[Field], part: Part<'_>) -> Result<Name, WordsError>
     ensures { Says (λ name. name) result
         (or_broken (piece_of part.entry) (new_name before.now part.entry.text.now)) }
@@ -83,21 +83,21 @@ fn name_in(alloc: Global, before: &[Field], part: Part<'_>) -> Result<Name, Word
     }
 }
 
-/// The kind that a part names.
+/// Returns the kind that a part names.
 fn kind_in(part: Part<'_>) -> Result<Kind, WordsError>
     ensures { Says (λ kind. kind) result (or_broken (piece_of part.entry) (kind_named part.entry.text.now)) }
 {
     kind_named(part.text).ok_or(WordsError::Also { place: part.place })
 }
 
-/// The value type that a part names.
+/// Returns the value type that a part names.
 fn value_in(part: Part<'_>) -> Result<ValueType, WordsError>
     ensures { Says (λ value. value) result (or_broken (piece_of part.entry) (value_named part.entry.text.now)) }
 {
     value_named(part.text).ok_or(WordsError::Also { place: part.place })
 }
 
-/// The attribute of a field `name:kind:value`.
+/// Returns the attribute of a field `name:kind:value`.
 #[tactic(auto, unfolding(crate::specs::Also::field_in))]
 fn field_in(alloc: Global, before: &[Field], whole: Part<'_>) -> Result<Field, WordsError>
     requires { whole.place + length whole.text.now + 1 < 2 ^ 64 }
@@ -113,7 +113,7 @@ fn field_in(alloc: Global, before: &[Field], whole: Part<'_>) -> Result<Field, W
     }
 }
 
-/// The attribute of a field, where there is room for one more.
+/// Returns the attribute of a field, if one more attribute is allowed.
 #[tactic(auto, unfolding(crate::specs::Also::next_field))]
 fn next_field(alloc: Global, before: &[Field], whole: Part<'_>) -> Result<Field, WordsError>
     requires { whole.place + length whole.text.now + 1 < 2 ^ 64 }
@@ -126,7 +126,7 @@ fn next_field(alloc: Global, before: &[Field], whole: Part<'_>) -> Result<Field,
     }
 }
 
-/// The attributes with those of further fields.
+/// Returns the attributes followed by those of further fields.
 fn fields_from(alloc: Global, first: Field, parts: &[Part<'_>]) -> Result<Fields, WordsError>
     requires { AllByRecursion (EndsBefore 18446744073709551614) (map piece_of parts.now) }
     ensures { Says (λ fields. fields) result (fields_from (first ∷ []) (map piece_of parts.now)) }
@@ -139,7 +139,7 @@ fn fields_from(alloc: Global, first: Field, parts: &[Part<'_>]) -> Result<Fields
     Ok(fields)
 }
 
-/// The attribute of `--field`, and those of `--also` where it is given.
+/// Returns the attribute of `--field`, and those of `--also` if it is given.
 #[tactic(auto, unfolding(crate::specs::Also::named_fields))]
 pub(crate) fn fields_of(
     alloc: Global,

@@ -80,7 +80,7 @@ fn words_argument<'a>(alloc: Global, name: &'a str) -> Arg<'a>
     Arg::new(alloc, name).action(ArgAction::Append)
 }
 
-/// The options that name the attributes.
+/// Adds the options that name the attributes.
 fn with_fields<'a>(alloc: Global, command: Command<'a>) -> Result<Command<'a>, AllocError>
     ensures { IfOk result (λ c. app_of c ≡ with_fields (app_of command.entry)) }
 {
@@ -91,7 +91,7 @@ fn with_fields<'a>(alloc: Global, command: Command<'a>) -> Result<Command<'a>, A
         .arg(free_text_option(alloc, "also"))
 }
 
-/// The options with a number.
+/// Adds the options with a number.
 fn with_numbers<'a>(alloc: Global, command: Command<'a>) -> Result<Command<'a>, AllocError>
     ensures { IfOk result (λ c. app_of c ≡ with_numbers (app_of command.entry)) }
 {
@@ -105,7 +105,7 @@ fn with_numbers<'a>(alloc: Global, command: Command<'a>) -> Result<Command<'a>, 
         .arg(number_option(alloc, "seed", 0, 65_535, "1"))
 }
 
-/// The flags.
+/// Adds the flags.
 fn with_flags<'a>(alloc: Global, command: Command<'a>) -> Result<Command<'a>, AllocError>
     ensures { IfOk result (λ c. app_of c ≡ with_flags (app_of command.entry)) }
 {
@@ -116,7 +116,7 @@ fn with_flags<'a>(alloc: Global, command: Command<'a>) -> Result<Command<'a>, Al
         .arg(flag_option(alloc, "save"))
 }
 
-/// The command that reads the words after the program's name.
+/// Returns the command that reads the words after the program's name.
 pub(crate) fn attr_command<'a>(alloc: Global) -> Result<Command<'a>, AllocError>
     ensures { IfOk result (λ c. app_of c ≡ attr_app) }
 {

@@ -1,4 +1,4 @@
-//! The command line of `attr`: a list of words, read by `clap` into the settings of a run.
+//! The command line of `attr`: a list of words, which `clap` reads into the settings of a run.
 #![tactic(auto)]
 
 mod also;

@@ -1,4 +1,4 @@
-//! What each option says, as clap's matches give it.
+//! The content of each option, from clap's matches.
 ghost use Rattle.std.specs.Prelude.{◌≡◌, IfOk, map, option_map, string_bytes};
 ghost use Rattle.clap.specs.Matches.{found_of};
 ghost use Rattle.clap.specs.Walk.{first_of, rows_of};
@@ -9,8 +9,8 @@ ghost use Rattle.attr_words.specs.Reading.{text_at, text_option, texts_at};
 use clap::ArgMatches;
 use std::alloc::{AllocError, Global};
 
-/// What each option says, as a text or a number. The names of kind and value type, the further attributes and
-/// the queries are texts as they were given.
+/// The content of each option, as a text or a number. The names of kind and value type, the further attributes and
+/// the queries are texts as given.
 #[derive(Debug, Drop)]
 pub(crate) struct Options {
     pub kind: String,
@@ -98,7 +98,7 @@ fn texts_in(alloc: Global, matches: &ArgMatches<'_>, name: &str) -> Result<Vec<S
     }
 }
 
-/// What the options say by the matches of a parse.
+/// Returns the contents of the options from the matches of a parse.
 pub(crate) fn options_in(alloc: Global, matches: &ArgMatches<'_>) -> Result<Options, AllocError>
     requires { HasTexts (rows_of (found_of matches.now)) }
     ensures { IfOk result (λ o. options_said o ≡ said_by (rows_of (found_of matches.now))) }

@@ -1,4 +1,4 @@
-//! A list of words, read as settings.
+//! Reading a list of words as settings.
 ghost use Rattle.std.specs.Prelude.{◌≡◌, ◌≤◌, IfOk, length, map, string_bytes};
 ghost use Rattle.clap.specs.Faults.{fault_of};
 ghost use Rattle.attr_words.specs.CommandLine.{attr_app};
@@ -13,24 +13,24 @@ use crate::settings::{Settings, settings_by};
 use clap::error::ErrorKind;
 use std::alloc::{AllocError, Global};
 
-/// Why a list of words gives no settings. They are looked at in this order.
+/// Why a list of words gives no settings. The checks run in this order.
 #[derive(Clone, Copy, Debug, PartialEq, Eq)]
 pub enum WordsError {
     /// The words ask for help, by `--help` or `-h`, before anything in them is refused.
     Help,
-    /// The command does not take the words: a fault comes before any help flag.
+    /// The command refuses the words: a fault comes before any help flag.
     Refused,
-    /// The name of the kind is none.
+    /// The name is not that of a kind.
     Kind,
-    /// The name of the value type is none.
+    /// The name is not that of a value type.
     Value,
-    /// So many buffers, or words in all, have no references: above 1,023 buffers without `--wide`, or above
-    /// 67,108,864 words with it.
+    /// References cannot name this many buffers or words: more than 1,023 buffers without `--wide`, or more than
+    /// 67,108,864 words in all with it.
     Size { buffers: u32, words: u32 },
-    /// The text of `--also` is not one to seven fields `name:kind:value` with names of their own. `place` is
-    /// the offset of the first part that breaks this.
+    /// The text of `--also` does not consist of one to seven fields `name:kind:value` with distinct names. `place` is
+    /// the offset of the first wrong part.
     Also { place: u64 },
-    /// Memory was refused.
+    /// Memory is exhausted.
     Memory,
 }
 
@@ -52,7 +52,7 @@ fn refusal_of(kind: ErrorKind) -> WordsError
     }
 }
 
-/// What the options say in these words.
+/// Returns the contents of the options in these words.
 fn read_options(alloc: Global, words: &[String]) -> Result<Options, WordsError>
     ensures { AnswersWords (map (λ w. string_bytes w) words.now) result }
 {
@@ -63,10 +63,10 @@ fn read_options(alloc: Global, words: &[String]) -> Result<Options, WordsError>
     }
 }
 
-/// Reads the words after the program's name, first as `clap` reads them by the command `attr`
-/// (<https://docs.rs/clap>): options in any order, `--name=value` too, `--` before queries that
-/// begin with a dash, and the first fault decides. Then the names of kind and value type, the size of the
-/// store and the further attributes are looked at.
+/// Reads the words after the program's name. First `clap` reads them by the command `attr` (<https://docs.rs/clap>):
+/// options are in any order, also as `--name=value`, `--` precedes queries that begin with a dash, and the first
+/// fault decides. Then the names of kind and value type, the size of the store and the further attributes are
+/// checked.
 #[tactic(auto, using(crate::proofs::CommandLemmas::one_kind_at_most))]
 pub fn read_words(alloc: Global, words: &[String]) -> Result<Settings, WordsError>
     ensures says { Says given_by result (settings_in (map (λ w. string_bytes w) words.now)) }
@@ -78,7 +78,7 @@ pub fn read_words(alloc: Global, words: &[String]) -> Result<Settings, WordsErro
     settings_by(alloc, options)
 }
 
-/// Words that the command takes give each number in the range of its option, and texts that are there.
+/// If the command accepts words, each number is in the range of its option, and each required text is given.
 pub fn ranges_law()
     ensures ranges { RangesHold }
     ensures texts { TextsAreGiven }

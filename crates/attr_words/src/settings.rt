@@ -11,34 +11,34 @@ use crate::reading::WordsError;
 use attr_types::{Field, Fields, Kind, Name, ValueType, kind_named, value_named};
 use std::alloc::Global;
 
-/// What the words say of a run. The queries are texts as they were given.
+/// The settings that the words give. The queries are texts as given.
 #[derive(Debug, Drop)]
 pub struct Settings {
     /// The attributes: that of `--field` first, then those of `--also`.
     pub fields: Fields,
-    /// How many operations of the feed are committed together.
+    /// The number of operations of each commit.
     pub batch: u32,
-    /// How many readers run.
+    /// The number of readers.
     pub readers: u32,
-    /// How often each of them answers the queries.
+    /// How often each reader answers the queries.
     pub rounds: u32,
-    /// How many buffers the store has.
+    /// The number of buffers of the store.
     pub buffers: u32,
-    /// How many words each buffer has.
+    /// The number of words of each buffer.
     pub words: u32,
-    /// The readers run after the whole feed is loaded, and not beside the loading.
+    /// The readers run after the whole feed is loaded, not beside the loading.
     pub after: bool,
-    /// How many operations are made in place of a feed.
+    /// The number of operations that are made instead of reading a feed.
     pub make: Option<u32>,
-    /// What they are made from.
+    /// The number from which they are made.
     pub seed: u32,
-    /// References have 19 and 13 bits in place of 22 and 10.
+    /// References have 19 and 13 bits instead of 22 and 10.
     pub wide: bool,
-    /// Long posting lists are bit vectors where that is shorter.
+    /// The flag `--dense`, which changes no answer.
     pub dense: bool,
-    /// The table is saved in place of a report.
+    /// The table is saved instead of a report.
     pub save: bool,
-    /// The words that belong to no option, in their order.
+    /// The words that belong to no option, in order.
     pub queries: Vec<String>,
 }
 
@@ -54,7 +54,7 @@ fn value_in(name: &str) -> Result<ValueType, WordsError>
     value_named(name).ok_or(WordsError::Value)
 }
 
-/// Whether the references of a store cannot tell its buffers and words apart.
+/// Returns whether references cannot name all of a store's buffers and words.
 fn are_too_many(wide: bool, buffers: u32, words: u32) -> bool
     ensures { result ≡ are_too_many wide buffers words }
 {
@@ -75,7 +75,7 @@ fn room_in(wide: bool, buffers: u32, words: u32) -> Result<(), WordsError>
     }
 }
 
-/// The settings that the options say, or their first refusal.
+/// Returns the settings of the options, or their first refusal.
 #[tactic(auto, unfolding(crate::specs::Settings::settings_by))]
 pub(crate) fn settings_by(alloc: Global, options: Options) -> Result<Settings, WordsError>
     ensures { Says given_by result (settings_by (options_said options)) }

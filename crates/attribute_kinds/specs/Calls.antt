@@ -1,4 +1,4 @@
--- What an operation and a commit make of attributes, and what a refusal leaves.
+-- How an operation and a commit change attributes, and what a refusal preserves.
 use Rattle.std.specs.Prelude.{◌≡◌, ℕ, ◌+◌, ◌*◌, ◌<◌, if◌then◌else◌, List, length}
 use Rattle.entry_ref.specs.declared.images.Image.{Image}
 use Rattle.entry_ref.specs.Images.{words_at}
@@ -21,7 +21,7 @@ use Rattle.attr_steps.specs.Calls.{IsOutOfRoom}
 pub use Rattle.attr_steps.specs.Calls.{KeepsStore}
 pub use Rattle.compact_steps.specs.Compactions.{KeepsStoreBut}
 
--- what becomes of an operation
+-- the result of an operation
 abbrev pub applied_to : List Field → Table → Op → Applied
 applied_to fields table op = if is_skipped fields table op then Skipped else Changed
 
@@ -31,8 +31,8 @@ RefusesOperation old new (Full width active held oldest) = IsOutOfRoom old new w
 RefusesOperation old new (CommitsSpent commit) = ⊥
 RefusesOperation old new Memory = Unit {0}
 
--- why a commit was refused: the last commit that there can be is made; else the store was full for the root record, and no buffer was
--- free before
+-- why a commit was refused: the last possible commit is made; or the store was full for the root record, and no
+-- buffer was free before
 pub record IsFullCommit {H : Type 0} (old new : Ledger H) (width active held : ℕ) (oldest : Oldest) : Type 0 where
   pub left : old.work.commits.last < old.work.sizes.commits
   pub room : IsOutOfRoom old new width active held oldest
@@ -48,19 +48,19 @@ RefusesCommit old new (Full width active held oldest) = IsFullCommit old new wid
 RefusesCommit old new (CommitsSpent commit) = HasNoCommitLeft old commit
 RefusesCommit old new Memory = Unit {0}
 
--- where the store was full it was so for the root record: the operations, and two roots of each attribute
+-- if the store was full, it was full for the root record: the operations, and two roots of each attribute
 abbrev pub IsForRoot : List Field → AttrError → Type 0
 IsForRoot fields (Full width active held oldest) = width ≡ class_of (1 + 2 * length fields)
 IsForRoot fields (CommitsSpent commit) = Unit {0}
 IsForRoot fields Memory = Unit {0}
 
--- an image was committed: after a unit in which its root record was made, as the store commits it
+-- an image was committed by the store, after a unit in which its root record was made
 pub record CommitsImage {H : Type 0} (bits : ℕ) (old new : Ledger H) (image : Image) (info : CommitInfo) : Type 0 where
   pub mid : Ledger H
   pub prepares : KeepsStore old mid
   pub stores : StoresCommit bits mid new image (record { commit = info.commit; advance = info.advance; oldest = info.oldest })
 
--- the last commit of a store reads as this table, after so many operations
+-- the last commit of a store represents this table, after this many operations
 pub record HasCommit {H : Type 0} (ledger : Ledger H) (fields : List Field) (root : ℕ) (table : Table) (operations : ℕ) : Type 0 where
   pub root_is : (last_image ledger.work.commits).root ≡ root
   pub lawful : IsLawfulImage (shape_of (types_of fields)) (words_at (last_image ledger.work.commits)) root

@@ -1,4 +1,4 @@
--- What a step of a compaction makes of attributes, and what it came to.
+-- How a step of a compaction changes attributes, and its result.
 use Rattle.std.specs.Prelude.{◌≡◌, ◌≢◌, ◌⊎◌, ℕ, ◌<◌, ◌≤◌, length, Option, None, Some, IsSome}
 use Rattle.std.specs.declared.cmp.Ordering.TheVariants.{Greater}
 use Rattle.entry_ref.specs.References.{buffer_of}
@@ -19,12 +19,13 @@ use Rattle.attribute_kinds.specs.declared.answers.AttrError.TheVariants.{Full, C
 use Rattle.attribute_kinds.specs.declared.answers.Compacted.{Compacted}
 use Rattle.attribute_kinds.specs.declared.answers.Compacted.TheVariants.{Idle, Moved, Finished}
 
--- no compaction is under way, and an emptied buffer waits for its commit, or none is worth it
+-- no compaction is in progress, and an emptied buffer waits for its commit, or no buffer is worth it
 pub record IsIdle {H : Type 0} (bits : ℕ) (ledger : Ledger H) (plan : Option PlanView) : Type 0 where
   pub none : plan ≡ None
   pub why : IsSome ledger.finished ⊎ HasNoVictim bits ledger
 
--- the store was full for a width: it has an active buffer of it, and fewer entries to spare than a node has words
+-- the store was full for a width: it has an active buffer of this width, and fewer spare entries than a node has
+-- words
 pub record IsFullForKey {H : Type 0} (old new : Ledger H) (width active held : ℕ) (oldest : Oldest) : Type 0 where
   pub room : IsOutOfRoom old new width active held oldest
   pub spare : (new.of_width width).spare < 34
@@ -37,16 +38,16 @@ RefusesKey old new (CommitsSpent commit) = ⊥
 RefusesKey old new Memory = Unit {0}
 
 module _ {S H : Type 0} (bits : ℕ) (ledger : S → Ledger H) (records : S → Records) (old new : AttributeView S) where
-  -- how many keys lie past the place where the compaction stood, and not past this one
+  -- the number of keys after the place of the compaction, up to this one
   abbrev pub keys_to : PlanPlace → ℕ
   keys_to place = keys_between (place_of_plan old.plan) place (records old.store) old.trees
 
-  -- the compaction that was under way, or was begun; it did not go back
+  -- the compaction in progress, or the one that was begun; it did not move back
   pub record IsAt (plan : PlanView) : Type 0 where
     pub under : IsUnderPlan bits (length old.fields) (ledger old.store) (ledger new.store) old.plan plan
     pub rises : place_cmp (place_of_plan old.plan) plan.place ≢ Greater
 
-  -- it is under way, so many keys further
+  -- it is in progress, this many keys further
   pub record GoesTo (moved : ℕ) : Type 0 where
     pub plan : PlanView
     pub plan_is : new.plan ≡ Some plan
@@ -54,7 +55,7 @@ module _ {S H : Type 0} (bits : ℕ) (ledger : S → Ledger H) (records : S → 
     pub count : keys_to plan.place ≡ moved
     pub unfinished : (ledger new.store).finished ≡ None
 
-  -- all keys were visited; or at least one and not all, since the next one was refused
+  -- some keys were visited, but not all, since the next one was refused
   pub record StopsAt (keys moved : ℕ) (error : AttrError) : Type 0 where
     pub some : 0 < moved
     pub few : moved < keys
@@ -84,7 +85,7 @@ module _ {S H : Type 0} (bits : ℕ) (ledger : S → Ledger H) (records : S → 
   CompactsTo keys (Moved moved stop) = GoesTo moved × Stops keys moved stop
   CompactsTo keys (Finished buffer) = Empties keys buffer
 
-  -- the first key was refused: each entry is what it was
+  -- the first key was refused: each entry is as it was
   pub record RefusesStep (error : AttrError) : Type 0 where
     pub goes : GoesTo 0
     pub refused : RefusesKey (ledger old.store) (ledger new.store) error

@@ -1,4 +1,4 @@
--- A store's refusal, as one of the attributes, and what a step came to.
+-- A refusal of the store, as one of the attributes, and the result of a step.
 use Rattle.std.specs.Prelude.{Bool, true, false, Result, Ok, Err}
 use Rattle.std.specs.Option.{option_map}
 use Rattle.store_api.specs.declared.store.StoreError.{StoreError}
@@ -20,7 +20,7 @@ told_of (Ok (steps.Moved keys stop)) = Ok (Moved keys (option_map refusal_of_sto
 told_of (Ok (steps.Finished buffer)) = Ok (Finished buffer)
 told_of (Err error) = Err (refusal_of_store error)
 
--- whether an emptied buffer waits for its commit from now on
+-- whether an emptied buffer waits for its commit after this step
 abbrev pub has_finished : Result Step StoreError → Bool
 has_finished (Ok steps.Idle) = false
 has_finished (Ok (steps.Moved keys stop)) = false

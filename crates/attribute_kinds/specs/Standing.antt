@@ -15,7 +15,7 @@ use Rattle.attr_steps.specs.Fields.{HoldsAttributes, trees_of}
 use Rattle.compact_steps.specs.Units.{IsUnderWay}
 use Rattle.compact_steps.specs.Walks.{HasLastField}
 
--- the last commit: its root record, its number, and how many operations it has
+-- the last commit: its root record, its number, and its number of operations
 pub record IsLast {H : Type 0} (ledger : Ledger H) (fields : List Field) (root commit operations : ℕ) : Type 0 where
   pub root_is : (last_image ledger.work.commits).root ≡ root
   pub lawful : IsLawfulImage (shape_of (types_of fields)) (words_at (last_image ledger.work.commits)) root
@@ -30,7 +30,7 @@ pub record StandsAttribute {H : Type 0} {bits : ℕ} (ledger : Ledger H) (m : Re
   pub holds : HoldsAttributes bits ledger m fields (trees_of fields roots) root
   pub last : IsLast ledger fields root commit operations
 
--- and the compaction that is under way, or the emptied buffer that waits for its commit
+-- the invariant, with the compaction in progress, or the emptied buffer that waits for its commit
 pub record IsAttribute {H : Type 0} {bits : ℕ} (ledger : Ledger H) (m : Records) (fields : List Field) (roots : List (FieldRoots bits))
     (root commit operations : ℕ) (plan : Option PlanView) (waits : Bool) : Type 0 where
   pub stands : StandsAttribute ledger m fields roots root commit operations

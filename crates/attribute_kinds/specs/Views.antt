@@ -5,18 +5,18 @@ use Rattle.attr_images.specs.Tables.{AttributeTrees}
 use Rattle.attr_types.specs.Table.{Table}
 use Rattle.attr_types.specs.declared.field.Field.{Field}
 
--- the store with all that the attributes have in it
+-- the store with the attributes, which own everything in it
 pub record AttributeView (S : Type 0) : Type 0 where
   pub store : S
   pub fields : List Field
-  -- the trees of each attribute, and what they read as
+  -- the trees of each attribute, and the table that they represent
   pub trees : List AttributeTrees
   pub table : Table
   -- the operations applied so far
   pub operations : ℕ
-  -- the root record of the last commit, 0 before the first; its table and its operations
+  -- the root record of the last commit (0 before the first), its table and its operations
   pub root : ℕ
   pub committed : Table
   pub committed_operations : ℕ
-  -- the compaction that is under way
+  -- the compaction in progress
   pub plan : Option PlanView

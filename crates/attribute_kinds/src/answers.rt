@@ -6,35 +6,40 @@ use arena_api::{Advance, Oldest};
 use compact_steps::Step;
 use entry_ref::EntryRef;
 use store_api::StoreError;
+use thiserror::Error;
 
-/// Why an operation or a commit was refused. All is as it was, and the call may be made again.
-#[derive(Clone, Copy, Drop)]
+/// Why an operation or a commit was refused. Everything is as it was, and the call may be repeated.
+#[derive(Clone, Copy, Debug, PartialEq, Eq, Drop, Error)]
 pub enum AttrError {
-    /// The store has no room for an entry of this width: no buffer is free.
+    /// The store has no space for an entry of this width: no buffer is free.
+    #[error("no room for an entry of {width} words: {active} buffers are active, {held} on hold")]
     Full {
         width: u32,
         active: u32,
         held: u32,
         oldest: Oldest,
     },
-    /// This commit is the last that there can be.
+    /// This commit is the last possible one.
+    #[error("commit {commit} is the last that there can be")]
     CommitsSpent {
         commit: u32,
     },
+    /// Memory ran out.
+    #[error("memory ran out")]
     Memory,
 }
 
-/// What a commit came to.
+/// The result of a commit.
 #[derive(Clone, Copy, Drop)]
 pub struct CommitInfo {
     pub commit: u32,
-    /// How many operations it has.
+    /// The number of operations in the commit.
     pub operations: u32,
     pub advance: Advance,
     pub oldest: Oldest,
 }
 
-/// The last commit: its root record, 0 before the first, its number, and how many operations it has.
+/// The last commit: its root record (0 before the first), its number, and its number of operations.
 #[derive(Clone, Copy, Drop)]
 pub struct Published<const OFFSET_BITS: u32> {
     pub root: EntryRef<OFFSET_BITS>,
@@ -42,18 +47,19 @@ pub struct Published<const OFFSET_BITS: u32> {
     pub operations: u32,
 }
 
-/// What a step of a compaction came to.
+/// The result of a step of a compaction.
 #[derive(Clone, Copy, Drop)]
 pub enum Compacted {
-    /// None is under way, and none was begun: an emptied buffer waits for its commit, or none is worth it.
+    /// No compaction is in progress, and none was begun: an emptied buffer waits for its commit, or no buffer is
+    /// worth it.
     Idle,
-    /// So many keys were visited; where there is a refusal, the next one met it.
+    /// This many keys were visited. If `stop` is set, the next key was refused for that reason.
     Moved { keys: u32, stop: Option<AttrError> },
-    /// Nothing of this buffer is in use by the attributes any more. It goes on hold with the next commit.
+    /// The attributes no longer use anything in this buffer. It goes on hold with the next commit.
     Finished(u32),
 }
 
-/// A store's refusal, as one of the attributes.
+/// Converts a refusal of the store.
 pub fn refusal(error: StoreError) -> AttrError
     ensures { result ≡ refusal_of_store error }
 {
@@ -73,7 +79,7 @@ pub fn refusal(error: StoreError) -> AttrError
     }
 }
 
-/// The same, where there is one.
+/// Converts a refusal of the store, if there is one.
 fn stop_of(stop: Option<StoreError>) -> Option<AttrError>
     ensures { result ≡ option_map refusal_of_store stop }
 {
@@ -83,7 +89,7 @@ fn stop_of(stop: Option<StoreError>) -> Option<AttrError>
     }
 }
 
-/// What a step came to, as callers are told.
+/// Converts the result of a step.
 pub fn told(step: Result<Step, StoreError>) -> Result<Compacted, AttrError>
     ensures { result ≡ told_of step }
 {
@@ -98,7 +104,7 @@ pub fn told(step: Result<Step, StoreError>) -> Result<Compacted, AttrError>
     }
 }
 
-/// Whether an emptied buffer waits for its commit from now on.
+/// Returns whether an emptied buffer waits for its commit after this step.
 pub fn has_finished(step: &Result<Step, StoreError>) -> bool
     ensures { result ≡ has_finished step.now }
 {

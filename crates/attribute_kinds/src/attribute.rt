@@ -36,8 +36,8 @@ use std::alloc::{AllocError, Global};
 use std::marker::Model;
 use store_api::Store;
 
-/// The attributes of a collection, up to eight, in a store of their own. Operations are applied one by one, each
-/// whole or not at all, and what was applied is committed as one image.
+/// The attributes of a collection, at most eight, in a store of their own. Each operation is applied as a whole or
+/// not at all, and the applied operations are committed as one image.
 #[derive(Drop)]
 pub struct Attribute<const OFFSET_BITS: u32, S: Store<OFFSET_BITS, Layout = AttrLayout>> {
     store: S,
@@ -83,7 +83,7 @@ impl<const OFFSET_BITS: u32, W: Work<OFFSET_BITS, Layout = AttrLayout>> Attribut
     OFFSET_BITS,
     EntryStore<OFFSET_BITS, W>,
 > {
-    /// Attributes without a document, over a work of which nothing is committed or handed out yet.
+    /// Creates attributes without documents, over a work in which nothing is committed or handed out.
     #[tactic(none)]
     pub fn create(alloc: Global, work: W, fields: &Fields, dense: bool) -> Result<Self, NoMemory<W>>
         requires some { 0 < length fields.now }
@@ -125,7 +125,7 @@ impl<const OFFSET_BITS: u32, W: Work<OFFSET_BITS, Layout = AttrLayout>> Attribut
         })
     }
 
-    /// The work with all that was committed, and the last commit.
+    /// Returns the work, with all that was committed, and the last commit.
     #[tactic(none)]
     pub fn into_work(self) -> (W, Published<OFFSET_BITS>)
         ensures knows { W.knows result.0 ≡ (⟦<EntryStore<OFFSET_BITS, W> as Store<OFFSET_BITS>>⟧.ledger self.store).work }
@@ -142,7 +142,7 @@ impl<const OFFSET_BITS: u32, W: Work<OFFSET_BITS, Layout = AttrLayout>> Attribut
 }
 
 impl<const OFFSET_BITS: u32, S: Store<OFFSET_BITS, Layout = AttrLayout>> Attribute<OFFSET_BITS, S> {
-    /// The store with all that was committed, and the last commit.
+    /// Returns the store, with all that was committed, and the last commit.
     #[tactic(none)]
     pub fn into_store(self) -> (S, Published<OFFSET_BITS>)
         ensures store { result.0 ≡ self.store }
@@ -155,7 +155,7 @@ impl<const OFFSET_BITS: u32, S: Store<OFFSET_BITS, Layout = AttrLayout>> Attribu
         (self.store, self.last)
     }
 
-    /// How many operations were applied so far, the skipped ones counted.
+    /// Returns the number of operations applied so far, including skipped ones.
     pub fn operations(&self) -> u32
         ensures operations { result ≡ self.now.operations }
         ensures commit { HasCommit (S.ledger self.now.store) self.now.fields self.now.root
@@ -165,8 +165,8 @@ impl<const OFFSET_BITS: u32, S: Store<OFFSET_BITS, Layout = AttrLayout>> Attribu
         self.operations
     }
 
-    /// Applies an operation to the attributes, or skips it. Where it is refused all is as it was, and it may be
-    /// tried again.
+    /// Applies an operation to the attributes, or skips it. If it is refused, everything is as it was, and the call
+    /// may be repeated.
     #[tactic(none)]
     pub fn apply(&mut self, alloc: Global, op: &Op) -> Result<Applied, AttrError>
         requires room { self.old.operations < 2 ^ 32 - 1 }
@@ -212,8 +212,8 @@ impl<const OFFSET_BITS: u32, S: Store<OFFSET_BITS, Layout = AttrLayout>> Attribu
         }
     }
 
-    /// Commits the table and the count of operations. Where it is refused all is as it was, and it may be tried
-    /// again.
+    /// Commits the table and the number of operations. If it is refused, everything is as it was, and the call may be
+    /// repeated.
     #[tactic(none)]
     pub fn commit(&mut self) -> Result<CommitInfo, AttrError>
         ensures commits { IfOk result (CommitsImage OFFSET_BITS (S.ledger self.old.store) (S.ledger self.new.store)
@@ -271,8 +271,9 @@ impl<const OFFSET_BITS: u32, S: Store<OFFSET_BITS, Layout = AttrLayout>> Attribu
         }
     }
 
-    /// Visits so many keys of the compaction that is under way, or of one that is begun: all that lies under a key is moved out of its
-    /// victim. The table stays. Where the first key is refused each entry is as it was; the compaction stays begun.
+    /// Visits `keys` keys of the compaction in progress, or of one that it begins: everything that belongs to a key
+    /// is moved out of the victim. The table does not change. If the first key is refused, each entry is as it was,
+    /// and the compaction stays begun.
     #[tactic(none)]
     pub fn compact_step(&mut self, alloc: Global, keys: u32) -> Result<Compacted, AttrError>
         ensures steps { IfOk result (CompactsTo OFFSET_BITS S.ledger S.records self.old self.new keys) }
@@ -306,7 +307,7 @@ impl<const OFFSET_BITS: u32, S: Store<OFFSET_BITS, Layout = AttrLayout>> Attribu
     }
 }
 
-/// The roots of fields without documents.
+/// Returns the roots of fields without documents.
 fn empty_roots<const OFFSET_BITS: u32>(
     alloc: Global,
     count: usize,
@@ -320,14 +321,14 @@ fn empty_roots<const OFFSET_BITS: u32>(
     vec![in alloc; empty; count]
 }
 
-/// The same fields once more.
+/// Returns a copy of the fields.
 fn copied_fields(fields: &Fields) -> Result<Fields, AllocError>
     ensures { IfOk result (λ own. own ≡ fields.now) }
 {
     Ok(fields.clone()?)
 }
 
-/// The work of a store, whose records read as the last commit.
+/// Returns the work of a store whose records are those of the last commit.
 #[tactic(none)]
 pub fn committed_work<const OFFSET_BITS: u32, W: Work<OFFSET_BITS, Layout = AttrLayout>>(
     store: EntryStore<OFFSET_BITS, W>,

@@ -1,39 +1,95 @@
-//! Guards by many readers, beside a writer or not; reads of a node under one guard.
+//! Guards by many readers, with or without a writer beside them, each released at once or kept over 64 loads of the
+//! root; and reads of a node under one guard.
 use arena_api::Work;
 use std::alloc::{AllocError, Global};
 use std::thread::{Threads, map_vec};
 use test_kit::{Held, OneNode, commit, pass, tried, turn};
 use word_arena::{Again, Arena, Config, Limits, Reader, Writer};
 
-/// What is run.
+/// The load of a run.
 #[derive(Clone, Copy)]
 pub enum Load {
     Guards {
         readers: u32,
         loops: u64,
         commits: u32,
+        keeps: bool,
     },
     Read {
         loops: u64,
     },
 }
 
-/// The one seat of a thread.
+/// The seat of a thread.
 #[derive(Drop)]
 enum Post<'a> {
     Write(Writer<'a, 22, OneNode>),
     Read(Reader<'a, 22, OneNode>),
 }
 
-/// What one thread does.
+/// The task of one thread.
 #[derive(Drop)]
 struct Job<'a> {
     post: Post<'a>,
     loops: u64,
     commits: u32,
+    keeps: bool,
 }
 
-/// Guards, each released at once: so many, or until this commit is seen.
+/// A reader, how often it looked, and the last commit that it saw.
+#[derive(Drop)]
+struct Looked<'a> {
+    reader: Reader<'a, 22, OneNode>,
+    looks: u64,
+    seen: u32,
+}
+
+/// Takes a guard and loads the root again under it, 64 looks in all.
+fn look_on<'a>(reader: Reader<'a, 22, OneNode>) -> Looked<'a> {
+    match reader.try_guard() {
+        Ok(guard) => {
+            let mut guard = guard;
+            for _ in 1..64 {
+                guard = guard.again();
+            }
+            let seen = guard.commit();
+            Looked {
+                reader: guard.release(),
+                looks: 64,
+                seen,
+            }
+        }
+        Err(again) => {
+            let Again { reader, found: _ } = again;
+            Looked {
+                reader,
+                looks: 0,
+                seen: 0,
+            }
+        }
+    }
+}
+
+/// Looks under guards that are kept: about `loops` times, or until this commit is seen.
+fn looks(reader: Reader<'_, 22, OneNode>, loops: u64, last: u32) -> u64 {
+    let mut reader = reader;
+    let mut counted = 0u64;
+    for _ in 0..loops / 64 {
+        let Looked {
+            reader: next,
+            looks,
+            seen,
+        } = look_on(reader);
+        reader = next;
+        counted = counted.saturating_add(looks);
+        if last > 0 && seen >= last {
+            break;
+        }
+    }
+    counted
+}
+
+/// Takes guards and releases each at once: a number of times, or until this commit is seen.
 fn guards(reader: Reader<'_, 22, OneNode>, loops: u64, last: u32) -> u64 {
     let mut reader = reader;
     let mut counted = 0u64;
@@ -59,7 +115,7 @@ fn guards(reader: Reader<'_, 22, OneNode>, loops: u64, last: u32) -> u64 {
     counted
 }
 
-/// Commits of nothing.
+/// Makes empty commits.
 fn commits<W: Work<22, Layout = OneNode>>(work: &mut W, most: u32) {
     for _ in 0..most {
         if commit(work).is_none() {
@@ -73,6 +129,7 @@ fn work_on(job: Job<'_>) -> u64 {
         post,
         loops,
         commits: most,
+        keeps,
     } = job;
     match post {
         Post::Write(writer) => {
@@ -80,17 +137,24 @@ fn work_on(job: Job<'_>) -> u64 {
             commits(&mut writer, most);
             0
         }
-        Post::Read(reader) => guards(reader, loops, most),
+        Post::Read(reader) => {
+            if keeps {
+                looks(reader, loops, most)
+            } else {
+                guards(reader, loops, most)
+            }
+        }
     }
 }
 
-/// The writer, and as many readers as there are to be.
+/// Returns the tasks of the writer and the readers.
 fn jobs_of<'a>(
     alloc: Global,
     writer: Writer<'a, 22, OneNode>,
     readers: u32,
     loops: u64,
     commits: u32,
+    keeps: bool,
 ) -> Result<Vec<Job<'a>>, AllocError> {
     let mut writer = writer;
     let mut jobs = Vec::new(alloc);
@@ -100,6 +164,7 @@ fn jobs_of<'a>(
                 post: Post::Read(reader),
                 loops,
                 commits,
+                keeps,
             };
             if jobs.push(job).is_err() {
                 return Err(AllocError);
@@ -110,6 +175,7 @@ fn jobs_of<'a>(
         post: Post::Write(writer),
         loops,
         commits,
+        keeps,
     };
     if jobs.push(job).is_err() {
         return Err(AllocError);
@@ -127,7 +193,7 @@ fn work_all<'a, R: Threads + Sync>(rt: &R, jobs: Vec<Job<'a>>) -> Result<Vec<u64
     )
 }
 
-/// Reads the node so often, and counts the reads that found the last word as it was stored.
+/// Reads the node `loops` times, and returns how many reads found the last word as it was stored.
 fn reads(held: Held<'_>, loops: u64) -> u64 {
     let mut held = held;
     let mut words = [0; 34];
@@ -140,7 +206,7 @@ fn reads(held: Held<'_>, loops: u64) -> u64 {
     counted
 }
 
-/// Stores a node of the first commit. Whether a buffer was free.
+/// Stores a node of the first commit. Returns whether a buffer was free.
 fn store_node<W: Work<22, Layout = OneNode>>(work: &mut W) -> bool {
     if turn(work, None, 1).is_none() {
         return false;
@@ -163,7 +229,7 @@ fn read_node(writer: Writer<'_, 22, OneNode>, loops: u64) -> u64 {
     }
 }
 
-/// How many guards or reads were made.
+/// Returns how many guards or reads were made.
 pub fn count<R: Threads + Sync>(rt: &R, alloc: Global, load: Load) -> Result<u64, AllocError> {
     let config = Config {
         buffers: 8,
@@ -181,8 +247,9 @@ pub fn count<R: Threads + Sync>(rt: &R, alloc: Global, load: Load) -> Result<u64
             readers,
             loops,
             commits,
+            keeps,
         } => {
-            let jobs = jobs_of(alloc, writer, readers, loops, commits)?;
+            let jobs = jobs_of(alloc, writer, readers, loops, commits, keeps)?;
             let mut counted = 0u64;
             for part in work_all(rt, jobs)? {
                 counted = counted.saturating_add(part);

@@ -1,6 +1,6 @@
-//! `bench_arena guards READERS LOOPS COMMITS`: so many readers, each with so many guards; or, where there are commits,
-//! with guards until the last of them. `bench_arena read LOOPS`: so many reads of a node of 34 words under one guard.
-//! What was counted is printed.
+//! `bench_arena guards READERS LOOPS COMMITS`: readers take LOOPS guards each, or, if COMMITS is not 0, guards until
+//! the last commit. `bench_arena again READERS LOOPS COMMITS`: the same, with each guard kept over 64 loads of the
+//! root. `bench_arena read LOOPS`: reads of a node of 34 words under one guard. The counts are printed.
 #![tactic(auto)]
 
 mod load;
@@ -8,12 +8,12 @@ mod load;
 use crate::load::{Load, count};
 use std::process::ExitCode;
 
-/// The load that the words after the program's name ask for.
+/// Returns the load that the words after the program's name select.
 fn load_in(rt: &HostRuntime) -> Option<Load> {
     let mut words = std::env::args(rt).ok()?.skip(1);
     let name = words.next()?;
     match name.as_str() {
-        "guards" => {
+        "guards" | "again" => {
             let readers = words.next()?.parse::<u32>().ok()?;
             let loops = words.next()?.parse::<u64>().ok()?;
             let commits = words.next()?.parse::<u32>().ok()?;
@@ -21,6 +21,7 @@ fn load_in(rt: &HostRuntime) -> Option<Load> {
                 readers,
                 loops,
                 commits,
+                keeps: name.as_str() == "again",
             })
         }
         "read" => {

@@ -7,7 +7,7 @@ use entry_ref::EntryRef;
 use mem_work::OneRecord;
 use store_api::{Store, StoreError, drop_one, make_entry};
 
-/// Drops the root record, where there is one.
+/// Drops the root record, if there is one.
 fn drop_root<const OFFSET_BITS: u32, S: Store<OFFSET_BITS>>(
     store: &mut S,
     root: EntryRef<OFFSET_BITS>,
@@ -23,7 +23,7 @@ fn drop_root<const OFFSET_BITS: u32, S: Store<OFFSET_BITS>>(
     }
 }
 
-/// One unit with a new root record in place of the old one, and its commit.
+/// Makes a new root record in place of the old one, in a unit of its own, and commits it.
 pub fn commit_root<const OFFSET_BITS: u32, S: Store<OFFSET_BITS, Layout = OneRecord>>(
     store: &mut S,
     root: EntryRef<OFFSET_BITS>,

@@ -1,4 +1,4 @@
-//! Updates of one attribute with a step of a compaction after each commit, or without.
+//! Updates of one attribute, with or without a step of a compaction after each commit.
 ghost use Rattle.std.specs.Prelude.{◌≡◌, ◌<◌, ◌≤◌, length, IfOk};
 ghost use Rattle.arena_api.specs.Calls.{IsFresh};
 ghost use Rattle.attr_images.specs.Shapes.{shape_of, types_of};
@@ -22,8 +22,8 @@ type Memory = NotedWork<22, MemWork<22, AttrLayout>>;
 
 type Kinds = Attribute<22, EntryStore<22, Memory>>;
 
-/// Documents are put; then so many updates put to some of them. After half of these the documents above `left` are removed, and the others
-/// go to documents up to it.
+/// Documents are put, followed by updates, which are puts to some of them. After half of the updates, the documents
+/// above `left` are removed, and the other updates go to documents up to `left`.
 #[derive(Clone, Copy)]
 pub struct Updates {
     pub kind: Kind,
@@ -32,31 +32,31 @@ pub struct Updates {
     pub updates: u32,
     pub left: u32,
     pub batch: u32,
-    /// Of 8,192 words each.
+    /// The number of buffers, of 8,192 words each.
     pub buffers: u32,
-    /// The lower a document's number the likelier it is drawn.
+    /// Documents with lower numbers are drawn more often.
     pub zipf: bool,
-    /// The operations are not only made.
+    /// The operations are applied, not only made.
     pub applies: bool,
-    /// How many keys of a compaction are visited after a commit.
+    /// The number of compaction keys visited after a commit.
     pub keys: u32,
-    /// The words that live are counted.
+    /// The live words are counted.
     pub counts: bool,
 }
 
-/// What a run came to.
+/// The result of a run.
 #[derive(Clone, Copy)]
 struct Told {
     operations: u32,
     commits: u32,
     finished: u32,
-    /// Steps without room.
+    /// The number of steps that found no space.
     stopped: u32,
-    /// It ended before its last operation.
+    /// The run ended before its last operation.
     full: bool,
 }
 
-/// A memory of so many buffers of 8,192 words.
+/// Creates a memory of `buffers` buffers with 8,192 words each.
 fn new_memory(
     alloc: Global,
     fields: &Fields,
@@ -72,7 +72,7 @@ fn new_memory(
     Ok(work)
 }
 
-/// Attributes without a document, over a work beside which the words of each record are kept, or not.
+/// Creates attributes without documents, over a work that keeps a copy of the words of each record, or not.
 fn noted_attribute<const OFFSET_BITS: u32, W: Work<OFFSET_BITS, Layout = AttrLayout> + Drop>(
     alloc: Global,
     work: W,
@@ -91,7 +91,7 @@ fn noted_attribute<const OFFSET_BITS: u32, W: Work<OFFSET_BITS, Layout = AttrLay
     }
 }
 
-/// A number below `most`: each as likely as any other; or one of 16 octaves, and a number of it.
+/// Returns a number below `most`: with equal chances, or from one of 16 octaves.
 fn number_of(load: Updates, most: u32, random: &mut Random) -> u32 {
     if !load.zipf {
         return below(random, most);
@@ -103,7 +103,7 @@ fn number_of(load: Updates, most: u32, random: &mut Random) -> u32 {
     number % most.max(1)
 }
 
-/// Puts items to a document.
+/// Returns a put of items to a document.
 fn put_of(
     alloc: Global,
     load: Updates,
@@ -116,7 +116,8 @@ fn put_of(
     Ok(Op::Put { doc, items })
 }
 
-/// Operation `i`: the documents one after another; half of the updates; the removes; the other half.
+/// Returns operation `i`. The operations are the documents one after another, half of the updates, the removes, and
+/// the other half.
 fn op_of(alloc: Global, load: Updates, i: u32, random: &mut Random) -> Result<Op, AllocError> {
     if i < load.documents {
         return put_of(alloc, load, i, random);
@@ -144,7 +145,7 @@ fn operations_of(load: Updates) -> u32 {
         .saturating_add(removes)
 }
 
-/// One step of a compaction, as the loader takes it.
+/// Makes one step of a compaction, as the loader does.
 fn step_one<const OFFSET_BITS: u32, S: Store<OFFSET_BITS, Layout = AttrLayout>>(
     alloc: Global,
     attribute: &mut Attribute<OFFSET_BITS, S>,
@@ -179,7 +180,7 @@ fn step_one<const OFFSET_BITS: u32, S: Store<OFFSET_BITS, Layout = AttrLayout>>(
     }
 }
 
-/// Applies an operation, and commits where it is due.
+/// Applies an operation, and commits if it is due.
 fn take_turn<const OFFSET_BITS: u32, S: Store<OFFSET_BITS, Layout = AttrLayout>>(
     alloc: Global,
     attribute: &mut Attribute<OFFSET_BITS, S>,
@@ -228,7 +229,7 @@ fn apply_all<const OFFSET_BITS: u32, W: Work<OFFSET_BITS, Layout = AttrLayout>>(
     Ok(())
 }
 
-/// The words that live, 0 where they were not counted.
+/// Returns the number of live words, or 0 if they are not counted.
 fn counted<const OFFSET_BITS: u32, W: Work<OFFSET_BITS>>(
     alloc: Global,
     fields: &Fields,
@@ -243,13 +244,13 @@ fn counted<const OFFSET_BITS: u32, W: Work<OFFSET_BITS>>(
     }
 }
 
-/// The words of the buffers that are not free.
+/// Returns the number of words of the buffers that are not free.
 fn held_by<const OFFSET_BITS: u32, W: Work<OFFSET_BITS>>(work: &NotedWork<OFFSET_BITS, W>) -> u64 {
     let taken = work.buffers().saturating_sub(work.free_buffers());
     u64::from(taken).saturating_mul(u64::from(work.words()))
 }
 
-/// What a run came to, as a line.
+/// Returns the result of a run, as a line.
 fn line_of(alloc: Global, told: Told, held: u64, live: u64) -> Result<String, AllocError> {
     let (operations, commits) = (told.operations, told.commits);
     let (finished, stopped, full) = (told.finished, told.stopped, told.full);
@@ -258,7 +259,7 @@ fn line_of(alloc: Global, told: Told, held: u64, live: u64) -> Result<String, Al
     )
 }
 
-/// The memory of attributes with all that was committed, and the root of the last commit.
+/// Returns the memory of attributes, with all that was committed, and the root of the last commit.
 fn close(attribute: Kinds, fields: &Fields) -> (Memory, EntryRef<22>)
     requires same { attribute.fields ≡ fields.now }
 {
@@ -267,7 +268,7 @@ fn close(attribute: Kinds, fields: &Fields) -> (Memory, EntryRef<22>)
     (committed_work(store, fields, root), root)
 }
 
-/// The same of attributes at their last commit.
+/// The same for attributes at their last commit.
 fn closed(
     alloc: Global,
     attribute: Kinds,
@@ -281,7 +282,7 @@ fn closed(
     line_of(alloc, told, held_by(&work), live)
 }
 
-/// A run, as a line.
+/// Makes a run, and returns its result as a line.
 fn told_of(alloc: Global, fields: &Fields, load: Updates) -> Result<String, AllocError>
     requires some { 0 < length fields.now }
     requires few { length fields.now ≤ MOST_FIELDS }
@@ -299,7 +300,7 @@ fn told_of(alloc: Global, fields: &Fields, load: Updates) -> Result<String, Allo
     closed(alloc, attribute, fields, told)
 }
 
-/// A run on one field, as a line.
+/// Makes a run on one field, and returns its result as a line.
 pub fn updates_told(alloc: Global, load: Updates) -> Result<String, AllocError> {
     let fields = one_field(alloc, load.kind, load.value)?;
     told_of(alloc, &fields, load)

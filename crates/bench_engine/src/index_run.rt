@@ -13,7 +13,7 @@ use test_kit::ValueLists;
 /// An index over a memory without readers.
 type Lists = ValueLists<22, EntryStore<22, MemWork<22, OneRecord>>>;
 
-/// Postings of so many values are drawn; the first of them are added, and the first of those removed.
+/// Postings are drawn over a number of values. The first of them are added, and the first of those removed.
 #[derive(Clone, Copy)]
 pub struct Changes {
     pub value_type: ValueType,
@@ -24,7 +24,7 @@ pub struct Changes {
     pub removes: u32,
 }
 
-/// So many lists of so many documents each are made, and all of them read in each round.
+/// Lists are made with a number of documents each, and all are read in each round.
 #[derive(Clone, Copy)]
 pub struct Reads {
     pub value_type: ValueType,
@@ -40,7 +40,7 @@ struct Counts {
     removed: u32,
 }
 
-/// Different values, in no order.
+/// Returns distinct values, in no order.
 fn values_of(alloc: Global, value_type: ValueType, count: u32) -> Result<Vec<Value>, AllocError> {
     let mut values = Vec::new(alloc);
     for number in 0..count {
@@ -49,13 +49,13 @@ fn values_of(alloc: Global, value_type: ValueType, count: u32) -> Result<Vec<Val
     Ok(values)
 }
 
-/// The document of posting `i`: each number up to `most` once, in no order.
+/// Returns the document of posting `i`: each number up to `most` once, in no order.
 fn doc_at(i: u32, most: u32) -> Doc {
     let most = most.max(1).min(Doc::LAST);
     Doc::new((u64::from(i) * 611_953 % u64::from(most)) as u32 + 1)
 }
 
-/// Adds the first postings. A store that is full is an error here as well.
+/// Adds the first postings. A full store is an error.
 fn add_all<const OFFSET_BITS: u32, S: Store<OFFSET_BITS>>(
     lists: &mut ValueLists<OFFSET_BITS, S>,
     values: &[Value],
@@ -93,7 +93,7 @@ fn remove_all<const OFFSET_BITS: u32, S: Store<OFFSET_BITS>>(
     Ok(removed)
 }
 
-/// The first postings added, and the first of them removed.
+/// Adds the first postings, and removes the first of them.
 fn change_all<const OFFSET_BITS: u32, S: Store<OFFSET_BITS>>(
     lists: &mut ValueLists<OFFSET_BITS, S>,
     values: &[Value],
@@ -107,7 +107,7 @@ fn change_all<const OFFSET_BITS: u32, S: Store<OFFSET_BITS>>(
     Ok(Counts { added, removed })
 }
 
-/// The postings of a run, added and removed.
+/// Adds and removes the postings of a run.
 fn run<const OFFSET_BITS: u32, W: Work<OFFSET_BITS>>(
     alloc: Global,
     lists: &mut ValueLists<OFFSET_BITS, EntryStore<OFFSET_BITS, W>>,
@@ -118,7 +118,7 @@ fn run<const OFFSET_BITS: u32, W: Work<OFFSET_BITS>>(
     change_all(lists, &values, &ranks, load)
 }
 
-/// Puts documents into the list of a value.
+/// Adds documents to the list of a value.
 fn fill_list<const OFFSET_BITS: u32, S: Store<OFFSET_BITS>>(
     lists: &mut ValueLists<OFFSET_BITS, S>,
     value: &Value,
@@ -132,7 +132,7 @@ fn fill_list<const OFFSET_BITS: u32, S: Store<OFFSET_BITS>>(
     Ok(())
 }
 
-/// Puts documents into the list of each value, and reads all lists so many times.
+/// Adds documents to the list of each value, and reads all lists in each round.
 fn sum_of<const OFFSET_BITS: u32, S: Store<OFFSET_BITS>>(
     lists: &mut ValueLists<OFFSET_BITS, S>,
     values: &[Value],
@@ -144,7 +144,7 @@ fn sum_of<const OFFSET_BITS: u32, S: Store<OFFSET_BITS>>(
     Ok(read_lists(lists, values, load.rounds))
 }
 
-/// The sum of the documents of all values, so many times.
+/// Returns the sum of the documents of all values, over all rounds.
 fn read_lists<const OFFSET_BITS: u32, S: Store<OFFSET_BITS>>(
     lists: &mut ValueLists<OFFSET_BITS, S>,
     values: &[Value],
@@ -159,7 +159,7 @@ fn read_lists<const OFFSET_BITS: u32, S: Store<OFFSET_BITS>>(
     sum
 }
 
-/// The lists of a run are made and read.
+/// Makes and reads the lists of a run.
 fn fill_and_read<const OFFSET_BITS: u32, W: Work<OFFSET_BITS>>(
     alloc: Global,
     lists: &mut ValueLists<OFFSET_BITS, EntryStore<OFFSET_BITS, W>>,
@@ -169,7 +169,7 @@ fn fill_and_read<const OFFSET_BITS: u32, W: Work<OFFSET_BITS>>(
     sum_of(lists, &values, load)
 }
 
-/// What changes came to, as a line.
+/// Returns the result of changes, as a line.
 fn line_of(alloc: Global, lists: Lists, counts: Counts) -> Result<String, AllocError> {
     let store = lists.into_store();
     let words = words_made(&store);
@@ -177,7 +177,7 @@ fn line_of(alloc: Global, lists: Lists, counts: Counts) -> Result<String, AllocE
     format!(in alloc; "added {added} removed {removed} words {words}")
 }
 
-/// Changes, as a line.
+/// Makes changes, and returns the result as a line.
 pub fn changes_told(alloc: Global, load: Changes) -> Result<String, AllocError> {
     let work = index_memory(alloc, load.postings)?;
     let mut lists = new_lists(alloc, work, load.value_type)?;
@@ -191,7 +191,7 @@ fn sum_read(alloc: Global, load: Reads) -> Result<u64, AllocError> {
     fill_and_read(alloc, &mut lists, load)
 }
 
-/// Reads, as a line.
+/// Makes reads, and returns the result as a line.
 pub fn reads_told(alloc: Global, load: Reads) -> Result<String, AllocError> {
     let sum = sum_read(alloc, load)?;
     format!(in alloc; "sum {sum}")

@@ -1,20 +1,20 @@
-//! Documents, values and items by chance.
+//! Pseudorandom documents, values and items.
 use attr_types::{Doc, Item, Items, Kind, Text, Value, ValueType};
 use std::alloc::{AllocError, Global};
 use test_kit::{Random, text_of};
 
-/// A number below `limit`, which is 1 at least.
+/// Returns a number below `limit`, which is at least 1.
 pub fn below(random: &mut Random, limit: u32) -> u32 {
     (random.next_long() % u64::from(limit.max(1))) as u32
 }
 
-/// A text of 20 digits.
+/// Returns a text of 20 digits.
 fn text_at(alloc: Global, number: u64) -> Result<Text, AllocError> {
     let text = format!(in alloc; "{number:020}")?;
     text_of(alloc, &text)
 }
 
-/// The value of a number: different ones have different values, in no order.
+/// Returns the value of a number. Different numbers have different values, in no order.
 pub fn value_at(alloc: Global, value: ValueType, number: u32) -> Result<Value, AllocError> {
     let scattered = u64::from(number).wrapping_mul(0x9E37_79B9_7F4A_7C15);
     match value {
@@ -30,7 +30,7 @@ fn is_above_last(items: &[Item], value: &Value) -> bool {
     }
 }
 
-/// So many values, each as likely as any other of `most`.
+/// Returns values, each drawn from `most` with equal chances.
 fn values_of(
     alloc: Global,
     value: ValueType,
@@ -53,7 +53,7 @@ fn of_weight_one(alloc: Global, values: Vec<Value>) -> Result<Items, AllocError>
     Ok(items)
 }
 
-/// Each value once, in order, with a weight by its place.
+/// Returns each value once, in order, with a weight by its place.
 fn weighed(alloc: Global, values: Vec<Value>) -> Result<Items, AllocError> {
     let mut sorted = values;
     sorted.sort()?;
@@ -68,7 +68,8 @@ fn weighed(alloc: Global, values: Vec<Value>) -> Result<Items, AllocError> {
     Ok(items)
 }
 
-/// The items of a document: one in a single attribute, three in the others, or fewer in a weighted set where two are equal.
+/// Returns the items of a document: one in a single attribute and three in others, or fewer in a weighted set if two
+/// values are equal.
 pub fn items_of(
     alloc: Global,
     kind: Kind,
@@ -83,7 +84,7 @@ pub fn items_of(
     }
 }
 
-/// The document of a number from 1 on.
+/// Returns the document of a number, which is at least 1.
 pub fn doc_at(number: u32) -> Doc {
     Doc::new(number.max(1).min(Doc::LAST))
 }

@@ -6,12 +6,12 @@ use std::alloc::Global;
 use std::collections::BTreeMap;
 use tree_read::FIRST_VALUE;
 
-/// The words of a record.
+/// Returns the number of words of a record.
 fn words_of(records: &BTreeMap<u32, Vec<u64>>, reference: u64) -> u64 {
     words_at(records, reference).len() as u64
 }
 
-/// The words of the nodes from one of this level on.
+/// Returns the number of words of the nodes from one of this level on.
 fn node_words(records: &BTreeMap<u32, Vec<u64>>, reference: u64, level: u32) -> u64 {
     let words = words_at(records, reference);
     let mut sum = words.len() as u64;
@@ -29,7 +29,7 @@ fn node_words(records: &BTreeMap<u32, Vec<u64>>, reference: u64, level: u32) -> 
     sum
 }
 
-/// The words of a tree's nodes.
+/// Returns the number of words of a tree's nodes.
 fn tree_words(records: &BTreeMap<u32, Vec<u64>>, root: u64) -> u64 {
     if root == 0 {
         return 0;
@@ -38,7 +38,7 @@ fn tree_words(records: &BTreeMap<u32, Vec<u64>>, root: u64) -> u64 {
     node_words(records, root, level as u32)
 }
 
-/// The words of a document's own record, where it has one.
+/// Returns the number of words of a document's own record, if it has one.
 fn document_words(kind: Kind, records: &BTreeMap<u32, Vec<u64>>, reference: u64) -> u64 {
     match kind {
         Kind::Single => 0,
@@ -47,7 +47,7 @@ fn document_words(kind: Kind, records: &BTreeMap<u32, Vec<u64>>, reference: u64)
     }
 }
 
-/// The words of a value and its list.
+/// Returns the number of words of a value and its list.
 fn value_words(records: &BTreeMap<u32, Vec<u64>>, key: u64, list: u64) -> u64 {
     let own = words_of(records, key);
     if list % 2 == 1 {
@@ -57,7 +57,7 @@ fn value_words(records: &BTreeMap<u32, Vec<u64>>, key: u64, list: u64) -> u64 {
     }
 }
 
-/// The words of all that one attribute's root record leads to, itself too.
+/// Returns the number of words of all that the root record of one attribute reaches, including itself.
 pub fn live_words(
     alloc: Global,
     field: &Field,

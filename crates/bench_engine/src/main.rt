@@ -1,5 +1,5 @@
-//! Workloads for the benchmarks: each is run, and counts alone are printed. The words after the program's name ask for one; without
-//! words each line of standard input does.
+//! Workloads for the benchmarks. Each workload is run, and only counts are printed. The words after the program's
+//! name select one; without words, each line of standard input selects one.
 #![tactic(auto)]
 
 mod commit;
@@ -28,7 +28,7 @@ use std::alloc::{AllocError, Global};
 use std::io;
 use std::process::ExitCode;
 
-/// What a workload came to, as a line.
+/// Returns the result of a workload, as a line.
 fn told(alloc: Global, workload: Workload) -> Result<String, AllocError> {
     match workload {
         Workload::Store(load) => store_told(alloc, load),
@@ -57,7 +57,7 @@ fn print_usage(rt: &HostRuntime) -> io::Result<()> {
     )
 }
 
-/// Runs what words ask for, and prints what came of it. Whether all went well.
+/// Runs the workload that words select, and prints its result. Returns whether it succeeded.
 fn run(rt: &HostRuntime, words: &[String]) -> io::Result<bool> {
     let Some(workload) = workload_in(words) else {
         print_usage(rt)?;
@@ -81,7 +81,7 @@ fn run_line(rt: &HostRuntime, line: &str) -> io::Result<bool> {
     run(rt, &words)
 }
 
-/// Runs what each line of standard input asks for.
+/// Runs the workload of each line of standard input.
 fn run_lines(rt: &HostRuntime) -> io::Result<bool> {
     for line in rt.lines(rt.alloc()) {
         if !run_line(rt, line?.as_str())? {
@@ -91,7 +91,7 @@ fn run_lines(rt: &HostRuntime) -> io::Result<bool> {
     Ok(true)
 }
 
-/// The words after the program's name.
+/// Returns the words after the program's name.
 fn arguments(rt: &HostRuntime) -> Option<Vec<String>> {
     std::env::args(rt).ok()?.skip(1).collect(rt.alloc()).ok()
 }

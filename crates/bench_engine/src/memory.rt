@@ -19,7 +19,7 @@ pub type Memory = MemWork<22, AttrLayout>;
 /// Attributes over a memory without readers.
 pub type Kinds = Attribute<22, EntryStore<22, Memory>>;
 
-/// One field.
+/// Returns one field.
 pub fn one_field(alloc: Global, kind: Kind, value: ValueType) -> Result<Fields, AllocError>
     ensures { IfOk result (λ fields. length fields ≡ 1) }
 {
@@ -27,7 +27,7 @@ pub fn one_field(alloc: Global, kind: Kind, value: ValueType) -> Result<Fields, 
     Fields::of_one(alloc, Field { name, kind, value })
 }
 
-/// A memory of so many buffers of 65,536 words.
+/// Creates a memory of `buffers` buffers with 65,536 words each.
 pub fn new_memory(alloc: Global, fields: &Fields, buffers: u32) -> Result<Memory, AllocError>
     requires few { length fields.now ≤ MOST_FIELDS }
     requires buffers { 1 ≤ buffers }
@@ -39,7 +39,7 @@ pub fn new_memory(alloc: Global, fields: &Fields, buffers: u32) -> Result<Memory
     Ok(work)
 }
 
-/// Attributes without a document, over a memory in which nothing is.
+/// Creates attributes without documents, over a memory without contents.
 pub fn new_attribute<const OFFSET_BITS: u32, W: Work<OFFSET_BITS, Layout = AttrLayout> + Drop>(
     alloc: Global,
     work: W,
@@ -57,7 +57,7 @@ pub fn new_attribute<const OFFSET_BITS: u32, W: Work<OFFSET_BITS, Layout = AttrL
     }
 }
 
-/// Applies an operation. A store that is full is an error here as well.
+/// Applies an operation. A full store is an error.
 pub fn apply_one<const OFFSET_BITS: u32, S: Store<OFFSET_BITS, Layout = AttrLayout>>(
     alloc: Global,
     attribute: &mut Attribute<OFFSET_BITS, S>,
@@ -79,7 +79,7 @@ pub fn apply_one<const OFFSET_BITS: u32, S: Store<OFFSET_BITS, Layout = AttrLayo
     }
 }
 
-/// Commits.
+/// Makes a commit.
 pub fn commit_one<const OFFSET_BITS: u32, S: Store<OFFSET_BITS, Layout = AttrLayout>>(
     attribute: &mut Attribute<OFFSET_BITS, S>,
     fields: &Fields,

@@ -14,7 +14,7 @@ use std::alloc::{AllocError, Global};
 use store_api::Store;
 use test_kit::Random;
 
-/// So many operations are made, and the first of them applied.
+/// Operations are made, and the first of them applied.
 #[derive(Clone, Copy)]
 pub struct Load {
     pub kind: Kind,
@@ -25,7 +25,7 @@ pub struct Load {
     pub buffers: u32,
 }
 
-/// Operation `i`: a document of half as many is put, each eighth time removed.
+/// Returns operation `i`: a put to one of half as many documents as operations; each eighth operation is a remove.
 fn op_of(alloc: Global, load: Load, i: u32, random: &mut Random) -> Result<Op, AllocError> {
     let most = load.operations / 2;
     let doc = doc_at(below(random, most).min(1_000_000) + 1);
@@ -37,7 +37,7 @@ fn op_of(alloc: Global, load: Load, i: u32, random: &mut Random) -> Result<Op, A
     Ok(Op::Put { doc, items })
 }
 
-/// Applies an operation, and commits where it is due; whether it changed something.
+/// Applies an operation, and commits if it is due. Returns whether it changed something.
 fn take_turn<const OFFSET_BITS: u32, S: Store<OFFSET_BITS, Layout = AttrLayout>>(
     alloc: Global,
     attribute: &mut Attribute<OFFSET_BITS, S>,
@@ -59,7 +59,7 @@ fn take_turn<const OFFSET_BITS: u32, S: Store<OFFSET_BITS, Layout = AttrLayout>>
     Ok(matches!(applied, Applied::Changed))
 }
 
-/// How many of the operations changed something.
+/// Returns how many of the operations changed something.
 fn apply_all<const OFFSET_BITS: u32, W: Work<OFFSET_BITS, Layout = AttrLayout>>(
     alloc: Global,
     attribute: &mut Attribute<OFFSET_BITS, EntryStore<OFFSET_BITS, W>>,
@@ -80,14 +80,14 @@ fn apply_all<const OFFSET_BITS: u32, W: Work<OFFSET_BITS, Layout = AttrLayout>>(
     Ok(changed)
 }
 
-/// What a run came to, as a line.
+/// Returns the result of a run, as a line.
 fn line_of(alloc: Global, attribute: Kinds, changed: u32) -> Result<String, AllocError> {
     let (store, _) = attribute.into_store();
     let words = words_made(&store);
     format!(in alloc; "changed {changed} words {words}")
 }
 
-/// A run, as a line.
+/// Makes a run, and returns its result as a line.
 fn told_of(alloc: Global, fields: &Fields, load: Load) -> Result<String, AllocError>
     requires some { 0 < length fields.now }
     requires few { length fields.now ≤ MOST_FIELDS }
@@ -98,7 +98,7 @@ fn told_of(alloc: Global, fields: &Fields, load: Load) -> Result<String, AllocEr
     line_of(alloc, attribute, changed)
 }
 
-/// A run on one field, as a line.
+/// Makes a run on one field, and returns its result as a line.
 pub fn apply_told(alloc: Global, load: Load) -> Result<String, AllocError> {
     let fields = one_field(alloc, load.kind, load.value)?;
     told_of(alloc, &fields, load)

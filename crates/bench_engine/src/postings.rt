@@ -1,7 +1,7 @@
 use std::alloc::{AllocError, Global};
 use test_kit::Random;
 
-/// The sums of 2^40 / (rank + 1) over the ranks up to each.
+/// Returns the sums of 2^40 / (rank + 1) over the ranks up to each rank.
 fn sums(alloc: Global, values: u32) -> Result<Vec<u64>, AllocError> {
     let mut sums = Vec::new(alloc);
     let mut sum: u64 = 0;
@@ -12,7 +12,7 @@ fn sums(alloc: Global, values: u32) -> Result<Vec<u64>, AllocError> {
     Ok(sums)
 }
 
-/// The first place whose sum is above a number, by 32 halvings.
+/// Returns the first index whose sum is above a number, by 32 halvings.
 fn place_of(sums: &[u64], number: u64) -> usize {
     let mut low: usize = 0;
     let mut high = sums.len();
@@ -26,7 +26,7 @@ fn place_of(sums: &[u64], number: u64) -> usize {
     low
 }
 
-/// The values of so many postings by their ranks: each as likely as any other, or by Zipf's law with exponent 1.
+/// Returns the values of postings by their ranks: with equal chances, or by Zipf's law with exponent 1.
 pub fn draws(
     alloc: Global,
     zipf: bool,

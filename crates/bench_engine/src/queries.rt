@@ -1,4 +1,4 @@
-//! Queries on an array of numbers, of which each document has three: one of 3, one of 10, and one that 9 documents have.
+//! Queries on an array of numbers. Each document has three: one of 3, one of 10, and one that 9 documents have.
 ghost use Rattle.std.specs.Prelude.{◌≡◌, ◌<◌, ◌≤◌, length};
 ghost use Rattle.attr_images.specs.Images.{IsLawfulImage};
 ghost use Rattle.attr_images.specs.Shapes.{shape_of, types_of};
@@ -17,7 +17,7 @@ use query_eval::hits;
 use std::alloc::{AllocError, Global};
 use store_api::Store;
 
-/// What is asked.
+/// The kind of the query.
 #[derive(Clone, Copy)]
 pub enum Question {
     Nothing,
@@ -31,7 +31,7 @@ pub enum Question {
     Wide,
 }
 
-/// So many documents, of which a question is asked so many times.
+/// The number of documents, the question, and how often it is asked.
 #[derive(Clone, Copy)]
 pub struct Asks {
     pub question: Question,
@@ -109,7 +109,7 @@ fn both(alloc: Global, first: Query, second: Query) -> Result<Query, AllocError>
     Ok(Query::And(members))
 }
 
-/// The query of a round.
+/// Returns the query of a round.
 fn query_of(alloc: Global, asks: Asks, round: u32) -> Result<Query, AllocError> {
     match asks.question {
         Question::Nothing => Ok(Query::Or(Vec::new(alloc))),
@@ -124,7 +124,7 @@ fn query_of(alloc: Global, asks: Asks, round: u32) -> Result<Query, AllocError> 
     }
 }
 
-/// The sum of the documents that a query has.
+/// Returns the sum of the documents of a query.
 fn sum_of<F: Frozen<22>>(
     alloc: Global,
     frozen: &mut F,
@@ -145,7 +145,7 @@ fn sum_of<F: Frozen<22>>(
     Ok(sum)
 }
 
-/// The sum of the documents that the query of a round has.
+/// Returns the sum of the documents of a round's query.
 fn ask_one<F: Frozen<22>>(
     alloc: Global,
     frozen: &mut F,
@@ -163,7 +163,7 @@ fn ask_one<F: Frozen<22>>(
     sum_of(alloc, frozen, root, fields, &query)
 }
 
-/// The sum over all rounds.
+/// Returns the sum over all rounds.
 fn ask_each<F: Frozen<22>>(
     alloc: Global,
     frozen: &mut F,
@@ -183,7 +183,7 @@ fn ask_each<F: Frozen<22>>(
     Ok(sum)
 }
 
-/// The memory of attributes with all that was committed, and the root of the last commit.
+/// Returns the memory of attributes, with all that was committed, and the root of the last commit.
 fn close(attribute: Kinds, fields: &Fields) -> (Memory, EntryRef<22>)
     requires same { attribute.fields ≡ fields.now }
     ensures shape { ⟦<MemWork<22, AttrLayout> as Frozen<22>>⟧.shape result.0 ≡ shape_of (types_of fields.now) }
@@ -195,7 +195,7 @@ fn close(attribute: Kinds, fields: &Fields) -> (Memory, EntryRef<22>)
     (committed_work(store, fields, root), root)
 }
 
-/// What the last commit of attributes is asked, as a line.
+/// Asks the last commit of attributes, and returns the result as a line.
 fn line_of(
     alloc: Global,
     attribute: Kinds,
@@ -210,7 +210,7 @@ fn line_of(
     format!(in alloc; "sum {sum}")
 }
 
-/// A run, as a line.
+/// Makes a run, and returns its result as a line.
 fn told_of(alloc: Global, fields: &Fields, asks: Asks) -> Result<String, AllocError>
     requires some { 0 < length fields.now }
     requires few { length fields.now ≤ MOST_FIELDS }
@@ -221,7 +221,7 @@ fn told_of(alloc: Global, fields: &Fields, asks: Asks) -> Result<String, AllocEr
     line_of(alloc, attribute, fields, asks)
 }
 
-/// A run on an array of numbers, as a line.
+/// Makes a run on an array of numbers, and returns its result as a line.
 pub fn asked_told(alloc: Global, asks: Asks) -> Result<String, AllocError> {
     let fields = one_field(alloc, Kind::Array, ValueType::Long)?;
     told_of(alloc, &fields, asks)

@@ -6,7 +6,7 @@ use frozen_btree::drop_nodes;
 use store_api::{Store, StoreError, make_entry};
 use tree_read::NODE_WORDS;
 
-/// One unit: makes `count` entries of 34 words, drops them all, and is accepted.
+/// Makes `count` entries of 34 words and drops them all, in a unit that is accepted.
 pub fn run_unit<const OFFSET_BITS: u32, S: Store<OFFSET_BITS>>(
     store: &mut S,
     entries: &mut Vec<u32>,

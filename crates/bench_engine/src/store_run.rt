@@ -11,7 +11,7 @@ use std::alloc::{AllocError, Global};
 use store_api::{Store, StoreError};
 use tree_read::NODE_WORDS;
 
-/// What a run over a store is: rounds of so many units, of so many entries each, with a commit after each round.
+/// A run over a store: rounds of units, each with a number of entries, and a commit after each round.
 #[derive(Clone, Copy)]
 pub struct StoreLoad {
     pub rounds: u64,
@@ -20,7 +20,7 @@ pub struct StoreLoad {
     pub buffers: u32,
 }
 
-/// The units of a round, and the commit of a new root. None where no commit can be made.
+/// Makes the units of a round, and commits a new root. Returns `None` if no commit is possible.
 fn run_round<const OFFSET_BITS: u32, S: Store<OFFSET_BITS, Layout = OneRecord>>(
     store: &mut S,
     entries: &mut Vec<u32>,
@@ -40,7 +40,7 @@ fn run_round<const OFFSET_BITS: u32, S: Store<OFFSET_BITS, Layout = OneRecord>>(
     commit_root(store, root, round)
 }
 
-/// The rounds of a run. Answers how many there were.
+/// Makes the rounds of a run, and returns their number.
 fn run_store<const OFFSET_BITS: u32, S: Store<OFFSET_BITS, Layout = OneRecord>>(
     alloc: Global,
     store: &mut S,
@@ -59,7 +59,8 @@ fn run_store<const OFFSET_BITS: u32, S: Store<OFFSET_BITS, Layout = OneRecord>>(
     Ok(rounds)
 }
 
-/// The rounds of a run over a store of its own, of 1 to 1,023 buffers, and the entries made.
+/// Makes the rounds of a run over a store of its own, of 1 to 1,023 buffers, and returns their number and the number
+/// of entries made.
 fn store_run_of(alloc: Global, load: StoreLoad) -> Result<(u64, u64), StoreError> {
     let buffers = load.buffers.max(1).min(1023);
     match new_store::<OneRecord>(alloc, buffers) {
@@ -71,7 +72,7 @@ fn store_run_of(alloc: Global, load: StoreLoad) -> Result<(u64, u64), StoreError
     }
 }
 
-/// A run, as a line.
+/// Makes a run, and returns its result as a line.
 pub fn store_told(alloc: Global, load: StoreLoad) -> Result<String, AllocError> {
     match store_run_of(alloc, load) {
         Ok((rounds, made)) => format!(in alloc; "rounds {rounds} made {made}"),

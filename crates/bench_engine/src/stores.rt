@@ -1,4 +1,4 @@
-//! Stores and indexes of which nothing is made yet, and the words that a store has made.
+//! New stores and indexes, and the words that a store has made.
 ghost use Rattle.std.specs.Prelude.{◌≡◌, ◌≤◌, true, IfOk};
 ghost use Rattle.arena_api.specs.Calls.{IsFresh};
 ghost use Rattle.store_api.specs.Ledgers.{IsNew, is_width};
@@ -12,7 +12,7 @@ use std::alloc::{AllocError, Global};
 use store_api::Store;
 use test_kit::ValueLists;
 
-/// A store over a memory of buffers of 65,536 words, of which nothing is made yet.
+/// Creates a store over a memory of buffers of 65,536 words, in which nothing is made.
 pub fn new_store<L: Layout>(
     alloc: Global,
     buffers: u32,
@@ -28,7 +28,7 @@ pub fn new_store<L: Layout>(
     }
 }
 
-/// A memory for so many postings, of which nothing is handed out yet: 17 to 128 buffers of 65,536 words.
+/// Creates a memory for this many postings, with 17 to 128 buffers of 65,536 words, in which nothing is handed out.
 pub fn index_memory(alloc: Global, postings: u32) -> Result<MemWork<22, OneRecord>, AllocError>
     ensures fresh { IfOk result (λ w. IsFresh (⟦<MemWork<22, OneRecord> as Work<22>>⟧.knows w)) }
 {
@@ -36,7 +36,7 @@ pub fn index_memory(alloc: Global, postings: u32) -> Result<MemWork<22, OneRecor
     Ok(work)
 }
 
-/// No value, in a store over a work of which nothing is handed out yet.
+/// Creates an empty index, in a store over a work in which nothing is handed out.
 pub fn new_lists<const OFFSET_BITS: u32, W: Work<OFFSET_BITS> + Drop>(
     alloc: Global,
     work: W,
@@ -50,7 +50,7 @@ pub fn new_lists<const OFFSET_BITS: u32, W: Work<OFFSET_BITS> + Drop>(
     }
 }
 
-/// The words of all entries of a width that were made.
+/// Returns the number of words of all entries of a width that were made.
 fn words_of<const OFFSET_BITS: u32, W: Work<OFFSET_BITS>>(
     store: &EntryStore<OFFSET_BITS, W>,
     width: u32,
@@ -60,7 +60,7 @@ fn words_of<const OFFSET_BITS: u32, W: Work<OFFSET_BITS>>(
     store.made(width).saturating_mul(u64::from(width))
 }
 
-/// The words of all entries that were made.
+/// Returns the number of words of all entries that were made.
 pub fn words_made<const OFFSET_BITS: u32, W: Work<OFFSET_BITS>>(
     store: &EntryStore<OFFSET_BITS, W>,
 ) -> u64 {

@@ -10,7 +10,7 @@ use std::alloc::{AllocError, Global};
 use store_api::{Store, StoreError};
 use tree_read::NODE_WORDS;
 
-/// The order in which keys come.
+/// The order in which keys are inserted.
 #[derive(Clone, Copy)]
 pub enum Order {
     Ascending,
@@ -21,7 +21,7 @@ pub enum Order {
 impl Order {
     ghost use Rattle.bench_engine.specs.declared.tree_run.Order.TheVariants.{Ascending, Descending};
 
-    /// Key `i` of `keys` different ones.
+    /// Returns key `i` of `keys` different ones.
     pub fn key_at(self, i: u64, keys: u64) -> u64
         ensures ascending { self ≡ Ascending → result ≡ i }
         ensures descending { self ≡ Descending → i < keys → result + i + 1 ≡ keys }
@@ -34,7 +34,7 @@ impl Order {
     }
 }
 
-/// How much of each is done.
+/// The numbers of operations.
 #[derive(Clone, Copy)]
 pub struct TreeLoad {
     pub order: Order,
@@ -52,7 +52,7 @@ struct TreeCounts {
     left: u32,
 }
 
-/// Puts the keys in, one after another.
+/// Inserts the keys one after another.
 fn fill<const OFFSET_BITS: u32, S: Store<OFFSET_BITS, Layout = TreeLayout>>(
     tree: &mut NumberTree<OFFSET_BITS, S>,
     load: &TreeLoad,
@@ -65,7 +65,7 @@ fn fill<const OFFSET_BITS: u32, S: Store<OFFSET_BITS, Layout = TreeLayout>>(
     Ok(())
 }
 
-/// How many of the keys that are looked up are there.
+/// Returns how many of the sought keys exist.
 fn found_in<const OFFSET_BITS: u32, S: Store<OFFSET_BITS, Layout = TreeLayout>>(
     tree: &mut NumberTree<OFFSET_BITS, S>,
     load: &TreeLoad,
@@ -85,7 +85,7 @@ fn found_in<const OFFSET_BITS: u32, S: Store<OFFSET_BITS, Layout = TreeLayout>>(
     found
 }
 
-/// Takes keys out, one after another.
+/// Removes keys one after another.
 fn take_out<const OFFSET_BITS: u32, S: Store<OFFSET_BITS, Layout = TreeLayout>>(
     tree: &mut NumberTree<OFFSET_BITS, S>,
     load: &TreeLoad,
@@ -98,7 +98,7 @@ fn take_out<const OFFSET_BITS: u32, S: Store<OFFSET_BITS, Layout = TreeLayout>>(
     Ok(())
 }
 
-/// The sum of all keys and values of a tree, by one walk.
+/// Returns the sum of all keys and values of a tree, by one walk.
 fn walk<const OFFSET_BITS: u32, F: Frozen<OFFSET_BITS>>(
     frozen: &mut F,
     root: EntryRef<OFFSET_BITS>,
@@ -116,7 +116,7 @@ fn walk<const OFFSET_BITS: u32, F: Frozen<OFFSET_BITS>>(
     sum
 }
 
-/// Full walks of a tree, one after another: the sum of all that they see.
+/// Walks a whole tree several times, and returns the sum of everything seen.
 fn walks<const OFFSET_BITS: u32, F: Frozen<OFFSET_BITS>>(
     frozen: &mut F,
     root: EntryRef<OFFSET_BITS>,
@@ -132,7 +132,7 @@ fn walks<const OFFSET_BITS: u32, F: Frozen<OFFSET_BITS>>(
     walked
 }
 
-/// Inserts, finds and removes of a tree, one after another: how many keys were found.
+/// Makes the inserts, finds and removes of a tree, and returns how many keys were found.
 fn change<const OFFSET_BITS: u32, S: Store<OFFSET_BITS, Layout = TreeLayout>>(
     tree: &mut NumberTree<OFFSET_BITS, S>,
     load: &TreeLoad,
@@ -146,7 +146,7 @@ fn change<const OFFSET_BITS: u32, S: Store<OFFSET_BITS, Layout = TreeLayout>>(
     Ok(found)
 }
 
-/// Inserts, finds, removes and walks of a tree, whose store is given back.
+/// Makes the inserts, finds, removes and walks of a tree, and returns its store.
 fn run_tree<const OFFSET_BITS: u32, S: Store<OFFSET_BITS, Layout = TreeLayout> + Drop>(
     tree: NumberTree<OFFSET_BITS, S>,
     load: &TreeLoad,
@@ -168,7 +168,8 @@ fn run_tree<const OFFSET_BITS: u32, S: Store<OFFSET_BITS, Layout = TreeLayout> +
     Ok((store, counts))
 }
 
-/// Buffers for a tree of so many keys: its leaves are half full at worst, and a buffer has 1,926 nodes.
+/// Returns the number of buffers for a tree with this many keys: its leaves are at worst half full, and a buffer has
+/// 1,926 nodes.
 fn buffers_for(keys: u64) -> u32
     ensures some { 1 ≤ result }
     ensures few { result ≤ 1023 }
@@ -176,7 +177,7 @@ fn buffers_for(keys: u64) -> u32
     (keys / 12_000).min(1_000) as u32 + 3
 }
 
-/// What a run over a tree in a store of its own came to, and how many nodes were made.
+/// Makes a run over a tree in a store of its own, and returns the counts and the number of nodes made.
 fn tree_run_of(alloc: Global, load: &TreeLoad) -> Result<(TreeCounts, u64), StoreError> {
     match new_store::<TreeLayout>(alloc, buffers_for(load.keys)) {
         Ok(store) => {
@@ -187,7 +188,7 @@ fn tree_run_of(alloc: Global, load: &TreeLoad) -> Result<(TreeCounts, u64), Stor
     }
 }
 
-/// A run, as a line.
+/// Makes a run, and returns its result as a line.
 pub fn tree_told(alloc: Global, load: &TreeLoad) -> Result<String, AllocError> {
     match tree_run_of(alloc, load) {
         Ok((counts, nodes)) => format!(in alloc;

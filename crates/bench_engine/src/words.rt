@@ -1,4 +1,4 @@
-//! What is run, as words ask for it.
+//! The workload that words select.
 use crate::compaction::Updates;
 use crate::index_run::{Changes, Reads};
 use crate::operations::Load;
@@ -7,16 +7,16 @@ use crate::store_run::StoreLoad;
 use crate::tree_run::{Order, TreeLoad};
 use attr_types::{Kind, ValueType};
 
-/// What is run.
+/// A workload.
 #[derive(Clone, Copy)]
 pub enum Workload {
-    /// Entries in units, made and dropped.
+    /// Entries that are made and dropped in units.
     Store(StoreLoad),
     /// A tree by number.
     Tree(TreeLoad),
-    /// Postings added to an index, and removed.
+    /// Postings that are added to an index and removed.
     Changes(Changes),
-    /// Lists of an index made, and read.
+    /// Lists of an index that are made and read.
     Reads(Reads),
     /// Operations on one attribute.
     Operations(Load),
@@ -87,7 +87,7 @@ fn number_at(words: &[String], place: usize) -> Option<u32> {
     words.get(place)?.parse::<u32>().ok()
 }
 
-/// So many numbers from a place on, five at most, and zeros behind them.
+/// Returns `many` numbers, at most five, from a place on, followed by zeros.
 fn numbers_at(words: &[String], place: usize, many: usize) -> Option<[u32; 5]> {
     let mut numbers = [0; 5];
     for i in 0..many.min(5) {
@@ -96,7 +96,7 @@ fn numbers_at(words: &[String], place: usize, many: usize) -> Option<[u32; 5]> {
     Some(numbers)
 }
 
-/// The four numbers of 64 bits from a place on.
+/// Returns the four numbers of 64 bits from a place on.
 fn four_at(words: &[String], place: usize) -> Option<[u64; 4]> {
     let mut numbers = [0; 4];
     for i in 0..4 {
@@ -194,7 +194,7 @@ fn updates_in(words: &[String]) -> Option<Workload> {
     }))
 }
 
-/// The workload that the words ask for. The first of them is the name of the script that times it.
+/// Returns the workload that the words select. The first word is the name of the script that times it.
 pub fn workload_in(words: &[String]) -> Option<Workload> {
     match words.first()?.as_str() {
         "store" => store_in(words),

@@ -7,7 +7,7 @@ use attr_types::{
 };
 use std::alloc::{AllocError, Global};
 
-/// What a document has.
+/// The items of a document.
 #[derive(Clone, Copy, Debug)]
 pub enum Shape {
     /// One whole number.
@@ -61,7 +61,7 @@ fn items_of(alloc: Global, shape: Shape, number: u32) -> Result<Items, AllocErro
     Ok(items)
 }
 
-/// A table of documents 1 to `documents`.
+/// Returns a table of documents 1 to `documents`.
 pub fn table_of(alloc: Global, shape: Shape, documents: u32) -> Result<PlainTable, AllocError>
     requires { documents ≤ 1048575 }
 {

@@ -1,5 +1,5 @@
-//! `bench_save long|texts DOCUMENTS ROUNDS`: a table of so many documents, each with one whole number or with three
-//! texts and their weights, saved into memory and read again so many times. The documents and bytes read are printed.
+//! `bench_save long|texts DOCUMENTS ROUNDS`: a table of documents, each with one whole number or with three texts and
+//! their weights. In each round it is saved into memory and read again. The documents and bytes read are printed.
 #![tactic(auto)]
 
 ghost use Rattle.std.specs.Prelude.{◌≤◌};
@@ -13,7 +13,7 @@ use attr_types::Doc;
 use std::alloc::{AllocError, Global};
 use std::process::ExitCode;
 
-/// What is run.
+/// The load of a run.
 #[derive(Clone, Copy, Debug)]
 struct Load {
     shape: Shape,
@@ -21,7 +21,7 @@ struct Load {
     rounds: u32,
 }
 
-/// The load that the words after the program's name ask for.
+/// Returns the load that the words after the program's name select.
 fn load_in(rt: &HostRuntime) -> Option<Load> {
     let mut words = std::env::args(rt).ok()?.skip(1);
     let name = words.next()?;

@@ -1,41 +1,29 @@
 //! One save, and one read of it.
-use attr_io::{SliceSource, VecSink};
+use attr_io::SliceSource;
 use attr_plain::PlainTable;
-use attr_saver::{SaveError, column_law, read_saved, save, saved_size};
+use attr_saver::{column_law, read_saved, saved_in};
 use std::alloc::{AllocError, Global};
 
-/// How many documents were read, of how many bytes.
+/// How many documents were read, from how many bytes.
 #[derive(Clone, Copy, Debug)]
 pub struct Counts {
     pub documents: usize,
     pub bytes: usize,
 }
 
-fn saved(alloc: Global, table: &PlainTable) -> Result<VecSink, AllocError> {
+fn saved(alloc: Global, table: &PlainTable) -> Result<Vec<u8>, AllocError> {
     match table.fields().as_slice() {
         [field, ..] => {
             column_law();
-            let documents = table.documents();
-            let mut sink = VecSink::create(alloc, saved_size(field.kind, field.value, documents))?;
-            let answer = save(alloc, field.kind, field.value, 0, documents, &mut sink);
-            refuse_memory(answer)?;
-            Ok(sink)
+            saved_in(alloc, field.kind, field.value, 0, table.documents())
         }
-        [] => VecSink::create(alloc, 0),
-    }
-}
-
-fn refuse_memory(answer: Result<(), SaveError>) -> Result<(), AllocError> {
-    match answer {
-        Err(SaveError::Memory) => Err(AllocError),
-        Ok(()) | Err(SaveError::WriteFault) => Ok(()),
+        [] => Ok(Vec::new(alloc)),
     }
 }
 
 pub fn save_and_read(alloc: Global, table: &PlainTable) -> Result<Counts, AllocError> {
-    let sink = saved(alloc, table)?;
-    let bytes = sink.taken();
-    match read_saved(alloc, &mut SliceSource::new(bytes)) {
+    let bytes = saved(alloc, table)?;
+    match read_saved(alloc, &mut SliceSource::new(&bytes)) {
         Ok(saved) => Ok(Counts {
             documents: saved.table.len(),
             bytes: bytes.len(),

@@ -1,4 +1,4 @@
--- The buffers of a store by number, and what each call makes of them.
+-- The buffers of a store by number, and how each call changes them.
 use Rattle.std.specs.Prelude.{◌≡◌, ℕ, ◌+◌, ◌-◌, ◌*◌, ◌<◌, ◌≤◌, ◌&&◌, Bool, true, false, nat_eq, nat_lt, not, if◌then◌else◌, List, map}
 use Rattle.std.specs.Prelude.{length, slice_set, slice_index_or}
 use Rattle.buffer_states.specs.declared.BufferState.{BufferState}
@@ -38,19 +38,19 @@ is_on_hold Free = false
 is_on_hold Active = false
 is_on_hold OnHold = true
 
--- a buffer of this width is filled no longer
+-- a buffer of this width is no longer being filled
 abbrev pub end_filling : ℕ → Buffer → Buffer
 end_filling width buffer = record buffer { filled = buffer.filled && not (nat_eq buffer.width width) }
 
--- an active buffer of this width that is filled; its first entry is reserved
+-- an active buffer of this width that is being filled; its first entry is reserved
 abbrev pub filled_buffer : ℕ → Buffer
 filled_buffer width = record new_buffer { state = Active; width = width; used = width; filled = true }
 
--- buffer b is active, and the one of its width that is filled
+-- buffer b becomes active, as the one of its width that is being filled
 abbrev pub activated : List Buffer → ℕ → ℕ → List Buffer
 activated buffers b width = slice_set (map (end_filling width) buffers) b (filled_buffer width)
 
--- other counts of one buffer
+-- the buffers after the counts of one change
 abbrev pub with_counts : List Buffer → ℕ → ℕ → ℕ → ℕ → List Buffer
 with_counts buffers b used dead held =
     slice_set buffers b (record (buffer_at buffers b) { used = used; dead = dead; dropped = 0; held = held })
@@ -60,7 +60,7 @@ abbrev pub with_next : List Buffer → ℕ → List Buffer
 with_next buffers b =
     let buffer = buffer_at buffers b in slice_set buffers b (record buffer { used = buffer.used + buffer.width })
 
--- a free entry is taken, or one is free again
+-- a free entry is taken, or an entry becomes free
 abbrev pub with_taken : List Buffer → ℕ → List Buffer
 with_taken buffers b =
     let buffer = buffer_at buffers b in slice_set buffers b (record buffer { dead = buffer.dead - buffer.width })
@@ -69,7 +69,7 @@ abbrev pub with_given : List Buffer → ℕ → List Buffer
 with_given buffers b =
     let buffer = buffer_at buffers b in slice_set buffers b (record buffer { dead = buffer.dead + buffer.width })
 
--- an entry of the last commit is dropped, or is kept after all
+-- an entry of the last commit is dropped, or its drop is undone
 abbrev pub with_dropped : List Buffer → ℕ → List Buffer
 with_dropped buffers b =
     let buffer = buffer_at buffers b in
@@ -80,11 +80,11 @@ with_kept buffers b =
     let buffer = buffer_at buffers b in
     slice_set buffers b (record buffer { dead = buffer.dead - buffer.width; dropped = buffer.dropped - buffer.width })
 
--- what was dropped is held
+-- dropped entries become held
 abbrev pub with_dropped_held : Buffer → Buffer
 with_dropped_held buffer = record buffer { held = buffer.held + buffer.dropped; dropped = 0 }
 
--- a held entry is free
+-- a held entry becomes free
 abbrev pub with_released : List Buffer → ℕ → List Buffer
 with_released buffers b =
     let buffer = buffer_at buffers b in slice_set buffers b (record buffer { held = buffer.held - buffer.width })
@@ -92,7 +92,7 @@ with_released buffers b =
 abbrev pub sealed_at : List Buffer → ℕ → List Buffer
 sealed_at buffers b = slice_set buffers b (record (buffer_at buffers b) { sealed = true })
 
--- buffer b is on hold under this generation; it has no entries any more
+-- buffer b goes on hold with this generation, and has no entries any more
 abbrev pub on_hold_at : List Buffer → ℕ → ℕ → List Buffer
 on_hold_at buffers b generation =
     slice_set buffers b (record new_buffer { state = OnHold; width = (buffer_at buffers b).width; generation = generation })
@@ -100,11 +100,11 @@ on_hold_at buffers b generation =
 abbrev pub freed_at : List Buffer → ℕ → List Buffer
 freed_at buffers b = slice_set buffers b new_buffer
 
--- a buffer on hold below this generation is free
+-- a buffer on hold below this generation becomes free
 abbrev pub freed_below : ℕ → Buffer → Buffer
 freed_below oldest buffer = if is_on_hold buffer.state && nat_lt buffer.generation oldest then new_buffer else buffer
 
--- an active buffer that is neither filled nor sealed, and of whose words more than one in twenty is dead
+-- an active buffer that is neither being filled nor sealed, and of whose used words more than one in twenty is dead
 abbrev pub is_candidate : Buffer → Bool
 is_candidate buffer = is_state_active buffer.state && not buffer.filled && not buffer.sealed && nat_lt buffer.used (buffer.dead * 20)
 
@@ -112,7 +112,7 @@ is_candidate buffer = is_state_active buffer.state && not buffer.filled && not b
 abbrev pub gain_of : Buffer → ℕ
 gain_of buffer = if is_candidate buffer then buffer.dead else 0
 
--- the candidate with the most dead words, and among equals the first
+-- the candidate with the most dead words, and the first among equals
 pub record IsVictim (buffers : List Buffer) (b : ℕ) : Type 0 where
   pub below : b < length buffers
   pub candidate : is_candidate (buffer_at buffers b) ≡ true
@@ -120,7 +120,7 @@ pub record IsVictim (buffers : List Buffer) (b : ℕ) : Type 0 where
       → (buffer_at buffers a).dead ≤ (buffer_at buffers b).dead
   pub first : (a : ℕ) → a < b → is_candidate (buffer_at buffers a) ≡ true → (buffer_at buffers a).dead < (buffer_at buffers b).dead
 
--- the free buffer of lowest number
+-- the free buffer with the lowest number
 pub record IsLowestFree (buffers : List Buffer) (b : ℕ) : Type 0 where
   pub below : b < length buffers
   pub free : is_state_free (buffer_at buffers b).state ≡ true

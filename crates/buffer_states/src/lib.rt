@@ -1,4 +1,4 @@
-//! The states of buffers: free, active or on hold, with the words that are used, dead and held.
+//! The states of buffers (free, active or on hold), with the words that are used, dead and held.
 #![tactic(auto)]
 
 ghost use Rattle.std.specs.Prelude.{◌≡◌, ◌<◌, ◌≤◌, ◌+◌, ◌^◌, ℕ, true, false, length, map, replicate, count_by, IfSome, IfNone, IfOk};
@@ -35,8 +35,8 @@ impl BufferState {
     }
 }
 
-/// One buffer. The counts are in words: `dead` has those of entries that are free, dropped or held, `dropped` those that
-/// the next commit holds. `generation` is the tag of one on hold.
+/// One buffer. The counts are in words: `dead` counts the entries that are free, dropped or held, and `dropped` those
+/// that the next commit holds. `generation` is the tag of a buffer on hold.
 #[derive(Clone, Copy, Debug, PartialEq, Eq)]
 pub struct Buffer {
     pub state: BufferState,
@@ -46,7 +46,7 @@ pub struct Buffer {
     pub dropped: u32,
     pub held: u32,
     pub generation: u64,
-    /// New entries of its width go to it.
+    /// New entries of its width are made in it.
     pub filled: bool,
     /// A compaction empties it.
     pub sealed: bool,
@@ -87,7 +87,7 @@ impl Buffers {
     ghost use Rattle.std.specs.Prelude.{All};
     ghost use Rattle.buffer_states.specs.declared.BufferState.TheVariants.{Free, Active, OnHold};
 
-    /// `count` free buffers.
+    /// Creates `count` free buffers.
     pub fn create(alloc: Global, count: u32) -> Result<Self, AllocError>
         ensures { IfOk result (λ b. b ≡ replicate count new_buffer) }
     {
@@ -103,7 +103,7 @@ impl Buffers {
         self.buffers[buffer as usize].state
     }
 
-    /// The words of each entry.
+    /// Returns the number of words of each entry.
     pub fn width(&self, buffer: u32) -> u32
         requires { buffer < length self.now }
         ensures { result ≡ (buffer_at self.now buffer).width }
@@ -111,7 +111,7 @@ impl Buffers {
         self.buffers[buffer as usize].width
     }
 
-    /// The words of all offsets taken so far, offset 0 included.
+    /// Returns the words of all offsets taken so far, offset 0 included.
     pub fn used(&self, buffer: u32) -> u32
         requires { buffer < length self.now }
         ensures { result ≡ (buffer_at self.now buffer).used }
@@ -119,7 +119,7 @@ impl Buffers {
         self.buffers[buffer as usize].used
     }
 
-    /// The words of entries that are free, dropped or held.
+    /// Returns the words of entries that are free, dropped or held.
     pub fn dead(&self, buffer: u32) -> u32
         requires { buffer < length self.now }
         ensures { result ≡ (buffer_at self.now buffer).dead }
@@ -127,7 +127,7 @@ impl Buffers {
         self.buffers[buffer as usize].dead
     }
 
-    /// The words of entries on hold.
+    /// Returns the words of held entries.
     pub fn held(&self, buffer: u32) -> u32
         requires { buffer < length self.now }
         ensures { result ≡ (buffer_at self.now buffer).held }
@@ -135,7 +135,8 @@ impl Buffers {
         self.buffers[buffer as usize].held
     }
 
-    /// Makes a free buffer active, for entries of `width` words, and the one of its width that is filled.
+    /// Makes a free buffer active for entries of `width` words. It becomes the buffer of its width that is being
+    /// filled.
     pub fn activate(&mut self, buffer: u32, width: u32)
         requires inside { buffer < length self.old }
         requires free { (buffer_at self.old buffer).state ≡ Free }
@@ -170,7 +171,7 @@ impl Buffers {
         buffer.held = held;
     }
 
-    /// Counts an entry at the next offset.
+    /// Counts an entry made at the next offset.
     pub fn take_next(&mut self, buffer: u32)
         requires inside { buffer < length self.old }
         requires fits { (buffer_at self.old buffer).used + (buffer_at self.old buffer).width < 2 ^ 32 }
@@ -180,7 +181,7 @@ impl Buffers {
         buffer.used += buffer.width;
     }
 
-    /// Counts a free entry that is made again.
+    /// Counts an entry made in a free place.
     pub fn take_free(&mut self, buffer: u32)
         requires inside { buffer < length self.old }
         requires fits { (buffer_at self.old buffer).width ≤ (buffer_at self.old buffer).dead }
@@ -190,7 +191,7 @@ impl Buffers {
         buffer.dead -= buffer.width;
     }
 
-    /// Counts an entry that is free again.
+    /// Counts an entry that becomes free.
     pub fn give_back(&mut self, buffer: u32)
         requires inside { buffer < length self.old }
         requires fits { (buffer_at self.old buffer).dead + (buffer_at self.old buffer).width < 2 ^ 32 }
@@ -200,7 +201,7 @@ impl Buffers {
         buffer.dead += buffer.width;
     }
 
-    /// Counts an entry of the last commit that is dropped.
+    /// Counts a drop of an entry of the last commit.
     pub fn drop_entry(&mut self, buffer: u32)
         requires inside { buffer < length self.old }
         requires dead { (buffer_at self.old buffer).dead + (buffer_at self.old buffer).width < 2 ^ 32 }
@@ -212,7 +213,7 @@ impl Buffers {
         buffer.dropped += buffer.width;
     }
 
-    /// Counts an entry that was dropped and is kept after all.
+    /// Counts an entry whose drop is undone.
     pub fn keep_entry(&mut self, buffer: u32)
         requires inside { buffer < length self.old }
         requires dead { (buffer_at self.old buffer).width ≤ (buffer_at self.old buffer).dead }
@@ -224,7 +225,7 @@ impl Buffers {
         buffer.dropped -= buffer.width;
     }
 
-    /// Counts what was dropped in each buffer as held.
+    /// Counts the dropped entries of each buffer as held.
     pub fn hold_dropped(&mut self)
         requires { All (λ b. b.held + b.dropped < 2 ^ 32) self.old }
         ensures { self.new ≡ map with_dropped_held self.old }
@@ -235,7 +236,7 @@ impl Buffers {
         }
     }
 
-    /// Counts a held entry that is free again.
+    /// Counts a held entry that becomes free.
     pub fn release(&mut self, buffer: u32)
         requires inside { buffer < length self.old }
         requires fits { (buffer_at self.old buffer).width ≤ (buffer_at self.old buffer).held }
@@ -255,7 +256,7 @@ impl Buffers {
         self.buffers[buffer as usize].sealed = true;
     }
 
-    /// Puts an active buffer on hold, under a generation. Its entries are gone.
+    /// Puts an active buffer on hold with a generation. It has no entries any more.
     pub fn put_on_hold(&mut self, buffer: u32, generation: u64)
         requires inside { buffer < length self.old }
         requires active { (buffer_at self.old buffer).state ≡ Active }
@@ -284,7 +285,7 @@ impl Buffers {
         self.buffers[buffer as usize] = NEW_BUFFER;
     }
 
-    /// Frees each buffer that is on hold under a generation below `oldest`.
+    /// Frees each buffer that is on hold with a generation below `oldest`.
     pub fn free_below(&mut self, oldest: u64)
         ensures { self.new ≡ map (freed_below oldest) self.old }
     {
@@ -293,7 +294,7 @@ impl Buffers {
         }
     }
 
-    /// The free buffer of lowest number.
+    /// Returns the free buffer with the lowest number.
     pub fn lowest_free(&self) -> Option<u32>
         requires { length self.now < 2 ^ 32 }
         ensures none { IfNone result ((b : ℕ) → b < length self.now → is_state_free (buffer_at self.now b).state ≡ false) }
@@ -307,7 +308,7 @@ impl Buffers {
         None
     }
 
-    /// How many buffers are active.
+    /// Returns the number of active buffers.
     pub fn active(&self) -> u32
         requires { length self.now < 2 ^ 32 }
         ensures { result ≡ count_by (λ b. is_state_active b.state) self.now }
@@ -318,7 +319,7 @@ impl Buffers {
             .count() as u32
     }
 
-    /// How many buffers are on hold.
+    /// Returns the number of buffers on hold.
     pub fn on_hold(&self) -> u32
         requires { length self.now < 2 ^ 32 }
         ensures { result ≡ count_by (λ b. is_on_hold b.state) self.now }
@@ -329,8 +330,8 @@ impl Buffers {
             .count() as u32
     }
 
-    /// The buffer that a compaction should empty: the candidate with the most dead words, and among equals the first. None
-    /// where no buffer is a candidate.
+    /// Returns the buffer that a compaction should empty: the candidate with the most dead words, and the first among
+    /// equals. Returns `None` if no buffer is a candidate.
     pub fn choose_victim(&self) -> Option<u32>
         requires { length self.now < 2 ^ 32 }
         ensures none { IfNone result ((b : ℕ) → b < length self.now → is_candidate (buffer_at self.now b) ≡ false) }
@@ -352,7 +353,7 @@ impl Buffers {
 impl Buffer {
     ghost use Rattle.buffer_states.specs.Buffers.{gain_of, freed_below};
 
-    /// The dead words, where it is a candidate.
+    /// Returns the dead words of a candidate, or 0 for any other buffer.
     fn gain(&self) -> u32
         ensures { result ≡ gain_of self.now }
     {

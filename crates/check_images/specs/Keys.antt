@@ -1,4 +1,4 @@
--- The keys of a tree: what they read as, and how they are compared.
+-- The keys of a tree: how they are read and compared.
 use Rattle.std.specs.Prelude.{ℕ, List, map}
 use Rattle.std.specs.declared.cmp.Ordering.{Ordering}
 use Rattle.std.specs.List.Sorted.{IsStrictlySortedBy}
@@ -10,7 +10,7 @@ use Rattle.attr_types.specs.Value.{value_cmp}
 use Rattle.check_images.specs.declared.keys.Keys.{Keys}
 use Rattle.check_images.specs.declared.keys.Keys.TheVariants.{Numbers, Values}
 
--- two stored keys, by what they read as
+-- compares two stored keys by what they represent
 abbrev pub stored_cmp : Keys → Records → ℕ → ℕ → Ordering
 stored_cmp Numbers m a b = nat_cmp a b
 stored_cmp (Values type) m a b = value_cmp (stored_value type m a) (stored_value type m b)

@@ -1,4 +1,4 @@
--- Slots that are not used.
+-- Unused slots.
 use Rattle.std.specs.Prelude.{◌≡◌, ℕ, ◌+◌, ◌<◌, ◌≤◌, List, slice_index}
 use Rattle.tree_read.specs.declared.node_format.TheConstants.{FIRST_KEY, FIRST_VALUE}
 

@@ -4,7 +4,7 @@ use Rattle.attr_images.specs.Words.{unpacked}
 use Rattle.attr_types.specs.declared.kind.Kind.{Kind}
 use Rattle.attr_types.specs.declared.kind.Kind.TheVariants.{Single, Array, WeightedSet}
 
--- only a weighted set has them in its words
+-- only a weighted set has weights in its words
 abbrev pub weights : Kind → List ℕ → List (ℕ × ℤ)
 weights Single items = map (λ item. (item, pos 1)) items
 weights Array items = map (λ item. (item, pos 1)) items

@@ -21,8 +21,8 @@ use attr_types::{Items, Kind, Value, ValueType};
 use std::alloc::Global;
 use std::collections::BTreeMap;
 
-/// The documents of a document tree with their items, if its nodes and the records of the items have
-/// their forms and the documents are lawful.
+/// Returns the documents of a document tree with their items, if its nodes and the records of the items are well
+/// formed and the documents are lawful.
 fn read_column(
     alloc: Global,
     kind: Kind,
@@ -48,7 +48,7 @@ fn read_column(
     Ok(column)
 }
 
-/// The values of a dictionary, if its nodes and records have their forms and its lists are those of a column.
+/// Returns the values of a dictionary, if its nodes and records are well formed and its lists are those of a column.
 fn read_values(
     alloc: Global,
     value_type: ValueType,
@@ -74,7 +74,8 @@ fn read_values(
     read_dictionary(alloc, value_type, records, column, pairs.as_slice())
 }
 
-/// The documents of an attribute by the roots of its document tree and of its dictionary, if it is lawful.
+/// Returns the documents of an attribute by the roots of its document tree and of its dictionary, if the attribute is
+/// lawful.
 pub fn check_attribute(
     alloc: Global,
     kind: Kind,

@@ -11,14 +11,14 @@ use entry_ref::{word_in, words_at};
 use std::alloc::{AllocError, Global};
 use std::collections::BTreeMap;
 
-/// Whether bit `i` of a block is 1.
+/// Returns whether bit `i` of a block is 1.
 fn has_bit(words: &[u64], i: u64) -> bool
     ensures { result ≡ in_words words.now i }
 {
     (word_in(words, (i / 64) as usize) >> (i % 64)) & 1 == 1
 }
 
-/// Puts the documents of a block behind others, each with weight 1.
+/// Appends the documents of a block, each with weight 1.
 fn push_block(list: &mut Vec<(u64, i32)>, number: u64, words: &[u64]) -> Result<(), AllocError>
     requires { number < 2 ^ 20 }
     ensures { OnOk result (list.new.items ≡ list.old.items ++ map (λ doc. (doc, pos 1)) (block_documents number words.now)) }
@@ -31,7 +31,7 @@ fn push_block(list: &mut Vec<(u64, i32)>, number: u64, words: &[u64]) -> Result<
     Ok(())
 }
 
-/// The same, if the words are those of a block.
+/// Appends the documents of a block, if the words are those of a block.
 fn read_block(list: &mut Vec<(u64, i32)>, number: u64, words: &[u64]) -> Result<(), CheckFault>
     ensures form { OnOk result (IsBlock number words.now) }
     ensures list { OnOk result (list.new.items ≡ list.old.items ++ map (λ doc. (doc, pos 1)) (block_documents number words.now)) }
@@ -48,7 +48,7 @@ fn read_block(list: &mut Vec<(u64, i32)>, number: u64, words: &[u64]) -> Result<
     Ok(())
 }
 
-/// The documents of a bit vector's blocks, each with weight 1.
+/// Returns the documents of a bit vector's blocks, each with weight 1.
 pub fn read_blocks(
     alloc: Global,
     records: &BTreeMap<u32, Vec<u64>>,

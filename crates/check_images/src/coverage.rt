@@ -26,7 +26,7 @@ fn have_values(values: &[Value], items: &[Item]) -> bool
     true
 }
 
-/// Whether each value of a column is among these.
+/// Returns whether each value of a column is among these.
 pub fn have_all_values(values: &[Value], column: &[(u64, Items)]) -> bool
     ensures { IsTrue result ↔ AllByRecursion (λ (e : ℕ × List Item). AllByRecursion (λ (item : Item). Contains values.now item.value) e.1)
         column.now }

@@ -17,7 +17,7 @@ use entry_ref::words_at;
 use std::alloc::{AllocError, Global};
 use std::collections::BTreeMap;
 
-/// A document with the weight of its first item of a value, if it has one.
+/// Returns a document with the weight of its first item with a value, if it has one.
 fn document_with(value: &Value, document: u64, items: &[Item]) -> Option<(u64, i32)>
     ensures { result ≡ option_map (λ (item : Item). (document, item.weight))
         (find (λ (item : Item). is_eq (value_cmp value.now item.value)) items.now) }
@@ -30,7 +30,7 @@ fn document_with(value: &Value, document: u64, items: &[Item]) -> Option<(u64, i
     None
 }
 
-/// The documents of a column that have a value, each with its weight.
+/// Returns the documents of a column that have a value, each with its weight.
 fn documents_with(
     alloc: Global,
     value: &Value,
@@ -47,7 +47,7 @@ fn documents_with(
     Ok(list)
 }
 
-/// The value of a pair of the dictionary, whose list has to be that of the column's documents with it.
+/// Returns the value of a pair of the dictionary, whose list must have the column's documents with the value.
 fn read_entry(
     alloc: Global,
     value_type: ValueType,
@@ -76,7 +76,7 @@ fn read_entry(
     Ok(value)
 }
 
-/// The values of a dictionary's pairs, each of which has to have the list of the column's documents with it.
+/// Returns the values of a dictionary's pairs, each of which must have the list of the column's documents with it.
 pub fn read_dictionary(
     alloc: Global,
     value_type: ValueType,

@@ -7,7 +7,7 @@ ghost use Rattle.attr_types.specs.declared.items.Item.{Item};
 
 use attr_types::{Doc, Item, Items, Kind, MOST_ITEMS};
 
-/// Whether each value is below the next.
+/// Returns whether each value is below the next.
 fn rise(items: &[Item]) -> bool
     ensures { result ≡ ascends (values_of items.now) }
 {
@@ -23,7 +23,7 @@ fn rise(items: &[Item]) -> bool
     true
 }
 
-/// Whether each value is below all behind it.
+/// Returns whether each value is below all later ones.
 fn ascend(items: &[Item]) -> bool
     ensures { IsTrue result ↔ AscendByValue items.now }
 {
@@ -41,7 +41,7 @@ fn weigh_one(items: &[Item]) -> bool
     true
 }
 
-/// Whether a document may have these items.
+/// Returns whether a document may have these items.
 fn are_lawful(kind: Kind, items: &[Item]) -> bool
     ensures { IsTrue result ↔ IsLawfulItems kind items.now }
 {
@@ -58,7 +58,7 @@ fn is_document(number: u64) -> bool
     1 <= number && number <= u64::from(Doc::LAST)
 }
 
-/// Whether each document has a document's number and items that it may have.
+/// Returns whether each document has a valid number and lawful items.
 pub fn are_lawful_documents(kind: Kind, column: &[(u64, Items)]) -> bool
     ensures { IsTrue result ↔ AllByRecursion (λ (e : ℕ × List Item). IsDocNumber e.0 × IsLawfulItems kind e.1) column.now }
 {

@@ -1,11 +1,11 @@
 use std::alloc::AllocError;
 
-/// Why a check gives nothing.
+/// Why a check has no result.
 #[derive(Clone, Copy, Debug, PartialEq, Eq)]
 pub enum CheckFault {
-    /// The records are not what they are checked for.
+    /// The records do not represent what they are checked for.
     Broken,
-    /// The check is out of memory, which says nothing of the records.
+    /// Memory was exhausted, which says nothing about the records.
     Memory,
 }
 

@@ -15,7 +15,7 @@ use entry_ref::{word_in, words_at};
 use std::alloc::Global;
 use std::collections::BTreeMap;
 
-/// The words from one of them on.
+/// Returns the words from one of them on.
 fn words_from(words: &[u64], first: usize) -> &[u64]
     ensures { result.now ≡ drop first words.now }
 {
@@ -36,7 +36,7 @@ fn are_zeros(words: &[u64]) -> bool
     true
 }
 
-/// Whether the root record of so many attributes has its form.
+/// Returns whether the root record of this many attributes is well formed.
 fn is_root_record(count: usize, words: &[u64]) -> bool
     requires { count ≤ MOST_FIELDS }
     ensures { IsTrue result ↔ IsRootRecord count words.now }
@@ -47,7 +47,7 @@ fn is_root_record(count: usize, words: &[u64]) -> bool
     are_zeros(words_from(words, 1 + 2 * count))
 }
 
-/// The table of the attributes that a root record's words name from number `first` on, if they are lawful.
+/// Returns the table of the attributes in a root record's words from number `first` on, if they are lawful.
 fn check_attributes(
     alloc: Global,
     fields: &[Field],
@@ -85,8 +85,8 @@ fn check_attributes(
     Ok(put_beside(alloc, column, table)?)
 }
 
-/// The table of the image at a root, if the image is lawful for these attributes; or that it is not. It
-/// ends on any records, with cycles too.
+/// Returns the table of the image at a root, if the image is lawful for these attributes, otherwise `Broken`. The
+/// check ends for all records, also those with cycles.
 pub fn check_image(
     alloc: Global,
     fields: &Fields,

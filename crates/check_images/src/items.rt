@@ -15,14 +15,14 @@ use entry_ref::words_at;
 use std::alloc::{AllocError, Global};
 use std::collections::BTreeMap;
 
-/// Items with weight 1.
+/// Returns items with weight 1.
 fn weigh_one(alloc: Global, items: &[u64]) -> Result<Vec<(u64, i32)>, AllocError>
     ensures { IfOk result (λ list. list.items ≡ map (λ item. (item, pos 1)) items.now) }
 {
     items.iter().map(|item| (*item, 1)).collect(alloc)
 }
 
-/// The items of a stored list as references with weights: those of an array have weight 1.
+/// Returns the items of a stored list as references with weights; those of an array have weight 1.
 fn weigh_list(alloc: Global, kind: Kind, items: &[u64]) -> Result<Vec<(u64, i32)>, AllocError>
     ensures { IfOk result (λ list. list.items ≡ weights kind items.now) }
 {
@@ -32,7 +32,7 @@ fn weigh_list(alloc: Global, kind: Kind, items: &[u64]) -> Result<Vec<(u64, i32)
     }
 }
 
-/// The references of a document's values, each with its weight, if the record of its items has its form.
+/// Returns the references of a document's values, each with its weight, if the record of its items is well formed.
 fn weigh(
     alloc: Global,
     kind: Kind,
@@ -53,7 +53,7 @@ fn weigh(
     }
 }
 
-/// The items whose values stand at these references, if each of these records is a value's.
+/// Returns the items with these references of values, if each of these records is the record of a value.
 fn read_values(
     alloc: Global,
     value_type: ValueType,
@@ -76,7 +76,7 @@ fn read_values(
     Ok(Some(items))
 }
 
-/// The items of a document, if their records have their form.
+/// Returns the items of a document, if their records are well formed.
 fn read_items(
     alloc: Global,
     kind: Kind,
@@ -93,7 +93,7 @@ fn read_items(
     }
 }
 
-/// The documents of these pairs with their items, if all records of the items have their form.
+/// Returns the documents of these pairs with their items, if all records of the items are well formed.
 pub fn read_documents(
     alloc: Global,
     kind: Kind,

@@ -11,23 +11,23 @@ use std::alloc::{AllocError, Global};
 use std::cmp::Ordering;
 use std::collections::BTreeMap;
 
-/// What the keys of a tree are.
+/// How the keys of a tree are read.
 #[derive(Clone, Copy, Debug, PartialEq, Eq)]
 pub enum Keys {
-    /// Each key is a number, and stands for itself.
+    /// Each key is a number, and represents itself.
     Numbers,
     /// Each key is the reference of a value of this type.
     Values(ValueType),
 }
 
-/// The number that words read as.
+/// Returns the number that words represent.
 pub fn stored_long(words: &[u64]) -> i64
     ensures { result ≡ cast_signed w64 (slice_index words.now 1) }
 {
     word_in(words, 1).cast_signed()
 }
 
-/// The bytes of the text that words read as: as many as the first word says.
+/// Returns the bytes of the text that words represent, as many as the first word says.
 pub fn stored_text(alloc: Global, words: &[u64]) -> Result<Vec<u8>, AllocError>
     ensures { IfOk result (λ bytes. bytes.items ≡ stored_text words.now) }
 {
@@ -40,7 +40,7 @@ pub fn stored_text(alloc: Global, words: &[u64]) -> Result<Vec<u8>, AllocError>
     Ok(bytes)
 }
 
-/// Compares two stored keys by what they read as.
+/// Compares two stored keys by what they represent.
 pub fn compare_keys(
     alloc: Global,
     keys: Keys,

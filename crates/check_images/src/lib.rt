@@ -1,6 +1,5 @@
-//! A slow checker of whole images: its contract is the definitions of attr_images.
-//!
-//! A slow checker of trees: its contract is the definitions of tree_images.
+//! A slow checker of whole images, whose contract cites the definitions of attr_images; and a slow checker of trees,
+//! whose contract cites those of tree_read.
 #![tactic(auto)]
 
 mod attribute;

@@ -4,7 +4,7 @@ ghost use Rattle.check_images.specs.Slots.{AreZero};
 
 use tree_read::{FIRST_KEY, FIRST_VALUE, MOST_SLOTS, NODE_WORDS};
 
-/// Whether the slots past the used ones are 0.
+/// Returns whether the unused slots are 0.
 fn are_zero(words: &[u64], used: usize) -> bool
     requires size { length words.now ≡ NODE_WORDS }
     ensures { IsTrue result ↔ AreZero words.now used MOST_SLOTS }
@@ -17,8 +17,8 @@ fn are_zero(words: &[u64], used: usize) -> bool
     true
 }
 
-/// Whether words are those of a node of this level with at least `least` slots used. What its children
-/// are is not looked at.
+/// Returns whether words are those of a node of this level with at least `least` used slots. Its children are not
+/// checked.
 pub fn is_node_form(words: &[u64], level: u32, least: u32) -> bool
     ensures { IsTrue result ↔ IsNodeForm level least words.now }
 {

@@ -12,7 +12,7 @@ use std::alloc::Global;
 use std::collections::BTreeMap;
 use tree_read::{FIRST_KEY, FIRST_VALUE, MOST_SLOTS, NODE_WORDS};
 
-/// The last key, 0 where there is none.
+/// Returns the last key, or 0 if there is none.
 pub fn last_of(pairs: &[(u64, u64)]) -> u64
     ensures last { result ≡ last_key pairs.now }
 {
@@ -22,7 +22,7 @@ pub fn last_of(pairs: &[(u64, u64)]) -> u64
     }
 }
 
-/// Looks at a key that comes behind others which ascend.
+/// Checks the order of a key that follows ascending keys.
 fn check_order(
     alloc: Global,
     keys: Keys,
@@ -46,7 +46,7 @@ fn check_order(
     }
 }
 
-/// Takes a pair behind others whose keys ascend.
+/// Adds a pair after pairs with ascending keys.
 fn add_pair(
     alloc: Global,
     keys: Keys,
@@ -67,7 +67,7 @@ fn add_pair(
     }
 }
 
-/// Takes the pairs of a leaf's words.
+/// Adds the pairs of a leaf's words.
 pub fn add_leaf(
     alloc: Global,
     keys: Keys,

@@ -14,7 +14,7 @@ use entry_ref::words_at;
 use std::alloc::{AllocError, Global};
 use std::collections::BTreeMap;
 
-/// The pairs of a posting tree as documents with weights, if each weight is one of 32 bits.
+/// Returns the pairs of a posting tree as documents with weights, if each weight fits in 32 bits.
 fn weigh_pairs(alloc: Global, pairs: &[(u64, u64)]) -> Result<Option<Vec<(u64, i32)>>, AllocError>
     ensures { IfOk result (Tells (AllByRecursion (λ (p : ℕ × ℕ). p.1 < 2 ^ 32) pairs.now)
         (λ list. list.items ≡ map (λ (p : ℕ × ℕ). (p.0, weight_in_bits p.1)) pairs.now)) }
@@ -29,7 +29,7 @@ fn weigh_pairs(alloc: Global, pairs: &[(u64, u64)]) -> Result<Option<Vec<(u64, i
     Ok(Some(list))
 }
 
-/// The documents of a posting tree, if it has more than a short list and its weights are weights.
+/// Returns the documents of a posting tree, if it has more than a short list and its weights are valid.
 fn read_tree(
     alloc: Global,
     records: &BTreeMap<u32, Vec<u64>>,
@@ -49,7 +49,7 @@ fn read_tree(
     }
 }
 
-/// The documents of a bit vector, if it has some block.
+/// Returns the documents of a bit vector, if it has at least one block.
 fn read_vector(
     alloc: Global,
     records: &BTreeMap<u32, Vec<u64>>,
@@ -66,7 +66,7 @@ fn read_vector(
     read_blocks(alloc, records, pairs.as_slice())
 }
 
-/// The documents of the list that a word of the dictionary names.
+/// Returns the documents of the list for a word of the dictionary.
 pub fn read_postings(
     alloc: Global,
     records: &BTreeMap<u32, Vec<u64>>,

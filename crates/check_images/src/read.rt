@@ -1,6 +1,6 @@
 ghost use Rattle.std.specs.Prelude.{◌≡◌, drop};
 
-/// The words behind the first.
+/// Returns the words after the first.
 pub fn rest_of(words: &[u64]) -> &[u64]
     ensures { result.now ≡ drop 1 words.now }
 {

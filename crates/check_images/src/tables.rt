@@ -7,7 +7,7 @@ ghost use Rattle.attr_index.specs.Columns.{table_of_column};
 use attr_types::{FieldItems, Items};
 use std::alloc::{AllocError, Global};
 
-/// Each document with the one list of its items.
+/// Returns each document with its one list of items.
 pub fn table_of_column(
     alloc: Global,
     column: Vec<(u64, Items)>,
@@ -22,7 +22,7 @@ pub fn table_of_column(
     Ok(table)
 }
 
-/// Whether a column and a table have the same documents.
+/// Returns whether a column and a table have the same documents.
 pub fn have_same_documents(column: &[(u64, Items)], table: &[(u64, FieldItems)]) -> bool
     ensures { IsTrue result ↔ keys_of table.now ≡ keys_of column.now }
 {
@@ -39,7 +39,7 @@ pub fn have_same_documents(column: &[(u64, Items)], table: &[(u64, FieldItems)])
     rows.is_empty()
 }
 
-/// Items in front of a document's other lists of items.
+/// Puts items before a document's other lists of items.
 fn put_in_front(items: Items, document: FieldItems) -> Result<FieldItems, AllocError>
     ensures { IfOk result (λ whole. whole ≡ items ∷ document) }
 {
@@ -48,7 +48,7 @@ fn put_in_front(items: Items, document: FieldItems) -> Result<FieldItems, AllocE
     Ok(FieldItems::from_vec(lists))
 }
 
-/// Each document of a column with its items in front of its other lists.
+/// Returns each document of a column with its items before its other lists.
 pub fn put_beside(
     alloc: Global,
     column: Vec<(u64, Items)>,

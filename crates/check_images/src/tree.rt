@@ -14,7 +14,7 @@ use std::alloc::Global;
 use std::collections::BTreeMap;
 use tree_read::{FIRST_KEY, FIRST_VALUE, LEAST_SLOTS};
 
-/// The words of a node of this level with at least `least` slots used.
+/// Returns the words of a node of this level with at least `least` used slots.
 fn read_node(
     records: &BTreeMap<u32, Vec<u64>>,
     reference: u64,
@@ -33,7 +33,7 @@ fn read_node(
     }
 }
 
-/// Takes the pairs below a node, behind others whose keys ascend.
+/// Adds the pairs below a node, after pairs with ascending keys.
 fn walk(
     alloc: Global,
     keys: Keys,
@@ -80,15 +80,15 @@ fn walk(
     Ok(())
 }
 
-/// The slots that a root of this level has to use.
+/// Returns the least number of slots that a root of this level must use.
 fn least_of(level: u64) -> u32
     ensures { result ≡ root_least level }
 {
     if level == 0 { 1 } else { 2 }
 }
 
-/// The pairs of the tree at a root, none at root 0; or that the records are no tree there. A level above 7
-/// is refused, so the check ends on any records, with cycles too.
+/// Returns the pairs of the tree at a root, which has none at root 0, or `Broken` if the records are not a tree. A
+/// level above 7 is refused, so the check ends for all records, also those with cycles.
 pub fn check_tree(
     alloc: Global,
     keys: Keys,

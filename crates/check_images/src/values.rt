@@ -7,7 +7,7 @@ use crate::{stored_long, stored_text};
 use attr_types::{Text, Value, ValueType};
 use std::alloc::{AllocError, Global};
 
-/// The first eight bytes, with zeros where there are fewer.
+/// Returns the first eight bytes, with zeros for missing bytes.
 fn eight_of(bytes: &[u8]) -> [u8; 8]
     ensures { result ≡ take 8 (bytes.now ++ replicate 8 0) }
 {
@@ -21,7 +21,7 @@ fn eight_of(bytes: &[u8]) -> [u8; 8]
     eight
 }
 
-/// The bytes behind the first eight.
+/// Returns the bytes after the first eight.
 fn behind_eight(bytes: &[u8]) -> &[u8]
     ensures { result.now ≡ drop 8 bytes.now }
 {
@@ -31,7 +31,7 @@ fn behind_eight(bytes: &[u8]) -> &[u8]
     }
 }
 
-/// A text's bytes as words, eight a word, the first in the highest place.
+/// Returns a text's bytes as words, eight in each, the first byte in the highest place.
 fn pack(alloc: Global, bytes: &[u8]) -> Result<Vec<u64>, AllocError>
     requires { length bytes.now ≤ 1024 }
     ensures { IfOk result (λ words. words.items ≡ packed_bytes ((length bytes.now + 7) / 8) bytes.now) }
@@ -45,7 +45,7 @@ fn pack(alloc: Global, bytes: &[u8]) -> Result<Vec<u64>, AllocError>
     Ok(words)
 }
 
-/// The words of a value, without the zeros behind them.
+/// Returns the words of a value, without the zeros after them.
 fn value_words(alloc: Global, value: &Value) -> Result<Vec<u64>, AllocError>
     ensures { IfOk result (λ words. words.items ≡ value_words value.now) }
 {
@@ -63,7 +63,7 @@ fn value_words(alloc: Global, value: &Value) -> Result<Vec<u64>, AllocError>
     Ok(words)
 }
 
-/// The value that words read as, if it is one that a document may have.
+/// Returns the value that words represent, if a document may have it.
 fn value_of(
     alloc: Global,
     value_type: ValueType,
@@ -84,7 +84,7 @@ fn value_of(
     }
 }
 
-/// The value that a record holds, if it is the record of one.
+/// Returns the value of a record, if it is the record of a value.
 pub fn read_value(
     alloc: Global,
     value_type: ValueType,

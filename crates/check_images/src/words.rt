@@ -8,7 +8,7 @@ use std::alloc::{AllocError, Global};
 
 const CLASSES: [usize; 10] = [2, 4, 8, 16, 32, 64, 128, 256, 512, 1024];
 
-/// The least width that holds `count` words, 1024 at most.
+/// Returns the least width that holds `count` words, at most 1024.
 pub fn class_of(count: usize) -> usize
     ensures { result ≡ class_of count }
 {
@@ -20,7 +20,7 @@ pub fn class_of(count: usize) -> usize
     1024
 }
 
-/// Puts zeros behind words, up to their width.
+/// Appends zeros to words, up to their width.
 fn fill(words: &mut Vec<u64>) -> Result<(), AllocError>
     ensures { OnOk result (words.new.items ≡ filled words.old.items) }
 {
@@ -29,7 +29,7 @@ fn fill(words: &mut Vec<u64>) -> Result<(), AllocError>
     Ok(())
 }
 
-/// Whether a record is these words, and zeros up to their width.
+/// Returns whether a record has these words, followed by zeros up to their width.
 pub fn is_filled(mut front: Vec<u64>, words: &[u64]) -> Result<bool, AllocError>
     ensures { IfOk result (λ same. IsTrue same ↔ (words.now ≡ filled front.items)) }
 {
@@ -37,7 +37,7 @@ pub fn is_filled(mut front: Vec<u64>, words: &[u64]) -> Result<bool, AllocError>
     Ok(words == front.as_slice())
 }
 
-/// The items of a list that stands behind its count.
+/// Returns the items of a list that is stored after its count.
 pub fn stored_items(words: &[u64]) -> &[u64]
     ensures { result.now ≡ stored_items words.now }
 {
@@ -49,7 +49,7 @@ pub fn stored_items(words: &[u64]) -> &[u64]
     }
 }
 
-/// The items of a stored list, if the record is one of at most `most`.
+/// Returns the items of a stored list, if the record is a list of at most `most` items.
 pub fn read_list(alloc: Global, most: usize, words: &[u64]) -> Result<Option<&[u64]>, AllocError>
     ensures { IfOk result (Tells (IsStoredList most words.now) (λ items. items.now ≡ stored_items words.now)) }
 {
@@ -67,7 +67,7 @@ pub fn read_list(alloc: Global, most: usize, words: &[u64]) -> Result<Option<&[u
     }
 }
 
-/// The number and the weight that a word holds.
+/// Returns the number and the weight in a word.
 pub fn unpack(word: u64) -> (u64, i32)
     ensures { result ≡ unpacked word }
 {
@@ -75,7 +75,7 @@ pub fn unpack(word: u64) -> (u64, i32)
     (word / (1 << 32), weight.cast_signed())
 }
 
-/// The numbers and weights that words hold.
+/// Returns the numbers and weights in words.
 pub fn unpack_all(alloc: Global, words: &[u64]) -> Result<Vec<(u64, i32)>, AllocError>
     ensures { IfOk result (λ list. list.items ≡ map unpacked words.now) }
 {

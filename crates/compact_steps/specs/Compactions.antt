@@ -1,4 +1,4 @@
--- A step of a compaction: what it makes of attributes in their store, and what it came to.
+-- A step of a compaction: how it changes attributes in their store, and its result.
 use Rattle.std.specs.Prelude.{◌≡◌, ◌≢◌, ℕ, ◌≤◌, true, nat_eq, if◌then◌else◌, List, length, Option, None, Some, Result, Ok, Err}
 use Rattle.std.specs.declared.cmp.Ordering.TheVariants.{Greater}
 use Rattle.entry_ref.specs.References.{buffer_of}
@@ -20,13 +20,13 @@ use Rattle.compact_steps.specs.declared.stepping.Step.{Step}
 use Rattle.compact_steps.specs.declared.stepping.Step.TheVariants.{Idle, Moved, Finished}
 use Rattle.attr_compaction.specs.Counts.{keys_between}
 
--- where a compaction stands; one that is not begun yet stands before the first key
+-- the place of a compaction; one that has not begun is before the first key
 abbrev pub place_of_plan : Option PlanView → PlanPlace
 place_of_plan None = first_place
 place_of_plan (Some plan) = plan.place
 
 -- ---- the store
--- it is kept, but for the buffers that are sealed and the one that is finished
+-- the store keeps everything except which buffers are sealed and which is finished
 abbrev pub KeepsStoreBut : {H : Type 0} → Ledger H → Ledger H → Type 0
 KeepsStoreBut old new = KeepsStore old (record new { sealed = old.sealed; finished = old.finished })
 
@@ -37,7 +37,7 @@ pub record Begins {H : Type 0} (bits fields : ℕ) (old new : Ledger H) (plan : 
   pub all : plan.fields ≡ fields
   pub sealed : (b : ℕ) → new.sealed b ≡ (if nat_eq b plan.victim then true else old.sealed b)
 
--- it was under way before
+-- the compaction was in progress before
 pub record WasUnderWay {H : Type 0} (old new : Ledger H) (before plan : PlanView) : Type 0 where
   pub victim : plan.victim ≡ before.victim
   pub all : plan.fields ≡ before.fields
@@ -47,13 +47,13 @@ abbrev pub IsUnderPlan : {H : Type 0} → ℕ → ℕ → Ledger H → Ledger H 
 IsUnderPlan bits fields old new None plan = Begins bits fields old new plan
 IsUnderPlan bits fields old new (Some before) plan = WasUnderWay old new before plan
 
--- none is under way, and none is worth it
+-- none is in progress, and no buffer is worth one
 pub record BeginsNone {H : Type 0} (bits : ℕ) (old : Ledger H) (before : Option PlanView) (same : Type 0) : Type 0 where
   pub none : before ≡ None
   pub why : HasNoVictim bits old
   pub store_is : same
 
--- one is under way, and no key was visited since
+-- one is in progress, and no key was visited since
 pub record OpensPlan {H : Type 0} (bits root : ℕ) (old new : Ledger H) (m n : Records) (fields : List Field) (trees : List AttributeTrees)
     (before : Option PlanView) (plan : PlanView) : Type 0 where
   pub under : IsUnderPlan bits (length fields) old new before plan
@@ -67,7 +67,7 @@ pub record OpensPlan {H : Type 0} (bits root : ℕ) (old new : Ledger H) (m n : 
 
 module _ {H : Type 0} (bits root : ℕ) (old new : Ledger H) (m n : Records) (fields : List Field) (trees next : List AttributeTrees)
     (before : Option PlanView) where
-  -- so many keys were visited
+  -- this many keys were visited
   pub record Went (plan : PlanView) (visited : ℕ) : Type 0 where
     pub under : IsUnderPlan bits (length fields) old new before plan
     pub rises : place_cmp (place_of_plan before) plan.place ≢ Greater
@@ -76,7 +76,7 @@ module _ {H : Type 0} (bits root : ℕ) (old new : Ledger H) (m n : Records) (fi
     pub table : table_at n next ≡ table_at m trees
     pub keeps : KeepsStoreBut old new
 
-  -- and it is under way
+  -- and the compaction is in progress
   pub record GoesTo (after : Option PlanView) (visited : ℕ) : Type 0 where
     pub plan : PlanView
     pub plan_is : after ≡ Some plan

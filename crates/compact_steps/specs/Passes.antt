@@ -1,4 +1,4 @@
--- Keys of a phase that are passed at once.
+-- Keys of a phase that are passed together.
 use Rattle.std.specs.Prelude.{◌≡◌, ℕ, ◌<◌, List, [], ◌∷◌, length, Some}
 use Rattle.entry_ref.specs.Records.{Records}
 use Rattle.compaction_moves.specs.Cleared.{IsClearedField}
@@ -10,12 +10,12 @@ use Rattle.attr_images.specs.Tables.{AttributeTrees}
 use Rattle.attr_compaction.specs.PhaseKeys.{key_past, phase_keys, HasType}
 use Rattle.value_index.specs.Indexes.{IsIndex}
 
--- each of these keys is the next one past the one before it, and the last is this one; where there are none it is the first
+-- each of these keys is the next after the one before it, and the last is `to`; without keys, `to` is the first one
 abbrev pub GoesThrough : List PlanKey → PlanKey → List PlanKey → PlanKey → Type 0
 GoesThrough keys from [] to = to ≡ from
 GoesThrough keys from (key ∷ passed) to = (key_past from keys ≡ Some key) × GoesThrough keys key passed to
 
--- up to this key are so many keys of the place's phase, and all is cleared up to it
+-- up to this key there are this many keys of the place's phase, and everything up to it is cleared
 pub record Passes (bits victim : ℕ) (at : PlanPlace) (m : Records) (a : AttributeTrees) (key : PlanKey) (count : ℕ) : Type 0 where
   pub some : 0 < count
   pub passed : List PlanKey

@@ -1,4 +1,4 @@
--- A compaction of attributes under way, and what one turn of it makes.
+-- A compaction of attributes in progress, and the effect of one turn.
 use Rattle.std.specs.Prelude.{◌≡◌, ℕ, ◌<◌, true, List, length, slice_get, Option, None, Some, unwrap_or}
 use Rattle.std.specs.List.{AllZip}
 use Rattle.std.specs.Option.{IfSome, option_and_then}
@@ -25,11 +25,12 @@ use Rattle.compact_steps.specs.declared.unit.Turn.TheVariants.{Moved, PhaseOver}
 abbrev pub keys_at : Records → AttributeTrees → ℕ → List PlanKey
 keys_at m a phase = phase_keys a.type m a.documents a.dictionary phase
 
--- the key that a place goes on to: the first of its phase that is past it, none where the phase is over
+-- the key to which a place moves: the first of its phase after it, or none if the phase is over
 abbrev pub next_at : Records → List AttributeTrees → PlanPlace → Option PlanKey
 next_at m trees at = option_and_then (λ a. key_past at.key (keys_at m a at.stage.phase)) (slice_get trees at.stage.field)
 
--- attributes are emptied out of a sealed buffer: what they reach of it is past the plan's place, whose key is of its attribute's type
+-- attributes are emptied out of a sealed buffer: what they reach of it is after the plan's place, whose key has its
+-- attribute's type
 pub record IsUnderWay {H : Type 0} (bits : ℕ) (ledger : Ledger H) (m : Records) (trees : List AttributeTrees) (plan : PlanView)
     : Type 0 where
   pub sealed : ledger.sealed plan.victim ≡ true
@@ -38,12 +39,12 @@ pub record IsUnderWay {H : Type 0} (bits : ℕ) (ledger : Ledger H) (m : Records
   pub typed : IfSome (slice_get trees plan.place.stage.field) (λ a. HasType a.type plan.place.key)
   pub cleared : IsCleared bits plan.victim plan.place m trees
 
--- what a turn came to
+-- the result of a turn
 abbrev pub turn_of : Option PlanKey → Turn
 turn_of None = PhaseOver
 turn_of (Some key) = Moved
 
--- the plan went on to the next key, or where the phase had none to the next phase
+-- the plan moved to the next key, or to the next phase if the phase had no further key
 pub record GoesOn (old new : PlanView) (next : Option PlanKey) (turn : Turn) : Type 0 where
   pub turn_is : turn ≡ turn_of next
   pub victim : new.victim ≡ old.victim
@@ -51,7 +52,7 @@ pub record GoesOn (old new : PlanView) (next : Option PlanKey) (turn : Turn) : T
   pub place : new.place ≡ place_after old.fields old.place (unwrap_or next Start)
   pub rises : place_cmp old.place new.place ≡ Less
 
--- the plan went on over so many keys of its attribute's phase, each the next one past the one before it
+-- the plan moved over this many keys of its attribute's phase, each the next after the one before it
 pub record PassesKeys (m : Records) (trees : List AttributeTrees) (old new : PlanView) (count : ℕ) : Type 0 where
   pub victim : new.victim ≡ old.victim
   pub fields : new.fields ≡ old.fields
@@ -62,11 +63,12 @@ pub record PassesKeys (m : Records) (trees : List AttributeTrees) (old new : Pla
   pub count_is : length passed ≡ count
   pub through : GoesThrough (keys_at m tree old.place.stage.phase) old.place.key passed new.place.key
 
--- each attribute has the keys in each phase that it had
+-- each attribute has the same keys in each phase as before
 abbrev pub KeepKeys : Records → Records → List AttributeTrees → List AttributeTrees → Type 0
 KeepKeys m n trees next = AllZip (λ a b. (phase : ℕ) → keys_at n b phase ≡ keys_at m a phase) trees next
 
--- attributes stand in place of others: they read the same, have the same keys, and all up to the plan's place lies elsewhere
+-- attributes replace others: their contents and their keys are the same, and everything up to the plan's place lies
+-- elsewhere
 pub record CompactsTo {H : Type 0} (bits : ℕ) (new : Ledger H) (m n : Records) (fields : List Field)
     (trees next : List AttributeTrees) (root : ℕ) (plan : PlanView) : Type 0 where
   pub holds : HoldsAttributes bits new n fields next root
@@ -74,11 +76,11 @@ pub record CompactsTo {H : Type 0} (bits : ℕ) (new : Ledger H) (m n : Records)
   pub table : table_at n next ≡ table_at m trees
   pub keys : KeepKeys m n trees next
 
--- the plan once a key of the place's phase was visited
+-- the plan after a key of the place's phase is visited
 abbrev pub plan_at : PlanView → PlanKey → PlanView
 plan_at plan key = record { victim = plan.victim; fields = plan.fields; place = record { stage = plan.place.stage; key = key } }
 
--- a store that was full for a width has fewer entries of it to spare than this
+-- a store that was full for a width has fewer spare entries of it than this
 abbrev pub SparesBelow : {H : Type 0} → Ledger H → ℕ → StoreError → Type 0
 SparesBelow new few (errors.Full width active held oldest) = (new.of_width width).spare < few
 SparesBelow new few errors.Memory = Unit {0}
@@ -94,7 +96,7 @@ abbrev pub HasActive : {H : Type 0} → Ledger H → StoreError → Type 0
 HasActive new (errors.Full width active held oldest) = IsActiveWidth new width
 HasActive new errors.Memory = Unit {0}
 
--- where a phase was over nothing else was changed
+-- if the phase was over, nothing else changed
 abbrev pub LeavesAtEnd : Type 0 → Type 0 → Turn → Type 0
 LeavesAtEnd store roots PhaseOver = store × roots
 LeavesAtEnd store roots Moved = Unit {0}

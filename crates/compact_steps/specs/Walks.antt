@@ -1,4 +1,4 @@
--- What a walk over keys makes of attributes in their store, and how far it came.
+-- How a walk over keys changes attributes in their store, and how far it gets.
 use Rattle.std.specs.Prelude.{◌≡◌, ◌≢◌, ℕ, ◌+◌, ◌<◌, ◌≤◌, List, Option, None, Some, Result, Ok, Err}
 use Rattle.std.specs.declared.cmp.Ordering.TheVariants.{Greater}
 use Rattle.entry_ref.specs.Records.{Records}
@@ -26,7 +26,7 @@ pub record RefusesNext {H : Type 0} (old new : Ledger H) (error : StoreError) : 
   pub spare : SparesBelow new 34 error
   pub active : HasActive new error
 
--- all of them were; or some and not all, since the next one was refused
+-- some keys were visited, but not all, since the next one was refused
 pub record StopsRefused {H : Type 0} (old new : Ledger H) (keys visited : ℕ) (error : StoreError) : Type 0 where
   pub some : 0 < visited
   pub few : visited < keys
@@ -38,7 +38,8 @@ Stops old new keys visited (Some error) = StopsRefused old new keys visited erro
 
 module _ {H : Type 0} (bits root : ℕ) (old new : Ledger H) (m n : Records) (fields : List Field) (trees next : List AttributeTrees)
     (from to : PlanView) where
-  -- so many keys were visited: the attributes read as they did, and all up to the plan's place lies elsewhere
+  -- this many keys were visited: the contents of the attributes are unchanged, and everything up to the plan's place
+  -- lies elsewhere
   pub record Visits (keys : ℕ) : Type 0 where
     pub holds : HoldsAttributes bits new n fields next root
     pub under_way : IsUnderWay bits new n next to

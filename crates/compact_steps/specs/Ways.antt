@@ -16,7 +16,8 @@ IsWayBelow bits buffer order read m level ref p = NoneIn bits buffer (path_below
 abbrev pub IsWayApart : {V : Type 0} → ℕ → ℕ → (V → V → Ordering) → (Records → ℕ → V) → Records → ℕ → ℕ × ℕ → Type 0
 IsWayApart bits buffer order read m root p = NoneIn bits buffer (path_nodes m (seen_by read order (read m p.0) m) root)
 
--- this holds of the first so many pairs that are not below a key, and it is told whether the first is at the key
+-- the first `count` pairs that are not below a key have the property, and `found` says whether the first of them is
+-- at the key
 pub record IsWay (P : ℕ × ℕ → Type 0) (c : ℕ → Ordering) (pairs : List (ℕ × ℕ)) (count last : ℕ) (found : Bool) : Type 0 where
   pub run : IsRun P (seek c pairs) count last
   pub at : found ≡ true → (0 < count) × (c (first_key (seek c pairs)) ≡ Equal)

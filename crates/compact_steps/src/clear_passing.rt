@@ -25,14 +25,14 @@ use frozen_btree::{Cursor, NumberKey};
 use std::alloc::Global;
 use unique_store::get;
 
-/// So many keys that were passed, of which this is the last.
+/// The number of keys that were passed, and the last of them.
 #[derive(Drop)]
 pub struct Passed {
     pub keys: u32,
     pub last: PlanKey,
 }
 
-/// The value whose record is given, where there is memory for it.
+/// Returns the value of a record, if there is memory for it.
 pub fn value_at<const OFFSET_BITS: u32, F: Frozen<OFFSET_BITS>>(
     alloc: Global,
     frozen: &mut F,
@@ -50,7 +50,7 @@ pub fn value_at<const OFFSET_BITS: u32, F: Frozen<OFFSET_BITS>>(
     }
 }
 
-/// Passes values whose records lie apart.
+/// Passes values whose records lie outside the buffer.
 #[tactic(none)]
 fn pass_values<const OFFSET_BITS: u32, F: Frozen<OFFSET_BITS>>(
     alloc: Global,
@@ -91,7 +91,7 @@ fn pass_values<const OFFSET_BITS: u32, F: Frozen<OFFSET_BITS>>(
     }
 }
 
-/// Passes documents whose items lie apart.
+/// Passes documents whose items lie outside the buffer.
 #[tactic(none)]
 fn pass_documents<const OFFSET_BITS: u32, F: Frozen<OFFSET_BITS>>(
     frozen: &mut F,
@@ -128,7 +128,7 @@ fn pass_documents<const OFFSET_BITS: u32, F: Frozen<OFFSET_BITS>>(
     })
 }
 
-/// Whether the list of a value is a tree, where it is there.
+/// Returns whether the list of a value is a tree, if the value exists.
 fn has_tree<const OFFSET_BITS: u32, F: Frozen<OFFSET_BITS>>(
     frozen: &mut F,
     root: EntryRef<OFFSET_BITS>,
@@ -146,7 +146,7 @@ fn has_tree<const OFFSET_BITS: u32, F: Frozen<OFFSET_BITS>>(
     }
 }
 
-/// Passes lists that are each one record, which lies apart.
+/// Passes lists that are single records outside the buffer.
 #[tactic(none)]
 fn pass_lists<const OFFSET_BITS: u32, F: Frozen<OFFSET_BITS>>(
     alloc: Global,
@@ -192,7 +192,7 @@ fn pass_lists<const OFFSET_BITS: u32, F: Frozen<OFFSET_BITS>>(
     }
 }
 
-/// Passes values, by the plan's phase.
+/// Passes values, according to the plan's phase.
 #[tactic(none)]
 fn pass_by_value<const OFFSET_BITS: u32, F: Frozen<OFFSET_BITS>>(
     alloc: Global,
@@ -221,7 +221,7 @@ fn pass_by_value<const OFFSET_BITS: u32, F: Frozen<OFFSET_BITS>>(
     None
 }
 
-/// Passes documents, by the plan's phase.
+/// Passes documents, according to the plan's phase.
 #[tactic(none)]
 fn pass_by_document<const OFFSET_BITS: u32, F: Frozen<OFFSET_BITS>>(
     frozen: &mut F,
@@ -249,8 +249,8 @@ fn pass_by_document<const OFFSET_BITS: u32, F: Frozen<OFFSET_BITS>>(
     None
 }
 
-/// Passes the keys behind a plan's place, at most so many, as long as nothing that stands under them lies in the victim.
-/// None where the next one may have to be moved.
+/// Passes the keys after a plan's place, at most `most` of them, as long as nothing that belongs to them lies in the
+/// victim. Returns `None` if the next one may have to be moved.
 #[tactic(none)]
 pub fn pass_clear<const OFFSET_BITS: u32, F: Frozen<OFFSET_BITS>>(
     alloc: Global,

@@ -1,4 +1,4 @@
-//! A compaction comes to its end.
+//! The end of a compaction.
 ghost use Rattle.std.specs.Prelude.{◌≡◌, ◌≢◌, ℕ, Some};
 ghost use Rattle.entry_ref.specs.References.{buffer_of};
 ghost use Rattle.entry_ref.specs.Records.{Among};
@@ -15,7 +15,7 @@ use attr_types::Field;
 use entry_ref::EntryRef;
 use store_api::Store;
 
-/// The emptied buffer of a compaction past all keys, which goes on hold with the next commit.
+/// Returns the emptied buffer if the compaction is past all keys. It goes on hold with the next commit.
 #[tactic(none)]
 pub fn end_plan<const OFFSET_BITS: u32, S: Store<OFFSET_BITS>>(
     store: &mut S,

@@ -17,7 +17,7 @@ use entry_ref::EntryRef;
 use std::alloc::{AllocError, Global};
 use store_api::{Store, StoreError};
 
-/// The first key past the plan's place, of its phase in this attribute.
+/// Returns the first key after the plan's place, in its phase of this attribute.
 pub fn next_of<const OFFSET_BITS: u32, F: Frozen<OFFSET_BITS>>(
     alloc: Global,
     frozen: &mut F,
@@ -43,7 +43,7 @@ pub fn next_of<const OFFSET_BITS: u32, F: Frozen<OFFSET_BITS>>(
     )
 }
 
-/// One unit in which a key of the plan's attribute is visited. The answer is the attribute's new roots.
+/// Visits a key of the plan's attribute, in a unit of its own. Returns the attribute's new roots.
 #[tactic(none)]
 pub fn move_unit<const OFFSET_BITS: u32, S: Store<OFFSET_BITS>>(
     alloc: Global,

@@ -1,8 +1,8 @@
-//! A step of a compaction: it is begun, keys are visited, each in a unit of work of its own, and it comes to an end.
+//! A step of a compaction: it is begun, keys are visited, each in a unit of its own, and it ends.
 //!
-//! What a compaction has cleared stays so: where records stay, through operations, and at the places that it goes on to.
+//! What a compaction has cleared stays cleared: while records stay the same, through operations, and at later places.
 //!
-//! Keys of a phase that a compaction passes at once, since nothing that stands under them lies in the buffer that it empties.
+//! Keys of a phase are passed together if nothing that belongs to them lies in the buffer that is emptied.
 #![tactic(auto)]
 
 mod clear_passing;

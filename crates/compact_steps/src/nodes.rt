@@ -21,7 +21,7 @@ use enum_dictionary::{LongKey, TextKey};
 use frozen_btree::NumberKey;
 use std::alloc::Global;
 
-/// The rest of the leaf of a dictionary that a value leads to.
+/// Returns the rest of the leaf of a dictionary to which a value leads.
 fn value_way<const OFFSET_BITS: u32, F: Frozen<OFFSET_BITS>>(
     frozen: &mut F,
     root: EntryRef<OFFSET_BITS>,
@@ -43,7 +43,7 @@ fn value_way<const OFFSET_BITS: u32, F: Frozen<OFFSET_BITS>>(
     }
 }
 
-/// How many of the pairs are past the key.
+/// Returns how many of the pairs are after the key.
 fn past_in(way: Way) -> u32
     requires { way.found ≡ true → 0 < way.pairs }
     ensures { result ≡ (if way.found then way.pairs - 1 else way.pairs) }

@@ -1,4 +1,4 @@
-//! A compaction is begun, or goes on.
+//! A compaction is begun or continued.
 ghost use Rattle.std.specs.Prelude.{◌≡◌, ◌≤◌, None, length, IfNone, IfSome};
 ghost use Rattle.attr_steps.specs.Fields.{HoldsAttributes, trees_of};
 ghost use Rattle.attr_types.specs.declared.field.TheConstants.{MOST_FIELDS};
@@ -13,7 +13,8 @@ use attr_types::Field;
 use entry_ref::EntryRef;
 use store_api::Store;
 
-/// A compaction of the buffer that is worth it most, before its first key. None where none is.
+/// Begins a compaction of the buffer that is most worth it, and returns its plan before the first key. Returns `None`
+/// if no buffer is worth it.
 #[tactic(none)]
 fn begin_plan<const OFFSET_BITS: u32, S: Store<OFFSET_BITS>>(
     store: &mut S,
@@ -37,7 +38,7 @@ fn begin_plan<const OFFSET_BITS: u32, S: Store<OFFSET_BITS>>(
     Some(Plan::start(victim, fields.len() as u32))
 }
 
-/// The compaction that is under way, or one that is begun. None where none is worth it.
+/// Returns the plan of the compaction in progress, or begins one. Returns `None` if no buffer is worth it.
 #[tactic(none)]
 pub fn open_plan<const OFFSET_BITS: u32, S: Store<OFFSET_BITS>>(
     store: &mut S,

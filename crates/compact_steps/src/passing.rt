@@ -11,8 +11,8 @@ use entry_ref::EntryRef;
 use std::alloc::Global;
 use store_api::Store;
 
-/// Passes keys behind the plan's place, at most so many, under which nothing lies in the victim: no unit is begun for them.
-/// The answer is how many.
+/// Passes keys after the plan's place, at most `most` of them, as long as nothing that belongs to them lies in the
+/// victim. No unit is begun for them. Returns their number.
 #[tactic(none)]
 pub fn pass_keys<const OFFSET_BITS: u32, S: Store<OFFSET_BITS>>(
     alloc: Global,

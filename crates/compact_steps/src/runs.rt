@@ -1,4 +1,4 @@
-//! Pairs one after another under whose keys nothing lies in a buffer.
+//! Consecutive pairs of which nothing lies in a buffer.
 ghost use Rattle.std.specs.Prelude.{◌≡◌, ◌≢◌, ◌≤◌, [], true};
 ghost use Rattle.std.specs.List.{AllByRecursion};
 ghost use Rattle.tree_read.specs.SearchPlaces.{first_key, first_value, pairs_from, HasPair, IsAt};
@@ -9,14 +9,14 @@ use arena_api::Frozen;
 use attr_types::{Kind, ValueType};
 use frozen_btree::Cursor;
 
-/// So many pairs, and the key of the last of them.
+/// The number of pairs, and the key of the last of them.
 #[derive(Clone, Copy, Drop)]
 pub struct Run {
     pub pairs: u32,
     pub last: u64,
 }
 
-/// Whether a pair follows, and what stands under its key lies apart from the buffer.
+/// Returns whether a pair follows, and what belongs to its key lies outside the buffer.
 fn next_is_apart<const OFFSET_BITS: u32, F: Frozen<OFFSET_BITS>>(
     frozen: &mut F,
     sight: Sight,
@@ -41,7 +41,7 @@ fn next_is_apart<const OFFSET_BITS: u32, F: Frozen<OFFSET_BITS>>(
     pair_is_apart(frozen, sight, kind, value_type, key, word, buffer)
 }
 
-/// The pairs from a place on, at most so many, until what stands under one lies in the buffer.
+/// Returns the pairs from a position on, at most `most` of them, up to one of which something lies in the buffer.
 #[tactic(none)]
 pub fn run_from<const OFFSET_BITS: u32, F: Frozen<OFFSET_BITS>>(
     frozen: &mut F,

@@ -1,4 +1,4 @@
-//! Whether what stands under a key lies apart from a buffer.
+//! Whether what belongs to a key lies outside a buffer.
 ghost use Rattle.std.specs.Prelude.{◌≡◌, ◌≢◌, ◌<◌, ◌^◌, true};
 ghost use Rattle.entry_ref.specs.References.{buffer_of};
 ghost use Rattle.attr_images.specs.Postings.{list_form};
@@ -12,7 +12,7 @@ use attr_types::{Kind, ValueType};
 use compaction_moves::items_lie;
 use entry_ref::EntryRef;
 
-/// What stands under a key, by its phase: the record of a value, a document's items, or a value's list.
+/// What belongs to a key, by its phase: the record of a value, a document's items, or a value's list.
 #[derive(Clone, Copy, Drop)]
 pub enum Sight {
     Key,
@@ -20,7 +20,7 @@ pub enum Sight {
     List,
 }
 
-/// Whether a record lies apart from the buffer.
+/// Returns whether a record lies outside the buffer.
 fn is_apart<const OFFSET_BITS: u32>(reference: u64, buffer: u32) -> bool
     requires { reference < 2 ^ 32 }
     ensures { result ≡ true → buffer_of OFFSET_BITS reference ≢ buffer }
@@ -28,7 +28,7 @@ fn is_apart<const OFFSET_BITS: u32>(reference: u64, buffer: u32) -> bool
     EntryRef::<OFFSET_BITS>::from_raw(reference as u32).buffer() != buffer
 }
 
-/// Whether a list is one record, which lies apart from the buffer.
+/// Returns whether a list is a single record outside the buffer.
 fn list_is_apart<const OFFSET_BITS: u32>(list: u64, buffer: u32) -> bool
     requires { IsPlain list }
     ensures { result ≡ true → IsRecordApart OFFSET_BITS buffer (list_form list) }
@@ -39,7 +39,7 @@ fn list_is_apart<const OFFSET_BITS: u32>(list: u64, buffer: u32) -> bool
     is_apart::<OFFSET_BITS>(list / 2, buffer)
 }
 
-/// Whether the items behind a reference lie apart from the buffer.
+/// Returns whether the items of a reference lie outside the buffer.
 fn items_are_apart<const OFFSET_BITS: u32, F: Frozen<OFFSET_BITS>>(
     frozen: &mut F,
     kind: Kind,
@@ -56,7 +56,7 @@ fn items_are_apart<const OFFSET_BITS: u32, F: Frozen<OFFSET_BITS>>(
     !items_lie(frozen, kind, value_type, reference, buffer)
 }
 
-/// Whether what stands under a pair's key lies apart from the buffer.
+/// Returns whether what belongs to a pair's key lies outside the buffer.
 #[tactic(none)]
 pub fn pair_is_apart<const OFFSET_BITS: u32, F: Frozen<OFFSET_BITS>>(
     frozen: &mut F,

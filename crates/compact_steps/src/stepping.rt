@@ -18,19 +18,19 @@ use entry_ref::EntryRef;
 use std::alloc::Global;
 use store_api::{Store, StoreError};
 
-/// What a step came to.
+/// The result of a step.
 #[derive(Clone, Copy, Debug, PartialEq, Eq, Drop)]
 pub enum Step {
-    /// None is under way, and none was worth it.
+    /// No compaction is in progress, and no buffer was worth one.
     Idle,
-    /// So many keys were visited; where there is a refusal, the next one met it.
+    /// This many keys were visited. If `stop` is set, the next key was refused for that reason.
     Moved { keys: u32, stop: Option<StoreError> },
     /// No key is left, and nothing of this buffer is reached.
     Finished(u32),
 }
 
-/// Visits so many keys of a compaction, which is begun where none is under way. The answer is the compaction that is under way
-/// then, and what the step came to; it is refused where the first key was.
+/// Visits `keys` keys of the compaction in progress, or of one that it begins. Returns the compaction then in
+/// progress and the result of the step, which is a refusal if the first key was refused.
 #[tactic(none)]
 pub fn compact<const OFFSET_BITS: u32, S: Store<OFFSET_BITS>>(
     alloc: Global,

@@ -1,4 +1,4 @@
-//! Laws of what was cleared. The functions do nothing: their contracts are the laws.
+//! Laws of what was cleared. Each function does nothing; its contract is the law.
 ghost use Rattle.compact_steps.specs.StepsLaws.{
   AllStayLeavesCleared,
   FirstIsCleared,
@@ -12,15 +12,16 @@ ghost use Rattle.compact_steps.specs.StepsLaws.{
 use attr_field::field_law;
 use store_api::Store;
 
-/// Where the records of an attribute stay, or those of all of them, what was cleared is so still.
+/// While the records of one attribute, or of all attributes, stay the same, what was cleared stays cleared.
 #[tactic(none)]
 pub fn same_law()
     ensures one { StayLeavesCleared }
     ensures all { AllStayLeavesCleared }
 {}
 
-/// Before the first key nothing is to be cleared, and no more where a phase ends; one key further in an attribute no more is in the others.
-/// Past the last phase of the last attribute nothing that they reach lies in the victim.
+/// Before the first key, and at the end of a phase, nothing more has to be cleared. After one more key in an
+/// attribute, nothing more has to be cleared in the others. Past the last phase of the last attribute, nothing that
+/// the attributes reach lies in the victim.
 #[tactic(none)]
 pub fn stage_law()
     ensures first { FirstIsCleared }
@@ -31,7 +32,7 @@ pub fn stage_law()
     field_law();
 }
 
-/// An operation leaves cleared what was.
+/// An operation leaves what was cleared as it was.
 #[tactic(none)]
 pub fn step_law<const OFFSET_BITS: u32, S: Store<OFFSET_BITS>>()
     ensures { OperationLeavesCleared OFFSET_BITS S.Home }

@@ -15,17 +15,17 @@ use entry_ref::EntryRef;
 use std::alloc::Global;
 use store_api::{Store, StoreError};
 
-/// What a turn of a compaction came to.
+/// The result of one turn of a compaction.
 #[derive(Clone, Copy, Debug, PartialEq, Eq, Drop)]
 pub enum Turn {
-    /// A key was visited: what it leads to lies elsewhere.
+    /// A key was visited: everything that belongs to it lies elsewhere.
     Moved,
-    /// The phase has no further key, and the place stands before the next phase.
+    /// The phase has no further key, and the place moved before the next phase.
     PhaseOver,
 }
 
-/// One turn of a compaction: the first key past the plan's place is visited, in a unit of its own, or where the phase has
-/// none the place goes on to the next phase. The attributes read as they did.
+/// One turn of a compaction: visits the first key after the plan's place, in a unit of its own, or moves the place to
+/// the next phase if the phase has no further key. The contents of the attributes are unchanged.
 #[tactic(none)]
 pub fn compact_one<const OFFSET_BITS: u32, S: Store<OFFSET_BITS>>(
     alloc: Global,

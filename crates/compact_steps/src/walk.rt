@@ -16,16 +16,16 @@ use entry_ref::EntryRef;
 use std::alloc::Global;
 use store_api::{Store, StoreError};
 
-/// How far a walk came.
+/// How far a walk got.
 #[derive(Clone, Copy, Debug, PartialEq, Eq, Drop)]
 pub enum Walk {
-    /// So many keys were visited; where there is a refusal, the next one met it.
+    /// This many keys were visited. If `stop` is set, the next key was refused for that reason.
     Visited { keys: u32, stop: Option<StoreError> },
     /// No key is left.
     Over,
 }
 
-/// What a refusal after so many keys is told as.
+/// Returns the result of a walk whose next key was refused after `keys` keys.
 fn refused(keys: u32, error: StoreError) -> Result<Walk, StoreError>
     ensures { result ≡ (if nat_eq keys 0 then Err error else Ok (Visited keys (Some error))) }
 {
@@ -38,8 +38,8 @@ fn refused(keys: u32, error: StoreError) -> Result<Walk, StoreError>
     })
 }
 
-/// Visits so many keys of a compaction from the plan's place on: those under which something lies in the victim each in a
-/// unit of its own. Where the first one is refused each entry is as it was.
+/// Visits `keys` keys of a compaction from the plan's place on. A key of which something lies in the victim is
+/// visited in a unit of its own. If the first key is refused, each entry is as it was.
 #[tactic(none)]
 pub fn visit_keys<const OFFSET_BITS: u32, S: Store<OFFSET_BITS>>(
     alloc: Global,

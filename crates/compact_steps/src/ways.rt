@@ -1,4 +1,4 @@
-//! The rest of a leaf, where no node on the way to it lies in a buffer.
+//! The rest of a leaf, if no node on the way to it lies in a buffer.
 ghost use Rattle.std.specs.Prelude.{◌≡◌, ◌≢◌, ◌<◌, ◌≤◌, ◌+◌, ◌-◌, true, false, min, length, get_or};
 ghost use Rattle.tree_read.specs.Nodes.{used_of};
 ghost use Rattle.tree_read.specs.Trees.{pairs_below, tree_pairs, IsNode, IsTree};
@@ -10,17 +10,17 @@ use entry_ref::EntryRef;
 use frozen_btree::KeyOrder;
 use tree_read::{FIRST_VALUE, NODE_WORDS, Spot, read_head, used_in, visit};
 
-/// So many pairs from the first that is not below a key on, all of one leaf.
+/// Pairs of one leaf, from the first that is not below a key on.
 #[derive(Clone, Copy, Drop)]
 pub struct Way {
     pub pairs: u32,
-    /// The key of the last of them.
+    /// The key of the last pair.
     pub last: u64,
-    /// Whether the first of them is at the key.
+    /// Whether the first pair is at the key.
     pub found: bool,
 }
 
-/// No pairs.
+/// Returns a way without pairs.
 fn no_way() -> Way
     ensures pairs { result.pairs ≡ 0 }
     ensures last { result.last ≡ 0 }
@@ -33,7 +33,7 @@ fn no_way() -> Way
     }
 }
 
-/// The pairs of a leaf of these words from a slot on, at most so many.
+/// Returns the pairs of a leaf with these words from a slot on, at most `most` of them.
 fn rest_of(words: &[u64; NODE_WORDS], spot: Spot, most: u32) -> Way
     requires slot { spot.slot < used_of words.now }
     requires room { used_of words.now ≤ 16 }
@@ -51,8 +51,8 @@ fn rest_of(words: &[u64; NODE_WORDS], spot: Spot, most: u32) -> Way
     }
 }
 
-/// The pairs below a node from the first that is not below the key on, as far as its leaf goes, and at most so many; none
-/// where a node on the way to it lies in the buffer.
+/// Returns the pairs below a node, from the first that is not below the key up to the end of its leaf, at most `most`
+/// of them. Returns none if a node on the way to the leaf lies in the buffer.
 #[tactic(none)]
 fn way_below<const OFFSET_BITS: u32, F: Frozen<OFFSET_BITS>, K: KeyOrder<OFFSET_BITS>>(
     frozen: &mut F,
@@ -87,8 +87,8 @@ fn way_below<const OFFSET_BITS: u32, F: Frozen<OFFSET_BITS>, K: KeyOrder<OFFSET_
     way_below(frozen, child, level - 1, key, buffer, most)
 }
 
-/// The pairs of a tree from the first that is not below the key on, as far as its leaf goes, and at most so many; none where
-/// a node on the way to it lies in the buffer.
+/// Returns the pairs of a tree, from the first that is not below the key up to the end of its leaf, at most `most` of
+/// them. Returns none if a node on the way to the leaf lies in the buffer.
 pub fn way_of<const OFFSET_BITS: u32, F: Frozen<OFFSET_BITS>, K: KeyOrder<OFFSET_BITS>>(
     frozen: &mut F,
     root: EntryRef<OFFSET_BITS>,

@@ -1,4 +1,5 @@
--- What a compaction has cleared of its victim so far: of what attributes reach, all up to the plan's place lies elsewhere.
+-- What a compaction has cleared of its victim: everything that the attributes reach up to the plan's place lies
+-- elsewhere.
 use Rattle.std.specs.Prelude.{◌≡◌, ◌≢◌, ℕ, List, Some, slice_get}
 use Rattle.std.specs.List.{AllByRecursion}
 use Rattle.std.specs.declared.cmp.Ordering.TheVariants.{Greater}
@@ -22,23 +23,25 @@ use Rattle.compaction_moves.specs.DocumentMoves.{AreItemsApart}
 abbrev pub trees_of_roots : {bits : ℕ} → Field → FieldRoots bits → AttributeTrees
 trees_of_roots field roots = record { kind = field.kind; type = field.value; documents = roots.documents; dictionary = roots.dictionary }
 
--- a key of a phase of the attribute of this number was visited: it is not past the place
+-- a key of a phase of the attribute with this number was visited: it is not after the place
 abbrev pub IsVisited : PlanPlace → ℕ → ℕ → PlanKey → Type 0
 IsVisited at field phase key = place_cmp (record { stage = record { field = field; phase = phase }; key = key }) at ≢ Greater
 
--- each node that lies in the victim has only keys below it that were not visited
+-- each node that lies in the victim has only unvisited keys below it
 abbrev pub NodesAreCleared : ℕ → ℕ → Records → (ℕ → Type 0) → ℕ → Type 0
 NodesAreCleared bits victim m visited root = (node : ℕ) → Among node (tree_nodes m root) → buffer_of bits node ≡ victim → (key : ℕ)
     → Among key (keys_below m node) → visited key → ⊥
 
--- a value's list: its record lies elsewhere, or its nodes on the ways to documents that were visited. It is said of no bit vector
+-- a value's list: its record lies elsewhere, or its nodes on the ways to visited documents do. Bit vectors are not
+-- covered
 abbrev pub ListIsCleared : ℕ → ℕ → PlanPlace → ℕ → Records → Value → ListForm → Type 0
 ListIsCleared bits victim at field m value (short ref) = IsVisited at field LISTS (plan.Pair value 0) → buffer_of bits ref ≢ victim
 ListIsCleared bits victim at field m value (tree root) =
     NodesAreCleared bits victim m (λ doc. IsVisited at field LISTS (plan.Pair value doc)) root
 ListIsCleared bits victim at field m value (vector root) = ⊥
 
--- one attribute, by its number among all: its keys, its documents with what they refer to, its lists, and the nodes of its two trees
+-- one attribute, by its number: its keys, its documents with what they refer to, its lists, and the nodes of its two
+-- trees
 pub record IsClearedField (bits victim : ℕ) (at : PlanPlace) (field : ℕ) (m : Records) (a : AttributeTrees) : Type 0 where
   pub keys : AllByRecursion (λ p. IsVisited at field KEYS (plan.Value (stored_value a.type m p.0)) → buffer_of bits p.0 ≢ victim)
       (tree_pairs m a.dictionary)
@@ -49,7 +52,7 @@ pub record IsClearedField (bits victim : ℕ) (at : PlanPlace) (field : ℕ) (m 
   pub values : NodesAreCleared bits victim m (λ r. IsVisited at field NODES (plan.Value (stored_value a.type m r))) a.dictionary
   pub map : NodesAreCleared bits victim m (λ doc. IsVisited at field NODES (plan.Doc doc)) a.documents
 
--- all attributes. Past the last place nothing that they reach lies in the victim
+-- all attributes; past the last place nothing that they reach lies in the victim
 abbrev pub IsCleared : ℕ → ℕ → PlanPlace → Records → List AttributeTrees → Type 0
 IsCleared bits victim at m trees = (field : ℕ) (a : AttributeTrees) → slice_get trees field ≡ Some a
     → IsClearedField bits victim at field m a

@@ -1,4 +1,4 @@
--- What is left of a store when the items of a document, or nodes of the map, were moved out of a buffer: the column is what it was.
+-- The store after the items of a document, or nodes of the map, were moved out of a buffer. The column is unchanged.
 use Rattle.std.specs.Prelude.{◌≡◌, ◌≢◌, ◌⊎◌, ℕ, ◌<◌, [], ◌∷◌, length}
 use Rattle.entry_ref.specs.References.{buffer_of}
 use Rattle.entry_ref.specs.Records.{Records, SameAt, Among}
@@ -20,12 +20,12 @@ use Rattle.attr_field.specs.Documents.{documents_part, documents_refer, items_ow
 use Rattle.attr_field.specs.DocumentsFlows.{reference_at}
 use Rattle.value_index.specs.Indexes.{index_part, IsIndex, IsKey}
 
--- neither the record that a document's items have of their own nor one that they refer to lies in the buffer
+-- neither the record that a document's items own nor one to which they refer lies in the buffer
 pub record AreItemsApart (bits buffer : ℕ) (kind : Kind) (m : Records) (ref : ℕ) : Type 0 where
   pub own : NoneIn bits buffer (items_own kind ref)
   pub refer : NoneIn bits buffer (items_refer kind ref (m ref))
 
--- documents and an index beside them: it has each value that they refer to, and no key of it lies in the buffer
+-- documents and an index beside them: it has each value to which they refer, and none of its keys lies in the buffer
 pub record CanMoveItems {H : Type 0} (bits buffer : ℕ) (kind : Kind) (type : ValueType) (ledger : Ledger H) (m : Records)
     (documents dictionary : ℕ) : Type 0 where
   pub documents_are : IsDocuments kind type m documents
@@ -36,8 +36,8 @@ pub record CanMoveItems {H : Type 0} (bits buffer : ℕ) (kind : Kind) (type : V
   pub beside_them : AreBeside ledger m (documents_part kind documents ∷ []) (documents_refer kind m documents)
   pub owns : Owns ledger m (documents_part kind documents ∷ index_part dictionary ∷ [])
 
--- a document's items lie in the buffer no more. All other documents have the references that they had, and the records that they own are as
--- they were. What documents refer to they referred to before, or it is a key.
+-- a document's items no longer lie in the buffer. All other documents have the same references as before, and the
+-- records that they own are unchanged. A record to which documents refer is a key, or they referred to it before
 pub record MovesItems {H : Type 0} (bits buffer doc : ℕ) (kind : Kind) (type : ValueType) (old new : Ledger H) (m n : Records)
     (root dictionary next : ℕ) : Type 0 where
   pub documents_are : IsDocuments kind type n next
@@ -49,7 +49,8 @@ pub record MovesItems {H : Type 0} (bits buffer doc : ℕ) (kind : Kind) (type :
   pub owns : Owns new n (documents_part kind next ∷ [])
   pub turns : Turns old new m n (documents_part kind root ∷ []) (documents_part kind next ∷ [])
 
--- no node of the map on the way to a document lies in the buffer. Its pairs are as they were, with all that they own.
+-- no node of the map on the way to a document lies in the buffer. The pairs of the map are unchanged, with all that
+-- they own
 pub record MovesDocumentNodes {H : Type 0} (bits buffer doc : ℕ) (kind : Kind) (type : ValueType) (old new : Ledger H) (m n : Records)
     (root next : ℕ) : Type 0 where
   pub documents_are : IsDocuments kind type n next

@@ -1,4 +1,5 @@
--- What is left of a store when one key of a phase was moved out of a buffer, in one attribute: the attribute reads as it did.
+-- The store after one key of a phase was moved out of a buffer, in one attribute. The contents of the attribute are
+-- unchanged.
 use Rattle.std.specs.Prelude.{◌≡◌, ◌⊎◌, ℕ, ◌<◌, List, [], ◌∷◌, true}
 use Rattle.std.specs.List.{AllByRecursion}
 use Rattle.entry_ref.specs.Records.{Records, Among}
@@ -14,14 +15,13 @@ use Rattle.compaction_moves.specs.IndexMoves.{IsKeyIn}
 use Rattle.attr_compaction.specs.PhaseKeys.{phase_keys}
 use Rattle.value_index.specs.Indexes.{IsKey}
 
--- a unit has just begun: what is in use was so when it began
+-- a unit has just begun: what is in use was in use at its beginning
 pub record HasBegun {H : Type 0} (ledger : Ledger H) : Type 0 where
   pub each : (r : ℕ) → in_use (ledger.status r) ≡ true → in_use (ledger.back r) ≡ true
 
--- an attribute stands in place of another, with its column and the keys of all phases. It owns what that one owned, but for keys that
--- lay in
--- the buffer and have copies now: these are in use still, since documents may refer to them. What documents refer to is a key, such an old
--- copy, or an old copy of before.
+-- an attribute replaces another, with the same column and the same keys in all phases. It owns what that one owned,
+-- except keys that lay in the buffer and now have copies: these stay in use, since documents may refer to them. A
+-- record to which documents refer is a key, such an old copy, or an older one
 pub record MovesField {H : Type 0} (bits buffer : ℕ) (kind : Kind) (type : ValueType) (old new : Ledger H) (m n : Records)
     (documents dictionary next_documents next_dictionary : ℕ) : Type 0 where
   pub left : List ℕ

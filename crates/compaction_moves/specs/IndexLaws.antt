@@ -21,14 +21,15 @@ use Rattle.value_index.specs.Indexes.{index_part, IsIndex}
 use Rattle.compaction_moves.specs.IndexTurns.{IsTurn, LeavesBuffer}
 use Rattle.compaction_moves.specs.Visits.{place_at_key}
 
--- a value's key was moved: what was cleared is so still, and the key too
+-- after the move of a value's key, what was cleared still is, and so is the key
 abbrev pub KeyMoveClears : Type 0 → Type 0
 KeyMoveClears H = (bits victim field next : ℕ) (at : PlanPlace) (value : Value) (old new : Ledger H) (m n : Records) (a : AttributeTrees)
     → type_of value ≡ a.type → IsTurn at field KEYS m a (plan.Value value) → MovesKey bits victim value old new m n a.dictionary next
     → IsClearedField bits victim at field m a
     → IsClearedField bits victim (place_at_key at (plan.Value value)) field n (record a { dictionary = next })
 
--- a value's list was moved as far as a document leads: what was cleared is so still, and the list that far
+-- after the move of a value's list as far as the way to a document, what was cleared still is, and so is the list
+-- that far
 abbrev pub ListMoveClears : Type 0 → Type 0
 ListMoveClears H = (bits victim field doc next : ℕ) (at : PlanPlace) (value : Value) (old new : Ledger H) (m n : Records)
     (a : AttributeTrees)
@@ -38,7 +39,7 @@ ListMoveClears H = (bits victim field doc next : ℕ) (at : PlanPlace) (value : 
     → IsClearedField bits victim at field m a
     → IsClearedField bits victim (place_at_key at (plan.Pair value doc)) field n (record a { dictionary = next })
 
--- the nodes on the way to a value were moved: what was cleared is so still, and these nodes too
+-- after the move of the nodes on the way to a value, what was cleared still is, and so are these nodes
 abbrev pub NodeMoveClears : Type 0 → Type 0
 NodeMoveClears H = (bits victim field next : ℕ) (at : PlanPlace) (value : Value) (old new : Ledger H) (m n : Records) (a : AttributeTrees)
     → type_of value ≡ a.type → IsTurn at field NODES m a (plan.Value value) → MovesNodes bits victim value old new m n a.dictionary next
@@ -46,8 +47,8 @@ NodeMoveClears H = (bits victim field next : ℕ) (at : PlanPlace) (value : Valu
     → IsClearedField bits victim at field m a
     → IsClearedField bits victim (place_at_key at (plan.Value value)) field n (record a { dictionary = next })
 
--- the keys of each phase are the same where the index reads the same, and the column of the documents: whether a list is one record is
--- told by its length
+-- the keys of each phase are the same if the contents of the index and the column of the documents are the same:
+-- whether a list is a single record follows from its length
 abbrev pub KeysAreSame : Type 0
 KeysAreSame = (kind : Kind) (type : ValueType) (m n : Records) (documents dictionary next_documents next_dictionary phase : ℕ)
     → IsIndex type m dictionary → IsIndex type n next_dictionary → index_of type n next_dictionary ≡ index_of type m dictionary

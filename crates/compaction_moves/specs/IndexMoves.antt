@@ -1,4 +1,4 @@
--- What is left of a store when a part of an index was moved out of a buffer: the index reads as it did.
+-- The store after a part of an index was moved out of a buffer. The contents of the index are unchanged.
 use Rattle.std.specs.Prelude.{◌≡◌, ◌≢◌, ◌⊎◌, ℕ, ◌+◌, true, nat_eq, nat_le, if◌then◌else◌, List, [], ◌∷◌, Some}
 use Rattle.std.specs.List.{flat_map, AllByRecursion}
 use Rattle.std.specs.Ordering.{nat_cmp}
@@ -28,9 +28,9 @@ pub record IsKeyIn (bits buffer : ℕ) (m : Records) (root ref : ℕ) : Type 0 w
   pub is_key : IsKey m root ref
   pub lies : buffer_of bits ref ≡ buffer
 
--- the key of a value lies in the buffer no more. The pairs of all other values are as they were, and so is the value's list. What was its
--- key, if it is another now, is in use still and belongs to no index; each other key is one still. Each record of the old keys and lists is
--- as it was.
+-- the key of a value no longer lies in the buffer. The pairs of all other values are unchanged, and so is the value's
+-- list. If the value has another key now, its old key is still in use and belongs to no index; every other key is
+-- still a key. The records of the old keys and lists are unchanged
 pub record MovesKey {H : Type 0} (bits buffer : ℕ) (value : Value) (old new : Ledger H) (m n : Records) (root next : ℕ) : Type 0 where
   pub left : List ℕ
   pub left_in : AllByRecursion (IsKeyIn bits buffer m root) left
@@ -44,14 +44,16 @@ pub record MovesKey {H : Type 0} (bits buffer : ℕ) (value : Value) (old new : 
   pub owns : Owns new n (index_part next ∷ entries left ∷ [])
   pub turns : Turns old new m n (index_part root ∷ []) (index_part next ∷ entries left ∷ [])
 
--- on the way to a document nothing of a list lies in the buffer: its record, or the nodes of the tree. It is said of no bit vector
+-- nothing of a list on the way to a document lies in the buffer: neither its single record nor the nodes of its tree.
+-- Bit vectors are not covered
 abbrev pub FormIsApart : ℕ → ℕ → ℕ → Records → ListForm → Type 0
 FormIsApart bits buffer doc m (short ref) = buffer_of bits ref ≢ buffer
 FormIsApart bits buffer doc m (tree root) = NoneIn bits buffer (path_nodes m (λ key. nat_cmp key doc) root)
 FormIsApart bits buffer doc m (vector root) = ⊥
 
--- the list of a value was moved out of the buffer, as far as a document leads. The value's key and all other pairs, with all that these
--- reach, are as they were, and each key of before is one still, with its record. What of the list was in use was of the list.
+-- the list of a value was moved out of the buffer, as far as the way to a document. The value's key and all other
+-- pairs, with all that they reach, are unchanged, and each old key is still a key, with its record. What of the list
+-- was in use before belonged to the list
 pub record MovesList {H : Type 0} (bits buffer doc : ℕ) (value : Value) (old new : Ledger H) (m n : Records) (root next : ℕ) : Type 0 where
   pub index_is : IsIndex (type_of value) n next
   pub reads_as : index_of (type_of value) n next ≡ index_of (type_of value) m root
@@ -65,7 +67,8 @@ pub record MovesList {H : Type 0} (bits buffer doc : ℕ) (value : Value) (old n
   pub owns : Owns new n (index_part next ∷ [])
   pub turns : Turns old new m n (index_part root ∷ []) (index_part next ∷ [])
 
--- no node of the dictionary on the way to a value lies in the buffer. Its pairs are as they were, with all that they reach.
+-- no node of the dictionary on the way to a value lies in the buffer. The pairs of the dictionary are unchanged, with
+-- all that they reach
 pub record MovesNodes {H : Type 0} (bits buffer : ℕ) (value : Value) (old new : Ledger H) (m n : Records) (root next : ℕ) : Type 0 where
   pub index_is : IsIndex (type_of value) n next
   pub reads_as : index_of (type_of value) n next ≡ index_of (type_of value) m root
@@ -75,12 +78,12 @@ pub record MovesNodes {H : Type 0} (bits buffer : ℕ) (value : Value) (old new 
   pub owns : Owns new n (index_part next ∷ [])
   pub turns : Turns old new m n (tree_part root ∷ []) (tree_part next ∷ [])
 
--- how many records of each width are made at most: the value's, and nodes of the dictionary
+-- bounds on the records of each width that are made: that of the value, and nodes of the dictionary
 abbrev pub key_most : Value → Records → ℕ → ℕ → ℕ
 key_most value m root width = record_most value width + nodes_most (levels m root) width
 
--- of a list that has so many levels of nodes, and so many documents: one record where it is short, else a node of each level; and nodes of
--- the dictionary
+-- for a list with this many levels of nodes and this many documents: one record if it is short, otherwise a node of
+-- each level; and nodes of the dictionary
 abbrev pub word_most : ℕ → ℕ → ℕ → ℕ
 word_most levels count width =
     if nat_le count MOST_SHORT then (if nat_eq width (class_of (1 + count)) then 1 else 0)

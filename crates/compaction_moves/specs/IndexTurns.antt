@@ -1,4 +1,4 @@
--- A compaction's turn at one key of an attribute, and what a move leaves of the buffer that is emptied.
+-- A compaction's turn at one key of an attribute, and what a move preserves of the buffer that is emptied.
 use Rattle.std.specs.Prelude.{◌≡◌, ℕ, true, Some}
 use Rattle.entry_ref.specs.References.{buffer_of}
 use Rattle.entry_ref.specs.Records.{Records}
@@ -11,7 +11,7 @@ use Rattle.doc_vector.specs.Documents.{IsDocumentMap}
 use Rattle.attr_compaction.specs.PhaseKeys.{key_past, phase_keys}
 use Rattle.value_index.specs.Indexes.{IsIndex}
 
--- the place stands in this phase of the attribute of this number, and this key is the next
+-- the place is in this phase of the attribute with this number, and this key is the next
 pub record IsTurn (at : PlanPlace) (field phase : ℕ) (m : Records) (a : AttributeTrees) (key : PlanKey) : Type 0 where
   pub field_is : at.stage.field ≡ field
   pub phase_is : at.stage.phase ≡ phase
@@ -19,7 +19,7 @@ pub record IsTurn (at : PlanPlace) (field phase : ℕ) (m : Records) (a : Attrib
   pub map_is : IsDocumentMap m a.documents
   pub next : key_past at.key (phase_keys a.type m a.documents a.dictionary phase) ≡ Some key
 
--- nothing was made in the buffer, and what was in use and is so still has its words
+-- nothing was made in the buffer, and what was in use and still is has the same words
 pub record LeavesBuffer {H : Type 0} (bits buffer : ℕ) (old new : Ledger H) (m n : Records) : Type 0 where
   pub unmade : (r : ℕ) → buffer_of bits r ≡ buffer → in_use (new.status r) ≡ true → in_use (old.status r) ≡ true
   pub words : (r : ℕ) → in_use (old.status r) ≡ true → in_use (new.status r) ≡ true → n r ≡ m r

@@ -1,4 +1,4 @@
--- What was visited, as laws.
+-- Visited keys, as laws.
 use Rattle.std.specs.Prelude.{◌≡◌, ◌≢◌, ℕ, ◌<◌, ◌≤◌, false}
 use Rattle.std.specs.declared.cmp.Ordering.TheVariants.{Less}
 use Rattle.entry_ref.specs.References.{buffer_of}
@@ -10,16 +10,16 @@ use Rattle.attr_compaction.specs.declared.plan.PlanKey.{PlanKey}
 use Rattle.attr_compaction.specs.declared.plan.TheConstants.{PHASES}
 use Rattle.compaction_moves.specs.Cleared.{IsClearedField, IsVisited}
 
--- at first no key was
+-- at first no key is visited
 abbrev pub NothingIsVisited : Type 0
 NothingIsVisited = (field phase : ℕ) (key : PlanKey) → is_start key ≡ false → IsVisited first_place field phase key → ⊥
 
--- what was visited was so at each later place
+-- a visited key is visited at each later place
 abbrev pub VisitedStays : Type 0
 VisitedStays = (at next : PlanPlace) (field phase : ℕ) (key : PlanKey) → place_cmp at next ≡ Less → IsVisited at field phase key
     → IsVisited next field phase key
 
--- past the phases of an attribute all its keys were, and all of those before it
+-- past the phases of an attribute all its keys are visited, and all keys of the attributes before it
 abbrev pub AllIsVisited : Type 0
 AllIsVisited = (at : PlanPlace) (field phase : ℕ) (key : PlanKey) → at.stage.phase ≡ PHASES → field ≤ at.stage.field → phase < PHASES
     → IsVisited at field phase key

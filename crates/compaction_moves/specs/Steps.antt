@@ -1,4 +1,4 @@
--- What a move of one key finds, and what it leaves, for each phase alike.
+-- What a move of one key requires, and what it leaves, in the same form for each phase.
 use Rattle.std.specs.Prelude.{◌≡◌, ℕ, true, Some, [], ◌∷◌}
 use Rattle.entry_ref.specs.Records.{Records}
 use Rattle.store_api.specs.Ledgers.{Ledger}
@@ -11,7 +11,7 @@ use Rattle.attr_images.specs.Tables.{AttributeTrees}
 use Rattle.compaction_moves.specs.FieldMoves.{HasBegun, MovesField}
 use Rattle.attr_compaction.specs.PhaseKeys.{key_past, phase_keys}
 
--- in a unit that has just begun an attribute stands, cleared up to the plan's place, and the key is the next of the phase
+-- in a unit that has just begun, an attribute that is cleared up to the plan's place, and the next key of the phase
 pub record CanMove {H : Type 0} (bits : ℕ) (ledger : Ledger H) (m : Records) (a : AttributeTrees) (plan : PlanView) (phase : ℕ)
     (key : PlanKey) : Type 0 where
   pub unit : ledger.unit ≡ true
@@ -24,7 +24,7 @@ pub record CanMove {H : Type 0} (bits : ℕ) (ledger : Ledger H) (m : Records) (
   pub next : key_past plan.place.key (phase_keys a.type m a.documents a.dictionary phase) ≡ Some key
   pub cleared : IsClearedField bits plan.victim plan.place plan.place.stage.field m a
 
--- another stands in its place, cleared up to the key
+-- another attribute replaces it, cleared up to the key
 pub record Moved {H : Type 0} (bits : ℕ) (plan : PlanView) (key : PlanKey) (old new : Ledger H) (m n : Records) (a b : AttributeTrees)
     : Type 0 where
   pub moves : MovesField bits plan.victim a.kind a.type old new m n a.documents a.dictionary b.documents b.dictionary

@@ -1,6 +1,6 @@
-//! What a compaction does to documents: a document's items, or the nodes on its path, are made anew where they lie in the
+//! How a compaction moves documents: a document's items, or the nodes on its path, are copied if they lie in the
 //! buffer that is emptied.
 #![tactic(auto)]
 
-/// What a reference is multiplied by in a word of a weighted set, whose low part is the weight.
+/// The factor for the reference in a word of a weighted set. The low part of the word is the weight.
 pub const WEIGHT_BASE: u64 = 4_294_967_296;

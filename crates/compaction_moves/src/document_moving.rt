@@ -21,7 +21,7 @@ use std::alloc::Global;
 use store_api::{Store, StoreError};
 use value_index::key_law;
 
-/// Sets a document to the items that it has, by the keys of the index.
+/// Sets a document to the items that it has, with the keys of the index.
 #[tactic(none)]
 fn set_again<const OFFSET_BITS: u32, S: Store<OFFSET_BITS>>(
     alloc: Global,
@@ -63,7 +63,7 @@ fn set_again<const OFFSET_BITS: u32, S: Store<OFFSET_BITS>>(
     )
 }
 
-/// Reads the items of a document, and sets it to them.
+/// Reads the items of a document, and sets the document to them.
 #[tactic(none)]
 fn read_again<const OFFSET_BITS: u32, S: Store<OFFSET_BITS>>(
     alloc: Global,
@@ -106,8 +106,8 @@ fn read_again<const OFFSET_BITS: u32, S: Store<OFFSET_BITS>>(
     }
 }
 
-/// Moves the items of a document out of a sealed buffer: where its record, or one that it refers to, lies there, it is set
-/// to its items again, by the keys of the index. The answer is the root of the new documents.
+/// Moves the items of a document out of a sealed buffer: if its record, or one to which it refers, lies there, its
+/// items are set again, with the keys of the index. Returns the root of the new documents.
 #[tactic(none)]
 pub fn move_items<const OFFSET_BITS: u32, S: Store<OFFSET_BITS>>(
     alloc: Global,

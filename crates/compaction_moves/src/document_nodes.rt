@@ -14,8 +14,7 @@ use frozen_btree::{NumberKey, touch};
 use store_api::{Store, StoreError};
 use tree_read::NODE_WORDS;
 
-/// Moves the nodes of the map out of a sealed buffer that lie there on the way to a document. The answer is the root of the
-/// new documents.
+/// Moves the nodes of the map on the way to a document out of a sealed buffer. Returns the root of the new documents.
 pub fn move_document_nodes<const OFFSET_BITS: u32, S: Store<OFFSET_BITS>>(
     store: &mut S,
     kind: Kind,

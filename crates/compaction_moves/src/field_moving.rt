@@ -20,7 +20,7 @@ use attr_types::{Doc, Field, Value};
 use std::alloc::Global;
 use store_api::{Store, StoreError};
 
-/// Moves a value's key, or in the last phase the nodes on the way to the value.
+/// Moves a value's key, or, in the last phase, the nodes on the way to the value.
 #[tactic(none)]
 fn move_by_value<const OFFSET_BITS: u32, S: Store<OFFSET_BITS>>(
     store: &mut S,
@@ -46,7 +46,7 @@ fn move_by_value<const OFFSET_BITS: u32, S: Store<OFFSET_BITS>>(
     move_value_nodes(store, field, roots, plan, value)
 }
 
-/// Moves a document's items, or in the last phase the nodes on the way to the document.
+/// Moves a document's items, or, in the last phase, the nodes on the way to the document.
 #[tactic(none)]
 fn move_by_document<const OFFSET_BITS: u32, S: Store<OFFSET_BITS>>(
     alloc: Global,
@@ -74,7 +74,7 @@ fn move_by_document<const OFFSET_BITS: u32, S: Store<OFFSET_BITS>>(
     move_map_nodes(store, field, roots, plan, doc)
 }
 
-/// Moves what stands under one key of the plan's phase out of the victim, in one attribute. The answer is the new roots.
+/// Moves what belongs to one key of the plan's phase out of the victim, in one attribute. Returns the new roots.
 pub fn move_one<const OFFSET_BITS: u32, S: Store<OFFSET_BITS>>(
     alloc: Global,
     store: &mut S,
@@ -98,7 +98,7 @@ pub fn move_one<const OFFSET_BITS: u32, S: Store<OFFSET_BITS>>(
     ensures moves { IfOk result (λ next. MovesField OFFSET_BITS plan.now.victim field.now.kind field.now.value
         (S.ledger store.old) (S.ledger store.new) (S.records store.old) (S.records store.new)
         roots.entry.documents roots.entry.dictionary next.documents next.dictionary) }
-    // The key was visited, and all that was visited before is apart still.
+    // The key is visited, and everything visited before is still outside the victim.
     ensures cleared { IfOk result (λ next. IsClearedField OFFSET_BITS plan.now.victim
         (record { stage = plan.now.place.stage; key = key.now }) plan.now.place.stage.field (S.records store.new)
         (trees_of_roots field.now next)) }

@@ -16,7 +16,7 @@ use enum_dictionary::{find, set};
 use store_api::{Store, StoreError};
 use unique_store::add;
 
-/// Makes the record of a value anew where it lies in the buffer, and it is the value's key from then on.
+/// Copies the record of a value if it lies in the buffer, and makes the copy the value's key.
 #[tactic(none)]
 fn move_found<const OFFSET_BITS: u32, S: Store<OFFSET_BITS>>(
     store: &mut S,
@@ -45,9 +45,9 @@ fn move_found<const OFFSET_BITS: u32, S: Store<OFFSET_BITS>>(
     set(store, root, value, copy, list)
 }
 
-/// Moves the key of a value out of a sealed buffer: its record is made anew where it lies there, and is the key from then
-/// on. The old record stays in use, since documents may refer to it; it goes with the buffer. The answer is the root of
-/// the new index.
+/// Moves the key of a value out of a sealed buffer: if its record lies there, a copy of it becomes the key. The old
+/// record stays in use, since documents may refer to it, and disappears with the buffer. Returns the root of the new
+/// index.
 #[tactic(none)]
 pub fn move_key<const OFFSET_BITS: u32, S: Store<OFFSET_BITS>>(
     store: &mut S,

@@ -15,8 +15,7 @@ use frozen_btree::touch;
 use store_api::{Store, StoreError};
 use tree_read::NODE_WORDS;
 
-/// Moves the nodes of the dictionary out of a sealed buffer that lie there on the way to a value. The answer is the root
-/// of the new index.
+/// Moves the nodes of the dictionary on the way to a value out of a sealed buffer. Returns the root of the new index.
 pub fn move_nodes<const OFFSET_BITS: u32, S: Store<OFFSET_BITS>>(
     store: &mut S,
     root: EntryRef<OFFSET_BITS>,

@@ -45,7 +45,7 @@ pub fn move_value_key<const OFFSET_BITS: u32, S: Store<OFFSET_BITS>>(
     })
 }
 
-/// Moves the list of a value, as far as one document leads.
+/// Moves the list of a value, as far as the way to one document.
 #[tactic(none)]
 pub fn move_value_list<const OFFSET_BITS: u32, S: Store<OFFSET_BITS>>(
     store: &mut S,

@@ -1,12 +1,11 @@
 //! Moving one key of an attribute out of the buffer that a compaction empties.
 //!
-//! What a compaction does to an index: a value's record, its list, or the nodes on its path are made anew where they lie in
-//! the buffer that is emptied.
+//! In an index, the record of a value, its list, or the nodes on its path are copied if they lie in that buffer.
 //!
-//! What a compaction does to one attribute: what stands under one key of a phase is made anew where it lies in the buffer
-//! that is emptied.
+//! In an attribute, what belongs to one key of a phase is copied if it lies in that buffer.
 //!
-//! What a compaction has cleared of its victim, by the place of its plan: what was visited, and what each move clears, as laws.
+//! The laws say what a compaction has cleared of its victim, by the place of its plan: which keys were visited, and
+//! what each move clears.
 #![tactic(auto)]
 
 mod cleared_documents;

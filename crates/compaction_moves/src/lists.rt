@@ -21,7 +21,7 @@ use enum_dictionary::{find, set};
 use frozen_btree::{NumberKey, touch};
 use store_api::{Store, StoreError, drop_one};
 
-/// Makes the record of a short list anew where it lies in the buffer. The answer is the word of the list.
+/// Copies the record of a short list if it lies in the buffer. Returns the word of the list.
 fn move_short<const OFFSET_BITS: u32, S: Store<OFFSET_BITS>>(
     store: &mut S,
     list: u64,
@@ -52,8 +52,8 @@ fn move_short<const OFFSET_BITS: u32, S: Store<OFFSET_BITS>>(
     Ok(short_word(copy))
 }
 
-/// Makes the nodes of a list that is a tree anew where they lie in the buffer on the way to a document. The answer is
-/// the word of the list.
+/// Copies the nodes of a list that is a tree, on the way to a document, if they lie in the buffer. Returns the word
+/// of the list.
 fn move_tree<const OFFSET_BITS: u32, S: Store<OFFSET_BITS>>(
     store: &mut S,
     list: u64,
@@ -79,7 +79,7 @@ fn move_tree<const OFFSET_BITS: u32, S: Store<OFFSET_BITS>>(
     Ok(tree_word(root))
 }
 
-/// Moves a list out of the buffer, as far as one document leads. The answer is the word of the list.
+/// Moves a list out of the buffer, as far as the way to one document. Returns the word of the list.
 fn move_word<const OFFSET_BITS: u32, S: Store<OFFSET_BITS>>(
     store: &mut S,
     list: u64,
@@ -107,7 +107,7 @@ fn move_word<const OFFSET_BITS: u32, S: Store<OFFSET_BITS>>(
     move_short(store, list, buffer)
 }
 
-/// Moves the list of a value that is there.
+/// Moves the list of a value that exists.
 fn move_found<const OFFSET_BITS: u32, S: Store<OFFSET_BITS>>(
     store: &mut S,
     root: EntryRef<OFFSET_BITS>,
@@ -137,8 +137,8 @@ fn move_found<const OFFSET_BITS: u32, S: Store<OFFSET_BITS>>(
     set(store, root, value, key, next)
 }
 
-/// Moves the list of a value out of a sealed buffer, as far as one document leads: a record is made anew where it lies
-/// there, of a tree the nodes on the way to the document. The answer is the root of the new index.
+/// Moves the list of a value out of a sealed buffer, as far as the way to one document: a single record is copied if
+/// it lies there, and so are the nodes of a tree on the way to the document. Returns the root of the new index.
 pub fn move_list<const OFFSET_BITS: u32, S: Store<OFFSET_BITS>>(
     store: &mut S,
     root: EntryRef<OFFSET_BITS>,

@@ -20,7 +20,7 @@ use doc_vector::get;
 use entry_ref::EntryRef;
 use unique_store::value_law;
 
-/// The record of the value in a word of a document's record.
+/// Returns the record of the value in a word of a document's record.
 fn record_in(kind: Kind, word: u64) -> u64
     ensures { result ≡ (word_entry kind word).0 }
 {
@@ -31,7 +31,7 @@ fn record_in(kind: Kind, word: u64) -> u64
     }
 }
 
-/// Whether the record of a value lies in the buffer.
+/// Returns whether the record of a value lies in the buffer.
 fn value_lies<const OFFSET_BITS: u32, F: Frozen<OFFSET_BITS>>(
     frozen: &mut F,
     value_type: ValueType,
@@ -49,7 +49,7 @@ fn value_lies<const OFFSET_BITS: u32, F: Frozen<OFFSET_BITS>>(
     EntryRef::<OFFSET_BITS>::from_raw(key as u32).buffer() == buffer
 }
 
-/// Whether the record of a value that a list refers to lies in the buffer.
+/// Returns whether the record of a value to which a list refers lies in the buffer.
 fn list_lies<const OFFSET_BITS: u32, F: Frozen<OFFSET_BITS>>(
     frozen: &mut F,
     kind: Kind,
@@ -76,7 +76,7 @@ fn list_lies<const OFFSET_BITS: u32, F: Frozen<OFFSET_BITS>>(
     false
 }
 
-/// Whether the record that items have of their own, or one that they refer to, lies in the buffer.
+/// Returns whether the record that items own, or one to which they refer, lies in the buffer.
 pub fn items_lie<const OFFSET_BITS: u32, F: Frozen<OFFSET_BITS>>(
     frozen: &mut F,
     kind: Kind,
@@ -102,7 +102,7 @@ pub fn items_lie<const OFFSET_BITS: u32, F: Frozen<OFFSET_BITS>>(
     }
 }
 
-/// Whether items of a document lie in the buffer.
+/// Returns whether items of a document lie in the buffer.
 pub fn document_lies<const OFFSET_BITS: u32, F: Frozen<OFFSET_BITS>>(
     frozen: &mut F,
     kind: Kind,

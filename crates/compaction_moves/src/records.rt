@@ -9,7 +9,7 @@ use attr_images::MOST_SHORT;
 use entry_ref::EntryRef;
 use store_api::{Store, StoreError};
 
-/// Makes a record of the items of another, by a buffer of their size.
+/// Makes a copy of a record's items, with a buffer of their size.
 fn copy_by<const OFFSET_BITS: u32, S: Store<OFFSET_BITS>>(
     store: &mut S,
     array: EntryRef<OFFSET_BITS>,
@@ -31,7 +31,7 @@ fn copy_by<const OFFSET_BITS: u32, S: Store<OFFSET_BITS>>(
     add(store, items)
 }
 
-/// Makes a record of the items of a short list once more.
+/// Makes a copy of the record of a short list.
 pub fn copy_record<const OFFSET_BITS: u32, S: Store<OFFSET_BITS>>(
     store: &mut S,
     array: EntryRef<OFFSET_BITS>,
@@ -52,7 +52,7 @@ pub fn copy_record<const OFFSET_BITS: u32, S: Store<OFFSET_BITS>>(
     copy_by(store, array, &mut buffer[..count])
 }
 
-/// How many items a short list has.
+/// Returns the number of items of a short list.
 fn count_of<const OFFSET_BITS: u32, S: Store<OFFSET_BITS>>(
     store: &mut S,
     array: EntryRef<OFFSET_BITS>,

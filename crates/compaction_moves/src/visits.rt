@@ -1,4 +1,4 @@
-//! Laws of what was visited. The function does nothing: its contract is the law.
+//! Laws of visited keys. The function does nothing; its contract is the law.
 ghost use Rattle.compaction_moves.specs.Visits.{
   AreAllBefore,
   EarlierIsVisited,
@@ -9,8 +9,9 @@ ghost use Rattle.compaction_moves.specs.Visits.{
   OthersAreVisited,
 };
 
-/// One key further only that key is new; at the end of a phase all its keys were visited; of earlier phases and attributes all were, and of
-/// later ones none; so one phase further nothing is new but what belonged to the phase that ends.
+/// After one more key, only that key is newly visited. At the end of a phase all its keys are visited. All keys of
+/// earlier phases and attributes are visited, and none of later ones. So after one more phase, only keys of the phase
+/// that ended are newly visited.
 #[tactic(none)]
 pub fn visited_law()
     ensures next { NextIsVisited }

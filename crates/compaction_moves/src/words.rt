@@ -3,7 +3,7 @@ ghost use Rattle.posting_store.specs.Lists.{IsPlain};
 
 use entry_ref::EntryRef;
 
-/// The record of a short list or the root of a tree, by the word of a list.
+/// Returns the record of a short list or the root of a tree, from the word of a list.
 pub fn record_of<const OFFSET_BITS: u32>(list: u64) -> EntryRef<OFFSET_BITS>
     requires { IsPlain list }
     ensures { result ≡ list / 2 }
@@ -11,7 +11,7 @@ pub fn record_of<const OFFSET_BITS: u32>(list: u64) -> EntryRef<OFFSET_BITS>
     EntryRef::from_raw((list / 2) as u32)
 }
 
-/// The word of a short list.
+/// Returns the word of a short list.
 pub fn short_word<const OFFSET_BITS: u32>(array: EntryRef<OFFSET_BITS>) -> u64
     ensures word { result ≡ 2 * array.entry }
     ensures plain { IsPlain result }
@@ -19,7 +19,7 @@ pub fn short_word<const OFFSET_BITS: u32>(array: EntryRef<OFFSET_BITS>) -> u64
     2 * array.raw() as u64
 }
 
-/// The word of a list that is a tree.
+/// Returns the word of a list that is a tree.
 pub fn tree_word<const OFFSET_BITS: u32>(root: EntryRef<OFFSET_BITS>) -> u64
     ensures word { result ≡ 2 * root.entry + 1 }
     ensures plain { IsPlain result }

@@ -1,4 +1,5 @@
--- A map by document: a tree by number whose keys are documents. Each has the reference of its items, 0 where it has none.
+-- A map by document: a tree by number whose keys are documents. Each has the reference of its items, or 0 if it has
+-- none.
 use Rattle.std.specs.Prelude.{◌≡◌, ℕ, ◌<◌, ◌^◌, List, [], ◌∷◌}
 use Rattle.std.specs.declared.cmp.Ordering.{Ordering}
 use Rattle.std.specs.List.{AllByRecursion}
@@ -10,7 +11,7 @@ use Rattle.tree_read.specs.Trees.{tree_pairs, by_number, IsTree}
 use Rattle.frozen_btree.specs.Changes.{tree}
 use Rattle.attr_types.specs.Lawful.{IsDocNumber}
 
--- a stored document beside the one sought
+-- compares a stored document with the sought one
 abbrev pub beside_document : ℕ → ℕ → Ordering
 beside_document doc stored = nat_cmp stored doc
 
@@ -24,7 +25,7 @@ pub record IsDocumentMap (m : Records) (root : ℕ) : Type 0 where
   pub tree_is : IsTree nat_cmp by_number m root
   pub pairs : AllByRecursion IsDocumentPair (tree_pairs m root)
 
--- a map by document was made of these pairs, in place of another
+-- a map by document with these pairs was made, in place of another
 pub record MakesMap {H : Type 0} (old new : Ledger H) (m n : Records) (root : ℕ) (pairs : List (ℕ × ℕ)) (next : ℕ) : Type 0 where
   pub map_is : IsDocumentMap n next
   pub pairs_are : tree_pairs n next ≡ pairs

@@ -1,4 +1,4 @@
--- What a map by document is, as laws over its pairs.
+-- Maps by document, as laws over their pairs.
 use Rattle.std.specs.Prelude.{◌≡◌, ◌≢◌, ℕ, List, Some, None}
 use Rattle.std.specs.Ordering.{nat_cmp}
 use Rattle.entry_ref.specs.Records.{Records, SameAt}
@@ -11,12 +11,12 @@ use Rattle.doc_vector.specs.Documents.{beside_document, IsDocumentMap}
 abbrev pub NothingIsMap : Type 0
 NothingIsMap = (m : Records) → IsDocumentMap m 0
 
--- a map stays, with its pairs, where the records of its nodes stay
+-- a map stays the same, with its pairs, while the records of its nodes stay the same
 abbrev pub MapStays : Type 0
 MapStays = (m n : Records) (root : ℕ) → SameAt (tree_nodes m root) m n → IsDocumentMap m root
     → IsDocumentMap n root × (tree_pairs n root ≡ tree_pairs m root)
 
--- the document that was set has its items, and every other one what it had
+-- after a set, the document has its items, and every other document the same as before
 abbrev pub SetIsFound : Type 0
 SetIsFound = (doc items : ℕ) (ps : List (ℕ × ℕ)) → lookup (beside_document doc) (put (beside_document doc) (doc, items) ps) ≡ Some items
 
@@ -24,7 +24,7 @@ abbrev pub SetKeepsOthers : Type 0
 SetKeepsOthers = (doc items other : ℕ) (ps : List (ℕ × ℕ)) → other ≢ doc
     → lookup (beside_document other) (put (beside_document doc) (doc, items) ps) ≡ lookup (beside_document other) ps
 
--- the document that was removed is not there, and every other one has what it had
+-- after a remove, the document does not exist, and every other document has the same as before
 abbrev pub RemovedIsGone : Type 0
 RemovedIsGone = (m : Records) (doc : ℕ) (ps : List (ℕ × ℕ)) → Ascends nat_cmp by_number m ps
     → lookup (beside_document doc) (take_out (beside_document doc) ps) ≡ None

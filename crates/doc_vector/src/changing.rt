@@ -14,7 +14,7 @@ use frozen_btree::{NumberKey, insert, remove as remove_pair};
 use store_api::{Store, StoreError};
 use tree_read::NODE_WORDS;
 
-/// Sets the reference of a document's items, 0 for none. The answer is the root of the new map.
+/// Sets the reference of a document's items, or 0 for none. Returns the root of the new map.
 pub fn set<const OFFSET_BITS: u32, S: Store<OFFSET_BITS>>(
     store: &mut S,
     root: EntryRef<OFFSET_BITS>,
@@ -34,7 +34,7 @@ pub fn set<const OFFSET_BITS: u32, S: Store<OFFSET_BITS>>(
     insert(store, root, &NumberKey(number), number, items.raw() as u64)
 }
 
-/// Removes a document that is there. The answer is the root of the new map, 0 where no document is left.
+/// Removes a document that exists. Returns the root of the new map, or 0 if no document is left.
 pub fn remove<const OFFSET_BITS: u32, S: Store<OFFSET_BITS>>(
     store: &mut S,
     root: EntryRef<OFFSET_BITS>,

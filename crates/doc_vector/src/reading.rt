@@ -9,7 +9,7 @@ use attr_types::Doc;
 use entry_ref::EntryRef;
 use frozen_btree::{Cursor, NumberKey, find};
 
-/// The reference of a document's items, 0 where it has none. There is no answer where the document is not there.
+/// Returns the reference of a document's items, or 0 if it has none. Returns `None` if the document does not exist.
 pub fn get<const OFFSET_BITS: u32, F: Frozen<OFFSET_BITS>>(
     frozen: &mut F,
     root: EntryRef<OFFSET_BITS>,
@@ -25,8 +25,8 @@ pub fn get<const OFFSET_BITS: u32, F: Frozen<OFFSET_BITS>>(
     }
 }
 
-/// Before the first document that is not below this one. A pair's key is the document, its value the reference
-/// of the items.
+/// Returns a cursor before the first document that is not below this one. The key of a pair is the document, and its
+/// value the reference of the items.
 pub fn walk_from<const OFFSET_BITS: u32, F: Frozen<OFFSET_BITS>>(
     frozen: &mut F,
     root: EntryRef<OFFSET_BITS>,

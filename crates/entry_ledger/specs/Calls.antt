@@ -1,4 +1,4 @@
--- What the calls make of the entries.
+-- How the calls change the entries.
 use Rattle.std.specs.Prelude.{◌≡◌, ◌⊎◌, ℕ, ◌+◌, ◌*◌, ◌<◌, ◌≤◌, Bool, true, false, nat_eq, nat_lt, if◌then◌else◌, Option, None, Some}
 use Rattle.std.specs.Option.{option_map}
 use Rattle.entry_ref.specs.References.{buffer_of}
@@ -12,18 +12,18 @@ use Rattle.entry_ledger.specs.declared.state.State.TheVariants.{Free as FreeStat
 use Rattle.entry_ledger.specs.States.{dropped, accepted, undone, settled_state, is_touched}
 use Rattle.entry_ledger.specs.Entries.{EntriesView, Mark, width_of, is_open_entry, is_free_entry, is_settled_entry, used_words, dead_words}
 
--- one entry has another state
+-- the states after that of one entry changes
 abbrev pub with_state : (ℕ → Option State) → ℕ → State → ℕ → Option State
 with_state state r s q = if nat_eq q r then Some s else state q
 
--- one buffer has another mark
+-- the buffers after one changes
 abbrev pub with_mark : (ℕ → Mark) → ℕ → Mark → ℕ → Mark
 with_mark mark b new a = if nat_eq a b then new else mark a
 
 abbrev pub free_mark : Mark
 free_mark = record { state = Free; width = 0; generation = 0; sealed = false }
 
--- no buffer has entries
+-- the entries of a new ledger: no buffer has any
 abbrev pub new_entries : ℕ → ℕ → EntriesView
 new_entries buffers words = record {
   count = buffers;
@@ -37,7 +37,8 @@ new_entries buffers words = record {
   finished = None;
 }
 
--- a make can take this entry: a free one, or where none of the width is free outside sealed buffers the next of the filled one
+-- a make can take this entry: it is free, or, if the width has no free one outside sealed buffers, the next of the
+-- buffer being filled
 pub record CanTake (bits : ℕ) (e : EntriesView) (width r : ℕ) : Type 0 where
   pub entry : IsEntry bits e.count e.words width r
   pub of_width : width_of e (buffer_of bits r) ≡ width
@@ -53,7 +54,7 @@ made_at e width r = record e {
   of_width = with_counts e.of_width width (took_spare (e.of_width width));
 }
 
--- a free buffer is for entries of this width, and the filled one of it
+-- a free buffer is opened for entries of this width, and is the one being filled
 abbrev pub opened_at : EntriesView → ℕ → ℕ → EntriesView
 opened_at e b width = record e {
   mark = with_mark e.mark b (record { state = Active; width = width; generation = 0; sealed = false });
@@ -64,13 +65,13 @@ opened_at e b width = record e {
   });
 }
 
--- an entry in use, of this state, is dropped
+-- an entry in use with this state is dropped
 pub record Drops (old new : EntriesView) (r : ℕ) (s : State) : Type 0 where
   pub state : new.state ≡ with_state old.state r (dropped old.last s)
   pub counts : (w : ℕ) → DropsOf (old.of_width w) (new.of_width w)
   pub same : new ≡ record old { state = new.state; of_width = new.of_width }
 
--- one entry that the unit changed is settled: what it did is kept, or taken back
+-- one entry that the unit changed is settled: the change is kept or taken back
 pub record StepsEnd (accepts : Bool) (old new : EntriesView) : Type 0 where
   pub entry : ℕ
   pub was : State
@@ -81,19 +82,19 @@ pub record StepsEnd (accepts : Bool) (old new : EntriesView) : Type 0 where
   pub even : accepts ≡ false → (w : ℕ) → (new.of_width w).spare + (new.of_width w).fresh ≡ (old.of_width w).spare + (old.of_width w).fresh
   pub same : new ≡ record old { state = new.state; of_width = new.of_width }
 
--- the unit has changed nothing more
+-- the unit changed nothing more
 pub record IsEnded (e : EntriesView) : Type 0 where
   pub settled : (r : ℕ) → is_settled_entry (e.state r) ≡ true
   pub fresh : (w : ℕ) → (e.of_width w).fresh ≡ 0
 
--- a unit ends, and what it did is kept
+-- a unit ends, and its changes are kept
 pub record Accepts (old new : EntriesView) : Type 0 where
   pub state : (r : ℕ) → new.state r ≡ option_map (accepted old.last old.generation) (old.state r)
   pub counts : (w : ℕ) → EndsOf (old.of_width w) (new.of_width w)
   pub fresh : (w : ℕ) → (new.of_width w).fresh ≡ 0
   pub same : new ≡ record old { state = new.state; of_width = new.of_width }
 
--- a unit ends, and what it did is taken back
+-- a unit ends, and its changes are taken back
 pub record Undoes (old new : EntriesView) : Type 0 where
   pub state : (r : ℕ) → new.state r ≡ option_map (undone old.last) (old.state r)
   pub counts : (w : ℕ) → EndsOf (old.of_width w) (new.of_width w)
@@ -101,7 +102,7 @@ pub record Undoes (old new : EntriesView) : Type 0 where
   pub fresh : (w : ℕ) → (new.of_width w).fresh ≡ 0
   pub same : new ≡ record old { state = new.state; of_width = new.of_width }
 
--- what is held under a generation below the oldest is free
+-- what is held with a generation below the oldest becomes free
 abbrev pub freed : ℕ → State → State
 freed oldest (Dropped after generation) = if nat_lt generation oldest then FreeState else Dropped after generation
 freed oldest state = state
@@ -109,7 +110,7 @@ freed oldest state = state
 abbrev pub freed_mark : ℕ → Mark → Mark
 freed_mark oldest mark = if is_on_hold mark.state then (if nat_lt mark.generation oldest then free_mark else mark) else mark
 
--- entries and buffers that are held under a generation below the oldest are free
+-- entries and buffers that are held with a generation below the oldest become free
 pub record Frees (old new : EntriesView) (oldest : ℕ) : Type 0 where
   pub state : (r : ℕ) → new.state r ≡ option_map (freed oldest) (old.state r)
   pub mark : (b : ℕ) → new.mark b ≡ freed_mark oldest (old.mark b)
@@ -122,7 +123,7 @@ pub record Seals (old new : EntriesView) (b : ℕ) : Type 0 where
   pub counts : (w : ℕ) → SealsOf (old.of_width w) (new.of_width w)
   pub same : new ≡ record old { mark = new.mark; of_width = new.of_width }
 
--- a sealed buffer is on hold, and has no entries any more
+-- a sealed buffer goes on hold, and has no entries any more
 abbrev pub retired_at : ℕ → EntriesView → ℕ → EntriesView
 retired_at bits e b = record e {
   state = λ r. if nat_eq (buffer_of bits r) b then None else e.state r;
@@ -130,7 +131,7 @@ retired_at bits e b = record e {
   finished = None;
 }
 
--- an active buffer that is not filled and not sealed, and of which more than a twentieth is dead
+-- an active buffer that is neither being filled nor sealed, and of whose used words more than a twentieth is dead
 pub record IsCandidate (bits : ℕ) (e : EntriesView) (b : ℕ) : Type 0 where
   pub below : b < e.count
   pub active : is_state_active (e.mark b).state ≡ true
@@ -138,13 +139,13 @@ pub record IsCandidate (bits : ℕ) (e : EntriesView) (b : ℕ) : Type 0 where
   pub unsealed : (e.mark b).sealed ≡ false
   pub dead : used_words bits e b < dead_words bits e b * 20
 
--- the candidate with the most dead words, of equals the first
+-- the candidate with the most dead words, and the first among equals
 pub record IsVictim (bits : ℕ) (e : EntriesView) (b : ℕ) : Type 0 where
   pub candidate : IsCandidate bits e b
   pub most : (a : ℕ) → IsCandidate bits e a
       → (dead_words bits e a < dead_words bits e b) ⊎ ((dead_words bits e a ≡ dead_words bits e b) × (b ≤ a))
 
--- the free buffer of lowest number
+-- the free buffer with the lowest number
 pub record IsLowestFree (e : EntriesView) (b : ℕ) : Type 0 where
   pub below : b < e.count
   pub free : is_state_free (e.mark b).state ≡ true

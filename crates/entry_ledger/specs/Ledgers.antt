@@ -1,4 +1,5 @@
--- How the entries are kept: shelves, buffers, and the list of what was dropped. Callers see specs/Entries and specs/Calls alone.
+-- How the entries are stored: shelves, buffers, and the list of dropped entries. Callers need only specs/Entries and
+-- specs/Calls.
 use Rattle.std.specs.Prelude.{◌≡◌, ◌≢◌, ℕ, suc, ◌+◌, ◌-◌, ◌*◌, ◌<◌, ◌≤◌, ◌^◌, ◌&&◌, not, Bool, true, false, nat_eq, nat_lt, nat_le}
 use Rattle.std.specs.Prelude.{if◌then◌else◌, List, [], ◌∷◌, ◌++◌, length, sum_by, count_by, All, AllPairs, Option, None, Some}
 use Rattle.std.specs.List.{slice_get, list_any}
@@ -22,18 +23,18 @@ pub record LedgerView : Type 0 where
   pub oldest : ℕ
   pub finished : Option ℕ
 
--- the state of an entry, if it was taken; offset 0 is none
+-- the state of an entry, if it was taken; offset 0 is not an entry
 abbrev pub state_in : ShelfView → ℕ → Option State
 state_in shelf offset = if nat_eq offset 0 then None else slice_get shelf.states (offset - 1)
 
 abbrev pub mark_of : Buffer → Mark
 mark_of buffer = record { state = buffer.state; width = buffer.width; generation = buffer.generation; sealed = buffer.sealed }
 
--- the entries in use of a shelf of this width, that is not sealed, which the unit made
+-- the entries in use that the unit made in a shelf, if the shelf has this width and is not sealed
 abbrev pub fresh_in : ℕ → ShelfView → ℕ
 fresh_in w shelf = if nat_eq shelf.width w && not shelf.sealed then count_by is_made shelf.states else 0
 
--- an active buffer of this width, or one on hold
+-- a buffer of this width that is active or on hold
 abbrev pub is_buffer_of : ℕ → Buffer → Bool
 is_buffer_of w buffer = not (is_state_free buffer.state) && nat_eq buffer.width w
 
@@ -46,7 +47,7 @@ counts_of v w = record {
   filled = filled_at v.shelves.filled w;
 }
 
--- what the ledger says of all entries
+-- the states of all entries
 unfoldable pub entries_of : ℕ → LedgerView → EntriesView
 entries_of bits v = record {
   count = length v.shelves.shelves;
@@ -60,34 +61,34 @@ entries_of bits v = record {
   finished = v.finished;
 }
 
--- the entries of a shelf that are not in the list
+-- the number of entries of a shelf that are not in the list
 abbrev pub unheld_in : ShelfView → ℕ
 unheld_in shelf = shelf.room - count_by is_dropped shelf.states
 
--- the entries of a shelf of this width that were not taken
+-- the number of entries of a shelf of this width that were not taken
 abbrev pub unmade_in : ℕ → ShelfView → ℕ
 unmade_in w shelf = if nat_eq shelf.width w then shelf.room - length shelf.states else 0
 
 abbrev pub unmade_of_width : List ShelfView → ℕ → ℕ
 unmade_of_width shelves w = sum_by (unmade_in w) shelves
 
--- the counts of a buffer after an entry was made again, or the next
+-- the counts of a buffer after an entry is made in a free place, or in the next one
 abbrev pub taken_buffer : Bool → Buffer → Buffer
 taken_buffer true buffer = record buffer { dead = buffer.dead - buffer.width }
 taken_buffer false buffer = record buffer { used = buffer.used + buffer.width }
 
--- the counts of a buffer after an entry came to this state by a drop
+-- the counts of a buffer after a drop gives an entry this state
 abbrev pub dropped_buffer : State → Buffer → Buffer
 dropped_buffer Returned buffer = record buffer { dead = buffer.dead + buffer.width }
 dropped_buffer (DroppedNow after) buffer = record buffer { dead = buffer.dead + buffer.width; dropped = buffer.dropped + buffer.width }
 dropped_buffer state buffer = buffer
 
--- dropped by the unit under way
+-- dropped by the open unit
 abbrev pub is_dropped_now : State → Bool
 is_dropped_now (DroppedNow after) = true
 is_dropped_now state = false
 
--- the counts of a buffer after an entry of this state was settled
+-- the counts of a buffer after an entry that had this state is settled
 abbrev pub settled_buffer : Bool → State → Buffer → Buffer
 settled_buffer true LetGo buffer = record buffer { dead = buffer.dead + buffer.width }
 settled_buffer false Made buffer = record buffer { dead = buffer.dead + buffer.width }
@@ -95,18 +96,18 @@ settled_buffer false (DroppedNow after) buffer =
     record buffer { dead = buffer.dead - buffer.width; dropped = buffer.dropped - buffer.width }
 settled_buffer accepts state buffer = buffer
 
--- settling it makes an entry dead
+-- settling the entry makes it dead
 abbrev pub is_dead_after : Bool → State → Bool
 is_dead_after true LetGo = true
 is_dead_after false Made = true
 is_dead_after accepts state = false
 
--- the list after an entry was put on it, or not
+-- the list after an entry is appended or not
 abbrev pub held_after : Bool → ℕ → HeldList → HeldList
 held_after true entry list = record { held = list.held ++ untagged entry ∷ []; room = list.room - 1 }
 held_after false entry list = list
 
--- an entry that is dropped may be free: its shelf has it, and its buffer counts it
+-- a dropped entry may be freed: its shelf has it, and its buffer counts it
 pub record CanRelease (bits : ℕ) (shelves : ShelvesView) (buffers : List Buffer) (unheld r : ℕ) : Type 0 where
   pub inside : buffer_of bits r < length shelves.shelves
   pub counted : buffer_of bits r < length buffers
@@ -116,14 +117,14 @@ pub record CanRelease (bits : ℕ) (shelves : ShelvesView) (buffers : List Buffe
   pub fits : (buffer_at buffers (buffer_of bits r)).width ≤ (buffer_at buffers (buffer_of bits r)).held
   pub few : unheld + 1 < 2 ^ 32
 
--- it is free then
+-- the dropped entry is freed
 pub record Releases (bits r : ℕ) (old new : ShelvesView) (buffers counted : List Buffer) (unheld left : ℕ) : Type 0 where
   pub shelves : new ≡ with_shelf old (buffer_of bits r)
       (with_state_at (shelf_at old.shelves (buffer_of bits r)) (offset_of bits r - 1) FreeState)
   pub buffers_are : counted ≡ with_released buffers (buffer_of bits r)
   pub left_is : left ≡ unheld + 1
 
--- how many entries the unit has changed
+-- the number of entries that the unit changed
 abbrev pub touched_total : LedgerView → ℕ
 touched_total v = sum_by (λ (s : ShelfView). count_by is_touched s.states) v.shelves.shelves
 
@@ -133,13 +134,13 @@ is_since last (DroppedNow after) = true
 is_since last (Dropped after generation) = nat_eq after last
 is_since last state = false
 
--- the tag of an entry in the list is that of its state: none where it was dropped since the last commit
+-- the tag of an entry in the list agrees with its state: it has no tag if it was dropped since the last commit
 abbrev pub tag_fits : ℕ → ℕ → Option HoldTag → Option State → Bool
 tag_fits last generation None (Some (Dropped after g)) = nat_eq after last && nat_eq g generation
 tag_fits last generation (Some tag) (Some (Dropped after g)) = nat_lt after last && nat_eq tag.generation g && nat_eq tag.commit (suc after)
 tag_fits last generation tag state = false
 
--- an entry in the list that went with its buffer was tagged before
+-- an entry in the list whose buffer went on hold was tagged before
 abbrev pub tag_below : ℕ → Option HoldTag → Bool
 tag_below generation None = false
 tag_below generation (Some tag) = nat_le tag.generation generation
@@ -153,7 +154,7 @@ held_fits last generation mark tag state =
 abbrev pub is_in_list : ℕ → EntriesView → HeldEntry → Bool
 is_in_list bits e h = held_fits e.last e.generation (e.mark (buffer_of bits h.entry)) h.tag (e.state h.entry)
 
--- the counts of a buffer are those of its shelf
+-- the counts of a buffer agree with its shelf
 pub record IsCounted (words last : ℕ) (buffer : Buffer) (shelf : ShelfView) : Type 0 where
   pub of : IsOfWidth words shelf
   pub width : shelf.width ≡ (if is_state_active buffer.state then buffer.width else 0)
@@ -163,17 +164,17 @@ pub record IsCounted (words last : ℕ) (buffer : Buffer) (shelf : ShelfView) : 
   pub held : buffer.held ≡ shelf.width * count_by (is_held last) shelf.states
   pub dropped : buffer.dropped ≡ shelf.width * count_by (is_since last) shelf.states
 
--- the flag of a buffer says whether it is the filled one of its width
+-- the flag of a buffer says whether it is the one of its width that is being filled
 abbrev pub IsFlagged : List (Option ℕ) → ℕ → Buffer → Type 0
 IsFlagged filled b buffer = buffer.filled ≡ is_this (filled_at filled buffer.width) b
 
--- what the list has: each dropped entry once
+-- the list has each dropped entry once
 pub record IsHeldList (bits : ℕ) (e : EntriesView) (held : List HeldEntry) : Type 0 where
   pub each : All (λ h. is_in_list bits e h ≡ true) held
   pub apart : AllPairs (λ a b. a.entry ≢ b.entry) held
   pub all : (r after g : ℕ) → e.state r ≡ Some (Dropped after g) → list_any (λ (h : HeldEntry). nat_eq h.entry r) held ≡ true
 
--- what holds of states, buffers and counts, whatever the shelves
+-- the invariant of states, buffers and counts, without the shelves
 pub record IsSound (e : EntriesView) : Type 0 where
   pub order : e.oldest ≤ e.generation
   pub up_to : (r : ℕ) (s : State) → e.state r ≡ Some s → is_timely e s ≡ true
@@ -193,11 +194,11 @@ pub record AreEntries (bits : ℕ) (v : LedgerView) (held : List HeldEntry) (roo
   pub made_rows : length v.shelves.made ≡ 11
   pub filled_rows : length v.shelves.filled ≡ 11
   pub counted : (b : ℕ) → IsCounted v.shelves.words v.last (buffer_at v.buffers b) (shelf_at v.shelves.shelves b)
-  -- only the filled buffer of a width has entries that were not taken
+  -- only the buffer of a width that is being filled has entries that were not taken
   pub filled : (b : ℕ) → length (shelf_at v.shelves.shelves b).states < (shelf_at v.shelves.shelves b).room
       → filled_at v.shelves.filled (shelf_at v.shelves.shelves b).width ≡ Some b
   pub flagged : (b : ℕ) → IsFlagged v.shelves.filled b (buffer_at v.buffers b)
-  -- all entries for which the buffers of a width have room were made, but for those that its shelves have left
+  -- the entries that fit in the buffers of a width were made, except those that its shelves have left
   pub enough : (w : ℕ) → is_width w ≡ true
       → count_by (is_buffer_of w) v.buffers * capacity v.shelves.words w ≤ made_in v.shelves.made w + unmade_of_width v.shelves.shelves w
   pub sound : IsSound (entries_of bits v)

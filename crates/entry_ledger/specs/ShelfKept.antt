@@ -1,4 +1,5 @@
--- What a shelf keeps of its lists: the free entries, and those that the unit has changed; each list has room for all.
+-- What a shelf keeps in its lists: the free entries, and those that the unit changed. Each list has space for all
+-- entries.
 use Rattle.std.specs.Prelude.{ℕ, ◌^◌, ◌<◌, ◌≤◌, List, length}
 use Rattle.entry_ledger.specs.declared.state.State.{State}
 use Rattle.entry_ledger.specs.declared.state.State.TheVariants.{Free}

@@ -1,4 +1,4 @@
--- The shelves of all buffers, and by width how often an entry was made and which buffer is filled.
+-- The shelves of all buffers; and by width, how often an entry was made and which buffer is being filled.
 use Rattle.std.specs.Prelude.{◌≡◌, ℕ, suc, ◌<◌, ◌&&◌, Bool, true, false, not, nat_eq, if◌then◌else◌, List, [], ◌∷◌, length, slice_set}
 use Rattle.std.specs.Prelude.{slice_index_or, sum_by, count_by, Option, None}
 use Rattle.store_api.specs.Ledgers.{widths, one_more}
@@ -10,19 +10,20 @@ use Rattle.entry_ledger.specs.declared.shelves.Changed.{Changed}
 pub record ShelvesView : Type 0 where
   pub words : ℕ
   pub shelves : List ShelfView
-  -- by the place of a width: how often an entry was made, up to the last 64-bit number; the buffer that was opened last
+  -- by the index of a width: how often an entry was made, at most the greatest 64-bit number; and the buffer that was
+  -- opened last
   pub made : List ℕ
   pub filled : List (Option ℕ)
 
 abbrev pub shelf_at : List ShelfView → ℕ → ShelfView
 shelf_at shelves b = slice_index_or shelves b empty_shelf
 
--- the first place of a number in a list, or its length where it is not there
+-- the first index of a number in a list, or the length of the list if it does not occur
 abbrev pub place_among : ℕ → List ℕ → ℕ
 place_among w [] = 0
 place_among w (v ∷ vs) = if nat_eq w v then 0 else suc (place_among w vs)
 
--- the place of a width among the widths
+-- the index of a width among the widths
 unfoldable pub row_of : ℕ → ℕ
 row_of w = place_among w widths
 
@@ -32,7 +33,7 @@ made_in made w = slice_index_or made (row_of w) 0
 abbrev pub filled_at : List (Option ℕ) → ℕ → Option ℕ
 filled_at filled w = slice_index_or filled (row_of w) None
 
--- the entries that can be made in a shelf of this width that is not sealed
+-- the number of entries that can be made in a shelf of this width that is not sealed
 abbrev pub spare_in : ℕ → ShelfView → ℕ
 spare_in w shelf = if nat_eq shelf.width w && not shelf.sealed then spare_of shelf else 0
 
@@ -42,7 +43,8 @@ spare_of_width shelves w = sum_by (spare_in w) shelves
 abbrev pub with_shelf : ShelvesView → ℕ → ShelfView → ShelvesView
 with_shelf v b shelf = record v { shelves = slice_set v.shelves b shelf }
 
--- an entry of a width is made: a free one, or where no shelf of the width has a free one the next of the one that is filled
+-- an entry of a width is made: a free one, or, if no shelf of the width has a free one, the next of the shelf being
+-- filled
 pub record Takes (old new : ShelvesView) (width : ℕ) (t : Taken) : Type 0 where
   pub below : t.buffer < length old.shelves
   pub of_width : (shelf_at old.shelves t.buffer).width ≡ width

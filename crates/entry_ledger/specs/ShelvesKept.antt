@@ -1,4 +1,5 @@
--- What is kept of the shelves, and of the stacks of those that have an entry to spare, and of those that the unit has changed.
+-- The stored form of the shelves, with the stacks of those that have a spare entry and of those that the unit
+-- changed.
 use Rattle.std.specs.Prelude.{◌≡◌, ℕ, ◌<◌, ◌≤◌, ◌^◌, ◌&&◌, Bool, true, List, [], length, slice_index, slice_index_or, Option, Some}
 use Rattle.std.specs.Prelude.{if◌then◌else◌, nat_eq}
 use Rattle.store_api.specs.Ledgers.{is_width, capacity}
@@ -6,7 +7,7 @@ use Rattle.entry_ledger.specs.States.{ShelfView, empty_shelf, can_make, has_touc
 use Rattle.entry_ledger.specs.Stacks.{IsStack}
 use Rattle.entry_ledger.specs.Shelves.{shelf_at, row_of, filled_at}
 
--- a stack, and how much it has room for
+-- a stack, and the number of elements that fit
 pub record StackView : Type 0 where
   pub list : List ℕ
   pub room : ℕ
@@ -18,13 +19,14 @@ stack_at stacks w = slice_index_or stacks (row_of w) (record { list = []; room =
 abbrev pub has_spare_in : ℕ → ShelfView → Bool
 has_spare_in w shelf = nat_eq shelf.width w && can_make shelf
 
--- a shelf that is open has the room of its width
+-- an open shelf has space for all entries of its width
 pub record IsOfWidth (words : ℕ) (shelf : ShelfView) : Type 0 where
   pub width : 0 < shelf.width → is_width shelf.width ≡ true
   pub room : shelf.room ≡ (if nat_eq shelf.width 0 then 0 else capacity words shelf.width)
   pub taken : length shelf.states ≤ shelf.room
 
--- the shelf of a width that was opened last alone has entries that were not taken; it lies at the bottom of those with some to spare
+-- only the shelf of a width that was opened last has entries that were not taken; it is at the bottom of the stack of
+-- shelves with spare entries
 pub record IsBottom (stack : List ℕ) (filled : Option ℕ) (b : ℕ) : Type 0 where
   pub filled_is : filled ≡ Some b
   pub some : 0 < length stack

@@ -1,4 +1,4 @@
--- A stack of the places of a list whose elements pass a test, each once.
+-- A stack of the indices of the list elements that pass a test, each once.
 use Rattle.std.specs.Prelude.{◌≡◌, ◌≢◌, ℕ, ◌<◌, Bool, true, List, length, slice_index, slice_index_or, count_by}
 
 pub record IsStack {A : Type 0} (d : A) (test : A → Bool) (elements : List A) (stack : List ℕ) : Type 0 where

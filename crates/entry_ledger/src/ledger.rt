@@ -15,8 +15,8 @@ use hold_lists::HoldList;
 use std::alloc::{AllocError, Global};
 use std::marker::Model;
 
-/// The states of all entries. What a unit did is kept or taken back at its end; what was dropped is held from the next commit on,
-/// until no reader can have it.
+/// The states of all entries. The end of a unit keeps its changes or takes them back. A commit holds what was dropped
+/// before it, until no reader can reach it.
 #[derive(Drop)]
 pub struct EntryLedger<const OFFSET_BITS: u32> {
     shelves: Shelves,
@@ -61,7 +61,7 @@ impl<const OFFSET_BITS: u32> EntryLedger<OFFSET_BITS> {
     ghost use Rattle.entry_ledger.specs.Calls.{Frees, Seals, retired_at};
     ghost use Rattle.entry_ledger.specs.Calls.{IsCandidate, IsVictim, IsLowestFree};
 
-    /// `buffers` free buffers of `words` words each.
+    /// Creates a ledger of `buffers` free buffers with `words` words each.
     #[tactic(none)]
     pub fn create(alloc: Global, buffers: u32, words: u32) -> Result<Self, AllocError>
         requires few_buffers { buffers < buffer_limit OFFSET_BITS }
@@ -87,7 +87,7 @@ impl<const OFFSET_BITS: u32> EntryLedger<OFFSET_BITS> {
         })
     }
 
-    /// The words of an active buffer's entries, 0 for the others.
+    /// Returns the width of an active buffer's entries, or 0 for any other buffer.
     #[tactic(auto, unfolding(crate::specs::Ledgers::entries_of))]
     pub fn width(&self, buffer: u32) -> u32
         ensures { result ≡ width_of (entries_of OFFSET_BITS self.now) buffer }
@@ -95,7 +95,7 @@ impl<const OFFSET_BITS: u32> EntryLedger<OFFSET_BITS> {
         self.shelves.width(buffer)
     }
 
-    /// The state of an entry; None where it was not taken, or where there is no such entry.
+    /// Returns the state of an entry, or `None` if it was not taken or does not exist.
     #[tactic(auto, unfolding(crate::specs::Ledgers::entries_of))]
     pub fn state(&self, entry: EntryRef<OFFSET_BITS>) -> Option<State>
         ensures { result ≡ (entries_of OFFSET_BITS self.now).state entry.entry }
@@ -106,7 +106,7 @@ impl<const OFFSET_BITS: u32> EntryLedger<OFFSET_BITS> {
         self.shelves.state(entry.buffer(), entry.offset() - 1)
     }
 
-    /// How often an entry of this width was made, up to the last 64-bit number.
+    /// Returns how often an entry of this width was made, at most the greatest 64-bit number.
     #[tactic(auto, unfolding(crate::specs::Ledgers::entries_of))]
     pub fn made(&self, width: u32) -> u64
         requires { is_width width ≡ true }
@@ -115,7 +115,7 @@ impl<const OFFSET_BITS: u32> EntryLedger<OFFSET_BITS> {
         self.shelves.made(width)
     }
 
-    /// The sealed buffer that the next commit is to put on hold.
+    /// Returns the sealed buffer that the next commit is to put on hold.
     #[tactic(auto, unfolding(crate::specs::Ledgers::entries_of))]
     pub fn finished(&self) -> Option<u32>
         ensures { result ≡ (entries_of OFFSET_BITS self.now).finished }
@@ -123,7 +123,7 @@ impl<const OFFSET_BITS: u32> EntryLedger<OFFSET_BITS> {
         self.finished
     }
 
-    /// The free buffer of lowest number.
+    /// Returns the free buffer with the lowest number.
     #[tactic(none)]
     pub fn lowest_free(&self) -> Option<u32>
         ensures none { IfNone result ((b : ℕ) → b < (entries_of OFFSET_BITS self.now).count
@@ -133,7 +133,7 @@ impl<const OFFSET_BITS: u32> EntryLedger<OFFSET_BITS> {
         self.buffers.lowest_free()
     }
 
-    /// How many buffers are active.
+    /// Returns the number of active buffers.
     #[tactic(none)]
     pub fn active(&self) -> u32
         ensures { result ≡ count_marks is_state_active (entries_of OFFSET_BITS self.now).mark (entries_of OFFSET_BITS self.now).count }
@@ -141,7 +141,7 @@ impl<const OFFSET_BITS: u32> EntryLedger<OFFSET_BITS> {
         self.buffers.active()
     }
 
-    /// How many buffers are on hold.
+    /// Returns the number of buffers on hold.
     #[tactic(none)]
     pub fn on_hold(&self) -> u32
         ensures { result ≡ count_marks is_on_hold (entries_of OFFSET_BITS self.now).mark (entries_of OFFSET_BITS self.now).count }
@@ -149,7 +149,7 @@ impl<const OFFSET_BITS: u32> EntryLedger<OFFSET_BITS> {
         self.buffers.on_hold()
     }
 
-    /// The buffer of which a compaction has most to win, if any is worth it.
+    /// Returns the buffer from which a compaction gains most, if any is worth it.
     #[tactic(none)]
     pub fn choose_victim(&self) -> Option<u32>
         ensures none { IfNone result ((b : ℕ) → IsCandidate OFFSET_BITS (entries_of OFFSET_BITS self.now) b → ⊥) }
@@ -158,7 +158,8 @@ impl<const OFFSET_BITS: u32> EntryLedger<OFFSET_BITS> {
         self.buffers.choose_victim()
     }
 
-    /// Makes an entry: a free one of the width, else the next offset of the buffer that is filled. None where there is neither.
+    /// Makes an entry: a free one of the width, or else the next offset of the buffer being filled. Returns `None` if
+    /// there is neither.
     #[tactic(none)]
     pub fn take(&mut self, width: u32) -> Option<EntryRef<OFFSET_BITS>>
         requires { is_width width ≡ true }
@@ -173,8 +174,8 @@ impl<const OFFSET_BITS: u32> EntryLedger<OFFSET_BITS> {
         Some(EntryRef::new(taken.place + 1, taken.buffer))
     }
 
-    /// Drops an entry in use. What the unit made is free at once, what was made before since the last commit when the unit is
-    /// accepted.
+    /// Drops an entry in use. An entry made by the unit is free at once. An entry made before the unit but since the
+    /// last commit is free once the unit is accepted.
     #[tactic(none)]
     pub fn drop_entry(&mut self, entry: EntryRef<OFFSET_BITS>)
         requires used { is_used_entry ((entries_of OFFSET_BITS self.old).state entry) ≡ true }
@@ -189,7 +190,7 @@ impl<const OFFSET_BITS: u32> EntryLedger<OFFSET_BITS> {
         count_drop(&mut self.buffers, buffer, now);
     }
 
-    /// Ends the unit and keeps what it did.
+    /// Ends the unit and keeps its changes.
     #[tactic(none)]
     pub fn accept(&mut self)
         ensures accepts { Accepts (entries_of OFFSET_BITS self.old) (entries_of OFFSET_BITS self.new) }
@@ -198,7 +199,7 @@ impl<const OFFSET_BITS: u32> EntryLedger<OFFSET_BITS> {
         while self.settle(true) {}
     }
 
-    /// Ends the unit and takes back what it did. What it made is free.
+    /// Ends the unit and takes its changes back. What it made is free.
     #[tactic(none)]
     pub fn undo(&mut self)
         ensures undoes { Undoes (entries_of OFFSET_BITS self.old) (entries_of OFFSET_BITS self.new) }
@@ -207,7 +208,7 @@ impl<const OFFSET_BITS: u32> EntryLedger<OFFSET_BITS> {
         while self.settle(false) {}
     }
 
-    /// Ends the unit for one entry that it changed. False where there is no more.
+    /// Ends the unit for one entry that it changed. Returns false if there is none left.
     #[inline(always)]
     #[tactic(none)]
     fn settle(&mut self, accepts: bool) -> bool
@@ -227,7 +228,7 @@ impl<const OFFSET_BITS: u32> EntryLedger<OFFSET_BITS> {
         true
     }
 
-    /// Counts a commit of this number: what was dropped is held, under its tag.
+    /// Records the commit with this number: what was dropped is held, with its tag.
     #[tactic(none)]
     pub fn commit(&mut self, number: u32)
         requires next { (entries_of OFFSET_BITS self.old).last + 1 ≡ number }
@@ -240,7 +241,7 @@ impl<const OFFSET_BITS: u32> EntryLedger<OFFSET_BITS> {
         self.last = number;
     }
 
-    /// Another generation is the current one.
+    /// Makes `generation` the current generation.
     #[tactic(none)]
     pub fn advance_to(&mut self, generation: u64)
         requires rises { (entries_of OFFSET_BITS self.old).generation ≤ generation }
@@ -252,7 +253,7 @@ impl<const OFFSET_BITS: u32> EntryLedger<OFFSET_BITS> {
         self.generation = generation;
     }
 
-    /// Frees the entries and the buffers that are held under a generation below `oldest`.
+    /// Frees the entries and the buffers that are held with a generation below `oldest`.
     #[tactic(none)]
     pub fn free_below(&mut self, oldest: u64)
         requires rises { (entries_of OFFSET_BITS self.old).oldest ≤ oldest }
@@ -267,7 +268,7 @@ impl<const OFFSET_BITS: u32> EntryLedger<OFFSET_BITS> {
         self.oldest = oldest;
     }
 
-    /// Opens a free buffer for entries of a width that has none to spare. It is filled from now on.
+    /// Opens a free buffer for entries of a width that has no spare entry. It becomes the buffer being filled.
     #[tactic(none)]
     pub fn open_buffer(&mut self, buffer: u32, width: u32) -> Result<(), AllocError>
         requires inside { buffer < (entries_of OFFSET_BITS self.old).count }
@@ -286,7 +287,8 @@ impl<const OFFSET_BITS: u32> EntryLedger<OFFSET_BITS> {
         Ok(())
     }
 
-    /// Marks an active buffer, which is not the filled one of its width: nothing of it is made any more.
+    /// Seals an active buffer, which must not be the one of its width that is being filled. No entry of it is made
+    /// any more.
     #[tactic(none)]
     pub fn seal(&mut self, buffer: u32)
         requires active { is_state_active ((entries_of OFFSET_BITS self.old).mark buffer).state ≡ true }
@@ -299,7 +301,7 @@ impl<const OFFSET_BITS: u32> EntryLedger<OFFSET_BITS> {
         self.buffers.seal(buffer);
     }
 
-    /// Marks a sealed buffer for hold in the next commit.
+    /// Marks a sealed buffer, so that the next commit puts it on hold.
     #[tactic(none)]
     pub fn finish(&mut self, buffer: u32)
         requires sealed { ((entries_of OFFSET_BITS self.old).mark buffer).sealed ≡ true }
@@ -327,7 +329,7 @@ impl<const OFFSET_BITS: u32> EntryLedger<OFFSET_BITS> {
     }
 }
 
-/// Counts an entry that is made: in a free place again, or in the next.
+/// Counts an entry that is made, in a free place (`again`) or in the next one.
 fn count_take(buffers: &mut Buffers, buffer: u32, again: bool)
     requires inside { buffer < length buffers.old }
     requires next { again ≡ false → (buffer_at buffers.old buffer).used + (buffer_at buffers.old buffer).width < 2 ^ 32 }
@@ -341,7 +343,7 @@ fn count_take(buffers: &mut Buffers, buffer: u32, again: bool)
     }
 }
 
-/// Counts an entry that came to this state by a drop.
+/// Counts an entry that a drop has given this state.
 fn count_drop(buffers: &mut Buffers, buffer: u32, now: State)
     requires inside { buffer < length buffers.old }
     requires dead { (buffer_at buffers.old buffer).dead + (buffer_at buffers.old buffer).width < 2 ^ 32 }
@@ -355,7 +357,7 @@ fn count_drop(buffers: &mut Buffers, buffer: u32, now: State)
     }
 }
 
-/// Counts an entry of this state that is settled.
+/// Counts an entry that had this state and is settled.
 fn count_settled(buffers: &mut Buffers, buffer: u32, accepts: bool, was: State)
     requires inside { buffer < length buffers.old }
     requires given { is_dead_after accepts was ≡ true
@@ -395,7 +397,7 @@ fn is_dropped_now(state: State) -> bool
     matches!(state, State::DroppedNow { .. })
 }
 
-/// Puts an entry on the list, where that is to be, and counts those that are not on it.
+/// Appends an entry to the list if `enters` says so, and counts the entries that are not in the list.
 fn hold<const OFFSET_BITS: u32>(
     held: &mut HoldList<OFFSET_BITS>,
     unheld: &mut u32,
@@ -413,7 +415,8 @@ fn hold<const OFFSET_BITS: u32>(
     }
 }
 
-/// Makes an entry free that was on the list, where its buffer has entries still, and answers how many are not on it then.
+/// Frees an entry that was in the list, if its buffer still has entries. Returns how many entries are then not in the
+/// list.
 fn release<const OFFSET_BITS: u32>(
     shelves: &mut Shelves,
     buffers: &mut Buffers,

@@ -1,8 +1,9 @@
-//! What each entry of a store is: not taken, free, in use, dropped or held, with the unit under way and the buffers.
+//! The state of each entry of a store (not taken, free, in use, dropped or held), with the open unit and the buffers.
 //!
-//! The entries of one buffer: which are free, which the unit under way has changed, and how it ends.
+//! A shelf holds the entries of one buffer: which are free, which the open unit changed, and how the unit ends for
+//! each.
 //!
-//! The shelves of all buffers: an entry of a width is made in a shelf that has one to spare, and a unit ends entry by entry.
+//! The shelves of all buffers choose where an entry is made, and end a unit entry by entry.
 #![tactic(auto)]
 
 mod ledger;

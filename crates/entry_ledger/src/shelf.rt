@@ -32,7 +32,7 @@ impl Model for Shelf {
         (vec_capacity s.states) (vec_capacity s.free) (vec_capacity s.touched) };
 }
 
-/// An entry that the unit changed, with its state before and after the unit's end.
+/// An entry that the unit changed, with its state before and after the end of the unit.
 #[derive(Clone, Copy, Debug, PartialEq, Eq)]
 pub struct Settled {
     pub place: u32,
@@ -46,7 +46,7 @@ impl Shelf {
     ghost use Rattle.entry_ledger.specs.States.{has_one_touched, IsOpen, Settles, with_made, with_state_at, dropped};
     ghost use Rattle.entry_ledger.specs.declared.state.State.TheVariants.{Free};
 
-    /// No entries, and no room.
+    /// Returns a shelf without entries and without reserved space.
     pub fn new(alloc: Global) -> Self
         ensures { result ≡ empty_shelf }
     {
@@ -60,7 +60,7 @@ impl Shelf {
         }
     }
 
-    /// Makes an empty shelf one of `room` entries.
+    /// Gives an empty shelf space for `room` entries.
     pub fn open(&mut self, width: u32, room: u32) -> Result<(), AllocError>
         requires { self.old ≡ empty_shelf }
         ensures ok { OnOk result (self.new ≡ record empty_shelf { width = width; room = room }) }
@@ -75,7 +75,7 @@ impl Shelf {
         Ok(())
     }
 
-    /// Leaves all entries.
+    /// Removes all entries.
     pub fn close(&mut self)
         ensures { self.new ≡ empty_shelf }
     {
@@ -93,7 +93,7 @@ impl Shelf {
         self.sealed = true;
     }
 
-    /// The words of each entry, 0 where there is no room for any.
+    /// Returns the number of words of each entry, or 0 if the shelf has no space for entries.
     pub fn width(&self) -> u32
         ensures { result ≡ self.now.width }
     {
@@ -106,7 +106,7 @@ impl Shelf {
         self.sealed
     }
 
-    /// How many entries were taken so far.
+    /// Returns the number of entries taken so far.
     pub fn taken(&self) -> u32
         ensures taken { result ≡ length self.now.states }
         ensures within { result ≤ self.now.room }
@@ -114,7 +114,7 @@ impl Shelf {
         self.states.len() as u32
     }
 
-    /// How many entries there are, taken or not.
+    /// Returns the number of entries, taken or not.
     pub fn room(&self) -> u32
         ensures room { result ≡ self.now.room }
         ensures taken { length self.now.states ≤ result }
@@ -122,42 +122,42 @@ impl Shelf {
         self.room
     }
 
-    /// The state of an entry that was taken.
+    /// Returns the state of an entry, if it was taken.
     pub fn get(&self, place: u32) -> Option<State>
         ensures { result ≡ slice_get self.now.states place }
     {
         self.states.get(place as usize).copied()
     }
 
-    /// How many entries can be made, were it not sealed.
+    /// Returns the number of entries that can be made if the shelf is not sealed.
     pub fn spare(&self) -> u32
         ensures { result ≡ spare_of self.now }
     {
         self.free.len() as u32 + (self.room - self.states.len() as u32)
     }
 
-    /// Whether an entry may be made.
+    /// Returns whether an entry may be made.
     pub fn can_make(&self) -> bool
         ensures { result ≡ can_make self.now }
     {
         !self.sealed & (self.spare() > 0)
     }
 
-    /// Whether there is an entry that can be made, were it not sealed.
+    /// Returns whether an entry can be made if the shelf is not sealed.
     pub fn has_spare(&self) -> bool
         ensures { result ≡ nat_lt 0 (spare_of self.now) }
     {
         self.free.len() > 0 || (self.states.len() as u32) < self.room
     }
 
-    /// Whether one entry alone may be made.
+    /// Returns whether exactly one entry may be made.
     pub fn has_one_spare(&self) -> bool
         ensures { result ≡ has_one_spare self.now }
     {
         self.free.len() <= 1 && self.spare() == 1 && !self.sealed
     }
 
-    /// How many entries were dropped by units that were accepted, and are not free yet.
+    /// Returns the number of entries that accepted units dropped and that are not free.
     pub fn dropped(&self) -> u32
         ensures value { result ≡ count_by is_dropped self.now.states }
         ensures few { result ≤ length self.now.states }
@@ -168,21 +168,21 @@ impl Shelf {
             .count() as u32
     }
 
-    /// Whether the unit has changed an entry.
+    /// Returns whether the unit changed an entry.
     pub fn has_touched(&self) -> bool
         ensures { result ≡ has_touched self.now }
     {
         self.touched.len() > 0
     }
 
-    /// Whether the unit has changed one entry alone.
+    /// Returns whether the unit changed exactly one entry.
     pub fn has_one_touched(&self) -> bool
         ensures { result ≡ has_one_touched self.now }
     {
         self.touched.len() == 1
     }
 
-    /// Makes an entry: a free one, else the next that was not taken. None where there is no more room.
+    /// Makes an entry: a free one, or else the next that was not taken. Returns `None` if no place is left.
     pub fn take(&mut self) -> Option<u32>
         ensures none { IsNone result ↔ (spare_of self.old ≡ 0) }
         ensures left { IfNone result (self.new ≡ self.old) }
@@ -204,7 +204,7 @@ impl Shelf {
         Some(entry)
     }
 
-    /// Drops an entry in use, and answers its state. `last` is the number of the last commit.
+    /// Drops an entry in use and returns its state. `last` is the number of the last commit.
     pub fn drop_entry(&mut self, entry: u32, last: u32) -> State
         requires there { entry < length self.old.states }
         requires used { is_used (state_at self.old.states entry) ≡ true }
@@ -223,7 +223,7 @@ impl Shelf {
         after
     }
 
-    /// Makes an entry free that was dropped.
+    /// Frees a dropped entry.
     pub fn release(&mut self, entry: u32)
         requires there { entry < length self.old.states }
         requires dropped { is_dropped (state_at self.old.states entry) ≡ true }
@@ -233,7 +233,8 @@ impl Shelf {
         self.states[entry as usize] = State::Free;
     }
 
-    /// Ends the unit for one entry that it changed: what it did is kept, or taken back. None where there is no more.
+    /// Ends the unit for one entry that it changed: keeps the change, or takes it back. Returns `None` if no changed
+    /// entry is left.
     pub fn settle(&mut self, accepts: bool, last: u32, generation: u64) -> Option<Settled>
         ensures none { IfNone result (count_by is_touched self.old.states ≡ 0) }
         ensures left { IfNone result (self.new ≡ self.old) }
@@ -248,7 +249,7 @@ impl Shelf {
     }
 }
 
-/// Appends where there is room.
+/// Appends a value, for which the list has reserved space.
 fn put<T: Drop>(list: &mut Vec<T>, value: T)
     requires { vec_len list.old < vec_capacity list.old }
     ensures items { list.new.items ≡ list.old.items ++ value ∷ [] }
@@ -257,7 +258,7 @@ fn put<T: Drop>(list: &mut Vec<T>, value: T)
     list.push_reserved(value);
 }
 
-/// Puts an entry on a stack, or leaves it as it is.
+/// Pushes an entry onto a stack if `enters` is true.
 fn enter(stack: &mut Vec<u32>, entry: u32, enters: bool)
     requires { enters ≡ true → vec_len stack.old < vec_capacity stack.old }
     ensures stack { stack.new.items ≡ (if enters then stack.old.items ++ entry ∷ [] else stack.old.items) }

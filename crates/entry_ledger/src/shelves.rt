@@ -33,7 +33,7 @@ impl Model for Shelves {
     ghost invariant = { λ s. AreShelves s.words s.shelves.items s.made.items s.filled.items s.open.items s.touched };
 }
 
-/// An entry that was made: in a place that was free, or in the next.
+/// An entry that was made, in a free place or in the next one.
 #[derive(Clone, Copy, Debug, PartialEq, Eq)]
 pub struct Taken {
     pub buffer: u32,
@@ -41,7 +41,7 @@ pub struct Taken {
     pub again: bool,
 }
 
-/// An entry that a unit changed, with its state before and after the unit's end.
+/// An entry that a unit changed, with its state before and after the end of the unit.
 #[derive(Clone, Copy, Debug, PartialEq, Eq)]
 pub struct Changed {
     pub buffer: u32,
@@ -54,7 +54,7 @@ impl Shelves {
     ghost use Rattle.std.specs.List.{slice_get};
     ghost use Rattle.entry_ledger.specs.declared.state.State.TheVariants.{Free};
 
-    /// `buffers` empty shelves, for buffers of `words` words.
+    /// Creates `buffers` empty shelves, for buffers of `words` words.
     pub fn create(alloc: Global, buffers: u32, words: u32) -> Result<Self, AllocError>
         ensures { IfOk result (λ s. s ≡ record {
           words = words;
@@ -78,7 +78,7 @@ impl Shelves {
         })
     }
 
-    /// The words of a buffer's entries, 0 where it has none.
+    /// Returns the width of a buffer's entries, or 0 if it has none.
     pub fn width(&self, buffer: u32) -> u32
         ensures { result ≡ (shelf_at self.now.shelves buffer).width }
     {
@@ -88,7 +88,7 @@ impl Shelves {
         }
     }
 
-    /// The state of an entry that was taken.
+    /// Returns the state of an entry, if it was taken.
     pub fn state(&self, buffer: u32, place: u32) -> Option<State>
         ensures { result ≡ slice_get (shelf_at self.now.shelves buffer).states place }
     {
@@ -98,7 +98,7 @@ impl Shelves {
         }
     }
 
-    /// How many entries of a buffer are not held, and were not dropped by a unit that was accepted.
+    /// Returns how many entries of a buffer are neither held nor dropped by an accepted unit.
     pub fn unheld(&self, buffer: u32) -> u32
         requires { buffer < length self.now.shelves }
         ensures { result ≡ (shelf_at self.now.shelves buffer).room - count_by is_dropped (shelf_at self.now.shelves buffer).states }
@@ -107,14 +107,14 @@ impl Shelves {
         shelf.room() - shelf.dropped()
     }
 
-    /// The words of each buffer.
+    /// Returns the number of words of each buffer.
     pub fn words(&self) -> u32
         ensures { result ≡ self.now.words }
     {
         self.words
     }
 
-    /// How often an entry of a width was made, up to the last 64-bit number.
+    /// Returns how often an entry of a width was made, at most the greatest 64-bit number.
     pub fn made(&self, width: u32) -> u64
         requires { is_width width ≡ true }
         ensures { result ≡ made_in self.now.made width }
@@ -122,7 +122,7 @@ impl Shelves {
         self.made[place_of(width)]
     }
 
-    /// The buffer of a width that was opened last.
+    /// Returns the buffer of a width that was opened last.
     pub fn filled(&self, width: u32) -> Option<u32>
         requires { is_width width ≡ true }
         ensures { result ≡ filled_at self.now.filled width }
@@ -130,7 +130,7 @@ impl Shelves {
         self.filled[place_of(width)]
     }
 
-    /// Makes an entry of a width. None where no shelf of the width has one to spare.
+    /// Makes an entry of a width. Returns `None` if no shelf of the width has a spare entry.
     pub fn take(&mut self, width: u32) -> Option<Taken>
         requires { is_width width ≡ true }
         ensures none { IsNone result ↔ (spare_of_width self.old.shelves width ≡ 0) }
@@ -155,7 +155,7 @@ impl Shelves {
         })
     }
 
-    /// Drops an entry in use, and answers its state. `last` is the number of the last commit.
+    /// Drops an entry in use and returns its state. `last` is the number of the last commit.
     pub fn drop_entry(&mut self, buffer: u32, place: u32, last: u32) -> State
         requires inside { buffer < length self.old.shelves }
         requires there { place < length (shelf_at self.old.shelves buffer).states }
@@ -174,7 +174,7 @@ impl Shelves {
         now
     }
 
-    /// Makes an entry free that was dropped.
+    /// Frees a dropped entry.
     pub fn release(&mut self, buffer: u32, place: u32)
         requires inside { buffer < length self.old.shelves }
         requires there { place < length (shelf_at self.old.shelves buffer).states }
@@ -189,7 +189,8 @@ impl Shelves {
         self.open[row].enter(buffer, enters);
     }
 
-    /// Ends the unit for one entry that it changed: what it did is kept, or taken back. None where there is no more.
+    /// Ends the unit for one entry that it changed: keeps the change, or takes it back. Returns `None` if no changed
+    /// entry is left.
     #[inline(always)]
     pub fn settle(&mut self, accepts: bool, last: u32, generation: u64) -> Option<Changed>
         ensures none { IfNone result ((b : ℕ) → count_by is_touched (shelf_at self.old.shelves b).states ≡ 0) }
@@ -214,7 +215,7 @@ impl Shelves {
         })
     }
 
-    /// Opens an empty shelf for entries of a width that has none to spare. It is filled from now on.
+    /// Opens an empty shelf for entries of a width that has no spare entry. It becomes the shelf being filled.
     pub fn open(&mut self, buffer: u32, width: u32) -> Result<(), AllocError>
         requires inside { buffer < length self.old.shelves }
         requires empty { shelf_at self.old.shelves buffer ≡ empty_shelf }
@@ -233,7 +234,7 @@ impl Shelves {
         Ok(())
     }
 
-    /// Seals a shelf, which is not the filled one of its width: nothing is made in it any more.
+    /// Seals a shelf, which must not be the one of its width that is being filled. No entry of it is made any more.
     pub fn seal(&mut self, buffer: u32)
         requires inside { buffer < length self.old.shelves }
         requires open { 0 < (shelf_at self.old.shelves buffer).width }
@@ -249,7 +250,7 @@ impl Shelves {
         }
     }
 
-    /// Leaves a sealed shelf of which the unit has changed nothing.
+    /// Removes all entries of a sealed shelf in which the unit changed nothing.
     pub fn close(&mut self, buffer: u32)
         requires inside { buffer < length self.old.shelves }
         requires sealed { (shelf_at self.old.shelves buffer).sealed ≡ true }
@@ -260,7 +261,7 @@ impl Shelves {
     }
 }
 
-/// Puts a buffer on the stack of a width, where that is to be.
+/// Pushes a buffer onto the stack of a width if `enters` is true.
 fn enter_row(stacks: &mut Vec<Stack>, width: u32, buffer: u32, enters: bool)
     requires rows { length stacks.old.items ≡ 11 }
     requires width { enters ≡ true → is_width width ≡ true }

@@ -4,7 +4,7 @@ ghost use Rattle.std.specs.Prelude.{IfSome, Some, if◌then◌else◌};
 use std::alloc::{AllocError, Global};
 use std::marker::Model;
 
-/// A stack of numbers that takes no memory once it is made.
+/// A stack of numbers that allocates no memory after its creation.
 #[derive(Drop)]
 pub struct Stack {
     list: Vec<u32>,
@@ -23,7 +23,7 @@ impl Model for Stack {
 }
 
 impl Stack {
-    /// An empty stack with room for `room` numbers.
+    /// Creates an empty stack with space for `room` numbers.
     pub fn create(alloc: Global, room: u32) -> Result<Self, AllocError>
         ensures { IfOk result (λ s. s ≡ record { list = []; room = room }) }
     {
@@ -32,7 +32,7 @@ impl Stack {
         Ok(Stack { list, room })
     }
 
-    /// The number that was put last.
+    /// Returns the number that was pushed last.
     pub fn last(&self) -> Option<u32>
         ensures none { IfNone result (self.now.list ≡ []) }
         ensures last { (x : ℕ) → result ≡ Some x → (0 < length self.now.list) × (slice_index self.now.list (length self.now.list - 1) ≡ x) }
@@ -40,7 +40,7 @@ impl Stack {
         self.list.last().copied()
     }
 
-    /// Takes the last number off, where that is to be.
+    /// Removes the last number if `leaves` is true.
     pub fn leave(&mut self, leaves: bool)
         requires { leaves ≡ true → 0 < length self.old.list }
         ensures { self.new ≡ (if leaves then record self.old { list = take (length self.old.list - 1) self.old.list } else self.old) }
@@ -50,7 +50,7 @@ impl Stack {
         }
     }
 
-    /// Puts a number on the stack, where that is to be.
+    /// Pushes a number if `enters` is true.
     pub fn enter(&mut self, number: u32, enters: bool)
         requires { enters ≡ true → length self.old.list < self.old.room }
         ensures { self.new ≡ (if enters then record self.old { list = self.old.list ++ number ∷ [] } else self.old) }
@@ -60,7 +60,7 @@ impl Stack {
         }
     }
 
-    /// Where a number stands.
+    /// Returns the position of a number.
     pub fn position(&self, number: u32) -> Option<u32>
         requires { length self.now.list < 2 ^ 32 }
         ensures none { IfNone result ((i : ℕ) → i < length self.now.list → slice_index self.now.list i ≢ number) }
@@ -75,7 +75,7 @@ impl Stack {
         None
     }
 
-    /// Takes the number at a place out.
+    /// Removes the number at a position.
     pub fn remove(&mut self, place: u32)
         requires { place < length self.old.list }
         ensures { self.new ≡ record self.old { list = remove self.old.list place } }

@@ -1,20 +1,20 @@
 ghost use Rattle.std.specs.Prelude.{◌≡◌, true};
 
-/// What an entry is.
+/// The state of a taken entry.
 #[derive(Clone, Copy, Debug, PartialEq, Eq)]
 pub enum State {
     Free,
-    /// Made and dropped by the unit under way.
+    /// Made and dropped by the open unit.
     Returned,
-    /// Made by the unit under way.
+    /// Made by the open unit.
     Made,
-    /// Made after that commit, or in it or before where it is not the last.
+    /// In use, and made while commit `after` was the last.
     InUse { after: u32 },
-    /// Made since the last commit, and dropped by the unit under way.
+    /// Made since the last commit, and dropped by the open unit.
     LetGo,
-    /// Of the last commit, and dropped by the unit under way.
+    /// In the last commit, and dropped by the open unit.
     DroppedNow { after: u32 },
-    /// Dropped after that commit, and in that generation.
+    /// Dropped after commit `after`, in this generation.
     Dropped { after: u32, generation: u64 },
 }
 
@@ -28,7 +28,7 @@ impl State {
         matches!(self, State::Free | State::Returned)
     }
 
-    /// Whether the unit's end makes it free, where it was not.
+    /// Returns whether the end of the unit frees an entry that was not free.
     pub fn is_freed(self, accepts: bool) -> bool
         ensures { result ≡ is_freed accepts self }
     {
@@ -39,7 +39,7 @@ impl State {
         }
     }
 
-    /// Of what is free: whether the unit changed it.
+    /// Returns whether the unit changed a free entry.
     pub(crate) fn is_returned(self) -> bool
         requires { is_free_state self ≡ true }
         ensures { result ≡ is_touched self }
@@ -47,7 +47,7 @@ impl State {
         matches!(self, State::Returned)
     }
 
-    /// Of what is in use: whether the unit made it.
+    /// Returns whether the unit made an entry in use.
     pub(crate) fn is_made(self) -> bool
         requires { is_used self ≡ true }
         ensures { result ≡ is_touched self }
@@ -55,14 +55,14 @@ impl State {
         matches!(self, State::Made)
     }
 
-    /// Dropped by a unit that was accepted.
+    /// Returns whether an accepted unit dropped the entry.
     pub fn is_dropped(self) -> bool
         ensures { result ≡ is_dropped self }
     {
         matches!(self, State::Dropped { .. })
     }
 
-    /// What becomes of an entry in use that is dropped.
+    /// Returns the state of an entry in use after it is dropped.
     pub(crate) fn dropped(self, last: u32) -> State
         requires { is_used self ≡ true }
         ensures { result ≡ dropped last self }
@@ -79,7 +79,7 @@ impl State {
         }
     }
 
-    /// What becomes of it when the unit is accepted.
+    /// Returns the state after the unit is accepted.
     fn accepted(self, last: u32, generation: u64) -> State
         ensures { result ≡ accepted last generation self }
     {
@@ -94,7 +94,7 @@ impl State {
         }
     }
 
-    /// What becomes of it when the unit is undone.
+    /// Returns the state after the unit is undone.
     fn undone(self, last: u32) -> State
         ensures { result ≡ undone last self }
     {

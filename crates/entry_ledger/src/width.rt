@@ -2,10 +2,10 @@ ghost use Rattle.std.specs.Prelude.{◌≡◌, ◌<◌, true};
 ghost use Rattle.store_api.specs.Ledgers.{is_width};
 ghost use Rattle.entry_ledger.specs.Shelves.{row_of};
 
-/// How many widths there are.
+/// The number of widths.
 pub const WIDTHS: usize = 11;
 
-/// The place of a width among the widths.
+/// Returns the index of a width among the widths.
 #[tactic(auto, unfolding(crate::specs::Shelves::row_of))]
 pub fn place_of(width: u32) -> usize
     requires { is_width width ≡ true }

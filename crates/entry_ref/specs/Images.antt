@@ -16,6 +16,6 @@ record_at image ref = lookup (nat_eq ref) image.records
 abbrev pub words_at : Image → Records
 words_at image = records_of image.records
 
--- these references with their words, under this root
+-- the image with these references, their words, and this root
 abbrev pub image_of : List ℕ → Records → ℕ → Image
 image_of refs m root = record { root = root; records = pairs_of refs m }

@@ -5,11 +5,11 @@ use Rattle.std.specs.Ordering.{nat_cmp}
 use Rattle.std.specs.declared.alloc.Global.{Global}
 use Rattle.entry_ref.specs.Records.{Records}
 
--- the words of a map's answer, none where it has none
+-- the words in a map's answer, or none
 abbrev pub words_of : Option (Vec ℕ Global) → List ℕ
 words_of None = []
 words_of (Some words) = words.items
 
--- the words at each reference; a number past 32 bits is none of the map's
+-- the words at each reference; a number of more than 32 bits is not in the map
 abbrev pub seen : BTreeMap ℕ (Vec ℕ Global) → Records
 seen map ref = if nat_lt ref (2 ^ 32) then words_of (get nat_cmp map ref) else []

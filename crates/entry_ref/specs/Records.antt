@@ -1,13 +1,13 @@
--- Records: which words stand at a reference, none where there is no record.
+-- Records: the words at each reference, or none if there is no record.
 use Rattle.std.specs.Prelude.{◌≡◌, ◌⊎◌, ℕ, ◌<◌, List, [], ◌∷◌, length, slice_index, slice_set, nat_eq, if◌then◌else◌}
 use Rattle.std.specs.Option.{unwrap_or}
 use Rattle.std.specs.Map.{lookup}
 
--- the words of each reference; no record is without words
+-- the words at each reference; a record has at least one word
 abbrev pub Records : Type 0
 Records = ℕ → List ℕ
 
--- the record is there with more than i words
+-- the record exists and has more than i words
 abbrev pub HasWord : Records → ℕ → ℕ → Type 0
 HasWord m r i = i < length (m r)
 
@@ -15,11 +15,11 @@ HasWord m r i = i < length (m r)
 abbrev pub word_at : Records → ℕ → ℕ → ℕ
 word_at m r i = slice_index (m r) i
 
--- the records with the words of one replaced
+-- the records after the words of one are replaced
 abbrev pub with_words : Records → ℕ → List ℕ → Records
 with_words m r ws q = if nat_eq q r then ws else m q
 
--- the records with one word replaced
+-- the records after one word is replaced
 abbrev pub with_word : Records → ℕ → ℕ → ℕ → Records
 with_word m r i w = with_words m r (slice_set (m r) i w)
 
@@ -33,7 +33,7 @@ abbrev pub AllThere : List ℕ → Records → Type 0
 AllThere [] m = Unit {0}
 AllThere (r ∷ rs) m = (0 < length (m r)) × AllThere rs m
 
--- a reference stands in a list
+-- a reference is in a list
 abbrev pub Among : ℕ → List ℕ → Type 0
 Among r [] = ⊥
 Among r (q ∷ qs) = (r ≡ q) ⊎ Among r qs
@@ -48,6 +48,6 @@ abbrev pub references_of : List (ℕ × List ℕ) → List ℕ
 references_of [] = []
 references_of (p ∷ ps) = p.0 ∷ references_of ps
 
--- pairs read as records: the first pair of a reference counts
+-- the records that pairs describe; if a reference occurs twice, its first pair counts
 abbrev pub records_of : List (ℕ × List ℕ) → Records
 records_of pairs r = unwrap_or (lookup (nat_eq r) pairs) []

@@ -1,15 +1,15 @@
 -- References: the offset of an entry in its buffer and the number of that buffer, packed into one number.
 use Rattle.std.specs.Prelude.{ℕ, ◌+◌, ◌-◌, ◌*◌, ◌/◌, ◌%◌, ◌^◌}
 
--- where `bits` of a reference's 32 bits are the offset's: offsets are below this
+-- offsets are below this, if `bits` of the 32 bits of a reference hold the offset
 abbrev pub offset_limit : ℕ → ℕ
 offset_limit bits = 2 ^ bits
 
--- and numbers of buffers below this, which have the other bits
+-- numbers of buffers are below this; they take the remaining bits
 abbrev pub buffer_limit : ℕ → ℕ
 buffer_limit bits = 2 ^ (32 - bits)
 
--- the reference of an offset of a buffer
+-- the reference of an offset in a buffer
 abbrev pub packed : ℕ → ℕ → ℕ → ℕ
 packed bits offset buffer = offset * buffer_limit bits + buffer
 

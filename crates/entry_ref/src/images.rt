@@ -1,4 +1,4 @@
-//! Images: the records that a root reaches, where their words stand, and the layouts that read them.
+//! Images: the records that a root reaches, the places of their words, and the layouts that interpret them.
 #![tactic(auto)]
 
 ghost use Rattle.std.specs.Prelude.{◌≡◌, ◌<◌, ◌≤◌, ℕ, List, [], length};
@@ -11,13 +11,13 @@ ghost use Rattle.entry_ref.specs.declared.images.Image.{Image};
 use crate::EntryRef;
 use std::collections::LinkedList;
 
-/// A root and the records that it reaches, each a reference with its words.
+/// A root and the records that it reaches, each as a reference with its words.
 pub struct Image {
     pub root: u64,
     pub records: LinkedList<(u64, LinkedList<u64>)>,
 }
 
-/// Which records a root reaches, and when they are lawful; the first number is a shape.
+/// A layout says which records a root reaches, and which images are lawful. The first number is a shape.
 pub trait Layout {
     ghost reaches: { ℕ → Records → ℕ → List ℕ };
 
@@ -28,15 +28,15 @@ pub trait Layout {
 
     ghost empty_lawful: { (shape : ℕ) (m : Records) → lawful shape m 0 };
 
-    // what is lawful reaches only records that are there
+    // a lawful root reaches only records that exist
     ghost present: { (shape : ℕ) (m : Records) (root : ℕ) → lawful shape m root → AllThere (reaches shape m root) m };
 
-    // it stays so, with the same reach, in all records that have the same words there
+    // lawfulness and reach depend on the words of the reached records alone
     ghost stays: { (shape : ℕ) (m n : Records) (root : ℕ) → SameAt (reaches shape m root) m n
         → lawful shape m root → lawful shape n root × (reaches shape n root ≡ reaches shape m root) };
 }
 
-/// Where word `i` of an entry of `width` words stands, in a table of `buffers` buffers of `words` words.
+/// Returns the place of word `i` of an entry of `width` words, in a table of `buffers` buffers of `words` words each.
 pub fn place_of<const OFFSET_BITS: u32>(
     buffers: u32,
     words: u32,
@@ -52,14 +52,14 @@ pub fn place_of<const OFFSET_BITS: u32>(
     base + entry.offset() as u64 * width as u64 + i as u64
 }
 
-/// Two words at one place are one word of one entry, where each buffer has one width.
+/// If each buffer has one width, two words with the same place are the same word of the same entry.
 pub fn places_law()
     ensures { (bits buffers words v w r q i j : ℕ) → IsEntry bits buffers words v r → IsEntry bits buffers words w q
         → (buffer_of bits r ≡ buffer_of bits q → v ≡ w) → i < v → j < w
         → place bits buffers words v r i ≡ place bits buffers words w q j → (r ≡ q) × (i ≡ j) }
 {}
 
-/// An image of references holds just these, each with its words.
+/// An image of given references has exactly these records, each with its words.
 pub fn images_law()
     ensures references { (rs : List ℕ) (m : Records) (root : ℕ) → references_of (image_of rs m root).records ≡ rs }
     ensures words { (rs : List ℕ) (m : Records) (root : ℕ) → SameAt rs m (words_at (image_of rs m root)) }

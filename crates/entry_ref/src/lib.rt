@@ -1,4 +1,5 @@
-//! References to entries: 32 bits, of which the high ones are an offset in a buffer and the low ones the buffer's number.
+//! References to entries. A reference has 32 bits: the high bits are an offset in a buffer, the low bits the number
+//! of the buffer.
 #![tactic(auto)]
 
 mod images;
@@ -11,8 +12,8 @@ pub use images::{Image, Layout, images_law, place_of, places_law};
 pub use maps::{word_in, words_at};
 use std::marker::Model;
 
-/// An entry of a buffer, as the offset in its high `OFFSET_BITS` bits and the buffer in the others. Contracts
-/// see the number; 0 names no entry.
+/// A reference to an entry of a buffer. The offset is in the high `OFFSET_BITS` bits and the buffer in the others.
+/// Contracts see the packed number. 0 refers to no entry.
 #[derive(Clone, Copy, PartialEq, Eq, Debug, Drop)]
 pub struct EntryRef<const OFFSET_BITS: u32> {
     raw: u32,
@@ -62,7 +63,7 @@ impl<const OFFSET_BITS: u32> EntryRef<OFFSET_BITS> {
         (self.raw as u64 % buffers(OFFSET_BITS)) as u32
     }
 
-    /// Whether the reference names an entry: all but 0 do.
+    /// Returns whether the reference names an entry, that is, whether it is not 0.
     pub fn valid(self) -> bool
         ensures { IsTrue result ↔ (0 < self.entry) }
     {
@@ -70,7 +71,7 @@ impl<const OFFSET_BITS: u32> EntryRef<OFFSET_BITS> {
     }
 }
 
-/// How many buffers can be named, where the offset has `offset_bits` of the 32 bits.
+/// Returns the number of buffers that a reference can name if `offset_bits` of its 32 bits hold the offset.
 fn buffers(offset_bits: u32) -> u64
     ensures { result ≡ buffer_limit offset_bits }
 {

@@ -3,7 +3,7 @@ ghost use Rattle.entry_ref.specs.Maps.{seen};
 
 use std::collections::BTreeMap;
 
-/// The words at a reference, none where there is no record.
+/// Returns the words of the record at `reference`, or an empty slice if there is no record.
 pub fn words_at(records: &BTreeMap<u32, Vec<u64>>, reference: u64) -> &[u64]
     ensures words { result.now ≡ seen records.now reference }
 {
@@ -16,7 +16,7 @@ pub fn words_at(records: &BTreeMap<u32, Vec<u64>>, reference: u64) -> &[u64]
     }
 }
 
-/// A word of a record, 0 past its end.
+/// Returns word `i` of a record, or 0 past its end.
 pub fn word_in(words: &[u64], i: usize) -> u64
     ensures { result ≡ slice_index words.now i }
 {

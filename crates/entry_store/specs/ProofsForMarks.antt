@@ -1,4 +1,4 @@
--- Nobody has to read this: lemmas that the proofs of the laws of `Store` cite.
+-- Lemmas that the proofs of the laws of `Store` cite. They are proofs, not part of the specification.
 -- The buffers of the entries are those of the work.
 use Rattle.std.proofs.Common.{◌≡◌, ℕ, zero, suc, ◌+◌, ◌<◌, Bool, true, false, cond, eqb, ltb, Option, Some, refl, sym, ap, subst, ◌∙◌}
 use Rattle.std.proofs.Common.{arith}
@@ -62,7 +62,7 @@ mark-held mark (Buffer.active w t) is = ap is_on_hold
     (state-active mark.state (and_parts (is_state_active mark.state) (eqb mark.width w) is).0)
 mark-held mark (Buffer.held w t) is = ap is_on_hold (state-held mark.state (and_parts (is_on_hold mark.state) _ is).0)
 
--- counts of marks are those of the buffers
+-- counts of marks agree with those of the buffers
 pub count-free : (mark : ℕ → Mark) (buffer : ℕ → Buffer) (n : ℕ) → ((b : ℕ) → b < n → is_mark_of (mark b) (buffer b) ≡ true)
     → count_marks is_state_free mark n ≡ free_count buffer n
 count-free mark buffer zero all = refl
@@ -128,7 +128,7 @@ marks-retired mark buffer b tag a is here active = by_test (eqb a b)
         (eq-eqb tag.generation tag.generation refl)
     by_test false = is
 
--- what is tagged below a generation is free
+-- what is tagged below a generation becomes free
 freed-below : (below : Bool) (mark : Mark) (w : ℕ) (t : Tag) → is_mark_of mark (Buffer.held w t) ≡ true
     → is_mark_of (cond below free_mark mark) (cond below (Buffer.free (Some t)) (Buffer.held w t)) ≡ true
 freed-below true mark w t is = refl
@@ -153,7 +153,7 @@ marks-freed oldest mark (Buffer.held w t) is =
     ≡ true) (sym same)
     (freed-below (ltb t.generation oldest) mark w t is))
 
--- on hold after a reclaim is what was
+-- a reclaim puts no buffer on hold
 pub held-freed : (oldest : ℕ) (b : Buffer) → is_held b ≡ false → is_held (freed_below oldest b) ≡ false
 held-freed oldest (Buffer.free t) h = refl
 held-freed oldest (Buffer.active w t) h = refl

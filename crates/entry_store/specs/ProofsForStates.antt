@@ -1,5 +1,5 @@
--- Nobody has to read this: lemmas that the proofs of the laws of `Store` cite.
--- What becomes of the statuses of entries where their states change.
+-- Lemmas that the proofs of the laws of `Store` cite. They are proofs, not part of the specification.
+-- How statuses change when the states of entries change.
 use Rattle.std.proofs.Common.{◌≡◌, ◌⊎◌, ℕ, ◌≤◌, ◌+◌, Bool, true, false, cond, eqb, ltb, Option, Some, None, refl, sym, ap, subst, ◌∙◌}
 use Rattle.std.proofs.Common.{arith, inl, inr, not, option_map}
 use Rattle.std.specs.Prelude.{◌||◌}
@@ -15,7 +15,7 @@ use Rattle.entry_ledger.specs.Entries.{EntriesView, is_timely, is_open_entry, is
 use Rattle.entry_ledger.specs.Calls.{with_state, freed}
 use Rattle.entry_store.specs.Standing.{status_by, status_of, back_of, is_in_generation, AreSoundStatuses}
 
--- of a new status and an old one: whether all that is asked of the new one's records was asked of the old one's
+-- the first implies the second: the conditions on a new status were conditions on the old one
 abbrev pub implies : Bool → Bool → Bool
 implies true b = b
 implies false b = true
@@ -42,7 +42,7 @@ less : {new old : Status} → implies (has_record new) (has_record old) ≡ true
     → is_held_status new ≡ false → IsWeaker new old
 less a b c d = inr (record { has = a; uncommitted = b; committed = c; unheld = d })
 
--- what is so of weaker statuses
+-- what holds of weaker statuses
 pub sound-weaker : {H : Type 0} (bits : ℕ) (work : WorkView H) (m : Records) (s t : ℕ → Status) → AreSoundStatuses bits work m s
     → ((q : ℕ) → IsWeaker (t q) (s q)) → AreSoundStatuses bits work m t
 sound-weaker bits work m s t sound weaker = record {
@@ -125,7 +125,7 @@ dropped-status has last LetGo h = absurd (false≢true h)
 dropped-status has last (DroppedNow after) h = absurd (false≢true h)
 dropped-status has last (Dropped after g) h = absurd (false≢true (in-use-used-held (eqb after last) _ h))
 
--- an undo gives back what it would have given
+-- an undo restores the same state after a drop as before it
 pub dropped-back : (last : ℕ) (s : State) → is_used s ≡ true → undone last (dropped last s) ≡ undone last s
 dropped-back last Free used = refl
 dropped-back last Returned used = refl
@@ -195,7 +195,7 @@ undone-since last generation (Some LetGo) h = refl
 undone-since last generation (Some (DroppedNow after)) h = refl
 undone-since last generation (Some (Dropped after g)) h = h
 
--- what no unit has changed stays through an undo
+-- an undo does not change what the unit has not changed
 pub untouched : (last : ℕ) (o : Option State) → is_settled_entry o ≡ true → option_map (undone last) o ≡ o
 untouched last None h = refl
 untouched last (Some Free) h = refl
@@ -362,7 +362,7 @@ free-use true has generation = refl
 free-use false true generation = refl
 free-use false false generation = refl
 
--- what was dropped since the last commit is tagged at the current generation, and so is not freed
+-- what was dropped since the last commit is tagged with the current generation, and so is not freed
 since-above : (last current after g generation : ℕ) → is_in_generation last current (Some (Dropped after g)) ≡ true → generation ≤ current
     → eqb after last ≡ true → ltb g generation ≡ false
 since-above last current after g generation h low e = elim (cases_Bool (ltb g generation)) [
@@ -390,7 +390,7 @@ freed-status has last current generation (Some (Dropped after g)) since low =
     ∙ sym (below-dropped (eqb after last) (ltb g generation) g after generation
     (since-above last current after g generation since low) refl)
 
--- it is the same of what an undo gives back
+-- the same holds for what an undo restores
 freed-undone-dropped : (below : Bool) (last after g : ℕ)
     → option_map (undone last) (Some (cond below Free (Dropped after g))) ≡ Some (cond below Free (Dropped after g))
 freed-undone-dropped true last after g = refl

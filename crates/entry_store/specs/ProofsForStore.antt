@@ -1,4 +1,5 @@
--- Nobody has to read this: proofs of the laws of `Store`, which an implementation can cite from specs/ alone.
+-- Proofs of the laws of `Store`. They are in specs/ since an implementation can cite laws only from there; they are
+-- not part of the specification.
 use Rattle.std.proofs.Common.{◌≡◌, ℕ, zero, suc, ◌+◌, ◌*◌, ◌/◌, ◌<◌, ◌≤◌, Bool, true, false, cond, eqb, List, [], ◌∷◌, length, Option}
 use Rattle.std.proofs.Common.{Some, None, refl, sym, ap, subst, ◌∙◌, arith}
 use Rattle.std.specs.List.{IsDistinct, All, AllByRecursion}
@@ -26,7 +27,7 @@ use Rattle.entry_store.specs.Standing.{Stands, status_of, back_of, statuses, bac
 use Rattle.entry_store.specs.ProofsForMarks.{mark-width, count-free}
 use Rattle.entry_store.specs.ProofsForStates.{open-state, unmade-none, untouched}
 
--- a record that is filtered by its status is there
+-- a record that passes the filter by status exists
 pub some_filtered : (t : Bool) (ws : List ℕ) → 0 < length (cond t ws []) → (t ≡ true) × (0 < length ws)
 some_filtered true ws h = (refl, h)
 some_filtered false ws h = absurd (omega arith)
@@ -41,7 +42,7 @@ committed-has Status.let_go h = refl
 committed-has (Status.held tag) h = h
 committed-has Status.left h = h
 
--- an entry in use before the unit under way has a record, then and now
+-- an entry that was in use before the open unit has a record, then and now
 use-has : (c : Status) → in_use c ≡ true → has_record c ≡ true
 use-has Status.unmade h = h
 use-has Status.free h = h
@@ -102,7 +103,7 @@ module _ {H : Type 0} (bits : ℕ) (work : WorkView H) (m : Records) (e : Entrie
   abbrev records : Records
   records r = cond (has_record (statuses work.commits e r)) (m r) []
 
-  -- an entry of the entries is one of the work
+  -- an entry of the ledger is an entry of the work
   pub entry-inside : (r : ℕ) (s : State) → e.state r ≡ Some s
       → IsEntry bits work.sizes.buffers work.sizes.words (active_width (work.buffer (buffer_of bits r))) r
   entry-inside r s is =
@@ -143,7 +144,7 @@ module _ {H : Type 0} (bits : ℕ) (work : WorkView H) (m : Records) (e : Entrie
   width-of : (b : ℕ) → b < work.sizes.buffers → width_of e b ≡ active_width (work.buffer b)
   width-of b below = mark-width (e.mark b) (work.buffer b) (st.marks b below)
 
-  -- an entry of an active buffer of the work is one of the entries
+  -- an entry of an active buffer of the work is an entry of the ledger
   entry-of : (r : ℕ) → IsEntryOf bits work r → IsEntry bits e.count e.words (width_of e (buffer_of bits r)) r
   entry-of r entry =
       subst (λ n. IsEntry bits n e.words (width_of e (buffer_of bits r)) r) (sym st.count)

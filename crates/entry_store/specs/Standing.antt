@@ -1,4 +1,4 @@
--- What a store shows of its work and its entries, and what is always so of them.
+-- How a store sees its work and its entries, and the invariant between them.
 use Rattle.std.specs.Prelude.{◌≡◌, ℕ, ◌+◌, ◌<◌, ◌≤◌, Bool, true, false, ◌&&◌, ◌||◌, not, nat_eq, if◌then◌else◌, List, []}
 use Rattle.std.specs.Prelude.{length, Option, Some, None, option_map}
 use Rattle.entry_ref.specs.References.{buffer_of}
@@ -20,7 +20,7 @@ use Rattle.entry_ledger.specs.Calls.{CanTake, made_at}
 abbrev pub tag_at : ℕ → ℕ → Tag
 tag_at generation after = record { generation = generation; commit = after + 1 }
 
--- the status of an entry by its state, where this is the last commit, which has the entry or not
+-- the status of an entry by its state, the last commit, and whether that has the entry
 abbrev pub status_by : Bool → ℕ → State → Status
 status_by has last Free = Status.free
 status_by has last Returned = Status.free
@@ -34,18 +34,18 @@ abbrev pub status_of : Bool → ℕ → Option State → Status
 status_of has last None = Status.unmade
 status_of has last (Some state) = status_by has last state
 
--- the status that an undo gives back
+-- the status that an undo restores
 abbrev pub back_of : Bool → ℕ → Option State → Status
 back_of has last state = status_of has last (option_map (undone last) state)
 
--- of all entries, where these are the commits
+-- the statuses of all entries, for these commits
 abbrev pub statuses : Commits → EntriesView → ℕ → Status
 statuses commits e r = status_of (is_in (last_image commits) r) e.last (e.state r)
 
 abbrev pub backs : Commits → EntriesView → ℕ → Status
 backs commits e r = back_of (is_in (last_image commits) r) e.last (e.state r)
 
--- the records of these statuses
+-- the records by these statuses
 abbrev pub records_by_status : (ℕ → Status) → Records → Records
 records_by_status status m r = if has_record (status r) then m r else []
 
@@ -64,13 +64,13 @@ ledger_of bits work shape m e unit = record {
   finished = e.finished;
 }
 
--- a buffer of the entries is that of the work
+-- the mark of a buffer agrees with the buffer of the work
 abbrev pub is_mark_of : Mark → Buffer → Bool
 is_mark_of mark (Buffer.free tag) = is_state_free mark.state
 is_mark_of mark (Buffer.active width tag) = is_state_active mark.state && nat_eq mark.width width
 is_mark_of mark (Buffer.held width tag) = is_on_hold mark.state && (nat_eq mark.width width && nat_eq mark.generation tag.generation)
 
--- no commit that is kept, from the tag's on, has the entry, and readers of later generations have such commits alone
+-- no kept commit from the tag's on has the entry, and readers of later generations have only such commits
 pub record IsOut (commits : Commits) (queue : List Hold) (tag : Tag) (r : ℕ) : Type 0 where
   pub unused : (n : ℕ) → IsKept commits n → tag.commit ≤ n → words_at (commits.image n) r ≡ []
   pub later : all_later tag queue ≡ true
@@ -82,7 +82,7 @@ is_in_generation last generation None = true
 is_in_generation last generation (Some (Dropped after g)) = not (nat_eq after last) || nat_eq g generation
 is_in_generation last generation (Some state) = true
 
--- what the statuses of entries say of the records and of the commits
+-- what the statuses of entries imply for the records and the commits
 pub record AreSoundStatuses {H : Type 0} (bits : ℕ) (work : WorkView H) (m : Records) (status : ℕ → Status) : Type 0 where
   pub there : (r : ℕ) → has_record (status r) ≡ true → 0 < length (m r)
   pub committed : (r : ℕ) → is_committed (status r) ≡ true → m r ≡ words_at (last_image work.commits) r
@@ -90,7 +90,7 @@ pub record AreSoundStatuses {H : Type 0} (bits : ℕ) (work : WorkView H) (m : R
       → is_uncommitted (status r) ≡ true → InNoCommit work.commits r
   pub out : (r : ℕ) (tag : Tag) → status r ≡ Status.held tag → IsOut work.commits work.queue tag r
 
--- the work and the entries are of one store, but that the oldest holds may have been closed since
+-- the work and the entries belong to one store, except that the oldest holds may have been closed since
 pub record IsOver {H : Type 0} (bits : ℕ) (work : WorkView H) (m : Records) (e : EntriesView) (unit : Bool) : Type 0 where
   pub good : IsGood bits e
   pub count : e.count ≡ work.sizes.buffers
@@ -103,7 +103,7 @@ pub record IsOver {H : Type 0} (bits : ℕ) (work : WorkView H) (m : Records) (e
   pub settled : unit ≡ false → (r : ℕ) → is_settled_entry (e.state r) ≡ true
   pub no_fresh : unit ≡ false → (w : ℕ) → (e.of_width w).fresh ≡ 0
 
--- the work and the entries are of one store
+-- the work and the entries belong to one store
 pub record Stands {H : Type 0} (bits : ℕ) (work : WorkView H) (m : Records) (e : EntriesView) (unit : Bool) : Type 0 where
   pub good : IsGood bits e
   pub count : e.count ≡ work.sizes.buffers
@@ -114,7 +114,7 @@ pub record Stands {H : Type 0} (bits : ℕ) (work : WorkView H) (m : Records) (e
   pub marks : (b : ℕ) → b < work.sizes.buffers → is_mark_of (e.mark b) (work.buffer b) ≡ true
   pub sound : AreSoundStatuses bits work m (statuses work.commits e)
   pub since : (r : ℕ) → is_in_generation e.last e.generation (e.state r) ≡ true
-  -- where no unit is under way, none has changed an entry
+  -- if no unit is open, no unit has changed an entry
   pub settled : unit ≡ false → (r : ℕ) → is_settled_entry (e.state r) ≡ true
   pub no_fresh : unit ≡ false → (w : ℕ) → (e.of_width w).fresh ≡ 0
   -- each generation ended with a commit

@@ -1,4 +1,4 @@
--- The steps of which the calls of a store are made, by its ledger.
+-- The steps of the calls of a store, by its ledger.
 use Rattle.std.specs.Prelude.{◌≡◌, ◌≢◌, ℕ, ◌+◌, ◌<◌, ◌≤◌, true, false, ◌&&◌, not, if◌then◌else◌, List, [], length, Option, None, Some}
 use Rattle.entry_ref.specs.References.{buffer_of}
 use Rattle.entry_ref.specs.declared.images.Image.{Image}
@@ -20,7 +20,7 @@ use Rattle.store_api.specs.declared.store.StoreError.TheVariants.{Full, Memory}
 use Rattle.entry_ledger.specs.Entries.{EntriesView}
 use Rattle.entry_ledger.specs.Calls.{retired_at}
 
--- an entry is made of what its width has to spare
+-- a spare entry of the width is made
 pub record TakesOne {H : Type 0} (bits : ℕ) (old new : Ledger H) (m n : Records) (width : ℕ) (words : List ℕ) (r : ℕ) : Type 0 where
   pub was : is_open (old.status r) ≡ true
   pub free_first : old.status r ≡ Status.unmade → (q : ℕ) → active_width (old.work.buffer (buffer_of bits q)) ≡ width
@@ -50,13 +50,13 @@ pub record OpensBuffer {H : Type 0} (old new : Ledger H) (width : ℕ) : Type 0 
   })
   pub same : new ≡ record old { work = new.work; of_width = new.of_width }
 
--- an entry is made of a buffer that is handed out for it
+-- a buffer is handed out, and an entry is made in it
 pub record MakesOpened {H : Type 0} (bits : ℕ) (old new : Ledger H) (m n : Records) (width : ℕ) (words : List ℕ) (r : ℕ) : Type 0 where
   pub opened : Ledger H
   pub opens : OpensBuffer old opened width
   pub takes : TakesOne bits opened new m n width words r
 
--- what a reclaim answers of the oldest hold that is left
+-- what a reclaim returns about the oldest hold that is left
 pub record TellsOldest {H : Type 0} (old new : WorkView H) (oldest : Oldest) : Type 0 where
   pub generation : oldest.generation ≡ (oldest_of new.queue).generation
   pub hold : oldest.hold ≡ (oldest_of new.queue).hold
@@ -71,7 +71,7 @@ FullAs work width oldest (Full w active held answer) =
     × (held ≡ held_count work.buffer work.sizes.buffers) × (answer ≡ oldest)
 FullAs work width oldest Memory = Unit {0}
 
--- a commit is published, and counted
+-- a commit is published and recorded
 pub record Publishes {H : Type 0} (old new : Ledger H) (image : Image) (number : ℕ) : Type 0 where
   pub number_is : number ≡ old.work.commits.last + 1
   pub adds : AddsCommit old.work.commits new.work.commits image
@@ -79,7 +79,8 @@ pub record Publishes {H : Type 0} (old new : Ledger H) (image : Image) (number :
   pub status : (r : ℕ) → new.status r ≡ after_commit (tag_now new.work) (is_in image r) (old.status r)
   pub same : new ≡ record old { work = new.work; status = new.status; back = new.back; back_records = new.back_records }
 
--- the end of a commit: the finished buffer goes on hold, the generation is advanced, and what no reader can have is given back
+-- the end of a commit: the finished buffer goes on hold, the generation advances, and what no reader can reach is
+-- reclaimed
 pub record EndsCommit {H : Type 0} (bits : ℕ) (old new : Ledger H) (answer : Stored) : Type 0 where
   pub next : WorkView H
   pub advances : Advances answer.advance (with_hold old.work old.finished) next
@@ -103,7 +104,7 @@ abbrev pub retired_by : ℕ → EntriesView → Option ℕ → EntriesView
 retired_by bits e None = e
 retired_by bits e (Some b) = retired_at bits e b
 
--- the generation that an advance leaves current
+-- the current generation after an advance
 abbrev pub generation_by : Advance → ℕ → ℕ
 generation_by (To generation hold) now = generation
 generation_by (NoHold holds found) now = now

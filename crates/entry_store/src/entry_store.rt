@@ -29,18 +29,18 @@ pub struct EntryStore<const OFFSET_BITS: u32, W: Work<OFFSET_BITS>> {
     work: W,
     entries: EntryLedger<OFFSET_BITS>,
     unit: bool,
-    // it stands over the work
+    // the store and the work agree
     ghost stands: { Stands OFFSET_BITS (W.knows work) (W.records work) (entries_of OFFSET_BITS entries) unit },
 }
 
-/// Out of memory: there is no store, and the work is given back.
+/// Out of memory: no store was made, and the work is returned.
 #[derive(Drop)]
 pub struct NoMemory<W> {
     pub work: W,
 }
 
 impl<const OFFSET_BITS: u32, W: Work<OFFSET_BITS>> EntryStore<OFFSET_BITS, W> {
-    /// A store over a work of which nothing is committed or handed out yet.
+    /// Creates a store over a work in which nothing is committed or handed out.
     pub fn create(alloc: Global, work: W) -> Result<Self, NoMemory<W>>
         requires { IsFresh (W.knows work) }
         ensures new { IfOk result (λ s. IsNew (⟦<EntryStore<OFFSET_BITS, W> as Store<OFFSET_BITS>>⟧.ledger s)) }
@@ -59,7 +59,7 @@ impl<const OFFSET_BITS: u32, W: Work<OFFSET_BITS>> EntryStore<OFFSET_BITS, W> {
         }
     }
 
-    /// The work, with all that was committed.
+    /// Returns the work, with all that was committed.
     pub fn into_work(self) -> W
         ensures knows { W.knows result ≡ (⟦<EntryStore<OFFSET_BITS, W> as Store<OFFSET_BITS>>⟧.ledger self).work }
         ensures records { (r : ℕ) → 0 < length (⟦<EntryStore<OFFSET_BITS, W> as Frozen<OFFSET_BITS>>⟧.records self r)
@@ -69,7 +69,7 @@ impl<const OFFSET_BITS: u32, W: Work<OFFSET_BITS>> EntryStore<OFFSET_BITS, W> {
         self.work
     }
 
-    /// How often an entry of this width was made, up to the last 64-bit number.
+    /// Returns how often an entry of this width was made, at most the greatest 64-bit number.
     pub fn made(&self, width: u32) -> u64
         requires { is_width width ≡ true }
         ensures { result ≡ ((⟦<EntryStore<OFFSET_BITS, W> as Store<OFFSET_BITS>>⟧.ledger self.now).of_width width).made }
@@ -77,7 +77,7 @@ impl<const OFFSET_BITS: u32, W: Work<OFFSET_BITS>> EntryStore<OFFSET_BITS, W> {
         self.entries.made(width)
     }
 
-    /// Gives back what no reader can have, and answers the oldest open hold.
+    /// Reclaims what no reader can reach, and returns the oldest open hold.
     fn reclaim(&mut self) -> Oldest
         ensures tells { TellsOldest (W.knows self.old.work) (W.knows self.new.work) result }
         ensures gives { GivesBack (⟦<EntryStore<OFFSET_BITS, W> as Store<OFFSET_BITS>>⟧.ledger self.old)
@@ -90,7 +90,7 @@ impl<const OFFSET_BITS: u32, W: Work<OFFSET_BITS>> EntryStore<OFFSET_BITS, W> {
         oldest
     }
 
-    /// Makes an entry where the width has one to spare.
+    /// Makes an entry if the width has a spare one.
     fn make_spare(&mut self, width: u32, words: &[u64]) -> Option<EntryRef<OFFSET_BITS>>
         requires unit { self.old.unit ≡ true }
         requires width { is_width width ≡ true }
@@ -113,7 +113,7 @@ impl<const OFFSET_BITS: u32, W: Work<OFFSET_BITS>> EntryStore<OFFSET_BITS, W> {
         }
     }
 
-    /// Hands out a buffer for entries of a width that has none to spare.
+    /// Hands out a buffer for entries of a width that has no spare entry.
     fn open_buffer(&mut self, width: u32, oldest: Oldest) -> Result<(), StoreError>
         requires width { is_width width ≡ true }
         requires spare { ((⟦<EntryStore<OFFSET_BITS, W> as Store<OFFSET_BITS>>⟧.ledger self.old).of_width width).spare ≡ 0 }
@@ -143,7 +143,7 @@ impl<const OFFSET_BITS: u32, W: Work<OFFSET_BITS>> EntryStore<OFFSET_BITS, W> {
         }
     }
 
-    /// Hands out a buffer, and makes an entry of it.
+    /// Hands out a buffer, and makes an entry in it.
     fn make_opened(
         &mut self,
         width: u32,
@@ -177,7 +177,7 @@ impl<const OFFSET_BITS: u32, W: Work<OFFSET_BITS>> EntryStore<OFFSET_BITS, W> {
         }
     }
 
-    /// Makes an entry where the width has none to spare: after a reclaim, else of a new buffer.
+    /// Makes an entry of a width that has no spare one: after a reclaim, or else in a new buffer.
     #[cold]
     #[inline(never)]
     fn make_again(&mut self, width: u32, words: &[u64]) -> Result<EntryRef<OFFSET_BITS>, StoreError>
@@ -208,7 +208,7 @@ impl<const OFFSET_BITS: u32, W: Work<OFFSET_BITS>> EntryStore<OFFSET_BITS, W> {
         }
     }
 
-    /// Publishes what the root reaches, and counts the commit.
+    /// Publishes the records that the root reaches, and records the commit.
     fn publish(&mut self, root: EntryRef<OFFSET_BITS>) -> u32
         requires unit { self.old.unit ≡ false }
         requires lawful { W.Layout.lawful (⟦<EntryStore<OFFSET_BITS, W> as Frozen<OFFSET_BITS>>⟧.shape self.old)
@@ -234,7 +234,7 @@ impl<const OFFSET_BITS: u32, W: Work<OFFSET_BITS>> EntryStore<OFFSET_BITS, W> {
         commit
     }
 
-    /// Puts the finished buffer on hold, advances the generation, and gives back what no reader can have.
+    /// Puts the finished buffer on hold, advances the generation, and reclaims what no reader can reach.
     fn end_commit(&mut self, commit: u32) -> Stored
         requires unit { self.old.unit ≡ false }
         requires records { ⟦<EntryStore<OFFSET_BITS, W> as Frozen<OFFSET_BITS>>⟧.records self.old ≡ words_at (last_image
@@ -264,7 +264,7 @@ impl<const OFFSET_BITS: u32, W: Work<OFFSET_BITS>> EntryStore<OFFSET_BITS, W> {
     }
 }
 
-/// Puts the finished buffer, if there is one, on hold.
+/// Puts the finished buffer on hold, if there is one.
 fn retire_finished<const OFFSET_BITS: u32, W: Work<OFFSET_BITS>>(
     work: &mut W,
     entries: &mut EntryLedger<OFFSET_BITS>,

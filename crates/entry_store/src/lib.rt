@@ -1,4 +1,4 @@
-//! A store of entries over any work: what each entry is, and its words.
+//! A store of entries over any work: the status of each entry, and its words.
 #![tactic(auto)]
 
 mod entry_store;

@@ -18,8 +18,8 @@ use frozen_btree::{insert, remove as remove_pair};
 use store_api::{Store, StoreError};
 use tree_read::NODE_WORDS;
 
-/// Sets the record that is a value's key, and the word of its list. Where the value is there already, this record
-/// is its key from then on, and the old one is the caller's. The answer is the root of the new dictionary.
+/// Sets the record that is a value's key, and the word of its posting list. If the value exists already, this record
+/// becomes its key, and the caller owns the old record. Returns the root of the new dictionary.
 pub fn set<const OFFSET_BITS: u32, S: Store<OFFSET_BITS>>(
     store: &mut S,
     root: EntryRef<OFFSET_BITS>,
@@ -48,8 +48,8 @@ pub fn set<const OFFSET_BITS: u32, S: Store<OFFSET_BITS>>(
     }
 }
 
-/// Removes a value that is there. Its key's record is the caller's then. The answer is the root of the new dictionary,
-/// 0 where no value is left.
+/// Removes a value that exists. The caller then owns the record of its key. Returns the root of the new dictionary,
+/// or 0 if no value is left.
 pub fn remove<const OFFSET_BITS: u32, S: Store<OFFSET_BITS>>(
     store: &mut S,
     root: EntryRef<OFFSET_BITS>,

@@ -12,7 +12,7 @@ use entry_ref::EntryRef;
 use frozen_btree::Cursor;
 use unique_store::compare;
 
-/// Before the first value that is not below this one.
+/// Returns a cursor before the first value that is not below this one.
 pub fn lower<const OFFSET_BITS: u32, F: Frozen<OFFSET_BITS>>(
     frozen: &mut F,
     root: EntryRef<OFFSET_BITS>,
@@ -31,7 +31,7 @@ pub fn lower<const OFFSET_BITS: u32, F: Frozen<OFFSET_BITS>>(
     }
 }
 
-/// Before the first value above this one.
+/// Returns a cursor before the first value above this one.
 pub fn upper<const OFFSET_BITS: u32, F: Frozen<OFFSET_BITS>>(
     frozen: &mut F,
     root: EntryRef<OFFSET_BITS>,

@@ -11,14 +11,14 @@ use attr_types::Value;
 use entry_ref::EntryRef;
 use frozen_btree::find as find_pair;
 
-/// What stands at a value: the record that is its key, and the word of its list.
+/// The entry of a value: the record that is its key, and the word of its posting list.
 #[derive(Clone, Copy, Debug, PartialEq, Eq, Drop)]
 pub struct DictEntry<const OFFSET_BITS: u32> {
     pub key: EntryRef<OFFSET_BITS>,
     pub posting: u64,
 }
 
-/// The pair at a value.
+/// Returns the pair of a value.
 fn pair_of<const OFFSET_BITS: u32, F: Frozen<OFFSET_BITS>>(
     frozen: &mut F,
     root: EntryRef<OFFSET_BITS>,
@@ -34,7 +34,7 @@ fn pair_of<const OFFSET_BITS: u32, F: Frozen<OFFSET_BITS>>(
     }
 }
 
-/// The entry of a value, where it is there.
+/// Returns the entry of a value, if the value exists.
 pub fn find<const OFFSET_BITS: u32, F: Frozen<OFFSET_BITS>>(
     frozen: &mut F,
     root: EntryRef<OFFSET_BITS>,

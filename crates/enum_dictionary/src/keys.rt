@@ -12,7 +12,7 @@ use std::marker::Model;
 use tree_read::KeyOrder;
 use unique_store::compare as compare_stored;
 
-/// A long that is sought: stored keys are records, and read as longs.
+/// A long as a sought key: stored keys are records that read as longs.
 #[derive(Drop)]
 pub struct LongKey<'a> {
     value: &'a Value,
@@ -64,7 +64,7 @@ impl<'a, const OFFSET_BITS: u32> KeyOrder<OFFSET_BITS> for LongKey<'a> {
     ghost steady = { value_steady types.Long };
 }
 
-/// A text that is sought: stored keys are records, and read as texts.
+/// A text as a sought key: stored keys are records that read as texts.
 #[derive(Drop)]
 pub struct TextKey<'a> {
     value: &'a Value,

@@ -1,5 +1,5 @@
-//! A map ordered by value: a frozen tree whose keys are the records of values, each with the word of its list of
-//! documents.
+//! A map ordered by value: a frozen tree whose keys are the records of values, each with the word of its posting
+//! list.
 #![tactic(auto)]
 
 mod changing;

@@ -1,4 +1,4 @@
--- What `match` says: one item of an array or of a weighted set, and how it changes.
+-- The content of `match`: one item of an array or of a weighted set, and how it changes.
 use Rattle.std.specs.Prelude.{ℕ, ℤ, neg_ℤ, List, nat_le, if◌then◌else◌, codes, Option, Some, None, option_and_then, option_map, Result, Ok}
 use Rattle.std.specs.Str.{bytes_eq}
 use Rattle.serde_json.specs.Data.{Data, Members, no_members, member}
@@ -21,7 +21,7 @@ use Rattle.feed_reader.specs.Answers.{◌>>=◌, or_else}
 use Rattle.feed_reader.specs.Operators.{operator_named, value_form, weight_form}
 use Rattle.feed_reader.specs.Values.{value_read, name_read, weight_read}
 
--- an amount is a whole number of 32 signed bits; a decrement moves by its negative
+-- an amount is a whole number of 32 signed bits; a decrement adds its negative
 abbrev pub by_way : Way → ℤ → ℤ
 by_way Up amount = amount
 by_way Down amount = neg_ℤ amount
@@ -31,14 +31,14 @@ amount_read way d = do
   amount ← weight_read d
   Ok (by_way way amount)
 
--- a place of an array, a whole number of 32 bits
+-- an index of an array: a whole number of 32 bits
 abbrev pub place_of_number : ℕ → Option ℕ
 place_of_number n = if nat_le n 4294967295 then Some n else None
 
 abbrev pub place_read : Data → Result ℕ Refusal
 place_read d = or_else BadValue (option_and_then place_of_number (option_and_then as_u64 (as_number d)))
 
--- a value of a weighted set: a text names it, and a whole number stands for itself
+-- a value of a weighted set: the name in a text, or a whole number as itself
 abbrev pub element_by : ValueType → Data → Option (List ℕ) → Result Value Refusal
 element_by type d (Some name) = name_read type name
 element_by type d None = value_read type d
@@ -46,7 +46,7 @@ element_by type d None = value_read type d
 abbrev pub element_read : ValueType → Data → Result Value Refusal
 element_read type d = element_by type d (as_str d)
 
--- the member `element` of an object of two members, and the other one
+-- the member `element` of an object of two members, and the other member
 abbrev pub match_parts : Members → Option (Data × List ℕ × Data)
 match_parts no_members = None
 match_parts (member name d no_members) = None
@@ -55,7 +55,7 @@ match_parts (member name d (member other e no_members)) =
     else (if bytes_eq other (codes "element") then Some (e, name, d) else None)
 match_parts (member name d (member other e (member _ _ _))) = None
 
--- what becomes of a value or a weight; an operator that there is none makes nothing, whatever its value
+-- the change of a value or a weight; without such an operator there is no change, whatever its value
 abbrev pub act_read : ValueType → Option ItemForm → Data → Result (Option Act) Refusal
 act_read type None d = Ok None
 act_read type (Some New) d = value_read type d >>= λ value. Ok (Some (acts.Set value))
@@ -66,7 +66,7 @@ weight_act_read None d = Ok None
 weight_act_read (Some New) d = weight_read d >>= λ weight. Ok (Some (weight_acts.Set weight))
 weight_act_read (Some (Amount way)) d = amount_read way d >>= λ amount. Ok (Some (weight_acts.Shift amount))
 
--- a bad `element` is found before the operator is looked at
+-- a wrong `element` is found before the operator is considered
 abbrev pub at_read : ValueType → Data → Result (Option Change) Refusal
 at_read type d = do
   parts ← or_else BadValue (option_and_then match_parts (as_object d))

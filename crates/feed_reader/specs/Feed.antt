@@ -1,4 +1,4 @@
--- What a feed's bytes say: its operations, or the first faulty line and its refusal.
+-- The content of a feed's bytes: its operations, or the first faulty line and its refusal.
 use Rattle.std.specs.Prelude.{◌≡◌, ℕ, ◌+◌, List, [], ◌∷◌, ◌++◌, ◌≤◌, length, IfSome, if◌then◌else◌, Result, Ok, Err}
 use Rattle.std.specs.declared.option.Option.{Option}
 use Rattle.std.specs.Io.KnownBytes.{IsAtEnd}
@@ -19,24 +19,24 @@ use Rattle.feed_reader.specs.Grammar.{op_of_line}
 abbrev pub Fault : Type 0
 Fault = ℕ × Refusal
 
--- the operation of a line before those of the lines after it; the first fault decides
+-- the operation of a line followed by those of the later lines; the first fault decides
 abbrev pub with_op : ℕ → Result Op Refusal → Result (List Op) Fault → Result (List Op) Fault
 with_op line (Err refusal) more = Err (line, refusal)
 with_op line (Ok op) (Err fault) = Err fault
 with_op line (Ok op) (Ok ops) = Ok (op ∷ ops)
 
--- the lines from a number on; a blank line is counted and says nothing
+-- the lines from a number on; a blank line is counted and gives no operation
 unfoldable pub ops_of_lines : List Field → ℕ → List (List ℕ) → Result (List Op) Fault
 ops_of_lines fields number [] = Ok []
 ops_of_lines fields number (line ∷ lines) =
     let more = ops_of_lines fields (number + 1) lines in
     if is_blank line then more else with_op number (op_of_line fields line) more
 
--- what a feed says of the named fields
+-- the operations of a feed for these fields
 unfoldable pub feed_of : List Field → List ℕ → Result (List Op) Fault
 feed_of fields bytes = ops_of_lines fields 1 (lines_of bytes)
 
--- what a reader of lines returned is what they say, unless memory ran out
+-- the result of a reader of lines agrees with their content, unless memory was exhausted
 abbrev pub LinesFailBy : LinesError → Result (List Op) Fault → Type 0
 LinesFailBy lines_errors.Memory said = Unit {0}
 LinesFailBy (lines_errors.Line line refusal) said = said ≡ Err (line, refusal)
@@ -59,8 +59,8 @@ line_error line refusals.BadValue = errors.BadValue line
 line_error line refusals.Unsupported = errors.Unsupported line
 line_error line refusals.TooManyItems = errors.TooManyItems line
 
--- what a reader of a feed returned is what the bytes say; a fault, a feed that is too long and
--- want of memory have clauses of their own
+-- the result of a reader of a feed agrees with the bytes; a fault, a feed that is too long and exhausted memory have
+-- clauses of their own
 abbrev pub FeedFailsBy : FeedError → Result (List Op) Fault → Type 0
 FeedFailsBy errors.FeedTooLong said = Unit {0}
 FeedFailsBy errors.ReadFault said = Unit {0}
@@ -76,12 +76,12 @@ abbrev pub FeedSays : Result (List Op) FeedError → Result (List Op) Fault → 
 FeedSays (Ok ops) said = said ≡ Ok ops
 FeedSays (Err e) said = FeedFailsBy e said
 
--- operations that are read already, before what is said of the rest
+-- the operations already read, followed by those of the rest
 abbrev pub with_front : List Op → Result (List Op) Fault → Result (List Op) Fault
 with_front front (Ok ops) = Ok (front ++ ops)
 with_front front (Err fault) = Err fault
 
--- own: a feed has at most 16,777,216 bytes
+-- a limit of this engine: a feed has at most 16,777,216 bytes
 abbrev pub most_bytes : ℕ
 most_bytes = 16777216
 
@@ -89,7 +89,7 @@ most_bytes = 16777216
 abbrev pub ReadsAll : Option (List ℕ) → Option (List ℕ) → Type 0
 ReadsAll old new = IfSome old (λ bytes. length bytes ≤ most_bytes) × IsAtEnd new
 
--- the fact holds where lines were looked at: at operations and at each line's error
+-- the fact holds if lines were interpreted: after success, and after each line's error
 abbrev pub OnLineError : FeedError → Type 0 → Type 0
 OnLineError errors.FeedTooLong P = Unit {0}
 OnLineError errors.ReadFault P = Unit {0}

@@ -1,5 +1,5 @@
--- The forms that the values of a feed have: those of Vespa's document JSON format for an attribute's collection
--- types, within this project's limits. `Data` is a JSON value as `serde_json` reads it.
+-- The forms of the values of a feed: those of Vespa's document JSON format for the collection types of attributes,
+-- within the limits of this engine. `Data` is a JSON value as `serde_json` reads it.
 use Rattle.std.specs.Prelude.{ℕ, pos, ◌≡◌, ◌<◌, ◌≤◌, ◌^◌, ◌&&◌, ◌++◌, List, ◌∷◌, length, IsTrue, IfSome, IsSomeAnd, codes}
 use Rattle.std.specs.List.{All}
 use Rattle.std.specs.Prelude.{◌≢◌}
@@ -30,8 +30,8 @@ HasNoColon text = All (λ b. b ≢ 58) text
 abbrev pub with_colon : List ℕ → List ℕ → List ℕ
 with_colon text more = text ++ (58 ∷ more)
 
--- `id:`, a namespace, `:`, a document type, `:`, a part that may be empty, `:`, and the document's number in
--- decimal, without sign or leading zero; no colon stands in the first three
+-- `id:`, a namespace, `:`, a document type, `:`, a part that may be empty, `:`, and the document's number in decimal,
+-- without sign or leading zero; there is no colon in the first three
 pub record IsIdOf (text : List ℕ) (doc : ℕ) : Type 0 where
   pub namespace : List ℕ
   pub type : List ℕ
@@ -47,7 +47,8 @@ pub record IsIdOf (text : List ℕ) (doc : ℕ) : Type 0 where
 
 -- ---- values, names and weights
 
--- a number that `serde_json` reads as whole, of 64 signed bits: none has a point or an exponent, and `-0` is none
+-- a number that `serde_json` reads as a whole number of 64 signed bits: one without a point and an exponent, and not
+-- `-0`
 abbrev pub IsLong : Data → Type 0
 IsLong (number (unsigned n)) = n < 2 ^ 63
 IsLong (number (negative z)) = Unit {0}
@@ -58,7 +59,7 @@ IsValue Long d = IsLong d
 IsValue Text (string bytes) = length bytes ≤ 1024
 IsValue Text d = ⊥
 
--- a long has the name that its own decimal digits are, with `-` before them if it is negative
+-- the name of a long is its own decimal digits, with `-` before them if it is negative
 abbrev pub IsName : ValueType → List ℕ → Type 0
 IsName Long name = IsTrue (is_whole_numeral name && is_long_number (signed_digits_value 10 name))
 IsName Text name = length name ≤ 1024
@@ -93,7 +94,7 @@ abbrev pub HasWeightsForm : ValueType → Data → Type 0
 HasWeightsForm type (object ms) = AreWeights type ms
 HasWeightsForm type d = ⊥
 
--- values to be taken out: a list of them, or an object that they are the names of, whatever it holds
+-- values to be removed: a list of them, or an object whose names they are, with any members
 abbrev pub HasNamesForm : ValueType → Data → Type 0
 HasNamesForm type (array ds) = AreValues type ds
 HasNamesForm type (object ms) = AreNames type ms
@@ -105,34 +106,34 @@ HasKindForm Single type d = IsValue type d
 HasKindForm Array type d = HasListForm type d
 HasKindForm WeightedSet type d = HasWeightsForm type d
 
--- in every kind `null` stands for no items
+-- for every kind, `null` means no items
 abbrev pub HasItemsForm : Kind → ValueType → Data → Type 0
 HasItemsForm kind type null = Unit {0}
 HasItemsForm kind type d = HasKindForm kind type d
 
 -- ---- updates
 
--- a place of an array, counted from 0
+-- an index of an array, counted from 0
 abbrev pub IsArrayPlace : Data → Type 0
 IsArrayPlace (number (unsigned n)) = n ≤ 4294967295
 IsArrayPlace d = ⊥
 
--- a value of a weighted set: a text names it, and a whole number stands for itself
+-- a value of a weighted set: the name in a text, or a whole number as itself
 abbrev pub IsElement : ValueType → Data → Type 0
 IsElement type (string name) = IsName type name
 IsElement type d = IsValue type d
 
--- what becomes of one value: it is set to a value, or moved by an amount
+-- the change of one value: it is set to a value, or an amount is added
 abbrev pub HasValueForm : ValueType → ItemForm → Data → Type 0
 HasValueForm type New d = IsValue type d
 HasValueForm type (Amount way) d = IsWeight d
 
--- an object of two members, `element` and an operator, of whose values and name the fact holds
+-- an object of two members, `element` and an operator, whose values and name have property P
 abbrev pub IsMatch : (Data → List ℕ → Data → Type 0) → Data → Type 0
 IsMatch P (object ms) = IsSomeAnd (match_parts ms) (λ parts. P parts.0 parts.1 parts.2)
 IsMatch P d = ⊥
 
--- where `match` has the operator, its value has the operator's form
+-- if `match` has the operator, its value has the operator's form
 abbrev pub IsChangeAt : ValueType → Data → List ℕ → Data → Type 0
 IsChangeAt type element name d = IsArrayPlace element × IfSome (value_form (operator_named name) type) (λ form. HasValueForm type form d)
 
@@ -148,7 +149,7 @@ HasForm (forms.Amount way) kind type d = IsWeight d
 HasForm forms.AtPlace kind type d = IsMatch (IsChangeAt type) d
 HasForm forms.OfValue kind type d = IsMatch (IsChangeOf type) d
 
--- an object with one member, the operator; where the attribute has that operator, its value has the operator's form
+-- an object with one member, the operator; if the attribute has that operator, its value has the operator's form
 abbrev pub IsUpdate : Field → Data → Type 0
 IsUpdate field (object (member name d no_members)) =
     IfSome (operator_form (operator_named name) field.kind field.value) (λ form. HasForm form field.kind field.value d)

@@ -27,8 +27,8 @@ use Rattle.feed_reader.specs.Operators.{operator_named, operator_form}
 use Rattle.feed_reader.specs.Elements.{amount_read, at_read, of_read}
 use Rattle.feed_reader.specs.Items.{items_read, list_read, set_read, taken_read, member_count}
 
--- 1. The line is one JSON value in UTF-8, as `serde_json` reads it: what it takes as a number, how
--- deep it lets lists and objects nest, and that the last of two equal names stands
+-- 1. The line is one JSON value in UTF-8, as `serde_json` reads it. That determines which numbers it accepts and how
+-- deep lists and objects may nest; the last of two equal names counts
 unfoldable pub json_read : List ℕ → Option Data
 json_read line = if is_utf8 line then read line else None
 
@@ -46,14 +46,14 @@ op_name_of d = only_one (get (codes "put") d) (get (codes "update") d) (get (cod
 abbrev pub id_of : Data → Option ℕ
 id_of d = option_and_then id_read (as_str d)
 
--- 4. A put and an update have an object `fields`; a named field may be missing there
+-- 4. A put and an update have an object `fields`; a named field may be missing in it
 abbrev pub if_object : Data → Option Data
 if_object d = if is_some (as_object d) then Some d else None
 
 abbrev pub fields_of : Data → Option Data
 fields_of d = option_and_then if_object (get (codes "fields") d)
 
--- what is read of each field in turn, from its value in `fields`
+-- the results of reading each field in turn, from its value in `fields`
 unfoldable pub each_field : {X : Type 0} → (Field → Option Data → Result X Refusal) → List Field → Data → Result (List X) Refusal
 each_field read_of [] d = Ok []
 each_field read_of (field ∷ fields) d = do
@@ -61,18 +61,18 @@ each_field read_of (field ∷ fields) d = do
   xs ← each_field read_of fields d
   Ok (x ∷ xs)
 
--- a put's field has the form of the items; without it the document has none there
+-- the field of a put has the form of the items; without it the document has no items there
 abbrev pub put_read : Field → Option Data → Result (List Item) Refusal
 put_read field None = Ok []
 put_read field (Some d) = items_read field.kind field.value d
 
--- the one member of an object that has no other
+-- the only member of an object with one member
 abbrev pub only_member : Members → Option (List ℕ × Data)
 only_member no_members = None
 only_member (member name d no_members) = Some (name, d)
 only_member (member name d (member _ _ _)) = None
 
--- the change that an operator makes of a value of its form
+-- the change by an operator whose value has the operator's form
 abbrev pub change_by : {A : Type 0} → (A → Change) → Result A Refusal → Result (Option Change) Refusal
 change_by change said = said >>= λ value. Ok (Some (change value))
 
@@ -85,12 +85,12 @@ change_read field (forms.Amount way) d = change_by changes.Shift (amount_read wa
 change_read field forms.AtPlace d = at_read field.value d
 change_read field forms.OfValue d = of_read field.value d
 
--- an operator that an attribute has not makes no change, whatever its value
+-- an operator that the attribute does not have makes no change, whatever its value
 abbrev pub operator_read : Field → Option Form → Data → Result (Option Change) Refusal
 operator_read field None d = Ok None
 operator_read field (Some form) d = change_read field form d
 
--- an update's field is an object with one member, the operator; without the field nothing changes
+-- the field of an update is an object with one member, the operator; without the field nothing changes
 abbrev pub update_read : Field → Option Data → Result (Option Change) Refusal
 update_read field None = Ok (Some changes.Keep)
 update_read field (Some d) = do
@@ -103,7 +103,7 @@ all_some [] = Some []
 all_some (None ∷ more) = None
 all_some (Some change ∷ more) = option_map (λ changes. change ∷ changes) (all_some more)
 
--- `create` is `true` or `false`, and `false` where it is missing
+-- `create` is `true` or `false`, and `false` if it is missing
 abbrev pub created : Option Data → Option Bool
 created None = Some false
 created (Some d) = as_bool d
@@ -111,7 +111,7 @@ created (Some d) = as_bool d
 abbrev pub create_of : Data → Option Bool
 create_of d = created (get (codes "create") d)
 
--- a put has no use for `create`
+-- a put ignores `create`
 unfoldable pub asked_of : List Field → OpName → Option Bool → Option Data → Result Asked Refusal
 asked_of fields operations.Put create members = do
   create ← or_else BadValue create
@@ -125,7 +125,7 @@ asked_of fields operations.Update create members = do
   Ok (asks.Update create (all_some changes))
 asked_of fields operations.Remove create members = Ok asks.Remove
 
--- 5. No member `condition` is there, in a remove no member `create`, and each operator is one of its attribute's
+-- 5. There is no member `condition`, in a remove there is no member `create`, and each attribute has its operator
 abbrev pub has_other_member : OpName → Data → Bool
 has_other_member operations.Put d = is_some (get (codes "condition") d)
 has_other_member operations.Update d = is_some (get (codes "condition") d)
@@ -139,7 +139,7 @@ op_asked doc asks.Remove = Some (ops.Remove doc)
 abbrev pub supported : OpName → Data → ℕ → Asked → Option Op
 supported operation d doc asked = if has_other_member operation d then None else op_asked doc asked
 
--- 6. At most 1,023 members are in what a line gives a field: a put its value, an update its operator's value
+-- 6. What a line gives a field has at most 1,023 members: the value of a put, or the value of an update's operator
 abbrev pub value_given : OpName → Option Data → Option Data
 value_given operations.Put value = value
 value_given operations.Update value =
@@ -156,7 +156,7 @@ abbrev pub gives_too_many : List Field → OpName → Option Data → Bool
 gives_too_many fields operation None = false
 gives_too_many fields operation (Some members) = list_any (is_over operation members) fields
 
--- the checks in their order
+-- the checks in order
 unfoldable pub op_of_value : List Field → Data → Result Op Refusal
 op_of_value fields d = do
   operation ← or_else NoOperation (op_name_of d)

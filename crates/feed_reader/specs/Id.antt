@@ -9,12 +9,12 @@ abbrev pub ◌>>=◌ : {A B : Type 0} → Option A → (A → Option B) → Opti
 None >>= f = None
 (Some x) >>= f = f x
 
--- what stands before the first colon, and what after it
+-- what precedes the first colon, and what follows it
 abbrev pub cut_at_colon : List ℕ → Option (List ℕ × List ℕ)
 cut_at_colon text = if nat_lt (position_or_len (λ b. b == 58) text) (length text)
     then Some (before_first (λ b. b == 58) text, after_first (λ b. b == 58) text) else None
 
--- the same, where one or more bytes stand before the colon
+-- the same, if at least one byte precedes the colon
 abbrev pub cut_some_at_colon : List ℕ → Option (List ℕ × List ℕ)
 cut_some_at_colon text = do
   parts ← cut_at_colon text

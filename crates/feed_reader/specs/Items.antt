@@ -1,4 +1,4 @@
--- The items that a list or an object of JSON writes.
+-- The items in a list or an object of JSON.
 use Rattle.std.specs.Prelude.{ℕ, pos, List, [], ◌∷◌, map, if◌then◌else◌, is_some, Result, Ok, Err}
 use Rattle.serde_json.specs.Data.{Data, null, boolean, number, string, array, object}
 use Rattle.serde_json.specs.Data.{Items, no_items, item, Members, no_members, member}
@@ -23,7 +23,7 @@ values_read value_type (item d ds) = do
   values ← values_read value_type ds
   Ok (value ∷ values)
 
--- the values that an object's members are named by, in their order there, whatever they hold
+-- the values that are the names of an object's members, in their order, with any contents
 unfoldable pub names_read : ValueType → Members → Result (List Value) Refusal
 names_read value_type no_members = Ok []
 names_read value_type (member name d ms) = do
@@ -31,7 +31,7 @@ names_read value_type (member name d ms) = do
   values ← names_read value_type ms
   Ok (value ∷ values)
 
--- the items of an object from value to weight, each put among those before it by value ascending
+-- the items of an object from value to weight, each inserted among those before it, ascending by value
 unfoldable pub weighted_after : ValueType → List Item → Members → Result (List Item) Refusal
 weighted_after value_type items no_members = Ok items
 weighted_after value_type items (member name d ms) = do
@@ -62,7 +62,7 @@ some_items_read Single value_type d = one_read value_type d
 some_items_read Array value_type d = list_read value_type d
 some_items_read WeightedSet value_type d = set_read value_type d
 
--- the form of the items of each kind; in every kind `null` stands for no items
+-- the form of the items of each kind; for every kind, `null` means no items
 unfoldable pub items_read : Kind → ValueType → Data → Result (List Item) Refusal
 items_read kind value_type d = if is_some (as_null d) then Ok [] else some_items_read kind value_type d
 
@@ -75,7 +75,7 @@ taken_read value_type (boolean b) = Err BadValue
 taken_read value_type (number n) = Err BadValue
 taken_read value_type (string s) = Err BadValue
 
--- how many members a list has, equal ones too, or how many distinct names an object
+-- the number of members of a list, including equal ones, or the number of distinct names of an object
 abbrev pub member_count : Data → ℕ
 member_count (array ds) = items_len ds
 member_count (object ms) = members_len ms

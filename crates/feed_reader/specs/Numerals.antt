@@ -1,4 +1,4 @@
--- Whole numbers that a text writes in decimal digits, each in one form alone.
+-- Whole numbers in decimal digits, each in exactly one form.
 use Rattle.std.specs.Prelude.{ℕ, ℤ, pos, negsuc, Bool, ◌&&◌, ◌||◌, ◌==◌}
 use Rattle.std.specs.Prelude.{List, drop, slice_index, nat_lt, nat_le, int_le, if◌then◌else◌, codes, Option, Some, None}
 use Rattle.std.specs.List.{list_all}
@@ -17,11 +17,11 @@ abbrev pub is_whole_numeral : List ℕ → Bool
 is_whole_numeral text = bytes_eq text (codes "0")
     || is_positive_numeral (if slice_index text 0 == 45 then drop 1 text else text)
 
--- 64 signed bits hold the number
+-- the number fits in 64 signed bits
 abbrev pub is_long_number : ℤ → Bool
 is_long_number z = int_le (negsuc 9223372036854775807) z && int_le z (pos 9223372036854775807)
 
--- the whole number of 64 signed bits that a text writes in its own digits
+-- the whole number of 64 signed bits in a text of its own digits
 unfoldable pub long_written : List ℕ → Option ℤ
 long_written text = let z = signed_digits_value 10 text in
     if is_whole_numeral text && is_long_number z then Some z else None

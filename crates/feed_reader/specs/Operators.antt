@@ -42,7 +42,7 @@ operator_form Match Array type = Some forms.AtPlace
 operator_form Match WeightedSet type = Some forms.OfValue
 operator_form Other kind type = None
 
--- in `match`, what may become of one value of an array ..
+-- in `match`, the operators on one value of an array ..
 abbrev pub value_form : Operator → ValueType → Option ItemForm
 value_form Assign type = Some item_forms.New
 value_form Increment Long = Some (item_forms.Amount Up)
@@ -54,7 +54,7 @@ value_form Remove type = None
 value_form Match type = None
 value_form Other type = None
 
--- .. and of one weight
+-- .. and on one weight
 abbrev pub weight_form : Operator → Option ItemForm
 weight_form Assign = Some item_forms.New
 weight_form Increment = Some (item_forms.Amount Up)

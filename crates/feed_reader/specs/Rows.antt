@@ -1,5 +1,5 @@
 -- The rows of the feed: why a line is refused, and which line decides. Each row is a predicate of the line or of its
--- JSON value; a line is refused by the first row that holds, and gives an operation exactly where none does.
+-- JSON value. A line is refused by the first row that holds, and gives an operation if and only if no row holds.
 use Rattle.std.specs.Prelude.{◌≡◌, ◌≢◌, ◌⊎◌, ◌↔◌, ℕ, ◌+◌, ◌<◌, false, not, IsTrue, List, [], ◌∷◌, ◌++◌, length, filter, codes}
 use Rattle.std.specs.Prelude.{Option, Some, None, is_some, IsSome, IfSome, IsSomeAnd, Ok, Err, IsOk}
 use Rattle.std.specs.List.{AllByRecursion, AllZip}
@@ -24,7 +24,7 @@ use Rattle.feed_reader.specs.Items.{member_count}
 use Rattle.feed_reader.specs.Lines.{lines_of, is_blank}
 use Rattle.feed_reader.specs.Operators.{operator_named, operator_form, value_form, weight_form}
 
--- ---- 1. the line is no JSON value of `serde_json`'s reading, its nesting and its UTF-8 included
+-- ---- 1. the line is not a JSON value as `serde_json` reads it, including its nesting and UTF-8
 
 abbrev pub IsJson : List ℕ → Data → Type 0
 IsJson line d = IsUtf8 line × (read line ≡ Some d)
@@ -32,7 +32,7 @@ IsJson line d = IsUtf8 line × (read line ≡ Some d)
 abbrev pub IsNotJson : List ℕ → Type 0
 IsNotJson line = (d : Data) → ¬ IsJson line d
 
--- ---- 2. the value is no object, or has not exactly one of the members `put`, `update` and `remove`
+-- ---- 2. the value is not an object, or does not have exactly one of the members `put`, `update` and `remove`
 
 abbrev pub name_of : OpName → List ℕ
 name_of Put = codes "put"
@@ -45,7 +45,7 @@ operations_in d = filter (λ operation. is_some (get (name_of operation) d)) (Pu
 abbrev pub HasNoOperation : Data → Type 0
 HasNoOperation d = length (operations_in d) ≢ 1
 
--- ---- 3. that member is no text that is an id
+-- ---- 3. that member is not a text that is an id
 
 abbrev pub IsId : Data → ℕ → Type 0
 IsId (string text) doc = IsIdOf text doc
@@ -55,8 +55,8 @@ abbrev pub HasBadId : Data → Type 0
 HasBadId d =
     (operation : OpName) × (id : Data) × (get (name_of operation) d ≡ Some id) × ((doc : ℕ) → ¬ IsId id doc)
 
--- ---- 4. in a put or an update `create` is there and neither `true` nor `false`, or `fields` is no object, or a named
--- field is there and has not its form
+-- ---- 4. in a put or an update, `create` exists and is neither `true` nor `false`, or `fields` is not an object, or
+-- a named field exists and does not have its form
 
 abbrev pub IsBoolean : Data → Type 0
 IsBoolean (boolean b) = Unit {0}
@@ -66,11 +66,11 @@ abbrev pub IsObject : Data → Type 0
 IsObject (object ms) = Unit {0}
 IsObject d = ⊥
 
--- the line's `fields` is an object, and this is it
+-- the line's `fields` is an object, namely this one
 abbrev pub HasFields : Data → Data → Type 0
 HasFields d members = (get (codes "fields") d ≡ Some members) × IsObject members
 
--- the line's `fields` is an object, in which each named field that is there has the form
+-- the line's `fields` is an object, in which each named field that exists has the form
 abbrev pub EachHas : (Field → Data → Type 0) → List Field → Data → Type 0
 EachHas P fields d = (members : Data) × HasFields d members
     × AllByRecursion (λ field. IfSome (get field.name members) (P field)) fields
@@ -85,10 +85,10 @@ abbrev pub HasBadValue : List Field → Data → Type 0
 HasBadValue fields d =
     (operation : OpName) × IsSome (get (name_of operation) d) × ¬ (HasForms fields operation d)
 
--- ---- 5. a member `condition` is there, or in a remove `create`, or an operator, that in `match` too, is none of its
--- attribute's
+-- ---- 5. there is a member `condition`, or in a remove `create`, or an operator, also one in `match`, that its
+-- attribute does not have
 
--- some named field is there, with such a value
+-- some named field exists with such a value
 abbrev pub SomeField : (Field → Data → Type 0) → List Field → Data → Type 0
 SomeField P [] members = ⊥
 SomeField P (field ∷ fields) members = IsSomeAnd (get field.name members) (P field) ⊎ SomeField P fields members
@@ -114,7 +114,7 @@ RemovesAndCreates d = IsSome (get (codes "remove") d) × IsSome (get (codes "cre
 abbrev pub IsUnsupported : List Field → Data → Type 0
 IsUnsupported fields d = IsSome (get (codes "condition") d) ⊎ (RemovesAndCreates d ⊎ AsksForOther fields d)
 
--- ---- 6. a put's list or object, or that of an update's operator, has more than 1,023 members
+-- ---- 6. the list or object of a put, or that of an update's operator, has more than 1,023 members
 
 abbrev pub GivesTooMany : OpName → Field → Data → Type 0
 GivesTooMany Put field d = most_items < member_count d
@@ -147,7 +147,7 @@ HasRow fields line BadValue = OfJson line (HasBadValue fields)
 HasRow fields line Unsupported = OfJson line (IsUnsupported fields)
 HasRow fields line TooManyItems = OfJson line (HasTooMany fields)
 
--- the row holds, and none before it
+-- the row holds, and no row before it
 abbrev pub IsFirstRow : List Field → List ℕ → Refusal → Type 0
 IsFirstRow fields line row =
     HasRow fields line row × ((before : Refusal) → row_number before < row_number row → ¬ HasRow fields line before)
@@ -157,7 +157,7 @@ abbrev pub RefusedByFirstRow : Type 0
 RefusedByFirstRow = (fields : List Field) (line : List ℕ) (row : Refusal)
     → (op_of_line fields line ≡ Err row) ↔ IsFirstRow fields line row
 
--- and gives an operation exactly where none does
+-- a line gives an operation if and only if no row holds
 abbrev pub TakenWithoutRow : Type 0
 TakenWithoutRow = (fields : List Field) (line : List ℕ)
     → IsOk (op_of_line fields line) ↔ ((row : Refusal) → ¬ HasRow fields line row)
@@ -168,7 +168,7 @@ TakenWithoutRow = (fields : List Field) (line : List ℕ)
 abbrev pub IsSoundLine : List Field → List ℕ → Type 0
 IsSoundLine fields line = IsTrue (is_blank line) ⊎ IsOk (op_of_line fields line)
 
--- the line of this number is refused so, and each line before it is sound
+-- the line with this number is refused in this way, and each line before it is sound
 pub record IsFirstFault (fields : List Field) (lines : List (List ℕ)) (line : ℕ) (refusal : Refusal) : Type 0 where
   pub before : List (List ℕ)
   pub text : List ℕ
@@ -183,7 +183,7 @@ abbrev pub RefusedByFirstFault : Type 0
 RefusedByFirstFault = (fields : List Field) (bytes : List ℕ) (line : ℕ) (refusal : Refusal)
     → (feed_of fields bytes ≡ Err (line, refusal)) ↔ IsFirstFault fields (lines_of bytes) line refusal
 
--- and gives the operations of its lines that are not blank exactly where each of them gives one
+-- a feed gives the operations of its lines that are not blank if and only if each of them gives one
 abbrev pub GivesEachOp : Type 0
 GivesEachOp = (fields : List Field) (bytes : List ℕ) (ops : List Op)
     → (feed_of fields bytes ≡ Ok ops)

@@ -1,4 +1,4 @@
--- The values and weights that JSON writes.
+-- The values and weights in JSON.
 use Rattle.std.specs.Prelude.{ℕ, ℤ, pos, negsuc, Bool, ◌&&◌, List, length, nat_le, int_le, if◌then◌else◌}
 use Rattle.std.specs.Prelude.{Option, Some, None, option_and_then, option_map, Result}
 use Rattle.serde_json.specs.Data.{Data}
@@ -16,7 +16,7 @@ use Rattle.feed_reader.specs.Numerals.{long_written}
 abbrev pub text_read : List ℕ → Option Value
 text_read bytes = if nat_le (length bytes) 1024 then Some (values.Text bytes) else None
 
--- a whole number of 64 signed bits: none has a point or an exponent, and `-0` is none
+-- a whole number of 64 signed bits: one without a point and an exponent, and not `-0`
 abbrev pub long_read : Data → Option ℤ
 long_read d = option_and_then as_i64 (as_number d)
 
@@ -30,7 +30,7 @@ abbrev pub name_read : ValueType → List ℕ → Result Value Refusal
 name_read Long name = or_else BadValue (option_map values.Long (long_written name))
 name_read Text name = or_else BadValue (text_read name)
 
--- 32 signed bits hold the number
+-- the number fits in 32 signed bits
 abbrev pub is_weight_number : ℤ → Bool
 is_weight_number z = int_le (negsuc 2147483647) z && int_le z (pos 2147483647)
 

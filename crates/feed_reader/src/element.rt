@@ -1,4 +1,4 @@
-//! What `match` says: one item of an array or of a weighted set, and how it changes.
+//! The content of `match`: one item of an array or of a weighted set, and how it changes.
 ghost use Rattle.std.specs.Prelude.{◌≡◌, option_map};
 ghost use Rattle.serde_json.specs.View.{view, members_view};
 ghost use Rattle.feed_reader.specs.Answers.{ReadsAs};
@@ -12,7 +12,7 @@ use attr_types::{Act, Change, Value, ValueType, WeightAct};
 use serde_json::{Map, Value as Json};
 use std::alloc::Global;
 
-/// The amount that JSON writes, below 0 where it moves down.
+/// Returns the amount in JSON. It is negative for a decrement.
 pub fn amount_in(way: Way, json: &Json) -> Result<i64, LineError>
     ensures { ReadsAs (λ amount. amount) result (amount_read way (view json.now)) }
 {
@@ -23,7 +23,7 @@ pub fn amount_in(way: Way, json: &Json) -> Result<i64, LineError>
     })
 }
 
-/// The place of an array that JSON writes, counted from 0.
+/// Returns the index of an array item in JSON, counted from 0.
 fn place_in(json: &Json) -> Result<u32, LineError>
     ensures { ReadsAs (λ place. place) result (place_read (view json.now)) }
 {
@@ -31,7 +31,7 @@ fn place_in(json: &Json) -> Result<u32, LineError>
     Ok(u32::try_from(number).ok().ok_or(Refusal::BadValue)?)
 }
 
-/// The value of a weighted set that JSON writes: by its name, or a whole number by itself.
+/// Returns the value of a weighted set in JSON: by its name, or a whole number as itself.
 fn element_in(alloc: Global, value: ValueType, json: &Json) -> Result<Value, LineError>
     ensures { ReadsAs (λ v. v) result (element_read value (view json.now)) }
 {
@@ -41,7 +41,7 @@ fn element_in(alloc: Global, value: ValueType, json: &Json) -> Result<Value, Lin
     }
 }
 
-/// `element`, and the other member of an object of two.
+/// Returns `element`, and the other member of an object of two members.
 fn match_parts_in(members: &Map<String, Json>) -> Option<(&Json, &str, &Json)>
     ensures { option_map (λ p. (view p.0.now, p.1.now, view p.2.now)) result
         ≡ match_parts (members_view members.now.entries) }
@@ -61,7 +61,7 @@ fn match_parts_in(members: &Map<String, Json>) -> Option<(&Json, &str, &Json)>
     None
 }
 
-/// What becomes of a value, `None` for an operator that there is none.
+/// Returns the change of a value, or `None` if there is no such operator.
 fn act_in(
     alloc: Global,
     value: ValueType,
@@ -77,7 +77,7 @@ fn act_in(
     }
 }
 
-/// What becomes of a weight, `None` for an operator that there is none.
+/// Returns the change of a weight, or `None` if there is no such operator.
 fn weight_act_in(form: Option<ItemForm>, json: &Json) -> Result<Option<WeightAct>, LineError>
     ensures { ReadsAs (λ act. act) result (weight_act_read form (view json.now)) }
 {
@@ -88,7 +88,7 @@ fn weight_act_in(form: Option<ItemForm>, json: &Json) -> Result<Option<WeightAct
     }
 }
 
-/// The change of one item of an array, `None` for an operator that there is none.
+/// Returns the change of one item of an array, or `None` if there is no such operator.
 pub fn at_in(alloc: Global, value: ValueType, json: &Json) -> Result<Option<Change>, LineError>
     ensures { ReadsAs (λ change. change) result (at_read value (view json.now)) }
 {
@@ -99,7 +99,7 @@ pub fn at_in(alloc: Global, value: ValueType, json: &Json) -> Result<Option<Chan
     Ok(act.map(|act| Change::At { index, act }))
 }
 
-/// The change of one weight of a weighted set, `None` for an operator that there is none.
+/// Returns the change of one weight of a weighted set, or `None` if there is no such operator.
 pub fn of_in(alloc: Global, value: ValueType, json: &Json) -> Result<Option<Change>, LineError>
     ensures { ReadsAs (λ change. change) result (of_read value (view json.now)) }
 {

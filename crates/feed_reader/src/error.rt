@@ -20,24 +20,24 @@ impl From<AllocError> for LinesError {
     }
 }
 
-/// Why a feed was not read. Lines are numbered from 1, blank ones too. The first faulty line
-/// decides, and on it the first of the checks, which go in this order.
+/// Why a feed was not read. Lines are numbered from 1, including blank ones. The first faulty line decides, and on
+/// that line the first check that fails, in this order.
 #[derive(Clone, Copy, Debug, PartialEq, Eq, Error)]
 pub enum FeedError {
-    /// The line is no JSON value.
+    /// The line is not a JSON value.
     #[error("line {line}: NotJson")]
     NotJson { line: u32 },
-    /// The line is no object with exactly one of `put`, `update` and `remove`.
+    /// The line is not an object with exactly one of `put`, `update` and `remove`.
     #[error("line {line}: NoOperation")]
     NoOperation { line: u32 },
-    /// That member is no id that ends with a document's number.
+    /// That member is not an id that ends with a document's number.
     #[error("line {line}: BadId")]
     BadId { line: u32 },
-    /// In a put or an update `create` is neither `true` nor `false`, `fields` is no object, or a named
-    /// field has not its form.
+    /// In a put or an update, `create` is neither `true` nor `false`, `fields` is not an object, or a named field
+    /// does not have its form.
     #[error("line {line}: BadValue")]
     BadValue { line: u32 },
-    /// A member `condition` is there, or in a remove `create`, or an attribute has no such operator.
+    /// There is a member `condition`, or in a remove `create`, or an attribute does not have such an operator.
     #[error("line {line}: Unsupported")]
     Unsupported { line: u32 },
     /// The list or object of items has more than 1,023 members.
@@ -49,7 +49,7 @@ pub enum FeedError {
     /// The source failed.
     #[error("ReadFault")]
     ReadFault,
-    /// Memory ran out.
+    /// Memory is exhausted.
     #[error("Memory")]
     Memory,
 }

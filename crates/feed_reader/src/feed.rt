@@ -13,7 +13,7 @@ use attr_io::{ReadError, Source, read_all};
 use attr_types::{Field, Fields, Ops};
 use std::alloc::Global;
 
-/// The most bytes that a feed may have.
+/// The greatest number of bytes of a feed.
 const MOST_BYTES: usize = 16_777_216;
 
 fn at_line(line: u32, refusal: Refusal) -> FeedError
@@ -38,7 +38,7 @@ fn numbered(line: u32, e: LineError) -> LinesError
     }
 }
 
-/// The operations that a feed's bytes say.
+/// Returns the operations in a feed's bytes.
 fn read_lines(alloc: Global, fields: &[Field], bytes: &[u8]) -> Result<Ops, LinesError>
     requires { length bytes.now < 2 ^ 32 - 1 }
     ensures feed { LinesSay result (feed_of fields.now bytes.now) }
@@ -62,10 +62,10 @@ fn read_lines(alloc: Global, fields: &[Field], bytes: &[u8]) -> Result<Ops, Line
     Ok(ops)
 }
 
-/// Reads the operations of a feed for some attributes: the fields of these names of each document.
+/// Reads the operations of a feed for some attributes: the fields with their names in each document.
 ///
-/// The source is read to its end, to a fault, or until more than 16,777,216 bytes were read; only
-/// then are lines looked at.
+/// The source is read to its end, to a fault, or until more than 16,777,216 bytes were read. Lines are interpreted
+/// only after that.
 pub fn read_feed<S: Source>(
     alloc: Global,
     source: &mut S,
@@ -81,8 +81,8 @@ pub fn read_feed<S: Source>(
     ensures fault { result ≡ Err FeedError.ReadFault
         → Rose (S.faults source.old) (S.faults source.new) }
     ensures later { S.faults source.old ≤ S.faults source.new }
-    // Whatever the answer: a read is made only while at most so many bytes were read, and each read
-    // but the last took a byte.
+    // With every result: each read is made only if at most `most_bytes` bytes were read before it, and each read but
+    // the last took at least one byte.
     ensures pieces { ReadsPieces most_bytes piece_bytes
         (S.left source.old) (S.left source.new) (S.reads source.old) (S.reads source.new) }
 {

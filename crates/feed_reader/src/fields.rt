@@ -9,7 +9,7 @@ use attr_types::{Change, Field, FieldChanges, FieldItems};
 use serde_json::Value as Json;
 use std::alloc::{AllocError, Global};
 
-/// The items that a put gives each attribute.
+/// Returns the items that a put gives each attribute.
 pub fn document_in(alloc: Global, fields: &[Field], members: &Json) -> Result<FieldItems, LineError>
     ensures { ReadsAs (λ document. document) result (each_field put_read fields.now (view members.now)) }
 {
@@ -20,7 +20,7 @@ pub fn document_in(alloc: Global, fields: &[Field], members: &Json) -> Result<Fi
     Ok(FieldItems::from_vec(document))
 }
 
-/// The changes that an update makes of each attribute, `None` for an operator that an attribute has not.
+/// Returns the changes of each attribute by an update, or `None` if an attribute does not have an operator.
 pub fn changes_in(
     alloc: Global,
     fields: &[Field],
@@ -35,7 +35,7 @@ pub fn changes_in(
     Ok(changes)
 }
 
-/// All changes, if each attribute has its operator.
+/// Returns all changes, if each attribute has its operator.
 pub fn all_known(
     alloc: Global,
     changes: Vec<Option<Change>>,

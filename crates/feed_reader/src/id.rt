@@ -4,14 +4,14 @@ ghost use Rattle.feed_reader.specs.Id.{cut_at_colon, cut_some_at_colon, id_read}
 use crate::numeral::document_in;
 use attr_types::Doc;
 
-/// What stands before the first colon, and what after it.
+/// Returns what precedes the first colon, and what follows it.
 fn cut_at_colon(text: &str) -> Option<(&str, &str)>
     ensures { option_map (λ p. (p.0.now, p.1.now)) result ≡ cut_at_colon text.now }
 {
     text.split_once(':')
 }
 
-/// The same, where something stands before the colon.
+/// The same, if at least one byte precedes the colon.
 fn cut_some_at_colon(text: &str) -> Option<(&str, &str)>
     ensures { option_map (λ p. (p.0.now, p.1.now)) result ≡ cut_some_at_colon text.now }
 {
@@ -23,7 +23,7 @@ fn cut_some_at_colon(text: &str) -> Option<(&str, &str)>
     }
 }
 
-/// The document that an id names.
+/// Returns the document that an id names.
 #[tactic(auto, unfolding(crate::specs::Id::id_read))]
 pub fn document_of_id(text: &str) -> Option<Doc>
     ensures { result ≡ id_read text.now }

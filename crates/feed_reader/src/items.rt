@@ -13,7 +13,7 @@ use serde_json::{Map, Value as Json};
 use std::alloc::{AllocError, Global};
 use std::collections::BTreeMap;
 
-/// The values of a list, in order.
+/// Returns the values of a list, in order.
 fn values_in(alloc: Global, value: ValueType, list: &[Json]) -> Result<Vec<Value>, LineError>
     ensures { ReadsAs (λ v. v.items) result (values_read value (items_view list.now)) }
 {
@@ -24,7 +24,7 @@ fn values_in(alloc: Global, value: ValueType, list: &[Json]) -> Result<Vec<Value
     Ok(values)
 }
 
-/// The values that the members of an object are named by.
+/// Returns the values that are the names of an object's members.
 fn names_in(
     alloc: Global,
     value: ValueType,
@@ -39,7 +39,7 @@ fn names_in(
     Ok(values)
 }
 
-/// The weights of an object from value to weight, by value.
+/// Returns the weights of an object from value to weight, by value.
 fn weights_in(
     alloc: Global,
     value: ValueType,
@@ -77,7 +77,7 @@ fn weighted_items(alloc: Global, weights: BTreeMap<Value, i32>) -> Result<Items,
     Ok(Items::from_vec(list))
 }
 
-/// The items of a list of values.
+/// Returns the items of a list of values.
 pub fn list_in(alloc: Global, value: ValueType, json: &Json) -> Result<Items, LineError>
     ensures { ReadsAs (λ items. items) result (list_read value (view json.now)) }
 {
@@ -86,7 +86,7 @@ pub fn list_in(alloc: Global, value: ValueType, json: &Json) -> Result<Items, Li
     Ok(plain_items(alloc, values)?)
 }
 
-/// The items of an object from value to weight, by value ascending.
+/// Returns the items of an object from value to weight, ascending by value.
 pub fn weighted_in(alloc: Global, value: ValueType, json: &Json) -> Result<Items, LineError>
     ensures { ReadsAs (λ items. items) result (set_read value (view json.now)) }
 {
@@ -121,7 +121,7 @@ fn some_items_in(
     }
 }
 
-/// The items of a document of that kind. `null` stands for none.
+/// Returns the items of a document of this kind. `null` means no items.
 #[tactic(auto, unfolding(crate::specs::Items::items_read))]
 pub fn items_in(
     alloc: Global,
@@ -137,7 +137,7 @@ pub fn items_in(
     some_items_in(alloc, kind, value, json)
 }
 
-/// The values that a removal from a weighted set names.
+/// Returns the values that a removal from a weighted set names.
 #[tactic(auto, unfolding(crate::specs::Items::taken_read))]
 pub fn taken_in(alloc: Global, value: ValueType, json: &Json) -> Result<Values, LineError>
     ensures { ReadsAs (λ values. values) result (taken_read value (view json.now)) }
@@ -149,7 +149,7 @@ pub fn taken_in(alloc: Global, value: ValueType, json: &Json) -> Result<Values, 
     }
 }
 
-/// How many members a list or an object has.
+/// Returns the number of members of a list or an object.
 pub fn member_count(json: &Json) -> usize
     ensures { result ≡ member_count (view json.now) }
 {

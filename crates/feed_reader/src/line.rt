@@ -32,7 +32,7 @@ fn id_in(member: &Json) -> Option<Doc>
     document_of_id(member.as_str()?)
 }
 
-/// The object `fields` of a line.
+/// Returns the object `fields` of a line.
 fn fields_in(line: &Json) -> Option<&Json>
     ensures { option_map (λ v. view v.now) result ≡ fields_of (view line.now) }
 {
@@ -44,7 +44,7 @@ fn fields_in(line: &Json) -> Option<&Json>
     }
 }
 
-/// Whether a put or an update asks for a document that is not there yet.
+/// Returns whether a put or an update may create a missing document.
 fn create_in(line: &Json) -> Option<bool>
     ensures { result ≡ create_of (view line.now) }
 {
@@ -82,7 +82,7 @@ fn asked_in(
     }
 }
 
-/// Whether a line has a member that its operation has not.
+/// Returns whether a line has a member that its operation does not allow.
 fn has_other_member(operation: OpName, line: &Json) -> bool
     ensures { result ≡ has_other_member operation (view line.now) }
 {
@@ -130,7 +130,7 @@ fn is_some_over(fields: &[Field], operation: OpName, members: &Json) -> bool
         .any(|field| is_over(operation, members, field))
 }
 
-/// Whether a line gives some field a list or an object of more members than a document has items.
+/// Returns whether a line gives some field a list or an object with more members than a document may have items.
 fn gives_too_many(fields: &[Field], operation: OpName, members: Option<&Json>) -> bool
     ensures { result ≡ gives_too_many fields.now operation (option_map (λ v. view v.now) members.entry) }
 {
@@ -170,7 +170,7 @@ fn json_in(alloc: Global, line: &[u8]) -> Result<Json, LineError>
     }
 }
 
-/// The operation of a line.
+/// Returns the operation of a line.
 #[tactic(auto, unfolding(crate::specs::Grammar::op_of_line))]
 pub fn read_line(alloc: Global, fields: &[Field], line: &[u8]) -> Result<Op, LineError>
     ensures { ReadsAs (λ op. op) result (op_of_line fields.now line.now) }

@@ -31,7 +31,7 @@ fn is_whole_numeral(text: &[u8]) -> bool
     }
 }
 
-/// The whole number of 64 signed bits that a text writes in its own digits.
+/// Returns the whole number of 64 signed bits in a text of its own digits.
 #[tactic(auto, unfolding(crate::specs::Numerals::long_written))]
 pub fn long_in(text: &str) -> Option<i64>
     ensures { result ≡ long_written text.now }
@@ -42,7 +42,7 @@ pub fn long_in(text: &str) -> Option<i64>
     text.parse::<i64>().ok()
 }
 
-/// The number that digits write, where 32 bits hold it.
+/// Returns the number of digits, if it fits in 32 bits.
 fn value_of_digits(text: &str) -> Option<u32>
     requires { is_positive_numeral text.now ≡ true }
     ensures { SomeIff result (digits_value 10 text.now < 2 ^ 32) (digits_value 10 text.now) }
@@ -50,7 +50,7 @@ fn value_of_digits(text: &str) -> Option<u32>
     text.parse::<u32>().ok()
 }
 
-/// The document whose number a text writes.
+/// Returns the document whose number a text is.
 #[tactic(auto, unfolding(crate::specs::Numerals::document_written))]
 pub fn document_in(text: &str) -> Option<Doc>
     ensures { result ≡ document_written text.now }

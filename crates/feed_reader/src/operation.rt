@@ -1,6 +1,6 @@
 use attr_types::{FieldChanges, FieldItems};
 
-/// The member by which a line says what it does.
+/// The member that says what a line does.
 #[derive(Clone, Copy, Debug, PartialEq, Eq)]
 pub enum OpName {
     Put,
@@ -12,7 +12,7 @@ pub enum OpName {
 #[derive(Debug, Drop)]
 pub enum Asked {
     Put(FieldItems),
-    /// `None` where some operator is none of its attribute's.
+    /// `None` if some operator does not exist for its attribute.
     Update {
         create: bool,
         changes: Option<FieldChanges>,

@@ -4,7 +4,7 @@ ghost use Rattle.feed_reader.specs.Operators.{operator_named, operator_form, val
 
 use attr_types::{Kind, ValueType};
 
-/// The member by which an update says how a field changes, or `match` how an item does.
+/// The member by which an update says how a field changes, or `match` how an item changes.
 #[derive(Clone, Copy, Debug, PartialEq, Eq)]
 pub enum Operator {
     Assign,
@@ -16,27 +16,27 @@ pub enum Operator {
     Other,
 }
 
-/// Which way an amount moves a number.
+/// In which direction an amount changes a number.
 #[derive(Clone, Copy, Debug, PartialEq, Eq)]
 pub enum Way {
     Up,
     Down,
 }
 
-/// The form of an operator's value, and with it the change that it asks for.
+/// The form of an operator's value, which also determines the change.
 #[derive(Clone, Copy, Debug, PartialEq, Eq)]
 pub enum Form {
-    /// The items of the kind, or `null`: they replace those that are there.
+    /// The items of the kind, or `null`: they replace the existing items.
     Items,
-    /// A list of values, which go to the end.
+    /// A list of values, which are appended.
     List,
     /// An object from value to weight, whose items are added.
     Weights,
-    /// A list of values, or an object whose names are: these are taken out.
+    /// A list of values, or an object with these names: they are removed.
     Names,
-    /// An amount, by which a single whole number moves.
+    /// An amount, which is added to a single whole number.
     Amount(Way),
-    /// A place of an array, and an operator on the value there.
+    /// An index of an array, and an operator on the value there.
     AtPlace,
     /// A value of a weighted set, and an operator on its weight.
     OfValue,
@@ -45,9 +45,9 @@ pub enum Form {
 /// The form of the value of an operator on one item.
 #[derive(Clone, Copy, Debug, PartialEq, Eq)]
 pub enum ItemForm {
-    /// A value, or a weight, in place of the item's own.
+    /// A value or a weight that replaces the item's own.
     New,
-    /// An amount, by which it moves.
+    /// An amount, which is added to it.
     Amount(Way),
 }
 
@@ -65,7 +65,7 @@ pub fn operator_in(name: &str) -> Operator
     }
 }
 
-/// The form of an operator's value, if an attribute of this kind and value type has the operator.
+/// Returns the form of an operator's value, if an attribute of this kind and value type has the operator.
 pub fn operator_form(operator: Operator, kind: Kind, value: ValueType) -> Option<Form>
     ensures { result ≡ operator_form operator kind value }
 {
@@ -82,7 +82,7 @@ pub fn operator_form(operator: Operator, kind: Kind, value: ValueType) -> Option
     }
 }
 
-/// The form of the value of an operator on one value of an array, if there is that operator.
+/// Returns the form of the value of an operator on one value of an array, if the operator exists.
 pub fn value_form(operator: Operator, value: ValueType) -> Option<ItemForm>
     ensures { result ≡ value_form operator value }
 {
@@ -94,7 +94,7 @@ pub fn value_form(operator: Operator, value: ValueType) -> Option<ItemForm>
     }
 }
 
-/// The form of the value of an operator on one weight, if there is that operator.
+/// Returns the form of the value of an operator on one weight, if the operator exists.
 pub fn weight_form(operator: Operator) -> Option<ItemForm>
     ensures { result ≡ weight_form operator }
 {

@@ -3,7 +3,7 @@ ghost use Rattle.feed_reader.specs.declared.refusal.LineError.TheVariants as lin
 
 use std::alloc::{AllocError, AllocFailed};
 
-/// Why a line is refused. The checks go in this order.
+/// Why a line is refused. The checks run in this order.
 #[derive(Clone, Copy, Debug, PartialEq, Eq)]
 pub enum Refusal {
     NotJson,

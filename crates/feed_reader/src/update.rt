@@ -12,7 +12,7 @@ use attr_types::{Change, Field, Items};
 use serde_json::{Map, Value as Json};
 use std::alloc::Global;
 
-/// The items that a put gives an attribute.
+/// Returns the items that a put gives an attribute.
 pub fn put_in(alloc: Global, field: &Field, json: Option<&Json>) -> Result<Items, LineError>
     ensures { ReadsAs (λ items. items) result (put_read field.now (option_map (λ v. view v.now) json.entry)) }
 {
@@ -22,7 +22,7 @@ pub fn put_in(alloc: Global, field: &Field, json: Option<&Json>) -> Result<Items
     }
 }
 
-/// The one member of an object that has no other.
+/// Returns the only member of an object with one member.
 fn only_member_in(members: &Map<String, Json>) -> Option<(&str, &Json)>
     ensures { option_map (λ p. (p.0.now, view p.1.now)) result
         ≡ only_member (members_view members.now.entries) }
@@ -35,7 +35,7 @@ fn only_member_in(members: &Map<String, Json>) -> Option<(&str, &Json)>
     }
 }
 
-/// The change that a value of a form asks for, `None` for an operator on one item that there is none.
+/// Returns the change for a value of a form, or `None` if there is no such operator on an item.
 fn change_in(
     alloc: Global,
     field: &Field,
@@ -56,7 +56,7 @@ fn change_in(
     Ok(Some(change))
 }
 
-/// The change that an update makes of an attribute, `None` for an operator that it has not.
+/// Returns the change of an attribute by an update, or `None` if the attribute does not have the operator.
 pub fn update_in(
     alloc: Global,
     field: &Field,
@@ -75,7 +75,7 @@ pub fn update_in(
     }
 }
 
-/// What a line gives a field: a put its value, an update its operator's value.
+/// Returns what a line gives a field: the value of a put, or the value of an update's operator.
 fn value_given<'a>(operation: OpName, json: Option<&'a Json>) -> Option<&'a Json>
     ensures { option_map (λ v. view v.now) result ≡ value_given operation (option_map (λ v. view v.now) json.entry) }
 {
@@ -89,7 +89,7 @@ fn value_given<'a>(operation: OpName, json: Option<&'a Json>) -> Option<&'a Json
     }
 }
 
-/// How many members the list or object has that a line gives a field.
+/// Returns the number of members of the list or object that a line gives a field.
 pub fn members_given(operation: OpName, json: Option<&Json>) -> usize
     ensures { result ≡ members_given operation (option_map (λ v. view v.now) json.entry) }
 {

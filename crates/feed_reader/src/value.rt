@@ -19,7 +19,7 @@ fn text_in(alloc: Global, text: &str) -> Result<Value, LineError>
     Ok(Value::Text(Text::from_str(alloc, text)?))
 }
 
-/// The value that JSON writes.
+/// Returns the value in JSON.
 pub fn value_in(alloc: Global, value: ValueType, json: &Json) -> Result<Value, LineError>
     ensures { ReadsAs (λ v. v) result (value_read value (view json.now)) }
 {
@@ -29,7 +29,7 @@ pub fn value_in(alloc: Global, value: ValueType, json: &Json) -> Result<Value, L
     }
 }
 
-/// The value that the name of a member writes.
+/// Returns the value that is the name of a member.
 pub fn value_named_by(alloc: Global, value: ValueType, name: &str) -> Result<Value, LineError>
     ensures { ReadsAs (λ v. v) result (name_read value name.now) }
 {
@@ -39,7 +39,7 @@ pub fn value_named_by(alloc: Global, value: ValueType, name: &str) -> Result<Val
     }
 }
 
-/// The weight that JSON writes.
+/// Returns the weight in JSON.
 pub fn weight_in(json: &Json) -> Result<i32, LineError>
     ensures { ReadsAs (λ w. w) result (weight_read (view json.now)) }
 {

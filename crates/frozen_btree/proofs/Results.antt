@@ -18,3 +18,17 @@ is_valid b r h e = h (subst IsTrue (sym e) refl)
 pub if_err : {A E : Type 0} (P : A → Type 0) (Q : E → Type 0) (result : Result A E) → IsErrAnd result Q → IfOk result P
 if_err P Q (Ok x) told = absurd told
 if_err P Q (Err e) told = tt
+
+is_answer : {A E : Type 0} → A → Result A E → Type 0
+is_answer x (Ok y) = x ≡ y
+is_answer x (Err e) = ⊥
+
+-- an answer is one alone
+pub one_answer : {A E : Type 0} (result : Result A E) (x y : A) → result ≡ Ok x → result ≡ Ok y → x ≡ y
+unfolding is_answer
+one_answer result x y first second = subst (is_answer x) second (subst (is_answer x) (sym first) refl)
+
+-- and no error
+pub no_error : {A E P : Type 0} (result : Result A E) (x : A) (e : E) → result ≡ Ok x → result ≡ Err e → P
+unfolding is_answer
+no_error result x e first second = absurd (subst (is_answer x) second (subst (is_answer x) (sym first) refl))

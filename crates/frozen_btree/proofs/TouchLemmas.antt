@@ -167,3 +167,9 @@ module _ {H : Type 0} (bits buffer : ℕ) (c : ℕ → Ordering) (node : ℕ) (b
                 (sym (over-path m n o 1 l node i next few ref node_is low keeps all copies.makes.keeps many x.node_is x.pairs_are copies.words_are c place))
                 (apart-from bits buffer old mid new ref sealed may.sealed copies.makes.may.sealed copies.unsealed, x.apart);
           }
+
+-- where none on the way lies in the buffer, the node does not, and none on the way from its child
+pub way-apart : (bits buffer : ℕ) (m : Records) (c : ℕ → Ordering) (l node i : ℕ) → length (node_keys (m node)) ≡ length (node_values (m node)) → IsPlace c (node_keys (m node)) i
+    → NoneIn bits buffer (path_below m c (suc l) node) → (buffer_of bits node ≢ buffer) × NoneIn bits buffer (path_below m c l (get_or (node_values (m node)) i 0))
+way-apart bits buffer m c l node i even place none =
+    subst (NoneIn bits buffer) (path-over m c l node ∙ ap (λ q. node ∷ path_below m c l q) (child-place c (node_keys (m node)) (node_values (m node)) i even place)) none

@@ -1,4 +1,4 @@
--- What a change of a tree leaves of a store.
+-- How a change of a tree changes a store.
 use Rattle.std.specs.Prelude.{◌≡◌, ℕ, zero, suc, ◌+◌, ◌<◌, ◌≤◌, List, [], ◌∷◌}
 use Rattle.entry_ref.specs.Records.{Records}
 use Rattle.tree_read.specs.ProofsForTrees.{tree_nodes-same}
@@ -11,19 +11,19 @@ use Rattle.store_api.specs.Parts.{Part, times, uses, entries, Turns}
 abbrev pub tree : ℕ → Part
 tree root = record { reach = λ m. tree_nodes m root; stays = λ m n same. tree_nodes-same m n root same }
 
--- the levels of a tree, none for root 0
+-- the number of levels of a tree; root 0 has none
 abbrev pub levels : Records → ℕ → ℕ
 levels m zero = 0
 levels m (suc ref) = suc (root_level m (suc ref))
 
--- the entries of a list are dropped, and nothing else is changed
+-- the entries of a list are dropped, and nothing else changes
 pub record DropsEntries {H : Type 0} (old new : Ledger H) (m n : Records) (refs : List ℕ) : Type 0 where
   pub turns : Turns old new m n (entries refs ∷ []) []
   pub records : (r : ℕ) → times r refs ≡ 0 → n r ≡ m r
   pub none_made : (c width : ℕ) → MakesAtMost c 0 (old.of_width width) (new.of_width width)
   pub may : MayDo old new
 
--- a tree was made that has these pairs, in place of another of which it lacks these nodes
+-- a tree with these pairs was made, in place of another tree, of which it lacks these nodes
 pub record Rebuilds {H : Type 0} (old new : Ledger H) (m n : Records) (root next : ℕ) (gone : List ℕ) (pairs : List (ℕ × ℕ)) : Type 0 where
   pub node : 0 < next → IsRootNode n next
   pub pairs_are : tree_pairs n next ≡ pairs

@@ -1,4 +1,4 @@
--- What is made of a store when nodes are made.
+-- How a store changes when nodes are made.
 use Rattle.std.specs.Prelude.{◌≡◌, ◌≢◌, ℕ, ◌+◌, ◌<◌, ◌≤◌, List, [], ◌∷◌, length}
 use Rattle.entry_ref.specs.Records.{Records}
 use Rattle.store_api.specs.Ledgers.{Ledger, capacity}
@@ -9,19 +9,19 @@ use Rattle.tree_read.specs.Slots.{slot_pairs, slot_nodes}
 use Rattle.frozen_btree.specs.declared.make.Part.{Part}
 use Rattle.tree_read.specs.declared.node_format.TheConstants.{NODE_WORDS}
 
--- of the entries of tree nodes at most so many were made, and of no other width any
+-- at most `most` tree nodes were made, and no entry of another width
 pub record CountsNodes {H : Type 0} (old new : Ledger H) (most : ℕ) : Type 0 where
   pub nodes : MakesAtMost (capacity old.work.sizes.words NODE_WORDS) most (old.of_width NODE_WORDS) (new.of_width NODE_WORDS)
   pub others : (c width : ℕ) → width ≢ NODE_WORDS → MakesAtMost c 0 (old.of_width width) (new.of_width width)
 
--- at most so many nodes were made and nothing else: all records stay, and what was in use is so still
+-- at most `most` nodes were made, and nothing else changed: all records stay, and what was in use still is
 pub record MakesNodes {H : Type 0} (old new : Ledger H) (m n : Records) (most : ℕ) : Type 0 where
   pub keeps : Keeps m n
   pub stays : (r : ℕ) → uses old r ≤ uses new r
   pub counts : CountsNodes old new most
   pub may : MayDo old new
 
--- a node of these slots was made, where no record was
+-- a node with these slots was made, at a reference that had no record
 pub record MakesNode {H : Type 0} (old new : Ledger H) (m n : Records) (level : ℕ) (keys values : List ℕ) (ref : ℕ) : Type 0 where
   pub some : 0 < ref
   pub node : IsNode n (length keys) level ref
@@ -30,12 +30,12 @@ pub record MakesNode {H : Type 0} (old new : Ledger H) (m n : Records) (level : 
   pub used : (r : ℕ) → uses new r ≡ uses old r + times r (ref ∷ [])
   pub makes : MakesNodes old new m n 1
 
--- the same of a part, with its last key
+-- the same for a part, with its last key
 pub record MakesPart {H : Type 0} (old new : Ledger H) (m n : Records) (level : ℕ) (keys values : List ℕ) (part : Part) : Type 0 where
   pub node : MakesNode old new m n level keys values part.node
   pub key : part.key ≡ last_key (pairs_below n level part.node)
 
--- slots of a root in hand were made, or given up for a single child
+-- the slots of a root in memory became a node, or gave way to a single child
 pub record MakesRoot {H : Type 0} (old new : Ledger H) (m n : Records) (level : ℕ) (keys values : List ℕ) (root : ℕ) : Type 0 where
   pub node : 0 < root → IsRootNode n root
   pub pairs_are : tree_pairs n root ≡ slot_pairs m level keys values

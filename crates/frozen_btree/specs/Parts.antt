@@ -20,17 +20,17 @@ abbrev pub part_nodes : Parts → List ℕ
 part_nodes (One part) = part.node ∷ []
 part_nodes (Two first second) = first.node ∷ second.node ∷ []
 
--- the pairs of parts, as their nodes say
+-- the number of pairs below parts, according to the counts of their nodes
 abbrev pub parts_count : Records → Parts → ℕ
 parts_count m (One part) = count_of (m part.node)
 parts_count m (Two first second) = count_of (m first.node) + count_of (m second.node)
 
--- a word in place of another, where that is found, or before it
+-- a word replaces another if that was found, or is inserted before it
 abbrev pub put_at : Bool → ℕ → ℕ → List ℕ → List ℕ
 put_at true place word words = take place words ++ (word ∷ drop (suc place) words)
 put_at false place word words = insert words place word
 
--- one part has as many slots as what it stands for, two have at least 8 each
+-- a single part has as many slots as the node that it replaces; two parts have at least 8 each
 abbrev pub parts_least : ℕ → Parts → ℕ
 parts_least least (One part) = least
 parts_least least (Two first second) = LEAST_SLOTS
@@ -42,15 +42,15 @@ pub record AreParts (n : Records) (least level : ℕ) (parts : Parts) (pairs : L
   pub keys : part_keys parts ≡ map (λ ref. last_key (pairs_below n level ref)) (part_nodes parts)
   pub pairs_are : flat_map (pairs_below n level) (part_nodes parts) ≡ pairs
 
--- slots in hand were made
+-- slots in memory became parts
 pub record MakesParts {H : Type 0} (old new : Ledger H) (m n : Records) (level : ℕ) (keys values : List ℕ) (parts : Parts) : Type 0 where
   pub parts_are : AreParts n (length keys) level parts (slot_pairs m level keys values)
   pub makes : MakesNodes old new m n 2
-  -- the nodes of the parts are those below the slots, and what is newly in use
+  -- the nodes of the parts are those below the slots, and the entries newly in use
   pub balance : (ref : ℕ) → times ref (slot_nodes m level values) + uses new ref
       ≡ uses old ref + times ref (flat_map (nodes_below n level) (part_nodes parts))
 
--- a root stands for parts of a level: the one part, or a node of the next level over two
+-- a root over the parts of a level: the single part, or a node of the next level over two
 pub record IsRootOver {H : Type 0} (old new : Ledger H) (m n : Records) (level : ℕ) (parts : Parts) (root : ℕ) : Type 0 where
   pub height : ℕ
   pub low : height ≤ 7

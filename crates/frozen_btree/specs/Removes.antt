@@ -1,4 +1,4 @@
--- What a removal makes of a node and of a tree.
+-- How a removal changes a node and a tree.
 use Rattle.std.specs.Prelude.{◌≡◌, ◌^◌, ℕ, suc, ◌+◌, ◌*◌, ◌<◌, ◌≤◌, List, ◌∷◌, ◌++◌, length, take, drop, slice_index, IsSome}
 use Rattle.std.specs.declared.cmp.Ordering.{Ordering}
 use Rattle.entry_ref.specs.Records.{Records}
@@ -11,7 +11,7 @@ use Rattle.frozen_btree.specs.Makes.{MakesNodes}
 use Rattle.tree_read.specs.Slots.{slot_pairs, slot_nodes, IsInHand}
 use Rattle.tree_read.specs.declared.node_format.TheConstants.{MOST_SLOTS, LEAST_SLOTS}
 
--- the pairs below slots, with these in place of those of one child
+-- the pairs below slots, with these pairs in place of those of one child
 abbrev pub spliced : Records → ℕ → ℕ → List ℕ → List ℕ → List (ℕ × ℕ) → List (ℕ × ℕ)
 spliced m level place keys values pairs =
     slot_pairs m (suc level) (take place keys) (take place values)
@@ -30,7 +30,8 @@ pub record IsChild (m : Records) (level child : ℕ) (keys values : List ℕ) : 
   pub least : LEAST_SLOTS ≤ length keys
   pub room : length keys ≤ MOST_SLOTS
 
--- a child in hand was made, with a sibling where it was a slot short, and stands in its parent, which has lost a slot or none
+-- a child in memory was made, together with a sibling if it was one slot short, and is in its parent, which has lost
+-- at most one slot
 pub record PutsBack {H : Type 0} (old new : Ledger H) (m n : Records) (level place : ℕ)
     (keys values child_keys child_values before after keys_after values_after : List ℕ) : Type 0 where
   pub hand : IsInHand n (suc level) keys_after values_after
@@ -40,7 +41,7 @@ pub record PutsBack {H : Type 0} (old new : Ledger H) (m n : Records) (level pla
       ≡ uses new r + times r before + times r (nodes_beside m level place values) + times r (slot_nodes m level child_values)
   pub gone : (r : ℕ) → times r after ≤ times r before + times r (nodes_beside m level place values)
   pub path : length after ≤ suc (length before)
-  -- 1 where it has lost none
+  -- 1 if it has lost none
   pub extra : ℕ
   pub one : extra ≤ 1
   pub filled : extra + length keys ≡ suc (length keys_after)
@@ -49,7 +50,7 @@ pub record PutsBack {H : Type 0} (old new : Ledger H) (m n : Records) (level pla
   pub most_is : most ≤ suc extra
   pub whole : LEAST_SLOTS ≤ length child_keys → most ≤ extra
 
--- the child of a node under which a key is, whose level this is
+-- the child of a node of this level under which a key lies
 pub record IsStep (c : ℕ → Ordering) (m : Records) (level node : ℕ) (keys values : List ℕ) (place child : ℕ) : Type 0 where
   pub hand : IsInHand m (suc level) keys values
   pub nodes_are : nodes_below m (suc level) node ≡ node ∷ slot_nodes m (suc level) values
@@ -63,7 +64,7 @@ pub record IsStep (c : ℕ → Ordering) (m : Records) (level node : ℕ) (keys 
   pub there : IsSome (lookup c (pairs_below m level child))
   pub out : take_out c (pairs_below m (suc level) node) ≡ spliced m level place keys values (take_out c (pairs_below m level child))
 
--- a pair was taken out below a node, which is in hand and has lost a slot or none
+-- a pair was removed below a node, which is in memory and has lost at most one slot
 pub record Removes {H : Type 0} (c : ℕ → Ordering) (old new : Ledger H) (m n : Records) (level node : ℕ)
     (before after keys values : List ℕ) : Type 0 where
   pub hand : IsInHand n level keys values
@@ -72,7 +73,7 @@ pub record Removes {H : Type 0} (c : ℕ → Ordering) (old new : Ledger H) (m n
       ≡ uses new r + times r before + times r (nodes_below m level node)
   pub gone : (r : ℕ) → times r after ≤ times r before + times r (nodes_below m level node)
   pub path : length after ≤ length before + (2 * level + 1)
-  -- 1 where it has lost none
+  -- 1 if it has lost none
   pub extra : ℕ
   pub one : extra ≤ 1
   pub filled : extra + used_of (m node) ≡ suc (length keys)

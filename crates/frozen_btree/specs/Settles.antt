@@ -1,4 +1,4 @@
--- Nodes that are made in place of one child or of two neighbours.
+-- Nodes made in place of one child or of two neighbours.
 use Rattle.std.specs.Prelude.{◌≡◌, ℕ, suc, ◌+◌, ◌<◌, ◌≤◌, List, ◌++◌, length, take, drop}
 use Rattle.entry_ref.specs.Records.{Records}
 use Rattle.store_api.specs.Ledgers.{Ledger}
@@ -6,7 +6,8 @@ use Rattle.store_api.specs.Parts.{times, uses}
 use Rattle.frozen_btree.specs.Makes.{MakesNodes}
 use Rattle.tree_read.specs.Slots.{slot_pairs, slot_nodes, IsInHand}
 
--- nodes of a level were made, under these slots: the pairs below them are these, the nodes below them these and what is newly in use
+-- nodes of a level were made, with these slots: the pairs below them are these, and the nodes below them are these
+-- and the entries newly in use
 pub record MakesSlots {H : Type 0} (old new : Ledger H) (m n : Records) (level : ℕ) (pairs : List (ℕ × ℕ))
     (nodes keys values : List ℕ) : Type 0 where
   pub hand : IsInHand n (suc level) keys values
@@ -14,7 +15,7 @@ pub record MakesSlots {H : Type 0} (old new : Ledger H) (m n : Records) (level :
   pub balance : (r : ℕ) → times r (slot_nodes n (suc level) values) + uses old r ≡ uses new r + times r nodes
   pub makes : MakesNodes old new m n (length values)
 
--- the same, and their slots stand in a parent's in place of so many from a first on
+-- the same, with their slots in a parent, in place of `width` slots from `first` on
 pub record SettlesSlots {H : Type 0} (old new : Ledger H) (m n : Records) (level : ℕ) (pairs : List (ℕ × ℕ)) (nodes : List ℕ)
     (first width : ℕ) (keys values keys_after values_after : List ℕ) : Type 0 where
   pub made_keys : List ℕ

@@ -1,4 +1,4 @@
--- What a touch makes of a node and of those below it.
+-- How a touch changes a node and those below it.
 use Rattle.std.specs.Prelude.{◌≡◌, ℕ, suc, ◌+◌, ◌<◌, ◌≤◌, List, [], ◌∷◌, length, false}
 use Rattle.std.specs.declared.cmp.Ordering.{Ordering}
 use Rattle.entry_ref.specs.References.{buffer_of}
@@ -10,7 +10,7 @@ use Rattle.tree_read.specs.Trees.{pairs_below, nodes_below, IsNode}
 use Rattle.frozen_btree.specs.Makes.{MakesNodes}
 use Rattle.frozen_btree.specs.Paths.{NoneIn, path_below}
 
--- a node was made of exactly these words, in a buffer that is not sealed
+-- a node with exactly these words was made, in a buffer that is not sealed
 pub record CopiesNode {H : Type 0} (bits : ℕ) (old new : Ledger H) (m n : Records) (words : List ℕ) (ref : ℕ) : Type 0 where
   pub some : 0 < ref
   pub words_are : n ref ≡ words
@@ -18,7 +18,7 @@ pub record CopiesNode {H : Type 0} (bits : ℕ) (old new : Ledger H) (m n : Reco
   pub unsealed : new.sealed (buffer_of bits ref) ≡ false
   pub makes : MakesNodes old new m n 1
 
--- a node stands for another with the same pairs; on the way to the key none of its nodes lies in the buffer
+-- a node replaces another with the same pairs; on the way to the key none of its nodes lies in the buffer
 pub record Touches {H : Type 0} (bits buffer : ℕ) (c : ℕ → Ordering) (old new : Ledger H) (m n : Records) (level node next : ℕ)
     (before after : List ℕ) : Type 0 where
   pub some : 0 < next

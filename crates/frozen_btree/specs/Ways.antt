@@ -15,17 +15,17 @@ tree_keys m root = map (λ p. p.0) (tree_pairs m root)
 abbrev pub keys_below : Records → ℕ → List ℕ
 keys_below m node = map (λ p. p.0) (pairs_below m (level_of (m node)) node)
 
--- a node stands on the way to each key below it
+-- a node is on the way to each key below it
 abbrev pub NodesStandOnWays : {V : Type 0} → (V → V → Ordering) → (Records → ℕ → V) → Type 0
 NodesStandOnWays order read = (m : Records) (root node key : ℕ) → IsTree order read m root → Among node (tree_nodes m root)
     → Among key (keys_below m node) → Among node (path_nodes m (seen_by read order (read m key) m) root)
 
--- below each node is a key of the tree
+-- there is a key of the tree below each node
 abbrev pub NodesHaveKeys : {V : Type 0} → (V → V → Ordering) → (Records → ℕ → V) → Type 0
 NodesHaveKeys order read = (m : Records) (root node : ℕ) → IsTree order read m root → Among node (tree_nodes m root)
     → (key : ℕ) × Among key (keys_below m node) × Among key (tree_keys m root)
 
--- no node lies in a buffer where none on the way to a key does
+-- if no node on the way to any key lies in a buffer, no node of the tree does
 abbrev pub WaysHaveAllNodes : {V : Type 0} → ℕ → (V → V → Ordering) → (Records → ℕ → V) → Type 0
 WaysHaveAllNodes bits order read = (m : Records) (root buffer : ℕ) → IsTree order read m root
     → ((key : ℕ) → Among key (tree_keys m root) → NoneIn bits buffer (path_nodes m (seen_by read order (read m key) m) root))

@@ -1,4 +1,4 @@
--- The words of a node in hand.
+-- The words of a node in memory.
 use Rattle.std.specs.Prelude.{◌≡◌, ℕ, ◌≤◌, List, length}
 use Rattle.tree_read.specs.Nodes.{node_words}
 use Rattle.tree_read.specs.declared.node_format.TheConstants.{MOST_SLOTS}

@@ -7,7 +7,7 @@ use entry_ref::EntryRef;
 use store_api::{Store, StoreError};
 use tree_read::{FIRST_VALUE, MOST_SLOTS, NODE_WORDS, read_words};
 
-/// Makes a node of these words.
+/// Makes a node with these words.
 fn make_words<const OFFSET_BITS: u32, S: Store<OFFSET_BITS>>(
     store: &mut S,
     words: &[u64; NODE_WORDS],
@@ -21,7 +21,7 @@ fn make_words<const OFFSET_BITS: u32, S: Store<OFFSET_BITS>>(
     store.make(NODE_WORDS as u32, words)
 }
 
-/// Makes a node of the words of another.
+/// Makes a copy of a node.
 pub fn copy_of<const OFFSET_BITS: u32, S: Store<OFFSET_BITS>>(
     store: &mut S,
     node: EntryRef<OFFSET_BITS>,
@@ -38,7 +38,7 @@ pub fn copy_of<const OFFSET_BITS: u32, S: Store<OFFSET_BITS>>(
     make_words(store, &words)
 }
 
-/// Makes a node of the words of another, with another child in one slot.
+/// Makes a copy of a node, with another child in one slot.
 pub fn copy_with<const OFFSET_BITS: u32, S: Store<OFFSET_BITS>>(
     store: &mut S,
     node: EntryRef<OFFSET_BITS>,

@@ -15,7 +15,7 @@ use entry_ref::EntryRef;
 use store_api::{Store, StoreError};
 use tree_read::{FIRST_VALUE, KeyOrder, NODE_WORDS, used_in, visit};
 
-/// Makes a leaf anew with a pair put in.
+/// Makes a new leaf with a pair inserted.
 fn insert_in_leaf<const OFFSET_BITS: u32, S: Store<OFFSET_BITS>, K: KeyOrder<OFFSET_BITS>>(
     store: &mut S,
     node: EntryRef<OFFSET_BITS>,
@@ -62,8 +62,8 @@ fn visit_inner<const OFFSET_BITS: u32, F: Frozen<OFFSET_BITS>, K: KeyOrder<OFFSE
     }
 }
 
-/// Puts a pair below a node of this level, by new nodes on the path of its key. The nodes of the path are
-/// added to those that are replaced.
+/// Inserts a pair below a node of this level, by copying the nodes on the path of its key. Adds the nodes of the path
+/// to the replaced ones.
 pub fn insert_below<const OFFSET_BITS: u32, S: Store<OFFSET_BITS>, K: KeyOrder<OFFSET_BITS>>(
     store: &mut S,
     node: EntryRef<OFFSET_BITS>,

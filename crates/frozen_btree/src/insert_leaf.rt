@@ -9,7 +9,8 @@ use crate::set_slot;
 use store_api::{Store, StoreError};
 use tree_read::{NODE_WORDS, Spot, used_in};
 
-/// Puts a pair among the slots of a leaf in hand, where its key was sought, and makes it, or two of one that was full.
+/// Inserts a pair into the slots of a leaf in memory, at the position that the search found, and makes the leaf, or
+/// two leaves if it was full.
 pub fn put_pair<const OFFSET_BITS: u32, S: Store<OFFSET_BITS>>(
     store: &mut S,
     words: &mut [u64; NODE_WORDS],

@@ -18,7 +18,7 @@ use entry_ref::EntryRef;
 use store_api::{Store, StoreError};
 use tree_read::{KeyOrder, NODE_WORDS, Slots};
 
-/// The root over parts of a level: one part alone, or a node of the next level with both.
+/// Returns the root over the parts of a level: a single part itself, or a node of the next level over both.
 fn root_over<const OFFSET_BITS: u32, S: Store<OFFSET_BITS>>(
     store: &mut S,
     level: u64,
@@ -53,7 +53,7 @@ fn root_over<const OFFSET_BITS: u32, S: Store<OFFSET_BITS>>(
     }
 }
 
-/// Makes the tree with a pair, with the nodes of the old one that it lacks added to those that are replaced.
+/// Makes the tree with the pair, and adds the nodes of the old tree that the new one lacks to the replaced ones.
 fn rebuild<const OFFSET_BITS: u32, S: Store<OFFSET_BITS>, K: KeyOrder<OFFSET_BITS>>(
     store: &mut S,
     root: EntryRef<OFFSET_BITS>,
@@ -81,8 +81,8 @@ fn rebuild<const OFFSET_BITS: u32, S: Store<OFFSET_BITS>, K: KeyOrder<OFFSET_BIT
     root_over(store, level, &parts)
 }
 
-/// Puts a pair, its key `word` in place of an equal one. The answer is the new root; the nodes of the old
-/// tree that are not in the new one are dropped.
+/// Inserts a pair; `word` replaces an equal key. Returns the new root, and drops the nodes of the old tree that are
+/// not in the new one.
 pub fn insert<const OFFSET_BITS: u32, S: Store<OFFSET_BITS>, K: KeyOrder<OFFSET_BITS>>(
     store: &mut S,
     root: EntryRef<OFFSET_BITS>,

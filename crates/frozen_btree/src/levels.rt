@@ -44,8 +44,8 @@ fn build_over<const OFFSET_BITS: u32, S: Store<OFFSET_BITS>>(
     build_over(alloc, store, level + 1, &row.keys, &row.nodes)
 }
 
-/// Makes a tree of pairs, whose keys ascend. The pairs go into the fewest nodes, whose sizes differ by at
-/// most one, and so do these, up to the root. Of no pair the root is 0.
+/// Makes a tree of pairs with ascending keys. The pairs are divided into the fewest nodes, with sizes that differ by
+/// at most one, and so are the nodes of each level, up to the root. Without pairs the root is 0.
 pub fn build<const OFFSET_BITS: u32, S: Store<OFFSET_BITS>, K: KeyOrder<OFFSET_BITS>>(
     alloc: Global,
     store: &mut S,

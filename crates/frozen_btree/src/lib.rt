@@ -1,21 +1,13 @@
-//! The frozen tree under one name: a B+tree of 64-bit keys and values whose nodes are records that are never
-//! written again.
+//! A frozen B+tree of 64-bit keys and values: its nodes are records that are never written again.
 //!
-//! A change makes the nodes on one path anew and answers a new root, so an old root reads as before for as
-//! long as its records stay, and is read without a lock. A tree is a root: 0 where it is empty, else the
-//! reference of its top node. Its pairs ascend by key, in an order that a `KeyOrder` gives.
+//! A change copies the nodes on one path and returns a new root. An old root stays readable, without a lock, as long
+//! as its records exist. A tree is a root: 0 if it is empty, otherwise the reference of its top node. Its pairs
+//! ascend by key, in an order that a `KeyOrder` gives.
 //!
-//! Nodes of trees, made: a node of slots, the root of a tree, and the nodes dropped that others replace.
+//! The modules make nodes from slots, insert and remove pairs, build a whole tree from a list, drop a tree, and copy
+//! the path to a key out of a sealed buffer (`touch`), which compaction uses.
 //!
-//! Insertion into trees of nodes: a pair is put in its place by new nodes on the path of its key.
-//!
-//! Removal from trees of nodes: a pair is taken out by new nodes on the path of its key.
-//!
-//! Whole trees: a list made into a tree of even groups, a leaf of up to 16 pairs, and a tree dropped.
-//!
-//! A key's path made anew where it lies in a sealed buffer: what a compaction moves trees with.
-//!
-//! Laws of the ways to keys in a tree: each node stands on the way to each key below it.
+//! The laws say that each node is on the way to each key below it.
 #![tactic(auto)]
 
 mod build_drops;

@@ -11,14 +11,14 @@ use entry_ref::EntryRef;
 use store_api::{Store, StoreError};
 use tree_read::{MOST_SLOTS, NODE_WORDS, Slots, append, used_in};
 
-/// A node that was made, as the slot of its parent is to hold it: its last key and its reference.
+/// A node that was made, as its parent's slot holds it: its last key and its reference.
 #[derive(Clone, Copy, Debug, Drop)]
 pub struct Part {
     pub key: u64,
     pub node: u32,
 }
 
-/// The number of pairs below slots.
+/// Returns the number of pairs below slots.
 pub fn pairs_in<const OFFSET_BITS: u32, F: Frozen<OFFSET_BITS>>(
     frozen: &mut F,
     slots: &Slots,
@@ -38,7 +38,7 @@ pub fn pairs_in<const OFFSET_BITS: u32, F: Frozen<OFFSET_BITS>>(
     count
 }
 
-/// Appends the words of slots, with zeros for those that are not used.
+/// Appends the words of slots, followed by zeros for the unused slots.
 fn push_slots(words: &mut ArrayVec<u64, NODE_WORDS>, slots: &[u64])
     requires few { length slots.now ≤ MOST_SLOTS }
     requires room { length words.old.items ≤ 18 }
@@ -49,7 +49,7 @@ fn push_slots(words: &mut ArrayVec<u64, NODE_WORDS>, slots: &[u64])
     append(words, &zeros[slots.len()..]);
 }
 
-/// The words of a node.
+/// Returns the words of a node.
 fn words_of(slots: &Slots, count: u64) -> ArrayVec<u64, NODE_WORDS>
     requires even { length slots.now.keys.items ≡ length slots.now.values.items }
     requires few { length slots.now.keys.items ≤ MOST_SLOTS }
@@ -64,7 +64,7 @@ fn words_of(slots: &Slots, count: u64) -> ArrayVec<u64, NODE_WORDS>
     words
 }
 
-/// Makes a node of slots in hand.
+/// Makes a node of slots in memory.
 pub fn make_part<const OFFSET_BITS: u32, S: Store<OFFSET_BITS>>(
     store: &mut S,
     slots: &Slots,
@@ -91,7 +91,7 @@ pub fn make_part<const OFFSET_BITS: u32, S: Store<OFFSET_BITS>>(
     })
 }
 
-/// Makes the node of words in hand.
+/// Makes a node of words in memory.
 pub fn make_words<const OFFSET_BITS: u32, S: Store<OFFSET_BITS>>(
     store: &mut S,
     words: &[u64; NODE_WORDS],

@@ -60,7 +60,7 @@ pub fn set_part(slots: &mut Slots, place: usize, part: Part)
     slots.values[place] = u64::from(part.node);
 }
 
-/// Makes one node of two neighbours, and sets its slot in their parent.
+/// Merges two neighbours into one node, and sets its slot in their parent.
 fn merge<const OFFSET_BITS: u32, S: Store<OFFSET_BITS>>(
     store: &mut S,
     slots: &mut Slots,
@@ -99,7 +99,8 @@ fn merge<const OFFSET_BITS: u32, S: Store<OFFSET_BITS>>(
     Ok(())
 }
 
-/// Makes two nodes of two neighbours, with one slot moved from the longer to the other, and sets their slots in their parent.
+/// Makes two nodes of two neighbours after moving one slot from the longer to the other, and sets their slots in
+/// their parent.
 fn share<const OFFSET_BITS: u32, S: Store<OFFSET_BITS>>(
     store: &mut S,
     slots: &mut Slots,
@@ -144,7 +145,7 @@ fn share<const OFFSET_BITS: u32, S: Store<OFFSET_BITS>>(
     Ok(())
 }
 
-/// Makes one node or two of two neighbours of which one has 7 slots, and sets their slots in their parent.
+/// Makes one node or two of two neighbours, one of which has 7 slots, and sets their slots in their parent.
 pub fn make_neighbours<const OFFSET_BITS: u32, S: Store<OFFSET_BITS>>(
     store: &mut S,
     slots: &mut Slots,

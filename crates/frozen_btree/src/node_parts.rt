@@ -15,7 +15,7 @@ pub fn set_slot(words: &mut [u64; NODE_WORDS], pairs: u64, slot: usize, key: u64
     words[FIRST_VALUE + slot] = value;
 }
 
-/// Puts a word among 16, the last of which goes.
+/// Inserts a word among 16 words; the last word is lost.
 fn put_between(words: &mut [u64], slot: usize, word: u64)
     requires size { length words.old ≡ MOST_SLOTS }
     requires slot { slot < MOST_SLOTS }
@@ -25,7 +25,7 @@ fn put_between(words: &mut [u64], slot: usize, word: u64)
     words[slot] = word;
 }
 
-/// Puts a word among the first 16 of 32, and one at the same place among the others.
+/// Inserts a word among the first 16 of 32 words, and another at the same place among the other 16.
 fn put_both(words: &mut [u64], slot: usize, key: u64, value: u64)
     requires size { length words.old ≡ 32 }
     requires slot { slot < MOST_SLOTS }
@@ -37,7 +37,7 @@ fn put_both(words: &mut [u64], slot: usize, key: u64, value: u64)
     put_between(values, slot, value);
 }
 
-/// Puts a slot before another, or behind all, where there is room for it, and sets the count of pairs.
+/// Inserts a slot before another or at the end, if it fits, and sets the count of pairs.
 pub fn add_slot(words: &mut [u64; NODE_WORDS], pairs: u64, slot: usize, key: u64, value: u64)
     requires slot { slot < MOST_SLOTS }
     requires head { slice_index words.old 0 + 1 < 2 ^ 64 }

@@ -15,7 +15,7 @@ use entry_ref::EntryRef;
 use store_api::{Store, StoreError};
 use tree_read::{LEAST_SLOTS, MOST_SLOTS, NODE_WORDS, Slots, read_node, slots_of, used_in};
 
-/// Reads a child of a node in hand, and adds it to the nodes that are replaced.
+/// Reads a child of a node in memory, and adds it to the replaced nodes.
 fn read_child<const OFFSET_BITS: u32, F: Frozen<OFFSET_BITS>>(
     frozen: &mut F,
     slots: &Slots,
@@ -37,8 +37,8 @@ fn read_child<const OFFSET_BITS: u32, F: Frozen<OFFSET_BITS>>(
     read_node(frozen, child)
 }
 
-/// Makes a child in hand that has only 7 slots, with a sibling, and sets their slots in the parent. The sibling
-/// is added to the nodes that are replaced.
+/// Makes a child in memory that has only 7 slots, together with a sibling, and sets their slots in the parent. Adds
+/// the sibling to the replaced nodes.
 fn put_back<const OFFSET_BITS: u32, S: Store<OFFSET_BITS>>(
     store: &mut S,
     slots: &mut Slots,
@@ -74,8 +74,8 @@ fn put_back<const OFFSET_BITS: u32, S: Store<OFFSET_BITS>>(
     }
 }
 
-/// Makes a child in hand that has only 7 slots, with a sibling, and sets their slots in the words of the parent,
-/// which then has this count of pairs.
+/// Makes a child in memory that has only 7 slots, together with a sibling, and sets their slots and the count of
+/// pairs in the words of the parent.
 fn put_short<const OFFSET_BITS: u32, S: Store<OFFSET_BITS>>(
     store: &mut S,
     words: &mut [u64; NODE_WORDS],
@@ -114,8 +114,8 @@ fn put_short<const OFFSET_BITS: u32, S: Store<OFFSET_BITS>>(
     Ok(())
 }
 
-/// Makes a child in hand that has lost a pair, with a sibling where it has only 7 slots, and sets their slots in
-/// the words of the parent. The sibling is added to the nodes that are replaced.
+/// Makes a child in memory that has lost a pair, together with a sibling if it has only 7 slots, and sets their slots
+/// in the words of the parent. Adds the sibling to the replaced nodes.
 pub fn put_child<const OFFSET_BITS: u32, S: Store<OFFSET_BITS>>(
     store: &mut S,
     words: &mut [u64; NODE_WORDS],

@@ -14,14 +14,14 @@ use entry_ref::EntryRef;
 use store_api::{Store, StoreError};
 use tree_read::{MOST_SLOTS, NODE_WORDS, Slots, append, slots_of, used_in};
 
-/// What is made in place of a node: one node, or two.
+/// The nodes that replace a node: one or two.
 #[derive(Clone, Copy, Debug, Drop)]
 pub enum Parts {
     One(Part),
     Two(Part, Part),
 }
 
-/// Takes the slots from the ninth on away.
+/// Splits off the slots from the ninth on.
 fn split(slots: &mut Slots) -> Slots
     requires even { length slots.old.keys.items ≡ length slots.old.values.items }
     requires many { 9 ≤ length slots.old.keys.items }
@@ -44,7 +44,7 @@ fn split(slots: &mut Slots) -> Slots
     rest
 }
 
-/// Makes a node of up to 16 slots, or two of 17, the first with nine.
+/// Makes one node of up to 16 slots, or two nodes of 17 slots, the first with nine.
 pub fn make_parts<const OFFSET_BITS: u32, S: Store<OFFSET_BITS>>(
     store: &mut S,
     slots: &mut Slots,
@@ -69,7 +69,7 @@ pub fn make_parts<const OFFSET_BITS: u32, S: Store<OFFSET_BITS>>(
     Ok(Parts::Two(first, second))
 }
 
-/// Makes a node of words in hand.
+/// Makes a node of words in memory.
 pub fn make_one<const OFFSET_BITS: u32, S: Store<OFFSET_BITS>>(
     store: &mut S,
     words: &[u64; NODE_WORDS],
@@ -88,8 +88,8 @@ pub fn make_one<const OFFSET_BITS: u32, S: Store<OFFSET_BITS>>(
     Ok(Parts::One(make_words(store, words)?))
 }
 
-/// Puts a slot before another, or behind all, and makes the node, or two of one that was full. `pairs` is the
-/// count of both.
+/// Inserts a slot before another or at the end, and makes the node, or two nodes if it was full. `pairs` is the count
+/// of both.
 pub fn put_slot<const OFFSET_BITS: u32, S: Store<OFFSET_BITS>>(
     store: &mut S,
     words: &mut [u64; NODE_WORDS],
@@ -123,7 +123,7 @@ pub fn put_slot<const OFFSET_BITS: u32, S: Store<OFFSET_BITS>>(
     make_parts(store, &mut slots)
 }
 
-/// Puts parts in place of a slot, and makes the node, or two of one that was full. `pairs` is the count of both.
+/// Replaces a slot by parts, and makes the node, or two nodes if it was full. `pairs` is the count of both.
 pub fn put_parts<const OFFSET_BITS: u32, S: Store<OFFSET_BITS>>(
     store: &mut S,
     words: &mut [u64; NODE_WORDS],
@@ -164,7 +164,7 @@ pub fn put_parts<const OFFSET_BITS: u32, S: Store<OFFSET_BITS>>(
     }
 }
 
-/// The pairs of parts, as their nodes say.
+/// Returns the number of pairs below parts, according to the counts of their nodes.
 pub fn count_parts<const OFFSET_BITS: u32, F: Frozen<OFFSET_BITS>>(
     frozen: &mut F,
     parts: &Parts,

@@ -18,14 +18,14 @@ use entry_ref::EntryRef;
 use store_api::{Store, StoreError};
 use tree_read::{FIRST_VALUE, KeyOrder, NODE_WORDS, visit};
 
-/// The child of a node above the leaves under which a key is.
+/// The child of a node above the leaves under which a key lies.
 #[derive(Clone, Copy, Drop)]
 struct Descent<const OFFSET_BITS: u32> {
     place: usize,
     child: EntryRef<OFFSET_BITS>,
 }
 
-/// Reads a node above the leaves, and finds the child under which the key is.
+/// Reads a node above the leaves, and finds the child under which the key lies.
 fn step_down<const OFFSET_BITS: u32, F: Frozen<OFFSET_BITS>, K: KeyOrder<OFFSET_BITS>>(
     frozen: &mut F,
     node: EntryRef<OFFSET_BITS>,
@@ -55,7 +55,7 @@ fn step_down<const OFFSET_BITS: u32, F: Frozen<OFFSET_BITS>, K: KeyOrder<OFFSET_
     Descent { place, child }
 }
 
-/// Takes a pair out of a leaf, which is in hand then.
+/// Removes a pair from a leaf, whose words are then in memory.
 fn remove_in_leaf<const OFFSET_BITS: u32, F: Frozen<OFFSET_BITS>, K: KeyOrder<OFFSET_BITS>>(
     frozen: &mut F,
     node: EntryRef<OFFSET_BITS>,
@@ -77,8 +77,8 @@ fn remove_in_leaf<const OFFSET_BITS: u32, F: Frozen<OFFSET_BITS>, K: KeyOrder<OF
     take_slot(words, pairs, slot);
 }
 
-/// Takes a pair out below a node, by new nodes under it; the words of the node itself are in hand then. The old
-/// nodes are added to those that are replaced.
+/// Removes a pair below a node, by copying the nodes below it. The words of the node itself are then in memory. Adds
+/// the old nodes to the replaced ones.
 pub fn remove_below<const OFFSET_BITS: u32, S: Store<OFFSET_BITS>, K: KeyOrder<OFFSET_BITS>>(
     store: &mut S,
     node: EntryRef<OFFSET_BITS>,

@@ -18,7 +18,7 @@ use entry_ref::EntryRef;
 use store_api::{Store, StoreError};
 use tree_read::{KeyOrder, NODE_WORDS, slots_of, used_in};
 
-/// The root of words in hand: none where no slot is left, and above the leaves the child of a single one.
+/// Makes the root from words in memory: 0 if no slot is left, and, above the leaves, the child of a single slot.
 fn make_top<const OFFSET_BITS: u32, S: Store<OFFSET_BITS>>(
     store: &mut S,
     words: &[u64; NODE_WORDS],
@@ -43,7 +43,7 @@ fn make_top<const OFFSET_BITS: u32, S: Store<OFFSET_BITS>>(
     Ok(EntryRef::from_raw(part.node))
 }
 
-/// Makes the tree without a pair, with the nodes of the old one that it lacks added to those that are replaced.
+/// Makes the tree without the pair, and adds the nodes of the old tree that the new one lacks to the replaced ones.
 fn rebuild<const OFFSET_BITS: u32, S: Store<OFFSET_BITS>, K: KeyOrder<OFFSET_BITS>>(
     store: &mut S,
     root: EntryRef<OFFSET_BITS>,
@@ -70,8 +70,8 @@ fn rebuild<const OFFSET_BITS: u32, S: Store<OFFSET_BITS>, K: KeyOrder<OFFSET_BIT
     make_top(store, &words)
 }
 
-/// Takes out the pair of a key that is there. The answer is the new root, 0 where no pair is left; the nodes
-/// of the old tree that are not in the new one are dropped.
+/// Removes the pair of a key that exists. Returns the new root, or 0 if no pair is left, and drops the nodes of the
+/// old tree that are not in the new one.
 pub fn remove<const OFFSET_BITS: u32, S: Store<OFFSET_BITS>, K: KeyOrder<OFFSET_BITS>>(
     store: &mut S,
     root: EntryRef<OFFSET_BITS>,

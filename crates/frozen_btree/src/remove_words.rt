@@ -5,7 +5,7 @@ ghost use Rattle.frozen_btree.specs.Words.{AreWords};
 
 use tree_read::{FIRST_KEY, MOST_SLOTS, NODE_WORDS, Slots};
 
-/// Takes one of 16 words out, for which a zero stands at the end.
+/// Removes one of 16 words, and puts a zero at the end.
 fn take_between(words: &mut [u64], slot: usize)
     requires size { length words.old ≡ MOST_SLOTS }
     requires slot { slot < MOST_SLOTS }
@@ -15,7 +15,7 @@ fn take_between(words: &mut [u64], slot: usize)
     words[MOST_SLOTS - 1] = 0;
 }
 
-/// Takes a word out of the first 16 of 32, and the one at the same place out of the others.
+/// Removes a word from the first 16 of 32 words, and the one at the same place from the other 16.
 fn take_both(words: &mut [u64], slot: usize)
     requires size { length words.old ≡ 32 }
     requires slot { slot < MOST_SLOTS }
@@ -27,7 +27,7 @@ fn take_both(words: &mut [u64], slot: usize)
     take_between(values, slot);
 }
 
-/// Takes a slot out of the words of a node, and sets the count of pairs.
+/// Removes a slot from the words of a node, and sets the count of pairs.
 pub fn take_slot(words: &mut [u64; NODE_WORDS], pairs: u64, slot: usize)
     requires slot { slot < MOST_SLOTS }
     requires head { 0 < slice_index words.old 0 }
@@ -39,7 +39,7 @@ pub fn take_slot(words: &mut [u64; NODE_WORDS], pairs: u64, slot: usize)
     take_both(&mut words[FIRST_KEY..], slot);
 }
 
-/// Writes 16 words: those given, and zeros.
+/// Writes 16 words: the given ones, followed by zeros.
 fn write_part(words: &mut [u64], slots: &[u64])
     requires size { length words.old ≡ MOST_SLOTS }
     requires few { length slots.now ≤ MOST_SLOTS }
@@ -50,7 +50,7 @@ fn write_part(words: &mut [u64], slots: &[u64])
     rest.fill(0);
 }
 
-/// Writes 32 words: those of keys, and those of values.
+/// Writes 32 words: those of the keys, and those of the values.
 fn write_both(words: &mut [u64], keys: &[u64], values: &[u64])
     requires size { length words.old ≡ 32 }
     requires few { length keys.now ≤ MOST_SLOTS }

@@ -32,7 +32,7 @@ pub fn make_leaf<const OFFSET_BITS: u32, S: Store<OFFSET_BITS>>(
     Ok(EntryRef::from_raw(part.node))
 }
 
-/// The root of slots in hand: 0 where there is none, and above the leaves the child of a single one.
+/// Returns the root of slots in memory: 0 if there is none, and, above the leaves, the child of a single slot.
 pub fn make_root<const OFFSET_BITS: u32, S: Store<OFFSET_BITS>>(
     store: &mut S,
     slots: &Slots,

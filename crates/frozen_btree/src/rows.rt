@@ -11,14 +11,14 @@ use std::alloc::Global;
 use store_api::{Store, StoreError};
 use tree_read::{MOST_SLOTS, NODE_WORDS, Slots, append};
 
-/// Nodes of one level, as the slots of the next are to hold them.
+/// Nodes of one level, as the slots of the next level hold them.
 #[derive(Drop)]
 pub struct Row {
     pub keys: Vec<u64>,
     pub nodes: Vec<u64>,
 }
 
-/// Slots in hand, of these keys and values.
+/// Returns slots in memory with these keys and values.
 pub fn slots_of(level: u64, keys: &[u64], values: &[u64]) -> Slots
     requires keys { length keys.now ≤ MOST_SLOTS }
     requires values { length values.now ≤ MOST_SLOTS }
@@ -72,7 +72,7 @@ fn add_group<const OFFSET_BITS: u32, S: Store<OFFSET_BITS>>(
     push_word(&mut row.nodes, u64::from(part.node))
 }
 
-/// Where a group begins, of items in so many groups whose sizes differ by at most one.
+/// Returns where a group begins, if `items` items are divided into `all` groups whose sizes differ by at most one.
 fn start_of(items: usize, all: usize, group: usize) -> usize
     requires some { 0 < all }
     requires within { group ≤ all }
@@ -81,7 +81,7 @@ fn start_of(items: usize, all: usize, group: usize) -> usize
     group * (items / all) + group.min(items % all)
 }
 
-/// Makes the nodes of a level over more slots than one node holds.
+/// Makes the nodes of a level over more slots than fit in one node.
 pub fn make_row<const OFFSET_BITS: u32, S: Store<OFFSET_BITS>>(
     alloc: Global,
     store: &mut S,

@@ -1,10 +1,12 @@
-ghost use Rattle.std.specs.Prelude.{◌≡◌, ◌≤◌, ◌<◌, ◌+◌, ℕ, true, length, slice_index, suc, IfOk, IfErr};
+ghost use Rattle.std.specs.Prelude.{◌≡◌, ◌≢◌, ◌≤◌, ◌<◌, ◌+◌, ℕ, true, length, slice_index, suc, Ok, IfOk, IfErr};
 ghost use Rattle.std.specs.declared.cmp.Ordering.{Ordering};
+ghost use Rattle.entry_ref.specs.References.{buffer_of};
 ghost use Rattle.tree_read.specs.Nodes.{level_of, node_keys, node_values};
 ghost use Rattle.tree_read.specs.Trees.{pairs_below, IsNode};
 ghost use Rattle.tree_read.specs.Keys.{seen_by, AllReadable};
 ghost use Rattle.store_api.specs.Calls.{Refuses};
 ghost use Rattle.frozen_btree.specs.Makes.{MakesNodes};
+ghost use Rattle.frozen_btree.specs.Paths.{NoneIn, path_below};
 ghost use Rattle.tree_read.specs.NodePlaces.{IsPlace};
 ghost use Rattle.frozen_btree.specs.Touches.{Touches};
 
@@ -14,7 +16,7 @@ use entry_ref::EntryRef;
 use store_api::{Store, StoreError};
 use tree_read::{KeyOrder, NODE_WORDS, place_of, read_node};
 
-/// Makes a leaf anew where it lies in the buffer.
+/// Copies a leaf if it lies in the buffer.
 fn touch_leaf<const OFFSET_BITS: u32, S: Store<OFFSET_BITS>>(
     store: &mut S,
     node: EntryRef<OFFSET_BITS>,
@@ -28,6 +30,8 @@ fn touch_leaf<const OFFSET_BITS: u32, S: Store<OFFSET_BITS>>(
     requires room { length replaced.old.items < 8 }
     ensures touches { (c : ℕ → Ordering) → IfOk result (λ r. Touches OFFSET_BITS buffer c (S.ledger store.old) (S.ledger store.new)
         (S.records store.old) (S.records store.new) 0 node.entry r replaced.old.items replaced.new.items) }
+    ensures still { buffer_of OFFSET_BITS node.entry ≢ buffer
+        → (result ≡ Ok node.entry) × ((store.new ≡ store.old) × (replaced.new.items ≡ replaced.old.items)) }
     ensures makes { MakesNodes (S.ledger store.old) (S.ledger store.new) (S.records store.old) (S.records store.new) 1 }
     ensures refuses { IfErr result (Refuses (S.ledger store.old) (S.ledger store.new) NODE_WORDS) }
 {
@@ -45,7 +49,7 @@ struct Step {
     child: u32,
 }
 
-/// The slot of a node above the leaves that a key's way goes through.
+/// Returns the slot, of a node above the leaves, through which the way to a key goes.
 fn step_at<const OFFSET_BITS: u32, S: Store<OFFSET_BITS>, K: KeyOrder<OFFSET_BITS>>(
     store: &mut S,
     node: EntryRef<OFFSET_BITS>,
@@ -68,8 +72,8 @@ fn step_at<const OFFSET_BITS: u32, S: Store<OFFSET_BITS>, K: KeyOrder<OFFSET_BIT
     }
 }
 
-/// Makes the nodes on a key's way anew that lie in the buffer, and those above them. They are added to those
-/// that are replaced.
+/// Copies the nodes on the way to a key that lie in the buffer, and those above them. Adds the old nodes to the
+/// replaced ones.
 pub fn touch_below<const OFFSET_BITS: u32, S: Store<OFFSET_BITS>, K: KeyOrder<OFFSET_BITS>>(
     store: &mut S,
     node: EntryRef<OFFSET_BITS>,
@@ -87,6 +91,9 @@ pub fn touch_below<const OFFSET_BITS: u32, S: Store<OFFSET_BITS>, K: KeyOrder<OF
     ensures touches { IfOk result (λ r. Touches OFFSET_BITS buffer (seen_by K.read K.order (K.sought key.now) (S.records store.old))
         (S.ledger store.old) (S.ledger store.new) (S.records store.old) (S.records store.new) level node.entry r
         replaced.old.items replaced.new.items) }
+    ensures still { NoneIn OFFSET_BITS buffer (path_below (S.records store.old)
+        (seen_by K.read K.order (K.sought key.now) (S.records store.old)) level node.entry)
+        → (result ≡ Ok node.entry) × ((store.new ≡ store.old) × (replaced.new.items ≡ replaced.old.items)) }
     ensures makes { MakesNodes (S.ledger store.old) (S.ledger store.new) (S.records store.old) (S.records store.new) (suc level) }
     ensures refuses { IfErr result (Refuses (S.ledger store.old) (S.ledger store.new) NODE_WORDS) }
 {

@@ -1,4 +1,4 @@
-ghost use Rattle.std.specs.Prelude.{◌≡◌, ◌∷◌, [], true, IfOk, IfErr, OnErr};
+ghost use Rattle.std.specs.Prelude.{◌≡◌, ◌∷◌, [], true, Ok, IfOk, IfErr, OnErr};
 ghost use Rattle.tree_read.specs.Trees.{tree_pairs, IsTree, Keeps};
 ghost use Rattle.tree_read.specs.Keys.{seen_by, AllReadable, KeepsOthers, IsKeyedTree};
 ghost use Rattle.store_api.specs.Calls.{Refuses};
@@ -15,8 +15,8 @@ use entry_ref::EntryRef;
 use store_api::{Store, StoreError};
 use tree_read::{KeyOrder, NODE_WORDS, read_head};
 
-/// Makes the tree without nodes of the buffer on a key's way, with the nodes of the old one that it lacks
-/// added to those that are replaced.
+/// Makes the tree without nodes of the buffer on the way to a key, and adds the nodes of the old tree that the new
+/// one lacks to the replaced ones.
 fn make_anew<const OFFSET_BITS: u32, S: Store<OFFSET_BITS>, K: KeyOrder<OFFSET_BITS>>(
     store: &mut S,
     root: EntryRef<OFFSET_BITS>,
@@ -33,6 +33,9 @@ fn make_anew<const OFFSET_BITS: u32, S: Store<OFFSET_BITS>, K: KeyOrder<OFFSET_B
         root.entry r replaced.new.items (tree_pairs (S.records store.old) root.entry)) }
     ensures apart { IfOk result (λ r. NoneIn OFFSET_BITS buffer
         (path_nodes (S.records store.new) (seen_by K.read K.order (K.sought key.now) (S.records store.old)) r)) }
+    ensures still { NoneIn OFFSET_BITS buffer
+        (path_nodes (S.records store.old) (seen_by K.read K.order (K.sought key.now) (S.records store.old)) root.entry)
+        → (result ≡ Ok root.entry) × ((store.new ≡ store.old) × (replaced.new.items ≡ [])) }
     ensures makes { MakesNodes (S.ledger store.old) (S.ledger store.new) (S.records store.old) (S.records store.new)
         (levels (S.records store.old) root.entry) }
     ensures refuses { IfErr result (Refuses (S.ledger store.old) (S.ledger store.new) NODE_WORDS) }
@@ -44,9 +47,9 @@ fn make_anew<const OFFSET_BITS: u32, S: Store<OFFSET_BITS>, K: KeyOrder<OFFSET_B
     touch_below(store, root, level, key, buffer, replaced)
 }
 
-/// Makes the nodes on a key's way anew that lie in a sealed buffer, and those above them. The pairs stay; no
-/// node on the way to the key lies in the buffer then. The nodes of the old tree that are not in the new one
-/// are dropped.
+/// Copies the nodes on the way to a key that lie in a sealed buffer, and those above them. The pairs stay the same.
+/// Afterwards no node on the way to the key lies in the buffer. Drops the nodes of the old tree that are not in the
+/// new one.
 pub fn touch<const OFFSET_BITS: u32, S: Store<OFFSET_BITS>, K: KeyOrder<OFFSET_BITS>>(
     store: &mut S,
     root: EntryRef<OFFSET_BITS>,
@@ -62,6 +65,10 @@ pub fn touch<const OFFSET_BITS: u32, S: Store<OFFSET_BITS>, K: KeyOrder<OFFSET_B
     ensures pairs { IfOk result (λ r. tree_pairs (S.records store.new) r ≡ tree_pairs (S.records store.old) root.entry) }
     ensures apart { IfOk result (λ r. NoneIn OFFSET_BITS buffer
         (path_nodes (S.records store.new) (seen_by K.read K.order (K.sought key.now) (S.records store.old)) r)) }
+    // If no such node lies in the buffer, the tree is unchanged, and nothing was made.
+    ensures still { NoneIn OFFSET_BITS buffer
+        (path_nodes (S.records store.old) (seen_by K.read K.order (K.sought key.now) (S.records store.old)) root.entry)
+        → (result ≡ Ok root.entry) × (store.new ≡ store.old) }
     ensures turns { IfOk result (λ r. Turns (S.ledger store.old) (S.ledger store.new) (S.records store.old) (S.records store.new)
         (tree root.entry ∷ []) (tree r ∷ [])) }
     ensures others { KeepsOthers (S.records store.old) (S.records store.new) }

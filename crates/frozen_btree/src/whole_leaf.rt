@@ -14,7 +14,7 @@ use entry_ref::EntryRef;
 use store_api::{Store, StoreError};
 use tree_read::{KeyOrder, MOST_SLOTS, NODE_WORDS, Slots, append};
 
-/// Makes a tree of up to 16 pairs, whose keys ascend, as one leaf. Of no pair the root is 0.
+/// Makes a tree of at most 16 pairs with ascending keys, as one leaf. Without pairs the root is 0.
 pub fn build_leaf<const OFFSET_BITS: u32, S: Store<OFFSET_BITS>, K: KeyOrder<OFFSET_BITS>>(
     store: &mut S,
     keys: &[u64],

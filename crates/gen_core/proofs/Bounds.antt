@@ -7,8 +7,10 @@ use Rattle.gen_core.specs.Views.{queue_of, oldest_in, oldest_of, floor_of, hold_
 use Rattle.gen_core.specs.Conditions.{MayClose, MayProbe}
 use Rattle.gen_core.specs.Laws.{IsInUse, IsPassed}
 use Rattle.gen_core.specs.Steps.{hold_of, hold_in, word_of, operation_of, subtract}
-use Rattle.gen_core.specs.Events.{coming_hold, count_at, Event, Happens, store_width, store_word, find_word, hand_out, publish, put_on_hold, free_buffer, reopen, store_newest, close, stop_at_oldest, probe, stop_at_newest, morph}
-use Rattle.gen_core.specs.Events.{split, join, meet_load, load_own, load_newest, raise, bounce, load_root, load_word, release}
+use Rattle.gen_core.specs.declared.views.Event.{Event}
+use Rattle.gen_core.specs.declared.views.Event.TheVariants.{StoreWidth, StoreWord, FindWord, HandOut, Publish, PutOnHold, FreeBuffer, Reopen, StoreNewest, Close, StopAtOldest, Probe, StopAtNewest, Morph}
+use Rattle.gen_core.specs.Events.{coming_hold, count_at, Happens}
+use Rattle.gen_core.specs.declared.views.Event.TheVariants.{Split, Join, MeetLoad, LoadOwn, LoadNewest, Raise, Bounce, LoadRoot, LoadWord, Release}
 use Rattle.gen_core.proofs.Holds.{at_newest, at_oldest, oldest-push, newest-open, oldest-rises, oldest-replaced, first-open}
 use Rattle.gen_core.proofs.Lists.{all_at, count_some}
 use Rattle.gen_core.proofs.Advancing.{closed-word}
@@ -98,33 +100,33 @@ module _ (reaches : ℕ → Records → ℕ → List ℕ) (lawful : ℕ → Reco
       (oldest-rises e es s.writer.queue.newest (subst (λ l. AllPairs IsBefore (l ++ s.writer.queue.newest ∷ [])) is g.queue.rising))
 
   pub floor-stays : (s t : State) (e : Event) → Good reaches lawful s → Happens reaches lawful s e t → floor_of s.writer ≤ floor_of t.writer
-  floor-stays s t (store_width b width) g h = stays s t (ap (λ (x : State). floor_of x.writer) h.1)
-  floor-stays s t (store_word p n) g h = stays s t (ap (λ (x : State). floor_of x.writer) h.1)
-  floor-stays s t (find_word p) g h = stays s t (ap (λ (x : State). floor_of x.writer) h.1)
-  floor-stays s t (hand_out b) g h = stays s t (ap (λ (x : State). floor_of x.writer) h.1)
-  floor-stays s t (publish root) g h = stays s t (ap (λ (x : State). floor_of x.writer) h.1)
-  floor-stays s t (put_on_hold b) g h = stays s t (ap (λ (x : State). floor_of x.writer) h.2)
-  floor-stays s t (free_buffer b) g h = stays s t (ap (λ (x : State). floor_of x.writer) h.2)
-  floor-stays s t (reopen k) g h = stays s t (ap (λ (x : State). floor_of x.writer) h.1)
-  floor-stays s t store_newest g h = stays s t (ap (λ (x : State). floor_of x.writer) h.2
+  floor-stays s t (StoreWidth b width) g h = stays s t (ap (λ (x : State). floor_of x.writer) h.1)
+  floor-stays s t (StoreWord p n) g h = stays s t (ap (λ (x : State). floor_of x.writer) h.1)
+  floor-stays s t (FindWord p) g h = stays s t (ap (λ (x : State). floor_of x.writer) h.1)
+  floor-stays s t (HandOut b) g h = stays s t (ap (λ (x : State). floor_of x.writer) h.1)
+  floor-stays s t (Publish root) g h = stays s t (ap (λ (x : State). floor_of x.writer) h.1)
+  floor-stays s t (PutOnHold b) g h = stays s t (ap (λ (x : State). floor_of x.writer) h.2)
+  floor-stays s t (FreeBuffer b) g h = stays s t (ap (λ (x : State). floor_of x.writer) h.2)
+  floor-stays s t (Reopen k) g h = stays s t (ap (λ (x : State). floor_of x.writer) h.1)
+  floor-stays s t StoreNewest g h = stays s t (ap (λ (x : State). floor_of x.writer) h.2
       ∙ ap (λ (e : OpenHold). e.first_commit) (oldest-push s.writer.queue.older s.writer.queue.newest (coming_hold s.writer h.0)))
-  floor-stays s t close g h = subst (λ (x : State). floor_of s.writer ≤ floor_of x.writer) (sym h.4) (close-rises s h.0 h.1 g h.2.is)
-  floor-stays s t stop_at_oldest g h = stays s t (ap (λ (x : State). floor_of x.writer) h.4)
-  floor-stays s t probe g h = stays s t (ap (λ (x : State). floor_of x.writer) h.2)
-  floor-stays s t stop_at_newest g h = stays s t (ap (λ (x : State). floor_of x.writer) h.2)
-  floor-stays s t morph g h = subst (λ (x : State). floor_of s.writer ≤ floor_of x.writer) (sym h.1)
+  floor-stays s t Close g h = subst (λ (x : State). floor_of s.writer ≤ floor_of x.writer) (sym h.4) (close-rises s h.0 h.1 g h.2.is)
+  floor-stays s t StopAtOldest g h = stays s t (ap (λ (x : State). floor_of x.writer) h.4)
+  floor-stays s t Probe g h = stays s t (ap (λ (x : State). floor_of x.writer) h.2)
+  floor-stays s t StopAtNewest g h = stays s t (ap (λ (x : State). floor_of x.writer) h.2)
+  floor-stays s t Morph g h = subst (λ (x : State). floor_of s.writer ≤ floor_of x.writer) (sym h.1)
       (oldest-replaced s.writer.queue.older s.writer.queue.newest (coming_hold s.writer s.writer.queue.newest.hold)
       (at_newest (HoldFits s.writer.commits) s.writer.queue.older s.writer.queue.newest g.queue.each).first_commit)
-  floor-stays s t split g h = stays s t (ap (λ (x : State). floor_of x.writer) h.1)
-  floor-stays s t (join j) g h = stays s t (ap (λ (x : State). floor_of x.writer) h.3)
-  floor-stays s t meet_load g h = stays s t (ap (λ (x : State). floor_of x.writer) h.1)
-  floor-stays s t (load_own p) g h = stays s t (ap (λ (x : State). floor_of x.writer) h.1)
-  floor-stays s t (load_newest j) g h = stays s t (ap (λ (x : State). floor_of x.writer) h.3)
-  floor-stays s t (raise j) g h = stays s t (ap (λ (x : State). floor_of x.writer) h.5)
-  floor-stays s t (bounce j) g h = stays s t (ap (λ (x : State). floor_of x.writer) h.4)
-  floor-stays s t (load_root j) g h = stays s t (ap (λ (x : State). floor_of x.writer) h.4)
-  floor-stays s t (load_word j p) g h = stays s t (ap (λ (x : State). floor_of x.writer) h.3)
-  floor-stays s t (release j) g h = stays s t (ap (λ (x : State). floor_of x.writer) h.5)
+  floor-stays s t Split g h = stays s t (ap (λ (x : State). floor_of x.writer) h.1)
+  floor-stays s t (Join j) g h = stays s t (ap (λ (x : State). floor_of x.writer) h.3)
+  floor-stays s t MeetLoad g h = stays s t (ap (λ (x : State). floor_of x.writer) h.1)
+  floor-stays s t (LoadOwn p) g h = stays s t (ap (λ (x : State). floor_of x.writer) h.1)
+  floor-stays s t (LoadNewest j) g h = stays s t (ap (λ (x : State). floor_of x.writer) h.3)
+  floor-stays s t (Raise j) g h = stays s t (ap (λ (x : State). floor_of x.writer) h.5)
+  floor-stays s t (Bounce j) g h = stays s t (ap (λ (x : State). floor_of x.writer) h.4)
+  floor-stays s t (LoadRoot j) g h = stays s t (ap (λ (x : State). floor_of x.writer) h.4)
+  floor-stays s t (LoadWord j p) g h = stays s t (ap (λ (x : State). floor_of x.writer) h.3)
+  floor-stays s t (Release j) g h = stays s t (ap (λ (x : State). floor_of x.writer) h.5)
 
   taken : (a b : ℕ) → subtract a ≡ subtract b → a ≡ b
   taken a b e = cc
@@ -151,27 +153,27 @@ module _ (reaches : ℕ → Records → ℕ → List ℕ) (lawful : ℕ → Reco
 
   -- only three events take from a count
   pub none-below : (s t : State) (e : Event) (n : ℕ) → Good reaches lawful s → Happens reaches lawful s e t → operation_of s e ≡ subtract n → n ≤ slice_index s.words (word_of s e)
-  none-below s t (store_width b width) n g h is = absurd (cc)
-  none-below s t (store_word p m) n g h is = absurd (cc)
-  none-below s t (find_word p) n g h is = absurd (cc)
-  none-below s t (hand_out b) n g h is = absurd (cc)
-  none-below s t (publish root) n g h is = absurd (cc)
-  none-below s t (put_on_hold b) n g h is = absurd (cc)
-  none-below s t (free_buffer b) n g h is = absurd (cc)
-  none-below s t (reopen k) n g h is = let one = taken 1 n is in let word = closed-word reaches lawful s k g h.0 in omega (arith, one, word)
-  none-below s t store_newest n g h is = absurd (cc)
-  none-below s t close n g h is = absurd (cc)
-  none-below s t stop_at_oldest n g h is = absurd (cc)
-  none-below s t probe n g h is = absurd (cc)
-  none-below s t stop_at_newest n g h is = absurd (cc)
-  none-below s t morph n g h is = absurd (cc)
-  none-below s t split n g h is = absurd (cc)
-  none-below s t (join j) n g h is = absurd (cc)
-  none-below s t meet_load n g h is = absurd (cc)
-  none-below s t (load_own p) n g h is = absurd (cc)
-  none-below s t (load_newest j) n g h is = absurd (cc)
-  none-below s t (raise j) n g h is = absurd (cc)
-  none-below s t (bounce j) n g h is = two-below s j h.2 h.0 n g h.1 (ap hold_of h.3) (ap (is_counted_on h.2) h.3 ∙ eq-eqb h.2 h.2 refl) (bounced-low s j h.0 h.2 g h.1 h.3) (taken 2 n is)
-  none-below s t (load_root j) n g h is = absurd (cc)
-  none-below s t (load_word j p) n g h is = absurd (cc)
-  none-below s t (release j) n g h is = two-below s j h.2 h.0 n g h.1 (ap hold_of h.4) (ap (is_counted_on h.2) h.4 ∙ eq-eqb h.2 h.2 refl) (guarded-low s j h.0 h.2 h.3 g h.1 h.4) (taken 2 n is)
+  none-below s t (StoreWidth b width) n g h is = absurd (cc)
+  none-below s t (StoreWord p m) n g h is = absurd (cc)
+  none-below s t (FindWord p) n g h is = absurd (cc)
+  none-below s t (HandOut b) n g h is = absurd (cc)
+  none-below s t (Publish root) n g h is = absurd (cc)
+  none-below s t (PutOnHold b) n g h is = absurd (cc)
+  none-below s t (FreeBuffer b) n g h is = absurd (cc)
+  none-below s t (Reopen k) n g h is = let one = taken 1 n is in let word = closed-word reaches lawful s k g h.0 in omega (arith, one, word)
+  none-below s t StoreNewest n g h is = absurd (cc)
+  none-below s t Close n g h is = absurd (cc)
+  none-below s t StopAtOldest n g h is = absurd (cc)
+  none-below s t Probe n g h is = absurd (cc)
+  none-below s t StopAtNewest n g h is = absurd (cc)
+  none-below s t Morph n g h is = absurd (cc)
+  none-below s t Split n g h is = absurd (cc)
+  none-below s t (Join j) n g h is = absurd (cc)
+  none-below s t MeetLoad n g h is = absurd (cc)
+  none-below s t (LoadOwn p) n g h is = absurd (cc)
+  none-below s t (LoadNewest j) n g h is = absurd (cc)
+  none-below s t (Raise j) n g h is = absurd (cc)
+  none-below s t (Bounce j) n g h is = two-below s j h.2 h.0 n g h.1 (ap hold_of h.3) (ap (is_counted_on h.2) h.3 ∙ eq-eqb h.2 h.2 refl) (bounced-low s j h.0 h.2 g h.1 h.3) (taken 2 n is)
+  none-below s t (LoadRoot j) n g h is = absurd (cc)
+  none-below s t (LoadWord j p) n g h is = absurd (cc)
+  none-below s t (Release j) n g h is = two-below s j h.2 h.0 n g h.1 (ap hold_of h.4) (ap (is_counted_on h.2) h.4 ∙ eq-eqb h.2 h.2 refl) (guarded-low s j h.0 h.2 h.3 g h.1 h.4) (taken 2 n is)

@@ -13,7 +13,7 @@ use Rattle.gen_core.specs.declared.views.ReaderView.{ReaderView}
 use Rattle.gen_core.specs.declared.views.WriterView.{WriterView}
 use Rattle.gen_core.specs.Views.{hold_place, is_open_hold, is_counted_on}
 use Rattle.gen_core.specs.Good.{State, hold_word, AimFits, BounceFits, GuardFits, GoodReaderState, GoodReader, Good, HoldFits}
-use Rattle.gen_core.specs.Events.{aims, after_load_newest, found_state, with_state, after_count, after_raise, bounced, after_bounce, after_release}
+use Rattle.gen_core.specs.Events.{aims, after_load_newest, found_state, found_misses, released, after_count, after_raise, bounced, after_bounce, after_release}
 use Rattle.gen_core.proofs.Lists.{all_at, count_moved, count_some}
 use Rattle.gen_core.proofs.Holds.{at_newest, newest-open}
 use Rattle.gen_core.proofs.Frames.{names-hold, memory-low, sizes-set}
@@ -107,10 +107,10 @@ module _ (reaches : ℕ → Records → ℕ → List ℕ) (lawful : ℕ → Reco
       off e = cc
 
       step : (t : ReaderState) → found_state (slice_index s.words (hold_place h)) h ≡ t → ((k : ℕ) → is_counted_on k t ≡ nat_eq h k) → h < 16
-          → GoodReader s.writer.sizes s.writer.queue s.writer.commits (with_state r t) → Good reaches lawful (after_raise s j r h)
+          → GoodReader s.writer.sizes s.writer.queue s.writer.commits (record r { state = t; misses = found_misses (slice_index s.words (hold_place h)) r.misses }) → Good reaches lawful (after_raise s j r h)
       step t is on low new =
-          subst (λ x. Good reaches lawful (after_count s h (slice_index s.words (hold_place h) + 2) j (with_state r x))) (sym is)
-          (count_event s h (slice_index s.words (hold_place h) + 2) j r (with_state r t) g at low
+          subst (λ (x : ReaderState). Good reaches lawful (after_count s h (slice_index s.words (hold_place h) + 2) j (record r { state = x; misses = found_misses (slice_index s.words (hold_place h)) r.misses }))) (sym is)
+          (count_event s h (slice_index s.words (hold_place h) + 2) j r (record r { state = t; misses = found_misses (slice_index s.words (hold_place h)) r.misses }) g at low
           (let a : one_if (is_counted_on h r.state) ≡ 0 = ap (λ x. one_if (is_counted_on h x)) aimed in
           let b : one_if (is_counted_on h t) ≡ 1 = ap one_if (on h ∙ eq-eqb h h refl) in omega (arith, a, b))
           (λ k other. ap (is_counted_on k) aimed ∙ sym (on k ∙ ne_eqb h k (λ e. other (sym e)))) new)
@@ -162,7 +162,7 @@ module _ (reaches : ℕ → Records → ℕ → List ℕ) (lawful : ℕ → Reco
       let w : WriterView = s.writer in
       let old = all_at (GoodReader w.sizes w.queue w.commits) s.readers j r g.readers at in
       let b : GuardFits w.queue w.commits r.saw h c = subst (GoodReaderState w.queue w.commits r) is old.state in
-      lower s j r (with_state r Idle) h g at b.raised.hold (λ k. ap (is_counted_on k) is) (λ k. refl)
+      lower s j r (released r) h g at b.raised.hold (λ k. ap (is_counted_on k) is) (λ k. refl)
       (record { same_sizes = λ e. old.same_sizes (λ x. off (sym is ∙ x)); seen = old.seen; saw = old.saw; least = old.least; state = tt })
     where
       off : Guarded h c ≡ Spent → ⊥

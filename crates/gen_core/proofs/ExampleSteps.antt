@@ -7,7 +7,7 @@ use Rattle.std.specs.List.{list_any}
 use Rattle.std.proofs.lemmas.Bool.{ltb-true, leb-true}
 use Rattle.std.proofs.lemmas.List.Elements.{All-nil, All-cons}
 use Rattle.gen_core.specs.Views.{open_holds, last_number}
-use Rattle.gen_core.specs.Examples.{one_lawful, Ends, hold_sizes, missed_events, missed_end, renewed_events, renewed_end, closed_events, closed_end, reopened_events, reopened_end, buffer_sizes, again_events, again_end}
+use Rattle.gen_core.specs.Examples.{one_lawful, Ends, hold_sizes, missed_events, missed_end, renewed_events, renewed_end, closed_events, closed_end, kept_events, kept_end, reopened_events, reopened_end, buffer_sizes, again_events, again_end}
 use Rattle.gen_core.specs.Examples.{stored_events, stored_end}
 use Rattle.gen_core.specs.Conditions.{MayPublish, MayReopen, MayProbe, MaySplit}
 use Rattle.gen_core.specs.Good.{Avoids}
@@ -598,6 +598,57 @@ stored_narrow = (
                             refl,
                           ),
                         ),
+                      ),
+                    ),
+                  ),
+                ),
+              ),
+            ),
+          ),
+        ),
+      ),
+    ),
+  ),
+)
+
+pub kept : Ends hold_sizes kept_events kept_end
+kept = (
+  _,
+  (may_split _ refl refl, refl),
+  (
+    _,
+    (_, refl, refl, refl),
+    (
+      _,
+      (_, refl, _, _, refl, refl),
+      (
+        _,
+        (_, refl, _, refl, refl),
+        (
+          _,
+          (may_publish _ refl refl, refl),
+          (
+            _,
+            (may_probe _ refl refl, nonzero _ refl, refl),
+            (
+              _,
+              (may_reopen _ _ refl refl refl refl refl, refl),
+              (
+                _,
+                (_, refl, refl),
+                (
+                  _,
+                  (_, _, record { calm = refl; is = refl }, nonzero _ refl, refl),
+                  (
+                    _,
+                    (_, refl, _, refl, refl),
+                    (
+                      _,
+                      (_, refl, _, _, refl, refl),
+                      (
+                        _,
+                        (_, _, record { calm = refl; is = refl }, refl, refl),
+                        refl,
                       ),
                     ),
                   ),

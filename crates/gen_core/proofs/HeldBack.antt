@@ -21,8 +21,11 @@ use Rattle.gen_core.specs.declared.views.ReaderView.{ReaderView}
 use Rattle.gen_core.specs.declared.views.Sizes.{Sizes}
 use Rattle.gen_core.specs.Views.{queue_of, open_holds, oldest_of, last_number, last_image, active_width, active_in, is_open_hold, is_counted_on, stands_on, spent}
 use Rattle.gen_core.specs.Good.{State, RaiseFits, GoodReaderState, GoodReader, Good}
-use Rattle.gen_core.specs.Events.{coming_hold, tag_of, newcomer, with_state, found_state, aims, bounced, sees, count_at, Event, Happens, Happen, store_width, store_word, find_word, hand_out, publish, put_on_hold, free_buffer, reopen}
-use Rattle.gen_core.specs.Events.{store_newest, close, stop_at_oldest, probe, stop_at_newest, morph, split, join, meet_load, load_own, load_newest, raise, bounce, load_root, load_word, release, MayOpen, opening}
+use Rattle.gen_core.specs.declared.views.Event.{Event}
+use Rattle.gen_core.specs.declared.views.Event.TheVariants.{StoreWidth, StoreWord, FindWord, HandOut, Publish, PutOnHold, FreeBuffer, Reopen}
+use Rattle.gen_core.specs.Events.{coming_hold, tag_of, newcomer, meets, released, aims, bounced, sees, count_at, Happens, Happen}
+use Rattle.gen_core.specs.declared.views.Event.TheVariants.{StoreNewest, Close, StopAtOldest, Probe, StopAtNewest, Morph, Split, Join, MeetLoad, LoadOwn, LoadNewest, Raise, Bounce, LoadRoot, LoadWord, Release}
+use Rattle.gen_core.specs.Events.{MayOpen, opening}
 use Rattle.gen_core.proofs.Lists.{all_at, at_longer}
 use Rattle.gen_core.proofs.Holds.{newest-most, oldest-least}
 use Rattle.gen_core.proofs.ViewLemmas.{active-there}
@@ -158,27 +161,27 @@ module _ (reaches : ℕ → Records → ℕ → List ℕ) (lawful : ℕ → Reco
       one_tag : (m n : ℕ) (x y : Tag) → Some (Held m x) ≡ Some (Held n y) → x ≡ y
       one_tag m n x y e = cc
 
-  kept : (s t : State) (e : Event) (j h b : ℕ) → Good reaches lawful s → Happens reaches lawful s e t → e ≢ release j → Kept j h b s → Kept j h b t
-  kept s t (store_width c width) j h b g x off k = subst (Kept j h b) (sym x.1) (k.0, back-set _ _ h b c _ (not-active _ b c 0 k.1.width k.1.tag k.1.held x.0.none_yet) k.1)
-  kept s t (store_word p n) j h b g x off k = subst (Kept j h b) (sym x.1) k
-  kept s t (find_word p) j h b g x off k = subst (Kept j h b) (sym x.1) k
-  kept s t (hand_out c) j h b g x off k = subst (Kept j h b) (sym x.1) (k.0, back-set _ _ h b c _ (not-free _ b c k.1.width k.1.tag x.0.tag k.1.held x.0.free) k.1)
-  kept s t (publish root) j h b g x off k = subst (Kept j h b) (sym x.1) k
-  kept s t (put_on_hold c) j h b g x off k = subst (Kept j h b) (sym x.2) (k.0, back-set _ _ h b c _ (not-active _ b c x.0 k.1.width k.1.tag k.1.held x.1.active) k.1)
-  kept s t (free_buffer c) j h b g x off k = subst (Kept j h b) (sym x.2) (k.0, back-set _ _ h b c _ (not-freed s h b c x.1.width x.0 g k.1 x.1.held x.1.below) k.1)
-  kept s t (reopen n) j h b g x off k = subst (Kept j h b) (sym x.1) (k.0, record { width = k.1.width; tag = k.1.tag; held = k.1.held; old = k.1.old; probed = λ e. absurd (cc) })
-  kept s t store_newest j h b g x off k = subst (Kept j h b) (sym x.2)
+  kept : (s t : State) (e : Event) (j h b : ℕ) → Good reaches lawful s → Happens reaches lawful s e t → e ≢ Release j → Kept j h b s → Kept j h b t
+  kept s t (StoreWidth c width) j h b g x off k = subst (Kept j h b) (sym x.1) (k.0, back-set _ _ h b c _ (not-active _ b c 0 k.1.width k.1.tag k.1.held x.0.none_yet) k.1)
+  kept s t (StoreWord p n) j h b g x off k = subst (Kept j h b) (sym x.1) k
+  kept s t (FindWord p) j h b g x off k = subst (Kept j h b) (sym x.1) k
+  kept s t (HandOut c) j h b g x off k = subst (Kept j h b) (sym x.1) (k.0, back-set _ _ h b c _ (not-free _ b c k.1.width k.1.tag x.0.tag k.1.held x.0.free) k.1)
+  kept s t (Publish root) j h b g x off k = subst (Kept j h b) (sym x.1) k
+  kept s t (PutOnHold c) j h b g x off k = subst (Kept j h b) (sym x.2) (k.0, back-set _ _ h b c _ (not-active _ b c x.0 k.1.width k.1.tag k.1.held x.1.active) k.1)
+  kept s t (FreeBuffer c) j h b g x off k = subst (Kept j h b) (sym x.2) (k.0, back-set _ _ h b c _ (not-freed s h b c x.1.width x.0 g k.1 x.1.held x.1.below) k.1)
+  kept s t (Reopen n) j h b g x off k = subst (Kept j h b) (sym x.1) (k.0, record { width = k.1.width; tag = k.1.tag; held = k.1.held; old = k.1.old; probed = λ e. absurd (cc) })
+  kept s t StoreNewest j h b g x off k = subst (Kept j h b) (sym x.2)
       (k.0, record { width = k.1.width; tag = k.1.tag; held = k.1.held; old = old-more h k.1.tag.generation (open_holds s.writer.queue) (coming_hold s.writer x.0) k.1.old; probed = λ e. absurd (cc) })
-  kept s t close j h b g x off k =
+  kept s t Close j h b g x off k =
       let all : HasOld h k.1.tag.generation (x.0 ∷ (x.1 ++ s.writer.queue.newest ∷ [])) =
       subst (λ (l : List OpenHold). HasOld h k.1.tag.generation (l ++ s.writer.queue.newest ∷ [])) x.2.is k.1.old in
       subst (Kept j h b) (sym x.4)
       (k.0, record { width = k.1.width; tag = k.1.tag; held = k.1.held; old = old-tail h k.1.tag.generation x.0 _ (counted s j h x.0.hold g k.0 x.3) all; probed = k.1.probed })
-  kept s t stop_at_oldest j h b g x off k = subst (Kept j h b) (sym x.4) k
-  kept s t probe j h b g x off k = subst (Kept j h b) (sym x.2)
+  kept s t StopAtOldest j h b g x off k = subst (Kept j h b) (sym x.4) k
+  kept s t Probe j h b g x off k = subst (Kept j h b) (sym x.2)
       (k.0, record { width = k.1.width; tag = k.1.tag; held = k.1.held; old = k.1.old; probed = λ e. counted s j h s.writer.queue.newest.hold g k.0 x.1 })
-  kept s t stop_at_newest j h b g x off k = subst (Kept j h b) (sym x.2) k
-  kept s t morph j h b g x off k = subst (Kept j h b) (sym x.1) (
+  kept s t StopAtNewest j h b g x off k = subst (Kept j h b) (sym x.2) k
+  kept s t Morph j h b g x off k = subst (Kept j h b) (sym x.1) (
     k.0,
     record {
       width = k.1.width;
@@ -189,27 +192,27 @@ module _ (reaches : ℕ → Records → ℕ → List ℕ) (lawful : ℕ → Reco
       probed = λ e. absurd (cc);
     },
   )
-  kept s t split j h b g x off k = subst (Kept j h b) (sym x.1) (stands-more s.readers j h (newcomer s.writer) k.0, k.1)
-  kept s t (join i) j h b g x off k = subst (Kept j h b) (sym x.3) (stands-other s.readers j h i x.0 spent x.1 (ap stands_on x.2.idle) k.0, k.1)
-  kept s t meet_load j h b g x off k = subst (Kept j h b) (sym x.1) k
-  kept s t (load_own p) j h b g x off k = subst (Kept j h b) (sym x.1) k
-  kept s t (load_newest i) j h b g x off k = subst (Kept j h b) (sym x.3) (stands-other s.readers j h i x.0 (aims x.0 s.writer.queue.newest) x.1 (ap stands_on x.2) k.0, k.1)
-  kept s t (raise i) j h b g x off k = subst (Kept j h b) (sym x.5) (stands-other s.readers j h i x.0 (with_state x.0 (found_state (count_at s x.3) x.3)) x.1 (ap stands_on x.4) k.0, k.1)
-  kept s t (bounce i) j h b g x off k = subst (Kept j h b) (sym x.4) (stands-other s.readers j h i x.0 (bounced x.0) x.1 (ap stands_on x.3) k.0, k.1)
-  kept s t (load_root i) j h b g x off k = subst (Kept j h b) (sym x.4) (
-    stands-set s.readers j h i x.0 (sees x.0 x.2 (last_number s.writer.commits) (last_image s.writer.commits)) x.1 (λ same on. sym (ap stands_on x.3) ∙ on) k.0,
+  kept s t Split j h b g x off k = subst (Kept j h b) (sym x.1) (stands-more s.readers j h (newcomer s.writer) k.0, k.1)
+  kept s t (Join i) j h b g x off k = subst (Kept j h b) (sym x.3) (stands-other s.readers j h i x.0 spent x.1 (ap stands_on x.2.idle) k.0, k.1)
+  kept s t MeetLoad j h b g x off k = subst (Kept j h b) (sym x.1) k
+  kept s t (LoadOwn p) j h b g x off k = subst (Kept j h b) (sym x.1) k
+  kept s t (LoadNewest i) j h b g x off k = subst (Kept j h b) (sym x.3) (stands-other s.readers j h i x.0 (aims x.0 s.writer.queue.newest) x.1 (ap stands_on x.2) k.0, k.1)
+  kept s t (Raise i) j h b g x off k = subst (Kept j h b) (sym x.5) (stands-other s.readers j h i x.0 (meets x.0 (count_at s x.3) x.3) x.1 (ap stands_on x.4) k.0, k.1)
+  kept s t (Bounce i) j h b g x off k = subst (Kept j h b) (sym x.4) (stands-other s.readers j h i x.0 (bounced x.0) x.1 (ap stands_on x.3) k.0, k.1)
+  kept s t (LoadRoot i) j h b g x off k = subst (Kept j h b) (sym x.4) (
+    stands-set s.readers j h i x.0 (sees x.0 x.2 (last_number s.writer.commits) (last_image s.writer.commits)) x.1 (λ same on. sym x.3 ∙ on) k.0,
     k.1,
   )
-  kept s t (load_word i p) j h b g x off k = subst (Kept j h b) (sym x.3) k
-  kept s t (release i) j h b g x off k = subst (Kept j h b) (sym x.5) (stands-set s.readers j h i x.0 (with_state x.0 Idle) x.1 (λ same on. absurd (off (ap release same))) k.0, k.1)
+  kept s t (LoadWord i p) j h b g x off k = subst (Kept j h b) (sym x.3) k
+  kept s t (Release i) j h b g x off k = subst (Kept j h b) (sym x.5) (stands-set s.readers j h i x.0 (released x.0) x.1 (λ same on. absurd (off (ap Release same))) k.0, k.1)
 
-  kept_on : IsLayout reaches lawful → (events : List Event) (s t : State) (j h b : ℕ) → Good reaches lawful s → Happen reaches lawful s events t → All (λ e. e ≢ release j) events → Kept j h b s → Kept j h b t
+  kept_on : IsLayout reaches lawful → (events : List Event) (s t : State) (j h b : ℕ) → Good reaches lawful s → Happen reaches lawful s events t → All (λ e. e ≢ Release j) events → Kept j h b s → Kept j h b t
   kept_on l [] s t j h b g x none k = subst (Kept j h b) (sym x) k
   kept_on l (e ∷ events) s t j h b g x none k =
       kept_on l events x.0 t j h b (event_keeps reaches lawful l s x.0 e g x.1) x.2 (λ i d lt. none (suc i) d (omega arith)) (kept s x.0 e j h b g x.1 (none 0 e (omega arith)) k)
 
   -- where a buffer is put on hold while a view stands on a hold
-  begins : (s m : State) (j h b : ℕ) → Good reaches lawful s → Stands s.readers j h → Happens reaches lawful s (put_on_hold b) m → Kept j h b m
+  begins : (s m : State) (j h b : ℕ) → Good reaches lawful s → Stands s.readers j h → Happens reaches lawful s (PutOnHold b) m → Kept j h b m
   begins s m j h b g k x = subst (Kept j h b) (sym x.2) (
     k,
     record {
@@ -235,10 +238,10 @@ module _ (reaches : ℕ → Records → ℕ → List ℕ) (lawful : ℕ → Reco
       in_queue Probed e k = absurd (cc)
 
   pub holds_back : IsLayout reaches lawful → (sizes : Sizes) (before between : List Event) (s m t u : State) (j h b : ℕ) (r : ReaderView) → MayOpen sizes → Happen reaches lawful (opening sizes) before s
-      → slice_get s.readers j ≡ Some r → stands_on r.state ≡ Some h → Happens reaches lawful s (put_on_hold b) m → Happen reaches lawful m between t → All (λ e. e ≢ release j) between
-      → Happens reaches lawful t (hand_out b) u → ⊥
+      → slice_get s.readers j ≡ Some r → stands_on r.state ≡ Some h → Happens reaches lawful s (PutOnHold b) m → Happen reaches lawful m between t → All (λ e. e ≢ Release j) between
+      → Happens reaches lawful t (HandOut b) u → ⊥
   holds_back l sizes before between s m t u j h b r may x at on puts y none out =
       let good = keeps_good reaches lawful l sizes before s may x in
-      let k = kept_on l between m t j h b (event_keeps reaches lawful l s m (put_on_hold b) good puts) y none
+      let k = kept_on l between m t j h b (event_keeps reaches lawful l s m (PutOnHold b) good puts) y none
       (begins s m j h b good (record { r = r; there = at; stands = on }) puts) in
       not-free t.writer.buffers b b k.1.width k.1.tag out.0.tag k.1.held out.0.free refl

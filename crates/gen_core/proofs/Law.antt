@@ -20,8 +20,10 @@ use Rattle.gen_core.specs.Views.{open_holds, oldest_of, floor_of, kept_of, last_
 use Rattle.gen_core.specs.Work.{next_image}
 use Rattle.gen_core.specs.Good.{State, IsPlaced, WordsStand, RaiseFits, GuardFits, GoodReaderState, GoodReader, IsLawfulCommit, Good}
 use Rattle.gen_core.specs.Conditions.{MayHandOut, MayPublish, IsUnder}
-use Rattle.gen_core.specs.Events.{Event, store_width, store_word, find_word, hand_out, publish, put_on_hold, free_buffer, reopen, store_newest, close, stop_at_oldest, probe, stop_at_newest, morph, split, join, meet_load, load_own}
-use Rattle.gen_core.specs.Events.{load_newest, raise, bounce, load_root, load_word, release, Happens, Happen, MayOpen, opening, NoneFromBefore, after_publish}
+use Rattle.gen_core.specs.declared.views.Event.{Event}
+use Rattle.gen_core.specs.declared.views.Event.TheVariants.{StoreWidth, StoreWord, FindWord, HandOut, Publish, PutOnHold, FreeBuffer, Reopen, StoreNewest, Close, StopAtOldest, Probe, StopAtNewest, Morph, Split, Join, MeetLoad, LoadOwn}
+use Rattle.gen_core.specs.declared.views.Event.TheVariants.{LoadNewest, Raise, Bounce, LoadRoot, LoadWord, Release}
+use Rattle.gen_core.specs.Events.{Happens, Happen, MayOpen, opening, NoneFromBefore, after_publish}
 use Rattle.gen_core.specs.Laws.{TellsCommit, IsKeptFor}
 use Rattle.gen_core.proofs.Lists.{all_at, all_drop-at, all_found}
 use Rattle.gen_core.proofs.Writer.{store_word_keeps, find_word_keeps, store_width_keeps, hand_out_keeps}
@@ -39,30 +41,30 @@ use Rattle.gen_core.proofs.Layouts.{IsLayout}
 
 module _ (reaches : ℕ → Records → ℕ → List ℕ) (lawful : ℕ → Records → ℕ → Type 0) where
   pub event_keeps : IsLayout reaches lawful → (s t : State) (e : Event) → Good reaches lawful s → Happens reaches lawful s e t → Good reaches lawful t
-  event_keeps l s t (store_width b width) g h = subst (Good reaches lawful) (sym h.1) (store_width_keeps reaches lawful s b width g h.0)
-  event_keeps l s t (store_word p n) g h = subst (Good reaches lawful) (sym h.1) (store_word_keeps reaches lawful s p n g h.0)
-  event_keeps l s t (find_word p) g h = subst (Good reaches lawful) (sym h.1) (find_word_keeps reaches lawful s p g h.0)
-  event_keeps l s t (hand_out b) g h = subst (Good reaches lawful) (sym h.1) (hand_out_keeps reaches lawful s b g h.0)
-  event_keeps l s t (publish root) g h = subst (Good reaches lawful) (sym h.1) (publish_keeps reaches lawful l s root g h.0)
-  event_keeps l s t (put_on_hold b) g h = subst (Good reaches lawful) (sym h.2) (put_on_hold_keeps reaches lawful s b h.0 g h.1)
-  event_keeps l s t (free_buffer b) g h = subst (Good reaches lawful) (sym h.2) (free_keeps reaches lawful s b h.0 g h.1)
-  event_keeps l s t (reopen k) g h = subst (Good reaches lawful) (sym h.1) (reopen_keeps reaches lawful s k g h.0)
-  event_keeps l s t store_newest g h = subst (Good reaches lawful) (sym h.2) (store_newest_keeps reaches lawful s h.0 g h.1)
-  event_keeps l s t close g h = subst (Good reaches lawful) (sym h.4) (close_keeps reaches lawful s h.0 h.1 g h.2 h.3)
-  event_keeps l s t stop_at_oldest g h = subst (Good reaches lawful) (sym h.4) (stop_keeps reaches lawful s _ g)
-  event_keeps l s t probe g h = subst (Good reaches lawful) (sym h.2) (probe_keeps reaches lawful s g h.0 h.1)
-  event_keeps l s t stop_at_newest g h = subst (Good reaches lawful) (sym h.2) (stop_keeps reaches lawful s _ g)
-  event_keeps l s t morph g h = subst (Good reaches lawful) (sym h.1) (morph_keeps reaches lawful s g h.0)
-  event_keeps l s t split g h = subst (Good reaches lawful) (sym h.1) (split_keeps reaches lawful s g h.0)
-  event_keeps l s t (join j) g h = subst (Good reaches lawful) (sym h.3) (join_keeps reaches lawful s j h.0 g h.1 h.2)
-  event_keeps l s t meet_load g h = subst (Good reaches lawful) (sym h.1) g
-  event_keeps l s t (load_own p) g h = subst (Good reaches lawful) (sym h.1) g
-  event_keeps l s t (load_newest j) g h = subst (Good reaches lawful) (sym h.3) (load_newest_keeps reaches lawful s j h.0 g h.1 h.2)
-  event_keeps l s t (raise j) g h = subst (Good reaches lawful) (sym h.5) (raise_keeps reaches lawful s j h.0 h.2 h.3 g h.1 h.4)
-  event_keeps l s t (bounce j) g h = subst (Good reaches lawful) (sym h.4) (bounce_keeps reaches lawful s j h.0 h.2 g h.1 h.3)
-  event_keeps l s t (load_root j) g h = subst (Good reaches lawful) (sym h.4) (load_root_keeps reaches lawful s j h.0 h.2 g h.1 h.3)
-  event_keeps l s t (load_word j p) g h = subst (Good reaches lawful) (sym h.3) g
-  event_keeps l s t (release j) g h = subst (Good reaches lawful) (sym h.5) (release_keeps reaches lawful s j h.0 h.2 h.3 g h.1 h.4)
+  event_keeps l s t (StoreWidth b width) g h = subst (Good reaches lawful) (sym h.1) (store_width_keeps reaches lawful s b width g h.0)
+  event_keeps l s t (StoreWord p n) g h = subst (Good reaches lawful) (sym h.1) (store_word_keeps reaches lawful s p n g h.0)
+  event_keeps l s t (FindWord p) g h = subst (Good reaches lawful) (sym h.1) (find_word_keeps reaches lawful s p g h.0)
+  event_keeps l s t (HandOut b) g h = subst (Good reaches lawful) (sym h.1) (hand_out_keeps reaches lawful s b g h.0)
+  event_keeps l s t (Publish root) g h = subst (Good reaches lawful) (sym h.1) (publish_keeps reaches lawful l s root g h.0)
+  event_keeps l s t (PutOnHold b) g h = subst (Good reaches lawful) (sym h.2) (put_on_hold_keeps reaches lawful s b h.0 g h.1)
+  event_keeps l s t (FreeBuffer b) g h = subst (Good reaches lawful) (sym h.2) (free_keeps reaches lawful s b h.0 g h.1)
+  event_keeps l s t (Reopen k) g h = subst (Good reaches lawful) (sym h.1) (reopen_keeps reaches lawful s k g h.0)
+  event_keeps l s t StoreNewest g h = subst (Good reaches lawful) (sym h.2) (store_newest_keeps reaches lawful s h.0 g h.1)
+  event_keeps l s t Close g h = subst (Good reaches lawful) (sym h.4) (close_keeps reaches lawful s h.0 h.1 g h.2 h.3)
+  event_keeps l s t StopAtOldest g h = subst (Good reaches lawful) (sym h.4) (stop_keeps reaches lawful s _ g)
+  event_keeps l s t Probe g h = subst (Good reaches lawful) (sym h.2) (probe_keeps reaches lawful s g h.0 h.1)
+  event_keeps l s t StopAtNewest g h = subst (Good reaches lawful) (sym h.2) (stop_keeps reaches lawful s _ g)
+  event_keeps l s t Morph g h = subst (Good reaches lawful) (sym h.1) (morph_keeps reaches lawful s g h.0)
+  event_keeps l s t Split g h = subst (Good reaches lawful) (sym h.1) (split_keeps reaches lawful s g h.0)
+  event_keeps l s t (Join j) g h = subst (Good reaches lawful) (sym h.3) (join_keeps reaches lawful s j h.0 g h.1 h.2)
+  event_keeps l s t MeetLoad g h = subst (Good reaches lawful) (sym h.1) g
+  event_keeps l s t (LoadOwn p) g h = subst (Good reaches lawful) (sym h.1) g
+  event_keeps l s t (LoadNewest j) g h = subst (Good reaches lawful) (sym h.3) (load_newest_keeps reaches lawful s j h.0 g h.1 h.2)
+  event_keeps l s t (Raise j) g h = subst (Good reaches lawful) (sym h.5) (raise_keeps reaches lawful s j h.0 h.2 h.3 g h.1 h.4)
+  event_keeps l s t (Bounce j) g h = subst (Good reaches lawful) (sym h.4) (bounce_keeps reaches lawful s j h.0 h.2 g h.1 h.3)
+  event_keeps l s t (LoadRoot j) g h = subst (Good reaches lawful) (sym h.4) (load_root_keeps reaches lawful s j h.0 h.2 g h.1 h.3)
+  event_keeps l s t (LoadWord j p) g h = subst (Good reaches lawful) (sym h.3) g
+  event_keeps l s t (Release j) g h = subst (Good reaches lawful) (sym h.5) (release_keeps reaches lawful s j h.0 h.2 h.3 g h.1 h.4)
 
   pub events_keep : IsLayout reaches lawful → (events : List Event) (s t : State) → Good reaches lawful s → Happen reaches lawful s events t → Good reaches lawful t
   events_keep l [] s t g h = subst (Good reaches lawful) (sym h) g

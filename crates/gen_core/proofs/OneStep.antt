@@ -6,12 +6,13 @@ use Rattle.std.specs.Option.{unwrap_or}
 use Rattle.gen_core.specs.Views.{oldest_in, oldest_of, last_number, last_image, newest_word, hold_place, spent}
 use Rattle.gen_core.specs.Good.{State}
 use Rattle.gen_core.specs.Steps.{left_by, hold_of, hold_in, next_hold, view_at, IsOneStep, add, subtract, exchange}
-use Rattle.gen_core.specs.Events.{coming_hold, newcomer, with_state, aims, found_state, bounced, sees, count_at, Event, Happens, store_width, store_word, find_word, hand_out, publish, put_on_hold, free_buffer, reopen}
-use Rattle.gen_core.specs.Events.{store_newest, close, stop_at_oldest, probe, stop_at_newest, morph, split, join, meet_load, load_own, load_newest, raise, bounce, load_root, load_word, release}
+use Rattle.gen_core.specs.declared.views.Event.{Event}
+use Rattle.gen_core.specs.declared.views.Event.TheVariants.{StoreWidth, StoreWord, FindWord, HandOut, Publish, PutOnHold, FreeBuffer, Reopen}
+use Rattle.gen_core.specs.Events.{coming_hold, newcomer, meets, released, aims, bounced, sees, count_at, Happens}
+use Rattle.gen_core.specs.declared.views.Event.TheVariants.{StoreNewest, Close, StopAtOldest, Probe, StopAtNewest, Morph, Split, Join, MeetLoad, LoadOwn, LoadNewest, Raise, Bounce, LoadRoot, LoadWord, Release}
 use Rattle.gen_core.specs.declared.views.OpenHold.{OpenHold}
 use Rattle.gen_core.specs.declared.views.ReaderView.{ReaderView}
 use Rattle.entry_ref.specs.Records.{Records}
-use Rattle.gen_core.specs.declared.views.ReaderState.TheVariants.{Idle}
 use Rattle.gen_core.specs.declared.views.View.TheVariants.{Writer, Reader}
 
 -- a word that is written with what stands there
@@ -68,53 +69,53 @@ on-oldest s t e es f older is =
 
 module _ (reaches : ℕ → Records → ℕ → List ℕ) (lawful : ℕ → Records → ℕ → Type 0) where
   pub one_step : (s t : State) (e : Event) → Happens reaches lawful s e t → IsOneStep s e t
-  one_step s t (store_width b width) h = record { words = ap (λ (x : State). x.words) h.1; views = λ k off far. writer-alone s t (ap (λ (x : State). x.readers) h.1) k off }
-  one_step s t (store_word p n) h = record { words = ap (λ (x : State). x.words) h.1; views = λ k off far. writer-alone s t (ap (λ (x : State). x.readers) h.1) k off }
-  one_step s t (find_word p) h = record { words = loaded s t p (ap (λ (x : State). x.words) h.1); views = λ k off far. writer-alone s t (ap (λ (x : State). x.readers) h.1) k off }
-  one_step s t (hand_out b) h = record { words = ap (λ (x : State). x.words) h.1; views = λ k off far. writer-alone s t (ap (λ (x : State). x.readers) h.1) k off }
-  one_step s t (publish root) h = record { words = ap (λ (x : State). x.words) h.1; views = λ k off far. writer-alone s t (ap (λ (x : State). x.readers) h.1) k off }
-  one_step s t (put_on_hold b) h = record { words = ap (λ (x : State). x.words) h.2; views = λ k off far. writer-alone s t (ap (λ (x : State). x.readers) h.2) k off }
-  one_step s t (free_buffer b) h = record { words = ap (λ (x : State). x.words) h.2; views = λ k off far. writer-alone s t (ap (λ (x : State). x.readers) h.2) k off }
-  one_step s t (reopen n) h = record { words = ap (λ (x : State). x.words) h.1; views = λ k off far. writer-alone s t (ap (λ (x : State). x.readers) h.1) k off }
-  one_step s t store_newest h = record {
+  one_step s t (StoreWidth b width) h = record { words = ap (λ (x : State). x.words) h.1; views = λ k off far. writer-alone s t (ap (λ (x : State). x.readers) h.1) k off }
+  one_step s t (StoreWord p n) h = record { words = ap (λ (x : State). x.words) h.1; views = λ k off far. writer-alone s t (ap (λ (x : State). x.readers) h.1) k off }
+  one_step s t (FindWord p) h = record { words = loaded s t p (ap (λ (x : State). x.words) h.1); views = λ k off far. writer-alone s t (ap (λ (x : State). x.readers) h.1) k off }
+  one_step s t (HandOut b) h = record { words = ap (λ (x : State). x.words) h.1; views = λ k off far. writer-alone s t (ap (λ (x : State). x.readers) h.1) k off }
+  one_step s t (Publish root) h = record { words = ap (λ (x : State). x.words) h.1; views = λ k off far. writer-alone s t (ap (λ (x : State). x.readers) h.1) k off }
+  one_step s t (PutOnHold b) h = record { words = ap (λ (x : State). x.words) h.2; views = λ k off far. writer-alone s t (ap (λ (x : State). x.readers) h.2) k off }
+  one_step s t (FreeBuffer b) h = record { words = ap (λ (x : State). x.words) h.2; views = λ k off far. writer-alone s t (ap (λ (x : State). x.readers) h.2) k off }
+  one_step s t (Reopen n) h = record { words = ap (λ (x : State). x.words) h.1; views = λ k off far. writer-alone s t (ap (λ (x : State). x.readers) h.1) k off }
+  one_step s t StoreNewest h = record {
     words = subst (λ n. t.words ≡ set s.words 1 (newest_word (coming_hold s.writer n))) (sym (ap next_hold h.1)) (ap (λ (x : State). x.words) h.2);
     views = λ k off far. writer-alone s t (ap (λ (x : State). x.readers) h.2) k off;
   }
-  one_step s t close h = record {
+  one_step s t Close h = record {
     words = on-oldest s t h.0 h.1 (left_by (exchange 0 1)) h.2.is
         (ap (λ (x : State). x.words) h.4 ∙ ap (set s.words (hold_place h.0.hold)) (sym (ap (λ b. cond b 1 (count_at s h.0.hold)) (eq-eqb (count_at s h.0.hold) 0 h.3))));
     views = λ k off far. writer-alone s t (ap (λ (x : State). x.readers) h.4) k off;
   }
-  one_step s t stop_at_oldest h = record {
+  one_step s t StopAtOldest h = record {
     words = on-oldest s t h.0 h.1 (left_by (exchange 0 1)) h.2.is
         (loaded s t (hold_place h.0.hold) (ap (λ (x : State). x.words) h.4) ∙ ap (set s.words (hold_place h.0.hold)) (sym (ap (λ b. cond b 1 (count_at s h.0.hold)) (ne_eqb (count_at s h.0.hold) 0 h.3))));
     views = λ k off far. writer-alone s t (ap (λ (x : State). x.readers) h.4) k off;
   }
-  one_step s t probe h = record { words = loaded s t _ (ap (λ (x : State). x.words) h.2); views = λ k off far. writer-alone s t (ap (λ (x : State). x.readers) h.2) k off }
-  one_step s t stop_at_newest h = record { words = loaded s t _ (ap (λ (x : State). x.words) h.2); views = λ k off far. writer-alone s t (ap (λ (x : State). x.readers) h.2) k off }
-  one_step s t morph h = record { words = ap (λ (x : State). x.words) h.1; views = λ k off far. writer-alone s t (ap (λ (x : State). x.readers) h.1) k off }
-  one_step s t split h = record { words = loaded s t 0 (ap (λ (x : State). x.words) h.1); views = λ k off far. split-views s t (newcomer s.writer) (ap (λ (x : State). x.readers) h.1) k off far }
-  one_step s t (join j) h = record { words = loaded s t 0 (ap (λ (x : State). x.words) h.3); views = λ k off far. join-views s t j spent (ap (λ (x : State). x.readers) h.3) k off far }
-  one_step s t meet_load h = record { words = loaded s t 0 (ap (λ (x : State). x.words) h.1); views = λ k off far. ap (λ x. view_at x k) h.1 }
-  one_step s t (load_own p) h = record { words = loaded s t p (ap (λ (x : State). x.words) h.1); views = λ k off far. ap (λ x. view_at x k) h.1 }
-  one_step s t (load_newest j) h = record {
+  one_step s t Probe h = record { words = loaded s t _ (ap (λ (x : State). x.words) h.2); views = λ k off far. writer-alone s t (ap (λ (x : State). x.readers) h.2) k off }
+  one_step s t StopAtNewest h = record { words = loaded s t _ (ap (λ (x : State). x.words) h.2); views = λ k off far. writer-alone s t (ap (λ (x : State). x.readers) h.2) k off }
+  one_step s t Morph h = record { words = ap (λ (x : State). x.words) h.1; views = λ k off far. writer-alone s t (ap (λ (x : State). x.readers) h.1) k off }
+  one_step s t Split h = record { words = loaded s t 0 (ap (λ (x : State). x.words) h.1); views = λ k off far. split-views s t (newcomer s.writer) (ap (λ (x : State). x.readers) h.1) k off far }
+  one_step s t (Join j) h = record { words = loaded s t 0 (ap (λ (x : State). x.words) h.3); views = λ k off far. join-views s t j spent (ap (λ (x : State). x.readers) h.3) k off far }
+  one_step s t MeetLoad h = record { words = loaded s t 0 (ap (λ (x : State). x.words) h.1); views = λ k off far. ap (λ x. view_at x k) h.1 }
+  one_step s t (LoadOwn p) h = record { words = loaded s t p (ap (λ (x : State). x.words) h.1); views = λ k off far. ap (λ x. view_at x k) h.1 }
+  one_step s t (LoadNewest j) h = record {
     words = loaded s t 1 (ap (λ (x : State). x.words) h.3);
     views = λ k off far. reader-alone s t j (aims h.0 s.writer.queue.newest) (ap (λ (x : State). x.writer) h.3) (ap (λ (x : State). x.readers) h.3) k off;
   }
-  one_step s t (raise j) h = record {
+  one_step s t (Raise j) h = record {
     words = on-count s t j h.3 h.0 (left_by (add 2)) h.1 (ap hold_of h.4) (ap (λ (x : State). x.words) h.5);
-    views = λ k off far. reader-alone s t j (with_state h.0 (found_state (count_at s h.3) h.3)) (ap (λ (x : State). x.writer) h.5) (ap (λ (x : State). x.readers) h.5) k off;
+    views = λ k off far. reader-alone s t j (meets h.0 (count_at s h.3) h.3) (ap (λ (x : State). x.writer) h.5) (ap (λ (x : State). x.readers) h.5) k off;
   }
-  one_step s t (bounce j) h = record {
+  one_step s t (Bounce j) h = record {
     words = on-count s t j h.2 h.0 (left_by (subtract 2)) h.1 (ap hold_of h.3) (ap (λ (x : State). x.words) h.4);
     views = λ k off far. reader-alone s t j (bounced h.0) (ap (λ (x : State). x.writer) h.4) (ap (λ (x : State). x.readers) h.4) k off;
   }
-  one_step s t (load_root j) h = record {
+  one_step s t (LoadRoot j) h = record {
     words = loaded s t 0 (ap (λ (x : State). x.words) h.4);
     views = λ k off far. reader-alone s t j (sees h.0 h.2 (last_number s.writer.commits) (last_image s.writer.commits)) (ap (λ (x : State). x.writer) h.4) (ap (λ (x : State). x.readers) h.4) k off;
   }
-  one_step s t (load_word j p) h = record { words = loaded s t p (ap (λ (x : State). x.words) h.3); views = λ k off far. ap (λ x. view_at x k) h.3 }
-  one_step s t (release j) h = record {
+  one_step s t (LoadWord j p) h = record { words = loaded s t p (ap (λ (x : State). x.words) h.3); views = λ k off far. ap (λ x. view_at x k) h.3 }
+  one_step s t (Release j) h = record {
     words = on-count s t j h.2 h.0 (left_by (subtract 2)) h.1 (ap hold_of h.4) (ap (λ (x : State). x.words) h.5);
-    views = λ k off far. reader-alone s t j (with_state h.0 Idle) (ap (λ (x : State). x.writer) h.5) (ap (λ (x : State). x.readers) h.5) k off;
+    views = λ k off far. reader-alone s t j (released h.0) (ap (λ (x : State). x.writer) h.5) (ap (λ (x : State). x.readers) h.5) k off;
   }

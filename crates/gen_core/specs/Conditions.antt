@@ -1,5 +1,5 @@
--- When an event may happen: what its seat's own view has to say. While something is pending, the writer
--- does nothing but finish it.
+-- When an event may happen, as a condition on the view of its seat. While a change of the queue is unfinished, the
+-- writer only finishes it.
 use Rattle.std.specs.Prelude.{◌≡◌, ◌≢◌, ◌⊎◌, ℕ, suc, ◌+◌, ◌^◌, ◌<◌, ◌≤◌, List, ◌∷◌, length, slice_get, Option, Some, All}
 use Rattle.entry_ref.specs.References.{buffer_of}
 use Rattle.entry_ref.specs.declared.images.Image.{Image}
@@ -20,13 +20,13 @@ use Rattle.gen_core.specs.Good.{InActive, Avoids, HasNothingIn}
 
 -- Words and buffers.
 
--- store the width of a buffer: it is active and has none yet
+-- store the width of a buffer: it is active and has no width
 pub record MayStoreWidth (w : WriterView) (b width : ℕ) : Type 0 where
   pub calm : w.queue.pending ≡ Nothing
   pub none_yet : active_in w.buffers b ≡ Some 0
   pub some : 0 < width
 
--- store another word: its buffer is active and has its width, and no kept commit has a word there
+-- store another word: its buffer is active and has a width, and no kept commit has a word there
 pub record MayStoreWord (w : WriterView) (p : ℕ) : Type 0 where
   pub calm : w.queue.pending ≡ Nothing
   pub active : InActive w.sizes w.buffers p
@@ -38,14 +38,15 @@ pub record MayHandOut (w : WriterView) (b : ℕ) : Type 0 where
   pub tag : Option Tag
   pub free : slice_get w.buffers b ≡ Some (Free tag)
 
--- publish a root: what it reaches in the last commit and in what was stored whole since is lawful, and a number is left
+-- publish a root: the image that it reaches, in the last commit and what was stored whole since then, is lawful; and
+-- a commit number is left
 pub record MayPublish (lawful : ℕ → Records → ℕ → Type 0) (w : WriterView) (root : ℕ) : Type 0 where
   pub calm : w.queue.pending ≡ Nothing
   pub lawful_root : lawful w.sizes.shape (writer_records w) root
   pub small : root < 2 ^ 32
   pub left : last_number w.commits < w.sizes.commit_limit
 
--- put a buffer on hold: the last commit has no record in it, and nothing was stored in it since
+-- put a buffer on hold: the last commit has no record in it, and nothing was stored in it since then
 pub record MayPutOnHold (w : WriterView) (b width : ℕ) : Type 0 where
   pub calm : w.queue.pending ≡ Nothing
   pub active : active_in w.buffers b ≡ Some width
@@ -59,9 +60,22 @@ pub record MayFree (w : WriterView) (b : ℕ) (tag : Tag) : Type 0 where
   pub held : slice_get w.buffers b ≡ Some (Held width tag)
   pub below : tag.generation < (oldest_of w.queue).generation
 
+-- a word of a buffer
+pub record IsBufferWord (sizes : Sizes) (p : ℕ) : Type 0 where
+  pub b : ℕ
+  pub x : ℕ
+  pub buffer : b < sizes.buffers
+  pub inside : x < sizes.words
+  pub is : p ≡ base sizes.buffers sizes.words b + x
+
+-- load a word of a buffer
+pub record MayLoadOwn (w : WriterView) (p : ℕ) : Type 0 where
+  pub calm : w.queue.pending ≡ Nothing
+  pub word : IsBufferWord w.sizes p
+
 -- Holds.
 
--- reopen a hold: it is not in the queue, which has room for it, and a generation is left
+-- reopen a hold: it is not in the queue, the queue has room for it, and a generation is left
 pub record MayReopen (w : WriterView) (h : ℕ) : Type 0 where
   pub calm : w.queue.pending ≡ Nothing
   pub hold : h < 16
@@ -74,7 +88,7 @@ pub record MayClose (w : WriterView) (e : OpenHold) (es : List OpenHold) : Type 
   pub calm : w.queue.pending ≡ Nothing
   pub is : w.queue.older ≡ e ∷ es
 
--- look whether the newest hold is in use: a generation is left
+-- test whether the newest hold is in use: a generation is left
 pub record MayProbe (w : WriterView) : Type 0 where
   pub calm : w.queue.pending ≡ Nothing
   pub left : w.queue.newest.generation + 1 ≤ w.sizes.generation_limit
@@ -86,12 +100,12 @@ pub record MaySplit (w : WriterView) : Type 0 where
   pub calm : w.queue.pending ≡ Nothing
   pub few : w.made < 64
 
--- take a reader in: it stands on nothing
+-- join a reader: it stands on no hold
 pub record MayJoin (w : WriterView) (r : ReaderView) : Type 0 where
   pub calm : w.queue.pending ≡ Nothing
   pub idle : r.state ≡ Idle
 
--- the reader is under the guard of this commit: what it saw last
+-- the reader guards this commit, the last that it saw
 pub record IsUnder (r : ReaderView) (number : ℕ) (image : Image) : Type 0 where
   pub hold : ℕ
   pub guarded : r.state ≡ Guarded hold number
@@ -104,7 +118,7 @@ IsOfImage sizes image p =
     × (((i : ℕ) × (i < length ws) × (p ≡ place_in sizes (length ws) ref i))
     ⊎ (p ≡ base sizes.buffers sizes.words (buffer_of sizes.offset_bits ref)))
 
--- load a word: it is of the image that the reader is under
+-- load a word: it belongs to the image that the reader guards
 pub record MayLoadWord (r : ReaderView) (p : ℕ) : Type 0 where
   pub number : ℕ
   pub image : Image

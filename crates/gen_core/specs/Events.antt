@@ -1,4 +1,4 @@
--- The events: each is one step on one word by one seat, under a condition on that seat's view.
+-- The events. Each is one step of one seat on one word, under a condition on that seat's view.
 use Rattle.std.specs.Prelude.{if◌then◌else◌, ◌≡◌, ◌≢◌, ℕ, ◌+◌, ◌-◌, ◌*◌, ◌%◌, ◌^◌, slice_index, ◌<◌, List, [], ◌∷◌, ◌++◌, length, set}
 use Rattle.std.specs.Prelude.{replicate, slice_get, Some, None, All, IsTrue, nat_eq}
 use Rattle.std.specs.List.{list_any}
@@ -14,6 +14,12 @@ use Rattle.gen_core.specs.declared.views.Buffer.TheVariants.{Free, Active, Held}
 use Rattle.gen_core.specs.declared.views.Tag.{Tag}
 use Rattle.gen_core.specs.declared.views.ReaderState.{ReaderState}
 use Rattle.gen_core.specs.declared.views.ReaderState.TheVariants.{Idle, Aimed, Raised, Bounced, Guarded}
+use Rattle.gen_core.specs.declared.views.Misses.{Misses}
+use Rattle.gen_core.specs.declared.views.Event.{Event}
+use Rattle.gen_core.specs.declared.views.Event.TheVariants.{StoreWidth, StoreWord, FindWord, HandOut, Publish, PutOnHold, FreeBuffer}
+use Rattle.gen_core.specs.declared.views.Event.TheVariants.{Reopen, StoreNewest, Close, StopAtOldest, Probe}
+use Rattle.gen_core.specs.declared.views.Event.TheVariants.{StopAtNewest, Morph, Split, Join, MeetLoad, LoadOwn, LoadNewest, Raise, Bounce}
+use Rattle.gen_core.specs.declared.views.Event.TheVariants.{LoadRoot, LoadWord, Release}
 use Rattle.gen_core.specs.declared.views.ReaderView.{ReaderView}
 use Rattle.gen_core.specs.declared.views.WriterView.{WriterView}
 use Rattle.gen_core.specs.Views.{queue_of, open_holds, hold_place, newest_word, last_number, last_image, root_word, last_tag_in, stands_on}
@@ -21,9 +27,9 @@ use Rattle.gen_core.specs.Views.{spent}
 use Rattle.gen_core.specs.Work.{next_image}
 use Rattle.gen_core.specs.Good.{State}
 use Rattle.gen_core.specs.Conditions.{MayStoreWidth, MayStoreWord, MayHandOut, MayPublish, MayPutOnHold, MayFree, MayReopen, MayClose}
-use Rattle.gen_core.specs.Conditions.{MayProbe, MaySplit, MayJoin, MayLoadWord}
+use Rattle.gen_core.specs.Conditions.{MayProbe, MaySplit, MayJoin, MayLoadOwn, MayLoadWord}
 
--- What a view becomes.
+-- How views change.
 
 abbrev pub with_buffer : WriterView → ℕ → Buffer → WriterView
 with_buffer w b x = record w { buffers = set w.buffers b x }
@@ -69,7 +75,7 @@ stopped w found = record w { stops = record { count = w.stops.count + 1; found =
 abbrev pub probed : WriterView → WriterView
 probed w = record w { queue = record w.queue { pending = Probed } }
 
--- the newest hold, found unused, becomes that of the next generation
+-- the newest hold, found unused, takes the next generation
 abbrev pub morphed : WriterView → WriterView
 morphed w = record w { queue = queue_of w.queue.older (coming_hold w w.queue.newest.hold) Nothing }
 
@@ -77,7 +83,15 @@ abbrev pub with_reader : WriterView → WriterView
 with_reader w = record w { made = w.made + 1 }
 
 abbrev pub newcomer : WriterView → ReaderView
-newcomer w = record { sizes = w.sizes; seen = last_number w.commits; least = w.queue.newest.generation; state = Idle; saw = [] }
+newcomer w = record {
+  sizes = w.sizes;
+  seen = last_number w.commits;
+  least = w.queue.newest.generation;
+  first = w.queue.newest.generation;
+  misses = record { count = 0; found = 0 };
+  state = Idle;
+  saw = [];
+}
 
 abbrev pub joined : WriterView → ReaderView → WriterView
 joined w r = record w { saw = r.saw ++ w.saw }
@@ -85,15 +99,29 @@ joined w r = record w { saw = r.saw ++ w.saw }
 abbrev pub with_state : ReaderView → ReaderState → ReaderView
 with_state r t = record r { state = t }
 
-abbrev pub aims : ReaderView → OpenHold → ReaderView
-aims r e = record r { least = e.generation; state = Aimed e.generation e.hold }
+-- the generation at which the reader aimed first: this one, unless it missed one before
+abbrev pub first_aim : ReaderView → ℕ → ℕ
+first_aim r generation = if nat_eq r.misses.count 0 then generation else r.first
 
--- an even count says that the hold is open
+abbrev pub aims : ReaderView → OpenHold → ReaderView
+aims r e = record r { least = e.generation; first = first_aim r e.generation; state = Aimed e.generation e.hold }
+
+-- an even count means that the hold is open
 abbrev pub found_state : ℕ → ℕ → ReaderState
 found_state found h = if nat_eq (found % 2) 0 then Raised h else Bounced h
 
+-- an odd count is a miss
+abbrev pub found_misses : ℕ → Misses → Misses
+found_misses found misses = if nat_eq (found % 2) 0 then misses else record { count = misses.count + 1; found = found }
+
+abbrev pub meets : ReaderView → ℕ → ℕ → ReaderView
+meets r found h = record r { state = found_state found h; misses = found_misses found r.misses }
+
 abbrev pub bounced : ReaderView → ReaderView
 bounced r = record r { least = r.least + 1; state = Idle }
+
+abbrev pub released : ReaderView → ReaderView
+released r = record r { state = Idle; misses = record { count = 0; found = r.misses.found } }
 
 abbrev pub sees : ReaderView → ℕ → ℕ → Image → ReaderView
 sees r h number image = record r { seen = number; state = Guarded h number; saw = (number, image) ∷ r.saw }
@@ -110,7 +138,7 @@ after_store_width s b width = record {
 abbrev pub after_store_word : State → ℕ → ℕ → State
 after_store_word s p n = record { words = set s.words p n; writer = stored s.writer p n; readers = s.readers }
 
--- a word that was found counts as stored
+-- a word that the writer finds counts as stored
 abbrev pub after_find_word : State → ℕ → State
 after_find_word s p = record s { writer = stored s.writer p (slice_index s.words p) }
 
@@ -169,12 +197,12 @@ after_join s j r = record { words = s.words; writer = joined s.writer r; readers
 abbrev pub after_load_newest : State → ℕ → ReaderView → State
 after_load_newest s j r = record s { readers = set s.readers j (aims r s.writer.queue.newest) }
 
--- one hold's count and one reader's view change
+-- the count of one hold and the view of one reader change
 abbrev pub after_count : State → ℕ → ℕ → ℕ → ReaderView → State
 after_count s h n j v = record { words = set s.words (hold_place h) n; writer = s.writer; readers = set s.readers j v }
 
 abbrev pub after_raise : State → ℕ → ReaderView → ℕ → State
-after_raise s j r h = after_count s h (count_at s h + 2) j (with_state r (found_state (count_at s h) h))
+after_raise s j r h = after_count s h (count_at s h + 2) j (meets r (count_at s h) h)
 
 abbrev pub after_bounce : State → ℕ → ReaderView → ℕ → State
 after_bounce s j r h = after_count s h (count_at s h - 2) j (bounced r)
@@ -183,7 +211,7 @@ abbrev pub after_load_root : State → ℕ → ReaderView → ℕ → State
 after_load_root s j r h = record s { readers = set s.readers j (sees r h (last_number s.writer.commits) (last_image s.writer.commits)) }
 
 abbrev pub after_release : State → ℕ → ReaderView → ℕ → State
-after_release s j r h = after_count s h (count_at s h - 2) j (with_state r Idle)
+after_release s j r h = after_count s h (count_at s h - 2) j (released r)
 
 -- The opening.
 
@@ -202,7 +230,7 @@ opening_view sizes = record {
   stops = record { count = 0; found = 0 };
 }
 
--- every word is 0, but the counts of holds 1 to 15, which are closed
+-- every word is 0, except the counts of holds 1 to 15, which are closed
 abbrev pub opening_words : Sizes → List ℕ
 opening_words sizes = 0 ∷ 0 ∷ 0 ∷ replicate 15 1 ++ replicate (sizes.buffers + sizes.buffers * sizes.words) 0
 
@@ -214,79 +242,51 @@ pub record MayOpen (sizes : Sizes) : Type 0 where
   pub commit_limit : sizes.commit_limit < 2 ^ 32
   pub generation_limit : sizes.generation_limit < 2 ^ 48
 
--- A reader is named by its place among those made. The writer's loads, of the root after a join (`meet_load`)
--- and of any word (`load_own`), change nothing.
-pub data Event : Type 0 where
-  store_width : (b width : ℕ) → Event
-  store_word : (p n : ℕ) → Event
-  find_word : (p : ℕ) → Event
-  hand_out : (b : ℕ) → Event
-  publish : (root : ℕ) → Event
-  put_on_hold : (b : ℕ) → Event
-  free_buffer : (b : ℕ) → Event
-  reopen : (h : ℕ) → Event
-  store_newest : Event
-  close : Event
-  stop_at_oldest : Event
-  probe : Event
-  stop_at_newest : Event
-  morph : Event
-  split : Event
-  join : (j : ℕ) → Event
-  meet_load : Event
-  load_own : (p : ℕ) → Event
-  load_newest : (j : ℕ) → Event
-  raise : (j : ℕ) → Event
-  bounce : (j : ℕ) → Event
-  load_root : (j : ℕ) → Event
-  load_word : (j p : ℕ) → Event
-  release : (j : ℕ) → Event
-
 module _ (reaches : ℕ → Records → ℕ → List ℕ) (lawful : ℕ → Records → ℕ → Type 0) where
-  -- an event takes the state s to the state t
+  -- an event leads from state s to state t
   abbrev pub Happens : State → Event → State → Type 0
-  Happens s (store_width b width) t = MayStoreWidth s.writer b width × (t ≡ after_store_width s b width)
-  Happens s (store_word p n) t = MayStoreWord s.writer p × (t ≡ after_store_word s p n)
-  Happens s (find_word p) t = MayStoreWord s.writer p × (t ≡ after_find_word s p)
-  Happens s (hand_out b) t = MayHandOut s.writer b × (t ≡ after_hand_out s b)
-  Happens s (publish root) t = MayPublish lawful s.writer root × (t ≡ after_publish s (next_image reaches s.writer root))
-  Happens s (put_on_hold b) t = (width : ℕ) × MayPutOnHold s.writer b width × (t ≡ after_put_on_hold s b width)
-  Happens s (free_buffer b) t = (tag : Tag) × MayFree s.writer b tag × (t ≡ after_free s b tag)
-  Happens s (reopen h) t = MayReopen s.writer h × (t ≡ after_reopen s h)
-  Happens s store_newest t = (h : ℕ) × (s.writer.queue.pending ≡ Next h) × (t ≡ after_store_newest s h)
-  Happens s close t = (e : OpenHold) × (es : List OpenHold) × MayClose s.writer e es × (count_at s e.hold ≡ 0) × (t ≡ after_close s e es)
-  Happens s stop_at_oldest t = (e : OpenHold) × (es : List OpenHold) × MayClose s.writer e es × (count_at s e.hold ≢ 0)
+  Happens s (StoreWidth b width) t = MayStoreWidth s.writer b width × (t ≡ after_store_width s b width)
+  Happens s (StoreWord p n) t = MayStoreWord s.writer p × (t ≡ after_store_word s p n)
+  Happens s (FindWord p) t = MayStoreWord s.writer p × (t ≡ after_find_word s p)
+  Happens s (HandOut b) t = MayHandOut s.writer b × (t ≡ after_hand_out s b)
+  Happens s (Publish root) t = MayPublish lawful s.writer root × (t ≡ after_publish s (next_image reaches s.writer root))
+  Happens s (PutOnHold b) t = (width : ℕ) × MayPutOnHold s.writer b width × (t ≡ after_put_on_hold s b width)
+  Happens s (FreeBuffer b) t = (tag : Tag) × MayFree s.writer b tag × (t ≡ after_free s b tag)
+  Happens s (Reopen h) t = MayReopen s.writer h × (t ≡ after_reopen s h)
+  Happens s StoreNewest t = (h : ℕ) × (s.writer.queue.pending ≡ Next h) × (t ≡ after_store_newest s h)
+  Happens s Close t = (e : OpenHold) × (es : List OpenHold) × MayClose s.writer e es × (count_at s e.hold ≡ 0) × (t ≡ after_close s e es)
+  Happens s StopAtOldest t = (e : OpenHold) × (es : List OpenHold) × MayClose s.writer e es × (count_at s e.hold ≢ 0)
       × (t ≡ after_stop s (count_at s e.hold))
-  Happens s probe t = MayProbe s.writer × (count_at s s.writer.queue.newest.hold ≡ 0) × (t ≡ after_probe s)
-  Happens s stop_at_newest t = MayProbe s.writer × (count_at s s.writer.queue.newest.hold ≢ 0)
+  Happens s Probe t = MayProbe s.writer × (count_at s s.writer.queue.newest.hold ≡ 0) × (t ≡ after_probe s)
+  Happens s StopAtNewest t = MayProbe s.writer × (count_at s s.writer.queue.newest.hold ≢ 0)
       × (t ≡ after_stop s (count_at s s.writer.queue.newest.hold))
-  Happens s morph t = (s.writer.queue.pending ≡ Probed) × (t ≡ after_morph s)
-  Happens s split t = MaySplit s.writer × (t ≡ after_split s)
-  Happens s (join j) t = (r : ReaderView) × (slice_get s.readers j ≡ Some r) × MayJoin s.writer r × (t ≡ after_join s j r)
-  Happens s meet_load t = (s.writer.queue.pending ≡ Nothing) × (t ≡ s)
-  Happens s (load_own p) t = (s.writer.queue.pending ≡ Nothing) × (t ≡ s)
-  Happens s (load_newest j) t = (r : ReaderView) × (slice_get s.readers j ≡ Some r) × (r.state ≡ Idle) × (t ≡ after_load_newest s j r)
-  Happens s (raise j) t = (r : ReaderView) × (slice_get s.readers j ≡ Some r) × (generation : ℕ) × (h : ℕ) × (r.state ≡ Aimed generation h)
+  Happens s Morph t = (s.writer.queue.pending ≡ Probed) × (t ≡ after_morph s)
+  Happens s Split t = MaySplit s.writer × (t ≡ after_split s)
+  Happens s (Join j) t = (r : ReaderView) × (slice_get s.readers j ≡ Some r) × MayJoin s.writer r × (t ≡ after_join s j r)
+  Happens s MeetLoad t = (s.writer.queue.pending ≡ Nothing) × (t ≡ s)
+  Happens s (LoadOwn p) t = MayLoadOwn s.writer p × (t ≡ s)
+  Happens s (LoadNewest j) t = (r : ReaderView) × (slice_get s.readers j ≡ Some r) × (r.state ≡ Idle) × (t ≡ after_load_newest s j r)
+  Happens s (Raise j) t = (r : ReaderView) × (slice_get s.readers j ≡ Some r) × (generation : ℕ) × (h : ℕ) × (r.state ≡ Aimed generation h)
       × (t ≡ after_raise s j r h)
-  Happens s (bounce j) t = (r : ReaderView) × (slice_get s.readers j ≡ Some r) × (h : ℕ) × (r.state ≡ Bounced h)
+  Happens s (Bounce j) t = (r : ReaderView) × (slice_get s.readers j ≡ Some r) × (h : ℕ) × (r.state ≡ Bounced h)
       × (t ≡ after_bounce s j r h)
-  Happens s (load_root j) t = (r : ReaderView) × (slice_get s.readers j ≡ Some r) × (h : ℕ) × (r.state ≡ Raised h)
+  Happens s (LoadRoot j) t = (r : ReaderView) × (slice_get s.readers j ≡ Some r) × (h : ℕ) × (stands_on r.state ≡ Some h)
       × (t ≡ after_load_root s j r h)
-  Happens s (load_word j p) t = (r : ReaderView) × (slice_get s.readers j ≡ Some r) × MayLoadWord r p × (t ≡ s)
-  Happens s (release j) t = (r : ReaderView) × (slice_get s.readers j ≡ Some r) × (h : ℕ) × (c : ℕ) × (r.state ≡ Guarded h c)
+  Happens s (LoadWord j p) t = (r : ReaderView) × (slice_get s.readers j ≡ Some r) × MayLoadWord r p × (t ≡ s)
+  Happens s (Release j) t = (r : ReaderView) × (slice_get s.readers j ≡ Some r) × (h : ℕ) × (c : ℕ) × (r.state ≡ Guarded h c)
       × (t ≡ after_release s j r h)
 
-  -- a list of events, one after another
+  -- a list of events, in order
   abbrev pub Happen : State → List Event → State → Type 0
   Happen s [] t = t ≡ s
   Happen s (e ∷ events) t = (m : State) × Happens s e m × Happen m events t
 
--- a hold is in the queue, there alone and with a generation above this one
+-- a hold occurs in the queue, only with generations above this one
 pub record StandsAbove (s : State) (h generation : ℕ) : Type 0 where
   pub there : IsTrue (list_any (λ e. nat_eq e.hold h) (open_holds s.writer.queue))
   pub above : All (λ e. e.hold ≡ h → generation < e.generation) (open_holds s.writer.queue)
 
--- every view that stands on a hold stands on one whose generation is above the last tag of the buffer
+-- every view that stands on a hold stands on one with a generation above the last tag of the buffer
 abbrev pub NoneFromBefore : State → ℕ → Type 0
 NoneFromBefore s b =
     (j : ℕ) (r : ReaderView) (h : ℕ) (tag : Tag) → slice_get s.readers j ≡ Some r → stands_on r.state ≡ Some h

@@ -1,4 +1,4 @@
--- The core invariant: what holds of the words and of all views after every event.
+-- The invariant of the core: what holds of the words and of all views after every event.
 use Rattle.std.specs.Prelude.{if◌then◌else◌, ◌≡◌, ◌≢◌, ℕ, suc, ◌+◌, ◌*◌, ◌^◌, ◌<◌, ◌≤◌, List, length, drop, slice_get, slice_index, Some}
 use Rattle.std.specs.Prelude.{None, Bool, IsTrue, All, AllPairs, count_by}
 use Rattle.entry_ref.specs.References.{buffer_of}
@@ -21,13 +21,13 @@ use Rattle.gen_core.specs.Views.{open_holds, oldest_of, kept_of, last_number, la
 use Rattle.gen_core.specs.Views.{is_open_hold, coming, state_word, width_in, active_in, is_counted_on, spent}
 use Rattle.gen_core.specs.Work.{work_at, place_in}
 
--- the words of the table, the writer's view, and a view for each reader that was made
+-- the words of the table, the view of the writer, and the view of each reader made
 pub record State : Type 0 where
   pub words : List ℕ
   pub writer : WriterView
   pub readers : List ReaderView
 
--- the numbers of words and buffers, and the limits, within which the words of a table fit 64 bits
+-- the numbers of words and buffers, and the limits within which the words of a table fit in 64 bits
 pub record GoodSizes (sizes : Sizes) (words : List ℕ) (buffers : List Buffer) : Type 0 where
   pub table : length words ≡ size_of sizes.buffers sizes.words
   pub count : length buffers ≡ sizes.buffers
@@ -41,12 +41,12 @@ pub record IsBefore (d e : OpenHold) : Type 0 where
   pub hold : d.hold ≢ e.hold
   pub first_commit : d.first_commit ≤ e.first_commit
 
--- an open hold is one of sixteen, and begins with a commit
+-- an open hold is one of sixteen, and its first commit exists
 pub record HoldFits (commits : List Image) (e : OpenHold) : Type 0 where
   pub hold : e.hold < 16
   pub first_commit : e.first_commit ≤ last_number commits
 
--- the hold that is next is none of the queue's, which has room for it
+-- the pending hold is not in the queue, and the queue has room for it
 pub record NextFits (queue : Queue) (h : ℕ) : Type 0 where
   pub hold : h < 16
   pub others : All (λ e. e.hold ≢ h) (open_holds queue)
@@ -64,7 +64,7 @@ pub record GoodQueue (sizes : Sizes) (queue : Queue) (commits : List Image) : Ty
 abbrev pub HasNothingIn : ℕ → ℕ → Image → Type 0
 HasNothingIn bits b image = All (λ pair. buffer_of bits pair.0 ≢ b) image.records
 
--- the tag of a buffer on hold: no commit from the tag's on has a record there, and every generation
+-- the tag of a buffer on hold: no commit from the tag's commit on has a record in the buffer, and every generation
 -- above the tag's began with one of these commits
 pub record GoodTag (bits : ℕ) (queue : Queue) (commits : List Image) (b : ℕ) (tag : Tag) : Type 0 where
   pub generation : tag.generation ≤ queue.newest.generation
@@ -77,12 +77,12 @@ pub record GoodTags (bits : ℕ) (queue : Queue) (commits : List Image) (buffers
   pub free : (b : ℕ) (tag : Tag) → slice_get buffers b ≡ Some (Free (Some tag)) → tag.generation < (oldest_of queue).generation
   pub held : (b width : ℕ) (tag : Tag) → slice_get buffers b ≡ Some (Held width tag) → GoodTag bits queue commits b tag
 
--- a record of a kept commit lies in a buffer that is not free, as wide as its buffer's records
+-- a record of a kept commit lies in a buffer that is not free and has the record's width
 pub record IsPlaced (sizes : Sizes) (buffers : List Buffer) (pair : ℕ × List ℕ) : Type 0 where
   pub inside : IsEntry sizes.offset_bits sizes.buffers sizes.words (length pair.1) pair.0
   pub width : width_in buffers (buffer_of sizes.offset_bits pair.0) ≡ Some (length pair.1)
 
--- a place behind the first word of an active buffer that has its width
+-- a place after the first word of an active buffer that has this width
 pub record InActive (sizes : Sizes) (buffers : List Buffer) (p : ℕ) : Type 0 where
   pub b : ℕ
   pub width : ℕ
@@ -93,11 +93,11 @@ pub record InActive (sizes : Sizes) (buffers : List Buffer) (p : ℕ) : Type 0 w
   pub inside : x < sizes.words
   pub is : p ≡ base sizes.buffers sizes.words b + x
 
--- no word of a record of this width stands there
+-- no word of a record of this width is at this place
 pub record IsApart (sizes : Sizes) (p width ref : ℕ) : Type 0 where
   pub each : (i : ℕ) → i < width → place_in sizes width ref i ≢ p
 
--- no word of the image stands there
+-- no word of the image is at this place
 pub record Avoids (sizes : Sizes) (p : ℕ) (image : Image) : Type 0 where
   pub records : All (λ pair. IsApart sizes p (length pair.1) pair.0) image.records
 
@@ -105,7 +105,7 @@ pub record IsWorkPlace (sizes : Sizes) (buffers : List Buffer) (kept : List Imag
   pub active : InActive sizes buffers p
   pub apart : All (Avoids sizes p) kept
 
--- where the records of kept commits and the words of the work lie
+-- where the records of kept commits and the words stored since the last commit lie
 pub record GoodPlaces (sizes : Sizes) (buffers : List Buffer) (kept : List Image) (work : List (ℕ × ℕ)) : Type 0 where
   pub records : All (λ image. All (IsPlaced sizes buffers) image.records) kept
   pub stored : (p n : ℕ) → work_at work p ≡ Some n → IsWorkPlace sizes buffers kept p
@@ -116,7 +116,7 @@ pub record GoodNamedWords (words : List ℕ) (commits : List Image) (newest : Op
   pub newest_hold : slice_index words 1 ≡ newest_word newest
   pub states : (b : ℕ) (x : Buffer) → slice_get buffers b ≡ Some x → slice_index words (state_place b) ≡ state_word x
 
--- each word of a record stands at its place
+-- each word of a record is at its place
 abbrev pub WordsStand : Sizes → List ℕ → ℕ × List ℕ → Type 0
 WordsStand sizes words pair = (i : ℕ) → i < length pair.1
     → slice_index words (place_in sizes (length pair.1) pair.0 i) ≡ slice_index pair.1 i
@@ -127,7 +127,7 @@ pub record GoodMemory (sizes : Sizes) (words : List ℕ) (buffers : List Buffer)
   pub stored : (p n : ℕ) → work_at work p ≡ Some n → slice_index words p ≡ n
   pub widths : (b width : ℕ) → width_in buffers b ≡ Some width → 0 < width → slice_index words (base sizes.buffers sizes.words b) ≡ width
 
--- the count of a hold: twice the views that are counted on it, and one more where it is closed
+-- the count of a hold: twice the number of views counted on it, and one more if it is closed
 abbrev pub hold_word : ℕ → Bool → ℕ
 hold_word counted opened = 2 * counted + (if opened then 0 else 1)
 
@@ -138,23 +138,24 @@ pub record GoodCounts (words : List ℕ) (queue : Queue) (made : ℕ) (readers :
   pub views : length readers ≡ made
   pub few : made ≤ 64
 
--- what is asked of a view that aims: at its least generation, and where that is the current one, at the newest hold
+-- the condition on a view that aims: on its least generation, and on the newest hold if that generation is the
+-- current one
 pub record AimFits (newest : OpenHold) (least generation h : ℕ) : Type 0 where
   pub hold : h < 16
   pub aim : least ≡ generation
   pub current : generation ≡ newest.generation → h ≡ newest.hold
 
--- of one that keeps a hold open: the hold is open
+-- the condition on a view that keeps a hold open: the hold is open
 pub record RaiseFits (queue : Queue) (h : ℕ) : Type 0 where
   pub hold : h < 16
   pub opened : IsTrue (is_open_hold queue h)
 
--- of one that missed a hold: there is a later generation
+-- the condition on a view that missed a hold: there is a later generation
 pub record BounceFits (newest : OpenHold) (least h : ℕ) : Type 0 where
   pub hold : h < 16
   pub missed : least < newest.generation
 
--- of one under a guard: its commit is kept by its hold, and is what it saw last
+-- the condition on a view that guards: its hold keeps its commit, which is the last that it saw
 pub record GuardFits (queue : Queue) (commits : List Image) (saw : List (ℕ × Image)) (h c : ℕ) : Type 0 where
   pub raised : RaiseFits queue h
   pub commit : c ≤ last_number commits
@@ -179,7 +180,7 @@ pub record GoodReader (sizes : Sizes) (queue : Queue) (commits : List Image) (r 
   pub least : r.least ≤ queue.newest.generation
   pub state : GoodReaderState queue commits r r.state
 
--- what is good of the writer's view alone
+-- what holds of the writer's view alone
 pub record GoodView (w : WriterView) : Type 0 where
   pub count : length w.buffers ≡ w.sizes.buffers
   pub some_word : 0 < w.sizes.words
@@ -193,7 +194,8 @@ pub record GoodView (w : WriterView) : Type 0 where
 
 -- what a layout says of a root: the references that it reaches, and whether it is lawful
 module _ (reaches : ℕ → Records → ℕ → List ℕ) (lawful : ℕ → Records → ℕ → Type 0) where
-  -- a commit's image is lawful, has the records that its root reaches and no other, and its root fits the root word
+  -- the image of a commit is lawful, has exactly the records that its root reaches, and its root fits in the root
+  -- word
   pub record IsLawfulCommit (shape : ℕ) (image : Image) : Type 0 where
     pub lawful_image : lawful shape (words_at image) image.root
     pub reached : references_of image.records ≡ reaches shape (words_at image) image.root

@@ -1,4 +1,4 @@
--- Why each condition stands: a step without it, or a wrong step in its place, breaks the invariant.
+-- Why each condition is needed: a step without it, or a wrong step in its place, breaks the invariant.
 use Rattle.std.specs.Prelude.{◌≡◌, ◌≢◌, ℕ, ◌+◌, ◌<◌, ◌≤◌, List, length, set, slice_get, Some, None, All, Contains, false, true}
 use Rattle.entry_ref.specs.References.{buffer_of}
 use Rattle.entry_ref.specs.declared.images.Image.{Image}
@@ -31,27 +31,28 @@ module _ (reaches : ℕ → Records → ℕ → List ℕ) (lawful : ℕ → Reco
       (s : State) (b width : ℕ) → Good reaches lawful s → b < s.writer.sizes.buffers → active_in s.writer.buffers b ≡ None
       → Good reaches lawful (after_store_width s b width) → ⊥
 
-  -- another width stored where a kept commit has a record
+  -- a second width stored in a buffer in which a kept commit has a record
   abbrev pub NeedsNoWidth : Type 0
   NeedsNoWidth =
       (s : State) (b width : ℕ) (image : Image) (pair : ℕ × List ℕ) → Good reaches lawful s
       → Contains (kept_of s.writer) image → Contains image.records pair
       → buffer_of s.writer.sizes.offset_bits pair.0 ≡ b → length pair.1 ≢ width → Good reaches lawful (after_store_width s b width) → ⊥
 
-  -- a buffer handed out where a kept commit has a record
+  -- a buffer handed out in which a kept commit has a record
   abbrev pub NeedsFree : Type 0
   NeedsFree =
       (s : State) (b : ℕ) (image : Image) (pair : ℕ × List ℕ) → Good reaches lawful s
       → Contains (kept_of s.writer) image → Contains image.records pair
       → buffer_of s.writer.sizes.offset_bits pair.0 ≡ b → Good reaches lawful (after_hand_out s b) → ⊥
 
-  -- an image published that is not lawful, reaches other records than it has, or has too large a root
+  -- an image published that is not lawful, whose records are not those that its root reaches, or whose root is too
+  -- large
   abbrev pub NeedsLawful : Type 0
   NeedsLawful =
       (s : State) (image : Image) → (IsLawfulCommit reaches lawful s.writer.sizes.shape image → ⊥)
       → Good reaches lawful (after_publish s image) → ⊥
 
-  -- an image published with a record that lies in no buffer of its width, or does not stand
+  -- an image published with a record that lies in no buffer of its width, or is not in the table
   abbrev pub NeedsRecords : Type 0
   NeedsRecords =
       (s : State) (image : Image) (pair : ℕ × List ℕ) → Contains image.records pair
@@ -64,18 +65,18 @@ module _ (reaches : ℕ → Records → ℕ → List ℕ) (lawful : ℕ → Reco
       (s : State) (image : Image) → Good reaches lawful s → s.writer.sizes.commit_limit ≤ last_number s.writer.commits
       → Good reaches lawful (after_publish s image) → ⊥
 
-  -- a reader made past the sixty-fourth
+  -- a reader made after the sixty-fourth
   abbrev pub NeedsSeat : Type 0
   NeedsSeat = (s : State) → 64 ≤ s.writer.made → Good reaches lawful (after_split s) → ⊥
 
-  -- the root loaded by a view that is counted on no hold: before the raise, or after it was joined away
+  -- the root loaded by a view that no hold counts: before the raise, or after the join
   abbrev pub RootBeforeRaise : Type 0
   RootBeforeRaise =
       (s : State) (j h : ℕ) (r : ReaderView) → Good reaches lawful s → slice_get s.readers j ≡ Some r → h < 16
       → is_counted_on h r.state ≡ false
       → Good reaches lawful (after_load_root s j r h) → ⊥
 
-  -- a hold opened by storing 0, with a view on its way back
+  -- a hold opened by storing 0, while a view is on its way back
   abbrev pub OpensByZero : Type 0
   OpensByZero =
       (s : State) (j h : ℕ) (r : ReaderView) → Good reaches lawful s → slice_get s.readers j ≡ Some r → h < 16
@@ -87,18 +88,18 @@ module _ (reaches : ℕ → Records → ℕ → List ℕ) (lawful : ℕ → Reco
   LastBeforeOpen = (s : State) (h : ℕ) → Good reaches lawful s → h < 16 → is_open_hold s.writer.queue h ≡ false
       → Good reaches lawful (after_store_newest s h) → ⊥
 
-  -- a hold that was found closed, taken as raised
+  -- a hold that was found closed, treated as raised
   abbrev pub ForgetsTheBounce : Type 0
   ForgetsTheBounce =
       (s : State) (j h : ℕ) (r : ReaderView) → Good reaches lawful s → slice_get s.readers j ≡ Some r
       → is_open_hold s.writer.queue h ≡ false
       → Good reaches lawful (after_count s h (count_at s h + 2) j (with_state r (Raised h))) → ⊥
 
-  -- the newest hold renewed beside one that was reopened
+  -- the newest hold renewed while another hold is reopened
   abbrev pub MorphBesideNext : Type 0
   MorphBesideNext = (s : State) (h : ℕ) → Good reaches lawful s → s.writer.queue.pending ≡ Next h → Good reaches lawful (after_morph s) → ⊥
 
-  -- the oldest hold closed, and still in the queue, so that the floor stays where it was
+  -- the oldest hold closed but left in the queue, so that the floor does not rise
   abbrev pub CloseMovesNoFloor : Type 0
   CloseMovesNoFloor =
       (s : State) → Good reaches lawful s
@@ -115,7 +116,8 @@ module _ (reaches : ℕ → Records → ℕ → List ℕ) (lawful : ℕ → Reco
       → (oldest_of s.writer.queue).generation ≤ tag.generation
       → Good reaches lawful (after_free s b tag) → ⊥
 
-  -- a buffer put on hold under the generation before the current one, where something was published since that began
+  -- a buffer put on hold under the generation before the current one, although a commit was published since that one
+  -- began
   abbrev pub TagsTooEarly : Type 0
   TagsTooEarly =
       (s : State) (b width : ℕ) (tag : Tag) → b < length s.writer.buffers → tag.generation < s.writer.queue.newest.generation

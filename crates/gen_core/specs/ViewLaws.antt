@@ -1,4 +1,4 @@
--- What follows of the writer's view alone, for a seat that has no more than that.
+-- What follows from the writer's view alone, for a seat that has nothing else.
 use Rattle.std.specs.Prelude.{◌≡◌, ◌≢◌, ℕ, ◌<◌, ◌≤◌, ◌&&◌, if◌then◌else◌, List, [], length, slice_get, Option, Some, All, nat_eq}
 use Rattle.entry_ref.specs.References.{buffer_of}
 use Rattle.entry_ref.specs.declared.images.Image.{Image}
@@ -35,19 +35,19 @@ abbrev pub RecordsLieActive : Type 0
 RecordsLieActive = (w : WriterView) (ref : ℕ) → GoodView w → 0 < length (writer_records w ref)
     → LiesActive w ref (length (writer_records w ref))
 
--- and each record of a kept commit lies in its buffer
+-- each record of a kept commit lies in its buffer
 abbrev pub KeptArePlaced : Type 0
 KeptArePlaced =
     (w : WriterView) (n ref : ℕ) (image : Image) (ws : List ℕ) → GoodView w → floor_of w ≤ n → slice_get w.commits n ≡ Some image
     → record_at image ref ≡ Some ws → IsPlaced w.sizes w.buffers (ref, ws)
 
--- a word of an entry that no kept commit has as a record may be written
+-- a word of an entry may be written if no kept commit has the entry as a record
 abbrev pub UnkeptAvoids : Type 0
 UnkeptAvoids =
     (w : WriterView) (ref i width : ℕ) → GoodView w → LiesActive w ref width → i < width
     → All (λ image. words_at image ref ≡ []) (kept_of w) → All (Avoids w.sizes (place_in w.sizes width ref i)) (kept_of w)
 
--- a store adds one word to what was stored, and changes no other record
+-- a store adds one word to those stored, and changes no other record
 abbrev pub StoresOneWord : Type 0
 StoresOneWord =
     (w : WriterView) (ref i width n q j : ℕ) → LiesActive w ref width → i < width
@@ -58,7 +58,7 @@ StoreLeavesOthers =
     (w : WriterView) (ref i width n q : ℕ) → LiesActive w ref width → i < width → q ≢ ref
     → writer_records (stored w (place_in w.sizes width ref i) n) q ≡ writer_records w q
 
--- a buffer that is handed out and gets a width brings no word and no record
+-- handing out a buffer and storing its width adds no word and no record
 abbrev pub HandsOutNothing : Type 0
 HandsOutNothing =
     (w : WriterView) (b width ref i : ℕ) (tag : Option Tag) → GoodView w → slice_get w.buffers b ≡ Some (Free tag) → 0 < width

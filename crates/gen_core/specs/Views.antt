@@ -1,4 +1,4 @@
--- What is read of the views: the queue, the commits, the buffers, and the words that name them.
+-- Functions of the views: the queue, the commits, the buffers, and the words that represent them.
 use Rattle.std.specs.Prelude.{◌≡◌, ℕ, ◌+◌, ◌-◌, ◌*◌, ◌^◌, List, [], ◌∷◌, ◌++◌, length, drop, slice_get, Option, Some, None, Bool, false}
 use Rattle.std.specs.Prelude.{◌||◌, nat_eq, option_and_then}
 use Rattle.std.specs.List.{list_any}
@@ -30,7 +30,7 @@ oldest_in (e ∷ es) newest = e
 abbrev pub oldest_of : Queue → OpenHold
 oldest_of queue = oldest_in queue.older queue.newest
 
--- commits before this one are no longer kept
+-- commits before this one are not kept
 abbrev pub floor_of : WriterView → ℕ
 floor_of w = (oldest_of w.queue).first_commit
 
@@ -51,7 +51,7 @@ last_image (x ∷ y ∷ ys) = last_image (y ∷ ys)
 abbrev pub IsCommit : List Image → ℕ × Image → Type 0
 IsCommit commits seen = slice_get commits seen.0 ≡ Some seen.1
 
--- the root word: a commit and its root
+-- the root word: the number of a commit and its root
 abbrev pub root_word : ℕ → Image → ℕ
 root_word number image = number * 2 ^ 32 + image.root
 
@@ -59,7 +59,7 @@ root_word number image = number * 2 ^ 32 + image.root
 abbrev pub newest_word : OpenHold → ℕ
 newest_word e = e.generation * 2 ^ 16 + e.hold
 
--- where the count of a hold stands
+-- the place of a hold's count
 abbrev pub hold_place : ℕ → ℕ
 hold_place hold = 2 + hold
 
@@ -68,7 +68,7 @@ is_next Nothing hold = false
 is_next (Next h) hold = nat_eq h hold
 is_next Probed hold = false
 
--- a hold is open: in the queue, or next
+-- a hold is open: it is in the queue, or pending
 abbrev pub is_open_hold : Queue → ℕ → Bool
 is_open_hold queue hold = list_any (λ e. nat_eq e.hold hold) (open_holds queue) || is_next queue.pending hold
 
@@ -77,7 +77,7 @@ coming_after newest Nothing = newest.generation
 coming_after newest (Next h) = newest.generation + 1
 coming_after newest Probed = newest.generation + 1
 
--- the current generation, taken one higher where the next one has begun
+-- the current generation, plus one if the next one has begun
 abbrev pub coming : Queue → ℕ
 coming queue = coming_after queue.newest queue.pending
 
@@ -114,7 +114,7 @@ last_tag (Held width tag) = Some tag
 abbrev pub last_tag_in : List Buffer → ℕ → Option Tag
 last_tag_in buffers b = option_and_then last_tag (slice_get buffers b)
 
--- a view that counts twice in the count of a hold: also one that is on its way back
+-- a view that adds two to the count of a hold; a view on its way back does so too
 abbrev pub is_counted_on : ℕ → ReaderState → Bool
 is_counted_on hold Idle = false
 is_counted_on hold (Aimed generation h) = false
@@ -132,12 +132,14 @@ stands_on (Bounced h) = None
 stands_on (Guarded h commit) = Some h
 stands_on Spent = None
 
--- the one view of a reader that was joined away
+-- the final view of a joined reader
 abbrev pub spent : ReaderView
 spent = record {
   sizes = record { offset_bits = 0; buffers = 0; words = 0; shape = 0; commit_limit = 0; generation_limit = 0 };
   seen = 0;
   least = 0;
+  first = 0;
+  misses = record { count = 0; found = 0 };
   state = Spent;
   saw = [];
 }

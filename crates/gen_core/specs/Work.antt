@@ -16,7 +16,7 @@ use Rattle.gen_core.specs.Views.{active_in, last_image}
 abbrev pub work_at : List (ℕ × ℕ) → ℕ → Option ℕ
 work_at work p = lookup (nat_eq p) work
 
--- where word i of a record of this width stands
+-- the place of word i of a record of this width
 abbrev pub place_in : Sizes → ℕ → ℕ → ℕ → ℕ
 place_in sizes width ref i = place sizes.offset_bits sizes.buffers sizes.words width ref i
 
@@ -31,7 +31,7 @@ prepend None o = None
 prepend (Some x) None = None
 prepend (Some x) (Some xs) = Some (x ∷ xs)
 
--- so many words of the work from a place on, where all of them are there
+-- n stored words from a place on, if all of them were stored
 unfoldable pub run_at : List (ℕ × ℕ) → ℕ → ℕ → Option (List ℕ)
 run_at work p zero = Some []
 run_at work p (suc n) = prepend (work_at work p) (run_at work (suc p) n)
@@ -51,14 +51,14 @@ abbrev pub whole_by : WriterView → ℕ → Option ℕ → Option (List ℕ)
 whole_by w ref None = None
 whole_by w ref (Some width) = only_if (is_entry w.sizes width ref) (run_at w.work (place_in w.sizes width ref 0) width)
 
--- the words of a record that is whole in the work
+-- the words of a record whose words were all stored since the last commit
 abbrev pub whole_at : WriterView → ℕ → Option (List ℕ)
 whole_at w ref = whole_by w ref (active_in w.buffers (buffer_of w.sizes.offset_bits ref))
 
 abbrev pub writer_records : WriterView → Records
 writer_records w ref = unwrap_or (whole_at w ref) (words_at (last_image w.commits) ref)
 
--- the image of a root in the writer's records, where a layout says what a root reaches
+-- the image of a root in the writer's records, for a layout's reach
 abbrev pub next_image : (ℕ → Records → ℕ → List ℕ) → WriterView → ℕ → Image
 next_image reaches w root = image_of (reaches w.sizes.shape (writer_records w) root) (writer_records w) root
 
@@ -66,6 +66,6 @@ abbrev pub stored_in : WriterView → ℕ → ℕ → Option ℕ → Option ℕ
 stored_in w ref i None = None
 stored_in w ref i (Some width) = only_if (is_entry w.sizes width ref && nat_lt i width) (work_at w.work (place_in w.sizes width ref i))
 
--- word i of an entry, where it was stored since the last commit
+-- word i of an entry, if it was stored since the last commit
 abbrev pub stored_by : WriterView → ℕ → ℕ → Option ℕ
 stored_by w ref i = stored_in w ref i (active_in w.buffers (buffer_of w.sizes.offset_bits ref))

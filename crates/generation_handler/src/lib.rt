@@ -1,7 +1,7 @@
-//! The open generation holds of an arena: a queue from the oldest to the newest, of at most 16.
+//! The open generation holds of an arena: a queue of at most 16, from the oldest to the newest.
 //!
-//! Readers raise the newest hold. The writer opens a closed hold and appends it where it begins a generation, and closes
-//! holds from the oldest on. The generation of the oldest open hold is the oldest one that a reader may stand on.
+//! Readers raise the newest hold. To begin a generation, the writer opens a closed hold and appends it. It closes
+//! holds from the oldest on. No reader stands on a generation older than that of the oldest open hold.
 #![tactic(auto)]
 
 ghost use Rattle.std.specs.Prelude.{◌≡◌, ◌↔◌, ◌<◌, ◌++◌, ◌∷◌, [], ℕ, List, false, length, IsNone, IfSome};
@@ -14,7 +14,7 @@ use std::marker::Model;
 /// The number of holds of an arena.
 pub const HOLDS: u32 = 16;
 
-/// An open hold, the generation that it serves, and the last commit as that generation began.
+/// An open hold: the generation that it serves, its number, and the last commit when that generation began.
 #[derive(Clone, Copy, Debug, Default, PartialEq, Eq)]
 pub struct HoldEntry {
     pub generation: u64,
@@ -22,7 +22,7 @@ pub struct HoldEntry {
     pub first_commit: u32,
 }
 
-/// The open holds. There is always one, and none is open twice.
+/// The open holds. There is at least one, and no hold occurs twice.
 #[derive(Drop)]
 pub struct Holds {
     queue: ArrayVec<HoldEntry, 16>,
@@ -44,7 +44,7 @@ impl Model for Holds {
 impl Holds {
     ghost use Rattle.generation_handler.specs.Queues.{first_entry, has_hold, oldest_of, newest_of, renewed, IsQueue, IsLeastClosed};
 
-    /// The queue of a new arena: generation 0 on hold 0, from commit 0 on.
+    /// Returns the queue of a new arena: generation 0 on hold 0, with first commit 0.
     pub fn new() -> Self
         ensures { result ≡ first_entry ∷ [] }
     {
@@ -57,7 +57,7 @@ impl Holds {
         Holds { queue }
     }
 
-    /// The number of open holds.
+    /// Returns the number of open holds.
     pub fn len(&self) -> u32
         ensures value { result ≡ length self.now }
         ensures queue { IsQueue self.now }
@@ -77,7 +77,7 @@ impl Holds {
         self.queue[self.queue.len() - 1]
     }
 
-    /// The closed hold of lowest number. None where all 16 are open.
+    /// Returns the closed hold with the lowest number, or `None` if all 16 are open.
     pub fn open_next(&self) -> Option<u32>
         ensures none { IsNone result ↔ (length self.now ≡ HOLDS) }
         ensures least { IfSome result (IsLeastClosed self.now) }
@@ -90,7 +90,7 @@ impl Holds {
         None
     }
 
-    /// Puts a hold that is closed behind the newest.
+    /// Appends a closed hold as the newest.
     pub fn append(&mut self, generation: u64, hold: u32, first_commit: u32)
         requires hold { hold < HOLDS }
         requires closed { has_hold self.old hold ≡ false }
@@ -103,7 +103,7 @@ impl Holds {
         });
     }
 
-    /// Takes the oldest hold out, which is not the newest.
+    /// Removes the oldest hold, which must not be the newest, and returns it.
     pub fn pop_oldest(&mut self) -> HoldEntry
         requires { 1 < length self.old }
         ensures { self.old ≡ result ∷ self.new }
@@ -111,7 +111,7 @@ impl Holds {
         self.queue.remove(0)
     }
 
-    /// Gives the newest hold another generation, from another commit on.
+    /// Gives the newest hold another generation and first commit.
     pub fn renew(&mut self, generation: u64, first_commit: u32)
         ensures { self.new ≡ renewed self.old generation first_commit }
     {
@@ -125,7 +125,7 @@ impl Holds {
     }
 }
 
-/// A queue that is written out: its oldest, its newest, and itself with the newest renewed.
+/// The model of a queue: its oldest hold, its newest hold, and the queue after the newest is renewed.
 pub fn queue_law()
     ensures oldest { (oldest : HoldEntry) (newer : List HoldEntry) → oldest_of (oldest ∷ newer) ≡ oldest }
     ensures newest { (older : List HoldEntry) (newest : HoldEntry) → newest_of (older ++ newest ∷ []) ≡ newest }

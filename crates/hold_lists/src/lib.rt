@@ -1,8 +1,8 @@
-//! Entries that were dropped and that readers may still read, in the order in which they were dropped.
+//! Dropped entries that readers may still read, in the order in which they were dropped.
 //!
-//! A commit tags what was dropped since the commit before it with its generation. What is tagged below the oldest
-//! generation that readers may stand on is taken out and used again. The entries of one tag are a run, so a tag is one
-//! number pair for all of them, and where generations do not fall the first run decides.
+//! A commit tags the entries dropped since the previous commit with its generation. An entry tagged below the oldest
+//! generation on which readers may stand is removed from the list and reused. The entries of one tag form a run,
+//! which stores the tag once. As long as generations do not fall, only the first run has to be checked.
 #![tactic(auto)]
 
 ghost use Rattle.std.specs.Prelude.{◌≡◌, ◌+◌, ◌-◌, ◌<◌, ◌≤◌, ◌++◌, ◌∷◌, ◌^◌, [], ℕ, true, None, All, AllPairs, length, remove, slice_set};
@@ -24,14 +24,14 @@ struct Run {
     count: usize,
 }
 
-/// A run, and how many entries stand before it.
+/// A run, and the number of entries before it.
 #[derive(Clone, Copy)]
 struct Place {
     run: usize,
     before: usize,
 }
 
-/// Dropped entries in order, each untagged or with the generation and the commit of its tag.
+/// Dropped entries in order. Each is untagged, or has the generation and the commit of its tag.
 #[derive(Drop)]
 pub struct HoldList<const OFFSET_BITS: u32> {
     entries: VecDeque<EntryRef<OFFSET_BITS>>,
@@ -58,7 +58,7 @@ impl<const OFFSET_BITS: u32> Model for HoldList<OFFSET_BITS> {
 impl<const OFFSET_BITS: u32> HoldList<OFFSET_BITS> {
     ghost use Rattle.hold_lists.specs.Held.{untagged, tagged_by, is_below, without_first};
 
-    /// The empty list, without room.
+    /// Creates an empty list without reserved space.
     pub fn create(alloc: Global) -> Result<Self, AllocError>
         ensures { IfOk result (λ list. list ≡ record { held = []; room = 0 }) }
     {
@@ -71,7 +71,7 @@ impl<const OFFSET_BITS: u32> HoldList<OFFSET_BITS> {
         })
     }
 
-    /// Makes room for `n` pushes, and leaves the list.
+    /// Reserves space for `n` pushes. The list stays the same.
     pub fn reserve(&mut self, n: u32) -> Result<(), AllocError>
         ensures held { self.new.held ≡ self.old.held }
         ensures room { self.old.room ≤ self.new.room }
@@ -85,7 +85,7 @@ impl<const OFFSET_BITS: u32> HoldList<OFFSET_BITS> {
         Ok(())
     }
 
-    /// Puts an entry, untagged, at the end.
+    /// Appends an untagged entry.
     pub fn push(&mut self, entry: EntryRef<OFFSET_BITS>)
         requires { 0 < self.old.room }
         ensures { self.new ≡ record { held = self.old.held ++ untagged entry.entry ∷ []; room = self.old.room - 1 } }
@@ -93,7 +93,7 @@ impl<const OFFSET_BITS: u32> HoldList<OFFSET_BITS> {
         self.entries.push_back_reserved(entry);
     }
 
-    /// Tags each untagged entry.
+    /// Tags every untagged entry.
     pub fn tag(&mut self, generation: u64, commit: u32)
         ensures { self.new ≡ record self.old { held = map (tagged_by generation commit) self.old.held } }
     {
@@ -110,7 +110,8 @@ impl<const OFFSET_BITS: u32> HoldList<OFFSET_BITS> {
         self.tagged += count;
     }
 
-    /// Takes out the first entry that is tagged with a generation below `oldest`. None where there is none.
+    /// Removes the first entry that is tagged with a generation below `oldest`, and returns it. Returns `None` if
+    /// there is no such entry.
     pub fn pop_below(&mut self, oldest: u64) -> Option<EntryRef<OFFSET_BITS>>
         ensures first { result ≡ option_map (λ held. held.entry) (find (is_below oldest) self.old.held) }
         ensures left { IfNone result (self.new ≡ self.old) }
@@ -128,7 +129,7 @@ impl<const OFFSET_BITS: u32> HoldList<OFFSET_BITS> {
     }
 }
 
-/// Whether no run has a generation above this one, where the runs rise.
+/// Returns whether the last run has no higher generation than `generation`, or there is no run.
 fn follows(runs: &VecDeque<Run>, generation: u64) -> bool
     ensures { result ≡ true → 0 < length runs.now.items → (nth_run runs.now.items (length runs.now.items - 1)).generation ≤ generation }
 {
@@ -138,7 +139,7 @@ fn follows(runs: &VecDeque<Run>, generation: u64) -> bool
     }
 }
 
-/// The first run below a generation. Where the runs rise, only the first is looked at.
+/// Returns the first run below a generation. If the runs rise, it checks only the first run.
 fn first_below(runs: &VecDeque<Run>, rises: bool, oldest: u64) -> Option<Place>
     requires rising { rises ≡ true → IsRising runs.now.items }
     requires small { tagged_count runs.now.items < 2 ^ 64 }
@@ -159,7 +160,7 @@ fn first_below(runs: &VecDeque<Run>, rises: bool, oldest: u64) -> Option<Place>
     None
 }
 
-/// Takes one entry off a run, and the run out if that was its last.
+/// Removes one entry from a run, and the run if the entry was its last.
 fn shorten(runs: &mut VecDeque<Run>, i: usize)
     requires inside { i < length runs.old.items }
     requires filled { 0 < (nth_run runs.old.items i).count }

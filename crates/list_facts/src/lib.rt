@@ -1,4 +1,5 @@
-//! Lemmas on lists, tests and answers that two or more crates need and std lacks. Nothing runs here: `proofs/` is the crate.
+//! Lemmas on lists, tests and results that several crates need and the standard library lacks. The crate has no code
+//! that runs; `proofs/` is its content.
 #![tactic(auto)]
 
 ghost use Rattle.std.specs.Prelude.{◌≡◌, ◌<◌, ◌+◌, ◌++◌, ◌==◌, ℕ, Bool, List, Result, IsErrAnd, Some, true, length, replicate, slice_set};
@@ -6,7 +7,7 @@ ghost use Rattle.std.specs.Prelude.{slice_index, count_by};
 ghost use Rattle.std.specs.List.{AllByRecursion, zip};
 ghost use Rattle.list_facts.specs.Counting.{one_if};
 
-/// One statement of each file of lemmas.
+/// Cites one statement of each file of lemmas.
 pub fn list_law()
     ensures each { (p : ℕ → Bool) (xs ys : List ℕ) → AllByRecursion (λ x. p x ≡ true) xs
         → AllByRecursion (λ x. p x ≡ true) ys → AllByRecursion (λ x. p x ≡ true) (xs ++ ys) }

@@ -1,6 +1,6 @@
--- Words in memory, one buffer after another. A buffer's first word is the width of its entries, 0 while it is free.
--- The number of the commit that is under way is a stamp. Each word has that of when it was last stored alone, and behind all of
--- these each entry has that of when it was last stored all at once.
+-- Words in memory, one buffer after another. The first word of a buffer is the width of its entries, or 0 if it is
+-- free. A stamp is the number of the commit in progress. Each word has the stamp of the last time when it was stored
+-- alone. After all of these, each entry has the stamp of the last time when it was stored whole.
 use Rattle.std.specs.Prelude.{◌≡◌, ◌<◌, ℕ, zero, suc, ◌+◌, ◌-◌, ◌*◌, ◌^◌, Bool, ◌&&◌, ◌||◌, nat_lt, nat_le, if◌then◌else◌, List, [], ◌∷◌}
 use Rattle.std.specs.Prelude.{◌++◌, length, slice_index, take, drop, replicate, None, Some}
 use Rattle.std.specs.List.{list_all}
@@ -15,11 +15,11 @@ use Rattle.arena_api.specs.Calls.{next_image}
 abbrev pub width_in : List ℕ → ℕ → ℕ → ℕ
 width_in table words b = slice_index table (b * words)
 
--- where an entry of this width begins
+-- the place where an entry of this width begins
 abbrev pub begin_of : ℕ → ℕ → ℕ → ℕ → ℕ
 begin_of bits words width r = buffer_of bits r * words + offset_of bits r * width
 
--- words with others in their place from p on
+-- the words after a range from p on is replaced
 abbrev pub with_range : List ℕ → ℕ → List ℕ → List ℕ
 with_range table p ws = take p table ++ (ws ++ drop (p + length ws) table)
 
@@ -29,22 +29,22 @@ names_entry bits buffers words width r =
     nat_lt (buffer_of bits r) buffers && (nat_lt 0 width
     && (nat_lt 0 (offset_of bits r) && nat_le (offset_of bits r * width + width) words))
 
--- the words of each entry, record or not
+-- the words of each entry, whether it is a record or not
 unfoldable pub standing : List ℕ → ℕ → ℕ → ℕ → Records
 standing table bits buffers words r =
     let width = width_in table words (buffer_of bits r) in
     if names_entry bits buffers words width r then take width (drop (begin_of bits words width r) table) else []
 
--- where the stamp of an entry is
+-- the place of an entry's stamp
 abbrev pub stamp_at : ℕ → ℕ → ℕ → ℕ → ℕ
 stamp_at bits buffers words r = buffers * words + (buffer_of bits r * words + offset_of bits r)
 
--- stamps without those of a buffer
+-- the stamps without those of a buffer
 abbrev pub without_stamps : List ℕ → ℕ → ℕ → ℕ → List ℕ
 without_stamps stamps buffers words b =
     with_range (with_range stamps (b * words) (replicate words 0)) (buffers * words + b * words) (replicate words 0)
 
--- whether a word was stored since a stamp: its whole entry, or the word alone
+-- whether a word was stored since a stamp: with its whole entry, or alone
 abbrev pub was_stored_since : ℕ → ℕ → ℕ → Bool
 was_stored_since since whole alone = nat_le since whole || nat_le since alone
 
@@ -69,11 +69,11 @@ stored_since table stamps bits buffers words since r i =
     let there = was_stored_since since (slice_index stamps (stamp_at bits buffers words r)) (slice_index stamps (begin + i)) in
     if names_entry bits buffers words width r && (nat_lt i width && there) then Some (slice_index table (begin + i)) else None
 
--- the image of the last commit: what its root reaches of the words that stand
+-- the image of the last commit: the current words of what its root reaches
 abbrev pub image_in : (ℕ → Records → ℕ → List ℕ) → ℕ → List ℕ → ℕ → ℕ → ℕ → ℕ → Image
 image_in reaches shape table bits buffers words root = next_image reaches shape (standing table bits buffers words) root
 
--- the records: what was stored whole since the last commit, and that commit's
+-- the records: what was stored whole since the last commit, and the records of that commit
 abbrev pub records_in : (ℕ → Records → ℕ → List ℕ) → ℕ → List ℕ → List ℕ → ℕ → ℕ → ℕ → ℕ → ℕ → Records
 records_in reaches shape table stamps bits buffers words last root r =
     if is_whole table stamps bits buffers words (last + 1) r then standing table bits buffers words r
@@ -91,7 +91,7 @@ buffer_in table words b = buffer_by (width_in table words b)
 abbrev pub sizes_of : ℕ → ℕ → Sizes
 sizes_of buffers words = record { buffers = buffers; words = words; commits = 2 ^ 32 - 1; generations = 2 ^ 48 - 1 }
 
--- what the words of a memory tell: it has no readers and keeps the last commit alone
+-- the view of a memory by its words: it has no readers and keeps only the last commit
 abbrev pub memory_view : (ℕ → Records → ℕ → List ℕ) → ℕ → List ℕ → List ℕ → ℕ → ℕ → ℕ → ℕ → ℕ → WorkView (Unit {0})
 memory_view reaches shape table stamps bits buffers words last root = record {
   home = tt;

@@ -8,12 +8,12 @@ abbrev pub is_chosen : Option ℕ → List ℕ → List ℕ → ℕ → ℕ → 
 is_chosen None table stamps bits buffers words r = true
 is_chosen (Some since) table stamps bits buffers words r = is_whole table stamps bits buffers words since r
 
--- those entries with their words
+-- the requested entries with their words
 abbrev pub chosen : Option ℕ → List ℕ → List ℕ → ℕ → ℕ → ℕ → Records
 chosen since table stamps bits buffers words r =
     if is_chosen since table stamps bits buffers words r then standing table bits buffers words r else []
 
--- records with those of these references in their place
+-- the records after those with these references are replaced
 abbrev pub with_those : List ℕ → Records → Records → Records
 with_those [] m n q = n q
 with_those (r ∷ rs) m n q = if nat_eq q r then m r else with_those rs m n q

@@ -1,4 +1,4 @@
--- Buffers on hold in a memory, and its one open hold.
+-- Buffers on hold in a memory, and its only open hold.
 use Rattle.std.specs.Prelude.{◌≡◌, ℕ, ◌<◌, ◌≤◌, Bool, true, false, nat_lt, if◌then◌else◌, List, [], ◌∷◌, slice_index_or, Some}
 use Rattle.arena_api.specs.Works.{Buffer, Tag, Hold, WorkView}
 use Rattle.mem_work.specs.declared.marks.Mark.{Mark}
@@ -12,7 +12,7 @@ is_held Fresh = false
 is_held (Past generation commit) = false
 is_held (Held generation commit width) = true
 
--- a mark, once nothing below a generation is used
+-- a mark, after everything below a generation is freed
 abbrev pub mark_freed : ℕ → Mark → Mark
 mark_freed below Fresh = Fresh
 mark_freed below (Past generation commit) = Past generation commit
@@ -23,7 +23,7 @@ mark_freed below (Held generation commit width) =
 abbrev pub mark_at : List Mark → ℕ → Mark
 mark_at marks b = slice_index_or marks b Fresh
 
--- a buffer that its words tell free or active, with its mark
+-- the buffer by its words, which say free or active, and by its mark
 abbrev pub marked : Mark → Buffer → Buffer
 marked Fresh buffer = buffer
 marked (Past generation commit) (Buffer.free last) = Buffer.free (Some (tag_of generation commit))
@@ -41,15 +41,15 @@ marked_buffers marks buffer b = marked (mark_at marks b) (buffer b)
 abbrev pub only_hold : ℕ → ℕ → Hold
 only_hold generation first = record { generation = generation; hold = 0; first = first }
 
--- what a memory knows of its buffers and its hold, beside what its words tell
+-- the view of a memory with its marks and its hold
 abbrev pub with_marks : {H : Type 0} → WorkView H → List Mark → ℕ → ℕ → WorkView H
 with_marks work marks generation first = record work {
   buffer = marked_buffers marks work.buffer;
   queue = only_hold generation first ∷ [];
 }
 
--- what holds of the mark of a buffer whose first word is this: a tag that is past is below the generation, one that is not
--- is of the generation or one before, and the buffer has no width
+-- the condition on the mark of a buffer with this first word: the tag of a past mark is below the generation; the tag
+-- of a held mark is at most the generation, and the buffer has no width
 pub record IsHeldMark (generation first last word g c : ℕ) : Type 0 where
   pub few : g ≤ generation
   pub commit : c ≤ last

@@ -7,7 +7,7 @@ abbrev pub one_reaches : ℕ → Records → ℕ → List ℕ
 one_reaches shape m zero = []
 one_reaches shape m (suc r) = suc r ∷ []
 
--- and is there
+-- and it exists
 abbrev pub IsOneRecord : ℕ → Records → ℕ → Type 0
 IsOneRecord shape m zero = Unit {0}
 IsOneRecord shape m (suc r) = 0 < length (m (suc r))

@@ -1,4 +1,5 @@
--- Nobody has to read this: proofs of the laws of `Work`, which an implementation can cite from specs/ alone.
+-- Proofs of the laws of `Work`. They are in specs/ since an implementation can cite laws only from there; they are
+-- not part of the specification.
 use Rattle.std.proofs.Common.{Some, ◌≡◌, ℕ, suc, ◌+◌, ◌*◌, ◌^◌, ◌<◌, ◌≤◌, ◌⊎◌, inl, inr, Bool, true, false, cond, List, [], length}
 use Rattle.std.proofs.Common.{get_or, take, drop, refl, sym, ap, subst, ◌∙◌, arith, length-take, length-drop, zero, ◌∷◌}
 use Rattle.std.proofs.lemmas.List.{get_or-take, get_or-drop}
@@ -42,12 +43,12 @@ names_entry-from bits buffers words width r e =
     let last = e.last in
     grind (arith, nat_tests)
 
--- what a choice with nothing has comes from its first part
+-- words that come from a choice between some and none come from its first part
 cond-some : (t : Bool) (xs : List ℕ) (i : ℕ) → i < length (cond t xs []) → (t ≡ true) × (i < length xs)
 cond-some true xs i h = (refl, h)
 cond-some false xs i h = absurd (omega arith)
 
--- where a word stands there is an entry, wider than its index
+-- a word belongs to an entry that is wider than its index
 pub standing-entry : (table : List ℕ) (bits buffers words r i : ℕ) → i < length (standing table bits buffers words r)
     → IsEntry bits buffers words (width_in table words (buffer_of bits r)) r × (i < width_in table words (buffer_of bits r))
 unfolding standing
@@ -55,7 +56,7 @@ standing-entry table bits buffers words r i h =
     let part = cond-some _ _ i h in
     (names_entry-true _ _ _ _ _ part.0, omega (arith, simp length-take at part.1))
 
--- each entry stands with all its words
+-- each entry has all its words
 pub length-standing : (table : List ℕ) (bits buffers words r : ℕ) → length table ≡ buffers * words
     → IsEntry bits buffers words (width_in table words (buffer_of bits r)) r
     → length (standing table bits buffers words r) ≡ width_in table words (buffer_of bits r)
@@ -77,7 +78,7 @@ word-standing table bits buffers words r i e h =
     ap (λ t. get_or (cond t (take width (drop (begin_of bits words width r) table)) []) i 0) (names_entry-from bits buffers words width r e)
     ∙ get_or-take _ _ i 0 h ∙ get_or-drop _ table i 0
 
--- a buffer by its width has that width, whatever its mark
+-- a buffer has its width, whatever its mark
 pub active_width-by : (m : Mark) (w : ℕ) → active_width (marked m (buffer_by w)) ≡ w
 active_width-by Fresh zero = refl
 active_width-by Fresh (suc w) = refl
@@ -97,7 +98,7 @@ all_from : (p : ℕ → Bool) (xs : List ℕ) → ((k : ℕ) → k < length xs �
 all_from p [] each = refl
 all_from p (x ∷ xs) each = and_from _ _ (each 0 (omega arith)) (all_from p xs (λ k h. each (suc k) (omega arith)))
 
--- what one word stored says
+-- what follows from one stored word
 pub record IsStored (table stamps : List ℕ) (bits buffers words n r i x : ℕ) : Type 0 where
   pub entry : IsEntry bits buffers words (width_in table words (buffer_of bits r)) r
   pub inside : i < width_in table words (buffer_of bits r)
@@ -114,7 +115,7 @@ is_stored table stamps bits buffers words n r i x is =
     let inner = and_parts _ _ tests.1 in
     record { entry = names_entry-true _ _ _ _ r tests.0; inside = ltb-true _ _ inner.0; stamp = inner.1; word = parts.1 }
 
--- where each word is stored, it was stored whole, and those words stand
+-- if each word is stored, the entry was stored whole, with these words
 pub whole-from : (table stamps : List ℕ) (bits buffers words n r : ℕ)
     → IsEntry bits buffers words (width_in table words (buffer_of bits r)) r
     → ((i : ℕ) → i < width_in table words (buffer_of bits r)
@@ -139,7 +140,7 @@ all_at p [] i all lt = absurd (omega arith)
 all_at p (x ∷ xs) zero all lt = (and_parts _ _ all).0
 all_at p (x ∷ xs) (suc i) all lt = all_at p xs i (and_parts _ _ all).1 (omega arith)
 
--- each word of what was stored whole is stored
+-- each word of an entry that was stored whole is stored
 pub stored-whole : (table stamps : List ℕ) (bits buffers words n r i : ℕ) → length stamps ≡ buffers * words + buffers * words
     → is_whole table stamps bits buffers words n r ≡ true
     → i < width_in table words (buffer_of bits r)
@@ -206,7 +207,7 @@ memory_queue work marks generation first early few = record {
 }
 
 module _ (reaches : ℕ → Records → ℕ → List ℕ) (shape : ℕ) (table stamps : List ℕ) (bits buffers words last root : ℕ) where
-  -- a record's words stand
+  -- a record's words are the current words
   pub records-stand : (r : ℕ) → 0 < length (records_in reaches shape table stamps bits buffers words last root r)
       → standing table bits buffers words r ≡ records_in reaches shape table stamps bits buffers words last root r
   records-stand r = cond_both (is_whole table stamps bits buffers words (last + 1) r) (standing table bits buffers words r)
@@ -223,7 +224,7 @@ module _ (reaches : ℕ → Records → ℕ → List ℕ) (shape : ℕ) (table s
   memory_references few offsets r some = entry-small
       (standing-entry table bits buffers words r 0 (subst (λ ws. 0 < length ws) (sym (records-stand r some)) some)).0 few offsets
 
-  -- what stands fills an entry of its buffer's width
+  -- current words fill an entry of their buffer's width
   fits : (width r : ℕ) (ws : List ℕ) → length table ≡ buffers * words → width ≡ width_in table words (buffer_of bits r)
       → standing table bits buffers words r ≡ ws → 0 < length ws
       → FitsEntry bits (sizes_of buffers words) width r (length ws)
@@ -282,7 +283,7 @@ module _ (reaches : ℕ → Records → ℕ → List ℕ) (shape : ℕ) (table s
       word-standing table bits buffers words r k e below
       ∙ (is_stored table stamps bits buffers words (last + 1) r k (get_or ws k 0) (each k (omega (arith, below, is)))).word)
 
-  -- nothing stands in a buffer whose first word is 0
+  -- there are no words in a buffer whose first word is 0
   none-standing : (r : ℕ) → width_in table words (buffer_of bits r) ≡ 0 → standing table bits buffers words r ≡ []
   none-standing r none = no_words (standing table bits buffers words r) (λ some.
       let wide = (standing-entry table bits buffers words r 0 some).0.wide in omega arith)
@@ -304,7 +305,7 @@ module _ (reaches : ℕ → Records → ℕ → List ℕ) (shape : ℕ) (table s
         later = (m.later, tt);
       }
 
-  -- a record that is whole has each of its words stored
+  -- each word of a record that was stored whole is stored
   pub memory_only : length stamps ≡ buffers * words + buffers * words → (r : ℕ)
       → 0 < length (records_in reaches shape table stamps bits buffers words last root r)
       → (records_in reaches shape table stamps bits buffers words last root r

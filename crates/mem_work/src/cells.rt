@@ -12,7 +12,7 @@ use crate::marks::Mark;
 use entry_ref::EntryRef;
 use std::alloc::{AllocError, Global};
 
-/// The words of all buffers, and stamps that tell under which commit words and entries were last stored.
+/// The words of all buffers, and stamps that say under which commit words and entries were last stored.
 #[derive(Drop)]
 pub struct Cells<const OFFSET_BITS: u32> {
     pub buffers: u32,
@@ -58,7 +58,7 @@ impl<const OFFSET_BITS: u32> Cells<OFFSET_BITS> {
         })
     }
 
-    /// Where a word of an entry is.
+    /// Returns the place of a word of an entry.
     fn place(&self, entry: EntryRef<OFFSET_BITS>, i: u32) -> usize
         requires entry { IsEntry OFFSET_BITS self.now.buffers self.now.words
             (width_in self.now.table.items self.now.words (buffer_of OFFSET_BITS entry)) entry }
@@ -83,7 +83,7 @@ impl<const OFFSET_BITS: u32> Cells<OFFSET_BITS> {
         self.table[self.place(entry, i)]
     }
 
-    /// Reads words of an entry, from one on.
+    /// Reads words of an entry, starting at word `first`.
     pub fn read(&self, entry: EntryRef<OFFSET_BITS>, first: u32, into: &mut [u64])
         requires entry { IsEntry OFFSET_BITS self.now.buffers self.now.words
             (width_in self.now.table.items self.now.words (buffer_of OFFSET_BITS entry)) entry }
@@ -98,7 +98,7 @@ impl<const OFFSET_BITS: u32> Cells<OFFSET_BITS> {
         into.copy_from_slice(&self.table[from..from + into.len()]);
     }
 
-    /// Stores a word under a stamp.
+    /// Stores a word with a stamp.
     pub fn store(&mut self, entry: EntryRef<OFFSET_BITS>, i: u32, word: u64, stamp: u64)
         requires entry { IsEntry OFFSET_BITS self.old.buffers self.old.words
             (width_in self.old.table.items self.old.words (buffer_of OFFSET_BITS entry)) entry }
@@ -118,7 +118,7 @@ impl<const OFFSET_BITS: u32> Cells<OFFSET_BITS> {
         self.stamps[place] = stamp;
     }
 
-    /// Where the stamp of an entry is.
+    /// Returns the place of an entry's stamp.
     pub fn stamp_place(&self, entry: EntryRef<OFFSET_BITS>) -> usize
         requires inside { buffer_of OFFSET_BITS entry < self.now.buffers }
         requires offset { offset_of OFFSET_BITS entry < self.now.words }
@@ -128,7 +128,7 @@ impl<const OFFSET_BITS: u32> Cells<OFFSET_BITS> {
         self.table.len() + (entry.buffer() as usize * self.words as usize + entry.offset() as usize)
     }
 
-    /// Stores the words of an entry, and zeros after them, under one stamp.
+    /// Stores the words of an entry, followed by zeros, with one stamp.
     pub fn put(&mut self, entry: EntryRef<OFFSET_BITS>, width: u32, words: &[u64], stamp: u64)
         requires entry { IsEntry OFFSET_BITS self.old.buffers self.old.words width entry }
         requires fits { length words.now ≤ width }
@@ -148,7 +148,7 @@ impl<const OFFSET_BITS: u32> Cells<OFFSET_BITS> {
         self.stamps[place] = stamp;
     }
 
-    /// Takes the free buffer of lowest number, by giving it a width.
+    /// Takes the free buffer with the lowest number, and gives it a width.
     pub fn hand_out(&mut self, width: u32) -> Option<u32>
         requires { 0 < width }
         ensures none { IsNone result ↔ (free_count
@@ -192,7 +192,7 @@ impl<const OFFSET_BITS: u32> Cells<OFFSET_BITS> {
         count
     }
 
-    /// Puts a buffer on hold under a tag. Its words tell nothing any more.
+    /// Puts a buffer on hold with a tag. Its words have no meaning any more.
     pub fn retire(&mut self, buffer: u32, generation: u64, commit: u32)
         requires { buffer < self.old.buffers }
         ensures table { self.new.table.items ≡ slice_set self.old.table.items (buffer * self.old.words) 0 }
@@ -231,7 +231,7 @@ impl<const OFFSET_BITS: u32> Cells<OFFSET_BITS> {
     }
 }
 
-/// The given words, and zeros after them.
+/// Writes the given words, followed by zeros.
 fn write_padded(row: &mut [u64], words: &[u64])
     requires { length words.now ≤ length row.old }
     ensures { row.new ≡ padded words.now (length row.old) }

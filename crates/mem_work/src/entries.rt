@@ -14,7 +14,8 @@ use std::alloc::{AllocError, Global};
 use std::collections::BTreeMap;
 
 impl<const OFFSET_BITS: u32> Cells<OFFSET_BITS> {
-    /// Every entry with its words; where a stamp is given, those of which each word was stored since it.
+    /// Returns every entry with its words. If a stamp is given, returns only entries of which each word was stored
+    /// since that stamp.
     pub fn entries(
         &self,
         alloc: Global,
@@ -55,7 +56,7 @@ impl<const OFFSET_BITS: u32> Cells<OFFSET_BITS> {
         Ok(())
     }
 
-    /// Adds an entry, if it is one of those asked for, to others.
+    /// Adds an entry to others, if it is requested.
     fn add_entry(
         &self,
         alloc: Global,
@@ -76,7 +77,7 @@ impl<const OFFSET_BITS: u32> Cells<OFFSET_BITS> {
         Ok(())
     }
 
-    /// The width of a buffer's entries, 0 while it is free.
+    /// Returns the width of a buffer's entries, or 0 if it is free.
     fn width(&self, buffer: u32) -> usize
         requires { buffer < self.now.buffers }
         ensures { result ≡ width_in self.now.table.items self.now.words buffer }
@@ -84,7 +85,7 @@ impl<const OFFSET_BITS: u32> Cells<OFFSET_BITS> {
         self.table[buffer as usize * self.words as usize] as usize
     }
 
-    /// Whether an entry is one of those asked for.
+    /// Returns whether an entry is requested.
     fn is_chosen(&self, entry: EntryRef<OFFSET_BITS>, since: Option<u64>) -> bool
         requires { IsEntry OFFSET_BITS self.now.buffers self.now.words
             (width_in self.now.table.items self.now.words (buffer_of OFFSET_BITS entry)) entry }
@@ -97,7 +98,7 @@ impl<const OFFSET_BITS: u32> Cells<OFFSET_BITS> {
         }
     }
 
-    /// The words of an entry.
+    /// Returns the words of an entry.
     fn words_of(&self, entry: EntryRef<OFFSET_BITS>) -> &[u64]
         requires { IsEntry OFFSET_BITS self.now.buffers self.now.words
             (width_in self.now.table.items self.now.words (buffer_of OFFSET_BITS entry)) entry }
@@ -109,7 +110,7 @@ impl<const OFFSET_BITS: u32> Cells<OFFSET_BITS> {
         &self.table[first..first + width]
     }
 
-    /// The stamp of an entry.
+    /// Returns the stamp of an entry.
     fn entry_stamp(&self, entry: EntryRef<OFFSET_BITS>) -> u64
         requires { IsEntry OFFSET_BITS self.now.buffers self.now.words
             (width_in self.now.table.items self.now.words (buffer_of OFFSET_BITS entry)) entry }
@@ -118,7 +119,7 @@ impl<const OFFSET_BITS: u32> Cells<OFFSET_BITS> {
         self.stamps[self.stamp_place(entry)]
     }
 
-    /// The stamps of the words of an entry.
+    /// Returns the stamps of the words of an entry.
     fn stamps_of(&self, entry: EntryRef<OFFSET_BITS>) -> &[u64]
         requires { IsEntry OFFSET_BITS self.now.buffers self.now.words
             (width_in self.now.table.items self.now.words (buffer_of OFFSET_BITS entry)) entry }
@@ -133,7 +134,7 @@ impl<const OFFSET_BITS: u32> Cells<OFFSET_BITS> {
     }
 }
 
-/// Whether the stamps of an entry and of its words tell that each of these was stored since another.
+/// Returns whether each word of an entry was stored since a stamp, by the stamps of the entry and its words.
 fn all_since(whole: u64, stamps: &[u64], since: u64) -> bool
     ensures { result ≡ list_all (was_stored_since since whole) stamps.now }
 {

@@ -1,4 +1,4 @@
-//! A memory without readers, which keeps the last commit alone.
+//! A memory without readers, which keeps only the last commit.
 #![tactic(auto)]
 
 mod cells;

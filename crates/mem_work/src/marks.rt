@@ -1,16 +1,16 @@
 ghost use Rattle.std.specs.Prelude.{◌≡◌};
 ghost use Rattle.mem_work.specs.Marks.{mark_freed, is_held};
 
-/// When a buffer was last put on hold, and whether it is still.
+/// When a buffer was last put on hold, and whether it still is.
 #[derive(Clone, Copy, Drop)]
 pub enum Mark {
     Fresh,
-    /// It was on hold under this tag, and no reader can have it since.
+    /// It was on hold with this tag, and no reader can reach it since.
     Past {
         generation: u64,
         commit: u32,
     },
-    /// It is on hold under this tag. Its entries had so many words.
+    /// It is on hold with this tag. Its entries had this width.
     Held {
         generation: u64,
         commit: u32,
@@ -19,7 +19,7 @@ pub enum Mark {
 }
 
 impl Mark {
-    /// What is on hold under a tag below this generation is past.
+    /// Returns the mark after everything on hold with a tag below this generation is freed.
     pub fn freed(self, below: u64) -> Mark
         ensures { result ≡ mark_freed below self }
     {
@@ -44,7 +44,7 @@ impl Mark {
         }
     }
 
-    /// Whether the buffer is on hold.
+    /// Returns whether the buffer is on hold.
     pub fn is_held(self) -> bool
         ensures { result ≡ is_held self }
     {

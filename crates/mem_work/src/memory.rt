@@ -18,20 +18,20 @@ use std::alloc::{AllocError, Global};
 use std::collections::BTreeMap;
 use std::marker::PhantomData;
 
-/// A work in memory, without readers. It keeps the last commit alone.
+/// A work in memory, without readers. It keeps only the last commit.
 #[derive(Drop)]
 pub struct MemWork<const OFFSET_BITS: u32, L: Layout> {
     cells: Cells<OFFSET_BITS>,
     shape: u32,
     last: u32,
     root: EntryRef<OFFSET_BITS>,
-    // the generation of the one open hold, and the first commit that a reader of it could have
+    // the generation of the only open hold, and the first commit that a reader of it could have
     generation: u64,
     first: u32,
     layout: PhantomData<L>,
-    // every word was stored under the next commit or before
+    // no word has a stamp after that of the next commit
     ghost stamped: { (p : ℕ) → slice_index cells.stamps.items p ≤ last + 1 },
-    // those of a free buffer before
+    // the words of a free buffer have earlier stamps
     ghost unused: { IsUnused cells.table.items cells.stamps.items cells.buffers cells.words (last + 1) },
     ghost marks: { (b : ℕ) → IsMarkOfWidth generation first last (width_in cells.table.items cells.words b) (mark_at cells.marks.items b) },
     ghost early: { first ≤ last },
@@ -41,7 +41,8 @@ pub struct MemWork<const OFFSET_BITS: u32, L: Layout> {
 }
 
 impl<const OFFSET_BITS: u32, L: Layout> MemWork<OFFSET_BITS, L> {
-    /// `buffers` buffers of `words` words each, for images of this shape: nothing is committed.
+    /// Creates a memory of `buffers` buffers with `words` words each, for images of this shape, in which nothing is
+    /// committed.
     pub fn create(alloc: Global, buffers: u32, words: u32, shape: u32) -> Result<Self, AllocError>
         requires some_buffers { 1 ≤ buffers }
         requires few_buffers { buffers < buffer_limit OFFSET_BITS }
@@ -68,7 +69,7 @@ impl<const OFFSET_BITS: u32, L: Layout> MemWork<OFFSET_BITS, L> {
 }
 
 impl<const OFFSET_BITS: u32, L: Reach<OFFSET_BITS>> MemWork<OFFSET_BITS, L> {
-    /// Every record: what the last root reaches, and what was stored whole since.
+    /// Returns every record: those that the last root reaches, and those stored whole since then.
     pub fn records(&self, alloc: Global) -> Result<BTreeMap<u32, Vec<u64>>, AllocError>
         ensures { IfOk result (λ map. seen map ≡ ⟦<MemWork<OFFSET_BITS, L> as Frozen<OFFSET_BITS>>⟧.records self.now) }
     {
@@ -268,10 +269,10 @@ impl<const OFFSET_BITS: u32, L: Layout> Work<OFFSET_BITS> for MemWork<OFFSET_BIT
         (mark_at s.cells.marks.items b) (s.marks b) t };
 }
 
-/// The last generation that there can be, of 48 bits.
+/// The greatest generation, of 48 bits.
 const LAST_GENERATION: u64 = (1 << 48) - 1;
 
-/// The stamp of what is stored after this commit.
+/// Returns the stamp of words stored after this commit.
 fn next_stamp(last: u32) -> u64
     ensures { result ≡ last + 1 }
 {

@@ -8,7 +8,7 @@ use std::collections::BTreeMap;
 
 /// A layout whose reach can be computed.
 pub trait Reach<const OFFSET_BITS: u32>: Layout {
-    /// The references that a root reaches.
+    /// Returns the references that a root reaches.
     fn reached(
         alloc: Global,
         shape: u32,
@@ -18,7 +18,7 @@ pub trait Reach<const OFFSET_BITS: u32>: Layout {
         ensures { IfOk result (λ references. references.items ≡ Self.reaches shape (seen records.now) root.entry) };
 }
 
-/// Puts the records of these references into a map.
+/// Inserts the records with these references into a map.
 pub fn add_those(
     alloc: Global,
     references: Vec<u32>,
@@ -39,7 +39,7 @@ pub fn add_those(
     Ok(())
 }
 
-/// Puts one record into a map.
+/// Inserts one record into a map.
 pub fn put_words(
     alloc: Global,
     reference: u32,

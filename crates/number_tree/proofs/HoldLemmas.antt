@@ -7,14 +7,14 @@ use Rattle.entry_ref.specs.References.{buffer_of}
 use Rattle.entry_ref.specs.Images.{image_of, words_at}
 use Rattle.entry_ref.specs.Records.{Records, SameAt, AllThere}
 use Rattle.arena_api.specs.Calls.{published}
-use Rattle.arena_api.specs.Works.{Sizes, WorkView}
+use Rattle.arena_api.specs.Works.{WorkView}
 use Rattle.tree_read.specs.ProofsForTrees.{tree_pairs-same, IsTree-same, tree_there}
 use Rattle.tree_read.specs.Trees.{tree_pairs, tree_nodes, by_number, IsTree}
 use Rattle.tree_read.specs.Keys.{IsKeyedTree}
 use Rattle.store_api.specs.Statuses.{in_use}
 use Rattle.store_api.specs.Ledgers.{Ledger, IsNew, IsSettled, is_this}
 use Rattle.store_api.specs.Units.{MayDo}
-use Rattle.store_api.specs.Calls.{Accepts, Undoes, Refuses, IsWhole, StoresCommit, with_hold}
+use Rattle.store_api.specs.Calls.{Accepts, Undoes, Refuses, IsFull, IsWhole, StoresCommit, with_hold}
 use Rattle.store_api.specs.Parts.{Owns, OwnsAll, Turns, After, times, uses}
 use Rattle.store_api.specs.declared.store.Stored.{Stored}
 use Rattle.store_api.specs.declared.store.StoreError.{StoreError}
@@ -24,6 +24,7 @@ use Rattle.store_api.proofs.PartLemmas.{all-owns, all-then}
 use Rattle.store_api.proofs.UnitLemmas.{unit-accepts, accept-stays, undone}
 use Rattle.store_api.proofs.Uses.{uses-out}
 use Rattle.frozen_btree.specs.Changes.{tree}
+use Rattle.frozen_btree.specs.Makes.{CountsNodes}
 use Rattle.number_tree.specs.Maps.{HoldsTree, IsRefusal}
 
 -- a number is read from nothing
@@ -59,9 +60,33 @@ module _ {H : Type 0} (old begun mid new : Ledger H) (m k o : Records) (root : �
     pub ends_sizes : new.work ≡ mid.work → new.work.sizes ≡ old.work.sizes
     ends_sizes e = ap (λ (w : WorkView H). w.sizes) e ∙ may.sizes ∙ ap (λ (l : Ledger H). l.work.sizes) begins
 
-    pub is_refusal : (e : StoreError) → Refuses begun mid 34 e → IsRefusal old.work.sizes.buffers e
-    is_refusal (Full w a h oldest) (is, full) = (is, full.all ∙ ap (λ (s : Sizes). s.buffers) (may.sizes ∙ ap (λ (l : Ledger H). l.work.sizes) begins))
-    is_refusal Memory refuses = tt
+    -- a node was refused within the unit, which was undone
+    pub is_refusal : (most : ℕ) (e : StoreError) → CountsNodes begun mid most → Refuses begun mid 34 e → Undoes mid new o → IsRefusal old new o most e
+    is_refusal most (Full w a h oldest) counts (is, full) undoes =
+        let made : CountsNodes (record old { unit = true }) mid most = subst (λ l. CountsNodes l mid most) begins counts in
+        let was : IsFull (record old { unit = true }) mid w a h oldest =
+        subst (λ l. IsFull l mid w a h oldest) begins (subst (λ x. IsFull begun mid x a h oldest) (sym is) full) in
+        record {
+          node = is;
+          mid = mid;
+          counts = record { nodes = made.nodes; others = made.others };
+          full = record {
+            spare = was.spare;
+            made = was.made;
+            free = was.free;
+            active_is = was.active_is;
+            held_is = was.held_is;
+            all = was.all;
+            unread = was.unread;
+            generation = was.generation;
+            hold = was.hold;
+            newest = was.newest;
+            stopped = was.stopped;
+            found = was.found;
+          };
+          undoes = undoes;
+        }
+    is_refusal most Memory counts refuses undoes = tt
 
     -- a unit that is accepted
     module _ (n : Records) (next : ℕ) (turns : Turns begun mid k n (tree root ∷ []) (tree next ∷ [])) (accepts : Accepts mid new n o) where

@@ -1,4 +1,5 @@
--- Nobody has to read this: the laws that the layout owes, proved. They stand here since an impl takes its laws from specs/ alone.
+-- Proofs of the laws of the layout. They are in specs/ since an impl takes its laws only from there; they are not
+-- part of the specification.
 use Rattle.std.proofs.Common.{◌≡◌, ℕ, [], refl, arith}
 use Rattle.std.specs.List.Sorted.{IsStrictlySortedBy}
 use Rattle.std.specs.Ordering.{nat_cmp}

@@ -1,6 +1,6 @@
 use entry_ref::Layout;
 
-/// The layout whose root is a tree's, its keys by number.
+/// The layout whose root is the root of a tree by number.
 pub struct TreeLayout;
 
 impl Layout for TreeLayout {

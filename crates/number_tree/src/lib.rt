@@ -1,4 +1,5 @@
-//! A map of numbers that an outsider can use: a frozen tree by number in a store of its own.
+//! A map of numbers: a frozen tree by number in a store of its own. It is an example of how other programs can use
+//! the library.
 #![tactic(auto)]
 
 mod layout;

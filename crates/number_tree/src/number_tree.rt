@@ -1,8 +1,9 @@
-ghost use Rattle.std.specs.Prelude.{◌≡◌, ◌↔◌, ◌-◌, ◌+◌, [], length, is_some, IsNone, IfSome, IfNone, IfOk, IfErr, OnOk, OnErr};
+ghost use Rattle.std.specs.Prelude.{◌≡◌, ◌↔◌, ◌-◌, ◌+◌, ◌*◌, [], length, is_some, IsNone, IfSome, IfNone, IfOk, IfErr, OnOk, OnErr};
 ghost use Rattle.tree_read.specs.Trees.{tree_pairs};
 ghost use Rattle.tree_read.specs.Pairs.{lookup, put, take_out, seek};
 ghost use Rattle.store_api.specs.Ledgers.{IsNew};
-ghost use Rattle.number_tree.specs.Maps.{HoldsTree, IsRefusal, beside_number, first_of};
+ghost use Rattle.frozen_btree.specs.Changes.{levels};
+ghost use Rattle.number_tree.specs.Maps.{HoldsTree, IsRefusal, IsSameMap, beside_number, first_of};
 
 use crate::layout::TreeLayout;
 use crate::unit::{commit_tree, insert_unit, remove_unit};
@@ -25,9 +26,10 @@ impl<const OFFSET_BITS: u32, S: Store<OFFSET_BITS, Layout = TreeLayout>> Model
     ghost use Rattle.tree_read.specs.Trees.{tree_pairs};
     ghost use Rattle.number_tree.specs.Maps.{MapView, HoldsTree};
 
-    ghost Value = { MapView };
+    ghost Value = { MapView S };
 
     ghost view = { λ t. record {
+      store = t.store;
       pairs = tree_pairs (S.records t.store) t.root;
       root = t.root;
       commits = (S.ledger t.store).work.commits.last;
@@ -42,9 +44,10 @@ impl<const OFFSET_BITS: u32, S: Store<OFFSET_BITS, Layout = TreeLayout>> NumberT
     OFFSET_BITS,
     S,
 > {
-    /// The empty map, in a store of which nothing was made yet.
+    /// Creates the empty map, in a store in which nothing was made.
     pub fn new(store: S) -> Self
         requires { IsNew (S.ledger store) }
+        ensures store { result.store ≡ store }
         ensures pairs { result.pairs ≡ [] }
         ensures root { result.root ≡ 0 }
         ensures commits { result.commits ≡ (S.ledger store).work.commits.last }
@@ -57,9 +60,10 @@ impl<const OFFSET_BITS: u32, S: Store<OFFSET_BITS, Layout = TreeLayout>> NumberT
         }
     }
 
-    /// The map of a tree that is all that a store has in use.
+    /// Returns the map of a tree that is all that a store has in use.
     pub fn with_root(store: S, root: EntryRef<OFFSET_BITS>) -> Self
         requires { HoldsTree (S.ledger store) (S.records store) root }
+        ensures store { result.store ≡ store }
         ensures pairs { result.pairs ≡ tree_pairs (S.records store) root.entry }
         ensures root { result.root ≡ root.entry }
         ensures commits { result.commits ≡ (S.ledger store).work.commits.last }
@@ -69,16 +73,18 @@ impl<const OFFSET_BITS: u32, S: Store<OFFSET_BITS, Layout = TreeLayout>> NumberT
         NumberTree { store, root }
     }
 
-    /// The store, in which the tree is all that is in use.
+    /// Returns the store, in which the tree is all that is in use.
     pub fn store(&self) -> &S
+        ensures store { result.now ≡ self.now.store }
         ensures holds { HoldsTree (S.ledger result.now) (S.records result.now) self.now.root }
         ensures pairs { tree_pairs (S.records result.now) self.now.root ≡ self.now.pairs }
     {
         &self.store
     }
 
-    /// The same store, given back.
+    /// Returns the store and ends the map.
     pub fn into_store(self) -> S
+        ensures store { result ≡ self.store }
         ensures holds { HoldsTree (S.ledger result) (S.records result) self.root }
         ensures pairs { tree_pairs (S.records result) self.root ≡ self.pairs }
         ensures commits { (S.ledger result).work.commits.last ≡ self.commits }
@@ -88,36 +94,38 @@ impl<const OFFSET_BITS: u32, S: Store<OFFSET_BITS, Layout = TreeLayout>> NumberT
         self.store
     }
 
-    /// The root of the tree, 0 where it is empty.
+    /// Returns the root of the tree, or 0 if it is empty.
     pub fn root(&self) -> EntryRef<OFFSET_BITS>
         ensures { result ≡ self.now.root }
     {
         self.root
     }
 
-    /// Puts a value at a key, in place of the one there. On an error all is as before. The store is
-    /// `Full` where no buffer has room for a node of 34 words.
+    /// Puts a value at a key, in place of any value there. After an error the map is as before. The store is `Full`
+    /// if no buffer has space for a node of 34 words.
     pub fn put(&mut self, key: u64, value: u64) -> Result<(), StoreError>
         ensures pairs { OnOk result (self.new.pairs ≡ put (beside_number key) (key, value) self.old.pairs) }
         ensures commits { self.new.commits ≡ self.old.commits }
         ensures most { self.new.most ≡ self.old.most }
         ensures buffers { self.new.buffers ≡ self.old.buffers }
-        ensures left { OnErr result (self.new ≡ self.old) }
-        ensures refused { IfErr result (IsRefusal self.old.buffers) }
+        ensures left { OnErr result (IsSameMap self.old self.new) }
+        ensures refused { IfErr result (IsRefusal (S.ledger self.old.store) (S.ledger self.new.store) (S.records self.new.store)
+            (2 * levels (S.records self.old.store) self.old.root + 1)) }
     {
         self.root = insert_unit(&mut self.store, self.root, key, value)?;
         Ok(())
     }
 
-    /// Takes out a key. The answer is whether it was there. On an error all is as before.
+    /// Removes a key, and returns whether it existed. After an error the map is as before.
     pub fn remove(&mut self, key: u64) -> Result<bool, StoreError>
         ensures taken { IfOk result (λ taken. taken ≡ is_some (lookup (beside_number key) self.old.pairs)) }
         ensures pairs { OnOk result (self.new.pairs ≡ take_out (beside_number key) self.old.pairs) }
         ensures commits { self.new.commits ≡ self.old.commits }
         ensures most { self.new.most ≡ self.old.most }
         ensures buffers { self.new.buffers ≡ self.old.buffers }
-        ensures left { OnErr result (self.new ≡ self.old) }
-        ensures refused { IfErr result (IsRefusal self.old.buffers) }
+        ensures left { OnErr result (IsSameMap self.old self.new) }
+        ensures refused { IfErr result (IsRefusal (S.ledger self.old.store) (S.ledger self.new.store) (S.records self.new.store)
+            (levels (S.records self.old.store) self.old.root + 1)) }
     {
         if self.get(key).is_none() {
             return Ok(false);
@@ -126,7 +134,7 @@ impl<const OFFSET_BITS: u32, S: Store<OFFSET_BITS, Layout = TreeLayout>> NumberT
         Ok(true)
     }
 
-    /// The value at a key.
+    /// Returns the value at a key.
     pub fn get(&mut self, key: u64) -> Option<u64>
         ensures value { result ≡ lookup (beside_number key) self.old.pairs }
         ensures same { self.new ≡ self.old }
@@ -137,7 +145,7 @@ impl<const OFFSET_BITS: u32, S: Store<OFFSET_BITS, Layout = TreeLayout>> NumberT
         }
     }
 
-    /// How many keys there are.
+    /// Returns the number of keys.
     pub fn len(&mut self) -> u32
         ensures count { result ≡ length self.old.pairs }
         ensures same { self.new ≡ self.old }
@@ -145,7 +153,7 @@ impl<const OFFSET_BITS: u32, S: Store<OFFSET_BITS, Layout = TreeLayout>> NumberT
         total(&mut self.store, self.root)
     }
 
-    /// The first pair whose key is this one or above it.
+    /// Returns the first pair whose key is at least `key`.
     pub fn at_or_above(&mut self, key: u64) -> Option<(u64, u64)>
         ensures pair { result ≡ first_of (seek (beside_number key) self.old.pairs) }
         ensures same { self.new ≡ self.old }
@@ -153,7 +161,7 @@ impl<const OFFSET_BITS: u32, S: Store<OFFSET_BITS, Layout = TreeLayout>> NumberT
         first_from(&mut self.store, self.root, key)
     }
 
-    /// All pairs, in the order of their keys, by one walk.
+    /// Returns all pairs in the order of their keys, by one walk.
     pub fn pairs(&mut self, alloc: Global) -> Result<Vec<(u64, u64)>, AllocError>
         ensures pairs { IfOk result (λ pairs. pairs.items ≡ self.old.pairs) }
         ensures same { self.new ≡ self.old }
@@ -161,7 +169,7 @@ impl<const OFFSET_BITS: u32, S: Store<OFFSET_BITS, Layout = TreeLayout>> NumberT
         all_pairs(alloc, &mut self.store, self.root)
     }
 
-    /// Commits the tree, where another commit can be made.
+    /// Commits the tree, if another commit is possible.
     pub fn commit(&mut self) -> Option<u32>
         ensures none { IsNone result ↔ (self.old.most - self.old.commits ≡ 0) }
         ensures number { IfSome result (λ n. n ≡ self.old.commits + 1) }

@@ -1,6 +1,7 @@
-ghost use Rattle.std.specs.Prelude.{◌≡◌, ◌<◌, ◌+◌, IfOk, IfErr, OnErr, IsSome};
+ghost use Rattle.std.specs.Prelude.{◌≡◌, ◌<◌, ◌+◌, ◌*◌, IfOk, IfErr, OnErr, IsSome};
 ghost use Rattle.tree_read.specs.Trees.{tree_pairs};
 ghost use Rattle.tree_read.specs.Pairs.{lookup, put, take_out};
+ghost use Rattle.frozen_btree.specs.Changes.{levels};
 ghost use Rattle.number_tree.specs.Maps.{HoldsTree, IsRefusal, beside_number};
 
 use crate::layout::TreeLayout;
@@ -8,7 +9,7 @@ use entry_ref::EntryRef;
 use frozen_btree::{NumberKey, insert, remove};
 use store_api::{Store, StoreError};
 
-/// One unit in which a pair is put.
+/// Inserts a pair, in a unit of its own.
 pub fn insert_unit<const OFFSET_BITS: u32, S: Store<OFFSET_BITS>>(
     store: &mut S,
     root: EntryRef<OFFSET_BITS>,
@@ -21,7 +22,8 @@ pub fn insert_unit<const OFFSET_BITS: u32, S: Store<OFFSET_BITS>>(
         ≡ put (beside_number key) (key, value) (tree_pairs (S.records store.old) root.entry)) }
     ensures still { OnErr result (HoldsTree (S.ledger store.new) (S.records store.new) root.entry) }
     ensures left { OnErr result (S.records store.new ≡ S.records store.old) }
-    ensures refused { IfErr result (IsRefusal (S.ledger store.old).work.sizes.buffers) }
+    ensures refused { IfErr result (IsRefusal (S.ledger store.old) (S.ledger store.new) (S.records store.new)
+        (2 * levels (S.records store.old) root.entry + 1)) }
     ensures commits { (S.ledger store.new).work.commits.last ≡ (S.ledger store.old).work.commits.last }
     ensures sizes { (S.ledger store.new).work.sizes ≡ (S.ledger store.old).work.sizes }
 {
@@ -38,7 +40,7 @@ pub fn insert_unit<const OFFSET_BITS: u32, S: Store<OFFSET_BITS>>(
     }
 }
 
-/// One unit in which the pair of a key that is there is taken out.
+/// Removes the pair of a key that exists, in a unit of its own.
 pub fn remove_unit<const OFFSET_BITS: u32, S: Store<OFFSET_BITS>>(
     store: &mut S,
     root: EntryRef<OFFSET_BITS>,
@@ -51,7 +53,8 @@ pub fn remove_unit<const OFFSET_BITS: u32, S: Store<OFFSET_BITS>>(
         ≡ take_out (beside_number key) (tree_pairs (S.records store.old) root.entry)) }
     ensures still { OnErr result (HoldsTree (S.ledger store.new) (S.records store.new) root.entry) }
     ensures left { OnErr result (S.records store.new ≡ S.records store.old) }
-    ensures refused { IfErr result (IsRefusal (S.ledger store.old).work.sizes.buffers) }
+    ensures refused { IfErr result (IsRefusal (S.ledger store.old) (S.ledger store.new) (S.records store.new)
+        (levels (S.records store.old) root.entry + 1)) }
     ensures commits { (S.ledger store.new).work.commits.last ≡ (S.ledger store.old).work.commits.last }
     ensures sizes { (S.ledger store.new).work.sizes ≡ (S.ledger store.old).work.sizes }
 {

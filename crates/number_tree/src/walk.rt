@@ -9,7 +9,7 @@ use entry_ref::EntryRef;
 use frozen_btree::{Cursor, NumberKey};
 use std::alloc::{AllocError, Global};
 
-/// The first pair of a tree by number whose key is this one or above it.
+/// Returns the first pair of a tree by number whose key is at least `key`.
 pub fn first_from<const OFFSET_BITS: u32, F: Frozen<OFFSET_BITS>>(
     frozen: &mut F,
     root: EntryRef<OFFSET_BITS>,
@@ -28,7 +28,7 @@ pub fn first_from<const OFFSET_BITS: u32, F: Frozen<OFFSET_BITS>>(
     Some((stored, value))
 }
 
-/// The pairs of a tree, in the order of its keys, by one walk.
+/// Returns the pairs of a tree in the order of its keys, by one walk.
 pub fn all_pairs<const OFFSET_BITS: u32, F: Frozen<OFFSET_BITS>>(
     alloc: Global,
     frozen: &mut F,

@@ -1,4 +1,4 @@
--- A list of documents with weights, by the word that a dictionary keeps for it: 0 is the empty list.
+-- A list of documents with weights, by the word that a dictionary stores for it: 0 is the empty list.
 use Rattle.std.specs.Prelude.{ℕ, zero, suc, ℤ, ◌<◌, List, []}
 use Rattle.std.specs.List.{AllByRecursion}
 use Rattle.std.specs.List.Sorted.{IsStrictlySortedBy}
@@ -20,7 +20,7 @@ abbrev pub list_reach : Records → ℕ → List ℕ
 list_reach m zero = []
 list_reach m (suc word) = postings_reach m (list_form (suc word))
 
--- how many levels of nodes it has, none where it is short
+-- the number of levels of nodes, which is 0 for a short list
 abbrev pub form_levels : Records → ListForm → ℕ
 form_levels m (short ref) = 0
 form_levels m (tree root) = levels m root
@@ -29,7 +29,7 @@ form_levels m (vector root) = levels m root
 abbrev pub list_levels : Records → ℕ → ℕ
 list_levels m word = form_levels m (list_form word)
 
--- a list in its form, whose documents ascend
+-- a list is well formed, and its documents ascend
 pub record IsList (m : Records) (word : ℕ) : Type 0 where
   pub form : 0 < word → IsPostingList m (list_form word)
   pub ascends : IsStrictlySortedBy nat_cmp (keys_of (list_at m word))
@@ -40,6 +40,6 @@ pub record AreDocuments (docs : List (ℕ × ℤ)) : Type 0 where
   pub ascends : IsStrictlySortedBy nat_cmp (keys_of docs)
   pub numbers : AllByRecursion IsDocNumber (keys_of docs)
 
--- it is no bit vector
+-- it is not a bit vector
 abbrev pub IsPlain : ℕ → Type 0
 IsPlain word = word < FIRST_VECTOR

@@ -1,4 +1,5 @@
--- Nobody has to read this: a list stays where its records stay. It stands here since a part cites it.
+-- Proofs that a list stays the same while its records do. They are in specs/ since a part cites them; they are not
+-- part of the specification.
 use Rattle.std.proofs.Common.{◌≡◌, ℕ, zero, suc, ℤ, List, refl, sym, subst, arith}
 use Rattle.std.specs.List.{AllByRecursion}
 use Rattle.std.specs.List.Sorted.{IsStrictlySortedBy}

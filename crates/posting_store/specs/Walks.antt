@@ -1,4 +1,4 @@
--- Places in a list.
+-- Positions in a list.
 use Rattle.std.specs.Prelude.{◌≡◌, ℕ, ℤ, pos, ◌<◌, ◌^◌, List, [], ◌∷◌, map, take, drop, slice_index}
 use Rattle.std.specs.List.{AllByRecursion}
 use Rattle.std.specs.Map.{keys_of}
@@ -10,7 +10,7 @@ use Rattle.array_store.specs.Arrays.{IsArray}
 use Rattle.posting_store.specs.declared.cursor.PostingCursor.{PostingCursor}
 use Rattle.posting_store.specs.declared.cursor.PostingCursor.TheVariants.{Short, Tree}
 
--- the postings from a place on
+-- the postings from a position on
 abbrev pub postings_from : {bits : ℕ} → Records → PostingCursor bits → List (ℕ × ℤ)
 postings_from m (Short list count at) = map unpacked (drop at (take count (drop 1 (m list))))
 postings_from m (Tree at) = map (λ p. (p.0, weight_in_bits p.1)) (pairs_from m at)
@@ -20,12 +20,12 @@ abbrev pub HasPosting : {bits : ℕ} → PostingCursor bits → Type 0
 HasPosting (Short list count at) = at < count
 HasPosting (Tree at) = HasPair at
 
--- the place is one of a record or of a tree
+-- the position is in a record or a tree
 abbrev pub StandsInList : {bits : ℕ} → Records → PostingCursor bits → Type 0
 StandsInList m (Short list count at) = at < count → IsArray (m list) × (count ≡ slice_index (m list) 0)
 StandsInList m (Tree at) = IsAt m at × AllByRecursion (λ p. p.1 < 2 ^ 32) (pairs_from m at)
 
--- the place is one of a list
+-- the position is in a list
 pub record IsListPlace {bits : ℕ} (m : Records) (at : PostingCursor bits) : Type 0 where
   pub stands : StandsInList m at
   pub numbers : AllByRecursion IsDocNumber (keys_of (postings_from m at))

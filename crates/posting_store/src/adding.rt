@@ -14,7 +14,7 @@ use attr_types::Doc;
 use frozen_btree::{NumberKey, insert};
 use store_api::{Store, StoreError};
 
-/// Puts a document into a tree, or replaces its weight there.
+/// Adds a document to a tree, or replaces its weight there.
 fn add_to_tree<const OFFSET_BITS: u32, S: Store<OFFSET_BITS>>(
     store: &mut S,
     list: Posting,
@@ -41,7 +41,7 @@ fn add_to_tree<const OFFSET_BITS: u32, S: Store<OFFSET_BITS>>(
     Ok(Posting::tree(root))
 }
 
-/// Puts a document into a short list, or replaces its weight there.
+/// Adds a document to a short list, or replaces its weight there.
 fn add_to_short<const OFFSET_BITS: u32, S: Store<OFFSET_BITS>>(
     store: &mut S,
     list: Posting,
@@ -68,7 +68,7 @@ fn add_to_short<const OFFSET_BITS: u32, S: Store<OFFSET_BITS>>(
     replace_list(store, list, items.as_slice())
 }
 
-/// Puts a document into a list, or replaces its weight there. The answer is the new list.
+/// Adds a document to a list, or replaces its weight there. Returns the new list.
 pub fn add<const OFFSET_BITS: u32, S: Store<OFFSET_BITS>>(
     store: &mut S,
     list: Posting,

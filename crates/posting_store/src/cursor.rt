@@ -9,10 +9,10 @@ use attr_types::Doc;
 use entry_ref::EntryRef;
 use frozen_btree::{Cursor, total};
 
-/// A place before a document of a list, or at the end of it.
+/// A position before a document of a list, or at its end.
 #[derive(Drop)]
 pub enum PostingCursor<const OFFSET_BITS: u32> {
-    /// Before item `at` of the record of a short list, or of none.
+    /// Before item `at` of the record of a short list, or of the empty list.
     Short {
         list: EntryRef<OFFSET_BITS>,
         count: u32,
@@ -21,7 +21,7 @@ pub enum PostingCursor<const OFFSET_BITS: u32> {
     Tree(Cursor<OFFSET_BITS>),
 }
 
-/// Before the first document of a list.
+/// Returns a cursor before the first document of a list.
 pub fn walk<const OFFSET_BITS: u32, F: Frozen<OFFSET_BITS>>(
     frozen: &mut F,
     list: Posting,
@@ -48,7 +48,7 @@ pub fn walk<const OFFSET_BITS: u32, F: Frozen<OFFSET_BITS>>(
     }
 }
 
-/// How many documents a list has.
+/// Returns the number of documents of a list.
 pub fn count<const OFFSET_BITS: u32, F: Frozen<OFFSET_BITS>>(frozen: &mut F, list: Posting) -> u32
     requires list { IsList (F.records frozen.old) list }
     requires plain { IsPlain list }
@@ -67,7 +67,7 @@ pub fn count<const OFFSET_BITS: u32, F: Frozen<OFFSET_BITS>>(frozen: &mut F, lis
 }
 
 impl<const OFFSET_BITS: u32> PostingCursor<OFFSET_BITS> {
-    /// Whether no document follows.
+    /// Returns whether no document follows.
     pub fn at_end(&self) -> bool
         ensures posting { IsTrue result ↔ ¬ HasPosting self.now }
         ensures follows { result ≡ false → HasPosting self.now }
@@ -79,7 +79,7 @@ impl<const OFFSET_BITS: u32> PostingCursor<OFFSET_BITS> {
         }
     }
 
-    /// The document that follows.
+    /// Returns the next document.
     pub fn doc<F: Frozen<OFFSET_BITS>>(&self, frozen: &mut F) -> Doc
         requires place { IsListPlace (F.records frozen.old) self.now }
         requires posting { HasPosting self.now }
@@ -94,7 +94,7 @@ impl<const OFFSET_BITS: u32> PostingCursor<OFFSET_BITS> {
         }
     }
 
-    /// Its weight.
+    /// Returns the weight of the next document.
     pub fn weight<F: Frozen<OFFSET_BITS>>(&self, frozen: &mut F) -> i32
         requires place { IsListPlace (F.records frozen.old) self.now }
         requires posting { HasPosting self.now }
@@ -109,7 +109,7 @@ impl<const OFFSET_BITS: u32> PostingCursor<OFFSET_BITS> {
         }
     }
 
-    /// Goes on behind one document.
+    /// Moves past one document.
     pub fn next<F: Frozen<OFFSET_BITS>>(&mut self, frozen: &mut F)
         requires place { IsListPlace (F.records frozen.old) self.old }
         requires posting { HasPosting self.old }

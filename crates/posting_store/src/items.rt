@@ -12,17 +12,17 @@ use arena_api::Frozen;
 use arrayvec::ArrayVec;
 use attr_types::Doc;
 
-/// The items of a short list, and of one with a document more.
+/// The items of a short list, or of one with an additional document.
 pub type Items = ArrayVec<u64, 9>;
 
-/// The item of a document with a weight.
+/// Returns the item of a document with a weight.
 fn item_of(doc: Doc, weight: i32) -> u64
     ensures { unpacked result ≡ (doc, weight) }
 {
     doc.number() as u64 * ITEM_BASE + weight.cast_unsigned() as u64
 }
 
-/// A document has a number of one. It does nothing: its contract is the law.
+/// The number of a document is valid. The function does nothing; its contract is the law.
 pub fn number_law(doc: Doc)
     ensures first { 1 ≤ doc }
     ensures last { doc ≤ 1048575 }
@@ -30,7 +30,7 @@ pub fn number_law(doc: Doc)
     let _ = doc.number();
 }
 
-/// The items of a list that has nine documents at most.
+/// Returns the items of a list of at most nine documents.
 pub fn items_of<const OFFSET_BITS: u32, F: Frozen<OFFSET_BITS>>(
     frozen: &mut F,
     list: Posting,
@@ -52,7 +52,7 @@ pub fn items_of<const OFFSET_BITS: u32, F: Frozen<OFFSET_BITS>>(
     items
 }
 
-/// Puts a document in, or replaces its weight.
+/// Adds a document, or replaces its weight.
 pub fn put_item(items: &mut Items, doc: Doc, weight: i32)
     requires { length items.old.items ≤ 8 }
     ensures { map unpacked items.new.items ≡ insert_entry nat_cmp (map unpacked items.old.items) doc weight }
@@ -74,7 +74,7 @@ pub fn put_item(items: &mut Items, doc: Doc, weight: i32)
     items.push(item);
 }
 
-/// Takes a document out.
+/// Removes a document.
 pub fn take_item(items: &mut Items, doc: Doc)
     ensures { map unpacked items.new.items ≡ remove_entry (is_at (nat_cmp doc)) (map unpacked items.old.items) }
 {

@@ -1,4 +1,5 @@
-//! Lists of documents with weights in a store: a short one is a record, a longer one a tree by document.
+//! Posting lists, which are documents with weights, in a store. A short list is a record, a longer one a tree by
+//! document.
 #![tactic(auto)]
 
 mod adding;
@@ -17,5 +18,5 @@ pub use laws::list_law;
 pub use posting::Posting;
 pub use removing::remove;
 
-/// What the documents of items are multiplied by: an item of a short list is `document * ITEM_BASE + weight`.
+/// The factor for the document in an item of a short list: an item is `document * ITEM_BASE + weight`.
 const ITEM_BASE: u64 = 4_294_967_296;

@@ -60,7 +60,7 @@ fn make_leaf<const OFFSET_BITS: u32, S: Store<OFFSET_BITS>>(
     Ok(Posting::tree(root))
 }
 
-/// Makes a list of up to nine items, whose documents ascend.
+/// Makes a list of at most nine items with ascending documents.
 pub fn make_list<const OFFSET_BITS: u32, S: Store<OFFSET_BITS>>(
     store: &mut S,
     items: &[u64],

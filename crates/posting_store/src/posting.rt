@@ -4,7 +4,7 @@ ghost use Rattle.posting_store.specs.Lists.{IsPlain};
 use entry_ref::EntryRef;
 use std::marker::Model;
 
-/// A list of documents with weights, as the word that a dictionary keeps for it. 0 is the empty list.
+/// A list of documents with weights, as the word that a dictionary stores for it. 0 is the empty list.
 #[derive(Clone, Copy, Debug, PartialEq, Eq)]
 pub struct Posting {
     word: u64,
@@ -36,7 +36,7 @@ impl Posting {
         self.word
     }
 
-    /// The short list of an array.
+    /// Returns the short list that is this array.
     pub(crate) fn short<const OFFSET_BITS: u32>(array: EntryRef<OFFSET_BITS>) -> Posting
         ensures word { result ≡ 2 * array.entry }
         ensures plain { IsPlain result }
@@ -46,7 +46,7 @@ impl Posting {
         }
     }
 
-    /// The list of a tree's root.
+    /// Returns the list that is the tree with this root.
     pub(crate) fn tree<const OFFSET_BITS: u32>(root: EntryRef<OFFSET_BITS>) -> Posting
         ensures word { result ≡ 2 * root.entry + 1 }
         ensures plain { IsPlain result }
@@ -56,14 +56,14 @@ impl Posting {
         }
     }
 
-    /// Whether the list is a tree and no record.
+    /// Returns whether the list is a tree, not a record.
     pub(crate) fn is_tree(self) -> bool
         ensures { IsTrue result ↔ (self % 2 ≡ 1) }
     {
         self.word % 2 == 1
     }
 
-    /// The record of a short list or the root of a tree, 0 of the empty list.
+    /// Returns the record of a short list, the root of a tree, or 0 for the empty list.
     pub(crate) fn entry<const OFFSET_BITS: u32>(self) -> EntryRef<OFFSET_BITS>
         requires { IsPlain self }
         ensures { result ≡ self / 2 }

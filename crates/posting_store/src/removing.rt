@@ -16,7 +16,7 @@ use attr_types::Doc;
 use frozen_btree::{NumberKey, remove as remove_pair};
 use store_api::{Store, StoreError};
 
-/// Takes a document out of a list that stays a tree.
+/// Removes a document from a list that remains a tree.
 fn remove_from_tree<const OFFSET_BITS: u32, S: Store<OFFSET_BITS>>(
     store: &mut S,
     list: Posting,
@@ -41,7 +41,7 @@ fn remove_from_tree<const OFFSET_BITS: u32, S: Store<OFFSET_BITS>>(
     Ok(Posting::tree(root))
 }
 
-/// Takes a document out of a list of nine at most, which is short then.
+/// Removes a document from a list of at most nine documents, which becomes short.
 fn remove_from_short<const OFFSET_BITS: u32, S: Store<OFFSET_BITS>>(
     store: &mut S,
     list: Posting,
@@ -66,7 +66,7 @@ fn remove_from_short<const OFFSET_BITS: u32, S: Store<OFFSET_BITS>>(
     replace_list(store, list, items.as_slice())
 }
 
-/// Takes a document that is there out of a list. The answer is the new list, 0 where no document is left.
+/// Removes a document that exists from a list. Returns the new list, or 0 if no document is left.
 pub fn remove<const OFFSET_BITS: u32, S: Store<OFFSET_BITS>>(
     store: &mut S,
     list: Posting,

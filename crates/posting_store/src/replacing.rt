@@ -11,7 +11,7 @@ use crate::making::make_list;
 use crate::posting::Posting;
 use store_api::{Store, StoreError};
 
-/// Makes a list of up to nine items in place of another, whose records are dropped.
+/// Makes a list of at most nine items in place of another list, whose records are dropped.
 pub fn replace_list<const OFFSET_BITS: u32, S: Store<OFFSET_BITS>>(
     store: &mut S,
     list: Posting,

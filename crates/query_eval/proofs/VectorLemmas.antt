@@ -21,7 +21,7 @@ equal_not o e g = absurd (grind (arith, e, g))
 less_not : (o : Ordering) → o ≡ Less → o ≢ Greater
 less_not o e g = absurd (grind (arith, e, g))
 
-has_append : (xs ys : List ℕ) (doc : ℕ) → has (xs ++ ys) doc ≡ (has xs doc || has ys doc)
+pub has_append : (xs ys : List ℕ) (doc : ℕ) → has (xs ++ ys) doc ≡ (has xs doc || has ys doc)
 has_append [] ys doc = refl
 has_append (x ∷ xs) ys doc = ap (λ b. nat_eq doc x || b) (has_append xs ys doc) ∙ or_assoc (nat_eq doc x) _ _
   where

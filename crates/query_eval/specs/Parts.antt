@@ -1,4 +1,4 @@
--- A dictionary and its lists of documents, as the index that they stand for.
+-- A dictionary and its posting lists, as the index that they represent.
 use Rattle.std.specs.Prelude.{ℕ, List, map}
 use Rattle.std.specs.List.{AllByRecursion}
 use Rattle.entry_ref.specs.Records.{Records}
@@ -10,11 +10,11 @@ use Rattle.attr_types.specs.Value.{value_cmp}
 use Rattle.attr_types.specs.declared.kind.ValueType.{ValueType}
 use Rattle.attr_index.specs.Postings.{HaveDocNumbers}
 
--- the values of some pairs of a dictionary, each with its list
+-- the values of pairs of a dictionary, each with its list
 abbrev pub index_of_pairs : ValueType → Records → List (ℕ × ℕ) → Index
 index_of_pairs type m pairs = map (λ p. (stored_value type m p.0, postings_at m (list_form p.1))) pairs
 
--- the records behind a pair have their form, and its list has numbers of documents
+-- the records of a pair are well formed, and its list has valid document numbers
 pub record IsIndexPair (type : ValueType) (m : Records) (p : ℕ × ℕ) : Type 0 where
   pub entry : IsDictionaryEntry type m p
   pub documents : HaveDocNumbers (postings_at m (list_form p.1))

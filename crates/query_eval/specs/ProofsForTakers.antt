@@ -1,4 +1,5 @@
--- Nobody has to read this: lemmas on documents that come in parts, for the laws of what takes keys.
+-- Lemmas on documents that are added in parts, for the laws of receivers of keys. They are proofs, not part of the
+-- specification.
 use Rattle.std.proofs.Common.{◌≡◌, ℕ, Bool, true, false, ◌||◌, ◌&&◌, List, [], ◌++◌, refl, sym, ap, subst, ◌∙◌, nat_eq}
 use Rattle.std.proofs.lemmas.List.Folds.{list_any-append}
 use Rattle.attr_index.specs.Sets.{has, in_words}
@@ -38,7 +39,7 @@ keeps_joined set a b c xs ys first second doc =
     second doc ∙ ap (λ t. t || (set doc && has ys doc)) (first doc) ∙ either_kept (set doc) (a doc) (has xs doc) (has ys doc)
     ∙ ap (λ t. a doc || (set doc && t)) (sym (list_any-append (nat_eq doc) xs ys))
 
--- the same beside a bit vector that stays
+-- the same beside a bit vector that does not change
 pub kept_none : (marks : List ℕ) (old : ℕ → Bool) → (marks ≡ marks) × AddsMeeting (in_words marks) old [] old
 kept_none marks old = (refl, keeps_none (in_words marks) old)
 

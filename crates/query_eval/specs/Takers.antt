@@ -2,10 +2,10 @@
 use Rattle.std.specs.Prelude.{◌≡◌, ℕ, Bool, ◌||◌, ◌&&◌, List}
 use Rattle.attr_index.specs.Sets.{has}
 
--- these documents are new, and no others
+-- exactly these documents are added
 abbrev pub Adds : (ℕ → Bool) → List ℕ → (ℕ → Bool) → Type 0
 Adds old docs new = (doc : ℕ) → new doc ≡ (old doc || has docs doc)
 
--- of these documents those of a set are new, and no others
+-- exactly those of these documents are added that are in a set
 abbrev pub AddsMeeting : (ℕ → Bool) → (ℕ → Bool) → List ℕ → (ℕ → Bool) → Type 0
 AddsMeeting set old docs new = (doc : ℕ) → new doc ≡ (old doc || (set doc && has docs doc))

@@ -11,11 +11,11 @@ use Rattle.attr_types.specs.declared.part.Part.{Part}
 use Rattle.attr_index.specs.Postings.{HaveDocNumbers}
 use Rattle.attr_index.specs.Sets.{has}
 
--- the weight of a document in a list, 0 where it is not there
+-- the weight of a document in a list, or 0 if the list lacks it
 abbrev pub weight_in_list : ℕ → List (ℕ × ℤ) → ℤ
 weight_in_list doc list = unwrap_or (lookup (is_at (nat_cmp doc)) list) (pos 0)
 
--- the list of a dictionary's word, none where there is no word
+-- the list of a dictionary's word, or no documents if there is no word
 abbrev pub word_list : Records → Option ℕ → List (ℕ × ℤ)
 word_list m None = []
 word_list m (Some word) = postings_at m (list_form word)
@@ -24,6 +24,6 @@ abbrev pub IsListWord : Records → Option ℕ → Type 0
 IsListWord m None = Unit {0}
 IsListWord m (Some word) = IsPostingList m (list_form word) × HaveDocNumbers (postings_at m (list_form word))
 
--- some part's value has the document in its list
+-- the list of some part's value has the document
 abbrev pub is_found : List Part → Index → ℕ → Bool
 is_found parts index doc = list_any (λ part. has (keys_of (list_of part.value index)) doc) parts

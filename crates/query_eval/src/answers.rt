@@ -1,4 +1,4 @@
-//! What an image answers.
+//! The answers of an image.
 ghost use Rattle.attr_images.specs.Images.{table_of, IsLawfulImage};
 ghost use Rattle.attr_images.specs.Shapes.{shape_of, types_of};
 ghost use Rattle.attr_types.specs.Scores.{scores};
@@ -8,14 +8,14 @@ ghost use Rattle.attr_types.specs.declared.field.TheConstants.{MOST_FIELDS};
 ghost use Rattle.std.specs.Prelude.{◌≡◌, ◌≤◌, length, IfOk};
 
 use crate::image::{dictionaries_of, root_at};
+use crate::parts::scored;
 use crate::queries::matching;
-use crate::scored;
 use arena_api::Frozen;
 use attr_types::{DocList, Fields, Parts, Query, ScoreList};
 use entry_ref::EntryRef;
 use std::alloc::{AllocError, Global};
 
-/// The documents of an image that a query matches, ascending.
+/// Returns the documents of an image that a query matches, ascending.
 pub fn hits<const OFFSET_BITS: u32, F: Frozen<OFFSET_BITS>>(
     alloc: Global,
     frozen: &mut F,
@@ -33,7 +33,8 @@ pub fn hits<const OFFSET_BITS: u32, F: Frozen<OFFSET_BITS>>(
     matching(alloc, frozen, dictionaries.as_slice(), query)
 }
 
-/// The documents of an image of which some item in an attribute has the value of a part, ascending, each with its score.
+/// Returns the documents of an image that have the value of some part in an attribute, ascending, each with its
+/// score.
 pub fn scores<const OFFSET_BITS: u32, F: Frozen<OFFSET_BITS>>(
     alloc: Global,
     frozen: &mut F,

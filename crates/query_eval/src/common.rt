@@ -1,30 +1,31 @@
-//! An And of two values, by their two lists.
-ghost use Rattle.std.specs.Prelude.{◌≡◌, ◌&&◌, ℕ, IfOk, IfSome};
+//! An And of values, by their lists.
+ghost use Rattle.std.specs.Prelude.{◌≡◌, ◌<◌, ◌&&◌, ℕ, length, IfOk, IfSome};
 ghost use Rattle.std.specs.Map.{keys_of};
-ghost use Rattle.attr_images.specs.Postings.{index_of, list_form, postings_at, tree, IsPostingList};
+ghost use Rattle.attr_images.specs.Postings.{list_form, postings_at, tree, IsPostingList};
 ghost use Rattle.attr_index.specs.Found.{found};
-ghost use Rattle.attr_index.specs.Leaves.{listed, meeting};
 ghost use Rattle.attr_index.specs.Postings.{HaveDocNumbers};
 ghost use Rattle.attr_index.specs.Sets.{has};
-ghost use Rattle.attr_types.specs.Query.{tree_of, query_trees, and, one};
+ghost use Rattle.attr_types.specs.Query.{query_trees, and};
 ghost use Rattle.query_eval.specs.Indexes.{AreIndexed, indexes_in};
-ghost use Rattle.query_eval.specs.Parts.{IsIndexed};
+ghost use Rattle.query_eval.specs.Lists.{all_have, AreListWords};
 ghost use Rattle.query_eval.specs.Weights.{IsListWord};
 
 use crate::dictionary::Dictionary;
 use crate::kept::keep_marked;
 use crate::lists::{gather_list, keep_list};
 use crate::marks::marks_of_tree;
-use crate::parts::word_of;
+use crate::members::{are_vectors, lists_of, word_of_member};
 use crate::sizes::size_of_list;
+use crate::vectors::common_of_vectors;
 use arena_api::Frozen;
 use attr_images::FIRST_VECTOR;
 use attr_index::Gathered;
-use attr_types::{DocList, Leaf, Query};
+use attr_types::{DocList, Query};
 use entry_ref::EntryRef;
 use std::alloc::{AllocError, Global};
 
-/// The documents that two trees have, by the bits of the first. None where these would be many more words than documents.
+/// Returns the documents that are in both trees, by a bit vector of the first. Returns `None` if the bit vector would
+/// need many more words than there are documents.
 fn common_in_trees<const OFFSET_BITS: u32, F: Frozen<OFFSET_BITS>>(
     alloc: Global,
     frozen: &mut F,
@@ -47,7 +48,8 @@ fn common_in_trees<const OFFSET_BITS: u32, F: Frozen<OFFSET_BITS>>(
     Ok(Some(common))
 }
 
-/// The documents that two lists have which are trees. None where one is not, or where the first is not to be marked.
+/// Returns the documents that are in both lists, if both are trees. Returns `None` if one is not, or if the first
+/// gets no bit vector.
 fn common_by_marks<const OFFSET_BITS: u32, F: Frozen<OFFSET_BITS>>(
     alloc: Global,
     frozen: &mut F,
@@ -75,7 +77,7 @@ fn common_by_marks<const OFFSET_BITS: u32, F: Frozen<OFFSET_BITS>>(
     )
 }
 
-/// The documents that two lists have, of which the second is no shorter.
+/// Returns the documents that are in both lists. The second must not be shorter.
 fn common_in_order<const OFFSET_BITS: u32, F: Frozen<OFFSET_BITS>>(
     alloc: Global,
     frozen: &mut F,
@@ -97,7 +99,7 @@ fn common_in_order<const OFFSET_BITS: u32, F: Frozen<OFFSET_BITS>>(
     keep_list(alloc, frozen, second, &docs)
 }
 
-/// The documents that two lists have, by the words that a dictionary keeps for them.
+/// Returns the documents that are in both lists, given the words that a dictionary stores for them.
 fn common_of_lists<const OFFSET_BITS: u32, F: Frozen<OFFSET_BITS>>(
     alloc: Global,
     frozen: &mut F,
@@ -111,6 +113,9 @@ fn common_of_lists<const OFFSET_BITS: u32, F: Frozen<OFFSET_BITS>>(
         && has (keys_of (postings_at (F.records frozen.old) (list_form other))) doc)) }
     ensures same { frozen.new ≡ frozen.old }
 {
+    if one >= FIRST_VECTOR && other >= FIRST_VECTOR {
+        return common_of_vectors(alloc, frozen, one, &[other]);
+    }
     if size_of_list(frozen, other) < size_of_list(frozen, one) {
         common_in_order(alloc, frozen, other, one)
     } else {
@@ -118,63 +123,54 @@ fn common_of_lists<const OFFSET_BITS: u32, F: Frozen<OFFSET_BITS>>(
     }
 }
 
-/// The word of the list of a leaf that is one value.
-fn word_of_leaf<const OFFSET_BITS: u32, F: Frozen<OFFSET_BITS>>(
+/// The documents that all of some lists have, if all are bit vectors.
+fn common_of_all<const OFFSET_BITS: u32, F: Frozen<OFFSET_BITS>>(
+    alloc: Global,
     frozen: &mut F,
-    dictionary: Dictionary<OFFSET_BITS>,
-    leaf: &Leaf,
-) -> Option<u64>
-    requires { IsIndexed dictionary.values (F.records frozen.old) dictionary.root }
-    ensures form { IsListWord (F.records frozen.old) result }
-    ensures docs { IfSome result (λ list. keys_of (postings_at (F.records frozen.old) (list_form list))
-        ≡ listed (meeting leaf.now (index_of dictionary.entry.values (F.records frozen.old) dictionary.entry.root))) }
+    lists: &[u64],
+) -> Result<Option<DocList>, AllocError>
+    requires { AreListWords (F.records frozen.old) lists.now }
+    ensures docs { IfOk result (λ common. IfSome common (λ docs. (0 < length lists.now)
+        × ((doc : ℕ) → has docs doc ≡ all_have (F.records frozen.old) lists.now doc))) }
     ensures same { frozen.new ≡ frozen.old }
 {
-    match leaf {
-        Leaf::Is(value) => word_of(frozen, dictionary.root, dictionary.values, value),
-        _ => None,
+    if lists.is_empty() || !are_vectors(lists) {
+        return Ok(None);
+    }
+    let common = common_of_vectors(alloc, frozen, lists[0], &lists[1..])?;
+    Ok(Some(common))
+}
+
+/// The documents that several members match which are one value each, if the lists of all are bit vectors.
+fn common_of_many<const OFFSET_BITS: u32, F: Frozen<OFFSET_BITS>>(
+    alloc: Global,
+    frozen: &mut F,
+    dictionaries: &[Dictionary<OFFSET_BITS>],
+    queries: &[Query],
+) -> Result<Option<DocList>, AllocError>
+    requires { AreIndexed OFFSET_BITS (F.records frozen.old) dictionaries.now }
+    ensures docs { IfOk result (λ common. IfSome common (λ docs. (doc : ℕ) → has docs doc
+        ≡ found (and (query_trees queries.now)) (indexes_in OFFSET_BITS (F.records frozen.old) dictionaries.now) doc)) }
+    ensures same { frozen.new ≡ frozen.old }
+{
+    match lists_of(alloc, frozen, dictionaries, queries, FIRST_VECTOR)? {
+        Some(lists) => common_of_all(alloc, frozen, lists.as_slice()),
+        None => Ok(None),
     }
 }
 
-/// The word of the list of a leaf in an attribute that is one value.
-fn word_of_one<const OFFSET_BITS: u32, F: Frozen<OFFSET_BITS>>(
-    frozen: &mut F,
-    dictionaries: &[Dictionary<OFFSET_BITS>],
-    field: u32,
-    leaf: &Leaf,
-) -> Option<u64>
-    requires { AreIndexed OFFSET_BITS (F.records frozen.old) dictionaries.now }
-    ensures form { IsListWord (F.records frozen.old) result }
-    ensures docs { IfSome result (λ list. (doc : ℕ) → has (keys_of (postings_at (F.records frozen.old) (list_form list))) doc
-        ≡ found (one field leaf.now) (indexes_in OFFSET_BITS (F.records frozen.old) dictionaries.now) doc) }
-    ensures same { frozen.new ≡ frozen.old }
-{
-    match dictionaries.get(field as usize) {
-        Some(dictionary) => word_of_leaf(frozen, *dictionary, leaf),
-        None => None,
-    }
-}
-
-/// The word of the list of a member that is one value.
-fn word_of_member<const OFFSET_BITS: u32, F: Frozen<OFFSET_BITS>>(
-    frozen: &mut F,
-    dictionaries: &[Dictionary<OFFSET_BITS>],
-    query: &Query,
-) -> Option<u64>
-    requires { AreIndexed OFFSET_BITS (F.records frozen.old) dictionaries.now }
-    ensures form { IsListWord (F.records frozen.old) result }
-    ensures docs { IfSome result (λ list. (doc : ℕ) → has (keys_of (postings_at (F.records frozen.old) (list_form list))) doc
-        ≡ found (tree_of query.now) (indexes_in OFFSET_BITS (F.records frozen.old) dictionaries.now) doc) }
-    ensures same { frozen.new ≡ frozen.old }
-{
+fn is_one_value(query: &Query) -> bool {
     match query {
-        Query::One { field, leaf } => word_of_one(frozen, dictionaries, *field, leaf),
-        _ => None,
+        Query::One { field: _, leaf } => match leaf {
+            Leaf::Is(_) => true,
+            _ => false,
+        },
+        _ => false,
     }
 }
 
-/// The documents that two members match which are one value each. None where there are others.
-pub fn common_of_two<const OFFSET_BITS: u32, F: Frozen<OFFSET_BITS>>(
+/// Returns the documents that two members match, if each is one value. Returns `None` if there are other members.
+fn common_of_two<const OFFSET_BITS: u32, F: Frozen<OFFSET_BITS>>(
     alloc: Global,
     frozen: &mut F,
     dictionaries: &[Dictionary<OFFSET_BITS>],
@@ -188,6 +184,12 @@ pub fn common_of_two<const OFFSET_BITS: u32, F: Frozen<OFFSET_BITS>>(
     let [one, other] = queries else {
         return Ok(None);
     };
+    if !is_one_value(one) {
+        return Ok(None);
+    }
+    if !is_one_value(other) {
+        return Ok(None);
+    }
     let Some(first) = word_of_member(frozen, dictionaries, one) else {
         return Ok(None);
     };
@@ -196,4 +198,24 @@ pub fn common_of_two<const OFFSET_BITS: u32, F: Frozen<OFFSET_BITS>>(
     };
     let common = common_of_lists(alloc, frozen, first, second)?;
     Ok(Some(common))
+}
+
+/// The documents that members match which are one value each. None where there are others, or where there are more than
+/// two and not all lists are bit vectors.
+pub fn common_of_values<const OFFSET_BITS: u32, F: Frozen<OFFSET_BITS>>(
+    alloc: Global,
+    frozen: &mut F,
+    dictionaries: &[Dictionary<OFFSET_BITS>],
+    queries: &[Query],
+) -> Result<Option<DocList>, AllocError>
+    requires { AreIndexed OFFSET_BITS (F.records frozen.old) dictionaries.now }
+    ensures docs { IfOk result (λ common. IfSome common (λ docs. (doc : ℕ) → has docs doc
+        ≡ found (and (query_trees queries.now)) (indexes_in OFFSET_BITS (F.records frozen.old) dictionaries.now) doc)) }
+    ensures same { frozen.new ≡ frozen.old }
+{
+    if queries.len() > 2 {
+        common_of_many(alloc, frozen, dictionaries, queries)
+    } else {
+        common_of_two(alloc, frozen, dictionaries, queries)
+    }
 }

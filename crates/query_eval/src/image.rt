@@ -1,4 +1,4 @@
-//! What the root record of an image names.
+//! The contents of an image's root record.
 ghost use Rattle.std.specs.Prelude.{◌≡◌, ◌≤◌, ◌<◌, ◌^◌, length, slice_index, IfOk};
 ghost use Rattle.attr_images.specs.Images.{root_words, table_of, IsLawfulImage};
 ghost use Rattle.attr_types.specs.declared.field.TheConstants.{MOST_FIELDS};
@@ -11,7 +11,7 @@ use entry_ref::EntryRef;
 use frozen_btree::total;
 use std::alloc::{AllocError, Global};
 
-/// The root that word `i` of the root record names.
+/// Returns the root in word `i` of the root record.
 pub fn root_at<const OFFSET_BITS: u32, F: Frozen<OFFSET_BITS>>(
     frozen: &mut F,
     root: EntryRef<OFFSET_BITS>,
@@ -29,7 +29,7 @@ pub fn root_at<const OFFSET_BITS: u32, F: Frozen<OFFSET_BITS>>(
     }
 }
 
-/// The dictionaries of the attributes.
+/// Returns the dictionaries of the attributes.
 pub fn dictionaries_of<const OFFSET_BITS: u32, F: Frozen<OFFSET_BITS>>(
     alloc: Global,
     frozen: &mut F,
@@ -52,7 +52,7 @@ pub fn dictionaries_of<const OFFSET_BITS: u32, F: Frozen<OFFSET_BITS>>(
     Ok(list)
 }
 
-/// How many documents an image has.
+/// Returns the number of documents of an image.
 pub fn documents<const OFFSET_BITS: u32, F: Frozen<OFFSET_BITS>>(
     frozen: &mut F,
     root: EntryRef<OFFSET_BITS>,

@@ -1,4 +1,4 @@
-//! Those of some documents that a posting tree has, by a bit vector of the documents up to the last of them.
+//! Filtering documents by a posting tree, with a bit vector up to the last document.
 ghost use Rattle.std.specs.Prelude.{◌≡◌, ◌||◌, ◌&&◌, ◌/◌, ◌<◌, ℕ, true, nat_eq, length, IfOk, IfSome, OnOk};
 ghost use Rattle.std.specs.List.{AllByRecursion};
 ghost use Rattle.std.specs.Map.{keys_of};
@@ -14,10 +14,10 @@ use entry_ref::EntryRef;
 use std::alloc::{AllocError, Global};
 use tree_read::{TakesKeys, take_keys};
 
-/// How many words a document may take of the bit vector.
+/// The greatest number of bit vector words per document.
 pub const MOST_SPARSE: usize = 16;
 
-/// How many words have a bit for each of some documents that ascend.
+/// Returns how many words have a bit for each of these ascending documents.
 fn words_for(docs: &[Doc]) -> usize {
     match docs.last() {
         Some(doc) => (doc.number() / 64) as usize + 1,
@@ -25,7 +25,7 @@ fn words_for(docs: &[Doc]) -> usize {
     }
 }
 
-/// Sets a document's bit, where it has one.
+/// Sets the bit of a document. Returns whether it has one.
 pub fn mark(words: &mut [u64], doc: Doc) -> bool
     ensures { result ≡ true → (other : ℕ) → in_words words.new other ≡ (in_words words.old other || nat_eq other doc) }
 {
@@ -38,7 +38,7 @@ pub fn mark(words: &mut [u64], doc: Doc) -> bool
     true
 }
 
-/// Sets the bits of documents, where all have one.
+/// Sets the bits of documents. Returns whether each has one.
 fn mark_each(words: &mut [u64], docs: &[Doc]) -> bool
     ensures { result ≡ true → (doc : ℕ) → in_words words.new doc ≡ (in_words words.old doc || has docs.now doc) }
 {
@@ -50,7 +50,8 @@ fn mark_each(words: &mut [u64], docs: &[Doc]) -> bool
     true
 }
 
-/// A bit vector of documents up to the last of them. None where it is much longer than they are, or where they don't ascend.
+/// Returns a bit vector of documents up to the last. Returns `None` if it would be much longer than the list, or if
+/// the documents do not ascend.
 pub fn marks_of(alloc: Global, docs: &[Doc]) -> Result<Option<Vec<u64>>, AllocError>
     ensures { IfOk result (λ marks. IfSome marks (λ words. (doc : ℕ) → in_words words.items doc ≡ has docs.now doc)) }
 {
@@ -126,7 +127,7 @@ impl TakesKeys for Kept {
         (has a.docs.items) (has b.docs.items) (has c.docs.items) xs ys first second };
 }
 
-/// Those of some documents in a bit vector that a tree has.
+/// Returns the documents of a bit vector that a tree has.
 pub fn keep_marked<const OFFSET_BITS: u32, F: Frozen<OFFSET_BITS>>(
     alloc: Global,
     frozen: &mut F,

@@ -1,8 +1,8 @@
 //! The documents that a query matches, and their scores by a dot product, from the records of an image.
 //!
-//! The documents of a leaf, or of all values, by a walk over a dictionary and its lists.
+//! The documents of a leaf, or of all values, are gathered by a walk over a dictionary and its posting lists.
 //!
-//! Scores of documents by a dot product of weights, by the dictionary and the lists of an attribute.
+//! Scores are computed from the dictionary and the posting lists of an attribute.
 #![tactic(auto)]
 
 mod answers;
@@ -11,20 +11,21 @@ mod common;
 mod dictionary;
 mod image;
 mod kept;
+mod kernels;
 mod lists;
 mod marks;
+mod members;
 mod parts;
 mod queries;
 mod sizes;
 mod starts;
 mod takers;
 mod values;
+mod vectors;
 mod walks;
 mod weights;
+mod words;
 
 pub use answers::{hits, scores};
 pub use image::documents;
-pub use lists::{gather_list, keep_list};
-pub use parts::{kept_with, scored, with_value, word_of};
-pub use values::is_of_type;
-pub use walks::{gather_every, gather_leaf};
+pub use kernels::{block_and, block_or};

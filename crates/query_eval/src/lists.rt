@@ -8,9 +8,9 @@ ghost use Rattle.attr_index.specs.Gathers.{is_gathered};
 ghost use Rattle.attr_index.specs.Postings.{HaveDocNumbers};
 ghost use Rattle.attr_index.specs.Sets.{has, in_words};
 
-use crate::blocks::gather_vector;
 use crate::kept::{keep_marked, marks_of};
 use crate::takers::{Inserted, Pushed};
+use crate::vectors::{gather_vector, kept_in_vector};
 use arena_api::Frozen;
 use array_store::count;
 use attr_images::{FIRST_VECTOR, MOST_SHORT};
@@ -21,10 +21,10 @@ use frozen_btree::total;
 use std::alloc::{AllocError, Global};
 use tree_read::take_keys;
 
-/// How many documents a list takes before it becomes a bit vector.
+/// A list with more documents than this becomes a bit vector.
 const MOST_FEW: usize = 1024;
 
-/// The number of the document in a word of a short list.
+/// Returns the document in a word of a short list.
 fn doc_of(word: u64) -> Doc
     requires { IsDocNumber (unpacked word).0 }
     ensures { result ≡ (unpacked word).0 }
@@ -51,7 +51,7 @@ fn insert_words(set: &mut DocSet, words: &[u64])
     }
 }
 
-/// The documents with those of the words of a short list.
+/// Adds the documents in the words of a short list to those gathered.
 fn with_words(alloc: Global, gathered: Gathered, words: &[u64]) -> Result<Gathered, AllocError>
     requires { HaveDocNumbers (map unpacked words.now) }
     ensures { IfOk result (λ all. (doc : ℕ) → is_gathered all doc
@@ -74,7 +74,7 @@ fn with_words(alloc: Global, gathered: Gathered, words: &[u64]) -> Result<Gather
     }
 }
 
-/// The documents with those of a short list.
+/// Adds the documents of a short list to those gathered.
 fn gather_short<const OFFSET_BITS: u32, F: Frozen<OFFSET_BITS>>(
     alloc: Global,
     frozen: &mut F,
@@ -93,7 +93,7 @@ fn gather_short<const OFFSET_BITS: u32, F: Frozen<OFFSET_BITS>>(
     with_words(alloc, gathered, words)
 }
 
-/// Few documents with those of a tree that has few.
+/// Adds the documents of a small tree to a list.
 fn push_tree<const OFFSET_BITS: u32, F: Frozen<OFFSET_BITS>>(
     frozen: &mut F,
     root: EntryRef<OFFSET_BITS>,
@@ -110,7 +110,7 @@ fn push_tree<const OFFSET_BITS: u32, F: Frozen<OFFSET_BITS>>(
     Ok(Gathered::Few(pushed.docs))
 }
 
-/// Documents in a bit vector with those of a tree.
+/// Adds the documents of a tree to a bit vector.
 fn insert_tree<const OFFSET_BITS: u32, F: Frozen<OFFSET_BITS>>(
     frozen: &mut F,
     root: EntryRef<OFFSET_BITS>,
@@ -127,7 +127,7 @@ fn insert_tree<const OFFSET_BITS: u32, F: Frozen<OFFSET_BITS>>(
     Ok(Gathered::Many(inserted.set))
 }
 
-/// Few documents with those of a tree.
+/// Adds the documents of a tree to a list.
 fn with_tree<const OFFSET_BITS: u32, F: Frozen<OFFSET_BITS>>(
     alloc: Global,
     frozen: &mut F,
@@ -149,7 +149,7 @@ fn with_tree<const OFFSET_BITS: u32, F: Frozen<OFFSET_BITS>>(
     insert_tree(frozen, root, set)
 }
 
-/// The documents with those of a list that is a tree.
+/// Adds the documents of a list that is a tree to those gathered.
 fn gather_tree<const OFFSET_BITS: u32, F: Frozen<OFFSET_BITS>>(
     alloc: Global,
     frozen: &mut F,
@@ -168,7 +168,7 @@ fn gather_tree<const OFFSET_BITS: u32, F: Frozen<OFFSET_BITS>>(
     }
 }
 
-/// The documents with those of a list, by the word that a dictionary keeps for it.
+/// Adds the documents of a list to those gathered, given the word that a dictionary stores for it.
 pub fn gather_list<const OFFSET_BITS: u32, F: Frozen<OFFSET_BITS>>(
     alloc: Global,
     frozen: &mut F,
@@ -182,12 +182,7 @@ pub fn gather_list<const OFFSET_BITS: u32, F: Frozen<OFFSET_BITS>>(
     ensures same { frozen.new ≡ frozen.old }
 {
     if list >= FIRST_VECTOR {
-        return gather_vector(
-            alloc,
-            frozen,
-            EntryRef::from_raw((list - FIRST_VECTOR) as u32),
-            gathered,
-        );
+        return gather_vector(alloc, frozen, list, gathered);
     }
     let list_root = EntryRef::from_raw((list / 2) as u32);
     if list % 2 == 0 {
@@ -197,7 +192,7 @@ pub fn gather_list<const OFFSET_BITS: u32, F: Frozen<OFFSET_BITS>>(
     }
 }
 
-/// Those of some documents that a list has which is a tree.
+/// Returns the documents of `docs` that are in a list that is a tree.
 fn keep_tree<const OFFSET_BITS: u32, F: Frozen<OFFSET_BITS>>(
     alloc: Global,
     frozen: &mut F,
@@ -219,7 +214,7 @@ fn keep_tree<const OFFSET_BITS: u32, F: Frozen<OFFSET_BITS>>(
     }
 }
 
-/// Those of some documents that a list has, by the word that a dictionary keeps for it.
+/// Returns the documents of `docs` that are in a list, given the word that a dictionary stores for it.
 pub fn keep_list<const OFFSET_BITS: u32, F: Frozen<OFFSET_BITS>>(
     alloc: Global,
     frozen: &mut F,
@@ -232,7 +227,10 @@ pub fn keep_list<const OFFSET_BITS: u32, F: Frozen<OFFSET_BITS>>(
         ≡ (has docs.now doc && has (keys_of (postings_at (F.records frozen.old) (list_form list))) doc)) }
     ensures same { frozen.new ≡ frozen.old }
 {
-    if list >= FIRST_VECTOR || list % 2 == 0 {
+    if list >= FIRST_VECTOR {
+        return kept_in_vector(alloc, frozen, list, docs);
+    }
+    if list % 2 == 0 {
         let own = gather_list(alloc, frozen, list, Gathered::new(alloc))?;
         return own.kept_of(alloc, docs);
     }

@@ -16,7 +16,7 @@ use frozen_btree::total;
 use std::alloc::{AllocError, Global};
 use tree_read::{FIRST_KEY, TakesKeys, read_head, take_keys};
 
-/// Sets the bits of keys, where all have one.
+/// Sets the bits of keys. Returns whether each has one.
 fn mark_keys(words: &mut [u64], keys: &[u64]) -> bool
     requires { AllByRecursion IsDocNumber keys.now }
     ensures { result ≡ true → Adds (in_words words.old) keys.now (in_words words.new) }
@@ -29,7 +29,7 @@ fn mark_keys(words: &mut [u64], keys: &[u64]) -> bool
     true
 }
 
-/// A bit vector to which the documents of a tree come, and whether each of them had a bit.
+/// A bit vector that receives the documents of a tree, and whether each of them had a bit.
 #[derive(Drop)]
 struct Marked {
     words: Vec<u64>,
@@ -61,7 +61,7 @@ impl TakesKeys for Marked {
         (in_words c.words.items) a.fits b.fits c.fits xs ys first second };
 }
 
-/// The key that stands last in the root of a tree, which is the last of the tree.
+/// Returns the last key in the root of a tree, which is the last key of the tree.
 fn last_key<const OFFSET_BITS: u32, F: Frozen<OFFSET_BITS>>(
     frozen: &mut F,
     root: EntryRef<OFFSET_BITS>,
@@ -73,7 +73,8 @@ fn last_key<const OFFSET_BITS: u32, F: Frozen<OFFSET_BITS>>(
     frozen.word(root, FIRST_KEY as u32 - 1 + used)
 }
 
-/// A bit vector of the documents of a tree up to the last of them. None where it is much longer than they are.
+/// Returns a bit vector of the documents of a tree up to the last. Returns `None` if it would be much longer than
+/// they are.
 pub fn marks_of_tree<const OFFSET_BITS: u32, F: Frozen<OFFSET_BITS>>(
     alloc: Global,
     frozen: &mut F,

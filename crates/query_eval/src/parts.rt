@@ -1,48 +1,24 @@
 //! The parts of a dot product, by a dictionary.
-ghost use Rattle.std.specs.Prelude.{◌≡◌, ◌≤◌, ◌||◌, ◌&&◌, ◌*ℤ◌, ◌^◌, ℕ, List, map, IfOk};
+ghost use Rattle.std.specs.Prelude.{◌≡◌, ◌≤◌, ◌*ℤ◌, ◌^◌, ℕ, List, map, IfOk};
 ghost use Rattle.std.specs.Int.RustNames.{unsigned_abs};
 ghost use Rattle.attr_images.specs.Postings.{index_of};
 ghost use Rattle.attr_index.specs.Changes.{HasItems};
-ghost use Rattle.attr_index.specs.Index.{list_of};
 ghost use Rattle.attr_types.specs.Scores.{score_of, weight_of};
 ghost use Rattle.attr_types.specs.declared.items.Item.{Item as AnyItem};
 ghost use Rattle.attr_index.specs.Gathers.{is_gathered};
-ghost use Rattle.attr_index.specs.Sets.{has, Holds};
-ghost use Rattle.std.specs.Map.{keys_of};
+ghost use Rattle.attr_index.specs.Sets.{Holds};
 ghost use Rattle.query_eval.specs.Parts.{IsIndexed};
-ghost use Rattle.query_eval.specs.Weights.{word_list, IsListWord, is_found};
+ghost use Rattle.query_eval.specs.Weights.{is_found};
 
 use crate::weights::weight_at;
-use crate::{gather_list, is_of_type, keep_list};
+use crate::words::{with_value, word_of};
 use arena_api::Frozen;
 use attr_index::Gathered;
-use attr_types::{Doc, DocList, Part, Score, ScoreList, Value, ValueType};
+use attr_types::{Doc, Part, Score, ScoreList, Value, ValueType};
 use entry_ref::EntryRef;
-use enum_dictionary::find;
 use std::alloc::{AllocError, Global};
 
-/// The word of a value's list, where the dictionary has the value.
-pub fn word_of<const OFFSET_BITS: u32, F: Frozen<OFFSET_BITS>>(
-    frozen: &mut F,
-    root: EntryRef<OFFSET_BITS>,
-    value_type: ValueType,
-    value: &Value,
-) -> Option<u64>
-    requires { IsIndexed value_type (F.records frozen.old) root }
-    ensures form { IsListWord (F.records frozen.old) result }
-    ensures list { word_list (F.records frozen.old) result ≡ list_of value.now (index_of value_type (F.records frozen.old) root.entry) }
-    ensures same { frozen.new ≡ frozen.old }
-{
-    if !is_of_type(value, value_type) {
-        return None;
-    }
-    match find(frozen, root, value) {
-        Some(entry) => Some(entry.posting),
-        None => None,
-    }
-}
-
-/// The documents with those that have the value of a part.
+/// Adds the documents that have the value of some part to those gathered.
 fn gather_parts<const OFFSET_BITS: u32, F: Frozen<OFFSET_BITS>>(
     alloc: Global,
     frozen: &mut F,
@@ -62,47 +38,7 @@ fn gather_parts<const OFFSET_BITS: u32, F: Frozen<OFFSET_BITS>>(
     Ok(all)
 }
 
-/// The documents with those that have a value.
-pub fn with_value<const OFFSET_BITS: u32, F: Frozen<OFFSET_BITS>>(
-    alloc: Global,
-    frozen: &mut F,
-    root: EntryRef<OFFSET_BITS>,
-    value_type: ValueType,
-    value: &Value,
-    gathered: Gathered,
-) -> Result<Gathered, AllocError>
-    requires { IsIndexed value_type (F.records frozen.old) root }
-    ensures docs { IfOk result (λ all. (doc : ℕ) → is_gathered all doc
-        ≡ (is_gathered gathered doc || has (keys_of (list_of value.now (index_of value_type (F.records frozen.old) root.entry))) doc)) }
-    ensures same { frozen.new ≡ frozen.old }
-{
-    match word_of(frozen, root, value_type, value) {
-        Some(list) => gather_list(alloc, frozen, list, gathered),
-        None => Ok(gathered),
-    }
-}
-
-/// Those of some documents that have a value.
-pub fn kept_with<const OFFSET_BITS: u32, F: Frozen<OFFSET_BITS>>(
-    alloc: Global,
-    frozen: &mut F,
-    root: EntryRef<OFFSET_BITS>,
-    value_type: ValueType,
-    value: &Value,
-    docs: &DocList,
-) -> Result<DocList, AllocError>
-    requires { IsIndexed value_type (F.records frozen.old) root }
-    ensures kept { IfOk result (λ kept. (doc : ℕ) → has kept doc
-        ≡ (has docs.now doc && has (keys_of (list_of value.now (index_of value_type (F.records frozen.old) root.entry))) doc)) }
-    ensures same { frozen.new ≡ frozen.old }
-{
-    match word_of(frozen, root, value_type, value) {
-        Some(list) => keep_list(alloc, frozen, list, docs),
-        None => Ok(DocList::new(alloc)),
-    }
-}
-
-/// The weight of a document's item with a value, 0 where it has none.
+/// Returns the weight of a document's item with a value, or 0 if it has none.
 fn weight_of_value<const OFFSET_BITS: u32, F: Frozen<OFFSET_BITS>>(
     frozen: &mut F,
     root: EntryRef<OFFSET_BITS>,
@@ -128,7 +64,7 @@ fn product(weight: i32, other: i32) -> i128
     i128::from(weight) * i128::from(other)
 }
 
-/// The score of a document.
+/// Returns the score of a document.
 fn score_at<const OFFSET_BITS: u32, F: Frozen<OFFSET_BITS>>(
     frozen: &mut F,
     root: EntryRef<OFFSET_BITS>,
@@ -149,7 +85,7 @@ fn score_at<const OFFSET_BITS: u32, F: Frozen<OFFSET_BITS>>(
     score
 }
 
-/// The documents of a list, each with its score.
+/// Returns the documents of a list, each with its score.
 fn scores_of<const OFFSET_BITS: u32, F: Frozen<OFFSET_BITS>>(
     alloc: Global,
     frozen: &mut F,
@@ -172,7 +108,7 @@ fn scores_of<const OFFSET_BITS: u32, F: Frozen<OFFSET_BITS>>(
     Ok(list)
 }
 
-/// The documents that have the value of some part, ascending, each with its score.
+/// Returns the documents that have the value of some part, ascending, each with its score.
 pub fn scored<const OFFSET_BITS: u32, F: Frozen<OFFSET_BITS>>(
     alloc: Global,
     frozen: &mut F,

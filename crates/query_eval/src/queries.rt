@@ -1,4 +1,4 @@
-//! A query, by the dictionaries of the attributes.
+//! Queries, by the dictionaries of the attributes.
 ghost use Rattle.std.specs.Prelude.{◌≡◌, ◌||◌, ◌&&◌, ℕ, IfOk, slice_get};
 ghost use Rattle.attr_types.specs.Query.{tree_of, query_trees, and, or, one};
 ghost use Rattle.attr_index.specs.Gathers.{is_gathered};
@@ -9,16 +9,18 @@ ghost use Rattle.query_eval.specs.Parts.{IsIndexed};
 ghost use Rattle.attr_images.specs.Postings.{index_of};
 ghost use Rattle.query_eval.specs.Indexes.{AreIndexed, AreMatched, IsMatched, indexes_in};
 
-use crate::common::common_of_two;
+use crate::common::common_of_values;
 use crate::dictionary::Dictionary;
+use crate::members::{gather_lists, lists_of};
 use crate::sizes::shortest_of;
-use crate::{gather_every, gather_leaf, kept_with, with_value};
+use crate::walks::{gather_every, gather_leaf};
+use crate::words::{kept_with, with_value};
 use arena_api::Frozen;
 use attr_index::Gathered;
 use attr_types::{DocList, Leaf, Query};
 use std::alloc::{AllocError, Global};
 
-/// The documents with those that have some value in some attribute.
+/// Adds the documents that have a value in some attribute to those gathered.
 fn gather_listed<const OFFSET_BITS: u32, F: Frozen<OFFSET_BITS>>(
     alloc: Global,
     frozen: &mut F,
@@ -37,7 +39,8 @@ fn gather_listed<const OFFSET_BITS: u32, F: Frozen<OFFSET_BITS>>(
     Ok(all)
 }
 
-/// The documents with those that meet a leaf by a dictionary. One value is looked up, and others are walked along.
+/// Adds the documents that meet a leaf, by a dictionary, to those gathered. A single value is looked up; a range of
+/// values is walked.
 fn gather_meeting<const OFFSET_BITS: u32, F: Frozen<OFFSET_BITS>>(
     alloc: Global,
     frozen: &mut F,
@@ -57,7 +60,7 @@ fn gather_meeting<const OFFSET_BITS: u32, F: Frozen<OFFSET_BITS>>(
     }
 }
 
-/// The documents with those of a leaf in an attribute.
+/// Adds the documents of a leaf in an attribute to those gathered.
 fn gather_one<const OFFSET_BITS: u32, F: Frozen<OFFSET_BITS>>(
     alloc: Global,
     frozen: &mut F,
@@ -77,7 +80,7 @@ fn gather_one<const OFFSET_BITS: u32, F: Frozen<OFFSET_BITS>>(
     }
 }
 
-/// Those of some documents that meet a leaf by a dictionary.
+/// Returns the documents of `docs` that meet a leaf, by a dictionary.
 fn kept_meeting<const OFFSET_BITS: u32, F: Frozen<OFFSET_BITS>>(
     alloc: Global,
     frozen: &mut F,
@@ -100,7 +103,7 @@ fn kept_meeting<const OFFSET_BITS: u32, F: Frozen<OFFSET_BITS>>(
     }
 }
 
-/// Those of some documents that meet a leaf in an attribute.
+/// Returns the documents of `docs` that meet a leaf in an attribute.
 fn kept_one<const OFFSET_BITS: u32, F: Frozen<OFFSET_BITS>>(
     alloc: Global,
     frozen: &mut F,
@@ -120,7 +123,7 @@ fn kept_one<const OFFSET_BITS: u32, F: Frozen<OFFSET_BITS>>(
     }
 }
 
-/// The documents with those that a query matches.
+/// Adds the documents that a query matches to those gathered.
 #[cycle(gathering)]
 fn gather<const OFFSET_BITS: u32, F: Frozen<OFFSET_BITS>>(
     alloc: Global,
@@ -148,9 +151,30 @@ fn gather<const OFFSET_BITS: u32, F: Frozen<OFFSET_BITS>>(
     }
 }
 
-/// The documents with those that some member matches.
+/// The documents with those that some member matches. Values are looked up, and then their lists are read.
 #[cycle(gathering)]
 fn gather_some<const OFFSET_BITS: u32, F: Frozen<OFFSET_BITS>>(
+    alloc: Global,
+    frozen: &mut F,
+    dictionaries: &[Dictionary<OFFSET_BITS>],
+    queries: &Vec<Query>,
+    gathered: Gathered,
+) -> Result<Gathered, AllocError>
+    requires { AreIndexed OFFSET_BITS (F.records frozen.old) dictionaries.now }
+    ensures docs { IfOk result (λ all. (doc : ℕ) → is_gathered all doc
+        ≡ (is_gathered gathered doc || found (or (query_trees queries.now.items))
+        (indexes_in OFFSET_BITS (F.records frozen.old) dictionaries.now) doc)) }
+    ensures same { frozen.new ≡ frozen.old }
+{
+    match lists_of(alloc, frozen, dictionaries, queries.as_slice(), 0)? {
+        Some(lists) => gather_lists(alloc, frozen, lists.as_slice(), gathered),
+        None => gather_each(alloc, frozen, dictionaries, queries, gathered),
+    }
+}
+
+/// The documents with those that some member matches, member by member.
+#[cycle(gathering)]
+fn gather_each<const OFFSET_BITS: u32, F: Frozen<OFFSET_BITS>>(
     alloc: Global,
     frozen: &mut F,
     dictionaries: &[Dictionary<OFFSET_BITS>],
@@ -170,7 +194,7 @@ fn gather_some<const OFFSET_BITS: u32, F: Frozen<OFFSET_BITS>>(
     Ok(all)
 }
 
-/// The documents that a query matches, ascending.
+/// Returns the documents that a query matches, ascending.
 #[cycle(gathering)]
 pub fn matching<const OFFSET_BITS: u32, F: Frozen<OFFSET_BITS>>(
     alloc: Global,
@@ -187,7 +211,8 @@ pub fn matching<const OFFSET_BITS: u32, F: Frozen<OFFSET_BITS>>(
     all.into_list(alloc)
 }
 
-/// Those of some documents that member `i` matches, which are all where it is the member that is known to match them.
+/// Returns the documents of `docs` that member `i` matches. If it is the member that they are known to match, these
+/// are all.
 #[cycle(gathering)]
 fn kept<const OFFSET_BITS: u32, F: Frozen<OFFSET_BITS>>(
     alloc: Global,
@@ -217,7 +242,7 @@ fn kept<const OFFSET_BITS: u32, F: Frozen<OFFSET_BITS>>(
     }
 }
 
-/// The documents with those that all members match. Two that are one value each are answered by their lists.
+/// The documents with those that all members match. Those that are one value each may be answered by their lists.
 #[cycle(gathering)]
 fn gather_and<const OFFSET_BITS: u32, F: Frozen<OFFSET_BITS>>(
     alloc: Global,
@@ -232,13 +257,14 @@ fn gather_and<const OFFSET_BITS: u32, F: Frozen<OFFSET_BITS>>(
         (indexes_in OFFSET_BITS (F.records frozen.old) dictionaries.now) doc)) }
     ensures same { frozen.new ≡ frozen.old }
 {
-    match common_of_two(alloc, frozen, dictionaries, queries.as_slice())? {
+    match common_of_values(alloc, frozen, dictionaries, queries.as_slice())? {
         Some(common) => gathered.with_docs(alloc, common.as_slice()),
         None => gather_common(alloc, frozen, dictionaries, queries, gathered),
     }
 }
 
-/// The documents with those that all members match. It begins with the member that has the fewest as far as is known.
+/// Adds the documents that all members match to those gathered. Begins with the member that has the fewest documents,
+/// as far as known.
 #[cycle(gathering)]
 fn gather_common<const OFFSET_BITS: u32, F: Frozen<OFFSET_BITS>>(
     alloc: Global,
@@ -264,7 +290,7 @@ fn gather_common<const OFFSET_BITS: u32, F: Frozen<OFFSET_BITS>>(
     }
 }
 
-/// Those of some documents that all members match, of which one is known to match them. It ends with the member that leaves none.
+/// Filters `docs` by every member except `known`, which they all match. Stops when none remain.
 #[cycle(gathering)]
 fn keep_common<const OFFSET_BITS: u32, F: Frozen<OFFSET_BITS>>(
     alloc: Global,

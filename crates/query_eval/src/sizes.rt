@@ -1,11 +1,11 @@
-//! Which member of an And has the fewest documents, as far as dictionaries and the heads of lists tell.
+//! Which member of an `And` has the fewest documents, as far as dictionaries and the heads of lists tell.
 ghost use Rattle.std.specs.Prelude.{◌≡◌, ◌<◌, length};
 ghost use Rattle.attr_images.specs.Postings.{list_form, IsPostingList};
 ghost use Rattle.query_eval.specs.Parts.{IsIndexed};
 ghost use Rattle.query_eval.specs.Indexes.{AreIndexed};
 
 use crate::dictionary::Dictionary;
-use crate::word_of;
+use crate::words::word_of;
 use arena_api::Frozen;
 use array_store::count;
 use attr_images::FIRST_VECTOR;
@@ -13,7 +13,7 @@ use attr_types::{Leaf, Query, Value, ValueType};
 use entry_ref::EntryRef;
 use frozen_btree::total;
 
-/// How many documents a list has, and of a bit vector how many it may have.
+/// Returns the number of documents of a list, or an upper bound for a bit vector.
 pub fn size_of_list<const OFFSET_BITS: u32, F: Frozen<OFFSET_BITS>>(
     frozen: &mut F,
     list: u64,
@@ -47,7 +47,7 @@ fn size_of_value<const OFFSET_BITS: u32, F: Frozen<OFFSET_BITS>>(
     }
 }
 
-/// A leaf of one value has the size of its list; others may have any.
+/// Returns the size of the list for a leaf of one value, and no bound for other leaves.
 fn size_of_leaf<const OFFSET_BITS: u32, F: Frozen<OFFSET_BITS>>(
     frozen: &mut F,
     dictionary: Dictionary<OFFSET_BITS>,
@@ -95,7 +95,7 @@ fn size_of<const OFFSET_BITS: u32, F: Frozen<OFFSET_BITS>>(
     }
 }
 
-/// The number of the member with the fewest documents as far as is known, and of the first of several.
+/// Returns the index of the member with the fewest documents, as far as known, and the first of several.
 pub fn shortest_of<const OFFSET_BITS: u32, F: Frozen<OFFSET_BITS>>(
     frozen: &mut F,
     dictionaries: &[Dictionary<OFFSET_BITS>],

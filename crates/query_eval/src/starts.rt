@@ -16,8 +16,8 @@ use enum_dictionary::lower;
 use frozen_btree::Cursor;
 use std::alloc::{AllocError, Global};
 
-/// Before the first value that is not below one sought. A value of another type is not looked for, and the walk
-/// begins at the first.
+/// Returns a cursor before the first value that is not below a value. If the value has another type, the cursor is
+/// before the first value.
 fn start_at<const OFFSET_BITS: u32, F: Frozen<OFFSET_BITS>>(
     frozen: &mut F,
     root: EntryRef<OFFSET_BITS>,
@@ -39,7 +39,7 @@ fn start_at<const OFFSET_BITS: u32, F: Frozen<OFFSET_BITS>>(
     }
 }
 
-/// Before the first text that is not below a prefix.
+/// Returns a cursor before the first text that is not below a prefix.
 fn start_at_text<const OFFSET_BITS: u32, F: Frozen<OFFSET_BITS>>(
     frozen: &mut F,
     root: EntryRef<OFFSET_BITS>,
@@ -58,7 +58,7 @@ fn start_at_text<const OFFSET_BITS: u32, F: Frozen<OFFSET_BITS>>(
     Ok(start_at(frozen, root, value_type, &low))
 }
 
-/// Before the value that a leaf seeks, or before the first.
+/// Returns a cursor before the value that a leaf seeks, or before the first value.
 pub fn start_of<const OFFSET_BITS: u32, F: Frozen<OFFSET_BITS>>(
     frozen: &mut F,
     root: EntryRef<OFFSET_BITS>,

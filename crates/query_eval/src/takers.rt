@@ -1,4 +1,4 @@
-//! What takes the keys of a posting tree, which are its documents.
+//! Receivers of the keys of a posting tree, which are its documents.
 ghost use Rattle.std.specs.Prelude.{OnOk};
 ghost use Rattle.std.specs.List.{AllByRecursion};
 ghost use Rattle.attr_types.specs.Lawful.{IsDocNumber};
@@ -29,7 +29,7 @@ fn insert_keys(set: &mut DocSet, keys: &[u64])
     }
 }
 
-/// Documents in a list, to which those of a tree come.
+/// A list that receives the documents of a tree.
 #[derive(Drop)]
 pub struct Pushed {
     pub docs: Vec<Doc>,
@@ -55,7 +55,7 @@ impl TakesKeys for Pushed {
         adds_joined (has a.docs.items) (has b.docs.items) (has c.docs.items) xs ys first second };
 }
 
-/// Documents in a bit vector, to which those of a tree come.
+/// A bit vector that receives the documents of a tree.
 #[derive(Drop)]
 pub struct Inserted {
     pub set: DocSet,

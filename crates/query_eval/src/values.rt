@@ -1,4 +1,4 @@
-//! Where a value stands that is stored.
+//! Where a stored value is relative to the values that meet a leaf.
 ghost use Rattle.std.specs.Prelude.{◌≡◌, IfOk};
 ghost use Rattle.attr_images.specs.Values.{stored_value, IsValueRecord};
 ghost use Rattle.attr_types.specs.Fitting.{is_of_type as fits_type};
@@ -11,7 +11,7 @@ use entry_ref::EntryRef;
 use std::alloc::{AllocError, Global};
 use unique_store::get;
 
-/// Whether a value is of a type.
+/// Returns whether a value has a type.
 pub fn is_of_type(value: &Value, value_type: ValueType) -> bool
     ensures { result ≡ fits_type value_type value.now }
 {
@@ -21,7 +21,7 @@ pub fn is_of_type(value: &Value, value_type: ValueType) -> bool
     }
 }
 
-/// The value whose record is a key.
+/// Returns the value whose record is a key.
 fn value_at<const OFFSET_BITS: u32, F: Frozen<OFFSET_BITS>>(
     alloc: Global,
     frozen: &mut F,
@@ -35,7 +35,7 @@ fn value_at<const OFFSET_BITS: u32, F: Frozen<OFFSET_BITS>>(
     get(alloc, frozen, EntryRef::from_raw(key as u32), value_type)
 }
 
-/// Whether the value whose record is a key stands before those that meet a leaf.
+/// Returns whether the value of a key is before those that meet a leaf.
 pub fn is_before_at<const OFFSET_BITS: u32, F: Frozen<OFFSET_BITS>>(
     alloc: Global,
     frozen: &mut F,
@@ -51,7 +51,7 @@ pub fn is_before_at<const OFFSET_BITS: u32, F: Frozen<OFFSET_BITS>>(
     Ok(is_before(leaf, &value))
 }
 
-/// Whether the value whose record is a key, and which is not before, stands behind those that meet a leaf.
+/// Returns whether the value of a key, which must not be before those that meet a leaf, is after them.
 pub fn is_beyond_at<const OFFSET_BITS: u32, F: Frozen<OFFSET_BITS>>(
     alloc: Global,
     frozen: &mut F,

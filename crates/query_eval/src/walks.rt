@@ -1,4 +1,4 @@
-//! The documents of the values from a place in a dictionary on.
+//! The documents of the values from a position in a dictionary on.
 ghost use Rattle.std.specs.Prelude.{◌≡◌, ◌||◌, ℕ, IfOk, OnOk};
 ghost use Rattle.tree_read.specs.SearchPlaces.{IsAt, pairs_from};
 ghost use Rattle.attr_images.specs.Postings.{index_of};
@@ -17,7 +17,7 @@ use entry_ref::EntryRef;
 use frozen_btree::Cursor;
 use std::alloc::{AllocError, Global};
 
-/// Goes on behind the values before the leaf's.
+/// Moves past the values before those of the leaf.
 fn skip_before<const OFFSET_BITS: u32, F: Frozen<OFFSET_BITS>>(
     alloc: Global,
     frozen: &mut F,
@@ -42,7 +42,8 @@ fn skip_before<const OFFSET_BITS: u32, F: Frozen<OFFSET_BITS>>(
     Ok(())
 }
 
-/// The documents with those of the values from here on, up to the first that is beyond the leaf's.
+/// Adds the documents of the values from the cursor on, up to the first value after those of the leaf, to those
+/// gathered.
 fn gather_from<const OFFSET_BITS: u32, F: Frozen<OFFSET_BITS>>(
     alloc: Global,
     frozen: &mut F,
@@ -69,7 +70,7 @@ fn gather_from<const OFFSET_BITS: u32, F: Frozen<OFFSET_BITS>>(
     Ok(all)
 }
 
-/// The documents with those of the values that meet a leaf.
+/// Adds the documents of the values that meet a leaf to those gathered.
 pub fn gather_leaf<const OFFSET_BITS: u32, F: Frozen<OFFSET_BITS>>(
     alloc: Global,
     frozen: &mut F,
@@ -88,7 +89,7 @@ pub fn gather_leaf<const OFFSET_BITS: u32, F: Frozen<OFFSET_BITS>>(
     gather_from(alloc, frozen, &mut cursor, value_type, leaf, gathered)
 }
 
-/// The documents with those of all values.
+/// Adds the documents of all values to those gathered.
 pub fn gather_every<const OFFSET_BITS: u32, F: Frozen<OFFSET_BITS>>(
     alloc: Global,
     frozen: &mut F,

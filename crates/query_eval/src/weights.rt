@@ -52,7 +52,7 @@ fn weight_in_tree<const OFFSET_BITS: u32, F: Frozen<OFFSET_BITS>>(
     }
 }
 
-/// 1 where the bit is set.
+/// Returns 1 if the bit is set, otherwise 0.
 fn weight_of_bit(word: u64, bit: u32) -> i32
     requires { bit < 64 }
     ensures { result ≡ (if nat_eq (bit_at word bit) 1 then pos 1 else pos 0) }
@@ -60,7 +60,7 @@ fn weight_of_bit(word: u64, bit: u32) -> i32
     if (word >> bit) & 1 == 1 { 1 } else { 0 }
 }
 
-/// In a bit vector each document has weight 1.
+/// Returns the weight of a document in a bit vector, where each document has weight 1.
 fn weight_in_vector<const OFFSET_BITS: u32, F: Frozen<OFFSET_BITS>>(
     frozen: &mut F,
     root: EntryRef<OFFSET_BITS>,
@@ -80,7 +80,7 @@ fn weight_in_vector<const OFFSET_BITS: u32, F: Frozen<OFFSET_BITS>>(
     }
 }
 
-/// The weight of a document in a list, 0 where it is not there.
+/// Returns the weight of a document in a list, or 0 if the list lacks it.
 pub fn weight_at<const OFFSET_BITS: u32, F: Frozen<OFFSET_BITS>>(
     frozen: &mut F,
     list: u64,

@@ -1,4 +1,4 @@
--- What is read of a text: what it asks for, or its refusal.
+-- How a text is read: what it asks for, or its refusal.
 use Rattle.std.specs.Prelude.{◌≡◌, ℕ, nat_lt, max, List, length, if◌then◌else◌, Option, Some, None, slice_get, unwrap_or, Result, Ok, Err}
 use Rattle.attr_types.specs.declared.field.Field.{Field}
 use Rattle.attr_types.specs.declared.error.QueryError.{QueryError}
@@ -31,7 +31,7 @@ hits_checked fields text survey = if survey.right
 abbrev pub hits_judged : List Field → List ℕ → Survey → Result AskTree QueryError
 hits_judged fields text survey = unless_unknown survey.unknown (hits_checked fields text survey)
 
--- what is read of a text as a query
+-- how a text is read as a query
 abbrev pub query_if : List Field → List ℕ → Result Survey ℕ → Result AskTree QueryError
 query_if fields text (Err place) = Err (Syntax place)
 query_if fields text (Ok survey) = hits_judged fields text survey
@@ -73,7 +73,7 @@ dot_judged fields text (Some number) survey = dot_checked fields text number sur
 
 -- ---- either
 
--- a text that is no query is a dot product, or stops being either at the later of two places
+-- a text that is not a query is read as a dot product; if it is neither, the later of the two places is reported
 abbrev pub dot_if : List Field → List ℕ → ℕ → Result DotSurvey ℕ → Result AskTree QueryError
 dot_if fields text place (Err other) = Err (Syntax (max place other))
 dot_if fields text place (Ok survey) = dot_judged fields text survey.found survey
@@ -82,11 +82,11 @@ abbrev pub ask_if : List Field → List ℕ → Result Survey ℕ → Result Ask
 ask_if fields text (Err place) = dot_if fields text place (dot_surveyed fields text)
 ask_if fields text (Ok survey) = hits_judged fields text survey
 
--- what is read of a text with these attributes
+-- how a text is read with these attributes
 unfoldable pub ask_of : List Field → List ℕ → Result AskTree QueryError
 ask_of fields text = ask_if fields text (surveyed fields text)
 
--- what was returned is what the text asks for, unless memory ran out
+-- the result is what the text asks for, unless memory was exhausted
 abbrev pub RefusesBy : QueryError → Result AskTree QueryError → Type 0
 RefusesBy Memory said = Unit {0}
 RefusesBy (Syntax place) said = said ≡ Err (Syntax place)

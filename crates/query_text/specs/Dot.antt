@@ -1,4 +1,4 @@
--- What the text of a dot product has shown after each of its bytes, and its parts.
+-- What the text of a dot product shows after each of its bytes, and its parts.
 use Rattle.std.specs.Prelude.{ℕ, zero, suc, ◌^◌, ◌==◌, Bool, true, false, ◌&&◌, nat_lt, nat_le, int_le, int_lt, pos, neg_ℤ, ℤ}
 use Rattle.std.specs.Prelude.{List, [], ◌∷◌, take, if◌then◌else◌, Option, Some, None, option_map, unwrap_or, Result}
 use Rattle.attr_types.specs.declared.field.Field.{Field}
@@ -29,7 +29,7 @@ abbrev pub is_dot : Spell → Bool
 is_dot spells.Dot = true
 is_dot _ = false
 
--- the byte that a name or `dot` may begin with
+-- the first byte of a name or of `dot`
 abbrev pub head_begun : ℕ → Option DotMode
 head_begun byte = if begins_name byte then Some (Name (spell_begun byte)) else None
 
@@ -39,7 +39,7 @@ head_next spell byte = if continues_name byte then Some (Name (spell_next spell 
     else (if byte == 58 then Some Named
     else (if is_dot spell && (byte == 40) then Some dots.Part else None))
 
--- a value or a weight that goes on
+-- a value or a weight that continues
 abbrev pub value_more : Mode → ℕ → Option Mode
 value_more (modes.Quoted role) byte = None
 value_more mode byte = next_mode false mode byte
@@ -64,7 +64,7 @@ dot_next Colon byte = option_map Weight (number_begun roles.Alone byte)
 dot_next (Weight mode) byte = after_weight mode byte
 dot_next Ended byte = None
 
--- the attribute that is spoken of, by the name before this place; without one it is attribute 0
+-- the attribute that is meant, by the name before this place; without a name it is attribute 0
 abbrev pub found_after : List Field → List ℕ → Option ℕ → DotMode → Option ℕ
 found_after fields name found Named = field_named fields name
 found_after fields name found _ = found
@@ -113,7 +113,7 @@ has_ended _ = false
 abbrev pub dot_is_ended : DotSurvey → Bool
 dot_is_ended survey = has_ended survey.mode
 
--- the survey of the whole text, or the place where no dot product goes on
+-- the survey of the whole text, or the place at which no dot product continues
 abbrev pub dot_surveyed : List Field → List ℕ → Result DotSurvey ℕ
 dot_surveyed fields text = run_from (dot_after fields text) dot_is_ended dot_start 0 text
 
@@ -143,7 +143,7 @@ abbrev pub part_listed : Option (Part × List ℕ) → (List ℕ → Option (Lis
 part_listed None others = None
 part_listed (Some found) others = part_marked found.0 (mark_front found.1) others
 
--- so many parts at most, up to the closing bracket
+-- at most this many parts, up to the closing bracket
 unfoldable pub parts_front : ℕ → List ℕ → Option (List Part)
 parts_front zero bytes = None
 parts_front (suc n) bytes = part_listed (part_front bytes) (parts_front n)

@@ -1,4 +1,4 @@
--- The grammar of query words: the one text that each word is written as, which words have one, and what each asks for.
+-- The grammar of query words: the one text of each word, which words have a text, and what each asks for.
 use Rattle.std.specs.Prelude.{◌≡◌, ◌<◌, ◌≤◌, ℕ, ℤ, pos, negsuc, ◌+◌, ◌^◌, ◌==◌, Bool, true, false, ◌&&◌, ◌||◌, nat_lt}
 use Rattle.std.specs.Prelude.{nat_le, max, List, [], ◌∷◌, ◌++◌, map, length, take, codes, slice_get, if◌then◌else◌, Option, Some, None}
 use Rattle.std.specs.Prelude.{option_to_list, unwrap_or, Result, Ok, Err}
@@ -24,9 +24,9 @@ use Rattle.attr_types.specs.Scores.{AskTree, hits_of, dot_of, ask_tree}
 use Rattle.attr_types.specs.declared.ask.Ask.{Ask}
 use Rattle.attr_types.specs.declared.part.Part.{Part}
 
--- ---- what is written
+-- ---- words
 
--- a query as it is written: a leaf may have a name before it
+-- a query as written: a leaf may have a name before it
 mutual
   pub data NamedTree : Type 0 where
     one : Option (List ℕ) → Leaf → NamedTree
@@ -42,9 +42,9 @@ pub data Word : Type 0 where
   whole_query : NamedTree → Word
   dot_product : Option (List ℕ) → List Part → Word
 
--- ---- its text
+-- ---- texts of words
 
--- the decimal digits of a number, with no leading zero
+-- the decimal digits of a number, without leading zeros
 unfoldable pub numeral : ℕ → List ℕ
 numeral n = if n == 0 then codes "0" else map (λ digit. 48 + digit) (digits_of 10 n)
 
@@ -53,7 +53,7 @@ abbrev pub number_text : ℤ → List ℕ
 number_text (pos n) = numeral n
 number_text (negsuc n) = codes "-" ++ numeral (n + 1)
 
--- a byte inside a text, where `"` and `\` stand behind a `\`
+-- a byte inside a text; `"` and `\` follow a `\`
 abbrev pub escaped : ℕ → List ℕ
 escaped byte = if (byte == 34) || (byte == 92) then 92 ∷ byte ∷ [] else byte ∷ []
 
@@ -76,12 +76,12 @@ leaf_text (Range low high) = codes "[" ++ option_text low ++ codes ";" ++ option
 leaf_text (Below value) = codes "<" ++ value_text value
 leaf_text (Above value) = codes ">" ++ value_text value
 
--- the name before a leaf or a dot product, where there is one
+-- the name before a leaf or a dot product, if any
 abbrev pub name_text : Option (List ℕ) → List ℕ
 name_text None = []
 name_text (Some name) = name ++ codes ":"
 
--- the members of a list stand between commas
+-- the members of a list are separated by commas
 abbrev mutual
   pub tree_text : NamedTree → List ℕ
   tree_text (one name leaf) = name_text name ++ leaf_text leaf
@@ -99,7 +99,7 @@ abbrev mutual
 abbrev pub part_text : Part → List ℕ
 part_text part = value_text part.value ++ codes ":" ++ number_text part.weight
 
--- so do the parts of a dot product
+-- the parts of a dot product are separated in the same way
 abbrev pub parts_text : List Part → List ℕ
 parts_text [] = []
 parts_text (part ∷ []) = part_text part
@@ -109,13 +109,13 @@ abbrev pub word_text : Word → List ℕ
 word_text (whole_query query) = tree_text query
 word_text (dot_product name parts) = name_text name ++ codes "dot(" ++ parts_text parts ++ codes ")"
 
--- ---- which words have a text
+-- ---- words that have a text
 
 abbrev pub IsFormedName : Option (List ℕ) → Type 0
 IsFormedName None = Unit {0}
 IsFormedName (Some name) = is_name name ≡ true
 
--- the ends of a range are of one type
+-- the ends of a range have the same type
 abbrev pub HaveOneType : Option Value → Option Value → Type 0
 HaveOneType None high = Unit {0}
 HaveOneType (Some low) None = Unit {0}
@@ -147,7 +147,7 @@ abbrev pub IsFormedWord : Word → Type 0
 IsFormedWord (whole_query query) = IsFormed query
 IsFormedWord (dot_product name parts) = IsFormedName name × (0 < length parts)
 
--- the words that a parser reads: any, or queries alone
+-- the words that a parser reads: all, or only queries
 pub data Words : Type 0 where
   any_word : Words
   queries : Words
@@ -157,15 +157,15 @@ IsAmong any_word word = Unit {0}
 IsAmong queries (whole_query query) = Unit {0}
 IsAmong queries (dot_product name parts) = ⊥
 
--- the text is this word, of any depth and with numbers and texts of any size
+-- the text is this word, which may have any depth, and numbers and texts of any size
 pub record IsWordText (words : Words) (text : List ℕ) (word : Word) : Type 0 where
   pub among : IsAmong words word
   pub formed : IsFormedWord word
   pub written : text ≡ word_text word
 
--- ---- what it speaks of
+-- ---- names
 
--- the number of the attribute that is named; without a name it is attribute 0
+-- the number of the attribute with the name; without a name it is attribute 0
 abbrev pub field_of : List Field → Option (List ℕ) → Option ℕ
 field_of fields None = Some 0
 field_of fields (Some name) = field_named fields name
@@ -173,7 +173,7 @@ field_of fields (Some name) = field_named fields name
 abbrev pub field_number : List Field → Option (List ℕ) → ℕ
 field_number fields name = unwrap_or (field_of fields name) 0
 
--- the type of an attribute; there is none without one
+-- the type of an attribute; a missing attribute has none
 abbrev pub type_of_field : Option Field → ValueType
 type_of_field (Some field) = field.value
 type_of_field None = types.Long
@@ -186,12 +186,12 @@ is_weighted_kind WeightedSet = true
 is_weighted_kind Array = false
 is_weighted_kind Single = false
 
--- the attribute is there, and a weighted set
+-- the attribute exists and is a weighted set
 abbrev pub is_weighted : Option Field → Bool
 is_weighted (Some field) = is_weighted_kind field.kind
 is_weighted None = false
 
--- the query over the attributes' numbers
+-- the query over the numbers of the attributes
 abbrev mutual
   pub resolved : List Field → NamedTree → trees.QueryTree
   resolved fields (one name leaf) = trees.one (field_number fields name) leaf
@@ -208,12 +208,12 @@ asked_by fields (dot_product name parts) = dot_of (field_number fields name) par
 
 -- ---- the checks
 
--- the place of the first of two, if there is one
+-- the place of the first of two, if any
 abbrev pub first_found : Option ℕ → Option ℕ → Option ℕ
 first_found (Some first) second = Some first
 first_found None second = second
 
--- the place where a name begins, if it is none of the attributes
+-- the place where a name begins, if it is not the name of an attribute
 abbrev pub unknown_if : ℕ → Option ℕ → Option ℕ
 unknown_if place (Some number) = None
 unknown_if place None = Some place
@@ -221,7 +221,7 @@ unknown_if place None = Some place
 abbrev pub unknown_name : List Field → ℕ → Option (List ℕ) → Option ℕ
 unknown_name fields place name = unknown_if place (field_of fields name)
 
--- where the first such name begins in the text of a query, or of a list, that begins at this place
+-- where the first such name begins, in the text of a query or of a list that begins at this place
 abbrev mutual
   pub unknown_in : List Field → ℕ → NamedTree → Option ℕ
   unknown_in fields place (one name leaf) = unknown_name fields place name
@@ -250,7 +250,7 @@ leaf_values (Range low high) = option_to_list low ++ option_to_list high
 leaf_values (Below value) = value ∷ []
 leaf_values (Above value) = value ∷ []
 
--- the values are of the types of their attributes
+-- the values have the types of their attributes
 abbrev mutual
   pub tree_has_types : List Field → NamedTree → Bool
   tree_has_types fields (one name leaf) = list_all (is_of_type (type_at fields (field_number fields name))) (leaf_values leaf)
@@ -264,19 +264,19 @@ abbrev mutual
 abbrev pub parts_have_type : ValueType → List Part → Bool
 parts_have_type wanted parts = list_all (λ part. is_of_type wanted part.value) parts
 
--- a dot product speaks of a weighted set
+-- a dot product refers to a weighted set
 abbrev pub has_types : List Field → Word → Bool
 has_types fields (whole_query query) = tree_has_types fields query
 has_types fields (dot_product name parts) =
     is_weighted (slice_get fields (field_number fields name)) && parts_have_type (type_at fields (field_number fields name)) parts
 
--- a number of 64 signed bits, or a text of at most 1,024 bytes
+-- the number fits in 64 signed bits, or the text has at most 1,024 bytes
 abbrev pub is_in_range : Value → Bool
 is_in_range (Long (pos n)) = nat_lt n (2 ^ 63)
 is_in_range (Long (negsuc n)) = nat_lt n (2 ^ 63)
 is_in_range (Text bytes) = nat_le (length bytes) 1024
 
--- a number of 32 signed bits
+-- the number fits in 32 signed bits
 abbrev pub fits_weight : ℤ → Bool
 fits_weight (pos n) = nat_lt n (2 ^ 31)
 fits_weight (negsuc n) = nat_lt n (2 ^ 31)
@@ -313,7 +313,7 @@ abbrev pub word_levels : Word → ℕ
 word_levels (whole_query query) = levels_of query
 word_levels (dot_product name parts) = 1
 
--- a refusal goes before those below it
+-- a refusal has precedence over later checks
 abbrev pub unless_unknown : Option ℕ → Result AskTree QueryError → Result AskTree QueryError
 unless_unknown (Some place) answer = Err (NoField place)
 unless_unknown None answer = answer
@@ -328,25 +328,25 @@ abbrev pub judged : List Field → Word → Result AskTree QueryError
 judged fields word = unless_unknown (unknown_at fields word)
     (checked_by (has_types fields word) (has_range word) (nat_lt 32 (word_levels word)) (asked_by fields word))
 
--- ---- what the grammar answers
+-- ---- the answers of the grammar
 
--- some word begins so
+-- some word begins with this text
 abbrev pub Continues : Words → List ℕ → Type 0
 Continues words front = (word : Word) × (rest : List ℕ) × IsWordText words (front ++ rest) word
 
--- the text is no word, and this is the first byte with which none goes on, or the text's length
+-- the text is not a word; `place` is the first byte with which no word continues, or the text's length
 pub record BreaksAt (words : Words) (text : List ℕ) (place : ℕ) : Type 0 where
   pub within : place ≤ length text
   pub continues : Continues words (take place text)
   pub stops : place < length text → ¬ (Continues words (take (place + 1) text))
   pub unfinished : place ≡ length text → (word : Word) → ¬ (IsWordText words text word)
 
--- the answer to a text: that of the word which it is, or the place where it stops being one
+-- the answer to a text: that of its word, or the place from which on it is not a word
 pub data Answers (words : Words) (fields : List Field) (text : List ℕ) (answer : Result AskTree QueryError) : Type 0 where
   by_word : (word : Word) → IsWordText words text word → judged fields word ≡ answer → Answers words fields text answer
   by_place : (place : ℕ) → BreaksAt words text place → Err (Syntax place) ≡ answer → Answers words fields text answer
 
--- a parser's refusal is the grammar's, unless memory ran out
+-- the refusal of a parser is that of the grammar, unless memory was exhausted
 abbrev pub RefusesAs : Words → List Field → List ℕ → QueryError → Type 0
 RefusesAs words fields text (Syntax place) = Answers words fields text (Err (Syntax place))
 RefusesAs words fields text (NoField place) = Answers words fields text (Err (NoField place))
@@ -355,7 +355,7 @@ RefusesAs words fields text OutOfRange = Answers words fields text (Err OutOfRan
 RefusesAs words fields text TooDeep = Answers words fields text (Err TooDeep)
 RefusesAs words fields text Memory = Unit {0}
 
--- what a parser of words returned, and one of queries
+-- the results of a parser of words, and of a parser of queries
 abbrev pub AnswersAs : List Field → List ℕ → Result Ask QueryError → Type 0
 AnswersAs fields text (Ok ask) = Answers any_word fields text (Ok (ask_tree ask))
 AnswersAs fields text (Err error) = RefusesAs any_word fields text error

@@ -7,22 +7,22 @@ use Rattle.attr_types.specs.Scores.{AskTree}
 use Rattle.query_text.specs.Grammar.{Words, any_word, queries, Word, word_text, IsAmong, IsFormedWord, judged, Answers}
 use Rattle.query_text.specs.Asks.{ask_of, query_of}
 
--- what is read of a text, where these words are read
+-- how a text is read, if these words are read
 abbrev pub ask_by : Words → List Field → List ℕ → Result AskTree QueryError
 ask_by any_word fields text = ask_of fields text
 ask_by queries fields text = query_of fields text
 
--- what is read of a text is what the grammar answers
+-- a text is read as the grammar says
 abbrev pub ReadsByGrammar : Type 0
 ReadsByGrammar = (words : Words) (fields : List Field) (text : List ℕ) → IsUtf8 text
     → Answers words fields text (ask_by words fields text)
 
--- the grammar answers nothing else
+-- the grammar has no other answer
 abbrev pub AnswersOnce : Type 0
 AnswersOnce = (words : Words) (fields : List Field) (text : List ℕ) (answer : Result AskTree QueryError) → IsUtf8 text
     → Answers words fields text answer → ask_by words fields text ≡ answer
 
--- no text asks two things
+-- no text asks for two things
 abbrev pub AsksOneThing : Type 0
 AsksOneThing = (words : Words) (fields : List Field) (text : List ℕ) (a b : AskTree) → IsUtf8 text
     → Answers words fields text (Ok a) → Answers words fields text (Ok b) → a ≡ b

@@ -13,11 +13,11 @@ use Rattle.query_text.specs.declared.mode.Mode.TheVariants.{Minus, Number, Text,
 abbrev pub is_digit : ℕ → Bool
 is_digit byte = nat_le 48 byte && nat_le byte 57
 
--- a counter of 64 bits that stands still at its end
+-- a 64-bit counter that stops at its greatest value
 abbrev pub capped : ℕ → ℕ
 capped n = min n (2 ^ 64 - 1)
 
--- the byte that a value may begin with
+-- the first byte of a value
 abbrev pub number_begun : Role → ℕ → Option Mode
 number_begun role byte = if byte == 45 then Some (Minus role)
     else (if is_digit byte then Some (Number role false (byte - 48)) else None)
@@ -28,7 +28,7 @@ text_begun role byte = if byte == 34 then Some (Text role 0) else None
 abbrev pub value_begun : Role → ℕ → Option Mode
 value_begun role byte = if byte == 34 then Some (Text role 0) else number_begun role byte
 
--- what the letters so far are
+-- what the letters are so far
 abbrev pub spell_begun : ℕ → Spell
 spell_begun byte = if byte == 97 then spells.A
     else (if byte == 111 then spells.O
@@ -51,27 +51,27 @@ opens_list spells.And = true
 opens_list spells.Or = true
 opens_list _ = false
 
--- the byte that a leaf may begin with
+-- the first byte of a leaf
 abbrev pub leaf_begun : ℕ → Option Mode
 leaf_begun byte = if byte == 91 then Some Low
     else (if (byte == 60) || (byte == 62) then Some Bound else value_begun roles.Alone byte)
 
--- the byte that a query may begin with
+-- the first byte of a query
 abbrev pub query_begun : ℕ → Option Mode
 query_begun byte = if begins_name byte then Some (Name (spell_begun byte)) else leaf_begun byte
 
--- the byte after a letter of a name or of a list's word
+-- the byte after a letter of a name or of a list's keyword
 abbrev pub name_next : Spell → ℕ → Option Mode
 name_next spell byte = if continues_name byte then Some (Name (spell_next spell byte))
     else (if byte == 58 then Some Named
     else (if opens_list spell && (byte == 40) then Some Opened else None))
 
--- the byte after a query, where nested says that a bracket is open
+-- the byte after a query; `nested` says that a bracket is open
 abbrev pub query_ended : Bool → ℕ → Option Mode
 query_ended nested byte = if nested && (byte == 44) then Some Start
     else (if nested && (byte == 41) then Some Closed else None)
 
--- the byte after a value, by what it is in its leaf
+-- the byte after a value, by its role in the leaf
 abbrev pub number_ended : Bool → Role → ℕ → Option Mode
 number_ended nested roles.Alone byte = query_ended nested byte
 number_ended nested roles.Bound byte = query_ended nested byte
@@ -84,7 +84,7 @@ quoted_next nested roles.Bound byte = query_ended nested byte
 quoted_next nested roles.Low byte = if byte == 59 then Some HighText else None
 quoted_next nested roles.High byte = if byte == 93 then Some Ended else None
 
--- a number with no leading zero
+-- a number without leading zeros
 abbrev pub minus_next : Role → ℕ → Option Mode
 minus_next role byte = if nat_le 49 byte && nat_le byte 57 then Some (Number role true (byte - 48)) else None
 

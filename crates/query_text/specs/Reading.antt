@@ -22,7 +22,7 @@ abbrev pub ◌>>=◌ : {A B : Type 0} → Option A → (A → Option B) → Opti
 None >>= f = None
 (Some x) >>= f = f x
 
--- what a function returned, seen by view, is what was found, unless memory ran out
+-- the result of a function, seen by `view`, is what was found, unless memory was exhausted
 abbrev pub FindsNone : {Y : Type 0} → ReadError → Option Y → Type 0
 FindsNone errors.Memory found = Unit {0}
 FindsNone errors.NotRead found = found ≡ None
@@ -60,7 +60,7 @@ abbrev pub with_byte : ℕ → Option (List ℕ × List ℕ) → Option (List �
 with_byte byte None = None
 with_byte byte (Some found) = Some (byte ∷ found.0, found.1)
 
--- the bytes of a text up to its closing quote; behind a `\` a byte stands for itself
+-- the bytes of a text up to its closing quote; a byte after a `\` represents itself
 unfoldable pub bytes_front : Bool → List ℕ → Option (List ℕ × List ℕ)
 bytes_front escaped [] = None
 bytes_front true (byte ∷ rest) = with_byte byte (bytes_front false rest)
@@ -138,7 +138,7 @@ abbrev pub with_tree : QueryTree → Option (List QueryTree × List ℕ) → Opt
 with_tree first None = None
 with_tree first (Some found) = Some (first ∷ found.0, found.1)
 
--- the mark after a member: whether it is a comma, or else the closing bracket
+-- whether the mark after a member is a comma, not the closing bracket; and what follows it
 abbrev pub mark_after : Option (List ℕ) → Option (List ℕ) → Option (Bool × List ℕ)
 mark_after (Some rest) bracket = Some (true, rest)
 mark_after None (Some rest) = Some (false, rest)
@@ -155,7 +155,7 @@ abbrev pub after_list : Option (QueryTree × List ℕ) → (List ℕ → Option 
 after_list None others = None
 after_list (Some found) others = after_mark found.0 (mark_front found.1) others
 
--- a list of so many members at most, up to its closing bracket
+-- a list of at most this many members, up to its closing bracket
 unfoldable pub list_front : (List ℕ → Option (QueryTree × List ℕ)) → ℕ → List ℕ → Option (List QueryTree × List ℕ)
 list_front member zero bytes = None
 list_front member (suc n) bytes = after_list (member bytes) (list_front member n)
@@ -178,7 +178,7 @@ begins_so (byte ∷ rest) = begins_name byte
 unfoldable pub after_name : List ℕ → Option (List ℕ)
 after_name bytes = if begins_so bytes then after_byte 58 (drop (name_end bytes) bytes) else None
 
--- the leaf at the front, which speaks of this attribute
+-- the leaf at the front, which refers to this attribute
 abbrev pub leaf_of_field : ℕ → List ℕ → Option (QueryTree × List ℕ)
 leaf_of_field field bytes = option_map (λ found. (one field found.0, found.1)) (leaf_front bytes)
 
@@ -191,11 +191,11 @@ query_by fields None None (Some rest) member bytes =
     option_map (λ found. (or (trees found.0), found.1)) (list_front member (length rest) rest)
 query_by fields None None None member bytes = leaf_of_field 0 bytes
 
--- a query whose members are read so
+-- a query, by a reader of its members
 unfoldable pub query_with : List Field → (List ℕ → Option (QueryTree × List ℕ)) → List ℕ → Option (QueryTree × List ℕ)
 query_with fields member bytes = query_by fields (after_name bytes) (and_front bytes) (or_front bytes) member bytes
 
--- a query of so many levels at most
+-- a query of at most this many levels
 unfoldable pub query_front : List Field → ℕ → List ℕ → Option (QueryTree × List ℕ)
 query_front fields zero bytes = None
 query_front fields (suc n) bytes = query_with fields (query_front fields n) bytes

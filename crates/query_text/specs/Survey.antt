@@ -1,4 +1,4 @@
--- What the text of a query has shown after each of its bytes.
+-- What the text of a query shows after each of its bytes.
 use Rattle.std.specs.Prelude.{ℕ, ◌+◌, ◌-◌, ◌^◌, ◌==◌, Bool, true, false, ◌&&◌, nat_lt, nat_le, max, List, take, drop}
 use Rattle.std.specs.Prelude.{Option, Some, None, option_map, unwrap_or, Result}
 use Rattle.attr_types.specs.declared.kind.ValueType.{ValueType}
@@ -22,19 +22,19 @@ abbrev pub wants_text : ValueType → Bool
 wants_text types.Long = false
 wants_text types.Text = true
 
--- a value that is being read is of the type
+-- the current value has the type
 abbrev pub is_right : ValueType → Mode → Bool
 is_right value (modes.Minus role) = wants_long value
 is_right value (modes.Number role negative size) = wants_long value
 is_right value (modes.Text role len) = wants_text value
 is_right value _ = true
 
--- the size of a number of 64 signed bits
+-- the size of a number that fits in 64 signed bits
 abbrev pub is_long_size : Bool → ℕ → Bool
 is_long_size true size = nat_le size (2 ^ 63)
 is_long_size false size = nat_lt size (2 ^ 63)
 
--- a value that is being read is in range so far
+-- the current value is in range so far
 abbrev pub is_in_size : Mode → Bool
 is_in_size (modes.Number role negative size) = is_long_size negative size
 is_in_size (modes.Text role len) = nat_le len 1024
@@ -45,18 +45,18 @@ depth_after depth modes.Opened = depth + 1
 depth_after depth modes.Closed = depth - 1
 depth_after depth _ = depth
 
--- where the query begins that is read after the byte at this place
+-- where the current query begins after the byte at this place
 abbrev pub begins_after : ℕ → ℕ → Mode → ℕ
 begins_after begins place modes.Start = place + 1
 begins_after begins place modes.Opened = place + 1
 begins_after begins place _ = begins
 
--- the attribute that a leaf speaks of, by the name before it; one without a name speaks of attribute 0
+-- the attribute to which a leaf refers, by the name before it; without a name it is attribute 0
 abbrev pub found_at : List Field → List ℕ → Mode → Option ℕ
 found_at fields name modes.Named = field_named fields name
 found_at fields name _ = Some 0
 
--- the type of the values of the leaf that is read next
+-- the type of the values of the next leaf
 abbrev pub wanted_after : List Field → ValueType → Mode → Option ℕ → ValueType
 wanted_after fields wanted modes.Start found = type_at fields 0
 wanted_after fields wanted modes.Opened found = type_at fields 0
@@ -75,7 +75,7 @@ start fields = record {
   small = true;
 }
 
--- what stands before this place of the query that is being read
+-- the text of the current query before this place
 abbrev pub name_before : List ℕ → ℕ → ℕ → List ℕ
 name_before text begins place = take (place - begins) (drop begins text)
 
@@ -95,7 +95,7 @@ abbrev pub entered : List Field → List ℕ → Survey → ℕ → Mode → Sur
 entered fields text survey place mode =
     entered_by fields survey place mode (found_at fields (name_before text survey.begins place) mode)
 
--- after the byte at this place, where some query goes on so
+-- the survey after the byte at this place, if some query continues with it
 abbrev pub surveyed_after : List Field → List ℕ → Survey → ℕ → ℕ → Option Survey
 surveyed_after fields text survey place byte =
     option_map (entered fields text survey place) (next_mode (nat_lt 0 survey.depth) survey.mode byte)
@@ -117,6 +117,6 @@ ends_query _ = false
 abbrev pub is_complete : Survey → Bool
 is_complete survey = (survey.depth == 0) && ends_query survey.mode
 
--- the survey of the whole text, or the place where no query goes on
+-- the survey of the whole text, or the place at which no query continues
 abbrev pub surveyed : List Field → List ℕ → Result Survey ℕ
 surveyed fields text = run_from (surveyed_after fields text) is_complete (start fields) 0 text

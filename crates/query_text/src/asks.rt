@@ -12,13 +12,13 @@ use crate::survey::{Survey, survey_of};
 use attr_types::{Ask, Field, Kind, Query, QueryError};
 use std::alloc::Global;
 
-/// How many levels a query has at most. A leaf has one level.
+/// The greatest number of levels of a query. A leaf has one level.
 const MAX_LEVELS: u32 = 32;
 
-/// The query that a text is, over these attributes. A leaf without a name speaks of attribute 0.
+/// Returns the query that a text describes, over these attributes. A leaf without a name refers to attribute 0.
 ///
-/// A text that is no query, or not such a one, is refused by the first of `Syntax`, `NoField`, `WrongType`,
-/// `OutOfRange` and `TooDeep` that holds of the whole text.
+/// If the text is not a query, or not such a query, the result is the first of `Syntax`, `NoField`, `WrongType`,
+/// `OutOfRange` and `TooDeep` that applies to the whole text.
 pub fn parse_query(alloc: Global, text: &str, fields: &[Field]) -> Result<Query, QueryError>
     requires { length fields.now < 2 ^ 32 }
     ensures says { ParsesAs result (query_of fields.now text.now) }
@@ -38,10 +38,10 @@ fn read_query(alloc: Global, text: &str, fields: &[Field]) -> Result<Query, Quer
     }
 }
 
-/// What a text asks for of these attributes: the documents that a query matches, or a dot product.
+/// Returns what a text asks of these attributes: the documents that a query matches, or a dot product.
 ///
-/// A text that asks for nothing is refused by the first of `Syntax`, `NoField`, `WrongType`, `OutOfRange` and
-/// `TooDeep` that holds of the whole text. A leaf or a dot product without a name speaks of attribute 0.
+/// If the text asks for nothing, the result is the first of `Syntax`, `NoField`, `WrongType`, `OutOfRange` and
+/// `TooDeep` that applies to the whole text. A leaf or a dot product without a name refers to attribute 0.
 pub fn parse_ask(alloc: Global, text: &str, fields: &[Field]) -> Result<Ask, QueryError>
     requires { length fields.now < 2 ^ 32 }
     ensures says { AsksAs result (ask_of fields.now text.now) }
@@ -64,7 +64,7 @@ fn read_ask(alloc: Global, text: &str, fields: &[Field]) -> Result<Ask, QueryErr
     }
 }
 
-/// The query of a text.
+/// Returns the query of a text.
 fn hits_judged(
     alloc: Global,
     fields: &[Field],
@@ -82,7 +82,7 @@ fn hits_judged(
     }
 }
 
-/// The query of a text in which each name is one of the attributes.
+/// Returns the query of a text in which each name is the name of an attribute.
 fn hits_checked(
     alloc: Global,
     fields: &[Field],
@@ -110,7 +110,7 @@ fn hits_checked(
     }
 }
 
-/// The dot product of a text that stops being a query at this place.
+/// Returns the dot product of a text that is not a query from this place on.
 fn dot_or_refused(
     alloc: Global,
     fields: &[Field],
@@ -137,7 +137,7 @@ fn is_weighted_kind(kind: Kind) -> bool
     }
 }
 
-/// Whether the attribute with a number is there, and a weighted set.
+/// Returns whether the attribute with a number exists and is a weighted set.
 fn is_weighted(fields: &[Field], number: usize) -> bool
     ensures value { result ≡ is_weighted (slice_get fields.now number) }
     ensures inside { result ≡ true → number < length fields.now }
@@ -148,7 +148,7 @@ fn is_weighted(fields: &[Field], number: usize) -> bool
     }
 }
 
-/// The dot product of a text.
+/// Returns the dot product of a text.
 fn dot_judged(
     alloc: Global,
     fields: &[Field],
@@ -164,7 +164,7 @@ fn dot_judged(
     }
 }
 
-/// The dot product over the attribute with a number.
+/// Returns the dot product over the attribute with a number.
 fn dot_checked(
     alloc: Global,
     fields: &[Field],
@@ -196,7 +196,7 @@ fn dot_checked(
     }
 }
 
-/// The grammar answers one thing of each text, and that is what is read. Each word that has a text is read
+/// The grammar gives exactly one answer for each text, and the parsers return it. Each word that has a text is read
 /// as what it asks, or as the first of its refusals.
 pub fn grammar_law()
     ensures reads { ReadsByGrammar }

@@ -1,9 +1,8 @@
 //! The text of a query word, and what it asks for.
 //!
-//! `specs/Grammar.antt` is the grammar: the one text of each word, and the answer to each text.
-//! A text is read in two passes. The first goes over its bytes, by one machine for queries and one for dot
-//! products, takes no memory, and finds each refusal. The second makes what is asked, a query of 32 levels at
-//! most.
+//! `specs/Grammar.antt` is the grammar: the one text of each word, and the answer to each text. A text is read in two
+//! passes. The first scans its bytes, with one machine for queries and one for dot products. It allocates no memory
+//! and finds every refusal. The second pass builds the ask, a query of at most 32 levels.
 #![tactic(auto)]
 
 mod asks;

@@ -9,7 +9,7 @@ use crate::read::{ReadError, after, leaf_in};
 use attr_types::{Field, Queries, Query, field_named};
 use std::alloc::Global;
 
-/// What follows `and(` at the front.
+/// Returns what follows `and(` at the front.
 #[tactic(auto, unfolding(crate::specs::Reading::and_front))]
 pub fn after_and(bytes: &[u8]) -> Option<&[u8]>
     ensures { option_map (λ rest. rest.now) result ≡ and_front bytes.now }
@@ -20,7 +20,7 @@ pub fn after_and(bytes: &[u8]) -> Option<&[u8]>
     after(b'(', rest)
 }
 
-/// What follows `or(` at the front.
+/// Returns what follows `or(` at the front.
 #[tactic(auto, unfolding(crate::specs::Reading::or_front))]
 pub fn after_or(bytes: &[u8]) -> Option<&[u8]>
     ensures { option_map (λ rest. rest.now) result ≡ or_front bytes.now }
@@ -30,7 +30,7 @@ pub fn after_or(bytes: &[u8]) -> Option<&[u8]>
     after(b'(', rest)
 }
 
-/// The mark after a member of a list: whether it is a comma, or else the closing bracket.
+/// Returns whether the mark after a member of a list is a comma, not the closing bracket; and what follows it.
 #[tactic(auto, unfolding(crate::specs::Reading::mark_front))]
 pub fn mark_in(bytes: &[u8]) -> Option<(bool, &[u8])>
     ensures { option_map (λ mark. (mark.0, mark.1.now)) result ≡ mark_front bytes.now }
@@ -41,7 +41,7 @@ pub fn mark_in(bytes: &[u8]) -> Option<(bool, &[u8])>
     }
 }
 
-/// The number of the attribute that is named at the front.
+/// Returns the number of the attribute that is named at the front.
 fn named_at_front(fields: &[Field], bytes: &[u8]) -> usize
     ensures value { result ≡ field_number fields.now (Some (name_at_front bytes.now)) }
     ensures inside { result ≤ length fields.now }
@@ -49,7 +49,7 @@ fn named_at_front(fields: &[Field], bytes: &[u8]) -> usize
     field_named(fields, name_at_front(bytes)).unwrap_or(0)
 }
 
-/// The leaf at the front, which speaks of this attribute.
+/// Reads the leaf at the front, which refers to this attribute.
 fn leaf_of_field(alloc: Global, field: usize, bytes: &[u8]) -> Result<(Query, &[u8]), ReadError>
     requires { field < 2 ^ 32 }
     ensures { Finds (λ found. (tree_of found.0, found.1.now)) result (leaf_of_field field bytes.now) }
@@ -64,7 +64,7 @@ fn leaf_of_field(alloc: Global, field: usize, bytes: &[u8]) -> Result<(Query, &[
     ))
 }
 
-/// The query at the front, where it has so many levels at most.
+/// Reads the query at the front, if it has at most `levels` levels.
 #[cycle(query)]
 pub fn query_in<'a>(
     alloc: Global,
@@ -81,7 +81,7 @@ pub fn query_in<'a>(
     query_with(alloc, fields, bytes, levels - 1)
 }
 
-/// The query at the front, where its members have so many levels at most.
+/// Reads the query at the front, if its members have at most this many levels.
 #[cycle(query)]
 #[tactic(auto, unfolding(crate::specs::Reading::query_with))]
 fn query_with<'a>(
@@ -108,7 +108,7 @@ fn query_with<'a>(
     leaf_of_field(alloc, 0, bytes)
 }
 
-/// The members of the list whose bracket was opened, each of so many levels at most.
+/// Reads the members of the list whose bracket is open, each of at most this many levels.
 #[cycle(query)]
 fn list_in<'a>(
     alloc: Global,

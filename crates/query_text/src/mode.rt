@@ -7,7 +7,7 @@ ghost use Rattle.query_text.specs.Modes.{low_next, high_next, high_number_next, 
 
 use attr_types::{begins_name, continues_name};
 
-/// What the value that is being read is in its leaf.
+/// The role of the current value in its leaf.
 #[derive(Clone, Copy, Debug, PartialEq, Eq)]
 pub enum Role {
     /// The leaf itself, or its prefix.
@@ -20,7 +20,7 @@ pub enum Role {
     High,
 }
 
-/// What the letters of a name so far are.
+/// What the letters of a name are so far.
 #[derive(Clone, Copy, Debug, PartialEq, Eq)]
 pub enum Spell {
     A,
@@ -31,18 +31,18 @@ pub enum Spell {
     D,
     Do,
     Dot,
-    /// A name alone.
+    /// Only a name.
     Other,
 }
 
-/// Where the text of a query stands between two of its bytes.
+/// The state of the scan of a query between two bytes.
 #[derive(Clone, Copy, Debug, PartialEq, Eq)]
 pub enum Mode {
     /// Before a query: at the front, or after a comma.
     Start,
     /// After the `(` of a list.
     Opened,
-    /// In a name, or in the word of a list.
+    /// In a name, or in the keyword of a list.
     Name(Spell),
     /// After the `:` of a name.
     Named,
@@ -58,9 +58,9 @@ pub enum Mode {
     HighText,
     /// After the `-` of a number.
     Minus(Role),
-    /// In a number: whether it is negative, and its size so far, which grows to 64 bits at most.
+    /// In a number: whether it is negative, and its size so far, up to the greatest 64-bit number.
     Number(Role, bool, u64),
-    /// In a text: how many bytes it has so far.
+    /// In a text: the number of its bytes so far.
     Text(Role, u64),
     /// In a text, after a `\`.
     Escape(Role, u64),
@@ -110,8 +110,7 @@ impl Spell {
 }
 
 impl Mode {
-    /// The mode after one more byte, where some query goes on so. `nested` says that a bracket is
-    /// open.
+    /// Returns the mode after one more byte, if some query continues with it. `nested` says that a bracket is open.
     #[tactic(auto, unfolding(crate::specs::Modes::next_mode))]
     pub fn next(self, nested: bool, byte: u8) -> Option<Mode>
         ensures { result ≡ next_mode nested self byte }

@@ -18,7 +18,7 @@ fn first_end(bytes: &[u8]) -> Option<usize>
     bytes.iter().position(|byte| ends_name(*byte))
 }
 
-/// Where the letters of a name end.
+/// Returns where the letters of a name end.
 fn name_end(bytes: &[u8]) -> usize
     ensures value { result ≡ name_end bytes.now }
     ensures inside { result ≤ length bytes.now }
@@ -29,7 +29,7 @@ fn name_end(bytes: &[u8]) -> usize
     }
 }
 
-/// The letters of a name at the front.
+/// Returns the letters of a name at the front.
 pub fn name_at_front(bytes: &[u8]) -> &[u8]
     ensures { result.now ≡ name_at_front bytes.now }
 {
@@ -45,7 +45,7 @@ fn begins_so(bytes: &[u8]) -> bool
     }
 }
 
-/// What follows the name at the front and its `:`.
+/// Returns what follows the name at the front and its `:`.
 #[tactic(auto, unfolding(crate::specs::Reading::after_name))]
 pub fn after_name(bytes: &[u8]) -> Option<&[u8]>
     ensures { option_map (λ rest. rest.now) result ≡ after_name bytes.now }

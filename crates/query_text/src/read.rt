@@ -12,7 +12,7 @@ use std::alloc::{AllocError, AllocFailed, Global};
 /// Why nothing was read at the front of a text.
 #[derive(Debug, Drop)]
 pub enum ReadError {
-    /// What was looked for does not stand there, or is out of range.
+    /// The expected element is missing, or out of range.
     NotRead,
     Memory,
 }
@@ -33,7 +33,7 @@ impl<T: Drop> From<AllocFailed<T>> for ReadError {
     }
 }
 
-/// What follows this byte at the front.
+/// Returns what follows this byte at the front.
 pub fn after(wanted: u8, bytes: &[u8]) -> Option<&[u8]>
     ensures { option_map (λ rest. rest.now) result ≡ after_byte wanted bytes.now }
 {
@@ -43,7 +43,7 @@ pub fn after(wanted: u8, bytes: &[u8]) -> Option<&[u8]>
     }
 }
 
-/// The size of the number whose digits stand at the front, which stops at 64 bits.
+/// Reads the digits at the front, and returns the size of the number, at most the greatest 64-bit number.
 fn digits_in(bytes: &[u8]) -> (u64, &[u8])
     ensures { (result.0, result.1.now) ≡ digits_front 0 bytes.now }
 {
@@ -59,7 +59,7 @@ fn digits_in(bytes: &[u8]) -> (u64, &[u8])
     (size, &[])
 }
 
-/// The number at the front, where it is of 64 signed bits.
+/// Reads the number at the front, if it fits in 64 signed bits.
 #[tactic(auto, unfolding(crate::specs::Reading::number_front))]
 pub fn number_in(bytes: &[u8]) -> Option<(i64, &[u8])>
     ensures { option_map (λ found. (found.0, found.1.now)) result ≡ number_front bytes.now }
@@ -76,7 +76,7 @@ pub fn number_in(bytes: &[u8]) -> Option<(i64, &[u8])>
     }
 }
 
-/// The number below 0 of a size, where it is of 64 signed bits.
+/// Returns the negative number of a size, if it fits in 64 signed bits.
 fn negative_of(size: u64) -> Option<i64>
     ensures { result ≡ (if is_long_size true size then Some (signed true size) else None) }
 {
@@ -87,7 +87,7 @@ fn negative_of(size: u64) -> Option<i64>
     }
 }
 
-/// The bytes of the text whose opening quote was read, up to its closing quote.
+/// Reads the bytes of a text after its opening quote, up to its closing quote.
 fn bytes_in(alloc: Global, bytes: &[u8]) -> Result<(Vec<u8>, &[u8]), ReadError>
     ensures { Finds (λ found. (found.0.items, found.1.now)) result (bytes_front false bytes.now) }
 {
@@ -108,7 +108,7 @@ fn bytes_in(alloc: Global, bytes: &[u8]) -> Result<(Vec<u8>, &[u8]), ReadError>
     Err(ReadError::NotRead)
 }
 
-/// The text whose opening quote was read, where it has at most 1,024 bytes.
+/// Reads a text after its opening quote, if it has at most 1,024 bytes.
 #[tactic(auto, unfolding(crate::specs::Reading::text_front))]
 fn text_in(alloc: Global, bytes: &[u8]) -> Result<(Text, &[u8]), ReadError>
     ensures { Finds (λ found. (found.0, found.1.now)) result (text_front bytes.now) }
@@ -118,7 +118,7 @@ fn text_in(alloc: Global, bytes: &[u8]) -> Result<(Text, &[u8]), ReadError>
     Ok((text, rest))
 }
 
-/// These bytes as a text, where they are one.
+/// Returns these bytes as a text, if they are one.
 fn text_of(alloc: Global, bytes: &[u8]) -> Result<Text, ReadError>
     ensures { Finds (λ text. text) result (if is_short_text bytes.now then Some bytes.now else None) }
 {
@@ -131,7 +131,7 @@ fn text_of(alloc: Global, bytes: &[u8]) -> Result<Text, ReadError>
     }
 }
 
-/// The value at the front.
+/// Reads the value at the front.
 #[tactic(auto, unfolding(crate::specs::Reading::value_front))]
 pub fn value_in(alloc: Global, bytes: &[u8]) -> Result<(Value, &[u8]), ReadError>
     ensures { Finds (λ found. (found.0, found.1.now)) result (value_front bytes.now) }
@@ -148,7 +148,7 @@ pub fn value_in(alloc: Global, bytes: &[u8]) -> Result<(Value, &[u8]), ReadError
     }
 }
 
-/// The end of a range at the front, and the byte that closes it.
+/// Reads the end of a range at the front, and the byte that closes it.
 #[tactic(auto, unfolding(crate::specs::Reading::end_front))]
 fn end_in(alloc: Global, closing: u8, bytes: &[u8]) -> Result<(Option<Value>, &[u8]), ReadError>
     ensures { Finds (λ found. (found.0, found.1.now)) result (end_front closing bytes.now) }
@@ -161,7 +161,7 @@ fn end_in(alloc: Global, closing: u8, bytes: &[u8]) -> Result<(Option<Value>, &[
     Ok((Some(value), rest))
 }
 
-/// The range whose `[` was read.
+/// Reads a range after its `[`.
 #[tactic(auto, unfolding(crate::specs::Reading::range_front))]
 fn range_in(alloc: Global, bytes: &[u8]) -> Result<(Leaf, &[u8]), ReadError>
     ensures { Finds (λ found. (found.0, found.1.now)) result (range_front bytes.now) }
@@ -171,7 +171,7 @@ fn range_in(alloc: Global, bytes: &[u8]) -> Result<(Leaf, &[u8]), ReadError>
     Ok((Leaf::Range { low, high }, rest))
 }
 
-/// The value at the front as a leaf, or the prefix.
+/// Reads the value at the front as a leaf, or as a prefix.
 #[tactic(auto, unfolding(crate::specs::Reading::whole_front))]
 fn whole_in(alloc: Global, bytes: &[u8]) -> Result<(Leaf, &[u8]), ReadError>
     ensures { Finds (λ found. (found.0, found.1.now)) result (whole_front bytes.now) }
@@ -191,7 +191,7 @@ fn whole_in(alloc: Global, bytes: &[u8]) -> Result<(Leaf, &[u8]), ReadError>
     }
 }
 
-/// The leaf at the front.
+/// Reads the leaf at the front.
 #[tactic(auto, unfolding(crate::specs::Reading::leaf_front))]
 pub fn leaf_in(alloc: Global, bytes: &[u8]) -> Result<(Leaf, &[u8]), ReadError>
     ensures { Finds (λ found. (found.0, found.1.now)) result (leaf_front bytes.now) }

@@ -6,27 +6,27 @@ ghost use Rattle.query_text.specs.Survey.{wanted_after, start, name_before, ente
 use crate::mode::{Mode, Role};
 use attr_types::{Field, ValueType, field_named};
 
-/// What the front of a text has shown.
+/// What the scanned front of a text shows.
 #[derive(Clone, Copy, Debug, PartialEq, Eq)]
 pub struct Survey {
     pub mode: Mode,
-    /// How many brackets are open.
+    /// The number of open brackets.
     pub depth: u64,
-    /// How many levels its queries have.
+    /// The number of levels of its queries.
     pub levels: u64,
-    /// The offset at which the query begins that is being read.
+    /// The offset at which the current query begins.
     pub begins: usize,
-    /// The type of the values of the leaf that is being read.
+    /// The type of the values of the current leaf.
     pub wanted: ValueType,
-    /// The offset at which the first name begins that is none of the attributes.
+    /// The offset at which the first name begins that is not the name of an attribute.
     pub unknown: Option<usize>,
-    /// Whether all values are of the types of their attributes.
+    /// Whether all values have the types of their attributes.
     pub right: bool,
     /// Whether all numbers and texts are in range.
     pub small: bool,
 }
 
-/// The type of the values of the attribute with a number.
+/// Returns the type of the values of the attribute with a number.
 pub fn type_at(fields: &[Field], number: usize) -> ValueType
     ensures { result ≡ type_at fields.now number }
 {
@@ -36,7 +36,7 @@ pub fn type_at(fields: &[Field], number: usize) -> ValueType
     }
 }
 
-/// The attribute that the next leaf speaks of, where a name or nothing stands before it.
+/// Returns the attribute to which the next leaf refers, by the name before it, if any.
 fn found_at(fields: &[Field], name: &[u8], mode: Mode) -> Option<usize>
     ensures { result ≡ found_at fields.now name.now mode }
 {
@@ -81,7 +81,7 @@ fn unknown_after(unknown: Option<usize>, begins: usize, found: Option<usize>) ->
 }
 
 impl Survey {
-    /// Before the first byte.
+    /// Returns the survey before the first byte.
     pub fn start(fields: &[Field]) -> Survey
         ensures { result ≡ start fields.now }
     {
@@ -118,7 +118,7 @@ impl Survey {
         }
     }
 
-    /// After the byte at this place, which leads to this mode.
+    /// Returns the survey after the byte at this place, which leads to this mode.
     fn entered(self, fields: &[Field], text: &[u8], place: usize, mode: Mode) -> Survey
         requires deep { self.depth < 2 ^ 63 }
         requires begins { self.begins ≤ place }
@@ -131,7 +131,7 @@ impl Survey {
         self.entered_by(fields, place, mode, found)
     }
 
-    /// After the byte at this place, where some query goes on so.
+    /// Returns the survey after the byte at this place, if some query continues with it.
     fn after(self, fields: &[Field], text: &[u8], place: usize, byte: u8) -> Option<Survey>
         requires deep { self.depth < 2 ^ 63 }
         requires begins { self.begins ≤ place }
@@ -144,7 +144,7 @@ impl Survey {
         Some(self.entered(fields, text, place, mode))
     }
 
-    /// Whether a whole query has been read.
+    /// Returns whether a whole query has been scanned.
     fn is_whole(self) -> bool
         ensures { result ≡ is_complete self }
     {
@@ -152,7 +152,7 @@ impl Survey {
     }
 }
 
-/// What a text shows, or the place where it stops being a query.
+/// Scans a text, and returns what it shows, or the place from which on it is not a query.
 pub fn survey_of(text: &[u8], fields: &[Field]) -> Result<Survey, u64>
     ensures { result ≡ surveyed fields.now text.now }
 {

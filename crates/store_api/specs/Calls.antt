@@ -1,4 +1,4 @@
--- What the calls of a store make of its ledger.
+-- How the calls of a store change its ledger.
 use Rattle.std.specs.Prelude.{◌≡◌, ◌≢◌, ◌⊎◌, ℕ, ◌+◌, ◌-◌, ◌*◌, ◌<◌, ◌≤◌, true, false, ◌&&◌, not, nat_eq, if◌then◌else◌, List, [], length, drop}
 use Rattle.std.specs.Prelude.{Option, None, Some}
 use Rattle.entry_ref.specs.References.{buffer_of}
@@ -17,7 +17,7 @@ use Rattle.store_api.specs.declared.store.Stored.{Stored}
 use Rattle.store_api.specs.declared.store.StoreError.{StoreError}
 use Rattle.store_api.specs.declared.store.StoreError.TheVariants.{Full, Memory}
 
--- nothing was made, and what came back is to spare
+-- nothing is made, and entries that become free are spare
 pub record GivesBackOf (old new : OfWidth) : Type 0 where
   pub made : new.made ≡ old.made
   pub fresh : new.fresh ≡ old.fresh
@@ -25,7 +25,7 @@ pub record GivesBackOf (old new : OfWidth) : Type 0 where
   pub spare : old.spare ≤ new.spare
   pub buffers : new.buffers ≤ old.buffers
 
--- a reclaim: holds are closed, and what is tagged below the oldest that is left is free
+-- a reclaim: holds are closed, and what is tagged below the oldest open one becomes free
 pub record GivesBack {H : Type 0} (old new : Ledger H) : Type 0 where
   pub closed : ℕ
   pub left : closed < length old.work.queue
@@ -40,11 +40,11 @@ pub record GivesBack {H : Type 0} (old new : Ledger H) : Type 0 where
   pub counts : (width : ℕ) → GivesBackOf (old.of_width width) (new.of_width width)
   pub same : new ≡ record old { work = new.work; status = new.status; back = new.back; of_width = new.of_width }
 
--- there was a reclaim or none
+-- there is a reclaim or none
 abbrev pub MayGiveBack : {H : Type 0} → Ledger H → Ledger H → Type 0
 MayGiveBack old new = (new ≡ old) ⊎ GivesBack old new
 
--- the counts of a width of which an entry was made: of those to spare, or the first of this buffer
+-- the counts of a width after an entry is made: from the spare ones, or as the first of this buffer
 abbrev pub took_spare : OfWidth → OfWidth
 took_spare counts = record counts { made = one_more counts.made; spare = counts.spare - 1; fresh = counts.fresh + 1 }
 
@@ -57,7 +57,8 @@ took_buffer room b counts = record {
   filled = Some b;
 }
 
--- where a made entry comes from: the width had one to spare, or it had none after a reclaim and a buffer was handed out
+-- where a made entry comes from: a spare entry of the width, or, if there is none after a reclaim, a buffer that is
+-- handed out
 pub record TakesSpare {H : Type 0} (old new : Ledger H) (width : ℕ) : Type 0 where
   pub some : 0 < (old.of_width width).spare
   pub work : new.work ≡ record old.work { stored = new.work.stored }
@@ -70,14 +71,14 @@ pub record TakesBuffer {H : Type 0} (bits : ℕ) (old new : Ledger H) (width r :
   pub counts : new.of_width
       ≡ with_counts old.of_width width (took_buffer (capacity old.work.sizes.words width) (buffer_of bits r) (old.of_width width))
 
--- an entry of this width is made, of these words
+-- an entry of this width with these words is made
 pub record Makes {H : Type 0} (bits : ℕ) (old new : Ledger H) (m n : Records) (width : ℕ) (words : List ℕ) (r : ℕ) : Type 0 where
   pub mid : Ledger H
   pub gives_back : MayGiveBack old mid
-  -- a reclaim comes only where the width has nothing to spare
+  -- a reclaim happens only if the width has no spare entry
   pub needed : (mid ≡ old) ⊎ ((old.of_width width).spare ≡ 0)
   pub was : is_open (mid.status r) ≡ true
-  -- an unmade one only where none of the width is free outside sealed buffers
+  -- an unmade entry is taken only if the width has no free one outside sealed buffers
   pub free_first : mid.status r ≡ Status.unmade → (q : ℕ) → active_width (mid.work.buffer (buffer_of bits q)) ≡ width
       → mid.sealed (buffer_of bits q) ≡ false → mid.status q ≢ Status.free
   pub place : IsEntry bits new.work.sizes.buffers new.work.sizes.words width r
@@ -88,10 +89,10 @@ pub record Makes {H : Type 0} (bits : ℕ) (old new : Ledger H) (m n : Records) 
   pub records : n ≡ with_words m r (padded words width)
   pub from : TakesSpare mid new width ⊎ (GivesBack old mid × TakesBuffer bits mid new width r)
 
--- what a full store is, after a reclaim: the width has nothing to spare and no buffer is free
+-- the state of a full store, after a reclaim: the width has no spare entry and no buffer is free
 pub record IsFull {H : Type 0} (old new : Ledger H) (width active held : ℕ) (oldest : Oldest) : Type 0 where
   pub spare : (new.of_width width).spare ≡ 0
-  -- so all entries of its buffers were made
+  -- so all entries that fit in the buffers of the width were made
   pub made : (new.of_width width).buffers * capacity new.work.sizes.words width ≤ (new.of_width width).made
   pub free : free_count new.work.buffer new.work.sizes.buffers ≡ 0
   pub active_is : active ≡ active_count new.work.buffer new.work.sizes.buffers
@@ -110,18 +111,18 @@ abbrev pub Refuses : {H : Type 0} → Ledger H → Ledger H → ℕ → StoreErr
 Refuses old new width (Full w active held oldest) = (w ≡ width) × IsFull old new width active held oldest
 Refuses old new width Memory = Unit {0}
 
--- a refusal for want of room comes after a reclaim, and any reclaim only where the width has nothing to spare
+-- a refusal for lack of space follows a reclaim; a reclaim happens only if the width has no spare entry
 abbrev pub ComesAfter : {H : Type 0} → Ledger H → Ledger H → ℕ → StoreError → Type 0
 ComesAfter old new width (Full w active held oldest) = GivesBack old new
 ComesAfter old new width Memory = (new ≡ old) ⊎ ((old.of_width width).spare ≡ 0)
 
--- the store was full for a width that is one of these
+-- the store was full for one of these widths
 pub record IsFullOf {H : Type 0} (among : ℕ → Type 0) (old new : Ledger H) (width active held : ℕ) (oldest : Oldest) : Type 0 where
   pub one : among width
   pub is : is_width width ≡ true
   pub full : IsFull old new width active held oldest
 
--- a refusal of a change that makes several entries, each of a width among these
+-- a refusal of a change that makes several entries, each of one of these widths
 abbrev pub RefusesOf : {H : Type 0} → (ℕ → Type 0) → Ledger H → Ledger H → StoreError → Type 0
 RefusesOf among old new (Full width active held oldest) = IsFullOf among old new width active held oldest
 RefusesOf among old new Memory = Unit {0}
@@ -132,11 +133,11 @@ pub record IsUsedWidth {H : Type 0} (ledger : Ledger H) (m : Records) (width : �
   pub used : in_use (ledger.status ref) ≡ true
   pub length_is : length (m ref) ≡ width
 
--- an entry that is free is no record
+-- a free entry has no record
 abbrev pub without_free : (ℕ → Status) → Records → Records
 without_free status m r = if is_free_status (status r) then [] else m r
 
--- an entry goes out of use; what of it is free at once is to spare
+-- an entry is no longer in use; if it is free at once, it is spare
 pub record DropsOf (old new : OfWidth) : Type 0 where
   pub made : new.made ≡ old.made
   pub buffers : new.buffers ≡ old.buffers
@@ -151,18 +152,18 @@ pub record DropsEntry {H : Type 0} (old new : Ledger H) (m n : Records) (r : ℕ
   pub counts : (width : ℕ) → DropsOf (old.of_width width) (new.of_width width)
   pub same : new ≡ record old { status = new.status; of_width = new.of_width }
 
--- what was let go is no record any more
+-- an entry that was let go has no record
 abbrev pub kept_records : {H : Type 0} → Ledger H → Records → Records
 kept_records ledger m r = if is_let_go (ledger.status r) then [] else m r
 
--- a unit ends, and what it gives back is to spare
+-- a unit ends, and the entries that it frees are spare
 pub record EndsOf (old new : OfWidth) : Type 0 where
   pub made : new.made ≡ old.made
   pub buffers : new.buffers ≡ old.buffers
   pub filled : new.filled ≡ old.filled
   pub spare : old.spare ≤ new.spare
 
--- a unit is accepted: what it let go is free
+-- a unit is accepted: what it let go becomes free
 pub record Accepts {H : Type 0} (old new : Ledger H) (m n : Records) : Type 0 where
   pub unit : new.unit ≡ false
   pub status : (r : ℕ) → new.status r ≡ after_accept (old.status r)
@@ -173,7 +174,7 @@ pub record Accepts {H : Type 0} (old new : Ledger H) (m n : Records) : Type 0 wh
   pub sealed : new.sealed ≡ old.sealed
   pub finished : new.finished ≡ old.finished
 
--- a unit is undone: what it made is free
+-- a unit is undone: what it made becomes free
 pub record Undoes {H : Type 0} (old new : Ledger H) (n : Records) : Type 0 where
   pub unit : new.unit ≡ false
   pub status : new.status ≡ old.back
@@ -185,7 +186,8 @@ pub record Undoes {H : Type 0} (old new : Ledger H) (n : Records) : Type 0 where
   pub sealed : new.sealed ≡ old.sealed
   pub finished : new.finished ≡ old.finished
 
--- a commit's image has all that is in use outside sealed buffers, and of those only what is in use, and nothing of the finished one
+-- the image of a commit has all records in use outside sealed buffers, only records in use, and none of the finished
+-- buffer
 pub record IsWhole {H : Type 0} (bits : ℕ) (ledger : Ledger H) (refs : List ℕ) : Type 0 where
   pub used : (r : ℕ) → Among r refs → in_use (ledger.status r) ≡ true
   pub all : (r : ℕ) → in_use (ledger.status r) ≡ true → ledger.sealed (buffer_of bits r) ≡ false → Among r refs
@@ -196,13 +198,13 @@ abbrev pub with_hold : {H : Type 0} → WorkView H → Option ℕ → WorkView H
 with_hold work None = work
 with_hold work (Some b) = retired work b
 
--- the entries after a commit under a tag: those of the buffer that goes on hold are no entries any more
+-- the statuses after a commit with a tag: the entries of the buffer that goes on hold are no longer entries
 abbrev pub committed_status : {H : Type 0} → ℕ → Ledger H → Tag → Image → ℕ → Status
 committed_status bits ledger tag image r =
     if is_this ledger.finished (buffer_of bits r) then Status.unmade else after_commit tag (is_in image r) (ledger.status r)
 
--- a commit: the image is published, what was dropped is tagged, the finished buffer goes on hold, the generation is advanced and
--- what no reader can have is reclaimed; the answer has what these calls answered
+-- a commit: the image is published, what was dropped is tagged, the finished buffer goes on hold, the generation
+-- advances, and what no reader can reach is reclaimed; the result holds the results of these calls
 pub record StoresCommit {H : Type 0} (bits : ℕ) (old new : Ledger H) (image : Image) (answer : Stored) : Type 0 where
   pub number : answer.commit ≡ old.work.commits.last + 1
   pub commits : Commits
@@ -224,7 +226,7 @@ pub record StoresCommit {H : Type 0} (bits : ℕ) (old new : Ledger H) (image : 
   pub sealed : (b : ℕ) → new.sealed b ≡ (old.sealed b && not (is_this old.finished b))
   pub finished : new.finished ≡ None
 
--- a width loses what it has to spare in a buffer
+-- a width loses the spare entries of a buffer
 pub record SealsOf (old new : OfWidth) : Type 0 where
   pub made : new.made ≡ old.made
   pub buffers : new.buffers ≡ old.buffers
@@ -232,7 +234,7 @@ pub record SealsOf (old new : OfWidth) : Type 0 where
   pub spare : new.spare ≤ old.spare
   pub fresh : new.fresh ≤ old.fresh
 
--- a buffer is sealed: nothing of it is handed out from now on
+-- a buffer is sealed: no entry of it is made from now on
 pub record Seals {H : Type 0} (old new : Ledger H) (b : ℕ) : Type 0 where
   pub sealed : (a : ℕ) → new.sealed a ≡ (if nat_eq a b then true else old.sealed a)
   pub counts : (width : ℕ) → SealsOf (old.of_width width) (new.of_width width)

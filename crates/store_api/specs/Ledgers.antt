@@ -1,4 +1,4 @@
--- The ledger of a store: what each entry is, and counts by width.
+-- The ledger of a store: the status of each entry, and counts by width.
 use Rattle.std.specs.Prelude.{◌≡◌, ℕ, zero, suc, ◌+◌, ◌-◌, ◌/◌, ◌^◌, ◌<◌, ◌≤◌, Bool, true, false, ◌&&◌, ◌||◌, not, nat_eq, nat_lt, nat_le, if◌then◌else◌, min, List}
 use Rattle.std.specs.Prelude.{[], ◌∷◌, length, Option, None, Some}
 use Rattle.std.specs.List.{list_any}
@@ -24,42 +24,42 @@ is_held (Buffer.held width tag) = true
 
 -- the counts of one width
 pub record OfWidth : Type 0 where
-  -- how often an entry was made, up to the last 64-bit number
+  -- how often an entry was made, at most the greatest 64-bit number
   pub made : ℕ
-  -- the free entries outside sealed buffers, and the room of the buffer that is filled
+  -- the free entries outside sealed buffers, and those left in the buffer being filled
   pub spare : ℕ
-  -- the entries in use outside sealed buffers that the unit under way made
+  -- the entries in use outside sealed buffers that the open unit made
   pub fresh : ℕ
-  -- the buffers, active and on hold
+  -- the buffers, active or on hold
   pub buffers : ℕ
-  -- the buffer that was handed out last, which is filled
+  -- the buffer being filled, which is the one handed out last
   pub filled : Option ℕ
 
 pub record Ledger (H : Type 0) : Type 0 where
-  -- what the work below knows
+  -- what the underlying work knows
   pub work : WorkView H
   pub shape : ℕ
-  -- the bits of an offset in a reference
+  -- the number of bits of an offset in a reference
   pub bits : ℕ
-  -- whether a unit is under way
+  -- whether a unit is open
   pub unit : Bool
   pub status : ℕ → Status
-  -- the statuses and the records that an undo gives back; where no unit is under way, those that are
+  -- the statuses and records that an undo restores; if no unit is open, the current ones
   pub back : ℕ → Status
   pub back_records : Records
   pub of_width : ℕ → OfWidth
-  -- the buffers that a compaction empties, and the one that the next commit puts on hold
+  -- the buffers that a compaction empties, and the buffer that the next commit puts on hold
   pub sealed : ℕ → Bool
   pub finished : Option ℕ
 
--- the widths of entries: powers of two for records of words, and 34 for nodes of trees
+-- the widths of entries: powers of two for records of words, and 34 for tree nodes
 abbrev pub widths : List ℕ
 widths = 2 ∷ 4 ∷ 8 ∷ 16 ∷ 32 ∷ 64 ∷ 128 ∷ 256 ∷ 512 ∷ 1024 ∷ 34 ∷ []
 
 abbrev pub is_width : ℕ → Bool
 is_width width = list_any (nat_eq width) widths
 
--- how many entries of a width fit a buffer, behind its reserved offset 0
+-- the number of entries of a width that fit in a buffer, without its reserved offset 0
 abbrev pub capacity : ℕ → ℕ → ℕ
 capacity words width = words / width - 1
 
@@ -67,15 +67,15 @@ capacity words width = words / width - 1
 abbrev pub IsEntryOf : {H : Type 0} → ℕ → WorkView H → ℕ → Type 0
 IsEntryOf bits work r = IsEntry bits work.sizes.buffers work.sizes.words (active_width (work.buffer (buffer_of bits r))) r
 
--- the counts of one width are others
+-- the counts after those of one width change
 abbrev pub with_counts : (ℕ → OfWidth) → ℕ → OfWidth → ℕ → OfWidth
 with_counts counts width new w = if nat_eq w width then new else counts w
 
--- one more, up to the last 64-bit number
+-- one more, at most the greatest 64-bit number
 abbrev pub one_more : ℕ → ℕ
 one_more n = min (n + 1) (2 ^ 64 - 1)
 
--- how many of the first n buffers are active, and how many are held
+-- the number of active buffers among the first n, and the number of held ones
 abbrev pub active_count : (ℕ → Buffer) → ℕ → ℕ
 active_count buffer zero = 0
 active_count buffer (suc n) = active_count buffer n + (if is_active (buffer n) then 1 else 0)
@@ -84,7 +84,7 @@ abbrev pub held_count : (ℕ → Buffer) → ℕ → ℕ
 held_count buffer zero = 0
 held_count buffer (suc n) = held_count buffer n + (if is_held (buffer n) then 1 else 0)
 
--- the buffers of these widths
+-- the number of buffers of these widths
 abbrev pub buffers_in : (ℕ → OfWidth) → List ℕ → ℕ
 buffers_in counts [] = 0
 buffers_in counts (width ∷ rest) = (counts width).buffers + buffers_in counts rest
@@ -94,7 +94,7 @@ abbrev pub is_this : Option ℕ → ℕ → Bool
 is_this None b = false
 is_this (Some a) b = nat_eq a b
 
--- the buffer is the one of its width that is filled
+-- the buffer is the one of its width that is being filled
 abbrev pub is_filled : {H : Type 0} → Ledger H → ℕ → Bool
 is_filled ledger b = is_this (ledger.of_width (active_width (ledger.work.buffer b))).filled b
 
@@ -117,8 +117,8 @@ abbrev pub all_later : Tag → List Hold → Bool
 all_later tag [] = true
 all_later tag (h ∷ hs) = is_later tag h && all_later tag hs
 
--- an entry is held under a tag: no commit that is kept, from the tag's on, has it; a reader that can have it stands on a hold of the
--- tag's generation or an older one, since readers on later holds have later commits; and such a hold is open
+-- an entry is held with a tag: no kept commit from the tag's on has it. A reader that can reach it stands on a hold
+-- of the tag's generation or an older one, since readers on later holds have later commits; and such a hold is open
 pub record IsHeldEntry {H : Type 0} (ledger : Ledger H) (r : ℕ) (tag : Tag) : Type 0 where
   pub unused : (n : ℕ) → IsKept ledger.work.commits n → tag.commit ≤ n → words_at (ledger.work.commits.image n) r ≡ []
   pub later : all_later tag ledger.work.queue ≡ true
@@ -126,23 +126,23 @@ pub record IsHeldEntry {H : Type 0} (ledger : Ledger H) (r : ℕ) (tag : Tag) : 
   pub generation : tag.generation ≤ current ledger.work
   pub commit : tag.commit ≤ ledger.work.commits.last
 
--- a buffer that is active and not filled: it may be sealed
+-- an active buffer that is not being filled, which may be sealed
 pub record IsUnfilled {H : Type 0} (ledger : Ledger H) (b : ℕ) : Type 0 where
   pub below : b < ledger.work.sizes.buffers
   pub active : 0 < active_width (ledger.work.buffer b)
   pub unfilled : is_filled ledger b ≡ false
 
--- no unit is under way, so an undo would change nothing
+-- no unit is open, so an undo would change nothing
 pub record IsSettled {H : Type 0} (ledger : Ledger H) (m : Records) : Type 0 where
   pub back : ledger.back ≡ ledger.status
   pub back_records : ledger.back_records ≡ m
   pub fresh : (width : ℕ) → (ledger.of_width width).fresh ≡ 0
 
--- nothing was made of a width yet
+-- nothing was made of a width
 abbrev pub no_counts : OfWidth
 no_counts = record { made = 0; spare = 0; fresh = 0; buffers = 0; filled = None }
 
--- a store of which nothing was made yet
+-- a store in which nothing was made
 pub record IsNew {H : Type 0} (ledger : Ledger H) : Type 0 where
   pub unit : ledger.unit ≡ false
   pub status : (r : ℕ) → ledger.status r ≡ Status.unmade

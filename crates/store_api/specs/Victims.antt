@@ -5,7 +5,7 @@ use Rattle.arena_api.specs.Works.{active_width}
 use Rattle.store_api.specs.Statuses.{Status, is_taken, is_dead}
 use Rattle.store_api.specs.Ledgers.{Ledger, capacity, is_filled}
 
--- how many of the first n entries of a buffer have a status that passes
+-- the number of entries, among the first n of a buffer, whose status passes
 abbrev pub count_entries : ℕ → (Status → Bool) → (ℕ → Status) → ℕ → ℕ → ℕ
 count_entries bits passes status b zero = 0
 count_entries bits passes status b (suc n) =
@@ -15,14 +15,15 @@ abbrev pub entries_with : {H : Type 0} → ℕ → Ledger H → ℕ → (Status 
 entries_with bits ledger b passes =
     count_entries bits passes ledger.status b (capacity ledger.work.sizes.words (active_width (ledger.work.buffer b)))
 
--- the words of all offsets taken so far, offset 0 included, and those of the entries that are free, dropped or held
+-- the words of all offsets taken so far, offset 0 included; and the words of the entries that are free, dropped or
+-- held
 abbrev pub used_words : {H : Type 0} → ℕ → Ledger H → ℕ → ℕ
 used_words bits ledger b = active_width (ledger.work.buffer b) * (1 + entries_with bits ledger b is_taken)
 
 abbrev pub dead_words : {H : Type 0} → ℕ → Ledger H → ℕ → ℕ
 dead_words bits ledger b = active_width (ledger.work.buffer b) * entries_with bits ledger b is_dead
 
--- an active buffer that is not filled and not sealed, and of which more than a twentieth is dead
+-- an active buffer that is neither being filled nor sealed, and of whose used words more than a twentieth is dead
 pub record IsCandidate {H : Type 0} (bits : ℕ) (ledger : Ledger H) (b : ℕ) : Type 0 where
   pub below : b < ledger.work.sizes.buffers
   pub active : 0 < active_width (ledger.work.buffer b)
@@ -30,7 +31,7 @@ pub record IsCandidate {H : Type 0} (bits : ℕ) (ledger : Ledger H) (b : ℕ) :
   pub unsealed : ledger.sealed b ≡ false
   pub dead : used_words bits ledger b < dead_words bits ledger b * 20
 
--- the candidate with the most dead words, of equals the first
+-- the candidate with the most dead words, and the first among equals
 pub record IsVictim {H : Type 0} (bits : ℕ) (ledger : Ledger H) (b : ℕ) : Type 0 where
   pub candidate : IsCandidate bits ledger b
   pub most : (a : ℕ) → IsCandidate bits ledger a

@@ -11,23 +11,23 @@ ghost use Rattle.store_api.specs.Units.{MayDo};
 
 use crate::store::Store;
 
-/// What a unit may do is reflexive and transitive.
+/// `MayDo`, the relation of what a unit may do, is reflexive and transitive.
 pub fn may_do_law<const OFFSET_BITS: u32, S: Store<OFFSET_BITS>>()
     ensures same { (s : S) → MayDo (S.ledger s) (S.ledger s) }
     ensures then { (a b c : S) → MayDo (S.ledger a) (S.ledger b) → MayDo (S.ledger b) (S.ledger c)
         → MayDo (S.ledger a) (S.ledger c) }
 {}
 
-/// Distinct entries of one width are at most its offsets in all buffers; for the nodes of trees that is
-/// at most 1,973,790.
+/// The number of distinct entries of one width is at most the number of its offsets in all buffers. For tree nodes
+/// that is at most 1,973,790.
 pub fn counting_law()
     ensures entries { (bits buffers words width : ℕ) (refs : List ℕ) → IsDistinct nat_eq refs
         → AllByRecursion (IsEntry bits buffers words width) refs → length refs ≤ buffers * capacity words width }
     ensures nodes { (buffers words : ℕ) → buffers * words ≤ 67108864 → buffers * capacity words 34 ≤ 1973790 }
 {}
 
-/// A part that is all that is in use, but for records in sealed buffers, can be committed, and is all that
-/// is in use then.
+/// If a part is all that is in use except records in sealed buffers, it can be committed, and afterwards it is all
+/// that is in use.
 pub fn parts_law<const OFFSET_BITS: u32, S: Store<OFFSET_BITS>>()
     ensures whole { (s : S) (m : Records) (part : Part) (rest : List Part) → OwnsAll (S.ledger s) m (part ∷ rest)
         → ((r : ℕ) → 0 < count_in r m rest → (S.ledger s).sealed (buffer_of OFFSET_BITS r) ≡ true)

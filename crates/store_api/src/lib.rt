@@ -1,4 +1,4 @@
-//! The contract of a store: entries in the buffers of a work are made, dropped, committed, and given again.
+//! The contract of a store: entries in the buffers of a work are made, dropped, committed and reused.
 #![tactic(auto)]
 
 mod laws;

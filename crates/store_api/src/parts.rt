@@ -9,7 +9,7 @@ ghost use Rattle.store_api.specs.Parts.{Owns, Turns, entry, uses};
 use crate::store::{Store, StoreError};
 use entry_ref::EntryRef;
 
-/// Makes an entry: it is owned from now on, and nothing else is changed.
+/// Makes an entry, which the caller owns from now on. Nothing else changes.
 pub fn make_entry<const OFFSET_BITS: u32, S: Store<OFFSET_BITS>>(
     store: &mut S,
     width: u32,
@@ -34,7 +34,7 @@ pub fn make_entry<const OFFSET_BITS: u32, S: Store<OFFSET_BITS>>(
     store.make(width, words)
 }
 
-/// Drops an entry that is owned.
+/// Drops an owned entry.
 pub fn drop_one<const OFFSET_BITS: u32, S: Store<OFFSET_BITS>>(
     store: &mut S,
     gone: EntryRef<OFFSET_BITS>,

@@ -17,21 +17,25 @@ ghost use Rattle.store_api.specs.Victims.{IsVictim, HasNoVictim};
 
 use arena_api::{Advance, Frozen, Oldest};
 use entry_ref::{EntryRef, Layout};
+use thiserror::Error;
 
 /// Why no entry was made.
-#[derive(Clone, Copy, Debug, PartialEq, Eq, Drop)]
+#[derive(Clone, Copy, Debug, PartialEq, Eq, Drop, Error)]
 pub enum StoreError {
-    /// The width has no free entry and no room in its filled buffer, and after a reclaim no buffer is free.
+    /// The width has no free entry and no space in the buffer being filled, and no buffer is free after a reclaim.
+    #[error("no room for an entry of {width} words: {active} buffers are active, {held} on hold")]
     Full {
         width: u32,
         active: u32,
         held: u32,
         oldest: Oldest,
     },
+    /// Memory ran out.
+    #[error("memory ran out")]
     Memory,
 }
 
-/// What a commit came to: its number, and what the advance of the generation and the reclaim after it answered.
+/// The result of a commit: its number, and the results of the advance and the reclaim that follow it.
 #[derive(Clone, Copy, Debug, PartialEq, Eq, Drop)]
 pub struct Stored {
     pub commit: u32,
@@ -39,10 +43,10 @@ pub struct Stored {
     pub oldest: Oldest,
 }
 
-/// Entries in the buffers of a work, by a ledger that says of each what it is.
+/// Entries in the buffers of a work, with a ledger that holds the status of each entry.
 ///
-/// Its records are those of the last commit, the pending and the let go. Changes go in units: a unit is
-/// begun, and then accepted or undone.
+/// Its records are those of the last commit, the pending ones and those let go. Changes are made in units: a unit is
+/// opened by `begin`, and then accepted or undone.
 pub trait Store<const OFFSET_BITS: u32>: Frozen<OFFSET_BITS> {
     type Layout: Layout;
 
@@ -56,9 +60,9 @@ pub trait Store<const OFFSET_BITS: u32>: Frozen<OFFSET_BITS> {
         ensures ledger { ledger self.new ≡ record (ledger self.old) { unit = true } }
         ensures records { Self.records self.new ≡ Self.records self.old };
 
-    /// Makes an entry of `width` words: those given, and zeros after them. It takes a free entry of the
-    /// width, else the next offset of the buffer that is filled; else it reclaims and looks again; else it
-    /// takes a new buffer. Nothing is taken of a sealed buffer.
+    /// Makes an entry of `width` words: the given words, followed by zeros. It takes a free entry of the width, or
+    /// else the next offset of the buffer being filled. If there is neither, it reclaims and tries again, and at last
+    /// takes a new buffer. It takes nothing from sealed buffers.
     fn make(&mut self, width: u32, words: &[u64]) -> Result<EntryRef<OFFSET_BITS>, StoreError>
         requires unit { (ledger self.old).unit ≡ true }
         requires width { is_width width ≡ true }
@@ -71,27 +75,27 @@ pub trait Store<const OFFSET_BITS: u32>: Frozen<OFFSET_BITS> {
         ensures left { OnErr result (Self.records self.new ≡ Self.records self.old) }
         ensures may { MayDo (ledger self.old) (ledger self.new) };
 
-    /// Drops an entry in use. What the unit made is free at once; what was pending before is let go, and
-    /// free once the unit is accepted.
+    /// Drops an entry in use. An entry that the unit made is free at once. An entry that was pending before the unit
+    /// is let go, and is free once the unit is accepted.
     fn drop_entry(&mut self, entry: EntryRef<OFFSET_BITS>)
         requires unit { (ledger self.old).unit ≡ true }
         requires used { in_use ((ledger self.old).status entry) ≡ true }
         ensures drops { DropsEntry (ledger self.old) (ledger self.new) (Self.records self.old) (Self.records self.new) entry.entry }
         ensures may { MayDo (ledger self.old) (ledger self.new) };
 
-    /// Closes the unit. What it let go is free.
+    /// Closes the unit. What it let go becomes free.
     fn accept(&mut self)
         requires { (ledger self.old).unit ≡ true }
         ensures { Accepts (ledger self.old) (ledger self.new) (Self.records self.old) (Self.records self.new) };
 
-    /// Closes the unit with the entries in use and the dropped ones of `begin`, with their words. What it
-    /// made is free; a buffer that it took stays, and what was reclaimed stays so.
+    /// Closes the unit and restores the entries that were in use or dropped at `begin`, with their words. What the
+    /// unit made becomes free. A buffer that it took stays taken, and what was reclaimed stays reclaimed.
     fn undo(&mut self)
         requires { (ledger self.old).unit ≡ true }
         ensures { Undoes (ledger self.old) (ledger self.new) (Self.records self.new) };
 
-    /// Commits what the root reaches: all that is in use outside sealed buffers, and nothing of the
-    /// finished one, which goes on hold.
+    /// Commits the records that the root reaches. They must be all that is in use outside sealed buffers, and none of
+    /// them in the finished buffer, which goes on hold.
     fn commit(&mut self, root: EntryRef<OFFSET_BITS>) -> Stored
         requires unit { (ledger self.old).unit ≡ false }
         requires lawful { Self.Layout.lawful (Self.shape self.old) (Self.records self.old) root }
@@ -104,25 +108,25 @@ pub trait Store<const OFFSET_BITS: u32>: Frozen<OFFSET_BITS> {
         ensures records { Self.records self.new
             ≡ words_at (next_image Self.Layout.reaches (Self.shape self.old) (Self.records self.old) root.entry) };
 
-    /// Marks a buffer that a compaction empties: nothing of it is handed out.
+    /// Seals a buffer, which a compaction empties: no entry is made in it any more.
     fn seal(&mut self, buffer: u32)
         requires { IsUnfilled (ledger self.old) buffer }
         ensures seals { Seals (ledger self.old) (ledger self.new) buffer }
         ensures records { Self.records self.new ≡ Self.records self.old };
 
-    /// Marks a sealed buffer for hold in the next commit.
+    /// Marks a sealed buffer, so that the next commit puts it on hold.
     fn finish(&mut self, buffer: u32)
         requires sealed { (ledger self.old).sealed buffer ≡ true }
         requires none { (ledger self.old).finished ≡ None }
         ensures ledger { ledger self.new ≡ record (ledger self.old) { finished = Some buffer } }
         ensures records { Self.records self.new ≡ Self.records self.old };
 
-    /// The buffer of which a compaction has most to win, if any is worth it.
+    /// Returns the buffer from which a compaction gains most, if any is worth it.
     fn choose_victim(&self) -> Option<u32>
         ensures some { IfSome result (IsVictim OFFSET_BITS (ledger self.now)) }
         ensures none { IfNone result (HasNoVictim OFFSET_BITS (ledger self.now)) };
 
-    /// How many commits can still be made.
+    /// Returns how many more commits are possible.
     fn commits_left(&self) -> u32
         ensures { result ≡ (ledger self.now).work.sizes.commits - (ledger self.now).work.commits.last };
 
@@ -136,10 +140,10 @@ pub trait Store<const OFFSET_BITS: u32>: Frozen<OFFSET_BITS> {
 
     ghost queue: { (s : Self) → IsQueue (ledger s).work };
 
-    // a generation ends with a commit at most
+    // the current generation is at most the number of the last commit
     ghost timely: { (s : Self) → current (ledger s).work ≤ (ledger s).work.commits.last };
 
-    // exactly the statuses with records have one
+    // an entry has a record if and only if its status says so
     ghost recorded: { (s : Self) (r : ℕ) → (has_record ((ledger s).status r) ≡ true) ↔ (0 < length (Self.records s r)) };
 
     // a record fills an entry of an active buffer
@@ -147,57 +151,58 @@ pub trait Store<const OFFSET_BITS: u32>: Frozen<OFFSET_BITS> {
         → FitsEntry OFFSET_BITS (ledger s).work.sizes (active_width ((ledger s).work.buffer (buffer_of OFFSET_BITS r))) r
         (length (Self.records s r)) };
 
-    // what was taken is an entry of an active buffer
+    // a taken entry lies in an active buffer
     ghost taken: { (s : Self) (r : ℕ) → is_taken ((ledger s).status r) ≡ true → IsEntryOf OFFSET_BITS (ledger s).work r };
 
-    // only the filled buffer of a width has unmade offsets
+    // only the buffer being filled has unmade offsets
     ghost filled: { (s : Self) (r : ℕ) → IsEntryOf OFFSET_BITS (ledger s).work r → (ledger s).status r ≡ Status.unmade
         → ((ledger s).of_width (active_width ((ledger s).work.buffer (buffer_of OFFSET_BITS r)))).filled
         ≡ Some (buffer_of OFFSET_BITS r) };
 
-    // distinct entries of a width that can be taken are at most its spare ones
+    // distinct entries of a width that a make can take are at most the spare ones
     ghost spares: { (s : Self) (width : ℕ) (refs : List ℕ) → IsDistinct nat_eq refs
         → All (IsSpare OFFSET_BITS (ledger s) width) refs → length refs ≤ ((ledger s).of_width width).spare };
 
-    // no kept commit has an unmade, free, pending or let go entry of an active buffer
+    // no kept commit has an entry of an active buffer that is unmade, free, pending or let go
     ghost unkept: { (s : Self) (r : ℕ) → IsEntryOf OFFSET_BITS (ledger s).work r → is_uncommitted ((ledger s).status r) ≡ true
         → InNoCommit (ledger s).work.commits r };
 
-    // nothing is held under a tag below the oldest open generation, and no commit from the tag's on has it
+    // a held entry has a tag that is not below the oldest open generation, and no commit from the tag's on has the
+    // entry
     ghost held: { (s : Self) (r : ℕ) (tag : _) → (ledger s).status r ≡ Status.held tag → IsHeldEntry (ledger s) r tag };
 
-    // the last commit has exactly the live and the dropped
+    // the last commit has exactly the live and the dropped entries
     ghost last: { (s : Self) (r : ℕ) → is_committed ((ledger s).status r) ≡ true
         → Self.records s r ≡ words_at (last_image (ledger s).work.commits) r };
 
     ghost settled: { (s : Self) → (ledger s).unit ≡ false → IsSettled (ledger s) (Self.records s) };
 
-    // what was in use before the unit under way keeps its words until the unit ends
+    // what was in use before the open unit keeps its words until the unit ends
     ghost steady: { (s : Self) (r : ℕ) → in_use ((ledger s).back r) ≡ true → Self.records s r ≡ (ledger s).back_records r };
 
-    // sealed buffers are active and not filled; the finished one is sealed
+    // sealed buffers are active and not being filled; the finished one is sealed
     ghost sealed: { (s : Self) (b : ℕ) → (ledger s).sealed b ≡ true → IsUnfilled (ledger s) b };
 
     ghost finished: { (s : Self) (b : ℕ) → (ledger s).finished ≡ Some b → (ledger s).sealed b ≡ true };
 
-    // without readers, and below the last generation, no buffer is on hold
+    // if no reader was made and the generation is not the last, no buffer is on hold
     ghost unread: { (s : Self) (b : ℕ) → b < (ledger s).work.sizes.buffers → (ledger s).work.made ≡ 0
         → current (ledger s).work < (ledger s).work.sizes.generations → is_held ((ledger s).work.buffer b) ≡ false };
 
-    // each buffer is free or of one width
+    // each buffer is free or has one width
     ghost counted: { (s : Self) → free_count (ledger s).work.buffer (ledger s).work.sizes.buffers + buffers_in (ledger s).of_width widths
         ≡ (ledger s).work.sizes.buffers };
 
-    // a width's buffers are at most one more than those that its entries made would fill
+    // a width has at most one buffer more than the entries made of it fill
     ghost few_buffers: { (s : Self) (width : ℕ) → is_width width ≡ true
         → ((ledger s).of_width width).buffers ≤ 1 + ((ledger s).of_width width).made / capacity (ledger s).work.sizes.words width };
 
-    // all entries for which a width's buffers have room were made or are to spare
+    // the entries that fit in the buffers of a width were made or are spare
     ghost enough: { (s : Self) (width : ℕ) → is_width width ≡ true
         → ((ledger s).of_width width).buffers * capacity (ledger s).work.sizes.words width
         ≤ ((ledger s).of_width width).made + ((ledger s).of_width width).spare };
 
-    // and all those of an active buffer that is not filled were made
+    // the entries that fit in an active buffer that is not being filled were made
     ghost unfilled: { (s : Self) (b : ℕ) → IsUnfilled (ledger s) b
         → capacity (ledger s).work.sizes.words (active_width ((ledger s).work.buffer b))
         ≤ ((ledger s).of_width (active_width ((ledger s).work.buffer b))).made };
@@ -207,7 +212,7 @@ pub trait Store<const OFFSET_BITS: u32>: Frozen<OFFSET_BITS> {
         → All (λ r. length (Self.records s r) ≡ width) refs
         → length refs ≤ (ledger s).work.sizes.buffers * capacity (ledger s).work.sizes.words width };
 
-    // so there are at most 1,973,790 distinct nodes of trees
+    // so there are at most 1,973,790 distinct tree nodes
     ghost few_nodes: { (s : Self) (refs : List ℕ) → IsDistinct nat_eq refs
         → All (λ r. length (Self.records s r) ≡ 34) refs → length refs ≤ 1973790 };
 }

@@ -7,12 +7,13 @@ use Rattle.store_api.specs.Parts.{OwnsAll, entries}
 use Rattle.test_kit.specs.OneNode.{IsNodeRecord}
 use Rattle.test_arena.specs.declared.keeping.Keeping.{Keeping}
 
--- the records of a root: itself, or none where it is 0
+-- the records of a root: itself, or none if it is 0
 abbrev pub root_refs : ℕ → List ℕ
 root_refs zero = []
 root_refs (suc r) = suc r ∷ []
 
--- between units: the root is a node and all that is in use, the sealed buffer is sealed, and the finished one has not the root
+-- between units: the root is a node and all that is in use, the sealed buffer is sealed, and the root does not lie in
+-- the finished one
 pub record IsKeeping {H : Type 0} (ledger : Ledger H) (m : Records) (k : Keeping) : Type 0 where
   pub unit : ledger.unit ≡ false
   pub owns : OwnsAll ledger m (entries (root_refs k.root) ∷ [])

@@ -1,4 +1,4 @@
-//! What a call of a row comes to, and how a row says it.
+//! The results of a row's calls, and how a row writes them.
 use arena_api::{Advance, Oldest};
 use std::alloc::AllocError;
 use store_api::StoreError;
@@ -14,12 +14,12 @@ pub enum Answer {
     Claimed(u32, u32),
     Committed(Committed),
     NoCommit,
-    /// The reference of a new entry, none of one that was made before.
+    /// The reference of a new entry, or none if the entry was made before.
     Entry(Option<u32>),
-    /// The same of a node, and its commit.
+    /// The same for a node, with its commit.
     Turned(Option<u32>, Committed),
     Refused(StoreError),
-    /// How many entries a unit made, how many of them new, and why no more.
+    /// How many entries a unit made, how many of them are new, and why no more were made.
     Made(u32, u32, Option<StoreError>),
     Advanced(Advance),
     Reclaimed(Oldest),
@@ -30,7 +30,7 @@ pub enum Answer {
     Guards(Look),
     Closed(u64),
     Done,
-    /// The seat is in no state for what it was asked.
+    /// The seat is not in a state for the task.
     Unfit,
 }
 
@@ -104,7 +104,7 @@ fn push_look(text: &mut String, look: Look) -> Result<(), AllocError> {
     }
 }
 
-/// What a row says of an answer.
+/// Writes how a row says an answer.
 pub fn push_answer(text: &mut String, answer: Answer) -> Result<(), AllocError> {
     match answer {
         Answer::Buffer(buffer) => write!(text, "buffer {buffer}"),

@@ -1,4 +1,4 @@
-//! The seat of a store's keeper, whose work is the writer's, and what a row asks of it.
+//! The seat of a store's keeper, whose work is the writer's, and its tasks.
 ghost use Rattle.std.specs.Prelude.{◌≡◌, [], ◌∷◌, true, false, None, Some, IfSome, IfNone, IfOk, OnErr};
 ghost use Rattle.entry_ref.specs.References.{buffer_of};
 ghost use Rattle.store_api.specs.Ledgers.{is_width, is_this, IsNew};
@@ -14,7 +14,7 @@ use entry_ref::EntryRef;
 use store_api::{Store, StoreError, drop_one, make_entry};
 use test_kit::{Committed, NODE, OneNode, words_of};
 
-/// The last commit, the root, 0 for none, and the buffers that were sealed and finished since.
+/// The last commit, the root (0 if there is none), and the buffers sealed and finished since then.
 #[derive(Clone, Copy, Drop)]
 pub struct Keeping {
     pub last: u32,
@@ -35,7 +35,8 @@ fn drop_root<S: Store<22>>(store: &mut S, root: u32)
     }
 }
 
-/// A node of the next commit's words in place of the root, in a unit that is accepted, or undone where there is none.
+/// Makes a node of the next commit's words in place of the root, in a unit that is accepted, or undone after an
+/// error.
 fn put_node<S: Store<22>>(store: &mut S, keeping: Keeping) -> Result<Keeping, StoreError>
     requires { IsKeeping (S.ledger store.old) (S.records store.old) keeping }
     ensures ok { IfOk result (IsKeeping (S.ledger store.new) (S.records store.new)) }
@@ -60,7 +61,7 @@ fn put_node<S: Store<22>>(store: &mut S, keeping: Keeping) -> Result<Keeping, St
     }
 }
 
-/// Commits the root. None where no commit is left.
+/// Commits the root. Returns `None` if no commit is left.
 fn commit_root<S: Store<22, Layout = OneNode>>(
     store: &mut S,
     keeping: Keeping,
@@ -107,7 +108,7 @@ fn commit<S: Store<22, Layout = OneNode>>(store: &mut S, keeping: Keeping) -> (K
     }
 }
 
-/// A node, and its commit.
+/// Makes a node, and commits it.
 fn turn<S: Store<22, Layout = OneNode>>(
     store: &mut S,
     keeping: Keeping,
@@ -128,7 +129,7 @@ fn turn<S: Store<22, Layout = OneNode>>(
     }
 }
 
-/// The width of entries that a row names, of the few that rows have.
+/// Returns the width of entries that a row names, of the few that occur in rows.
 fn width_of(number: u32) -> u32
     ensures { is_width result ≡ true }
 {
@@ -139,7 +140,8 @@ fn width_of(number: u32) -> u32
     }
 }
 
-/// Makes entries until as many are made as are asked for, or one is refused: how many, how many of them new, and why no more.
+/// Makes entries until the given number is reached or one is refused. Returns how many, how many of them are new, and
+/// why no more were made.
 fn fill<S: Store<22>>(
     store: &mut S,
     marks: &mut Marks,
@@ -196,7 +198,7 @@ fn seal<S: Store<22>>(store: &mut S, keeping: Keeping) -> (Keeping, Answer)
     }
 }
 
-/// The sealed buffer, where none is finished and the root is in another.
+/// Returns the sealed buffer, if none is finished and the root lies in another.
 fn emptied(keeping: &Keeping) -> Option<u32>
     ensures sealed { IfSome result (λ b. keeping.now.sealed ≡ Some b) }
     ensures none { IfSome result (λ b. keeping.now.finished ≡ None) }
@@ -261,7 +263,7 @@ pub struct Keeper<S: Store<22>> {
     ghost keeps: { IsKeeping (S.ledger store) (S.records store) keeping },
 }
 
-/// The keeper of a new store.
+/// Returns the keeper of a new store.
 pub fn keeper_of<S: Store<22>>(store: S) -> Keeper<S>
     requires { IsNew (S.ledger store) }
 {

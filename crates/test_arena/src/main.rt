@@ -1,5 +1,5 @@
-//! The running memory: rows of steps from standard input, and a run of many readers beside a writer whose buffers are
-//! given again all the time.
+//! Tests of the running memory: rows of steps from standard input, and a run of many readers beside a writer that
+//! reuses its buffers all the time.
 #![tactic(auto)]
 
 mod answers;
@@ -19,8 +19,8 @@ use std::io;
 use std::process::ExitCode;
 use std::thread::Threads;
 
-/// What the words after the program's name ask for: how many commits are made, and, by any second word, that what all
-/// came to is told.
+/// What the words after the program's name request: the number of commits, and, if there is a second word, that the
+/// result of the run is printed.
 #[derive(Clone, Copy)]
 struct Asked {
     commits: u32,
@@ -34,7 +34,7 @@ fn asked_in(rt: &HostRuntime) -> Option<Asked> {
     Some(Asked { commits, told })
 }
 
-/// What is wrong with a run of so many commits, if anything is.
+/// Returns what is wrong with a run of this many commits, if anything.
 fn fault_of(tally: &Tally, commits: u32) -> Option<&'static str> {
     if tally.turns.commits != commits || tally.sights.last != commits {
         return Some("the last commit was not reached");
@@ -54,7 +54,7 @@ fn fault_of(tally: &Tally, commits: u32) -> Option<&'static str> {
     None
 }
 
-/// Runs so many commits, and tells what is wrong with them. Whether nothing is.
+/// Makes a run of commits, and prints what is wrong with it. Returns whether nothing is.
 fn run<R: Threads + Sync>(rt: &HostRuntime, threads: &R, asked: Asked) -> io::Result<bool> {
     let commits = asked.commits;
     let tally = torture(threads, rt.alloc(), commits)?;
@@ -71,7 +71,7 @@ fn run<R: Threads + Sync>(rt: &HostRuntime, threads: &R, asked: Asked) -> io::Re
     Ok(false)
 }
 
-/// Plays the rows, and then runs so many commits. Whether all is as it should be.
+/// Plays the rows, and then makes a run of commits. Returns whether everything is right.
 fn play<R: Threads + Sync>(rt: &HostRuntime, threads: &R, asked: Asked) -> io::Result<bool> {
     let (steps, right) = compare(rt, threads)?;
     println!(rt; "{steps} steps, {right} as wanted")?;

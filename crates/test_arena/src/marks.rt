@@ -1,7 +1,7 @@
 //! Which entries of a row were made before.
 use entry_ref::EntryRef;
 
-/// Of each buffer the width of its entries and the last offset that was made.
+/// For each buffer, the width of its entries and the last offset that was made.
 #[derive(Default, Drop)]
 pub struct Marks {
     widths: [u32; 8],
@@ -9,7 +9,7 @@ pub struct Marks {
 }
 
 impl Marks {
-    /// Whether an entry is of an offset that was not made before. It is from now on.
+    /// Returns whether an entry has an offset that was not made before. Afterwards it counts as made.
     pub fn is_new(&mut self, width: u32, reference: u32) -> bool {
         let entry = EntryRef::<22>::from_raw(reference);
         let at = (entry.buffer() % 8) as usize;
@@ -21,7 +21,7 @@ impl Marks {
         true
     }
 
-    /// The reference of a new entry, none of one that was made before.
+    /// Returns the reference of a new entry, or `None` if it was made before.
     pub fn note(&mut self, width: u32, reference: u32) -> Option<u32> {
         if self.is_new(width, reference) {
             return Some(reference);

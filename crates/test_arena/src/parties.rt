@@ -1,4 +1,5 @@
-//! A row's parties, each in a thread of its own: the steps go round, and each waits for its own.
+//! The parties of a row, each in a thread of its own. The parties take their steps in the order of the row, and each
+//! waits for its own.
 ghost use Rattle.arena_api.specs.Calls.{IsFresh};
 ghost use Rattle.word_arena.specs.Knows.{view_of};
 ghost use Rattle.word_arena.specs.Ruled.{writer_of};
@@ -22,7 +23,7 @@ struct Fresh<'a> {
     ghost fresh: { IsFresh (view_of writer.place.table_id (writer_of writer.place.me.0)) },
 }
 
-/// The one seat of a thread: the writer's, the writer's for a store, or a reader's.
+/// The seat of a thread: the writer's, the writer's for a store, or a reader's.
 #[derive(Drop)]
 enum Post<'a> {
     Write(Writer<'a, 22, OneNode>),
@@ -30,7 +31,7 @@ enum Post<'a> {
     Read(Reader<'a, 22, OneNode>),
 }
 
-/// What one thread does.
+/// The task of one thread.
 #[derive(Drop)]
 struct Party<'a> {
     alloc: Global,
@@ -40,7 +41,7 @@ struct Party<'a> {
     done: &'a AtomicU64,
 }
 
-/// What the steps of the writer come to.
+/// Returns the results of the writer's steps.
 fn write_all<'a>(
     alloc: Global,
     writer: Writer<'a, 22, OneNode>,
@@ -65,7 +66,7 @@ fn write_all<'a>(
     Ok(told)
 }
 
-/// The steps of a store's keeper over the writer's seat.
+/// Takes the steps of a store's keeper over the writer's seat.
 fn keep_all(
     alloc: Global,
     fresh: Fresh<'_>,
@@ -94,7 +95,7 @@ fn play(party: Party<'_>) -> Result<Vec<Told>, AllocError> {
     }
 }
 
-/// A reader, if there is a seat.
+/// Makes a reader, if there is a seat.
 fn seat<'a>(writer: &mut Writer<'a, 22, OneNode>) -> Option<Reader<'a, 22, OneNode>>
     requires { IsFresh (view_of writer.old.place.table_id (writer_of writer.old.place.me.0)) }
     ensures { IsFresh (view_of writer.new.place.table_id (writer_of writer.new.place.me.0)) }
@@ -105,7 +106,7 @@ fn seat<'a>(writer: &mut Writer<'a, 22, OneNode>) -> Option<Reader<'a, 22, OneNo
     }
 }
 
-/// As many readers as there are to be.
+/// Makes the readers of the row.
 fn readers_of<'a>(
     alloc: Global,
     writer: &mut Writer<'a, 22, OneNode>,
@@ -134,7 +135,7 @@ fn readers_of<'a>(
     Ok(parties)
 }
 
-/// The writer's seat, for a store or not.
+/// Returns the writer's seat, for a store or not.
 fn post_of<'a>(writer: Writer<'a, 22, OneNode>, store: bool) -> Post<'a>
     requires { IsFresh (view_of writer.place.table_id (writer_of writer.place.me.0)) }
 {
@@ -145,7 +146,7 @@ fn post_of<'a>(writer: Writer<'a, 22, OneNode>, store: bool) -> Post<'a>
     }
 }
 
-/// The readers, and the writer.
+/// Returns the readers and the writer.
 fn parties<'a>(
     alloc: Global,
     writer: Writer<'a, 22, OneNode>,
@@ -183,7 +184,7 @@ fn play_all<'a, R: Threads + Sync>(
     )
 }
 
-/// What each step of a row came to, by the parties.
+/// Returns the result of each step of a row, by the parties.
 pub fn answers<R: Threads + Sync>(
     rt: &R,
     alloc: Global,

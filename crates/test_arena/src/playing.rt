@@ -1,27 +1,27 @@
-//! A party's steps, each as soon as it has come.
+//! The steps of a party, each as soon as it is due.
 use crate::answers::Answer;
 use crate::steps::{Step, Task};
 use std::alloc::{AllocError, Global};
 use std::sync::atomic::{AtomicU64, Ordering};
 use std::thread;
 
-/// How often a party looks whether its step has come.
+/// How often a party checks whether its step is due.
 const LOOKS: u64 = 50_000_000;
 
 /// The seat of a reader or of a store's keeper.
 pub trait Seat {
-    /// What it comes to at a task.
+    /// Does a task, and returns its result.
     fn take(&mut self, task: Task) -> Answer;
 }
 
-/// What a step came to.
+/// The result of a step.
 #[derive(Clone, Copy, Drop)]
 pub struct Told {
     pub step: usize,
     pub answer: Answer,
 }
 
-/// Waits until as many steps are done.
+/// Waits until `step` steps are done. Returns whether that happened.
 pub fn comes(done: &AtomicU64, step: usize) -> bool {
     for _ in 0..LOOKS {
         if done.load(Ordering::SeqCst) == step as u64 {
@@ -32,7 +32,7 @@ pub fn comes(done: &AtomicU64, step: usize) -> bool {
     false
 }
 
-/// Takes a step. None is taken where it does not come.
+/// Takes a step. Takes none if it does not become due.
 fn take_step<P: Seat>(
     seat: &mut P,
     step: usize,
@@ -49,7 +49,7 @@ fn take_step<P: Seat>(
     Ok(true)
 }
 
-/// What the steps of the party of this number come to.
+/// Returns the results of the steps of the party with this number.
 pub fn take_steps<P: Seat + Drop>(
     alloc: Global,
     seat: P,

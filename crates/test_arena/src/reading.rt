@@ -1,4 +1,4 @@
-//! A reader's seat, and what a row asks of it.
+//! A reader's seat, and its tasks.
 ghost use Rattle.std.specs.Prelude.{◌≡◌, ◌<◌};
 
 use crate::answers::Answer;
@@ -10,7 +10,7 @@ use std::sync::ledger::{Blank, Ledger};
 use test_kit::{Held, OneNode, guarded, raised, tried};
 use word_arena::{Again, Aimed, Reader, Steps};
 
-/// What a reader's seat stands at.
+/// The state of a reader's seat.
 #[derive(Drop)]
 pub enum Stand<'a> {
     Idle(Reader<'a, 22, OneNode>),
@@ -44,7 +44,7 @@ fn try_once<'a>(reader: Reader<'a, 22, OneNode>) -> (Stand<'a>, Answer) {
     }
 }
 
-/// A guard after as many tries as it takes.
+/// Returns a guard, after as many tries as it takes.
 fn guard_by<'a, C: Ledger>(reader: Reader<'a, 22, OneNode>, blank: Blank) -> Held<'a>
     requires name { blank.name ≡ C.name }
     requires parts { blank.parts ≡ C.parts }
@@ -54,7 +54,7 @@ fn guard_by<'a, C: Ledger>(reader: Reader<'a, 22, OneNode>, blank: Blank) -> Hel
     guarded(reader, &mut tries)
 }
 
-/// What an idle reader comes to.
+/// Does a task with an idle reader.
 fn from_idle<'a>(reader: Reader<'a, 22, OneNode>, task: Task) -> (Stand<'a>, Answer) {
     match task {
         Task::Aim => (Stand::Aimed(reader.aim()), Answer::Aimed),
@@ -67,6 +67,7 @@ fn from_idle<'a>(reader: Reader<'a, 22, OneNode>, task: Task) -> (Stand<'a>, Ans
 fn from_guard<'a>(held: Held<'a>, task: Task) -> (Stand<'a>, Answer) {
     match task {
         Task::Read => told(held),
+        Task::Again => told(held.again()),
         Task::Release => (Stand::Idle(held.release()), Answer::Done),
         Task::Forget => {
             drop(held);
@@ -76,7 +77,7 @@ fn from_guard<'a>(held: Held<'a>, task: Task) -> (Stand<'a>, Answer) {
     }
 }
 
-/// What a reader's seat comes to.
+/// Does a task with a reader's seat.
 fn read_on<'a>(stand: Stand<'a>, task: Task) -> (Stand<'a>, Answer) {
     match stand {
         Stand::Idle(reader) => from_idle(reader, task),

@@ -1,5 +1,5 @@
-//! Rows: `row READERS COMMITS GENERATIONS BUFFERS`, or `store ..`, begins one, `PARTY TASK = ANSWER` is a step of it. Other lines are
-//! remarks.
+//! Rows: `row READERS COMMITS GENERATIONS BUFFERS`, or `store ..`, begins a row, and `PARTY TASK = ANSWER` is a step
+//! of it. Other lines are comments.
 use crate::answers::{Answer, push_answer};
 use crate::parties::answers;
 use crate::playing::Told;
@@ -9,7 +9,7 @@ use std::io;
 use std::thread::Threads;
 use test_kit::Tally;
 
-/// Counts what a step came to. One that differs prints itself.
+/// Counts the result of a step. A wrong result is printed.
 fn judge(
     rt: &HostRuntime,
     step: &Step,
@@ -22,7 +22,7 @@ fn judge(
     tally.note(rt, &step.asked, text, &step.wanted)
 }
 
-/// Counts what the steps of a party came to.
+/// Counts the results of a party's steps.
 fn judge_all(
     rt: &HostRuntime,
     steps: &[Step],
@@ -38,7 +38,8 @@ fn judge_all(
     Ok(())
 }
 
-/// The row so far with its steps, the text of the last answer, how many steps there were, and the count of those that were told.
+/// The current row with its steps, the text of the last answer, the number of steps, and the count of those with a
+/// result.
 #[derive(Drop)]
 struct Rows {
     setting: Setting,
@@ -59,7 +60,7 @@ impl Rows {
         }
     }
 
-    /// Plays the row so far.
+    /// Plays the current row.
     fn play<R: Threads + Sync>(&mut self, rt: &HostRuntime, threads: &R) -> io::Result<()> {
         self.all = self.all.saturating_add(self.steps.len() as u64);
         for party in answers(threads, rt.alloc(), self.setting, &self.steps)? {
@@ -92,7 +93,7 @@ impl Rows {
     }
 }
 
-/// Plays the rows of standard input: how many steps there were, and how many of them came to what was wanted.
+/// Plays the rows of standard input. Returns the number of steps, and how many of them had the expected result.
 pub fn compare<R: Threads + Sync>(rt: &HostRuntime, threads: &R) -> io::Result<(u64, u64)> {
     let mut rows = Rows::new(rt.alloc());
     for line in rt.lines(rt.alloc()) {

@@ -1,15 +1,15 @@
-//! A row's steps as its lines say them.
+//! The steps of a row, as its lines say them.
 use std::alloc::{AllocError, Global};
 
 #[derive(Clone, Copy, Drop)]
 pub enum Task {
     /// A node in a buffer of its own, its commit, the next generation, and a reclaim.
     Node,
-    /// The same with no node.
+    /// The same without a node.
     Commit,
-    /// A node of a store, with no commit.
+    /// A node of a store, without a commit.
     Put,
-    /// Entries of this width, at most so many, in a unit that is undone.
+    /// Entries of this width, at most this many, in a unit that is undone.
     Fill(u32, u32),
     /// Seals the victim.
     Seal,
@@ -18,7 +18,7 @@ pub enum Task {
     /// A buffer for entries of this width, and an empty commit.
     Claim(u32),
     HandOut(u32),
-    /// Puts the buffer that was claimed on hold.
+    /// Puts the claimed buffer on hold.
     Retire,
     Advance,
     Reclaim,
@@ -26,22 +26,24 @@ pub enum Task {
     Left,
     /// A reader that is dropped at once.
     Seat,
-    /// A reader that is taken in at once.
+    /// A reader that is joined at once.
     TakeIn,
     Aim,
     Raise,
-    /// Both in one call.
+    /// An aim and a raise in one call.
     Try,
-    /// As often as it takes.
+    /// A guard, after as many tries as it takes.
     Guard,
     Read,
+    /// Loads the last commit again, under the same hold.
+    Again,
     Release,
-    /// Drops a guard that is not released.
+    /// Drops a guard without a release.
     Forget,
     Unknown,
 }
 
-/// What one of the parties is asked, and what must be answered. The writer is party 0.
+/// A task of one party, and the expected answer. The writer is party 0.
 #[derive(Drop)]
 pub struct Step {
     pub party: u32,
@@ -80,13 +82,14 @@ fn task_in(words: &str) -> Task {
         "try" => Task::Try,
         "guard" => Task::Guard,
         "read" => Task::Read,
+        "again" => Task::Again,
         "release" => Task::Release,
         "forget" => Task::Forget,
         _ => Task::Unknown,
     }
 }
 
-/// A step from `PARTY TASK = ANSWER`, if the line is one.
+/// Returns the step of a line `PARTY TASK = ANSWER`, if the line is one.
 pub fn step_in(alloc: Global, line: &str) -> Result<Option<Step>, AllocError> {
     let Some((asked, wanted)) = line.split_once(" = ") else {
         return Ok(None);
@@ -100,7 +103,8 @@ pub fn step_in(alloc: Global, line: &str) -> Result<Option<Step>, AllocError> {
     }))
 }
 
-/// What a row is made of: whether the writer is in a store, how many readers there are, the limits, and how many buffers.
+/// The setting of a row: whether the writer is in a store, the number of readers, the limits, and the number of
+/// buffers.
 #[derive(Clone, Copy, Default, Drop)]
 pub struct Setting {
     pub store: bool,
@@ -110,13 +114,13 @@ pub struct Setting {
     pub buffers: u32,
 }
 
-/// The next number of a line, and what follows a space after it.
+/// Returns the next number of a line, and what follows a space after it.
 fn next_number(words: &str) -> (u64, &str) {
     let (number, rest) = words.split_once(' ').unwrap_or((words, ""));
     (number.parse::<u64>().unwrap_or(0), rest)
 }
 
-/// A setting from `READERS COMMITS GENERATIONS BUFFERS`.
+/// Returns the setting of `READERS COMMITS GENERATIONS BUFFERS`.
 fn setting_of(words: &str, store: bool) -> Setting {
     let (readers, rest) = next_number(words);
     let (commits, rest) = next_number(rest);
@@ -131,7 +135,7 @@ fn setting_of(words: &str, store: bool) -> Setting {
     }
 }
 
-/// A setting from `row ..` or `store ..`, if the line is one.
+/// Returns the setting of a line `row ..` or `store ..`, if the line is one.
 pub fn setting_in(line: &str) -> Option<Setting> {
     if let Some(words) = line.strip_prefix("row ") {
         return Some(setting_of(words, false));

@@ -1,4 +1,4 @@
-//! Many readers beside a writer that goes round its buffers.
+//! Many readers beside a writer that reuses its buffers in turn.
 ghost use Rattle.std.specs.Prelude.{IfSome};
 ghost use Rattle.test_kit.specs.Turns.{IsActive};
 
@@ -13,21 +13,21 @@ pub const READERS: u32 = 8;
 
 const BUFFERS: u32 = 8;
 
-/// How often a writer that finds no buffer free tries again.
+/// How often a writer that finds no free buffer tries again.
 const WAITS: u32 = 1_000_000_000;
 
-/// How often a reader looks, at most.
+/// The greatest number of looks of a reader.
 const LOOKS: u64 = 1_000_000_000_000;
 
 /// What a reader saw.
 #[derive(Clone, Copy, Debug, Default, Drop)]
 pub struct Sight {
     pub guards: u64,
-    /// Holds that were closed when it came.
+    /// Holds that were closed when the reader raised them.
     pub bounces: u64,
-    /// Guards under which some word was not of the guard's commit.
+    /// Guards under which some word did not belong to the guard's commit.
     pub wrong: u64,
-    /// Guards of a commit below one that was seen before.
+    /// Guards of a commit older than one seen before.
     pub falls: u64,
     pub last: u32,
 }
@@ -38,11 +38,11 @@ pub struct Turns {
     pub commits: u32,
     /// Buffers handed out that had been handed out before.
     pub again: u64,
-    /// The most looks for a buffer, for one commit, that found none free.
+    /// The greatest number of tries for one commit that found no free buffer.
     pub longest: u32,
 }
 
-/// What all of them came to.
+/// The result of all threads.
 #[derive(Clone, Copy, Debug, Default, Drop)]
 pub struct Tally {
     pub turns: Turns,
@@ -73,7 +73,7 @@ impl Sight {
     }
 }
 
-/// One look: a guard, its words, and its release; or the hold was closed.
+/// Makes one look: takes a guard, reads its words and releases it; or finds the hold closed.
 fn look<'a>(aimed: Aimed<'a, 22, OneNode>, sight: &mut Sight) -> Reader<'a, 22, OneNode> {
     match raised(aimed) {
         Ok(held) => {
@@ -89,8 +89,8 @@ fn look<'a>(aimed: Aimed<'a, 22, OneNode>, sight: &mut Sight) -> Reader<'a, 22, 
     }
 }
 
-/// Between its aim and its raise a reader lets some time pass, each time another, so that most of it is behind no guard: a
-/// reader that the system stops under a guard stops the writer too.
+/// Lets some time pass between a reader's aim and its raise, different each time, so that the reader has no guard
+/// most of the time. If the system stops a reader that has a guard, the writer has to wait too.
 fn linger(ticks: &AtomicU64, look: u64) {
     for _ in 0..look % 64 * 16 {
         ticks.fetch_add(1, Ordering::SeqCst);
@@ -113,7 +113,7 @@ fn watch<'a>(reader: Reader<'a, 22, OneNode>, commits: u32) -> Sight {
     sight
 }
 
-/// The next commit, as soon as a buffer is free.
+/// Makes the next commit, as soon as a buffer is free.
 fn place<W: Work<22, Layout = OneNode>>(
     work: &mut W,
     before: Option<u32>,
@@ -136,7 +136,7 @@ fn place<W: Work<22, Layout = OneNode>>(
     None
 }
 
-/// Commits a node after another, each in a buffer of its own.
+/// Commits one node after another, each in a buffer of its own.
 pub fn write<W: Work<22, Layout = OneNode>>(work: &mut W, commits: u32) -> Turns {
     let mut turns = Turns::default();
     let mut seen = [false; 8];
@@ -160,14 +160,14 @@ pub fn write<W: Work<22, Layout = OneNode>>(work: &mut W, commits: u32) -> Turns
     turns
 }
 
-/// The one seat of a thread.
+/// The seat of a thread.
 #[derive(Drop)]
 enum Post<'a> {
     Write(Writer<'a, 22, OneNode>),
     Watch(Reader<'a, 22, OneNode>),
 }
 
-/// What one thread does.
+/// The task of one thread.
 #[derive(Drop)]
 struct Job<'a> {
     post: Post<'a>,
@@ -188,7 +188,7 @@ fn work_on(job: Job<'_>) -> Tally {
     tally
 }
 
-/// The writer, and as many readers as there are to be.
+/// Returns the tasks of the writer and the readers.
 fn jobs_of<'a>(
     alloc: Global,
     writer: Writer<'a, 22, OneNode>,
@@ -234,7 +234,7 @@ fn tally_of(parts: &[Tally], commits: u32) -> Tally {
     tally
 }
 
-/// Readers beside a writer of so many commits, each in a thread of its own.
+/// Runs readers beside a writer of a number of commits, each in a thread of its own.
 pub fn torture<R: Threads + Sync>(
     rt: &R,
     alloc: Global,

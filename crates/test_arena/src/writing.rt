@@ -1,4 +1,4 @@
-//! The writer's seat, and what a row asks of it.
+//! The writer's seat, and its tasks.
 ghost use Rattle.std.specs.Prelude.{◌≡◌, ◌<◌, None};
 ghost use Rattle.word_arena.specs.Ruled.{writer_of};
 ghost use Rattle.word_arena.specs.Knows.{view_of};
@@ -19,7 +19,7 @@ pub struct Past {
 }
 
 impl Past {
-    /// No buffer is known after this commit.
+    /// Returns the state after a commit, in which no buffer is known.
     pub fn of(last: u32) -> Past
         ensures node { result.node ≡ None }
         ensures claimed { result.claimed ≡ None }
@@ -105,7 +105,7 @@ fn hand_out<W: Work<22, Layout = OneNode>>(work: &mut W, width: u32) -> Answer
     }
 }
 
-/// What the work comes to.
+/// Does a task with the work.
 pub fn work_on<W: Work<22, Layout = OneNode>>(
     work: &mut W,
     past: Past,
@@ -145,7 +145,7 @@ fn take_in(writer: &mut Writer<'_, 22, OneNode>) -> Answer {
     }
 }
 
-/// What the writer's seat comes to.
+/// Does a task with the writer's seat.
 pub fn write_on(writer: &mut Writer<'_, 22, OneNode>, past: Past, task: Task) -> (Past, Answer)
     requires { IsOfPast (view_of writer.old.place.table_id (writer_of writer.old.place.me.0)) past }
     ensures { IsOfPast (view_of writer.new.place.table_id (writer_of writer.new.place.me.0)) result.0 }

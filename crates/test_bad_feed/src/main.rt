@@ -1,4 +1,4 @@
-//! The program `attr` with a feed that is refused: it ends with 3.
+//! The program `attr` with a feed that is refused: its exit status is 3.
 #![tactic(auto)]
 
 use attr_run::{exit_of, run_program};

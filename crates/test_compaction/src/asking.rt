@@ -1,4 +1,5 @@
-//! All that is asked of an image of one attribute: its documents with their items, and of each value the documents and their scores.
+//! All questions to an image of one attribute: its documents with their items, and for each value the documents and
+//! their scores.
 ghost use Rattle.std.specs.Prelude.{◌≡◌, ◌≤◌, length, slice_get, Some};
 ghost use Rattle.attr_images.specs.Images.{IsLawfulImage};
 ghost use Rattle.attr_images.specs.Shapes.{shape_of, types_of};
@@ -12,7 +13,7 @@ use query_eval::{hits, scores};
 use std::alloc::{AllocError, Global};
 use std::collections::BTreeMap;
 
-/// How many operations an image has.
+/// Returns the number of operations of an image.
 fn ask_operations<const OFFSET_BITS: u32, F: Frozen<OFFSET_BITS>>(
     frozen: &mut F,
     root: EntryRef<OFFSET_BITS>,
@@ -27,7 +28,7 @@ fn ask_operations<const OFFSET_BITS: u32, F: Frozen<OFFSET_BITS>>(
     }
 }
 
-/// How many documents meet the first of these queries.
+/// Returns how many documents match the first of these queries.
 fn ask_first<const OFFSET_BITS: u32, F: Frozen<OFFSET_BITS>>(
     alloc: Global,
     frozen: &mut F,
@@ -47,14 +48,15 @@ fn ask_first<const OFFSET_BITS: u32, F: Frozen<OFFSET_BITS>>(
     Ok(found.len())
 }
 
-/// The documents that have some value in the first attribute that meets a leaf. A list of one: to drop a query itself is dear to prove.
+/// Returns a query for the documents with a value in the first attribute that meets a leaf. It is a list of one,
+/// since dropping a query itself is expensive to prove.
 fn query_of(alloc: Global, leaf: Leaf) -> Result<Vec<Query>, AllocError> {
     let mut queries = Vec::new(alloc);
     queries.push(Query::One { field: 0, leaf })?;
     Ok(queries)
 }
 
-/// How many documents have a value.
+/// Returns how many documents have a value.
 fn ask_hits<const OFFSET_BITS: u32, F: Frozen<OFFSET_BITS>>(
     alloc: Global,
     frozen: &mut F,
@@ -71,7 +73,7 @@ fn ask_hits<const OFFSET_BITS: u32, F: Frozen<OFFSET_BITS>>(
     ask_first(alloc, frozen, root, fields, query.as_slice())
 }
 
-/// How many documents have any value.
+/// Returns how many documents have any value.
 fn ask_every<const OFFSET_BITS: u32, F: Frozen<OFFSET_BITS>>(
     alloc: Global,
     frozen: &mut F,
@@ -91,7 +93,7 @@ fn ask_every<const OFFSET_BITS: u32, F: Frozen<OFFSET_BITS>>(
     ask_first(alloc, frozen, root, fields, query.as_slice())
 }
 
-/// A value by itself, to be scored by.
+/// Returns the parts of a dot product with a single value.
 fn parts_of(alloc: Global, value: &Value) -> Result<Parts, AllocError> {
     let mut parts = Parts::new(alloc);
     parts.push(Part {
@@ -101,7 +103,7 @@ fn parts_of(alloc: Global, value: &Value) -> Result<Parts, AllocError> {
     Ok(parts)
 }
 
-/// How many documents have a score by a value. Of a list that is a tree a score reads the weights too.
+/// Returns how many documents have a score by a value. For a list that is a tree, a score also reads the weights.
 fn ask_scores<const OFFSET_BITS: u32, F: Frozen<OFFSET_BITS>>(
     alloc: Global,
     frozen: &mut F,
@@ -119,7 +121,7 @@ fn ask_scores<const OFFSET_BITS: u32, F: Frozen<OFFSET_BITS>>(
     Ok(scored.len())
 }
 
-/// How many documents have a value, if as many have a score by it.
+/// Returns how many documents have a value, if as many have a score by it.
 fn ask_value<const OFFSET_BITS: u32, F: Frozen<OFFSET_BITS>>(
     alloc: Global,
     frozen: &mut F,
@@ -141,7 +143,7 @@ fn ask_value<const OFFSET_BITS: u32, F: Frozen<OFFSET_BITS>>(
     }
 }
 
-/// How many documents have each of some values, all together, if each is as it should be.
+/// Returns the sum of the numbers of documents of these values, if each is right.
 fn ask_values<const OFFSET_BITS: u32, F: Frozen<OFFSET_BITS>>(
     alloc: Global,
     frozen: &mut F,
@@ -168,7 +170,7 @@ fn has_value(values: &[Value], value: &Value) -> bool {
     values.iter().any(|known| compare(known, value).is_eq())
 }
 
-/// With those values of items that are not among them.
+/// Adds the values of items that are not already among the values.
 fn add_values(values: &mut Vec<Value>, items: &Items) -> Result<(), AllocError> {
     for item in items.as_slice() {
         if !has_value(values.as_slice(), &item.value) {
@@ -185,7 +187,7 @@ fn add_first(values: &mut Vec<Value>, items: &FieldItems) -> Result<(), AllocErr
     }
 }
 
-/// The values that documents have in the first attribute, each once.
+/// Returns the values that documents have in the first attribute, each once.
 fn values_of(
     alloc: Global,
     documents: &BTreeMap<Doc, FieldItems>,
@@ -197,7 +199,7 @@ fn values_of(
     Ok(values)
 }
 
-/// The values that the documents of an image have in the first attribute, each once.
+/// Returns the values that the documents of an image have in the first attribute, each once.
 fn values_in<const OFFSET_BITS: u32, F: Frozen<OFFSET_BITS>>(
     alloc: Global,
     frozen: &mut F,
@@ -215,7 +217,7 @@ fn values_in<const OFFSET_BITS: u32, F: Frozen<OFFSET_BITS>>(
     values_of(alloc, &documents)
 }
 
-/// How many documents have each value, all together, if each is as it should be.
+/// Returns the sum of the numbers of documents of each value, if each is right.
 fn ask_each<const OFFSET_BITS: u32, F: Frozen<OFFSET_BITS>>(
     alloc: Global,
     frozen: &mut F,
@@ -234,7 +236,8 @@ fn ask_each<const OFFSET_BITS: u32, F: Frozen<OFFSET_BITS>>(
     ask_values(alloc, frozen, root, fields, values.as_slice())
 }
 
-/// Asks all; whether the documents of all values are no more than those of each, and as many of each value have a score.
+/// Asks everything. Returns whether the documents of all values are no more than those of each value together, and
+/// each value has as many documents with a score.
 pub fn ask_all<const OFFSET_BITS: u32, F: Frozen<OFFSET_BITS>>(
     alloc: Global,
     frozen: &mut F,

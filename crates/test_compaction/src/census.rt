@@ -1,4 +1,4 @@
-//! Which records attributes reach in which buffer, by what they are.
+//! Which records the attributes reach in each buffer, by role.
 use attr_types::{Field, Kind, ValueType};
 use check_images::{CheckFault, Keys, check_tree};
 use entry_ref::{word_in, words_at};
@@ -6,11 +6,11 @@ use std::alloc::{AllocError, Global};
 use std::collections::BTreeMap;
 use tree_read::FIRST_VALUE;
 
-/// How many buffers a reference tells apart.
+/// The number of buffers that references can name.
 const BUFFERS: usize = 1024;
 
-/// What records are, each moved in one phase of a compaction: values that a dictionary has as keys; what documents refer to; lists; nodes
-/// of dictionaries and of trees of documents.
+/// The roles of records, each of which is moved in one phase of a compaction: keys of dictionaries, records of
+/// documents, posting lists, and nodes of dictionaries and of document trees.
 pub const ROLES: usize = 4;
 
 const KEYS: usize = 0;
@@ -21,14 +21,14 @@ const LISTS: usize = 2;
 
 const NODES: usize = 3;
 
-/// How many there are of each in each buffer, and which records these are.
+/// The number of records of each role in each buffer, and which records these are.
 #[derive(Drop)]
 pub struct Census {
     counts: Vec<u32>,
     reached: Vec<u64>,
 }
 
-/// Where the count of a role in a buffer stands.
+/// Returns the index of the count of a role in a buffer.
 fn place_of(role: usize, buffer: usize) -> usize {
     role.saturating_mul(BUFFERS).saturating_add(buffer)
 }
@@ -53,7 +53,7 @@ impl Census {
         Ok(())
     }
 
-    /// How many there are of one in a buffer.
+    /// Returns the number of records of a role in a buffer.
     pub fn of(&self, role: usize, buffer: u32) -> u32 {
         match self.counts.get(place_of(role, buffer as usize)) {
             Some(count) => *count,
@@ -61,7 +61,7 @@ impl Census {
         }
     }
 
-    /// The records of an image, as they stand.
+    /// Returns the records of an image, as they are.
     pub fn image_in(
         &self,
         alloc: Global,
@@ -78,7 +78,7 @@ impl Census {
     }
 }
 
-/// The nodes from one of this level on.
+/// Adds the nodes from one of this level on.
 fn add_nodes(
     census: &mut Census,
     role: usize,
@@ -104,7 +104,7 @@ fn add_nodes(
     Ok(())
 }
 
-/// The nodes of a tree.
+/// Adds the nodes of a tree.
 fn add_tree(
     census: &mut Census,
     role: usize,
@@ -118,7 +118,7 @@ fn add_tree(
     add_nodes(census, role, records, root, level as u32)
 }
 
-/// A document's record, and the values that it refers to.
+/// Adds a document's record, and the values to which it refers.
 fn add_document(
     census: &mut Census,
     kind: Kind,
@@ -142,7 +142,7 @@ fn add_document(
     Ok(())
 }
 
-/// A value's list.
+/// Adds a value's list.
 fn add_list(
     census: &mut Census,
     records: &BTreeMap<u32, Vec<u64>>,
@@ -155,7 +155,7 @@ fn add_list(
     }
 }
 
-/// The documents of an attribute.
+/// Adds the documents of an attribute.
 fn add_documents(
     alloc: Global,
     census: &mut Census,
@@ -170,7 +170,7 @@ fn add_documents(
     Ok(())
 }
 
-/// The values of an attribute's dictionary, and their lists.
+/// Adds the values of an attribute's dictionary, and their lists.
 fn add_values(
     alloc: Global,
     census: &mut Census,
@@ -201,7 +201,7 @@ fn add_field(
     Ok(())
 }
 
-/// All that an image's root record leads to.
+/// Adds everything that an image's root record reaches.
 pub fn take(
     alloc: Global,
     fields: &[Field],

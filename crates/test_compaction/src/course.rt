@@ -1,4 +1,4 @@
-//! A run under way: the plain table beside its attributes, and what it came to so far.
+//! A run in progress: the plain table beside its attributes, and its result so far.
 use crate::ended::Ended;
 use crate::script::{Script, follow_one};
 use crate::turn::{Answer, Stepped};
@@ -6,77 +6,80 @@ use attr_plain::PlainTable;
 use attr_types::Fields;
 use std::alloc::{AllocError, Global};
 
-/// What a run is.
+/// The parameters of a run.
 #[derive(Clone, Copy)]
 pub struct Load {
     pub buffers: u32,
     pub script: Script,
-    /// A commit comes after so many operations.
+    /// The number of operations of each commit.
     pub commits: u32,
-    /// How many keys a step visits.
+    /// The number of keys that a step visits.
     pub keys: u32,
-    /// How many compactions are to come to their end.
+    /// The number of compactions that must end.
     pub finishes: u32,
-    /// One commit in so many is read by the slow checker.
+    /// One commit in this many is read by the slow checker.
     pub checks: u32,
-    /// A commit comes after each step.
+    /// A commit follows each step.
     pub each: bool,
-    /// After each step the lowest document goes, and a commit comes.
+    /// After each step the document with the lowest number is removed, and a commit follows.
     pub removes: bool,
-    /// The first step of a compaction visits so many times the documents, and then the lowest document goes.
+    /// The first step of a compaction visits this many times the number of documents, and then the lowest document is
+    /// removed.
     pub parts: u32,
     /// The last operations before the first compaction wait for their commit.
     pub waits: bool,
-    /// So many readers keep guards, each over a compaction and all behind it; none where the memory is one without readers.
+    /// This many readers keep guards, each over a compaction and all later ones; 0 if the memory has no readers.
     pub guards: u32,
 }
 
-/// What a run came to.
+/// The result of a run.
 #[derive(Clone, Copy)]
 pub struct Told {
     pub differs: bool,
     pub operations: u32,
     pub commits: u32,
     pub steps: u32,
-    /// Compactions that came to their end.
+    /// The number of compactions that ended.
     pub finished: u32,
     /// Steps that were refused, and those that ended early.
     pub refused: u32,
     pub stopped: u32,
-    /// Steps for whose first key there was no memory, those that ended early for want of it, and whether the last step was one of these.
+    /// Steps without memory for their first key, those that ended early for lack of memory, and whether the last step
+    /// was one of these.
     pub short: u32,
     pub cut: u32,
     pub lacks: bool,
-    /// What was done for room since a step was refused, and how often a step went through then.
+    /// What was done for space since a step was refused, and how often a step succeeded afterwards.
     pub tries: u32,
     pub resumed: u32,
     /// There was nothing more to compact.
     pub idle: bool,
     /// An operation or a commit was refused.
     pub full: bool,
-    /// The commit before the compaction under way, whether no operation came since, and whether its first step is to come.
+    /// The commit before the compaction in progress, whether no operation followed, and whether its first step is
+    /// next.
     pub begun: usize,
     pub quiet: bool,
     pub is_first: bool,
-    /// The first commit behind guards.
+    /// The first commit after the guards.
     pub released: u32,
 }
 
-/// What comes behind a step.
+/// What follows a step.
 #[derive(Clone, Copy)]
 pub enum Next {
     /// Nothing more.
     End,
     Step,
     Commit,
-    /// The lowest document goes, and a commit comes.
+    /// The lowest document is removed, and a commit follows.
     Remove,
-    /// The buffer of this number was emptied, and goes with a commit.
+    /// The buffer with this number was emptied, and goes on hold with a commit.
     Finish(u32),
 }
 
 impl Told {
-    /// Nothing was done so far.
+    /// Returns an empty result.
     pub fn new() -> Told {
         Told {
             differs: false,
@@ -100,7 +103,7 @@ impl Told {
         }
     }
 
-    /// What an operation or a commit came to; whether it goes on.
+    /// Notes the result of an operation or a commit. Returns whether the run continues.
     fn goes_on(&mut self, answer: Answer) -> bool {
         match answer {
             Answer::Done => return true,
@@ -110,7 +113,7 @@ impl Told {
         false
     }
 
-    /// A step went through, maybe behind one that was refused or was cut off for want of memory.
+    /// Notes that a step succeeded, perhaps after one that was refused or ended early for lack of memory.
     fn resume(&mut self) {
         if self.tries > 0 || self.lacks {
             self.resumed = self.resumed.saturating_add(1);
@@ -119,7 +122,7 @@ impl Told {
         self.lacks = false;
     }
 
-    /// A step that was to visit so many keys visited all of them.
+    /// Notes that a step visited all of its keys.
     fn move_on(&mut self, load: Load) -> Next {
         self.resume();
         let was_first = self.is_first;
@@ -130,7 +133,7 @@ impl Told {
         if load.each { Next::Commit } else { Next::Step }
     }
 
-    /// A step visited some of its keys, for want of room or of memory.
+    /// Notes that a step visited some of its keys, for lack of space or of memory.
     fn break_off(&mut self, done: u32, keys: u32) -> Next {
         if done == 0 || done >= keys {
             self.differs = true;
@@ -140,7 +143,8 @@ impl Told {
         Next::Step
     }
 
-    /// Behind a step that was refused at its first key comes a commit, and where that was not enough the lowest document goes.
+    /// Returns what follows a step that was refused at its first key: a commit, and if that was not enough, the
+    /// removal of the lowest document.
     fn make_room(&mut self) -> Next {
         self.refused = self.refused.saturating_add(1);
         self.is_first = false;
@@ -152,7 +156,7 @@ impl Told {
         }
     }
 
-    /// What a step came to that was to visit so many keys.
+    /// Notes the result of a step of this many keys.
     fn note_step(&mut self, load: Load, keys: u32, stepped: Stepped) -> Next {
         match stepped {
             Stepped::Idle => {
@@ -195,7 +199,7 @@ impl Told {
     }
 }
 
-/// A run under way.
+/// A run in progress.
 #[derive(Drop)]
 pub struct Course {
     pub load: Load,
@@ -204,11 +208,11 @@ pub struct Course {
     pub ended: Vec<Ended>,
 }
 
-/// More than a row has.
+/// More than the number of documents of a row.
 const MOST_DOCUMENTS: usize = 1_000_000;
 
 impl Course {
-    /// A run that is to begin.
+    /// Returns a run that is about to begin.
     pub fn new(alloc: Global, fields: &Fields, load: Load) -> Result<Course, AllocError> {
         let own = fields.clone()?;
         Ok(Course {
@@ -219,7 +223,8 @@ impl Course {
         })
     }
 
-    /// The next operation came to this on the attributes: where it was done the plain table follows; whether it goes on.
+    /// Notes the result of the next operation on the attributes. If it was applied, the plain table follows. Returns
+    /// whether the run continues.
     pub fn note_turn(&mut self, alloc: Global, answer: Answer) -> Result<bool, AllocError> {
         if !self.told.goes_on(answer) {
             return Ok(false);
@@ -230,7 +235,7 @@ impl Course {
         Ok(true)
     }
 
-    /// A commit came to this; whether it goes on.
+    /// Notes the result of a commit. Returns whether the run continues.
     pub fn note_commit(&mut self, answer: Answer) -> bool {
         if !self.told.goes_on(answer) {
             return false;
@@ -239,7 +244,7 @@ impl Course {
         true
     }
 
-    /// Whether a commit comes behind this operation before the first compaction, counted from 0.
+    /// Returns whether a commit follows this operation before the first compaction, counted from 0.
     pub fn is_due(&self, number: u32) -> bool {
         let operations = number.saturating_add(1);
         if operations == self.load.script.load() {
@@ -248,13 +253,13 @@ impl Course {
         operations % self.load.commits.max(1) == 0
     }
 
-    /// Compactions begin.
+    /// Begins the compactions.
     pub fn begin_steps(&mut self) {
         self.told.begun = self.told.commits as usize;
         self.told.quiet = !self.load.waits;
     }
 
-    /// How many keys the next step is to visit: the first of a compaction may go to the end of a phase.
+    /// Returns how many keys the next step visits. The first step of a compaction may go to the end of a phase.
     pub fn next_keys(&mut self) -> u32 {
         self.told.steps = self.told.steps.saturating_add(1);
         if self.told.is_first && self.load.parts > 0 {
@@ -264,12 +269,12 @@ impl Course {
         self.load.keys
     }
 
-    /// What a step came to that was to visit so many keys.
+    /// Notes the result of a step of this many keys.
     pub fn note_step(&mut self, keys: u32, stepped: Stepped) -> Next {
         self.told.note_step(self.load, keys, stepped)
     }
 
-    /// A compaction came to its end, and its buffer went with a commit.
+    /// Notes that a compaction ended, and its buffer went on hold with a commit.
     pub fn end_one(&mut self, buffer: u32) -> Result<(), AllocError> {
         let closed = self.told.commits as usize;
         self.ended.push(Ended {

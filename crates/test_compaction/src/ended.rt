@@ -1,9 +1,9 @@
-//! What a compaction that came to its end moved, by the images before and after it.
+//! What a compaction that ended has moved, by the images before and after it.
 use crate::census::ROLES;
 use crate::watch::{Seen, Watch};
 
-/// A compaction that came to its end: its buffer, the commit before its first step and the one behind its last, and whether no operation
-/// came between.
+/// A compaction that ended: its buffer, the commit before its first step and the one after its last, and whether no
+/// operation came between them.
 #[derive(Clone, Copy)]
 pub struct Ended {
     pub buffer: u32,
@@ -12,11 +12,11 @@ pub struct Ended {
     pub quiet: bool,
 }
 
-/// What all compactions moved of each kind of record, and how many of their buffers had these widths.
+/// What all compactions moved of each role of records, and how many of their buffers had these widths.
 #[derive(Clone, Copy)]
 pub struct Copied {
     pub differs: bool,
-    /// What was seen could not be kept.
+    /// Something seen could not be kept.
     pub lost: bool,
     pub counts: [u32; ROLES],
     pub twos: u32,
@@ -25,7 +25,7 @@ pub struct Copied {
     pub nodes: u32,
 }
 
-/// The commit of this number, counted from 1.
+/// Returns the commit with this number, counted from 1.
 fn commit_at(seen: &[Seen], number: usize) -> Option<&Seen> {
     if number == 0 {
         return None;
@@ -53,7 +53,7 @@ fn add_width(copied: &mut Copied, width: u32) {
     }
 }
 
-/// One compaction: what of each kind its buffer had before; after it there is nothing left.
+/// Adds one compaction: how many records of each role its buffer had before; afterwards it has none.
 fn add_one(copied: &mut Copied, watch: &Watch, seen: &[Seen], ended: Ended) {
     add_width(copied, watch.width_of(ended.buffer, ended.begun));
     for role in 0..ROLES {
@@ -67,7 +67,7 @@ fn add_one(copied: &mut Copied, watch: &Watch, seen: &[Seen], ended: Ended) {
     }
 }
 
-/// All compactions of a run, and whether each of its commits was as the plain table.
+/// Adds all compactions of a run, and whether each of its commits agreed with the plain table.
 pub fn look_back(watch: &Watch, all: &[Ended], commits: usize) -> Copied {
     let mut copied = Copied {
         differs: false,

@@ -1,4 +1,5 @@
-//! Compactions while readers keep guards: each of them reads its commit's image, word for word, before the compactions and behind them.
+//! Compactions while readers keep guards. Each reader reads the image of its commit, word for word, before the
+//! compactions and after them.
 ghost use Rattle.std.specs.Prelude.{◌≡◌, ◌≤◌, length};
 ghost use Rattle.attr_types.specs.declared.field.TheConstants.{MOST_FIELDS};
 
@@ -11,7 +12,7 @@ use attribute_kinds::Attribute;
 use std::alloc::{AllocError, Global};
 use store_api::Store;
 
-/// One compaction more, to its end.
+/// Makes one more compaction, to its end.
 fn compact_one<const OFFSET_BITS: u32, S: Store<OFFSET_BITS, Layout = AttrLayout>>(
     alloc: Global,
     attribute: &mut Attribute<OFFSET_BITS, S>,
@@ -25,8 +26,8 @@ fn compact_one<const OFFSET_BITS: u32, S: Store<OFFSET_BITS, Layout = AttrLayout
     take_steps(alloc, attribute, fields, course, finishes)
 }
 
-/// Guards by so many readers, one behind another with a compaction behind each. What each reads of its image is kept as it takes its
-/// guard, and again before it lets it go, behind all of them.
+/// Takes guards by a number of readers, one after another, with a compaction after each. What each reader reads of
+/// its image is kept when it takes its guard, and again before it releases it, after all compactions.
 fn under_guards<'a, const OFFSET_BITS: u32, S: Store<OFFSET_BITS, Layout = AttrLayout>>(
     alloc: Global,
     attribute: &mut Attribute<OFFSET_BITS, S>,
@@ -54,7 +55,7 @@ fn under_guards<'a, const OFFSET_BITS: u32, S: Store<OFFSET_BITS, Layout = AttrL
     Ok(())
 }
 
-/// Three commits; whether it goes on.
+/// Makes three commits. Returns whether the run continues.
 fn commit_thrice<const OFFSET_BITS: u32, S: Store<OFFSET_BITS, Layout = AttrLayout>>(
     attribute: &mut Attribute<OFFSET_BITS, S>,
     fields: &Fields,
@@ -71,7 +72,8 @@ fn commit_thrice<const OFFSET_BITS: u32, S: Store<OFFSET_BITS, Layout = AttrLayo
     Ok(true)
 }
 
-/// Compactions under guards, where a row has some, and then three commits behind the guards. Whether it goes on.
+/// Makes compactions under guards, if the row has any, and then three commits after the guards. Returns whether the
+/// run continues.
 pub fn keep_guards<'a, const OFFSET_BITS: u32, S: Store<OFFSET_BITS, Layout = AttrLayout>>(
     alloc: Global,
     attribute: &mut Attribute<OFFSET_BITS, S>,

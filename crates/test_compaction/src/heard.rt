@@ -1,4 +1,4 @@
-//! Records as they are read: each word that was read is kept.
+//! Records that keep each word that was read of them.
 ghost use Rattle.std.specs.Prelude.{◌≡◌, ◌<◌, ◌≤◌, ◌+◌, ◌^◌, length, take, drop};
 ghost use Rattle.entry_ref.specs.Records.{HasWord, word_at};
 
@@ -8,7 +8,7 @@ use entry_ref::EntryRef;
 use std::alloc::Global;
 use std::marker::Model;
 
-/// Reads the words of a record that are not known, up to this one.
+/// Reads the unknown words of a record, up to this one.
 fn read_front<const OFFSET_BITS: u32, F: Frozen<OFFSET_BITS>>(
     frozen: &mut F,
     words: &mut Words,
@@ -24,7 +24,8 @@ fn read_front<const OFFSET_BITS: u32, F: Frozen<OFFSET_BITS>>(
     }
 }
 
-/// Records, and what was read of them: where a word is asked for, those before it are read too. As records they are what they were.
+/// Records, and what was read of them. When a word is requested, those before it are read too. The records themselves
+/// do not change.
 #[derive(Drop)]
 pub struct Heard<const OFFSET_BITS: u32, F: Frozen<OFFSET_BITS>> {
     frozen: F,
@@ -38,7 +39,7 @@ impl<const OFFSET_BITS: u32, F: Frozen<OFFSET_BITS>> Model for Heard<OFFSET_BITS
 }
 
 impl<const OFFSET_BITS: u32, F: Frozen<OFFSET_BITS>> Heard<OFFSET_BITS, F> {
-    /// Nothing was read so far.
+    /// Returns records of which nothing was read.
     pub fn new(alloc: Global, frozen: F) -> Self
         ensures { result ≡ frozen }
     {
@@ -48,7 +49,7 @@ impl<const OFFSET_BITS: u32, F: Frozen<OFFSET_BITS>> Heard<OFFSET_BITS, F> {
         }
     }
 
-    /// The records again, and what was read.
+    /// Returns the records, and what was read.
     pub fn into_parts(self) -> (F, Words)
         ensures { result.0 ≡ self }
     {

@@ -1,4 +1,5 @@
-//! Compactions of attributes in a store beside the plain table, as rows of standard input ask for them. A row that differs prints itself.
+//! Compactions of attributes in a store beside the plain table, as selected by rows of standard input. A wrong row is
+//! printed.
 #![tactic(auto)]
 
 mod asking;

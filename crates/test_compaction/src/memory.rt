@@ -23,7 +23,7 @@ use word_arena::{Arena, Config, Limits, Writer};
 /// Attributes over a memory without readers.
 type Kinds = Attribute<22, EntryStore<22, Watched<22, MemWork<22, AttrLayout>>>>;
 
-/// Attributes without a document, in so many buffers of 8,192 words of a memory without readers.
+/// Creates attributes without documents, in `buffers` buffers of 8,192 words of a memory without readers.
 fn new_attribute(
     alloc: Global,
     fields: &Fields,
@@ -40,7 +40,7 @@ fn new_attribute(
     open(alloc, work, fields, load)
 }
 
-/// A run over a memory without readers.
+/// Makes a run over a memory without readers.
 fn run_alone(
     alloc: Global,
     fields: &Fields,
@@ -59,7 +59,7 @@ fn run_alone(
     finish(course, ending, &watch, readers.sights())
 }
 
-/// A run over a writer that has committed nothing, with as many readers as are to keep guards.
+/// Makes a run over a writer that has committed nothing, with the readers that keep guards.
 fn run_seated<'a>(
     alloc: Global,
     writer: Writer<'a, 22, AttrLayout>,
@@ -80,7 +80,7 @@ fn run_seated<'a>(
     finish(course, ending, &watch, readers.sights())
 }
 
-/// A run over the running memory.
+/// Makes a run over the running memory.
 fn run_guarded(
     alloc: Global,
     fields: &Fields,
@@ -106,7 +106,7 @@ fn run_guarded(
     run_seated(alloc, writer, fields, course)
 }
 
-/// A run from attributes without a document.
+/// Makes a run, beginning with attributes without documents.
 pub fn run(alloc: Global, fields: &Fields, load: Load) -> Result<Outcome, AllocError>
     requires some { 0 < length fields.now }
     requires few { length fields.now ≤ MOST_FIELDS }

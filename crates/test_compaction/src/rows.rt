@@ -1,6 +1,7 @@
-//! Rows of standard input: `run FIELDS BUFFERS PUTS VALUES LAST KEEP COMMITS KEYS FINISHES CHECKS EACH REMOVES PARTS WAITS`
-//! with GUARDS behind it where readers are to keep guards, and then `said LINE`, how much it must have done, and `met WORDS`, what it must
-//! have met; `tell` tells all of it. FIELDS are `KIND:TYPE`, with commas between them. Other lines are remarks.
+//! Rows of standard input: `run FIELDS BUFFERS PUTS VALUES LAST KEEP COMMITS KEYS FINISHES CHECKS EACH REMOVES PARTS
+//! WAITS`, followed by GUARDS if readers keep guards; then `said LINE`, how much it must have done, and `met WORDS`,
+//! what must have occurred. `tell` prints all of it. FIELDS are `KIND:TYPE`, separated by commas. Other lines are
+//! comments.
 use crate::course::Load;
 use crate::memory::run;
 use crate::outcome::Outcome;
@@ -77,7 +78,7 @@ fn fields_in(alloc: Global, row: &str) -> Result<Fields, AllocError> {
     Ok(fields)
 }
 
-/// How much was done; only of compactions where a row does not tell how many operations come between steps.
+/// Returns how much was done; only about compactions if a row does not fix how many operations come between steps.
 fn counts_of(alloc: Global, outcome: Outcome) -> Result<String, AllocError> {
     let told = outcome.told;
     let finished = told.finished;
@@ -99,7 +100,7 @@ fn counts_of(alloc: Global, outcome: Outcome) -> Result<String, AllocError> {
     )
 }
 
-/// What a run met.
+/// Returns whether something occurred in a run.
 fn has_met(outcome: Outcome, word: &str) -> bool {
     let (told, copied) = (outcome.told, outcome.copied);
     match word {
@@ -130,7 +131,7 @@ fn has_met_all(outcome: Outcome, words: &str) -> bool {
     true
 }
 
-/// Whether a run is as a line wants it, or nothing where the line is a remark.
+/// Returns whether a run is as a line requires, or `None` if the line is a comment.
 fn is_as_wanted(
     alloc: Global,
     outcome: Option<Outcome>,
@@ -149,7 +150,7 @@ fn is_as_wanted(
     }
 }
 
-/// All that a run came to.
+/// Returns everything about a run.
 fn described(alloc: Global, outcome: Option<Outcome>) -> Result<String, AllocError> {
     let Some(outcome) = outcome else {
         return String::from_str(alloc, "no run");
@@ -173,7 +174,7 @@ fn described(alloc: Global, outcome: Option<Outcome>) -> Result<String, AllocErr
     )
 }
 
-/// What a row's run comes to, if it names one to eight attributes.
+/// Returns the result of a row's run, if it names one to eight attributes.
 fn outcome_of(alloc: Global, row: &str) -> Result<Option<Outcome>, AllocError> {
     let fields = fields_in(alloc, row)?;
     if fields.is_empty() {
@@ -185,7 +186,7 @@ fn outcome_of(alloc: Global, row: &str) -> Result<Option<Outcome>, AllocError> {
     Ok(Some(run(alloc, &fields, load_in(row))?))
 }
 
-/// The last row, what it came to, and how many lines were compared.
+/// The last row, its result, and the number of lines compared.
 #[derive(Drop)]
 struct Rows {
     case: String,
@@ -228,7 +229,7 @@ impl Rows {
     }
 }
 
-/// Compares the rows of standard input, one behind another.
+/// Compares the rows of standard input, one after another.
 pub fn compare(rt: &HostRuntime) -> io::Result<()> {
     let mut rows = Rows {
         case: String::new(rt.alloc()),

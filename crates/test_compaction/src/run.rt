@@ -1,4 +1,4 @@
-//! A run: operations with commits between them, and then compactions, over either memory.
+//! A run: operations with commits between them, followed by compactions, over either memory.
 ghost use Rattle.std.specs.Prelude.{◌≡◌, ◌<◌, ◌≤◌, length, IfOk};
 ghost use Rattle.arena_api.specs.Calls.{IsFresh};
 ghost use Rattle.attr_images.specs.Shapes.{shape_of, types_of};
@@ -20,7 +20,7 @@ use entry_store::EntryStore;
 use std::alloc::{AllocError, Global};
 use store_api::Store;
 
-/// Attributes without a document over a work whose commits are watched.
+/// Creates attributes without documents over a work whose commits are watched.
 pub fn open<const OFFSET_BITS: u32, W: Work<OFFSET_BITS, Layout = AttrLayout> + Drop>(
     alloc: Global,
     work: W,
@@ -40,7 +40,7 @@ pub fn open<const OFFSET_BITS: u32, W: Work<OFFSET_BITS, Layout = AttrLayout> + 
     }
 }
 
-/// The operations of a row, and the compactions behind them.
+/// Makes the operations of a row, and the compactions after them.
 fn play<'a, const OFFSET_BITS: u32, S: Store<OFFSET_BITS, Layout = AttrLayout>>(
     alloc: Global,
     attribute: &mut Attribute<OFFSET_BITS, S>,
@@ -61,7 +61,7 @@ fn play<'a, const OFFSET_BITS: u32, S: Store<OFFSET_BITS, Layout = AttrLayout>>(
     take_steps(alloc, attribute, fields, course, course.load.finishes)
 }
 
-/// How a run ended: whether it found the memory for what it was to do, and its last commit, by its root and its number.
+/// How a run ended: whether it had enough memory, and its last commit, by its root and its number.
 #[derive(Drop)]
 pub struct Ending {
     played: Result<(), AllocError>,
@@ -69,7 +69,8 @@ pub struct Ending {
     commits: u32,
 }
 
-/// A run on attributes without a document. They are closed also where it found no memory: to drop them is dearer to prove.
+/// Makes a run on attributes without documents. They are closed also if memory was exhausted, since dropping them is
+/// more expensive to prove.
 pub fn play_out<'a, const OFFSET_BITS: u32, S: Store<OFFSET_BITS, Layout = AttrLayout>>(
     alloc: Global,
     attribute: Attribute<OFFSET_BITS, S>,
@@ -91,14 +92,14 @@ pub fn play_out<'a, const OFFSET_BITS: u32, S: Store<OFFSET_BITS, Layout = AttrL
     (store, ending)
 }
 
-/// The work of a store.
+/// Returns the work of a store.
 pub fn work_of<const OFFSET_BITS: u32, W: Work<OFFSET_BITS>>(
     store: EntryStore<OFFSET_BITS, W>,
 ) -> W {
     store.into_work()
 }
 
-/// What a run came to that ended so, if it found the memory for what it was to do.
+/// Returns the result of a run that ended in this way, if it had enough memory.
 pub fn finish(
     course: &Course,
     ending: Ending,

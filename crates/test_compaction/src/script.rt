@@ -4,8 +4,8 @@ use attr_plain::PlainTable;
 use attr_types::{Doc, Field, Op, fits};
 use std::alloc::{AllocError, Global};
 
-/// Puts to the documents 1 to `puts`; removes of those from 1 to `last` that `keep` does not divide, all where it is 0; and then removes of
-/// the lowest document.
+/// The operations are puts to the documents 1 to `puts`; removes of those from 1 to `last` that `keep` does not
+/// divide, or of all if it is 0; and then removes of the lowest document.
 #[derive(Clone, Copy)]
 pub struct Script {
     pub puts: u32,
@@ -15,7 +15,7 @@ pub struct Script {
 }
 
 impl Script {
-    /// How many operations come before a compaction.
+    /// Returns how many operations come before a compaction.
     pub fn load(self) -> u32 {
         self.puts.saturating_add(self.removes())
     }
@@ -32,7 +32,7 @@ fn doc_of(number: u32) -> Doc {
     Doc::new(number.max(1).min(Doc::LAST))
 }
 
-/// The number of the document that is removed as one of these, counted from 0.
+/// Returns the number of the document that this remove, counted from 0, removes.
 fn removed(keep: u32, number: u32) -> u32 {
     if keep < 2 {
         return number.saturating_add(1);
@@ -42,7 +42,7 @@ fn removed(keep: u32, number: u32) -> u32 {
     rounds.saturating_add(number % others).saturating_add(1)
 }
 
-/// The lowest document that is there.
+/// Returns the lowest document that exists.
 pub fn lowest(plain: &PlainTable) -> Option<Doc> {
     for (doc, _) in plain.documents() {
         return Some(*doc);
@@ -50,7 +50,7 @@ pub fn lowest(plain: &PlainTable) -> Option<Doc> {
     None
 }
 
-/// The operation of this number, counted from 0, on a table that has those before it.
+/// Returns the operation with this number, counted from 0, on a table after those before it.
 pub fn op_at(
     alloc: Global,
     fields: &[Field],
@@ -76,7 +76,7 @@ pub fn op_at(
     }
 }
 
-/// The operation of this number on the plain table that has those before it; whether it fits.
+/// Applies the operation with this number to the plain table. Returns whether it fits.
 pub fn follow_one(
     alloc: Global,
     script: Script,

@@ -16,7 +16,7 @@ use attr_types::Fields;
 use std::alloc::{AllocError, Global};
 use word_arena::{Guarded, Reader, Writer};
 
-/// A reader of images of this shape.
+/// A reader of images with this shape.
 #[derive(Drop)]
 struct Seat<'a, const OFFSET_BITS: u32> {
     reader: Reader<'a, OFFSET_BITS, AttrLayout>,
@@ -24,7 +24,7 @@ struct Seat<'a, const OFFSET_BITS: u32> {
     ghost fits: { (reader_of reader.place.me.0).sizes.shape ≡ shape },
 }
 
-/// One reader more of a writer that has committed nothing.
+/// Makes one more reader of a writer that has committed nothing.
 fn seat_in<'a, const OFFSET_BITS: u32>(
     writer: &mut Writer<'a, OFFSET_BITS, AttrLayout>,
     shape: u32,
@@ -45,12 +45,12 @@ fn seat_in<'a, const OFFSET_BITS: u32>(
 pub struct Readers<'a, const OFFSET_BITS: u32> {
     seats: Vec<Seat<'a, OFFSET_BITS>>,
     sights: Vec<Sight>,
-    /// All that was read was in itself as it should be.
+    /// Everything read was consistent in itself.
     are_sound: bool,
 }
 
 impl<'a, const OFFSET_BITS: u32> Readers<'a, OFFSET_BITS> {
-    /// There are none so far.
+    /// Returns an empty list of readers.
     pub fn new(alloc: Global) -> Self {
         Readers {
             seats: Vec::new(alloc),
@@ -59,7 +59,7 @@ impl<'a, const OFFSET_BITS: u32> Readers<'a, OFFSET_BITS> {
         }
     }
 
-    /// So many readers of a writer that has committed nothing.
+    /// Adds readers of a writer that has committed nothing.
     pub fn add(
         &mut self,
         writer: &mut Writer<'a, OFFSET_BITS, AttrLayout>,
@@ -77,7 +77,7 @@ impl<'a, const OFFSET_BITS: u32> Readers<'a, OFFSET_BITS> {
         Ok(())
     }
 
-    /// A guard by the next reader, if it comes to one.
+    /// Takes a guard by the next reader, if possible.
     pub fn next_guard(&mut self, fields: &Fields) -> Option<Guarded<'a, OFFSET_BITS, AttrLayout>>
         requires few { length fields.now ≤ MOST_FIELDS }
         ensures shape { IfSome result (λ g. (reader_of g.place.me.0).sizes.shape ≡ shape_of (types_of fields.now)) }
@@ -96,7 +96,7 @@ impl<'a, const OFFSET_BITS: u32> Readers<'a, OFFSET_BITS> {
         }
     }
 
-    /// A guard again: what its reader reads of the whole image is kept.
+    /// Keeps what a reader reads of the whole image under its guard, and returns the guard.
     pub fn hear(
         &mut self,
         alloc: Global,
@@ -119,12 +119,12 @@ impl<'a, const OFFSET_BITS: u32> Readers<'a, OFFSET_BITS> {
         Ok(guard)
     }
 
-    /// Whether all that was read was in itself as it should be.
+    /// Returns whether everything read was consistent in itself.
     pub fn are_sound(&self) -> bool {
         self.are_sound
     }
 
-    /// What was read under guards.
+    /// Returns what was read under guards.
     pub fn sights(&self) -> &[Sight] {
         self.sights.as_slice()
     }

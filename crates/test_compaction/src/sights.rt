@@ -4,14 +4,14 @@ use crate::words::Words;
 use entry_ref::{word_in, words_at};
 use std::collections::BTreeMap;
 
-/// What a reader read under its guard of a commit, before compactions or behind them.
+/// What a reader read under its guard of a commit, before compactions or after them.
 #[derive(Drop)]
 pub struct Sight {
     pub commit: u32,
     pub words: Words,
 }
 
-/// Whether a record was read as it was stored, but for words that are 0.
+/// Returns whether a record was read as it was stored, except for words that are 0.
 fn is_record(stored: &[u64], read: &[u64]) -> bool {
     for i in 0..stored.len() {
         if word_in(stored, i) != word_in(read, i) {
@@ -21,7 +21,7 @@ fn is_record(stored: &[u64], read: &[u64]) -> bool {
     read.len() <= stored.len()
 }
 
-/// Whether all records of an image, and no others, were read as they were stored.
+/// Returns whether all records of an image, and no others, were read as they were stored.
 fn is_image(stored: &BTreeMap<u32, Vec<u64>>, words: &Words) -> bool {
     let Some(read) = words.sure() else {
         return false;
@@ -51,7 +51,8 @@ fn is_sight(seen: &[Seen], sight: &Sight) -> bool {
     }
 }
 
-/// How many readers read what was stored for their commit, by two readings each: before compactions and behind them.
+/// Returns how many readers read what was stored for their commit, in both of their readings: before compactions and
+/// after them.
 pub fn same_sights(watch: &Watch, sights: &[Sight]) -> u32 {
     let Some(seen) = watch.seen() else {
         return 0;
@@ -65,7 +66,7 @@ pub fn same_sights(watch: &Watch, sights: &[Sight]) -> u32 {
     same / 2
 }
 
-/// How many buffers were free as a commit was made.
+/// Returns how many buffers were free when a commit was made.
 fn free_at(seen: &[Seen], number: u32) -> u32 {
     match seen.get((number as usize).saturating_sub(1)) {
         Some(commit) => commit.free,
@@ -73,7 +74,8 @@ fn free_at(seen: &[Seen], number: u32) -> u32 {
     }
 }
 
-/// How many buffers came back with a commit and the next: a generation for which there was no hold begins with the second.
+/// Returns how many buffers were reclaimed with a commit and the next one. A generation for which there was no hold
+/// begins with the second.
 pub fn came_back(watch: &Watch, number: u32) -> u32 {
     match watch.seen() {
         Some(seen) => {

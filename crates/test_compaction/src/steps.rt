@@ -1,4 +1,4 @@
-//! The operations before the first compaction, and steps of compactions, with what comes between them.
+//! The operations before the first compaction, the steps of compactions, and what comes between them.
 ghost use Rattle.std.specs.Prelude.{◌≡◌};
 
 use crate::course::{Course, Next};
@@ -10,7 +10,7 @@ use attribute_kinds::Attribute;
 use std::alloc::{AllocError, Global};
 use store_api::Store;
 
-/// Commits; whether it goes on.
+/// Makes a commit. Returns whether the run continues.
 pub fn commit_now<const OFFSET_BITS: u32, S: Store<OFFSET_BITS, Layout = AttrLayout>>(
     attribute: &mut Attribute<OFFSET_BITS, S>,
     fields: &Fields,
@@ -23,7 +23,7 @@ pub fn commit_now<const OFFSET_BITS: u32, S: Store<OFFSET_BITS, Layout = AttrLay
     Ok(course.note_commit(answer))
 }
 
-/// The next operation of the row on the attributes.
+/// Applies the next operation of the row to the attributes.
 fn apply_next<const OFFSET_BITS: u32, S: Store<OFFSET_BITS, Layout = AttrLayout>>(
     alloc: Global,
     attribute: &mut Attribute<OFFSET_BITS, S>,
@@ -44,7 +44,7 @@ fn apply_next<const OFFSET_BITS: u32, S: Store<OFFSET_BITS, Layout = AttrLayout>
     apply_one(alloc, attribute, fields, &op)
 }
 
-/// The next operation of the row; whether it goes on.
+/// Makes the next operation of the row. Returns whether the run continues.
 fn turn_now<const OFFSET_BITS: u32, S: Store<OFFSET_BITS, Layout = AttrLayout>>(
     alloc: Global,
     attribute: &mut Attribute<OFFSET_BITS, S>,
@@ -58,7 +58,7 @@ fn turn_now<const OFFSET_BITS: u32, S: Store<OFFSET_BITS, Layout = AttrLayout>>(
     course.note_turn(alloc, answer)
 }
 
-/// An operation before the first compaction, and a commit where it is due; whether it goes on.
+/// Makes an operation before the first compaction, and a commit if it is due. Returns whether the run continues.
 fn load_one<const OFFSET_BITS: u32, S: Store<OFFSET_BITS, Layout = AttrLayout>>(
     alloc: Global,
     attribute: &mut Attribute<OFFSET_BITS, S>,
@@ -76,7 +76,8 @@ fn load_one<const OFFSET_BITS: u32, S: Store<OFFSET_BITS, Layout = AttrLayout>>(
     Ok(goes_on)
 }
 
-/// The operations before the first compaction, with a commit after each so many and at the end; whether it goes on.
+/// Makes the operations before the first compaction, with commits between them and at the end. Returns whether the
+/// run continues.
 pub fn load_all<const OFFSET_BITS: u32, S: Store<OFFSET_BITS, Layout = AttrLayout>>(
     alloc: Global,
     attribute: &mut Attribute<OFFSET_BITS, S>,
@@ -94,7 +95,7 @@ pub fn load_all<const OFFSET_BITS: u32, S: Store<OFFSET_BITS, Layout = AttrLayou
     Ok(true)
 }
 
-/// The lowest document goes, with a commit behind it; whether it goes on.
+/// Removes the lowest document, followed by a commit. Returns whether the run continues.
 fn remove_lowest<const OFFSET_BITS: u32, S: Store<OFFSET_BITS, Layout = AttrLayout>>(
     alloc: Global,
     attribute: &mut Attribute<OFFSET_BITS, S>,
@@ -114,7 +115,7 @@ fn remove_lowest<const OFFSET_BITS: u32, S: Store<OFFSET_BITS, Layout = AttrLayo
     commit_now(attribute, fields, course)
 }
 
-/// A compaction came to its end: until its buffer goes with a commit none is begun.
+/// Notes that a compaction ended. None is begun until its buffer goes on hold with a commit.
 fn end_one<const OFFSET_BITS: u32, S: Store<OFFSET_BITS, Layout = AttrLayout>>(
     alloc: Global,
     attribute: &mut Attribute<OFFSET_BITS, S>,
@@ -136,7 +137,7 @@ fn end_one<const OFFSET_BITS: u32, S: Store<OFFSET_BITS, Layout = AttrLayout>>(
     Ok(true)
 }
 
-/// One step, and what comes behind it; whether it goes on.
+/// Makes one step, and what follows it. Returns whether the run continues.
 fn step_now<const OFFSET_BITS: u32, S: Store<OFFSET_BITS, Layout = AttrLayout>>(
     alloc: Global,
     attribute: &mut Attribute<OFFSET_BITS, S>,
@@ -157,7 +158,7 @@ fn step_now<const OFFSET_BITS: u32, S: Store<OFFSET_BITS, Layout = AttrLayout>>(
     }
 }
 
-/// Steps until so many compactions came to their end.
+/// Makes steps until the required number of compactions ended.
 pub fn take_steps<const OFFSET_BITS: u32, S: Store<OFFSET_BITS, Layout = AttrLayout>>(
     alloc: Global,
     attribute: &mut Attribute<OFFSET_BITS, S>,

@@ -1,4 +1,5 @@
-//! Whether the records of an image read as a plain table: quickly, by its trees of documents, or by the slow checker.
+//! Whether the records of an image represent a plain table: quickly by its trees of documents, or by the slow
+//! checker.
 ghost use Rattle.std.specs.Prelude.{◌≤◌, length};
 ghost use Rattle.attr_types.specs.declared.field.TheConstants.{MOST_FIELDS};
 
@@ -26,7 +27,7 @@ fn is_value(
     }
 }
 
-/// Whether a word of a document's record is this item.
+/// Returns whether a word of a document's record is this item.
 fn is_item(
     alloc: Global,
     kind: Kind,
@@ -47,7 +48,7 @@ fn is_item(
     }
 }
 
-/// Whether the words of a record are these items.
+/// Returns whether the words of a record are these items.
 fn are_listed(
     alloc: Global,
     kind: Kind,
@@ -88,7 +89,7 @@ fn are_items(
     }
 }
 
-/// Whether a document's items in the attribute at this place are those of a record.
+/// Returns whether a document's items in the attribute at this index are those of a record.
 fn is_row(
     alloc: Global,
     kind: Kind,
@@ -103,7 +104,7 @@ fn is_row(
     }
 }
 
-/// Whether a tree of documents has the items of a plain table's attribute at this place.
+/// Returns whether a tree of documents has the items of a plain table's attribute at this index.
 fn is_column(
     alloc: Global,
     kind: Kind,
@@ -128,7 +129,7 @@ fn is_column(
     Ok(rest.is_empty())
 }
 
-/// Whether an image reads as a plain table, by its trees of documents alone.
+/// Returns whether an image represents a plain table, by its trees of documents only.
 pub fn reads_as(
     alloc: Global,
     fields: &[Field],
@@ -149,7 +150,7 @@ pub fn reads_as(
     Ok(true)
 }
 
-/// Whether these records are a lawful image of the plain table, by the slow checker.
+/// Returns whether the slow checker reads these records as a lawful image of the plain table.
 pub fn is_lawful(
     alloc: Global,
     fields: &Fields,

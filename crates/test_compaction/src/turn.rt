@@ -7,31 +7,31 @@ use attribute_kinds::{AttrError, Attribute, Compacted};
 use std::alloc::{AllocError, Global};
 use store_api::Store;
 
-/// What a call came to.
+/// The result of a call.
 #[derive(Clone, Copy)]
 pub enum Answer {
     Done,
     Full,
-    /// It answers what it may not.
+    /// A result that cannot occur.
     Odd,
 }
 
-/// What a step of a compaction came to.
+/// The result of a step of a compaction.
 #[derive(Clone, Copy)]
 pub enum Stepped {
     Idle,
-    /// So many keys were visited.
+    /// This many keys were visited.
     Moved(u32),
-    /// So many were, and then there was no room for one.
+    /// This many keys were visited, and there was no space for the next.
     Stopped(u32),
     Finished(u32),
-    /// There was no room for the first.
+    /// There was no space for the first.
     Full,
     /// There was no memory for the first.
     Short,
-    /// So many were visited, and then there was no memory for one.
+    /// This many keys were visited, and there was no memory for the next.
     Cut(u32),
-    /// It answers what it may not.
+    /// A result that cannot occur.
     Odd,
 }
 
@@ -66,7 +66,7 @@ pub fn apply_one<const OFFSET_BITS: u32, S: Store<OFFSET_BITS, Layout = AttrLayo
     }
 }
 
-/// Commits.
+/// Makes a commit.
 pub fn commit_one<const OFFSET_BITS: u32, S: Store<OFFSET_BITS, Layout = AttrLayout>>(
     attribute: &mut Attribute<OFFSET_BITS, S>,
     fields: &Fields,
@@ -88,7 +88,7 @@ fn stop_of(keys: u32, error: AttrError) -> Stepped {
     }
 }
 
-/// One step of a compaction.
+/// Makes one step of a compaction.
 pub fn step_one<const OFFSET_BITS: u32, S: Store<OFFSET_BITS, Layout = AttrLayout>>(
     alloc: Global,
     attribute: &mut Attribute<OFFSET_BITS, S>,

@@ -3,7 +3,7 @@ use attr_types::{Field, FieldItems, Item, Items, Kind, Text, Value, ValueType};
 use std::alloc::{AllocError, Global};
 use test_kit::text_of;
 
-/// What stands before a number, so that four digits follow the letter.
+/// Returns the zeros before a number, so that four digits follow the letter.
 fn front_of(number: u32) -> &'static str {
     match number {
         0..=9 => "v000",
@@ -13,7 +13,7 @@ fn front_of(number: u32) -> &'static str {
     }
 }
 
-/// The letter v, four digits, and a hundred letters x.
+/// Returns the letter v, four digits, and a hundred letters x.
 fn text_at(alloc: Global, number: u32) -> Result<Text, AllocError> {
     let front = front_of(number);
     let mut text = format!(in alloc; "{front}{number}")?;
@@ -23,7 +23,7 @@ fn text_at(alloc: Global, number: u32) -> Result<Text, AllocError> {
     text_of(alloc, &text)
 }
 
-/// The value of a number: itself, or a text with it.
+/// Returns the value of a number: itself, or a text with it.
 fn value_at(alloc: Global, value_type: ValueType, number: u32) -> Result<Value, AllocError> {
     match value_type {
         ValueType::Long => Ok(Value::Long(i64::from(number))),
@@ -31,7 +31,7 @@ fn value_at(alloc: Global, value_type: ValueType, number: u32) -> Result<Value, 
     }
 }
 
-/// These values, each with its weight.
+/// Returns these values, each with its weight.
 fn items_of(
     alloc: Global,
     value_type: ValueType,
@@ -46,8 +46,8 @@ fn items_of(
     Ok(items)
 }
 
-/// The items of a document in one attribute: its number modulo `values` (its number, where that is 0); in an array its number and that; in
-/// a weighted set that, and its number and `values` together.
+/// Returns the items of a document in one attribute: its number modulo `values` (or its number, if that is 0); in an
+/// array its number and that; in a weighted set that, and its number and `values` together.
 fn items_at(alloc: Global, field: &Field, number: u32, values: u32) -> Result<Items, AllocError> {
     let part = if values == 0 { number } else { number % values };
     match field.kind {
@@ -61,7 +61,7 @@ fn items_at(alloc: Global, field: &Field, number: u32, values: u32) -> Result<It
     }
 }
 
-/// The items of a document in each attribute.
+/// Returns the items of a document in each attribute.
 pub fn document_at(
     alloc: Global,
     fields: &[Field],

@@ -1,4 +1,5 @@
-//! What is seen of a run at its commits: each image is compared with the plain table after the operations that it counts.
+//! What is seen of a run at its commits: each image is compared with the plain table after the operations that it
+//! counts.
 use crate::census::{Census, take};
 use crate::course::Load;
 use crate::script::{Script, follow_one};
@@ -13,17 +14,17 @@ use std::collections::BTreeMap;
 /// A commit.
 #[derive(Drop)]
 pub struct Seen {
-    /// Its image is that of the plain table.
+    /// Its image represents the plain table.
     pub same: bool,
-    /// What it reaches in each buffer, where that was counted.
+    /// What it reaches in each buffer, if that was counted.
     pub census: Option<Census>,
-    /// The records that it reaches, where they are kept.
+    /// The records that it reaches, if they are kept.
     pub image: Option<BTreeMap<u32, Vec<u64>>>,
-    /// How many buffers were free.
+    /// The number of free buffers.
     pub free: u32,
 }
 
-/// A commit whose image is not that of the plain table, or was only read quickly.
+/// Returns a commit whose image differs from the plain table, or was only read quickly.
 fn seen_quickly(same: bool) -> Seen {
     Seen {
         same,
@@ -33,7 +34,7 @@ fn seen_quickly(same: bool) -> Seen {
     }
 }
 
-/// A buffer that was handed out behind so many commits.
+/// A buffer that was handed out after this many commits.
 #[derive(Clone, Copy)]
 struct Handed {
     commits: usize,
@@ -47,7 +48,7 @@ pub struct Watch {
     alloc: Global,
     fields: Fields,
     script: Script,
-    /// One commit in so many is read by the slow checker, and counted.
+    /// One commit in this many is read by the slow checker, and counted.
     checks: usize,
     /// The records of such images are kept.
     keeps: bool,
@@ -60,7 +61,7 @@ pub struct Watch {
 }
 
 impl Watch {
-    /// Nothing was seen so far.
+    /// Returns a watch that has seen nothing.
     pub fn new(alloc: Global, fields: &Fields, load: Load) -> Result<Watch, AllocError> {
         let own = fields.clone()?;
         Ok(Watch {
@@ -77,7 +78,7 @@ impl Watch {
         })
     }
 
-    /// One operation more on the plain table.
+    /// Applies one more operation to the plain table.
     fn follow_one(&mut self) -> Result<(), AllocError> {
         let number = self.done;
         self.done = number.saturating_add(1);
@@ -87,7 +88,7 @@ impl Watch {
         Ok(())
     }
 
-    /// The plain table goes on to so many operations.
+    /// Applies operations to the plain table, up to this number.
     fn follow(&mut self, operations: u64) -> Result<(), AllocError> {
         let more = operations
             .saturating_sub(u64::from(self.done))
@@ -109,7 +110,7 @@ impl Watch {
         Ok(Some(census.image_in(self.alloc, records)?))
     }
 
-    /// Compares an image with the plain table, wholly or quickly.
+    /// Compares an image with the plain table, completely or quickly.
     fn compare(
         &mut self,
         records: &BTreeMap<u32, Vec<u64>>,
@@ -148,7 +149,7 @@ impl Watch {
         Ok(())
     }
 
-    /// A commit, while so many buffers are free.
+    /// Notes a commit, with the number of free buffers.
     pub fn published(&mut self, records: &BTreeMap<u32, Vec<u64>>, root: u64, free: u32) {
         let number = self.seen.len().saturating_add(1);
         let whole = number % self.checks.max(1) == 0;
@@ -158,7 +159,7 @@ impl Watch {
         }
     }
 
-    /// A buffer was handed out.
+    /// Notes that a buffer was handed out.
     pub fn handed_out(&mut self, buffer: u32, width: u32) {
         let commits = self.seen.len();
         if self
@@ -174,7 +175,7 @@ impl Watch {
         }
     }
 
-    /// Reads the last commit once more, wholly.
+    /// Reads the last commit once more, completely.
     pub fn look_again(&mut self, records: &BTreeMap<u32, Vec<u64>>, root: u64) {
         let seen = self.compare(records, root, true);
         let free = match self.seen.pop() {
@@ -186,7 +187,7 @@ impl Watch {
         }
     }
 
-    /// The commits, if each of them was kept.
+    /// Returns the commits, if each of them was kept.
     pub fn seen(&self) -> Option<&[Seen]> {
         if self.failed {
             return None;
@@ -194,7 +195,7 @@ impl Watch {
         Some(self.seen.as_slice())
     }
 
-    /// The width that a buffer had behind so many commits, 0 where it was not handed out.
+    /// Returns the width that a buffer had after this many commits, or 0 if it was not handed out.
     pub fn width_of(&self, buffer: u32, commits: usize) -> u32 {
         let mut width = 0u32;
         for handed in self.handed.as_slice() {

@@ -13,7 +13,7 @@ use arena_api::{Advance, Frozen, Oldest, Work};
 use entry_ref::EntryRef;
 use std::alloc::Global;
 
-/// A work whose commits are watched: what is stored in it is kept beside it.
+/// A work whose commits are watched, with a copy of what is stored in it.
 #[derive(Drop)]
 pub struct Watched<const OFFSET_BITS: u32, W: Work<OFFSET_BITS>> {
     work: W,
@@ -22,7 +22,7 @@ pub struct Watched<const OFFSET_BITS: u32, W: Work<OFFSET_BITS>> {
 }
 
 impl<const OFFSET_BITS: u32, W: Work<OFFSET_BITS>> Watched<OFFSET_BITS, W> {
-    /// A work in which nothing was stored so far, and what watches it.
+    /// Returns a work in which nothing was stored, with its watch.
     pub fn new(alloc: Global, work: W, watch: Watch) -> Self
         ensures knows { ⟦<Watched<OFFSET_BITS, W> as Work<OFFSET_BITS>>⟧.knows result ≡ W.knows work }
         ensures records { ⟦<Watched<OFFSET_BITS, W> as Frozen<OFFSET_BITS>>⟧.records result ≡ W.records work }
@@ -37,7 +37,7 @@ impl<const OFFSET_BITS: u32, W: Work<OFFSET_BITS>> Watched<OFFSET_BITS, W> {
 }
 
 impl<const OFFSET_BITS: u32, W: Work<OFFSET_BITS> + Drop> Watched<OFFSET_BITS, W> {
-    /// What was seen, after a last look at the last commit.
+    /// Returns what was seen, after a last look at the last commit.
     pub fn into_watch(self, root: u64) -> Watch {
         let Watched {
             work: _,

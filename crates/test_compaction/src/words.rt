@@ -4,16 +4,16 @@ use std::alloc::Global;
 use std::collections::BTreeMap;
 use test_kit::Notes;
 
-/// Words by their records, 0 where none is known.
+/// Words by their records, or 0 for unknown words.
 #[derive(Drop)]
 pub struct Words {
     notes: Notes,
-    /// A word was read as two things.
+    /// A word was read with two values.
     differs: bool,
 }
 
 impl Words {
-    /// None is known so far.
+    /// Returns words of which none is known.
     pub fn new(alloc: Global) -> Words {
         Words {
             notes: Notes::new(alloc, true),
@@ -21,7 +21,7 @@ impl Words {
         }
     }
 
-    /// The words of a record, as far as they are known.
+    /// Returns the words of a record, as far as they are known.
     fn known(&self, reference: u32) -> &[u64] {
         match self.notes.records() {
             Some(records) => words_at(records, u64::from(reference)),
@@ -29,17 +29,17 @@ impl Words {
         }
     }
 
-    /// A record was stored whole.
+    /// Notes a record that was stored whole.
     pub fn put(&mut self, reference: u32, words: &[u64], width: u32) {
         self.notes.put(reference, words, width);
     }
 
-    /// One word of a record was stored.
+    /// Notes one stored word of a record.
     pub fn store(&mut self, reference: u32, place: u32, word: u64) {
         self.notes.store(reference, place, word);
     }
 
-    /// One word of a record was read.
+    /// Notes one word of a record that was read.
     pub fn note(&mut self, reference: u32, place: u32, word: u64) {
         let known = word_in(self.known(reference), place as usize);
         if known == word {
@@ -51,7 +51,7 @@ impl Words {
         self.store(reference, place, word);
     }
 
-    /// Words of a record were read, from this place on.
+    /// Notes words of a record that were read, from this index on.
     pub fn note_all(&mut self, reference: u32, first: u32, words: &[u64]) {
         let mut place = first;
         for word in words {
@@ -60,12 +60,12 @@ impl Words {
         }
     }
 
-    /// How many words of a record are known.
+    /// Returns how many words of a record are known.
     pub fn count(&self, reference: u32) -> u32 {
         self.known(reference).len().min(1024) as u32
     }
 
-    /// The words by their records, if all were kept, and each was read as one thing only.
+    /// Returns the words by their records, if all were kept and each was read with one value only.
     pub fn sure(&self) -> Option<&BTreeMap<u32, Vec<u64>>> {
         if self.differs {
             return None;

@@ -1,4 +1,4 @@
--- What a running memory is before its first commit.
+-- A running memory before its first commit.
 use Rattle.std.specs.Prelude.{◌≡◌, ◌<◌, ◌≤◌, List, length}
 use Rattle.atomic_table.specs.Seated.{TableId}
 use Rattle.arena_api.specs.Calls.{IsFresh}

@@ -22,7 +22,7 @@ pub struct NoRoom {
     pub oldest: Oldest,
 }
 
-/// A field of longs.
+/// Returns a field of longs.
 pub fn one_field(alloc: Global) -> Result<Fields, AllocError>
     ensures { IfOk result (λ fields. length fields ≡ 1) }
 {
@@ -37,7 +37,7 @@ pub fn one_field(alloc: Global) -> Result<Fields, AllocError>
     )
 }
 
-/// A reader of a new memory.
+/// Makes a reader of a new memory.
 pub fn seat_in<'a>(
     writer: &mut Writer<'a, 22, AttrLayout>,
     fields: &Fields,
@@ -52,7 +52,7 @@ pub fn seat_in<'a>(
     }
 }
 
-/// The put of a number to a document.
+/// Returns the put of a number to a document.
 fn put_of(alloc: Global, document: u32, number: u32) -> Result<Op, AllocError> {
     let value = Value::Long(i64::from(number));
     let mut items = Items::new(alloc);
@@ -62,7 +62,7 @@ fn put_of(alloc: Global, document: u32, number: u32) -> Result<Op, AllocError> {
     Ok(Op::Put { doc, items })
 }
 
-/// Where there was no room, which one it was; other refusals are an error.
+/// Returns the refusal for lack of space; other refusals are an error.
 fn refused(error: AttrError) -> Result<Option<NoRoom>, AllocError> {
     match error {
         AttrError::Full {
@@ -130,7 +130,7 @@ pub fn commit<const OFFSET_BITS: u32, S: Store<OFFSET_BITS, Layout = AttrLayout>
     }
 }
 
-/// A step of a compaction over so many keys. Where it finds no room, it is passed over.
+/// Makes a step of a compaction over this many keys. If it finds no space, it is skipped.
 pub fn compact<const OFFSET_BITS: u32, S: Store<OFFSET_BITS, Layout = AttrLayout>>(
     alloc: Global,
     attribute: &mut Attribute<OFFSET_BITS, S>,
@@ -160,7 +160,8 @@ fn push_info(line: &mut String, info: CommitInfo) -> Result<(), AllocError> {
     }
 }
 
-/// Commits, and tells what that comes to: its number and the generation after it, or the commit after which there is none.
+/// Commits, and writes the result: the number of the commit and the generation after it, or the last commit if no
+/// other is possible.
 pub fn tell_commit<const OFFSET_BITS: u32, S: Store<OFFSET_BITS, Layout = AttrLayout>>(
     attribute: &mut Attribute<OFFSET_BITS, S>,
     fields: &Fields,

@@ -1,4 +1,5 @@
-//! A guard that is dropped without its release: puts to one document with a commit after each, until one is refused, and the table then.
+//! A guard that is dropped without a release: puts to one document with a commit after each, until one is refused,
+//! and the table then.
 ghost use Rattle.std.specs.Prelude.{◌≡◌, ◌≤◌, length};
 ghost use Rattle.attr_types.specs.declared.field.TheConstants.{MOST_FIELDS};
 ghost use Rattle.attr_images.specs.Shapes.{shape_of, types_of};
@@ -14,7 +15,7 @@ use std::alloc::{AllocError, Global};
 use store_api::Store;
 use word_arena::Reader;
 
-/// What was refused, how many buffers are in use or held, and which hold is the oldest.
+/// Writes what was refused, how many buffers are in use or held, and which hold is the oldest.
 fn push_refused(line: &mut String, what: &str, room: NoRoom) -> Result<(), AllocError> {
     let buffers = room.active.saturating_add(room.held);
     write!(line, "{what} refused, {buffers} buffers in use or held")?;
@@ -24,7 +25,8 @@ fn push_refused(line: &mut String, what: &str, room: NoRoom) -> Result<(), Alloc
     write!(line, ", generation {generation} hold {hold} found {found}")
 }
 
-/// Puts 1, 2, 3 and so on to one document with a commit after each, until one is refused: the last number that was committed.
+/// Puts 1, 2, 3 and so on to one document with a commit after each, until one is refused. Returns the last number
+/// that was committed.
 fn fill<const OFFSET_BITS: u32, S: Store<OFFSET_BITS, Layout = AttrLayout>>(
     alloc: Global,
     attribute: &mut Attribute<OFFSET_BITS, S>,
@@ -47,13 +49,14 @@ fn fill<const OFFSET_BITS: u32, S: Store<OFFSET_BITS, Layout = AttrLayout>>(
     Ok(puts)
 }
 
-/// Asks for the documents with a number.
+/// Adds an ask for the documents with a number.
 fn push_ask(asks: &mut Asks, number: u32) -> Result<(), AllocError> {
     let leaf = Leaf::Is(Value::Long(i64::from(number)));
-    asks.push(Ask::Hits(Query::One { field: 0, leaf }))
+    asks.push(Ask::Hits(Query::One { field: 0, leaf }))?;
+    Ok(())
 }
 
-/// How many documents an image has, and its answers, each with a slash in place of the line's end.
+/// Writes how many documents an image has, and its answers, each with a slash instead of the end of its line.
 fn push_round(line: &mut String, round: Option<&Round<Told>>) -> Result<(), AllocError> {
     let Some(round) = round else {
         return line.push_str("; no round");
@@ -69,7 +72,7 @@ fn push_round(line: &mut String, round: Option<&Round<Told>>) -> Result<(), Allo
     Ok(())
 }
 
-/// The documents of the last commit, and which of them have this number and the next one.
+/// Writes the documents of the last commit, and which of them have this number and the next one.
 fn tell_last<'a>(
     alloc: Global,
     reader: Reader<'a, 22, AttrLayout>,
@@ -92,7 +95,7 @@ fn tell_last<'a>(
     push_round(line, reading.rounds.first())
 }
 
-/// The same after a guard of the empty commit was dropped by a reader, with the answers of another one.
+/// The same after a reader dropped a guard of the empty commit, with the answers of another reader.
 pub fn lose<'a, const OFFSET_BITS: u32, S: Store<OFFSET_BITS, Layout = AttrLayout>>(
     alloc: Global,
     attribute: &mut Attribute<OFFSET_BITS, S>,

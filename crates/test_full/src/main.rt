@@ -1,5 +1,5 @@
-//! What a reader's guard keeps of a store: attributes are put into few buffers while a guard stands, until there is no room, and
-//! again after its release. The rows are read from standard input. A row that differs prints itself.
+//! What a reader's guard keeps of a store: documents are put into a few buffers while there is a guard, until there
+//! is no space, and again after its release. The rows are read from standard input. A wrong row is printed.
 #![tactic(auto)]
 
 mod attributes;

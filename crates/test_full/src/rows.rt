@@ -1,7 +1,7 @@
-//! Rows of standard input: `row BUFFERS DOCUMENTS PUTS BATCH GUARD KEYS LEAST MOST`: after GUARD puts a guard is taken; so many are
-//! committed before its release, from LEAST to MOST, and all of them after it.
-//! `limits PUTS COMMITS GENERATIONS = LINE`: what the commits after each of so many puts come to.
-//! `lost BUFFERS PUTS = LINE`: what is refused after a guard was dropped without its release, and the table then. Other lines are remarks.
+//! Rows of standard input: `row BUFFERS DOCUMENTS PUTS BATCH GUARD KEYS LEAST MOST`: after GUARD puts a guard is
+//! taken; from LEAST to MOST puts are committed before its release, and all of them after it. `limits PUTS COMMITS
+//! GENERATIONS = LINE`: the results of the commits after each of the puts. `lost BUFFERS PUTS = LINE`: what is
+//! refused after a guard was dropped without a release, and the table then. Other lines are comments.
 use crate::attributes::NoRoom;
 use crate::run::{Load, Told, run, tell, tell_lost};
 use std::alloc::AllocError;
@@ -26,7 +26,8 @@ fn load_in(row: &str) -> Load {
     }
 }
 
-/// Whether a store that has no room has all its buffers in use or held, and names the guard's hold as the oldest.
+/// Returns whether a store without space has all its buffers in use or held, and reports the guard's hold as the
+/// oldest.
 fn is_held_by(load: Load, commit: u32, room: NoRoom) -> bool {
     let buffers = room.active.saturating_add(room.held);
     buffers == load.buffers
@@ -35,7 +36,8 @@ fn is_held_by(load: Load, commit: u32, room: NoRoom) -> bool {
         && !room.oldest.newest
 }
 
-/// Whether all was put before the guard and after its release, so many under it, and there was room unless the guard took it.
+/// Returns whether everything was put before the guard and after its release, and the expected number under it; and
+/// whether there was space unless the guard kept it.
 fn is_wanted(load: Load, told: Told, least: u32, most: u32) -> bool {
     let commits = load.guard / load.batch.max(1);
     let ends = match told.under.full {
@@ -72,7 +74,7 @@ fn push_told(line: &mut String, told: Told) -> Result<(), AllocError> {
     }
 }
 
-/// Prints what a row came to.
+/// Prints the result of a row.
 fn print(rt: &HostRuntime, row: &str, told: Told) -> io::Result<()> {
     let mut line = String::new(rt.alloc());
     push_told(&mut line, told)?;

@@ -14,17 +14,17 @@ use std::alloc::{AllocError, Global};
 use store_api::Store;
 use word_arena::{Arena, Config, Guarded, Limits, Reader, Writer};
 
-/// What is put: the numbers 1, 2, 3 and so on, each to the next of so many documents.
+/// What is put: the numbers 1, 2, 3 and so on, each to the next of a number of documents.
 #[derive(Clone, Copy, Drop)]
 pub struct Load {
     pub buffers: u32,
     pub documents: u32,
     pub puts: u32,
-    /// A commit comes after so many puts.
+    /// The number of puts of each commit.
     pub batch: u32,
-    /// The guard is taken after so many puts.
+    /// The number of puts before the guard is taken.
     pub guard: u32,
-    /// How many keys a step of a compaction visits after each commit.
+    /// The number of keys that a step of a compaction visits after each commit.
     pub keys: u32,
 }
 
@@ -44,25 +44,25 @@ pub struct Told {
     pub commit: u32,
 }
 
-/// What a new memory is asked.
+/// A test of a new memory.
 #[derive(Clone, Copy, Drop)]
 pub enum Asked {
     /// Puts before a guard, under it and after it.
     Guard(Load),
-    /// So many puts to one document with a commit after each.
+    /// This many puts to one document, with a commit after each.
     Limits(u32),
-    /// The same after a guard was dropped without its release, until one is refused.
+    /// The same after a guard was dropped without a release, until one is refused.
     Lost(u32),
 }
 
-/// What was committed around a guard; what commits under limits came to, one after another.
+/// What was committed around a guard; or the results of commits under limits, in order.
 #[derive(Drop)]
 pub struct Answer {
     pub told: Option<Told>,
     pub line: String,
 }
 
-/// One put, and a commit and a step of a compaction where it ends a batch; else why there was no room.
+/// Makes one put, and a commit and a step of a compaction if it ends a batch. Returns why there was no space, if so.
 fn put_next<const OFFSET_BITS: u32, S: Store<OFFSET_BITS, Layout = AttrLayout>>(
     alloc: Global,
     attribute: &mut Attribute<OFFSET_BITS, S>,
@@ -85,7 +85,7 @@ fn put_next<const OFFSET_BITS: u32, S: Store<OFFSET_BITS, Layout = AttrLayout>>(
     Ok(full)
 }
 
-/// The puts above one number, up to another, until there is no room.
+/// Makes the puts above one number, up to another, until there is no space.
 fn put_all<const OFFSET_BITS: u32, S: Store<OFFSET_BITS, Layout = AttrLayout>>(
     alloc: Global,
     attribute: &mut Attribute<OFFSET_BITS, S>,
@@ -114,7 +114,7 @@ fn put_all<const OFFSET_BITS: u32, S: Store<OFFSET_BITS, Layout = AttrLayout>>(
     })
 }
 
-/// The puts under a guard, until there is no room; the guard is released then.
+/// Makes the puts under a guard, until there is no space, and then releases the guard.
 fn put_under<'a, const OFFSET_BITS: u32, S: Store<OFFSET_BITS, Layout = AttrLayout>>(
     alloc: Global,
     attribute: &mut Attribute<OFFSET_BITS, S>,
@@ -131,7 +131,7 @@ fn put_under<'a, const OFFSET_BITS: u32, S: Store<OFFSET_BITS, Layout = AttrLayo
     Ok(under)
 }
 
-/// All puts, some of them under a guard.
+/// Makes all puts, some of them under a guard.
 fn put_guarded<'a, const OFFSET_BITS: u32, S: Store<OFFSET_BITS, Layout = AttrLayout>>(
     alloc: Global,
     attribute: &mut Attribute<OFFSET_BITS, S>,
@@ -156,7 +156,7 @@ fn put_guarded<'a, const OFFSET_BITS: u32, S: Store<OFFSET_BITS, Layout = AttrLa
     })
 }
 
-/// One put to one document, and what its commit comes to.
+/// Makes one put to one document, and writes the result of its commit.
 fn put_and_tell<const OFFSET_BITS: u32, S: Store<OFFSET_BITS, Layout = AttrLayout>>(
     alloc: Global,
     attribute: &mut Attribute<OFFSET_BITS, S>,
@@ -174,7 +174,7 @@ fn put_and_tell<const OFFSET_BITS: u32, S: Store<OFFSET_BITS, Layout = AttrLayou
     tell_commit(attribute, fields, line)
 }
 
-/// So many puts to one document with a commit after each: what the commits come to, one after another.
+/// Makes puts to one document with a commit after each, and writes the results of the commits in order.
 fn tell_all<const OFFSET_BITS: u32, S: Store<OFFSET_BITS, Layout = AttrLayout>>(
     alloc: Global,
     attribute: &mut Attribute<OFFSET_BITS, S>,
@@ -190,7 +190,7 @@ fn tell_all<const OFFSET_BITS: u32, S: Store<OFFSET_BITS, Layout = AttrLayout>>(
     Ok(())
 }
 
-/// What attributes without a document are asked, with two readers beside them.
+/// Runs a test on attributes without documents, with two readers beside them.
 fn answer_one<'a, const OFFSET_BITS: u32, S: Store<OFFSET_BITS, Layout = AttrLayout>>(
     alloc: Global,
     attribute: &mut Attribute<OFFSET_BITS, S>,
@@ -241,7 +241,7 @@ fn answer_over<'a>(
     }
 }
 
-/// The same over a writer that has no reader yet.
+/// The same over a writer that has no reader.
 fn answer_seated<'a>(
     alloc: Global,
     writer: Writer<'a, 22, AttrLayout>,
@@ -257,7 +257,7 @@ fn answer_seated<'a>(
     answer_over(alloc, writer, reader, other, fields, asked, told)
 }
 
-/// The same over a new memory of so many buffers with these limits.
+/// The same over a new memory with this many buffers and these limits.
 fn answer_with(
     alloc: Global,
     fields: &Fields,
@@ -283,7 +283,7 @@ fn answer_with(
     answer_seated(alloc, writer, fields, asked, told)
 }
 
-/// The same of one attribute of longs.
+/// The same with one attribute of longs.
 fn answer_of(
     alloc: Global,
     buffers: u32,
@@ -303,7 +303,7 @@ fn answer_of(
     Ok(told)
 }
 
-/// A run over a new memory of 1 to 64 buffers.
+/// Makes a run over a new memory of 1 to 64 buffers.
 pub fn run(alloc: Global, load: Load) -> Result<Option<Told>, AllocError> {
     if load.buffers < 1 || load.buffers > 64 {
         return Err(AllocError);
@@ -316,7 +316,7 @@ pub fn run(alloc: Global, load: Load) -> Result<Option<Told>, AllocError> {
     Ok(answer.told)
 }
 
-/// So many puts in so many buffers, 1 to 64, after a guard was dropped without its release.
+/// Makes puts in 1 to 64 buffers, after a guard was dropped without a release.
 pub fn tell_lost(alloc: Global, buffers: u32, puts: u32) -> Result<String, AllocError> {
     if buffers < 1 || buffers > 64 {
         return Err(AllocError);
@@ -329,7 +329,7 @@ pub fn tell_lost(alloc: Global, buffers: u32, puts: u32) -> Result<String, Alloc
     Ok(answer.line)
 }
 
-/// So many puts in eight buffers under limits of commits and of generations.
+/// Makes puts in eight buffers under limits of commits and of generations.
 pub fn tell(
     alloc: Global,
     puts: u32,

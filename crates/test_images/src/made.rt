@@ -11,7 +11,7 @@ pub type Row<'a> = (u32, &'a [u64]);
 
 pub type Map = BTreeMap<u32, Vec<u64>>;
 
-/// The words of a node: word 0, its count, its keys and its values.
+/// Returns the words of a node: word 0, its count, its keys and its values.
 pub fn node(head: u64, count: u64, keys: &[u64], values: &[u64]) -> [u64; 34] {
     let mut words = [0; 34];
     words[0] = head;
@@ -23,7 +23,7 @@ pub fn node(head: u64, count: u64, keys: &[u64], values: &[u64]) -> [u64; 34] {
     words
 }
 
-/// A leaf of the keys from `first` on, each with one value.
+/// Returns a leaf of the keys from `first` on, each with one value.
 pub fn run(first: u64, count: usize, value: u64) -> [u64; 34] {
     let mut keys = [0; 16];
     let mut values = [0; 16];
@@ -36,12 +36,12 @@ pub fn run(first: u64, count: usize, value: u64) -> [u64; 34] {
     node(count as u64, count as u64, &keys, &values)
 }
 
-/// The root over leaves of the keys 1 to 9 and 10 to 17.
+/// Returns the root over leaves of the keys 1 to 9 and 10 to 17.
 pub fn root(first: u64, second: u64) -> [u64; 34] {
     node(258, 17, &[9, 17], &[first, second])
 }
 
-/// Puts records into a map, later ones in place of earlier.
+/// Inserts records into a map; later ones replace earlier ones.
 pub fn put(alloc: Global, records: &mut Map, rows: &[Row]) -> Result<(), AllocError> {
     for row in rows {
         records.insert(row.0, Vec::from_slice(alloc, row.1)?)?;
@@ -49,7 +49,7 @@ pub fn put(alloc: Global, records: &mut Map, rows: &[Row]) -> Result<(), AllocEr
     Ok(())
 }
 
-/// These records, and others in their place.
+/// Returns these records, after others replace them.
 pub fn records_of(alloc: Global, rows: &[Row], others: &[Row]) -> Result<Map, AllocError> {
     let mut records = BTreeMap::new(alloc);
     put(alloc, &mut records, rows)?;
@@ -62,14 +62,14 @@ fn field(alloc: Global, kind: Kind, value: ValueType) -> Result<Field, AllocErro
     Ok(Field { name, kind, value })
 }
 
-/// One attribute.
+/// Returns one attribute.
 pub fn one_field(alloc: Global, kind: Kind, value: ValueType) -> Result<Fields, AllocError>
     ensures { IfOk result (λ fields. length fields ≡ 1) }
 {
     Fields::of_one(alloc, field(alloc, kind, value)?)
 }
 
-/// A weighted set of texts, and single longs.
+/// Returns a weighted set of texts, and single longs.
 pub fn two_fields(alloc: Global) -> Result<Fields, AllocError>
     ensures { IfOk result (λ fields. length fields ≡ 2) }
 {

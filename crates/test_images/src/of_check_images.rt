@@ -22,7 +22,7 @@ fn shapes_count_kinds_and_then_types(rt: HostRuntime) -> Result<(), AllocError> 
     Ok(())
 }
 
-/// Whether an item is this number or this text, with this weight.
+/// Returns whether an item is this number or this text, with this weight.
 fn is_item(item: &Item, number: i64, text: &str, weight: i32) -> bool {
     let same = match &item.value {
         Value::Long(found) => *found == number,
@@ -31,7 +31,7 @@ fn is_item(item: &Item, number: i64, text: &str, weight: i32) -> bool {
     same && item.weight == weight
 }
 
-/// Whether a document is this one, with these items alone.
+/// Returns whether a document is this one, with exactly these items.
 fn is_document(
     row: &(u64, FieldItems),
     document: u64,
@@ -52,7 +52,7 @@ fn is_document(
     row.0 == document && row.1.len() == 1
 }
 
-/// Document 7 has the text `te` with weight -3.
+/// Returns an image in which document 7 has the text `te` with weight -3.
 fn one_text<'a>(documents: &'a [u64; 34], dictionary: &'a [u64; 34]) -> [Row<'a>; 6] {
     [
         (1027, &[1, 1026, 2050, 0]),
@@ -64,8 +64,8 @@ fn one_text<'a>(documents: &'a [u64; 34], dictionary: &'a [u64; 34]) -> [Row<'a>
     ]
 }
 
-/// Whether the image, with other records in the place of its own, reads as `count` documents from `first`
-/// on, each with items of this number, or of these texts, and this weight.
+/// Returns whether the image, after other records replace its own, reads as `count` documents from `first` on, each
+/// with items of this number, or of these texts, and this weight.
 fn reads(
     alloc: Global,
     kind: Kind,
@@ -91,7 +91,7 @@ fn reads(
     Ok(table.len() == count)
 }
 
-/// Items of the values 5 and `te` that stand once, in a list of one document.
+/// The values 5 and `te` once each, in a list of one document.
 const FIVE: Row<'static> = (1024, &[8, 5]);
 
 const ONCE: Row<'static> = (2048, &[1, 30064771073]);
@@ -159,7 +159,7 @@ fn images_of_one_document_read_as_their_tables(rt: HostRuntime) -> Result<(), Al
     Ok(())
 }
 
-/// 16 documents of one value in one leaf.
+/// Tests 16 documents of one value in one leaf.
 fn is_one_leaf(alloc: Global) -> Result<bool, AllocError> {
     let (sixteen, ones, of_tree) = (run(1, 16, 1024), run(1, 16, 1), run(1024, 1, 10245));
     let records: [Row; 5] = [
@@ -173,7 +173,7 @@ fn is_one_leaf(alloc: Global) -> Result<bool, AllocError> {
     reads(alloc, kind, value, &records, (1, 16), 12, &[""], 1)
 }
 
-/// 17 in two leaves below a root.
+/// Tests 17 documents in two leaves below a root.
 fn is_two_leaves(alloc: Global) -> Result<bool, AllocError> {
     let (nine, eight) = (run(1, 9, 1024), run(10, 8, 1024));
     let (first_ones, last_ones) = (run(1, 9, 1), run(10, 8, 1));
@@ -202,7 +202,7 @@ fn images_of_many_documents_read_as_their_tables(rt: HostRuntime) -> Result<(), 
     Ok(())
 }
 
-/// Whether the image with this record in the place of its own is refused.
+/// Returns whether the image is refused after this record replaces its own.
 fn is_broken(alloc: Global, row: Row) -> Result<bool, AllocError> {
     let (of_items, of_list) = (run(7, 1, 3072), run(1024, 1, 4096));
     let records = records_of(alloc, &one_text(&of_items, &of_list), &[row])?;
@@ -241,8 +241,8 @@ fn broken_images_are_refused(rt: HostRuntime) -> Result<(), AllocError> {
     Ok(())
 }
 
-/// Whether the image with a second attribute of longs beside that of texts is lawful. In it one document
-/// has 5, as the posting's word says too.
+/// Returns whether the image with a second attribute of longs beside that of texts is lawful. In the second, one
+/// document has 5, as the word of the posting says too.
 fn has_both(alloc: Global, root: [u64; 8], document: u64, word: u64) -> Result<bool, AllocError> {
     let (of_items, of_list) = (run(7, 1, 3072), run(1024, 1, 4096));
     let (of_number, of_numbers) = (run(document, 1, 4096), run(4096, 1, 10240));
@@ -278,8 +278,8 @@ fn images_of_two_attributes_have_the_same_documents(rt: HostRuntime) -> Result<(
     Ok(())
 }
 
-/// Whether an image whose posting list is a bit vector, with this record in the place of its own, has so many documents; it
-/// is refused where there are none.
+/// Returns whether an image whose posting list is a bit vector has this many documents after a record replaces its
+/// own; with 0, whether it is refused.
 fn has_documents(
     alloc: Global,
     block: &[u64; 64],

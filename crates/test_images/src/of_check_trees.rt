@@ -3,7 +3,7 @@ use attr_types::ValueType;
 use check_images::{CheckFault, Keys, check_tree, is_node_form};
 use std::alloc::{AllocError, Global};
 
-/// Whether words are a node's with another word at a place, if it is one of theirs.
+/// Returns whether words are those of a node after another word replaces one, if the index is valid.
 fn is_node_with(words: [u64; 34], place: usize, word: u64) -> Option<bool> {
     let mut changed = words;
     *changed.get_mut(place)? = word;
@@ -18,7 +18,7 @@ fn words_of_nodes_are_told_apart(rt: HostRuntime) {
     assert!(rt; !is_node_form(&[0; 33], 0, 0));
     assert!(rt; !is_node_form(&good, 0, 2));
     assert!(rt; !is_node_form(&good, 1, 3));
-    // a word that is changed, what it becomes, and whether it is a node's
+    // a word that is changed, its new value, and whether the words are those of a node
     let rows = [
         (0, 514, false),
         (0, 257, false),
@@ -35,7 +35,7 @@ fn words_of_nodes_are_told_apart(rt: HostRuntime) {
     }
 }
 
-/// Whether pairs are those of the keys 1 to `count`, each with the value 1.
+/// Returns whether pairs are those of the keys 1 to `count`, each with the value 1.
 fn are_ones(pairs: &[(u64, u64)], count: u64) -> bool {
     let mut next: u64 = 1;
     for pair in pairs {
@@ -47,7 +47,8 @@ fn are_ones(pairs: &[(u64, u64)], count: u64) -> bool {
     pairs.len() as u64 == count
 }
 
-/// Whether records from a root on are a tree of so many pairs; none where it is no tree.
+/// Returns whether records from a root on are a tree with this many pairs; with 0, whether the root is 0 or they are not a
+/// tree.
 fn has_pairs(
     alloc: Global,
     rows: &[Row],
@@ -67,7 +68,7 @@ fn trees_are_told_apart(rt: HostRuntime) -> Result<(), AllocError> {
     let (top, first, second) = (root(1026, 2050), run(1, 9, 1), run(10, 8, 1));
     let mut equal = second;
     equal[2] = 9;
-    // the root, the record that is replaced, its words, and the number of pairs, 0 where it is no tree
+    // the root, the record that is replaced, its words, and the number of pairs (0 if it is not a tree)
     let rows: [(u64, u32, &[u64], u64); 15] = [
         (3074, 5, &[], 17),
         (1026, 5, &[], 9),
@@ -95,7 +96,7 @@ fn trees_are_told_apart(rt: HostRuntime) -> Result<(), AllocError> {
     Ok(())
 }
 
-/// Whether a leaf of two keys is a tree, with the records that they refer to.
+/// Returns whether a leaf of two keys is a tree, with the records to which they refer.
 fn is_tree(alloc: Global, keys: Keys, first: &[u64], second: &[u64]) -> Result<bool, AllocError> {
     let leaf = node(2, 2, &[1024, 2048], &[1, 1]);
     let records = records_of(alloc, &[(1024, first), (2048, second), (3074, &leaf)], &[])?;

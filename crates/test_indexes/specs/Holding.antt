@@ -6,7 +6,7 @@ use Rattle.store_api.specs.Parts.{Owns}
 use Rattle.attr_types.specs.declared.kind.ValueType.{ValueType}
 use Rattle.value_index.specs.Indexes.{index_part, IsIndex}
 
--- an index of values of a type, all of which is in use
+-- an index of values of a type, which is all that is in use
 pub record HoldsValues {H : Type 0} (type : ValueType) (ledger : Ledger H) (m : Records) (root : ℕ) : Type 0 where
   pub unit : ledger.unit ≡ true
   pub index_is : IsIndex type m root

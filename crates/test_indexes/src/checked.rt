@@ -10,10 +10,10 @@ use std::alloc::{AllocError, Global};
 use std::collections::BTreeMap;
 use test_kit::{NotedWork, ValueLists};
 
-/// An index over a memory beside which the words of each record are kept.
+/// An index over a memory with a copy of the words of each record.
 type Lists = ValueLists<22, EntryStore<22, NotedWork<22, MemWork<22, OneRecord>>>>;
 
-/// The pairs of a tree, where it is one to the slow checker.
+/// Returns the pairs of a tree, if the slow checker accepts it.
 fn pairs_of(
     alloc: Global,
     keys: Keys,
@@ -27,7 +27,7 @@ fn pairs_of(
     }
 }
 
-/// The words of a record: these, and zeros up to a power of two.
+/// Returns the words of a record: these, followed by zeros up to a power of two.
 fn filled(mut words: Vec<u64>) -> Result<Vec<u64>, AllocError> {
     let mut width: usize = 2;
     for _ in 0..10 {
@@ -41,7 +41,7 @@ fn filled(mut words: Vec<u64>) -> Result<Vec<u64>, AllocError> {
     Ok(words)
 }
 
-/// Eight bytes from one on, the first in the highest place, with zeros where there are fewer.
+/// Returns eight bytes from one on, the first in the highest place, with zeros for missing bytes.
 fn packed(bytes: &[u8], first: usize) -> u64 {
     let mut word: u64 = 0;
     for i in 0..8 {
@@ -54,7 +54,7 @@ fn packed(bytes: &[u8], first: usize) -> u64 {
     word
 }
 
-/// The words of a value's record.
+/// Returns the words of a value's record.
 fn record_of(alloc: Global, value: &Value) -> Result<Vec<u64>, AllocError> {
     let mut words = Vec::new(alloc);
     match value {
@@ -75,7 +75,7 @@ fn record_of(alloc: Global, value: &Value) -> Result<Vec<u64>, AllocError> {
     filled(words)
 }
 
-/// The documents of the value at a place, each with the bits of its weight.
+/// Returns the documents of the value at an index, each with the bits of its weight.
 fn documents_at(
     alloc: Global,
     all: &[(u64, i32)],
@@ -91,7 +91,7 @@ fn documents_at(
     Ok(documents)
 }
 
-/// The words of the record of a short list.
+/// Returns the words of the record of a short list.
 fn list_of(alloc: Global, documents: &[(u64, u64)]) -> Result<Vec<u64>, AllocError> {
     let mut words = Vec::new(alloc);
     words.push(documents.len() as u64)?;
@@ -106,7 +106,8 @@ fn list_of(alloc: Global, documents: &[(u64, u64)]) -> Result<Vec<u64>, AllocErr
     filled(words)
 }
 
-/// Whether a word of the dictionary names the list of these documents: a record of eight at most, a tree of more.
+/// Returns whether a word of the dictionary refers to the list of these documents: a record of at most eight, or a
+/// tree of more.
 fn is_list(
     alloc: Global,
     records: &BTreeMap<u32, Vec<u64>>,
@@ -126,7 +127,7 @@ fn is_list(
     }
 }
 
-/// Whether a pair of the dictionary is the record of a value and the list of its documents.
+/// Returns whether a pair of the dictionary is the record of a value and the list of its documents.
 fn is_entry(
     alloc: Global,
     records: &BTreeMap<u32, Vec<u64>>,
@@ -141,7 +142,7 @@ fn is_entry(
     is_list(alloc, records, pair.1, documents)
 }
 
-/// Whether the pairs of a dictionary are those of a plain map: each value that has documents, in order.
+/// Returns whether the pairs of a dictionary are those of a plain map: each value that has documents, in order.
 fn are_entries(
     alloc: Global,
     records: &BTreeMap<u32, Vec<u64>>,
@@ -168,7 +169,8 @@ fn are_entries(
     Ok(rest.is_empty())
 }
 
-/// Whether records are the dictionary of a plain map, word for word but for the shape of its trees, which the slow checker reads.
+/// Returns whether records are the dictionary of a plain map, word for word except the shape of its trees, which the
+/// slow checker reads.
 fn is_dictionary(
     alloc: Global,
     value_type: ValueType,
@@ -183,7 +185,7 @@ fn is_dictionary(
     }
 }
 
-/// Whether the records of an index are those of the plain map.
+/// Returns whether the records of an index are those of the plain map.
 fn are_records(
     alloc: Global,
     value_type: ValueType,
@@ -199,7 +201,7 @@ fn are_records(
     }
 }
 
-/// Whether the records of an index after the changes of a run are those of the plain map.
+/// Returns whether the records of an index after the changes of a run are those of the plain map.
 fn is_sound_beside(
     alloc: Global,
     value_type: ValueType,

@@ -1,5 +1,5 @@
-//! Rows: `longs VALUES` or `texts VALUES`, and then `lower VALUE : VALUES` or `upper VALUE : VALUES`, what stands in
-//! a dictionary of those from there on. `""` is the text of no byte. Other lines are remarks.
+//! Rows: `longs VALUES` or `texts VALUES`, and then `lower VALUE : VALUES` or `upper VALUE : VALUES`, the values in
+//! their dictionary from there on. `""` is the empty text. Other lines are comments.
 use crate::seeking::{Asked, shows};
 use attr_types::{Text, Value};
 use std::alloc::{AllocError, Global};
@@ -25,14 +25,14 @@ fn values_in(alloc: Global, row: &str, texts: bool) -> Result<Vec<Value>, AllocE
     Ok(values)
 }
 
-/// What stands in a row of values that are put in.
+/// The values of a row that are inserted.
 #[derive(Drop)]
 struct Given {
     values: Vec<Value>,
     texts: bool,
 }
 
-/// Whether a row says what is there: its first value is the one sought, the others are wanted.
+/// Returns whether a row is right: its first value is the sought one, and the others are expected.
 fn is_right(alloc: Global, given: &Given, above: bool, row: &str) -> Result<bool, AllocError> {
     let values = values_in(alloc, row, given.texts)?;
     match values.as_slice() {
@@ -48,7 +48,7 @@ fn is_right(alloc: Global, given: &Given, above: bool, row: &str) -> Result<bool
     }
 }
 
-/// Whether a row is right, and none where it asks for nothing.
+/// Returns whether a row is right, or `None` if it is not a query.
 fn told(alloc: Global, given: &Given, line: &str) -> Result<Option<bool>, AllocError> {
     if let Some(row) = line.strip_prefix("lower ") {
         return Ok(Some(is_right(alloc, given, false, row)?));
@@ -59,7 +59,7 @@ fn told(alloc: Global, given: &Given, line: &str) -> Result<Option<bool>, AllocE
     Ok(None)
 }
 
-/// The values that are put in, and the rows so far.
+/// The values that are inserted, and the rows so far.
 #[derive(Drop)]
 pub struct DictionaryRows {
     given: Given,

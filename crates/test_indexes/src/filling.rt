@@ -8,7 +8,7 @@ use entry_ref::EntryRef;
 use store_api::{Store, StoreError};
 use value_index::add;
 
-/// Whether two values are of one type.
+/// Returns whether two values have the same type.
 pub fn is_like(value: &Value, like: &Value) -> bool
     ensures { IsTrue result ↔ (type_of value.now ≡ type_of like.now) }
 {
@@ -18,7 +18,7 @@ pub fn is_like(value: &Value, like: &Value) -> bool
     }
 }
 
-/// Puts a value into a dictionary of values like another, with a list of one document.
+/// Inserts a value into a dictionary of values of the same type, with a list of one document.
 fn put<const OFFSET_BITS: u32, S: Store<OFFSET_BITS>>(
     store: &mut S,
     root: EntryRef<OFFSET_BITS>,
@@ -33,7 +33,7 @@ fn put<const OFFSET_BITS: u32, S: Store<OFFSET_BITS>>(
     Ok(next)
 }
 
-/// The dictionary of these values, all of them like another one, in a unit.
+/// Makes the dictionary of these values, which all have the same type, in a unit.
 pub fn fill<const OFFSET_BITS: u32, S: Store<OFFSET_BITS>>(
     store: &mut S,
     like: &Value,

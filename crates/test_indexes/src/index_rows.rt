@@ -1,5 +1,5 @@
-//! Rows: `TYPE SEED CHANGES VALUES DOCUMENTS PERIOD EVERY BUFFERS CHECKS`, and then `said LINE`, what the run must
-//! come to. Other lines are remarks.
+//! Rows: `TYPE SEED CHANGES VALUES DOCUMENTS PERIOD EVERY BUFFERS CHECKS`, and then `said LINE`, the expected result
+//! of the run. Other lines are comments.
 ghost use Rattle.std.specs.Prelude.{◌≤◌};
 
 use crate::checked::is_sound_after;
@@ -29,8 +29,9 @@ fn load_in(row: &str) -> Load {
     }
 }
 
-/// A run as a line: whether all was the same, whether lists came over eight documents and back at least ten times, whether
-/// some units were refused, whether most of the others were accepted, and how often the records were checked.
+/// Returns a run as a line: whether everything was the same, whether lists grew beyond eight documents and shrank
+/// again at least ten times, whether some units were refused, whether most of the others were accepted, and how often
+/// the records were checked.
 fn line_of(alloc: Global, told: Told, checks: u32) -> Result<String, AllocError> {
     if let Some(turn) = told.differs {
         return format!(in alloc; "differs after change {turn}");
@@ -52,7 +53,8 @@ fn line_of(alloc: Global, told: Told, checks: u32) -> Result<String, AllocError>
     Ok(line)
 }
 
-/// After how many changes of a run the records are not those of the plain map, first, of so many looks at them.
+/// Returns the first number of changes of a run after which the records differ from the plain map, among a number of
+/// checks.
 fn first_unsound(
     alloc: Global,
     value_type: ValueType,
@@ -72,7 +74,7 @@ fn first_unsound(
     Ok(None)
 }
 
-/// A run over a memory of its own, beside a plain map.
+/// Makes a run over a memory of its own, beside a plain map.
 fn run_beside(
     alloc: Global,
     value_type: ValueType,
@@ -118,7 +120,7 @@ fn told(alloc: Global, row: &str, value_type: ValueType) -> Result<String, Alloc
     }
 }
 
-/// The last row, what it came to, and the rows so far.
+/// The last row, its result, and the rows so far.
 #[derive(Drop)]
 pub struct IndexRows {
     case: String,

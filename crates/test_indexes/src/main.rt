@@ -1,5 +1,5 @@
-//! Random changes of indexes beside a plain map, and dictionaries searched between their values, as rows of standard input ask for
-//! them. A row that differs prints itself.
+//! Random changes of indexes beside a plain map, and dictionaries searched between their values, as selected by rows
+//! of standard input. A wrong row is printed.
 #![tactic(auto)]
 
 mod checked;

@@ -1,14 +1,15 @@
 use std::alloc::{AllocError, Global};
 use std::collections::BTreeMap;
 
-/// What an index has to have: a weight by the place of the value and the document, and the documents of each value counted.
+/// The expected contents of an index: a weight for each value and document, and the number of documents of each
+/// value.
 #[derive(Drop)]
 pub struct Plain {
     weights: BTreeMap<u64, i32>,
     counts: Vec<u32>,
-    /// How often a list came to nine documents from eight.
+    /// How often a list grew from eight documents to nine.
     pub ups: u32,
-    /// How often a list came to eight documents from nine.
+    /// How often a list shrank from nine documents to eight.
     pub downs: u32,
 }
 
@@ -37,7 +38,7 @@ impl Plain {
         self.weights.get(&key_of(place, doc)).is_some()
     }
 
-    /// Counts a document more or fewer at a place.
+    /// Counts one more or one fewer document of a value.
     fn count_at(&mut self, place: u32, count: u32) {
         if let Some(here) = self.counts.get_mut(place as usize) {
             *here = count;
@@ -67,7 +68,7 @@ impl Plain {
         self.count_at(place, count);
     }
 
-    /// Each value's place and document as one number, with the weight, in order.
+    /// Returns each value's index and document as one number, with the weight, in order.
     pub fn all(&self, alloc: Global) -> Result<Vec<(u64, i32)>, AllocError> {
         let mut all = Vec::new(alloc);
         for (key, weight) in &self.weights {
@@ -77,7 +78,7 @@ impl Plain {
     }
 }
 
-/// The same of lists: behind what is there the documents of the value at a place.
+/// Appends the documents of the value at an index.
 pub fn push_documents(
     all: &mut Vec<(u64, i32)>,
     place: u32,

@@ -1,4 +1,4 @@
-//! The lines of standard input: behind `[indexes]` or `[dictionaries]` the rows of each.
+//! The lines of standard input: `[indexes]` and `[dictionaries]` begin the rows of each.
 use crate::dictionary_rows::DictionaryRows;
 use crate::index_rows::IndexRows;
 use std::alloc::Global;

@@ -6,8 +6,8 @@ use std::alloc::{AllocError, Global};
 use store_api::{Store, StoreError};
 use test_kit::{NotedWork, Random, ValueList, ValueLists};
 
-/// What a run is: so many changes of so many documents, of which three in four are additions in one period and removals in
-/// the next, and a comparison after each `every`.
+/// The parameters of a run: a number of changes of a number of documents. In one period three in four are additions,
+/// in the next removals. The contents are compared after each `every` changes.
 #[derive(Clone, Copy)]
 pub struct Load {
     pub seed: u32,
@@ -17,10 +17,10 @@ pub struct Load {
     pub every: u32,
 }
 
-/// What a run came to.
+/// The result of a run.
 #[derive(Clone, Copy)]
 pub struct Told {
-    /// The change after which something differed first.
+    /// The first change after which something differed.
     pub differs: Option<u32>,
     /// How many units were refused and undone.
     pub refused: u32,
@@ -30,7 +30,7 @@ pub struct Told {
     pub downs: u32,
 }
 
-/// The first place from one on at which a value stands, or one far above all.
+/// Returns the first index, from one on, of a value, or one far above all.
 fn place_from(values: &[Value], from: u32, value: &Value) -> u32 {
     let rest = match values.get(from as usize..) {
         Some(rest) => rest,
@@ -42,7 +42,7 @@ fn place_from(values: &[Value], from: u32, value: &Value) -> u32 {
     }
 }
 
-/// Whether the lists, read by one walk, are those of the plain map.
+/// Returns whether the lists, read by one walk, are those of the plain map.
 fn walks_same(
     alloc: Global,
     lists: &[ValueList],
@@ -59,7 +59,7 @@ fn walks_same(
     Ok(found.as_slice() == wanted.as_slice())
 }
 
-/// Whether each value is found or not as the plain map has it, with its documents.
+/// Returns whether each value is found as in the plain map, with its documents.
 fn finds_same<const OFFSET_BITS: u32, S: Store<OFFSET_BITS>>(
     alloc: Global,
     lists: &mut ValueLists<OFFSET_BITS, S>,
@@ -93,7 +93,7 @@ fn is_same<const OFFSET_BITS: u32, S: Store<OFFSET_BITS>>(
     finds_same(alloc, lists, values, plain)
 }
 
-/// What one change came to.
+/// The result of one change.
 #[derive(Clone, Copy)]
 enum Outcome {
     Accepted,
@@ -101,7 +101,7 @@ enum Outcome {
     Differs,
 }
 
-/// One unit that adds a document.
+/// Adds a document, in a unit of its own.
 fn add_one<const OFFSET_BITS: u32, S: Store<OFFSET_BITS>>(
     lists: &mut ValueLists<OFFSET_BITS, S>,
     value: &Value,
@@ -121,7 +121,7 @@ fn add_one<const OFFSET_BITS: u32, S: Store<OFFSET_BITS>>(
     }
 }
 
-/// One unit that takes a document out, where it is there.
+/// Removes a document if it exists, in a unit of its own.
 fn remove_one<const OFFSET_BITS: u32, S: Store<OFFSET_BITS>>(
     lists: &mut ValueLists<OFFSET_BITS, S>,
     value: &Value,
@@ -142,7 +142,7 @@ fn remove_one<const OFFSET_BITS: u32, S: Store<OFFSET_BITS>>(
     }
 }
 
-/// One change, chosen by chance.
+/// Makes one random change.
 fn change<const OFFSET_BITS: u32, S: Store<OFFSET_BITS>>(
     lists: &mut ValueLists<OFFSET_BITS, S>,
     values: &[Value],
@@ -168,7 +168,7 @@ fn change<const OFFSET_BITS: u32, S: Store<OFFSET_BITS>>(
     }
 }
 
-/// The changes of a run on an index and on a plain map, one after another, until something differs.
+/// Makes the changes of a run on an index and on a plain map, one after another, until something differs.
 fn run<const OFFSET_BITS: u32, S: Store<OFFSET_BITS>>(
     alloc: Global,
     lists: &mut ValueLists<OFFSET_BITS, S>,
@@ -223,7 +223,7 @@ pub fn run_on<const OFFSET_BITS: u32, W: Work<OFFSET_BITS>>(
     run(alloc, lists, values, load, plain)
 }
 
-/// Whether something differs in a run over a work with notes.
+/// Returns whether something differs in a run over a work with notes.
 pub fn differs_on<const OFFSET_BITS: u32, W: Work<OFFSET_BITS>>(
     alloc: Global,
     lists: &mut ValueLists<OFFSET_BITS, EntryStore<OFFSET_BITS, NotedWork<OFFSET_BITS, W>>>,
@@ -234,7 +234,7 @@ pub fn differs_on<const OFFSET_BITS: u32, W: Work<OFFSET_BITS>>(
     Ok(run(alloc, lists, values, load, plain)?.differs.is_some())
 }
 
-/// The root of an index over a work with notes.
+/// Returns the root of an index over a work with notes.
 pub fn root_of<const OFFSET_BITS: u32, W: Work<OFFSET_BITS>>(
     lists: &ValueLists<OFFSET_BITS, EntryStore<OFFSET_BITS, NotedWork<OFFSET_BITS, W>>>,
 ) -> u64 {

@@ -14,7 +14,7 @@ use frozen_btree::Cursor;
 use std::alloc::{AllocError, Global};
 use store_api::Store;
 
-/// What is asked: the values that are put in, the one that is sought, and whether those above it alone are meant.
+/// A search: the values that are inserted, the sought one, and whether only values above it count.
 #[derive(Clone, Copy)]
 pub struct Asked<'a> {
     pub given: &'a [Value],
@@ -22,7 +22,7 @@ pub struct Asked<'a> {
     pub above: bool,
 }
 
-/// Before the first value that is not below the one sought, or is above it.
+/// Returns a cursor before the first value that is not below the sought one, or above it.
 fn start<const OFFSET_BITS: u32, F: Frozen<OFFSET_BITS>>(
     frozen: &mut F,
     root: EntryRef<OFFSET_BITS>,
@@ -40,7 +40,7 @@ fn start<const OFFSET_BITS: u32, F: Frozen<OFFSET_BITS>>(
     }
 }
 
-/// The keys from there on.
+/// Returns the keys from there on.
 fn keys_from<const OFFSET_BITS: u32, F: Frozen<OFFSET_BITS>>(
     alloc: Global,
     frozen: &mut F,
@@ -61,7 +61,7 @@ fn keys_from<const OFFSET_BITS: u32, F: Frozen<OFFSET_BITS>>(
     Ok(keys)
 }
 
-/// The key of a value, 0 where it is not there.
+/// Returns the key of a value, or 0 if it does not exist.
 fn key_of<const OFFSET_BITS: u32, F: Frozen<OFFSET_BITS>>(
     frozen: &mut F,
     root: EntryRef<OFFSET_BITS>,
@@ -78,7 +78,7 @@ fn key_of<const OFFSET_BITS: u32, F: Frozen<OFFSET_BITS>>(
     }
 }
 
-/// The keys of values like another one, each 0 where it is not there.
+/// Returns the keys of values of the same type, or 0 for each that does not exist.
 fn keys_of<const OFFSET_BITS: u32, F: Frozen<OFFSET_BITS>>(
     alloc: Global,
     frozen: &mut F,
@@ -98,7 +98,7 @@ fn keys_of<const OFFSET_BITS: u32, F: Frozen<OFFSET_BITS>>(
     Ok(keys)
 }
 
-/// Whether the values from there on are these.
+/// Returns whether the values from there on are these.
 fn looks<const OFFSET_BITS: u32, F: Frozen<OFFSET_BITS>>(
     alloc: Global,
     frozen: &mut F,
@@ -113,7 +113,7 @@ fn looks<const OFFSET_BITS: u32, F: Frozen<OFFSET_BITS>>(
     Ok(found.as_slice() == keys.as_slice())
 }
 
-/// The same in a store of which nothing is made yet.
+/// The same in a store in which nothing is made.
 fn fills_and_looks<const OFFSET_BITS: u32, S: Store<OFFSET_BITS>>(
     alloc: Global,
     store: &mut S,

@@ -1,4 +1,4 @@
-//! Indexes and stores of which nothing is made yet.
+//! New indexes and stores.
 ghost use Rattle.std.specs.Prelude.{◌≤◌, IfOk};
 ghost use Rattle.arena_api.specs.Calls.{IsFresh};
 ghost use Rattle.store_api.specs.Ledgers.{IsNew};
@@ -11,7 +11,7 @@ use std::alloc::{AllocError, Global};
 use store_api::Store;
 use test_kit::{NotedWork, ValueLists};
 
-/// A memory of buffers of 8,192 words, of which nothing is handed out yet.
+/// Creates a memory of buffers of 8,192 words, in which nothing is handed out.
 pub fn new_memory(alloc: Global, buffers: u32) -> Result<MemWork<22, OneRecord>, AllocError>
     requires some { 1 ≤ buffers }
     requires few { buffers ≤ 1023 }
@@ -21,7 +21,7 @@ pub fn new_memory(alloc: Global, buffers: u32) -> Result<MemWork<22, OneRecord>,
     Ok(work)
 }
 
-/// No value, in a store over a work of which nothing is handed out yet.
+/// Creates an empty index, in a store over a work in which nothing is handed out.
 pub fn new_lists<const OFFSET_BITS: u32, W: Work<OFFSET_BITS> + Drop>(
     alloc: Global,
     work: W,
@@ -35,7 +35,7 @@ pub fn new_lists<const OFFSET_BITS: u32, W: Work<OFFSET_BITS> + Drop>(
     }
 }
 
-/// The same over a work beside which the words of each record are kept.
+/// The same over a work that keeps a copy of the words of each record.
 pub fn noted_lists<const OFFSET_BITS: u32, W: Work<OFFSET_BITS> + Drop>(
     alloc: Global,
     work: W,
@@ -49,7 +49,7 @@ pub fn noted_lists<const OFFSET_BITS: u32, W: Work<OFFSET_BITS> + Drop>(
     }
 }
 
-/// A store over 32 buffers of 8,192 words, of which nothing is made yet.
+/// Creates a store over 32 buffers of 8,192 words, in which nothing is made.
 pub fn new_store(alloc: Global) -> Result<EntryStore<22, MemWork<22, OneRecord>>, AllocError>
     ensures new { IfOk result (λ s. IsNew (⟦<EntryStore<22, MemWork<22, OneRecord>> as Store<22>>⟧.ledger s)) }
 {

@@ -15,7 +15,7 @@ fn long_at(number: u32) -> i64 {
     }
 }
 
-/// The first values of a type, in order: those at the ends of what there is first.
+/// Returns the first values of a type, in order. They include the extreme ones.
 pub fn values_of(
     alloc: Global,
     value_type: ValueType,

@@ -14,12 +14,12 @@ pub record ListsView : Type 0 where
   pub value_type : ValueType
   pub index : Index
 
--- the index is all that is in use, and no unit is under way
+-- the index is all that is in use, and no unit is open
 pub record HoldsIndex {H : Type 0} (type : ValueType) (ledger : Ledger H) (m : Records) (root : ℕ) : Type 0 where
   pub index_is : IsIndex type m root
   pub owns : OwnsAll ledger m (index_part root ∷ [])
   pub unit : ledger.unit ≡ false
 
--- a value as it is listed
+-- a value in the form of a list
 abbrev pub as_listed : ValueList → Value × List (ℕ × ℤ)
 as_listed list = (list.value, list.documents.items)

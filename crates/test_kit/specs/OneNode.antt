@@ -7,6 +7,6 @@ abbrev pub node_reaches : ℕ → Records → ℕ → List ℕ
 node_reaches shape m zero = []
 node_reaches shape m (suc r) = suc r ∷ []
 
--- and is there, with 34 words
+-- it exists, with 34 words
 abbrev pub IsNodeRecord : ℕ → Records → ℕ → Type 0
 IsNodeRecord shape m root = 0 < root → length (m root) ≡ 34

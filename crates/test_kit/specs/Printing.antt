@@ -1,4 +1,4 @@
--- What is written of an ask, piece by piece, and which asks are read back from it.
+-- What is written for an ask, piece by piece, and which asks are read back from it.
 use Rattle.std.specs.Prelude.{◌≡◌, ◌≤◌, ℕ, true, ◌==◌, ◌||◌, List, [], ◌∷◌, encode_utf8, codes, slice_get}
 use Rattle.std.specs.Prelude.{if◌then◌else◌, Option, Some, None, option_map, Ok}
 use Rattle.attr_types.specs.declared.field.Field.{Field}
@@ -9,7 +9,7 @@ use Rattle.query_text.specs.Grammar.{NamedTree, NamedTrees, one, and, or, no_tre
 use Rattle.query_text.specs.Grammar.{IsAmong, IsFormedWord, field_of, has_types, has_range, word_levels}
 use Rattle.query_text.specs.Laws.{ask_by}
 
--- the name that stands before what speaks of the attribute with a number: of attribute 0 there is none
+-- the name before what refers to the attribute with a number; attribute 0 has none
 abbrev pub name_at : List Field → ℕ → Option (List ℕ)
 name_at fields number = if number == 0 then None else option_map (λ field. field.name) (slice_get fields number)
 
@@ -54,15 +54,15 @@ pub record IsLawfulAsk (fields : List Field) (ask : AskTree) : Type 0 where
   pub in_range : has_range (named_word fields ask) ≡ true
   pub levels : word_levels (named_word fields ask) ≤ 32
 
--- where the ask is lawful, each parser that reads such words reads the text as it
+-- if the ask is lawful, each parser of such words reads the text as this ask
 abbrev pub ReadsBackAs : List Field → List ℕ → AskTree → Type 0
 ReadsBackAs fields text ask = (words : Words) → IsAmong words (named_word fields ask) → IsLawfulAsk fields ask
     → ask_by words fields text ≡ Ok ask
 
--- what stands before a member of a list, by the number of members before it
+-- the text before a member of a list, by the number of members before it
 abbrev pub comma_after : ℕ → List ℕ
 comma_after before = if before == 0 then [] else codes ","
 
--- a character inside a text, where `"` and `\` stand behind a `\`
+-- a character inside a text; `"` and `\` follow a `\`
 abbrev pub char_text : ℕ → List ℕ
 char_text char = if (char == 34) || (char == 92) then 92 ∷ encode_utf8 char else encode_utf8 char

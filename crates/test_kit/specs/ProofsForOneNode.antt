@@ -1,4 +1,5 @@
--- Nobody has to read this: proofs of the laws of `Layout`, which an implementation can cite from specs/ alone.
+-- Proofs of the laws of `Layout`. They are in specs/ since an implementation can cite laws only from there; they are
+-- not part of the specification.
 use Rattle.std.proofs.Common.{◌≡◌, ℕ, zero, suc, ◌<◌, length, refl, ap, ◌∙◌, arith}
 use Rattle.entry_ref.specs.Records.{Records, SameAt, AllThere}
 use Rattle.test_kit.specs.OneNode.{node_reaches, IsNodeRecord}

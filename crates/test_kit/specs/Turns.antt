@@ -1,4 +1,4 @@
--- What a writer that goes round its buffers keeps.
+-- What a writer preserves that reuses its buffers in turn.
 use Rattle.std.specs.Prelude.{ℕ, ◌<◌}
 use Rattle.arena_api.specs.Works.{WorkView, active_width}
 

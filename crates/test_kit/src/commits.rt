@@ -9,7 +9,7 @@ use crate::node::{NODE, OneNode, words_of};
 use arena_api::{Advance, Oldest, Work};
 use entry_ref::EntryRef;
 
-/// What a commit came to.
+/// The result of a commit.
 #[derive(Clone, Copy, Drop)]
 pub struct Committed {
     pub number: u32,
@@ -17,7 +17,7 @@ pub struct Committed {
     pub oldest: Oldest,
 }
 
-/// A node of a commit's words, in the lowest free buffer, if one is free.
+/// Stores a node of a commit's words in the free buffer with the lowest number, if a buffer is free.
 pub fn put_node<W: Work<22>>(work: &mut W, number: u32) -> Option<EntryRef<22>>
     ensures some { IfSome result (λ r. 0 < r) }
     ensures free { IfSome result (λ r. IsLowestFree (W.knows work.old).buffer (W.knows work.old).sizes.buffers (buffer_of 22 r)) }
@@ -40,8 +40,8 @@ pub struct Placed {
     pub number: u32,
 }
 
-/// Publishes a node of the commit of this number, and puts the buffer of the node before on hold. None where no buffer
-/// is free, or no commit is left.
+/// Publishes a node for the commit with this number, and puts the buffer of the previous node on hold. Returns `None`
+/// if no buffer is free, or no commit is left.
 pub fn turn<W: Work<22, Layout = OneNode>>(
     work: &mut W,
     before: Option<u32>,
@@ -63,7 +63,7 @@ pub fn turn<W: Work<22, Layout = OneNode>>(
     Some(Placed { buffer, number })
 }
 
-/// The next generation, and what it leaves.
+/// Begins the next generation, and reclaims.
 pub fn pass<W: Work<22>>(work: &mut W, before: Option<u32>) -> (Advance, Oldest)
     requires { IfSome before (IsActive (W.knows work.old)) }
     ensures active { IfSome before (IsActive (W.knows work.new)) }
@@ -74,7 +74,7 @@ pub fn pass<W: Work<22>>(work: &mut W, before: Option<u32>) -> (Advance, Oldest)
     (advance, oldest)
 }
 
-/// A commit of nothing; none where no commit is left.
+/// Makes an empty commit. Returns `None` if no commit is left.
 pub fn commit<W: Work<22, Layout = OneNode>>(work: &mut W) -> Option<Committed>
     ensures { (W.knows work.new).home ≡ (W.knows work.old).home }
 {
@@ -90,8 +90,8 @@ pub fn commit<W: Work<22, Layout = OneNode>>(work: &mut W) -> Option<Committed>
     })
 }
 
-/// Hands a buffer out and commits nothing, so that the buffer may be put on hold. None where no buffer is free, or no
-/// commit is left.
+/// Hands out a buffer and makes an empty commit, so that the buffer may be put on hold. Returns `None` if no buffer
+/// is free, or no commit is left.
 pub fn claim<W: Work<22, Layout = OneNode>>(work: &mut W, width: u32) -> Option<Placed>
     requires { 0 < width }
     ensures { IfSome result (λ p. MayRetire 22 (W.knows work.new) p.buffer) }

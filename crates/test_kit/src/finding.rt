@@ -16,7 +16,7 @@ use enum_dictionary::find;
 use frozen_btree::{NumberKey, find as find_pair};
 use posting_store::{Posting, PostingCursor, walk};
 
-/// Whether the document that follows is this one.
+/// Returns whether the next document is this one.
 fn is_doc<const OFFSET_BITS: u32, F: Frozen<OFFSET_BITS>>(
     cursor: &PostingCursor<OFFSET_BITS>,
     frozen: &mut F,
@@ -31,7 +31,7 @@ fn is_doc<const OFFSET_BITS: u32, F: Frozen<OFFSET_BITS>>(
     here.number() == doc.number()
 }
 
-/// Whether a document comes in a walk of a list.
+/// Returns whether a document occurs in a walk of a list.
 fn walk_has<const OFFSET_BITS: u32, F: Frozen<OFFSET_BITS>>(
     frozen: &mut F,
     list: Posting,
@@ -52,7 +52,7 @@ fn walk_has<const OFFSET_BITS: u32, F: Frozen<OFFSET_BITS>>(
     false
 }
 
-/// Whether a list that is a tree has a document.
+/// Returns whether a list that is a tree has a document.
 fn tree_has<const OFFSET_BITS: u32, F: Frozen<OFFSET_BITS>>(
     frozen: &mut F,
     list: Posting,
@@ -71,7 +71,7 @@ fn tree_has<const OFFSET_BITS: u32, F: Frozen<OFFSET_BITS>>(
     }
 }
 
-/// Whether a list has a document.
+/// Returns whether a list has a document.
 fn list_has<const OFFSET_BITS: u32, F: Frozen<OFFSET_BITS>>(
     frozen: &mut F,
     list: Posting,
@@ -89,7 +89,7 @@ fn list_has<const OFFSET_BITS: u32, F: Frozen<OFFSET_BITS>>(
     }
 }
 
-/// Whether a value has a document.
+/// Returns whether a value has a document.
 pub fn has<const OFFSET_BITS: u32, F: Frozen<OFFSET_BITS>>(
     frozen: &mut F,
     root: EntryRef<OFFSET_BITS>,

@@ -16,7 +16,7 @@ pub struct Held<'a> {
         (seen_image (reader_of guard.place.me.0)).root },
 }
 
-/// A commit as its reader has it, and whether every word of its node is as the commit stored it, if it has a node.
+/// A commit as its reader sees it; and, if it has a node, whether every word of the node is as the commit stored it.
 #[derive(Clone, Copy, Drop)]
 pub struct Look {
     pub commit: u32,
@@ -49,13 +49,21 @@ impl<'a> Held<'a> {
         Look { commit, whole }
     }
 
+    /// Loads the last commit again, under the same hold.
+    pub fn again(self) -> Held<'a> {
+        let Held { guard } = self;
+        Held {
+            guard: guard.again(),
+        }
+    }
+
     pub fn release(self) -> Reader<'a, 22, OneNode> {
         let Held { guard } = self;
         guard.release()
     }
 }
 
-/// A guard, or the reader again and the count that it found.
+/// Raises the hold, and returns a guard, or the reader and the count that it found.
 pub fn raised<'a>(aimed: Aimed<'a, 22, OneNode>) -> Result<Held<'a>, Again<'a, 22, OneNode>> {
     match aimed.try_raise() {
         Ok(guard) => Ok(Held { guard }),
@@ -63,7 +71,7 @@ pub fn raised<'a>(aimed: Aimed<'a, 22, OneNode>) -> Result<Held<'a>, Again<'a, 2
     }
 }
 
-/// The same from an aim on.
+/// Aims at the newest hold and raises it.
 pub fn tried<'a>(reader: Reader<'a, 22, OneNode>) -> Result<Held<'a>, Again<'a, 22, OneNode>> {
     match reader.try_guard() {
         Ok(guard) => Ok(Held { guard }),
@@ -71,7 +79,7 @@ pub fn tried<'a>(reader: Reader<'a, 22, OneNode>) -> Result<Held<'a>, Again<'a, 
     }
 }
 
-/// A guard after as many tries as it takes.
+/// Returns a guard, after as many tries as it takes.
 pub fn guarded<'a, C: Ledger>(reader: Reader<'a, 22, OneNode>, tries: &mut Steps<C>) -> Held<'a> {
     Held {
         guard: reader.guard(tries),

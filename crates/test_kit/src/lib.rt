@@ -1,5 +1,5 @@
-//! What tests and benchmarks share: counts of rows, numbers and texts by chance, a work that keeps what is stored in it, commits of one
-//! node and guards of it, an index alone in a store, and the text of a query word.
+//! What tests and benchmarks share: counts of rows, pseudorandom numbers and texts, a work that keeps what is stored
+//! in it, commits of one node and guards of it, an index alone in a store, and the text of a query word.
 #![tactic(auto)]
 
 mod commits;

@@ -2,7 +2,7 @@ ghost use Rattle.std.specs.Prelude.{◌≡◌, length};
 
 use entry_ref::Layout;
 
-/// The words of a node.
+/// The number of words of a node.
 pub const NODE: u32 = 34;
 
 /// The layout whose root is one record of `NODE` words.
@@ -26,7 +26,7 @@ impl Layout for OneNode {
     ghost stays = { node_stays };
 }
 
-/// The words of the node of a commit: each is of this commit and of its place alone.
+/// Returns the words of the node of a commit. Each depends on the commit and on its place.
 pub fn words_of(number: u32) -> [u64; 34]
     ensures { length result ≡ 34 }
 {
@@ -37,7 +37,7 @@ pub fn words_of(number: u32) -> [u64; 34]
     words
 }
 
-/// Whether these are the words of the node of a commit.
+/// Returns whether these are the words of the node of a commit.
 pub fn are_of(words: &[u64], number: u32) -> bool {
     for i in 0..words.len() {
         if words[i] / 4294967296 != u64::from(number) || words[i] % 4294967296 != i as u64 {

@@ -12,7 +12,7 @@ use entry_ref::EntryRef;
 use std::alloc::Global;
 use std::collections::BTreeMap;
 
-/// A work, and beside it what was stored at each reference last.
+/// A work, and a copy of what was last stored at each reference.
 #[derive(Drop)]
 pub struct NotedWork<const OFFSET_BITS: u32, W: Work<OFFSET_BITS>> {
     work: W,
@@ -20,7 +20,7 @@ pub struct NotedWork<const OFFSET_BITS: u32, W: Work<OFFSET_BITS>> {
 }
 
 impl<const OFFSET_BITS: u32, W: Work<OFFSET_BITS>> NotedWork<OFFSET_BITS, W> {
-    /// A work with notes of what is stored from here on, or without.
+    /// Returns a work that notes what is stored from now on, or one that does not.
     pub fn new(alloc: Global, work: W, noting: bool) -> Self
         ensures knows { ⟦<NotedWork<OFFSET_BITS, W> as Work<OFFSET_BITS>>⟧.knows result ≡ W.knows work }
         ensures records { ⟦<NotedWork<OFFSET_BITS, W> as Frozen<OFFSET_BITS>>⟧.records result ≡ W.records work }
@@ -32,7 +32,7 @@ impl<const OFFSET_BITS: u32, W: Work<OFFSET_BITS>> NotedWork<OFFSET_BITS, W> {
         }
     }
 
-    /// The words that were stored last at each reference, where they were kept.
+    /// Returns the words last stored at each reference, if they were kept.
     pub fn records(&self) -> Option<&BTreeMap<u32, Vec<u64>>> {
         self.notes.records()
     }

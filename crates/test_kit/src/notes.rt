@@ -1,7 +1,7 @@
 use std::alloc::{AllocError, Global};
 use std::collections::BTreeMap;
 
-/// The words that were stored last at each reference.
+/// The words last stored at each reference.
 #[derive(Drop)]
 pub struct Notes {
     alloc: Global,
@@ -9,7 +9,7 @@ pub struct Notes {
     kept: bool,
 }
 
-/// These words, and zeros after them.
+/// Returns these words, followed by zeros.
 fn padded(alloc: Global, words: &[u64], width: u32) -> Result<Vec<u64>, AllocError> {
     let mut record = words.to_vec(alloc)?;
     for _ in words.len()..width as usize {
@@ -18,7 +18,7 @@ fn padded(alloc: Global, words: &[u64], width: u32) -> Result<Vec<u64>, AllocErr
     Ok(record)
 }
 
-/// Another word in the place of one, behind zeros where there were fewer.
+/// Returns the words after one is replaced; missing words before it become zeros.
 fn with_word(alloc: Global, words: &[u64], place: u32, word: u64) -> Result<Vec<u64>, AllocError> {
     let mut record = padded(alloc, words, place.saturating_add(1))?;
     if let Some(one) = record.get_mut(place as usize) {
@@ -28,7 +28,7 @@ fn with_word(alloc: Global, words: &[u64], place: u32, word: u64) -> Result<Vec<
 }
 
 impl Notes {
-    /// No words so far, and none ever where nothing is to be kept.
+    /// Returns empty notes, which keep words or not.
     pub fn new(alloc: Global, kept: bool) -> Notes {
         Notes {
             alloc,
@@ -37,7 +37,7 @@ impl Notes {
         }
     }
 
-    /// The words at each reference, unless some were not kept.
+    /// Returns the words at each reference, unless some could not be kept.
     pub fn records(&self) -> Option<&BTreeMap<u32, Vec<u64>>> {
         if self.kept { Some(&self.records) } else { None }
     }
@@ -57,14 +57,14 @@ impl Notes {
         Ok(())
     }
 
-    /// A record was stored whole.
+    /// Notes a record that was stored whole.
     pub fn put(&mut self, reference: u32, words: &[u64], width: u32) {
         if self.kept {
             self.kept = self.add_record(reference, words, width).is_ok();
         }
     }
 
-    /// One word of a record was stored.
+    /// Notes one stored word of a record.
     pub fn store(&mut self, reference: u32, place: u32, word: u64) {
         if self.kept {
             self.kept = self.add_word(reference, place, word).is_ok();

@@ -9,11 +9,11 @@ use attr_types::{Ask, Field, Part, Query};
 use query_text::grammar_law;
 use std::alloc::{AllocError, Global};
 
-/// The one text of a query over these attributes, with their names; a leaf of attribute 0 has none. Of a lawful
-/// query `parse_query` makes that query again.
+/// Returns the one text of a query over these attributes, with their names; a leaf of attribute 0 has none. For a
+/// lawful query, `parse_query` reads the text as that query.
 ///
-/// Any query is written, also one that no text is read as: with an empty list, with values of another type, with
-/// an attribute that there is not, or of more than 32 levels.
+/// Every query has a text, also one that no parser reads back: one with an empty list, with values of another type,
+/// with a missing attribute, or with more than 32 levels.
 pub fn print_query(alloc: Global, query: &Query, fields: &[Field]) -> Result<String, AllocError>
     ensures written { IfOk result (λ text. string_bytes text ≡ tree_text (named fields.now (tree_of query.now))) }
     ensures back { IfOk result (λ text. ReadsBackAs fields.now (string_bytes text) (hits_of (tree_of query.now))) }
@@ -24,7 +24,7 @@ pub fn print_query(alloc: Global, query: &Query, fields: &[Field]) -> Result<Str
     Ok(text)
 }
 
-/// The one text of what is asked of these attributes. Of a lawful ask `parse_ask` makes that ask again.
+/// Returns the one text of an ask over these attributes. For a lawful ask, `parse_ask` reads the text as that ask.
 pub fn print_ask(alloc: Global, ask: &Ask, fields: &[Field]) -> Result<String, AllocError>
     ensures written { IfOk result (λ text. string_bytes text ≡ word_text (named_word fields.now (ask_tree ask.now))) }
     ensures back { IfOk result (λ text. ReadsBackAs fields.now (string_bytes text) (ask_tree ask.now)) }
@@ -49,7 +49,7 @@ fn push_ask(alloc: Global, text: &mut String, ask: &Ask, fields: &[Field]) -> Re
     }
 }
 
-/// The name before what speaks of the attribute with a number.
+/// Writes the name before what refers to the attribute with a number.
 fn push_name(text: &mut String, fields: &[Field], number: usize) -> Result<(), AllocError>
     ensures { OnOk result (string_bytes text.new ≡ string_bytes text.old ++ name_text (name_at fields.now number)) }
 {
@@ -126,7 +126,7 @@ fn push_parts(alloc: Global, text: &mut String, parts: &[Part]) -> Result<(), Al
     Ok(())
 }
 
-/// The comma before a member, but before the first.
+/// Writes the comma before a member, except before the first.
 fn push_comma(text: &mut String, before: usize) -> Result<(), AllocError>
     ensures { OnOk result (string_bytes text.new ≡ string_bytes text.old ++ comma_after before) }
 {

@@ -1,11 +1,11 @@
-/// Numbers that look random and are the same in every run: a xorshift of 64 bits.
+/// Pseudorandom numbers, the same in every run: a xorshift of 64 bits.
 #[derive(Clone, Copy)]
 pub struct Random {
     state: u64,
 }
 
 impl Random {
-    /// The numbers of a seed.
+    /// Creates the numbers of a seed.
     pub fn new(seed: u32) -> Random {
         Random {
             state: u64::from(seed)
@@ -14,7 +14,7 @@ impl Random {
         }
     }
 
-    /// The numbers of the benchmarks, which their peers draw too.
+    /// Creates the numbers of the benchmarks, which the compared programs draw too.
     pub fn of_benchmarks() -> Random {
         Random {
             state: 88_172_645_463_325_252,
@@ -27,30 +27,30 @@ impl Random {
         self.state ^= self.state.wrapping_shl(17);
     }
 
-    /// The next 48 bits.
+    /// Returns the next 48 bits.
     pub fn next_long(&mut self) -> u64 {
         self.step();
         self.state / 65_536
     }
 
-    /// The next 32 bits.
+    /// Returns the next 32 bits.
     pub fn next(&mut self) -> u32 {
         self.step();
         (self.state / 4_294_967_296) as u32
     }
 
-    /// A number below `limit`, 0 where the limit is 0.
+    /// Returns a number below `limit`, or 0 if the limit is 0.
     pub fn below(&mut self, limit: u32) -> u32 {
         let next = self.next();
         if limit == 0 { 0 } else { next % limit }
     }
 
-    /// True once in `limit` times.
+    /// Returns true once in `limit` times on average.
     pub fn once_in(&mut self, limit: u32) -> bool {
         self.below(limit) == 0
     }
 
-    /// 32 bits with a sign, once in four times the least or the greatest number.
+    /// Returns 32 bits with a sign; once in four times the least or the greatest number.
     pub fn weight(&mut self) -> i32 {
         match self.below(8) {
             0 => i32::MIN,
@@ -59,7 +59,7 @@ impl Random {
         }
     }
 
-    /// A number from -10 to 9, once in four times the least or the greatest number of 64 bits.
+    /// Returns a number from -10 to 9; once in four times the least or the greatest number of 64 bits.
     pub fn amount(&mut self) -> i64 {
         match self.below(8) {
             0 => i64::MIN,

@@ -23,7 +23,7 @@ pub struct ValueList {
     pub documents: Vec<(u32, i32)>,
 }
 
-/// The documents of a list with their weights, by one walk.
+/// Returns the documents of a list with their weights, by one walk.
 pub fn documents_at<const OFFSET_BITS: u32, F: Frozen<OFFSET_BITS>>(
     alloc: Global,
     frozen: &mut F,
@@ -45,7 +45,7 @@ pub fn documents_at<const OFFSET_BITS: u32, F: Frozen<OFFSET_BITS>>(
     Ok(documents)
 }
 
-/// The documents of a value with their weights, none where no document has it.
+/// Returns the documents of a value with their weights, or none if no document has it.
 pub fn documents_of<const OFFSET_BITS: u32, F: Frozen<OFFSET_BITS>>(
     alloc: Global,
     frozen: &mut F,
@@ -63,7 +63,7 @@ pub fn documents_of<const OFFSET_BITS: u32, F: Frozen<OFFSET_BITS>>(
     }
 }
 
-/// The value of a key with the documents of a list.
+/// Returns the value of a key with the documents of a list.
 fn value_list<const OFFSET_BITS: u32, F: Frozen<OFFSET_BITS>>(
     alloc: Global,
     frozen: &mut F,
@@ -83,7 +83,7 @@ fn value_list<const OFFSET_BITS: u32, F: Frozen<OFFSET_BITS>>(
     Ok(ValueList { value, documents })
 }
 
-/// All values in order, each with its documents, by one walk.
+/// Returns all values in order, each with its documents, by one walk.
 pub fn all_lists<const OFFSET_BITS: u32, F: Frozen<OFFSET_BITS>>(
     alloc: Global,
     frozen: &mut F,
@@ -106,7 +106,7 @@ pub fn all_lists<const OFFSET_BITS: u32, F: Frozen<OFFSET_BITS>>(
     Ok(lists)
 }
 
-/// The sum of the documents of a list, by one walk.
+/// Returns the sum of the documents of a list, by one walk.
 fn sum_at<const OFFSET_BITS: u32, F: Frozen<OFFSET_BITS>>(frozen: &mut F, list: Posting) -> u64
     requires list { IsList (F.records frozen.old) list }
     requires plain { IsPlain list }
@@ -122,7 +122,7 @@ fn sum_at<const OFFSET_BITS: u32, F: Frozen<OFFSET_BITS>>(frozen: &mut F, list: 
     sum
 }
 
-/// The sum of the documents of a value, by one walk.
+/// Returns the sum of the documents of a value, by one walk.
 pub fn sum_of<const OFFSET_BITS: u32, F: Frozen<OFFSET_BITS>>(
     frozen: &mut F,
     root: EntryRef<OFFSET_BITS>,

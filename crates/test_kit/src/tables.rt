@@ -25,7 +25,8 @@ fn are_same_fields(found: &FieldItems, wanted: &FieldItems) -> bool {
     true
 }
 
-/// Whether rows of an image are the documents of a plain table: the same numbers, and the same items in the same order.
+/// Returns whether rows of an image are the documents of a plain table, with the same numbers, and the same items in
+/// the same order.
 pub fn is_same_table(rows: &[(u64, FieldItems)], documents: &BTreeMap<Doc, FieldItems>) -> bool {
     let mut rest = rows;
     for (doc, items) in documents {

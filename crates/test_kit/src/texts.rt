@@ -1,15 +1,15 @@
 use attr_types::Text;
 use std::alloc::{AllocError, Global};
 
-/// The lengths at which a text's record gets a width more, with one byte behind them or two.
+/// The lengths at which the record of a text becomes wider, with one or two more bytes.
 const LENGTHS: [u32; 18] = [
     0, 6, 7, 8, 22, 23, 24, 55, 56, 119, 120, 247, 248, 503, 504, 1015, 1021, 1022,
 ];
 
-/// What follows the letters of one length: two of them differ in the last byte alone.
+/// What follows the letters of one length. Two of these differ only in the last byte.
 const ENDS: [&str; 4] = ["", "x", "y", "é"];
 
-/// A text, empty where it would be too long.
+/// Returns a text, which is empty if it would be too long.
 pub fn text_of(alloc: Global, text: &str) -> Result<Text, AllocError> {
     if text.len() > Text::MAX_LEN {
         return Text::from_str(alloc, "");
@@ -17,7 +17,7 @@ pub fn text_of(alloc: Global, text: &str) -> Result<Text, AllocError> {
     Text::from_str(alloc, text)
 }
 
-/// As many letters as a length says, and an end.
+/// Appends as many letters as a length says, and an end.
 fn push_letters(text: &mut String, number: u32) -> Result<(), AllocError> {
     let place = (number / 4) as usize;
     if place >= LENGTHS.len() {
@@ -29,7 +29,7 @@ fn push_letters(text: &mut String, number: u32) -> Result<(), AllocError> {
     text.push_str(ENDS[(number % 4) as usize])
 }
 
-/// The text of a number: those whose records are at the edges of each width come first.
+/// Returns the text of a number. Those whose records are at the edges of each width come first.
 pub fn text_at(alloc: Global, number: u32) -> Result<Text, AllocError> {
     let mut text = String::new(alloc);
     push_letters(&mut text, number)?;

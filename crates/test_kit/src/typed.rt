@@ -1,4 +1,4 @@
-//! The same calls where the type of the values is known by another name.
+//! The same calls, if the type of the values is known under another name.
 ghost use Rattle.std.specs.Prelude.{◌≡◌, IfOk, OnErr, IsSome, IsTrue};
 ghost use Rattle.std.specs.BTreeMap.{is_at};
 ghost use Rattle.std.specs.Map.{lookup};
@@ -19,7 +19,7 @@ use std::alloc::{AllocError, Global};
 use store_api::{Store, StoreError};
 use value_index::key;
 
-/// One unit in which a document is put into the list of a value.
+/// Adds a document to the list of a value, in a unit of its own.
 #[tactic(none)]
 pub fn add_typed<const OFFSET_BITS: u32, S: Store<OFFSET_BITS>>(
     store: &mut S,
@@ -40,7 +40,7 @@ pub fn add_typed<const OFFSET_BITS: u32, S: Store<OFFSET_BITS>>(
     add_unit(store, root, value, doc, weight)
 }
 
-/// One unit in which a document that is there is taken out of the list of a value.
+/// Removes a document that exists from the list of a value, in a unit of its own.
 #[tactic(none)]
 pub fn remove_typed<const OFFSET_BITS: u32, S: Store<OFFSET_BITS>>(
     store: &mut S,
@@ -61,7 +61,7 @@ pub fn remove_typed<const OFFSET_BITS: u32, S: Store<OFFSET_BITS>>(
     remove_unit(store, root, value, doc)
 }
 
-/// Whether a value has a document.
+/// Returns whether a value has a document.
 pub fn has_typed<const OFFSET_BITS: u32, F: Frozen<OFFSET_BITS>>(
     frozen: &mut F,
     root: EntryRef<OFFSET_BITS>,
@@ -78,7 +78,7 @@ pub fn has_typed<const OFFSET_BITS: u32, F: Frozen<OFFSET_BITS>>(
     has(frozen, root, value, doc)
 }
 
-/// Whether a document has a value, told by its key.
+/// Returns whether some document has a value, by its key.
 pub fn key_typed<const OFFSET_BITS: u32, F: Frozen<OFFSET_BITS>>(
     frozen: &mut F,
     root: EntryRef<OFFSET_BITS>,
@@ -92,7 +92,7 @@ pub fn key_typed<const OFFSET_BITS: u32, F: Frozen<OFFSET_BITS>>(
     key(frozen, root, value).is_some()
 }
 
-/// The documents of a value with their weights, none where no document has it.
+/// Returns the documents of a value with their weights, or none if no document has it.
 pub fn documents_typed<const OFFSET_BITS: u32, F: Frozen<OFFSET_BITS>>(
     alloc: Global,
     frozen: &mut F,
@@ -109,7 +109,7 @@ pub fn documents_typed<const OFFSET_BITS: u32, F: Frozen<OFFSET_BITS>>(
     documents_of(alloc, frozen, root, value)
 }
 
-/// The sum of the documents of a value, by one walk.
+/// Returns the sum of the documents of a value, by one walk.
 pub fn sum_typed<const OFFSET_BITS: u32, F: Frozen<OFFSET_BITS>>(
     frozen: &mut F,
     root: EntryRef<OFFSET_BITS>,

@@ -12,7 +12,7 @@ use entry_ref::EntryRef;
 use store_api::{Store, StoreError};
 use value_index::{add, remove};
 
-/// One unit in which a document is put into the list of a value.
+/// Adds a document to the list of a value, in a unit of its own.
 pub fn add_unit<const OFFSET_BITS: u32, S: Store<OFFSET_BITS>>(
     store: &mut S,
     root: EntryRef<OFFSET_BITS>,
@@ -40,7 +40,7 @@ pub fn add_unit<const OFFSET_BITS: u32, S: Store<OFFSET_BITS>>(
     }
 }
 
-/// One unit in which a document that is there is taken out of the list of a value.
+/// Removes a document that exists from the list of a value, in a unit of its own.
 pub fn remove_unit<const OFFSET_BITS: u32, S: Store<OFFSET_BITS>>(
     store: &mut S,
     root: EntryRef<OFFSET_BITS>,

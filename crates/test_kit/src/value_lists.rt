@@ -35,7 +35,7 @@ impl<const OFFSET_BITS: u32, S: Store<OFFSET_BITS>> Model for ValueLists<OFFSET_
     ghost invariant = { λ l. HoldsIndex l.value_type (S.ledger l.store) (S.records l.store) l.root };
 }
 
-/// Whether a value is of a type.
+/// Returns whether a value has a type.
 fn is_of(value: &Value, value_type: ValueType) -> bool
     ensures { IsTrue result ↔ (type_of value.now ≡ value_type) }
 {
@@ -46,7 +46,7 @@ fn is_of(value: &Value, value_type: ValueType) -> bool
 }
 
 impl<const OFFSET_BITS: u32, S: Store<OFFSET_BITS>> ValueLists<OFFSET_BITS, S> {
-    /// No value, in a store of which nothing was made yet.
+    /// Creates an empty map, in a store in which nothing was made.
     pub fn new(store: S, value_type: ValueType) -> Self
         requires { IsNew (S.ledger store) }
         ensures typed { result.value_type ≡ value_type }
@@ -59,18 +59,18 @@ impl<const OFFSET_BITS: u32, S: Store<OFFSET_BITS>> ValueLists<OFFSET_BITS, S> {
         }
     }
 
-    /// The store, given back.
+    /// Returns the store.
     pub fn into_store(self) -> S {
         self.store
     }
 
-    /// The root of the dictionary, 0 where no value is there.
+    /// Returns the root of the dictionary, or 0 if there is no value.
     pub fn root(&self) -> EntryRef<OFFSET_BITS> {
         self.root
     }
 
-    /// Puts a document into the list of a value, or replaces its weight there, which is the answer: a value of another
-    /// type is left out. On an error all is as before.
+    /// Adds a document to the list of a value, or replaces its weight there, and returns true. Returns false for a
+    /// value of another type. After an error everything is as before.
     pub fn add(&mut self, value: &Value, doc: Doc, weight: i32) -> Result<bool, StoreError>
         ensures taken { type_of value.now ≡ self.old.value_type → IfOk result (λ taken. taken ≡ true) }
         ensures index { IfOk result (λ taken. taken ≡ true → self.new.index ≡ with_posting value.now doc weight self.old.index) }
@@ -92,7 +92,7 @@ impl<const OFFSET_BITS: u32, S: Store<OFFSET_BITS>> ValueLists<OFFSET_BITS, S> {
         Ok(true)
     }
 
-    /// Whether a value has a document.
+    /// Returns whether a value has a document.
     pub fn has(&mut self, value: &Value, doc: Doc) -> bool
         ensures has { result ≡ true → IsSome (lookup (is_at (nat_cmp doc)) (list_of value.now self.old.index)) }
         ensures same { self.new ≡ self.old }
@@ -103,7 +103,8 @@ impl<const OFFSET_BITS: u32, S: Store<OFFSET_BITS>> ValueLists<OFFSET_BITS, S> {
         has_typed(&mut self.store, self.root, self.value_type, value, doc)
     }
 
-    /// Takes a document out of the list of a value, where it is there, which is the answer. On an error all is as before.
+    /// Removes a document from the list of a value, and returns whether it was there. After an error everything is as
+    /// before.
     pub fn remove(&mut self, value: &Value, doc: Doc) -> Result<bool, StoreError>
         ensures index { IfOk result (λ taken. taken ≡ true → self.new.index ≡ without_posting value.now doc self.old.index) }
         ensures typed { self.new.value_type ≡ self.old.value_type }
@@ -119,7 +120,7 @@ impl<const OFFSET_BITS: u32, S: Store<OFFSET_BITS>> ValueLists<OFFSET_BITS, S> {
         Ok(true)
     }
 
-    /// Whether a document has a value, told by its key.
+    /// Returns whether some document has a value, by its key.
     pub fn has_key(&mut self, value: &Value) -> bool
         ensures same { self.new ≡ self.old }
     {
@@ -129,7 +130,7 @@ impl<const OFFSET_BITS: u32, S: Store<OFFSET_BITS>> ValueLists<OFFSET_BITS, S> {
         key_typed(&mut self.store, self.root, self.value_type, value)
     }
 
-    /// The documents of a value with their weights.
+    /// Returns the documents of a value with their weights.
     pub fn documents(&mut self, alloc: Global, value: &Value) -> Result<Vec<(u32, i32)>, AllocError>
         ensures documents { type_of value.now ≡ self.old.value_type
             → IfOk result (λ documents. documents.items ≡ list_of value.now self.old.index) }
@@ -141,7 +142,7 @@ impl<const OFFSET_BITS: u32, S: Store<OFFSET_BITS>> ValueLists<OFFSET_BITS, S> {
         documents_typed(alloc, &mut self.store, self.root, self.value_type, value)
     }
 
-    /// The sum of the documents of a value, by one walk.
+    /// Returns the sum of the documents of a value, by one walk.
     pub fn sum(&mut self, value: &Value) -> u64
         ensures same { self.new ≡ self.old }
     {
@@ -151,7 +152,7 @@ impl<const OFFSET_BITS: u32, S: Store<OFFSET_BITS>> ValueLists<OFFSET_BITS, S> {
         sum_typed(&mut self.store, self.root, self.value_type, value)
     }
 
-    /// All values in order, each with its documents, by one walk.
+    /// Returns all values in order, each with its documents, by one walk.
     pub fn lists(&mut self, alloc: Global) -> Result<Vec<ValueList>, AllocError>
         ensures lists { IfOk result (λ lists. map as_listed lists.items ≡ self.old.index) }
         ensures same { self.new ≡ self.old }

@@ -1,11 +1,11 @@
-//! Queries and dot products by chance.
+//! Random queries and dot products.
 use crate::make::Sizes;
 use crate::values::value_at;
 use attr_types::{Field, Leaf, Part, Parts, Query, Text, Value, ValueType};
 use std::alloc::{AllocError, Global};
 use test_kit::Random;
 
-/// The type of an attribute's values, and that of texts for one that is not there.
+/// Returns the type of an attribute's values, or that of texts for a missing attribute.
 fn type_at(fields: &[Field], place: u32) -> ValueType {
     match fields.get(place as usize) {
         Some(field) => field.value,
@@ -66,7 +66,7 @@ fn leaf_of(
     leaf_with(alloc, chance, value_at(alloc, value_type, number)?)
 }
 
-/// A leaf on some attribute, seldom on one that is not there or with a value of another type.
+/// Returns a leaf on some attribute, rarely on a missing one or with a value of another type.
 fn one_of(
     alloc: Global,
     fields: &[Field],
@@ -101,7 +101,7 @@ fn ones_of(
     Ok(members)
 }
 
-/// A leaf, or some of them joined.
+/// Returns a leaf, or several joined leaves.
 fn flat_of(
     alloc: Global,
     fields: &[Field],
@@ -128,7 +128,7 @@ fn flats_of(
     Ok(members)
 }
 
-/// A query of at most three levels.
+/// Returns a query of at most three levels.
 pub fn query_of(
     alloc: Global,
     fields: &[Field],
@@ -142,7 +142,7 @@ pub fn query_of(
     }
 }
 
-/// Some values of an attribute, each with a weight.
+/// Returns values of an attribute, each with a weight.
 pub fn parts_of(
     alloc: Global,
     fields: &[Field],

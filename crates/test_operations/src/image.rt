@@ -1,4 +1,4 @@
-//! What the last commit of attributes answers, beside a plain table.
+//! The answers of the last commit of attributes, beside a plain table.
 ghost use Rattle.std.specs.Prelude.{◌≡◌, ◌≤◌, length};
 ghost use Rattle.attr_images.specs.Images.{IsLawfulImage};
 ghost use Rattle.attr_images.specs.Shapes.{shape_of, types_of};
@@ -26,7 +26,7 @@ pub struct Asked {
     pub queries: u32,
     pub hits: u64,
     pub scores: u64,
-    /// Whether the slow checker was given the image.
+    /// Whether the slow checker read the image.
     pub checked: bool,
 }
 
@@ -54,7 +54,7 @@ fn are_same_scores(found: &[Score], wanted: &[Score]) -> bool {
     true
 }
 
-/// How many documents were found, if the plain table has these too.
+/// Returns how many documents were found, if the plain table has the same.
 fn count_same(
     alloc: Global,
     plain: &PlainTable,
@@ -69,7 +69,7 @@ fn count_same(
     }
 }
 
-/// How many documents a query has, if these are the plain table's.
+/// Returns how many documents a query has, if the plain table has the same.
 fn same_hits<const OFFSET_BITS: u32, F: Frozen<OFFSET_BITS>>(
     alloc: Global,
     frozen: &mut F,
@@ -87,7 +87,7 @@ fn same_hits<const OFFSET_BITS: u32, F: Frozen<OFFSET_BITS>>(
     count_same(alloc, plain, query, found.as_slice())
 }
 
-/// One query by chance.
+/// Asks one random query.
 fn hits_same<const OFFSET_BITS: u32, F: Frozen<OFFSET_BITS>>(
     alloc: Global,
     frozen: &mut F,
@@ -106,7 +106,7 @@ fn hits_same<const OFFSET_BITS: u32, F: Frozen<OFFSET_BITS>>(
     same_hits(alloc, frozen, root, fields, plain, &query)
 }
 
-/// How many scores were found, if the plain table has these too.
+/// Returns how many scores were found, if the plain table has the same.
 fn count_same_scores(
     alloc: Global,
     plain: &PlainTable,
@@ -122,7 +122,7 @@ fn count_same_scores(
     }
 }
 
-/// How many documents have a score by these parts, if these are the plain table's.
+/// Returns how many documents have a score by these parts, if the plain table has the same.
 fn same_scores<const OFFSET_BITS: u32, F: Frozen<OFFSET_BITS>>(
     alloc: Global,
     frozen: &mut F,
@@ -141,7 +141,7 @@ fn same_scores<const OFFSET_BITS: u32, F: Frozen<OFFSET_BITS>>(
     count_same_scores(alloc, plain, field, parts, found.as_slice())
 }
 
-/// One dot product by chance.
+/// Asks one random dot product.
 fn scores_same<const OFFSET_BITS: u32, F: Frozen<OFFSET_BITS>>(
     alloc: Global,
     frozen: &mut F,
@@ -161,7 +161,7 @@ fn scores_same<const OFFSET_BITS: u32, F: Frozen<OFFSET_BITS>>(
     same_scores(alloc, frozen, root, fields, plain, field, &parts)
 }
 
-/// One query and one dot product more.
+/// Asks one more query and one more dot product.
 fn ask_one<const OFFSET_BITS: u32, F: Frozen<OFFSET_BITS>>(
     alloc: Global,
     frozen: &mut F,
@@ -190,7 +190,7 @@ fn ask_one<const OFFSET_BITS: u32, F: Frozen<OFFSET_BITS>>(
     Ok(next)
 }
 
-/// So many queries and dot products.
+/// Asks a number of queries and dot products.
 fn ask_each<const OFFSET_BITS: u32, F: Frozen<OFFSET_BITS>>(
     alloc: Global,
     frozen: &mut F,
@@ -214,7 +214,8 @@ fn ask_each<const OFFSET_BITS: u32, F: Frozen<OFFSET_BITS>>(
     Ok(all)
 }
 
-/// Whether these records are a lawful image of the plain table, after so many operations, by the slow checker.
+/// Returns whether the slow checker reads these records as a lawful image of the plain table, after this many
+/// operations.
 fn is_lawful(
     alloc: Global,
     fields: &Fields,
@@ -235,7 +236,7 @@ fn is_lawful(
     }
 }
 
-/// Has the slow checker read the image, where its records were noted.
+/// Lets the slow checker read the image, if its records were noted.
 fn check_notes<W: Noted>(
     alloc: Global,
     fields: &Fields,
@@ -256,8 +257,8 @@ fn check_notes<W: Noted>(
     Ok(next)
 }
 
-/// Asks the last commit of attributes for its documents, and so many queries and dot products; and the slow checker, where its records
-/// were noted.
+/// Asks the last commit of attributes for its documents, and a number of queries and dot products; and lets the slow
+/// checker read it, if its records were noted.
 pub fn ask_image<const OFFSET_BITS: u32, W: Work<OFFSET_BITS> + Noted>(
     alloc: Global,
     work: &mut W,

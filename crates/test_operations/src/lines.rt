@@ -4,7 +4,8 @@ use crate::worked::told_of;
 use attr_types::MOST_FIELDS;
 use std::alloc::{AllocError, Global};
 
-/// Attributes and buffers, operations and commits a line each, and queries a line each.
+/// The attributes and the number of buffers; the operations and commits, one in each line; and the queries, one in
+/// each line.
 #[derive(Drop)]
 pub struct Lines {
     row: String,
@@ -13,7 +14,7 @@ pub struct Lines {
 }
 
 impl Lines {
-    /// A row that names its attributes and how many buffers there are.
+    /// Returns a row with its attributes and its number of buffers.
     pub fn new(alloc: Global, row: &str) -> Result<Lines, AllocError> {
         Ok(Lines {
             row: String::from_str(alloc, row)?,
@@ -22,7 +23,7 @@ impl Lines {
         })
     }
 
-    /// A put of the value 5 so many times.
+    /// Takes a put of the value 5, repeated.
     fn take_fives(&mut self, count: u32) -> Result<(), AllocError> {
         self.turns
             .push_str("{\"put\":\"id:n:t::1\",\"fields\":{\"f\":[5")?;
@@ -32,7 +33,7 @@ impl Lines {
         self.turns.push_str("]}}\n")
     }
 
-    /// Takes a line more; one that is a remark is left.
+    /// Takes one more line. A comment is skipped.
     pub fn take(&mut self, line: &str) -> Result<(), AllocError> {
         if line == "commit" || line.starts_with('{') {
             self.turns.push_str(line)?;
@@ -48,7 +49,7 @@ impl Lines {
         Ok(())
     }
 
-    /// What the row comes to, if it names one to eight attributes.
+    /// Returns the result of the row, if it names one to eight attributes.
     pub fn answer(&self, alloc: Global) -> Result<String, AllocError> {
         let fields = fields_in(alloc, &self.row)?;
         if fields.is_empty() || fields.len() > MOST_FIELDS {

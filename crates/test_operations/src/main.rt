@@ -1,5 +1,5 @@
-//! Random operations on attributes in a store beside the plain table, and worked rows of operations, as standard input has them. A row
-//! that differs prints itself.
+//! Random operations on attributes in a store beside the plain table, and worked rows of operations, from standard
+//! input. A wrong row is printed.
 #![tactic(auto)]
 
 mod ask;

@@ -1,4 +1,4 @@
-//! Operations by chance.
+//! Random operations.
 use crate::values::value_at;
 use attr_types::{
     Act, Change, Doc, Field, FieldChanges, FieldItems, Item, Items, Kind, Op, Value, ValueType,
@@ -7,8 +7,8 @@ use attr_types::{
 use std::alloc::{AllocError, Global};
 use test_kit::Random;
 
-/// What operations speak of: so many documents and values, and at most so many items. In one period of operations most put and
-/// update, in the next most remove.
+/// The bounds of operations: the number of documents, of values, and of items. Operations come in periods: in one
+/// most put and update, in the next most remove.
 #[derive(Clone, Copy)]
 pub struct Sizes {
     pub documents: u32,
@@ -62,7 +62,7 @@ fn push_above(items: &mut Items, value: Value, weight: i32) -> Result<(), AllocE
     Ok(())
 }
 
-/// Each value once, in order, with a weight.
+/// Returns each value once, in order, with a weight.
 fn weighed(alloc: Global, values: Vec<Value>, random: &mut Random) -> Result<Items, AllocError> {
     let mut sorted = values;
     sorted.sort()?;
@@ -73,7 +73,7 @@ fn weighed(alloc: Global, values: Vec<Value>, random: &mut Random) -> Result<Ite
     Ok(items)
 }
 
-/// Items that a document may have in an attribute.
+/// Returns items that a document may have in an attribute.
 fn items_of(
     alloc: Global,
     field: &Field,
@@ -208,7 +208,7 @@ fn document_of(
     Ok(document)
 }
 
-/// The operation of a turn.
+/// Returns the operation of a turn.
 pub fn op_of(
     alloc: Global,
     fields: &[Field],

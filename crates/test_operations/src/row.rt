@@ -1,8 +1,8 @@
-//! What the words of a row name.
+//! The contents of a row's words.
 use attr_types::{Field, Fields, Kind, Name, ValueType};
 use std::alloc::{AllocError, Global};
 
-/// The number at this place of a row, 0 where there is none.
+/// Returns the number at this index of a row, or 0 if there is none.
 pub fn number_at(row: &str, place: usize) -> u32 {
     match row.split(' ').skip(place).next() {
         Some(word) => word.parse::<u32>().unwrap_or(0),
@@ -33,7 +33,7 @@ fn field_in(alloc: Global, word: &str) -> Result<Field, AllocError> {
     })
 }
 
-/// The attributes that a row names, each named `f`.
+/// Returns the attributes that a row names, each with the name `f`.
 pub fn fields_in(alloc: Global, row: &str) -> Result<Fields, AllocError> {
     let mut fields = Fields::new(alloc);
     if let Some(words) = row.split(' ').next() {

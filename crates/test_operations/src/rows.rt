@@ -1,7 +1,7 @@
-//! Rows of standard input: `run FIELDS SEED EPISODES OPERATIONS DOCUMENTS VALUES ITEMS PERIOD COMMITS BUFFERS QUERIES CHECKS`, and then
-//! `said LINE`, how much it must have done, and `met WORDS`, what it must have met often enough. FIELDS are `KIND:TYPE`, with commas
-//! between them. Or `on FIELDS BUFFERS`, an operation of a feed or `commit` a line, `ask QUERY` for each query, and then `answers LINE`,
-//! what all that must come to. Other lines are remarks.
+//! Rows of standard input: `run FIELDS SEED EPISODES OPERATIONS DOCUMENTS VALUES ITEMS PERIOD COMMITS BUFFERS QUERIES
+//! CHECKS`; then `said LINE`, how much it must have done, and `met WORDS`, what must have occurred often enough.
+//! FIELDS are `KIND:TYPE`, separated by commas. Or `on FIELDS BUFFERS`; then an operation of a feed or `commit` in
+//! each line, `ask QUERY` for each query, and `answers LINE`, the expected result. Other lines are comments.
 use crate::lines::Lines;
 use crate::make::Sizes;
 use crate::row::{fields_in, number_at};
@@ -29,7 +29,8 @@ fn load_in(row: &str) -> Load {
     }
 }
 
-/// How much was done: operations and commits only where nothing was refused, for how much is refused a row does not tell.
+/// Writes how much was done. Operations and commits are included only if nothing was refused, since a row does not
+/// fix how much is refused.
 fn push_counts(line: &mut String, told: Told) -> Result<(), AllocError> {
     if told.differs {
         return write!(line, "differs in episode {}", told.episodes);
@@ -42,7 +43,7 @@ fn push_counts(line: &mut String, told: Told) -> Result<(), AllocError> {
     write!(line, "{} queries, {} images", told.queries, told.images)
 }
 
-/// What a run met often enough.
+/// Returns whether something occurred often enough in a run.
 fn has_met(told: Told, word: &str) -> bool {
     match word {
         "changed" => told.changed >= 1000,
@@ -66,7 +67,7 @@ fn has_met_all(told: Told, words: &str) -> bool {
     true
 }
 
-/// What may have to be met, and how often it was.
+/// Writes what may be required to occur, and how often it did.
 fn push_met(line: &mut String, told: Told) -> Result<(), AllocError> {
     write!(line, "changed {} skipped {}", told.changed, told.skipped)?;
     write!(line, " refused {} again {}", told.refused, told.again)?;
@@ -74,7 +75,7 @@ fn push_met(line: &mut String, told: Told) -> Result<(), AllocError> {
     write!(line, " hits {} scores {}", told.hits, told.scores)
 }
 
-/// What a row's run comes to, if it names one to eight attributes.
+/// Returns the result of a row's run, if it names one to eight attributes.
 fn told(alloc: Global, row: &str) -> Result<Option<Told>, AllocError> {
     let fields = fields_in(alloc, row)?;
     if fields.is_empty() {
@@ -86,7 +87,7 @@ fn told(alloc: Global, row: &str) -> Result<Option<Told>, AllocError> {
     Ok(Some(run(alloc, &fields, load_in(row))?))
 }
 
-/// The last row, what it came to, and the count of what was compared.
+/// The last row, its result, and the counts of what was compared.
 #[derive(Drop)]
 struct Rows {
     case: String,
@@ -138,7 +139,7 @@ impl Rows {
         println!(rt; "{}: {found} in place of {words}", self.case)
     }
 
-    /// Compares a run with a line, if it speaks of one.
+    /// Compares a run with a line, if the line is about it.
     fn compare_run(&mut self, rt: &HostRuntime, told: Told, line: &str) -> io::Result<()> {
         if let Some(wanted) = line.strip_prefix("said ") {
             return self.compare_counts(rt, told, wanted);

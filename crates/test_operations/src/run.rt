@@ -1,4 +1,4 @@
-//! Episodes of operations: each begins without a document, and at its end the last commit is asked.
+//! Episodes of operations. Each begins without documents, and at its end the last commit is asked.
 ghost use Rattle.std.specs.Prelude.{◌≡◌, ◌<◌, ◌≤◌, length};
 ghost use Rattle.attr_images.specs.Images.{IsLawfulImage};
 ghost use Rattle.attr_images.specs.Shapes.{shape_of, types_of};
@@ -18,15 +18,15 @@ use std::alloc::{AllocError, Global};
 use store_api::Store;
 use test_kit::Random;
 
-/// What a run is.
+/// The parameters of a run.
 #[derive(Clone, Copy)]
 pub struct Load {
     pub seed: u32,
     pub episodes: u32,
-    /// How many operations an episode has at most.
+    /// The greatest number of operations of an episode.
     pub operations: u32,
     pub sizes: Sizes,
-    /// A commit comes after so many operations.
+    /// The number of operations between commits.
     pub commits: u32,
     pub buffers: u32,
     /// How many queries, and as many dot products, are asked at the end of each episode.
@@ -35,7 +35,7 @@ pub struct Load {
     pub checks: bool,
 }
 
-/// What a run came to.
+/// The result of a run.
 #[derive(Clone, Copy)]
 pub struct Told {
     pub differs: bool,
@@ -45,20 +45,20 @@ pub struct Told {
     pub commits: u32,
     pub changed: u32,
     pub skipped: u32,
-    /// Operations that were refused, those accepted after a commit, and those refused then too.
+    /// Operations that were refused, those accepted after a commit, and those still refused then.
     pub refused: u32,
     pub again: u32,
     pub twice: u32,
     /// Commits that were refused.
     pub full: u32,
     pub queries: u32,
-    /// The images that the slow checker read.
+    /// The number of images that the slow checker read.
     pub images: u32,
     pub hits: u64,
     pub scores: u64,
 }
 
-/// Commits; whether it goes on.
+/// Makes a commit. Returns whether the episode continues.
 fn commit_now<const OFFSET_BITS: u32, S: Store<OFFSET_BITS, Layout = AttrLayout>>(
     attribute: &mut Attribute<OFFSET_BITS, S>,
     fields: &Fields,
@@ -91,7 +91,7 @@ fn commit_now<const OFFSET_BITS: u32, S: Store<OFFSET_BITS, Layout = AttrLayout>
     }
 }
 
-/// What was refused once more, after a commit; nothing where the episode ends.
+/// Applies a refused operation again, after a commit. Returns `None` if the episode ends.
 fn apply_again<const OFFSET_BITS: u32, S: Store<OFFSET_BITS, Layout = AttrLayout>>(
     alloc: Global,
     attribute: &mut Attribute<OFFSET_BITS, S>,
@@ -118,7 +118,8 @@ fn apply_again<const OFFSET_BITS: u32, S: Store<OFFSET_BITS, Layout = AttrLayout
     }
 }
 
-/// After a refusal: one episode in eight ends as it is, one in eight after a commit, and the others go on.
+/// Continues after a refusal: one episode in eight ends at once, one in eight after a commit, and the others
+/// continue.
 fn apply_refused<const OFFSET_BITS: u32, S: Store<OFFSET_BITS, Layout = AttrLayout>>(
     alloc: Global,
     attribute: &mut Attribute<OFFSET_BITS, S>,
@@ -143,7 +144,7 @@ fn apply_refused<const OFFSET_BITS: u32, S: Store<OFFSET_BITS, Layout = AttrLayo
     apply_again(alloc, attribute, fields, op, told)
 }
 
-/// An operation on attributes; nothing where the episode ends.
+/// Applies an operation to attributes. Returns `None` if the episode ends.
 fn apply<const OFFSET_BITS: u32, S: Store<OFFSET_BITS, Layout = AttrLayout>>(
     alloc: Global,
     attribute: &mut Attribute<OFFSET_BITS, S>,
@@ -172,7 +173,7 @@ fn count(told: &mut Told, applied: Applied) {
     }
 }
 
-/// The same operation on the plain table; whether it comes to the same.
+/// Applies the same operation to the plain table. Returns whether the result is the same.
 fn follow(
     alloc: Global,
     plain: &mut PlainTable,
@@ -192,7 +193,7 @@ fn follow(
     Ok(false)
 }
 
-/// One operation on both; whether it goes on.
+/// Applies one operation to both. Returns whether the episode continues.
 fn apply_both<const OFFSET_BITS: u32, S: Store<OFFSET_BITS, Layout = AttrLayout>>(
     alloc: Global,
     attribute: &mut Attribute<OFFSET_BITS, S>,
@@ -213,7 +214,7 @@ fn apply_both<const OFFSET_BITS: u32, S: Store<OFFSET_BITS, Layout = AttrLayout>
     }
 }
 
-/// A turn: an operation, and a commit where it is due; whether it goes on.
+/// Makes a turn: an operation, and a commit if it is due. Returns whether the episode continues.
 fn take_turn<const OFFSET_BITS: u32, S: Store<OFFSET_BITS, Layout = AttrLayout>>(
     alloc: Global,
     attribute: &mut Attribute<OFFSET_BITS, S>,
@@ -240,7 +241,7 @@ fn take_turn<const OFFSET_BITS: u32, S: Store<OFFSET_BITS, Layout = AttrLayout>>
     Ok(true)
 }
 
-/// The turns of an episode, until something is refused for good.
+/// Makes the turns of an episode, until something is finally refused.
 fn take_turns<const OFFSET_BITS: u32, S: Store<OFFSET_BITS, Layout = AttrLayout>>(
     alloc: Global,
     attribute: &mut Attribute<OFFSET_BITS, S>,
@@ -262,7 +263,7 @@ fn take_turns<const OFFSET_BITS: u32, S: Store<OFFSET_BITS, Layout = AttrLayout>
     Ok(())
 }
 
-/// The plain table after so many operations of an episode.
+/// Returns the plain table after a number of operations of an episode.
 fn plain_after(
     alloc: Global,
     fields: &Fields,
@@ -279,7 +280,7 @@ fn plain_after(
     Ok(plain)
 }
 
-/// What an episode's end came to.
+/// Adds the result of an episode's end.
 fn add(told: &mut Told, asked: Asked) {
     if asked.differs || asked.operations != told.committed {
         told.differs = true;
@@ -293,7 +294,7 @@ fn add(told: &mut Told, asked: Asked) {
     }
 }
 
-/// The turns of an episode on both, each without a document.
+/// Makes the turns of an episode on both, beginning without documents.
 fn play<const OFFSET_BITS: u32, S: Store<OFFSET_BITS, Layout = AttrLayout>>(
     alloc: Global,
     attribute: &mut Attribute<OFFSET_BITS, S>,
@@ -310,7 +311,7 @@ fn play<const OFFSET_BITS: u32, S: Store<OFFSET_BITS, Layout = AttrLayout>>(
     take_turns(alloc, attribute, &mut plain, fields, load, random, told)
 }
 
-/// What the last commit answers, beside the plain table after its operations.
+/// Returns the answers of the last commit, compared with the plain table after its operations.
 fn ask_last<const OFFSET_BITS: u32, W: Work<OFFSET_BITS> + Noted>(
     alloc: Global,
     work: &mut W,
@@ -349,7 +350,7 @@ fn episode(
     ask_last(alloc, &mut work, last, fields, load, start, random, told)
 }
 
-/// The episodes of a run, one after another, until something differs.
+/// Makes the episodes of a run, one after another, until something differs.
 pub fn run(alloc: Global, fields: &Fields, load: Load) -> Result<Told, AllocError>
     requires some { 0 < length fields.now }
     requires few { length fields.now ≤ MOST_FIELDS }

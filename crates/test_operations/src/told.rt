@@ -1,4 +1,4 @@
-//! What a worked row came to, as text.
+//! The result of a worked row, as text.
 use crate::turn::{Answer, Committed};
 use attr_types::{Applied, Doc, FieldItems, Item, Items, Value};
 use std::alloc::AllocError;
@@ -44,7 +44,7 @@ fn push_each(told: &mut String, items: &[Item]) -> Result<(), AllocError> {
     Ok(())
 }
 
-/// Each item, or how many equal ones there are.
+/// Writes each item, or the number of equal ones.
 fn push_items(told: &mut String, items: &Items) -> Result<(), AllocError> {
     match items.as_slice() {
         [first, rest @ ..] if rest.len() > 8 && are_equal(rest, first) => {
@@ -62,7 +62,7 @@ fn push_document(told: &mut String, document: &FieldItems) -> Result<(), AllocEr
     Ok(())
 }
 
-/// Each document with its items.
+/// Writes each document with its items.
 pub fn push_table(told: &mut String, table: &[(u64, FieldItems)]) -> Result<(), AllocError> {
     for row in table {
         write!(told, "; doc {}:", row.0)?;
@@ -71,7 +71,7 @@ pub fn push_table(told: &mut String, table: &[(u64, FieldItems)]) -> Result<(), 
     Ok(())
 }
 
-/// The documents of a query.
+/// Writes the documents of a query.
 pub fn push_documents(told: &mut String, query: &str, documents: &[Doc]) -> Result<(), AllocError> {
     write!(told, "; {query}:")?;
     for doc in documents {

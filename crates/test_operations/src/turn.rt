@@ -17,15 +17,15 @@ use std::collections::BTreeMap;
 use store_api::Store;
 use test_kit::NotedWork;
 
-/// A memory without readers, and beside it the words of each record as they were stored.
+/// A memory without readers, with a copy of the stored words of each record.
 pub type Memory = NotedWork<22, MemWork<22, AttrLayout>>;
 
 /// Attributes over a memory without readers.
 pub type Kinds = Attribute<22, EntryStore<22, Memory>>;
 
-/// A work that may have notes of what was stored in it.
+/// A work that may keep notes of what was stored in it.
 pub trait Noted {
-    /// The words that were stored last at each reference, where they were kept.
+    /// Returns the words last stored at each reference, if they were kept.
     fn notes(&self) -> Option<&BTreeMap<u32, Vec<u64>>>;
 }
 
@@ -35,28 +35,28 @@ impl<const OFFSET_BITS: u32, W: Work<OFFSET_BITS>> Noted for NotedWork<OFFSET_BI
     }
 }
 
-/// What an operation came to.
+/// The result of an operation.
 #[derive(Clone, Copy)]
 pub enum Answer {
     Applied(Applied),
-    /// Refused for want of a buffer, with so many in use.
+    /// Refused for lack of a buffer, with this many in use and held.
     Full { active: u32, held: u32 },
-    /// Refused for a reason that there is not.
+    /// Refused for a reason that cannot occur.
     Odd,
 }
 
-/// What a commit came to.
+/// The result of a commit.
 #[derive(Clone, Copy)]
 pub enum Committed {
-    /// Of this number, with so many operations.
+    /// Made with this number, and this many operations.
     At { number: u32, operations: u32 },
-    /// Refused for want of a buffer, with so many in use.
+    /// Refused for lack of a buffer, with this many in use and held.
     Full { active: u32, held: u32 },
-    /// Refused for a reason that there is not.
+    /// Refused for a reason that cannot occur.
     Odd,
 }
 
-/// A memory of so many buffers of 8,192 words, with notes of what is stored in it or without.
+/// Creates a memory of `buffers` buffers with 8,192 words each, with or without notes of what is stored in it.
 fn new_memory(
     alloc: Global,
     fields: &Fields,
@@ -73,7 +73,7 @@ fn new_memory(
     Ok(NotedWork::new(alloc, work, noting))
 }
 
-/// Attributes without a document, in so many buffers of 8,192 words.
+/// Creates attributes without documents, in `buffers` buffers of 8,192 words.
 pub fn new_attribute(
     alloc: Global,
     fields: &Fields,
@@ -93,14 +93,14 @@ pub fn new_attribute(
     }
 }
 
-/// The same fields once more.
+/// Returns a copy of the fields.
 fn copied_fields(fields: &Fields) -> Result<Fields, AllocError>
     ensures { IfOk result (λ own. own ≡ fields.now) }
 {
     Ok(fields.clone()?)
 }
 
-/// A plain table without a document.
+/// Returns a plain table without documents.
 pub fn new_plain(alloc: Global, fields: &Fields) -> Result<PlainTable, AllocError>
     ensures fields { IfOk result (λ p. p.fields ≡ fields.now) }
 {
@@ -132,7 +132,7 @@ pub fn apply_one<const OFFSET_BITS: u32, S: Store<OFFSET_BITS, Layout = AttrLayo
     }
 }
 
-/// Applies an operation to the plain table; nothing where it does not fit.
+/// Applies an operation to the plain table. Returns `None` if it does not fit.
 pub fn apply_plain(
     alloc: Global,
     plain: &mut PlainTable,
@@ -167,7 +167,7 @@ pub fn commit_one<const OFFSET_BITS: u32, S: Store<OFFSET_BITS, Layout = AttrLay
     }
 }
 
-/// The memory of attributes with all that was committed, and the last commit.
+/// Returns the memory of attributes, with all that was committed, and the last commit.
 pub fn close(attribute: Kinds, fields: &Fields) -> (Memory, Published<22>)
     requires same { attribute.fields ≡ fields.now }
     ensures shape { ⟦<NotedWork<22, MemWork<22, AttrLayout>> as Frozen<22>>⟧.shape result.0 ≡ shape_of (types_of fields.now) }

@@ -10,7 +10,7 @@ fn long_at(number: u32) -> i64 {
     }
 }
 
-/// The value of a number: those at the ends of what there is come first.
+/// Returns the value of a number. The extreme values come first.
 pub fn value_at(alloc: Global, value_type: ValueType, number: u32) -> Result<Value, AllocError> {
     match value_type {
         ValueType::Long => Ok(Value::Long(long_at(number))),

@@ -1,4 +1,5 @@
-//! Operations of a feed on attributes without a document, in the order of a row's lines, and what their last commit answers.
+//! Operations of a feed on attributes without documents, in the order of a row's lines, and the answers of their last
+//! commit.
 ghost use Rattle.std.specs.Prelude.{◌≡◌, ◌<◌, ◌≤◌, length};
 ghost use Rattle.attr_images.specs.Images.{IsLawfulImage};
 ghost use Rattle.attr_images.specs.Shapes.{shape_of, types_of};
@@ -20,12 +21,12 @@ use std::alloc::{AllocError, Global};
 use std::collections::BTreeMap;
 use store_api::Store;
 
-/// The reader itself. It promises nothing, so that no proof of its callers carries its contract.
+/// Reads a line. It has no contract, so that the proofs of its callers stay small.
 fn read(alloc: Global, line: &str, fields: &Fields) -> Result<Ops, FeedError> {
     read_feed(alloc, &mut SliceSource::new(line.as_bytes()), fields)
 }
 
-/// Applies the one operation that a line is.
+/// Applies the only operation of a line.
 fn apply_only<const OFFSET_BITS: u32, S: Store<OFFSET_BITS, Layout = AttrLayout>>(
     alloc: Global,
     attribute: &mut Attribute<OFFSET_BITS, S>,
@@ -59,7 +60,7 @@ fn apply_line<const OFFSET_BITS: u32, S: Store<OFFSET_BITS, Layout = AttrLayout>
     }
 }
 
-/// Commits, or applies an operation.
+/// Makes a commit, or applies an operation.
 fn take_line<const OFFSET_BITS: u32, S: Store<OFFSET_BITS, Layout = AttrLayout>>(
     alloc: Global,
     attribute: &mut Attribute<OFFSET_BITS, S>,
@@ -92,7 +93,8 @@ fn take_lines<const OFFSET_BITS: u32, S: Store<OFFSET_BITS, Layout = AttrLayout>
     Ok(())
 }
 
-/// How many operations the root record counts, and the documents with their items, by the slow checker.
+/// Writes how many operations the root record counts, and the documents with their items, as the slow checker reads
+/// them.
 fn tell_image(
     alloc: Global,
     fields: &Fields,
@@ -125,7 +127,7 @@ fn tell_notes<W: Noted>(
     }
 }
 
-/// The documents of a query, which this text is.
+/// Writes the documents of a query with this text.
 fn tell_found<const OFFSET_BITS: u32, F: Frozen<OFFSET_BITS>>(
     alloc: Global,
     frozen: &mut F,
@@ -144,7 +146,7 @@ fn tell_found<const OFFSET_BITS: u32, F: Frozen<OFFSET_BITS>>(
     push_documents(told, text, found.as_slice())
 }
 
-/// The documents of a query, or its refusal.
+/// Writes the documents of a query, or its refusal.
 fn tell_hits<const OFFSET_BITS: u32, F: Frozen<OFFSET_BITS>>(
     alloc: Global,
     frozen: &mut F,
@@ -183,7 +185,8 @@ fn tell_each<const OFFSET_BITS: u32, F: Frozen<OFFSET_BITS>>(
     Ok(())
 }
 
-/// The last commit: its number and that of its operations, its table by the slow checker, and the documents of each query.
+/// Writes the last commit: its number and its operations, its table as the slow checker reads it, and the documents
+/// of each query.
 fn tell_last<const OFFSET_BITS: u32, W: Work<OFFSET_BITS> + Noted>(
     alloc: Global,
     work: &mut W,
@@ -221,7 +224,7 @@ fn tell_all(
     tell_last(alloc, &mut work, last, fields, queries, told)
 }
 
-/// What each line answers, and what the last commit does.
+/// Returns the results of the lines, and the answers of the last commit.
 pub fn told_of(
     alloc: Global,
     fields: &Fields,

@@ -24,7 +24,7 @@ fn dot_line(alloc: Global, field: u32, parts: &[Part]) -> Result<String, AllocEr
     Ok(line)
 }
 
-/// What a query word asks for, in its debug form, or its refusal.
+/// Returns what a query word asks for, in its debug form, or its refusal.
 pub fn told(alloc: Global, text: &str, fields: &[Field]) -> Result<String, AllocError> {
     if fields.len() > 8 {
         return String::from_str(alloc, "too many attributes");
@@ -37,7 +37,7 @@ pub fn told(alloc: Global, text: &str, fields: &[Field]) -> Result<String, Alloc
     }
 }
 
-/// The query that a text is, in its debug form, or its refusal.
+/// Returns the query of a text, in its debug form, or the refusal.
 pub fn query_told(alloc: Global, text: &str, fields: &[Field]) -> Result<String, AllocError> {
     if fields.len() > 8 {
         return String::from_str(alloc, "too many attributes");
@@ -49,7 +49,7 @@ pub fn query_told(alloc: Global, text: &str, fields: &[Field]) -> Result<String,
     }
 }
 
-/// A middle between a front and a back, each of them as often as is said.
+/// Returns a middle between a front and a back, each repeated.
 fn repeated(
     alloc: Global,
     count: u32,
@@ -68,7 +68,7 @@ fn repeated(
     Ok(text)
 }
 
-/// Whether a text is taken, or its refusal.
+/// Returns whether a text is accepted, or its refusal.
 pub fn taken_told(alloc: Global, text: &str, fields: &[Field]) -> Result<String, AllocError> {
     if fields.len() > 8 {
         return String::from_str(alloc, "too many attributes");
@@ -80,7 +80,7 @@ pub fn taken_told(alloc: Global, text: &str, fields: &[Field]) -> Result<String,
     }
 }
 
-/// Whether a text of many equal parts is taken, or its refusal.
+/// Returns whether a text of many equal parts is accepted, or its refusal.
 pub fn many_told(alloc: Global, row: &str, fields: &[Field]) -> Result<String, AllocError> {
     let mut parts = row.split(' ');
     let count = parts.next().unwrap_or("").parse::<u32>().unwrap_or(0);

@@ -10,7 +10,7 @@ use test_kit::text_of;
 #[derive(Clone, Copy)]
 pub enum Step {
     Put(&'static [(i64, i32)]),
-    /// The value 5 so many times.
+    /// The value 5, this many times.
     PutFives(u32),
     Keep,
     Assign(&'static [(i64, i32)]),
@@ -34,7 +34,7 @@ pub enum Ask {
     Above(i64),
 }
 
-/// The words that stand for numbers where values are texts.
+/// Returns the word for a number, if values are texts.
 fn word(number: i64) -> &'static str {
     match number {
         1 => "a",
@@ -48,12 +48,12 @@ fn word(number: i64) -> &'static str {
     }
 }
 
-/// The document of a number, which is that of a row.
+/// Returns the document of a number.
 pub fn doc(number: u32) -> Doc {
     Doc::new(number.max(1).min(Doc::LAST))
 }
 
-/// The value of a number: itself, or its word.
+/// Returns the value of a number: itself, or its word.
 pub fn value(alloc: Global, value_type: ValueType, number: i64) -> Result<Value, AllocError> {
     Ok(match value_type {
         ValueType::Long => Value::Long(number),
@@ -109,7 +109,7 @@ fn weigh(
     Ok(Change::Of { value, act })
 }
 
-/// What an update does; a put or a remove is none.
+/// Returns the change of an update. A put or a remove has none.
 pub fn change(alloc: Global, value_type: ValueType, step: Step) -> Result<Change, AllocError> {
     match step {
         Step::Keep | Step::Put(_) | Step::PutFives(_) | Step::Remove => Ok(Change::Keep),
@@ -129,7 +129,7 @@ pub fn change(alloc: Global, value_type: ValueType, step: Step) -> Result<Change
     }
 }
 
-/// The operation on one attribute.
+/// Returns the operation on one attribute.
 pub fn op(
     alloc: Global,
     value_type: ValueType,
@@ -188,7 +188,7 @@ pub fn field(alloc: Global, name: &str, kind: Kind, value: ValueType) -> Result<
     Ok(Field { name, kind, value })
 }
 
-/// One attribute, `f`.
+/// Returns one attribute, `f`.
 pub fn one_field(alloc: Global, kind: Kind, value: ValueType) -> Result<Fields, AllocError> {
     Fields::of_one(alloc, field(alloc, "f", kind, value)?)
 }

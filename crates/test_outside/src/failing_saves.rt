@@ -1,8 +1,8 @@
-//! One document read and written over devices that fail: a save of 28 bytes.
-use crate::saves::{read, table_of};
-use attr_io::{FakeSink, FakeSource};
+//! One document, read and written over devices that fail: a save of 28 bytes.
+use crate::saves::{read, saved_again, table_of};
+use attr_io::{Failed, FakeSink, FakeSource, write_all};
 use attr_plain::PlainTable;
-use attr_saver::{LoadError, SaveError, column_law, save};
+use attr_saver::LoadError;
 use std::alloc::{AllocError, Global};
 use std::io;
 use test_kit::Tally;
@@ -11,7 +11,8 @@ const BYTES: [u8; 28] = [
     0x41, 0x54, 0x53, 0x31, 0, 0, 0, 0, 0, 1, 0, 0, 0, 1, 0, 0, 0, 1, 0, 1, 0, 0, 0, 0, 0, 0, 0, 5,
 ];
 
-/// What is read over a source that gives so many bytes a call and fails at one call, and how many faults it counts.
+/// Returns what is read over a source that gives at most `step` bytes in a call and fails in one call, and how many
+/// faults it counts.
 fn told_by_source(alloc: Global, step: usize, call: u64) -> Result<String, AllocError> {
     if step == 0 {
         return Ok(String::new(alloc));
@@ -26,19 +27,8 @@ fn told_by_source(alloc: Global, step: usize, call: u64) -> Result<String, Alloc
     }
 }
 
-/// A save over a sink. It promises nothing, so that no proof of its callers carries its contract.
-fn write(alloc: Global, table: &PlainTable, sink: &mut FakeSink) -> Result<(), SaveError> {
-    match table.fields().as_slice() {
-        [field, ..] => {
-            column_law();
-            let documents = table.documents();
-            save(alloc, field.kind, field.value, 1, documents, sink)
-        }
-        [] => Ok(()),
-    }
-}
-
-/// What is written over a sink that takes so many bytes a call and fails at one call, and how many of its bytes it took.
+/// Returns what is written over a sink that takes a limited number of bytes in a call and fails in one call, and how
+/// many bytes it took.
 fn told_by_sink(
     alloc: Global,
     table: &PlainTable,
@@ -48,8 +38,9 @@ fn told_by_sink(
     if step == 0 {
         return Ok(String::new(alloc));
     }
+    let bytes = saved_again(alloc, table, 1)?;
     let mut sink = FakeSink::create(alloc, 100, step, &[call])?;
-    let answer = write(alloc, table, &mut sink);
+    let answer = write_all(&mut sink, &bytes);
     let taken = sink.taken();
     let count = taken.len();
     let front = if BYTES.starts_with(taken) {
@@ -59,7 +50,7 @@ fn told_by_sink(
     };
     match answer {
         Ok(()) => format!(in alloc; "saved, {count} {front}"),
-        Err(error) => format!(in alloc; "{error}, {count} {front}"),
+        Err(Failed) => format!(in alloc; "a write failed, {count} {front}"),
     }
 }
 

@@ -1,18 +1,18 @@
-//! Rows: `fields ..` begins one, `feed LINE`, `part TEXT`, `times N TEXT`, `lines N` and `byte N` make its feed, `read ..`
-//! and `table ..` say what must be read of it and what the table must be after it. Other lines are remarks.
+//! Rows: `fields ..` begins a row; `feed LINE`, `part TEXT`, `times N TEXT`, `lines N` and `byte N` make its feed;
+//! `read ..` and `table ..` give what must be read of it, and the table after it. Other lines are comments.
 use crate::feeds::{answer_to, table_after};
 use crate::fields::fields_in;
 use std::alloc::{AllocError, Global};
 use std::io;
 use test_kit::Tally;
 
-/// A number and what follows a space after it.
+/// Returns a number, and what follows a space after it.
 fn numbered(line: &str) -> (u32, &str) {
     let (number, rest) = line.split_once(' ').unwrap_or((line, ""));
     (number.parse::<u32>().unwrap_or(0), rest)
 }
 
-/// So many copies of a text, in which a `#` stands for the number of the copy.
+/// Appends copies of a text, with the number of the copy in place of each `#`.
 fn push_times(alloc: Global, feed: &mut Vec<u8>, line: &str) -> Result<(), AllocError> {
     let (times, text) = numbered(line);
     for copy in 0..times {
@@ -29,7 +29,7 @@ fn push_byte(feed: &mut Vec<u8>, line: &str) -> Result<(), AllocError> {
     Ok(())
 }
 
-/// What a line of a row adds to the feed.
+/// Appends what a line of a row adds to the feed.
 fn push_line(alloc: Global, feed: &mut Vec<u8>, line: &str) -> Result<(), AllocError> {
     if let Some(text) = line.strip_prefix("feed ") {
         feed.extend_from_slice(text.as_bytes())?;
@@ -46,7 +46,7 @@ fn push_line(alloc: Global, feed: &mut Vec<u8>, line: &str) -> Result<(), AllocE
     Ok(())
 }
 
-/// A row so far, and those before it.
+/// The current row, and the count of the rows before it.
 #[derive(Drop)]
 pub struct FeedRows {
     fields: String,
@@ -69,13 +69,13 @@ impl FeedRows {
         Ok(())
     }
 
-    /// What is read of the row's feed.
+    /// Returns what is read of the row's feed.
     fn read(&self, alloc: Global) -> Result<String, AllocError> {
         let fields = fields_in(alloc, &self.fields)?;
         answer_to(alloc, &self.feed, &fields)
     }
 
-    /// The table after it.
+    /// Returns the table after it.
     fn table(&self, alloc: Global) -> Result<String, AllocError> {
         let fields = fields_in(alloc, &self.fields)?;
         table_after(alloc, &self.feed, fields)

@@ -1,4 +1,4 @@
-//! What a feed gets, and the table after it.
+//! The operations of a feed, and the table after it.
 use crate::told::{push_document, push_op};
 use attr_io::SliceSource;
 use attr_plain::{Applied, PlainTable};
@@ -6,7 +6,7 @@ use attr_types::{Fields, Ops, fits};
 use feed_reader::{FeedError, read_feed};
 use std::alloc::{AllocError, Global};
 
-/// The reader itself. It promises nothing, so that no proof of its callers carries its contract.
+/// Reads a feed. It has no contract, so that the proofs of its callers stay small.
 fn read(alloc: Global, feed: &[u8], fields: &Fields) -> Result<Ops, FeedError> {
     read_feed(alloc, &mut SliceSource::new(feed), fields)
 }
@@ -20,7 +20,7 @@ fn ops_told(alloc: Global, ops: &Ops) -> Result<String, AllocError> {
     Ok(text)
 }
 
-/// The operations of a feed, each followed by a semicolon, or why it is refused.
+/// Returns the operations of a feed, each followed by a semicolon, or why it is refused.
 pub fn answer_to(alloc: Global, feed: &[u8], fields: &Fields) -> Result<String, AllocError> {
     match read(alloc, feed, fields) {
         Ok(ops) => ops_told(alloc, &ops),
@@ -28,7 +28,7 @@ pub fn answer_to(alloc: Global, feed: &[u8], fields: &Fields) -> Result<String, 
     }
 }
 
-/// Applies what fits, and tells how many operations were skipped.
+/// Applies the operations that fit, and returns how many were skipped.
 fn apply_all(alloc: Global, table: &mut PlainTable, ops: Ops) -> Result<u32, AllocError> {
     let mut skipped: u32 = 0;
     for op in ops.into_vec() {
@@ -53,7 +53,7 @@ fn table_told(alloc: Global, table: &PlainTable, skipped: u32) -> Result<String,
     Ok(text)
 }
 
-/// The documents after a feed, each with its items, and how many operations were skipped.
+/// Returns the documents after a feed, each with its items, and how many operations were skipped.
 pub fn table_after(alloc: Global, feed: &[u8], fields: Fields) -> Result<String, AllocError> {
     match read(alloc, feed, &fields) {
         Ok(ops) => {

@@ -16,7 +16,7 @@ fn value_in(word: &str) -> ValueType {
     }
 }
 
-/// A field from its name, its kind and its value type, with colons between them.
+/// Returns a field from its name, its kind and its value type, separated by colons.
 fn field_in(alloc: Global, words: &str) -> Result<Field, AllocError> {
     let (name, types) = words.split_once(':').unwrap_or((words, ""));
     let (kind, value) = types.split_once(':').unwrap_or((types, ""));
@@ -27,7 +27,7 @@ fn field_in(alloc: Global, words: &str) -> Result<Field, AllocError> {
     })
 }
 
-/// Fields, parted by single spaces.
+/// Returns fields, separated by single spaces.
 pub fn fields_in(alloc: Global, line: &str) -> Result<Fields, AllocError> {
     let mut fields = Fields::new(alloc);
     for words in line.split(' ') {

@@ -1,5 +1,5 @@
-//! What words, queries, feeds and saves are read as, compared row by row with what standard input says they must be; and cases of the
-//! crates beside them, which stand here. A row or a case that differs prints itself.
+//! How words, queries, feeds and saves are read, compared row by row with the expected results in standard input; and
+//! cases for the crates around them, in code. A wrong row or case is printed.
 #![tactic(auto)]
 
 mod asks;
@@ -23,7 +23,7 @@ use attr_words::{ranges_law, settings_law};
 use query_text::grammar_law;
 use std::io;
 
-/// The cases, by the crates that they are of.
+/// Runs the cases in code, crate by crate.
 fn compare_cases(rt: &HostRuntime) -> io::Result<()> {
     failing_saves::compare(rt)?;
     traffic::compare(rt)?;

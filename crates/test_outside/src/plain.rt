@@ -15,7 +15,7 @@ fn are_same(hits: &[Doc], wanted: &[u32]) -> bool {
     hits.len() == wanted.len()
 }
 
-/// Whether a query has these documents.
+/// Returns whether a query has these documents.
 fn has_hits(
     alloc: Global,
     table: &PlainTable,
@@ -26,7 +26,7 @@ fn has_hits(
     Ok(are_same(hits.as_slice(), wanted))
 }
 
-/// Numbers for attribute 0 and words for attribute 1.
+/// Returns items with numbers for attribute 0 and words for attribute 1.
 fn both_items(
     alloc: Global,
     numbers: &[(i64, i32)],
@@ -37,7 +37,7 @@ fn both_items(
     Ok(both)
 }
 
-/// Puts a document. A put that does not fit is left out, so that no query finds it.
+/// Puts a document. A put that does not fit is omitted, so that no query finds it.
 fn put_both(
     alloc: Global,
     table: &mut PlainTable,
@@ -54,7 +54,8 @@ fn put_both(
     Ok(())
 }
 
-/// Attributes `f` of whole numbers and `g` of texts. Document 1 has 5 and "a", document 2 has 5, document 3 "a".
+/// Returns a table of the attributes `f` of whole numbers and `g` of texts. Document 1 has 5 and "a", document 2 has
+/// 5, and document 3 has "a".
 fn two_attributes(alloc: Global) -> Result<PlainTable, AllocError> {
     let mut fields = one_field(alloc, Kind::Single, ValueType::Long)?;
     fields.push(field(alloc, "g", Kind::Single, ValueType::Text)?)?;
@@ -65,13 +66,13 @@ fn two_attributes(alloc: Global) -> Result<PlainTable, AllocError> {
     Ok(table)
 }
 
-/// A query of one leaf on an attribute.
+/// Returns a query of one leaf on an attribute.
 fn one(alloc: Global, field: u32, value_type: ValueType, ask: Ask) -> Result<Query, AllocError> {
     let leaf = leaf(alloc, value_type, ask)?;
     Ok(Query::One { field, leaf })
 }
 
-/// Both members, each on its attribute.
+/// Returns two members, each on its attribute.
 fn both(alloc: Global) -> Result<Query, AllocError> {
     let mut members = Vec::new(alloc);
     members.push(one(alloc, 0, ValueType::Long, Ask::Is(5))?)?;
@@ -79,7 +80,7 @@ fn both(alloc: Global) -> Result<Query, AllocError> {
     Ok(Query::And(members))
 }
 
-/// The query that a row is about.
+/// The query of a row.
 #[derive(Clone, Copy)]
 enum Asked {
     Five,

@@ -1,4 +1,4 @@
-//! Queries and dot products that are written, and read back.
+//! Queries and dot products that are written and read back.
 use crate::build::field;
 use attr_types::{Field, Fields, Kind, Leaf, Query, Value, ValueType};
 use query_text::{parse_ask, parse_query};
@@ -14,7 +14,7 @@ fn long(number: i64) -> Query {
     one(Leaf::Is(Value::Long(number)))
 }
 
-/// Attribute 0 of this value type, and a weighted set of texts.
+/// Returns attribute 0 with this value type, and a weighted set of texts.
 fn two_fields(alloc: Global, value: ValueType) -> Result<Fields, AllocError> {
     let mut fields = Fields::new(alloc);
     fields.push(field(alloc, "f", Kind::Single, value)?)?;
@@ -22,7 +22,7 @@ fn two_fields(alloc: Global, value: ValueType) -> Result<Fields, AllocError> {
     Ok(fields)
 }
 
-/// The query that is read of a text in its debug form, or the refusal.
+/// Returns the query that is read from a text, in its debug form, or the refusal.
 fn read(alloc: Global, text: &str, fields: &[Field]) -> Result<String, AllocError> {
     if fields.len() > 8 {
         return String::from_str(alloc, "too many attributes");
@@ -33,7 +33,7 @@ fn read(alloc: Global, text: &str, fields: &[Field]) -> Result<String, AllocErro
     }
 }
 
-/// Whether a query is written as this text.
+/// Returns whether a query is written as this text.
 fn is_written(
     alloc: Global,
     query: &Query,
@@ -44,14 +44,14 @@ fn is_written(
     Ok(printed.as_str() == wanted)
 }
 
-/// Whether a text is read as this query.
+/// Returns whether a text is read as this query.
 fn is_read(alloc: Global, query: &Query, fields: &[Field], text: &str) -> Result<bool, AllocError> {
     let found = read(alloc, text, fields)?;
     let wanted = format!(in alloc; "{query:?}")?;
     Ok(found.as_str() == wanted.as_str())
 }
 
-/// Whether a query is written as this text, which is read as the query again.
+/// Returns whether a query is written as this text, and the text is read as the query.
 fn is_same(alloc: Global, query: &Query, fields: &[Field], text: &str) -> Result<bool, AllocError> {
     Ok(is_written(alloc, query, fields, text)? && is_read(alloc, query, fields, text)?)
 }
@@ -64,7 +64,7 @@ fn prefix(alloc: Global, bytes: &str) -> Result<Query, AllocError> {
     Ok(one(Leaf::Prefix(text_of(alloc, bytes)?)))
 }
 
-/// A text in an attribute.
+/// Returns the query for a text in an attribute.
 fn is_text(alloc: Global, field: u32, bytes: &str) -> Result<Query, AllocError> {
     let leaf = Leaf::Is(Value::Text(text_of(alloc, bytes)?));
     Ok(Query::One { field, leaf })
@@ -80,7 +80,7 @@ fn with_name(alloc: Global) -> Result<Query, AllocError> {
     Ok(Query::And(vec![in alloc; named, long(3)]?))
 }
 
-/// The query that a row is about.
+/// The query of a row.
 #[derive(Clone, Copy)]
 enum Asked {
     Least,
@@ -108,7 +108,7 @@ fn query_of(alloc: Global, asked: Asked) -> Result<Query, AllocError> {
     }
 }
 
-/// Compares a query with the text that it is written as, and that is read as it.
+/// Compares a query with its text, in both directions.
 fn compare_one(
     rt: &HostRuntime,
     tally: &mut Tally,
@@ -150,7 +150,7 @@ fn compare_texts(rt: &HostRuntime, tally: &mut Tally) -> io::Result<()> {
     Ok(())
 }
 
-/// What is asked by the ask that is read of a text, written again, or the refusal.
+/// Returns the text of the ask that is read from a text, or the refusal.
 fn written_again(alloc: Global, text: &str, fields: &[Field]) -> Result<String, AllocError> {
     if fields.len() > 8 {
         return String::from_str(alloc, "too many attributes");

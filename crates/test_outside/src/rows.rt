@@ -1,11 +1,11 @@
-//! The lines of standard input: behind `[words]`, `[feeds]` or `[saves]` the rows of each.
+//! The lines of standard input: `[words]`, `[feeds]` and `[saves]` begin the rows of each part.
 use crate::feed_rows::FeedRows;
 use crate::save_rows::SaveRows;
 use crate::word_rows::WordRows;
 use std::alloc::Global;
 use std::io;
 
-/// What the rows are of.
+/// A part of the rows.
 #[derive(Clone, Copy)]
 enum Part {
     Words,
@@ -13,7 +13,7 @@ enum Part {
     Saves,
 }
 
-/// The part that a line begins.
+/// Returns the part that a line begins.
 fn part_of(line: &str) -> Option<Part> {
     match line {
         "[words]" => Some(Part::Words),

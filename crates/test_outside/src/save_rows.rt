@@ -1,7 +1,7 @@
-//! Rows. `read HEX WANTED`: what becomes of bytes. `tell HEX WANTED`: what they tell. `base HEX`:
-//! the bytes that the rows after it change. `cut FROM TO WANTED`: what becomes of so many of its first bytes.
-//! `change PLACE FROM TO WANTED`: what becomes of it with each byte from FROM to TO at a place. Numbers are decimal.
-//! Other lines are remarks.
+//! Rows: `read HEX EXPECTED` gives the result of reading bytes, and `tell HEX EXPECTED` their content. `base HEX`
+//! sets the bytes that later rows change. `cut FROM TO EXPECTED` reads only the first bytes of it, for each length
+//! from FROM to TO. `change PLACE FROM TO EXPECTED` reads it with each byte from FROM to TO at a place. Numbers are
+//! decimal. Other lines are comments.
 ghost use Rattle.std.specs.Prelude.{◌≤◌, length};
 
 use crate::saves::{content, told};
@@ -55,7 +55,7 @@ fn compare_cuts(
     Ok(())
 }
 
-/// What becomes of bytes with another one at a place.
+/// Returns the result of reading bytes with another one at a place.
 fn told_with(
     alloc: Global,
     base: &[u8],
@@ -102,7 +102,7 @@ fn compare_changes(
     Ok(())
 }
 
-/// What becomes of bytes, or what they tell.
+/// Compares the result of reading bytes, or their content.
 fn compare_bytes(
     rt: &HostRuntime,
     tally: &mut Tally,
@@ -119,7 +119,7 @@ fn compare_bytes(
     tally.note(rt, hex, &found, wanted)
 }
 
-/// Compares what the words of a line ask for.
+/// Compares what the words of a line request.
 fn compare_line(
     rt: &HostRuntime,
     tally: &mut Tally,

@@ -5,7 +5,7 @@ use attr_saver::{LoadError, Saved, SavedDocument, column_law, read_saved, saved_
 use attr_types::{Field, FieldItems, Fields, Item, Kind, Name, Op, Value, ValueType, fits};
 use std::alloc::{AllocError, Global};
 
-/// The read itself. It promises nothing, so that no proof of its callers carries its contract.
+/// Reads a save. It has no contract, so that the proofs of its callers stay small.
 pub fn read<S: Source>(alloc: Global, source: &mut S) -> Result<Saved, LoadError> {
     read_saved(alloc, source)
 }
@@ -15,7 +15,7 @@ fn one_field(alloc: Global, kind: Kind, value: ValueType) -> Result<Fields, Allo
     Fields::of_one(alloc, Field { name, kind, value })
 }
 
-/// The table that a save tells.
+/// Returns the table of a save.
 pub fn table_of(alloc: Global, saved: Saved) -> Result<PlainTable, AllocError> {
     let mut table = PlainTable::new(alloc, one_field(alloc, saved.kind, saved.value)?);
     for document in saved.table.into_vec() {
@@ -29,7 +29,7 @@ pub fn table_of(alloc: Global, saved: Saved) -> Result<PlainTable, AllocError> {
     Ok(table)
 }
 
-/// The bytes of a save of a table's first attribute.
+/// Returns the bytes of a save of a table's first attribute.
 pub fn saved_again(
     alloc: Global,
     table: &PlainTable,
@@ -45,7 +45,8 @@ pub fn saved_again(
     }
 }
 
-/// What becomes of bytes: `saved` where they are read and written again alike, or the place of the first bad field.
+/// Returns the result of reading bytes: `saved` if they are written again with the same bytes, or the place of the
+/// first bad field.
 pub fn told(alloc: Global, bytes: &[u8]) -> Result<String, AllocError> {
     match read(alloc, &mut SliceSource::new(bytes)) {
         Ok(saved) => {
@@ -74,7 +75,7 @@ fn push_item(text: &mut String, item: &Item) -> Result<(), AllocError> {
     }
 }
 
-/// What a save tells, without spaces.
+/// Returns the content of a save, without spaces.
 pub fn content(alloc: Global, bytes: &[u8]) -> Result<String, AllocError> {
     let saved = match read(alloc, &mut SliceSource::new(bytes)) {
         Ok(saved) => saved,

@@ -1,4 +1,5 @@
-//! Operations and documents as texts: each item as its value, a star and its weight, attributes parted by bars.
+//! Operations and documents as texts: each item as its value, a star and its weight; attributes are separated by
+//! bars.
 use attr_types::{Act, Change, Item, Items, Op, Value, Values, WeightAct};
 use std::alloc::AllocError;
 

@@ -1,4 +1,4 @@
-//! Sources and sinks: those that fail where they are told to, those in memory, and standard input and output.
+//! Sources and sinks: those that fail on request, those in memory, and standard input and output.
 use attr_io::{
     FakeSink, FakeSource, Gate, NoGate, Point, ReadError, Sink, SliceSource, Source, StdSink,
     StdSource, VecSink, read_all, write_all, write_and_flush,
@@ -8,7 +8,8 @@ use std::io;
 use std::io::{ErrorKind, Write};
 use test_kit::Tally;
 
-/// Whether a source that gives at most so many bytes a call gives all five, or tells its fault at this call or the ninth.
+/// Returns whether a source that gives a limited number of bytes in a call gives all five, or reports its fault in
+/// this call or the ninth.
 fn is_read(alloc: Global, step: usize, call: u64, all: bool) -> Result<bool, AllocError> {
     let mut source = FakeSource::create(alloc, b"bytes", step.max(1), &[9, call])?;
     let is_right = match read_all(alloc, &mut source, 5) {
@@ -49,7 +50,8 @@ fn compare_sources(rt: &HostRuntime, tally: &mut Tally) -> io::Result<()> {
     Ok(())
 }
 
-/// Whether a sink with so much room takes these bytes of a line, at most so many a call, until it is full or fails at a call.
+/// Returns whether a sink with limited space takes these bytes of a line, with a limit in each call, until it is full
+/// or fails in a call.
 fn is_taken(
     alloc: Global,
     room: usize,
@@ -80,7 +82,7 @@ fn compare_sink(
 }
 
 fn compare_sinks(rt: &HostRuntime, tally: &mut Tally) -> io::Result<()> {
-    // its room, the most that a call takes, the call that fails, what is taken
+    // its space, the most that a call takes, the call that fails, what is taken
     let rows = [
         (9, 1, 1, ""),
         (9, 1, 5, "fina"),
@@ -97,12 +99,12 @@ fn compare_sinks(rt: &HostRuntime, tally: &mut Tally) -> io::Result<()> {
     Ok(())
 }
 
-/// Whether a sink takes so many bytes of a piece, or fails where none are told.
+/// Returns whether a sink takes the expected number of bytes of a piece, or fails if none is expected.
 fn takes(sink: &mut VecSink, piece: &[u8], wanted: Option<usize>) -> bool {
     !piece.is_empty() && sink.faults() == 0 && sink.write(piece).ok() == wanted
 }
 
-/// Whether a sink in memory takes what fits, and then fails.
+/// Returns whether a sink in memory takes what fits, and then fails.
 fn is_filled(alloc: Global) -> Result<bool, AllocError> {
     let mut sink = VecSink::create(alloc, 7)?;
     let first = takes(&mut sink, b"final", Some(5));
@@ -112,7 +114,7 @@ fn is_filled(alloc: Global) -> Result<bool, AllocError> {
     Ok(is_right && sink.taken() == b"final a".as_slice() && sink.faults() == 1)
 }
 
-/// Whether bytes are read whole, or refused as more than the limit.
+/// Returns whether bytes are read completely, or refused as more than the limit.
 fn is_read_or_refused(alloc: Global, bytes: &[u8], limit: usize, fits: bool) -> bool {
     let mut source = SliceSource::new(bytes);
     match read_all(alloc, &mut source, limit) {
@@ -122,7 +124,7 @@ fn is_read_or_refused(alloc: Global, bytes: &[u8], limit: usize, fits: bool) -> 
 }
 
 fn compare_limits(rt: &HostRuntime, tally: &mut Tally) -> io::Result<()> {
-    // more than three of the pieces by which a source is read
+    // more than three of the pieces in which a source is read
     let bytes = vec![in rt.alloc(); 7u8; 200_000]?;
     for (limit, fits) in [
         (200_000, true),
@@ -173,7 +175,7 @@ fn compare_pipes(rt: &HostRuntime, tally: &mut Tally) -> io::Result<()> {
     Ok(())
 }
 
-/// Standard input is at its end, and standard output takes a line.
+/// Checks that standard input is at its end, and that standard output takes a line.
 fn compare_standard(rt: &HostRuntime, tally: &mut Tally) -> io::Result<()> {
     let mut piece = [7u8; 4];
     let at_end = StdSource::new(rt).read(&mut piece) == Ok(0);

@@ -9,13 +9,13 @@ use std::cmp::Ordering;
 use std::io;
 use test_kit::{Tally, text_of};
 
-/// Whether a value is equal to its copy.
+/// Returns whether a value is equal to its copy.
 fn is_its_copy(value: &Value) -> Result<bool, AllocError> {
     let copy = value.clone()?;
     Ok(*value == copy)
 }
 
-/// Whether two texts have this order.
+/// Returns whether two texts have this order.
 fn is_order(alloc: Global, a: &str, b: &str, wanted: Ordering) -> Result<bool, AllocError> {
     let a = Value::Text(text_of(alloc, a)?);
     let b = Value::Text(text_of(alloc, b)?);
@@ -46,7 +46,7 @@ fn compare_texts(rt: &HostRuntime, tally: &mut Tally) -> io::Result<()> {
     tally.judge(rt, case, is_order(alloc, "z", "é", Ordering::Less)?)
 }
 
-/// Whether a copy of items holds these numbers with their weights.
+/// Returns whether a copy of items has these numbers with their weights.
 fn is_copied(alloc: Global, numbers: &[(i64, i32)]) -> Result<bool, AllocError> {
     let copy = items(alloc, ValueType::Long, numbers)?.clone()?;
     Ok(copy.is_empty() == numbers.is_empty() && are_numbers(copy.as_slice(), numbers))
@@ -61,7 +61,7 @@ fn are_numbers(items: &[Item], numbers: &[(i64, i32)]) -> bool {
     items.len() == numbers.len()
 }
 
-/// Whether a copy of a name is the name.
+/// Returns whether a copy of a name is equal to the name.
 fn is_name_copied(alloc: Global) -> Result<bool, AllocError> {
     let name = Name::from_str(alloc, "fé")?.clone()?;
     Ok(name.as_str() == "fé")
@@ -76,7 +76,7 @@ fn compare_lists(rt: &HostRuntime, tally: &mut Tally) -> io::Result<()> {
     tally.judge(rt, "a name", is_name_copied(alloc)?)
 }
 
-/// Whether each operation fits an attribute of each kind, of whole numbers and then of texts.
+/// Returns whether each operation fits an attribute of each kind, first with whole numbers and then with texts.
 fn fitting() -> [(Step, [bool; 3], [bool; 3]); 18] {
     [
         (Step::Put(&[]), [true, true, true], [true, true, true]),
@@ -148,7 +148,7 @@ fn fitting() -> [(Step, [bool; 3], [bool; 3]); 18] {
     ]
 }
 
-/// Whether an operation fits an attribute of each kind as is told.
+/// Returns whether an operation fits an attribute of each kind as expected.
 fn fits_as(
     alloc: Global,
     value_type: ValueType,
@@ -190,7 +190,7 @@ fn compare_fits(rt: &HostRuntime, tally: &mut Tally) -> io::Result<()> {
     Ok(())
 }
 
-/// Whether no operation with values of the other type fits.
+/// Returns whether no operation with values of the other type fits.
 fn fits_none(alloc: Global, kind: Kind, step: Step) -> Result<bool, AllocError> {
     let numbers = op(alloc, ValueType::Long, doc(1), true, step)?;
     let words = op(alloc, ValueType::Text, doc(1), true, step)?;
@@ -214,7 +214,7 @@ fn compare_types(rt: &HostRuntime, tally: &mut Tally) -> io::Result<()> {
     Ok(())
 }
 
-/// So many lists of items, and as many changes.
+/// Returns `count` lists of items.
 fn lists(alloc: Global, count: u32) -> Result<FieldItems, AllocError> {
     let mut items = FieldItems::new(alloc);
     for _ in 0..count {
@@ -231,7 +231,7 @@ fn keeps(alloc: Global, count: u32) -> Result<FieldChanges, AllocError> {
     Ok(change)
 }
 
-/// Whether a put of so many lists fits, if it fits as an update of so many changes does.
+/// Returns whether a put of this many lists fits, if an update of as many changes has the same result.
 fn fits_with(alloc: Global, fields: &Fields, count: u32) -> Result<Option<bool>, AllocError> {
     let doc = doc(1);
     let items = lists(alloc, count)?;
@@ -257,7 +257,7 @@ fn compare_counts(rt: &HostRuntime, tally: &mut Tally, fields: &Fields) -> io::R
     Ok(())
 }
 
-/// Two attributes.
+/// Returns two attributes.
 fn two_fields(alloc: Global) -> Result<Fields, AllocError> {
     let mut fields = one_field(alloc, Kind::Single, ValueType::Long)?;
     fields.push(field(alloc, "g", Kind::Array, ValueType::Long)?)?;

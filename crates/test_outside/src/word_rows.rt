@@ -1,13 +1,13 @@
-//! Rows: `words LINE`, `ask QUERY`, `query QUERY` without dot products, `takes QUERY`, or
-//! `many COUNT FRONT MIDDLE BACK`, and then `said LINE`, what it must be read as. `on LINE` gives the words that name the attributes
-//! of the rows after it. Other lines are remarks.
+//! Rows: `words LINE`, `ask QUERY`, `query QUERY` without dot products, `takes QUERY`, or `many COUNT FRONT MIDDLE
+//! BACK`; and then `said LINE`, how it must be read. `on LINE` gives the words that name the attributes of the rows
+//! after it. Other lines are comments.
 use crate::{asks, words};
 use attr_types::{Field, Fields};
 use std::alloc::{AllocError, Global};
 use std::io;
 use test_kit::Tally;
 
-/// What a row is read as; nothing where it is a remark.
+/// Returns how a row is read, or nothing for a comment.
 fn told(
     alloc: Global,
     kind: &str,
@@ -24,7 +24,7 @@ fn told(
     }
 }
 
-/// The attributes of the rows, the last row, and those before it.
+/// The attributes of the rows, the last row, and the rows before it.
 #[derive(Drop)]
 pub struct WordRows {
     fields: Fields,

@@ -2,7 +2,7 @@ use attr_types::{Field, Fields};
 use attr_words::{Settings, WordsError, read_words};
 use std::alloc::{AllocError, Global};
 
-/// The words of a line, parted by single spaces, so that two spaces hold an empty word.
+/// Returns the words of a line, separated by single spaces, so that two spaces have an empty word between them.
 fn words_in(alloc: Global, line: &str) -> Result<Vec<String>, AllocError> {
     let mut words = Vec::new(alloc);
     for word in line.split(' ') {
@@ -44,7 +44,7 @@ fn push_flag(line: &mut String, given: bool, name: &str) -> Result<(), AllocErro
     Ok(())
 }
 
-/// The settings as one line: the attributes, the numbers, the flags that were given, and each query after a bar.
+/// Returns the settings as one line: the attributes, the numbers, the given flags, and each query after a bar.
 fn line_of(alloc: Global, settings: &Settings) -> Result<String, AllocError> {
     let mut line = String::new(alloc);
     for field in settings.fields.as_slice() {
@@ -65,7 +65,7 @@ fn line_of(alloc: Global, settings: &Settings) -> Result<String, AllocError> {
     Ok(line)
 }
 
-/// What a line of words is read as.
+/// Returns how a line of words is read.
 pub fn told(alloc: Global, line: &str) -> Result<String, AllocError> {
     let words = words_in(alloc, line)?;
     match read_words(alloc, &words) {
@@ -80,7 +80,7 @@ pub fn told(alloc: Global, line: &str) -> Result<String, AllocError> {
     }
 }
 
-/// The attributes that a line of words names, or none.
+/// Returns the attributes that a line of words names, or none.
 pub fn fields_in(alloc: Global, line: &str) -> Result<Fields, AllocError> {
     let words = words_in(alloc, line)?;
     match read_words(alloc, &words) {

@@ -12,8 +12,7 @@ const FEED: &str = "{\"put\":\"id:n:t::1\",\"fields\":{\"f\":5}}\n";
 
 const REPORT: &str = "final at 1/1: 1/done 1 operations 0 skipped/";
 
-/// What a run answers and writes; then how many operations it loaded, and the faults of its source
-/// and its sink.
+/// Returns what a run answers and writes, how many operations it loaded, and the faults of its source and its sink.
 fn told<R: Threads + Sync>(
     rt: &HostRuntime,
     threads: &R,
@@ -71,7 +70,7 @@ fn compare_source<R: Threads + Sync>(
     note_call(rt, tally, "source", call, &found, &wanted)
 }
 
-/// A source of one byte a call, which fails at one call: the 38th would tell the end of the feed.
+/// Tests sources of one byte in a call that fail in one call; call 38 would report the end of the feed.
 fn compare_sources<R: Threads + Sync>(
     rt: &HostRuntime,
     threads: &R,
@@ -94,7 +93,7 @@ fn sink_at<R: Threads + Sync>(
     told(rt, threads, &mut source, &mut sink)
 }
 
-/// A sink that has taken this front of the report when it fails.
+/// Tests a sink that has taken this front of the report when it fails.
 fn compare_sink<R: Threads + Sync>(
     rt: &HostRuntime,
     threads: &R,
@@ -118,7 +117,7 @@ fn compare_last<R: Threads + Sync>(
     tally.note(rt, "sink after all calls", &found, &wanted)
 }
 
-/// A sink of one byte a call, which fails at one call: the bytes before it were taken.
+/// Tests sinks of one byte in a call that fail in one call; the bytes before it were taken.
 fn compare_sinks<R: Threads + Sync>(
     rt: &HostRuntime,
     threads: &R,
@@ -162,7 +161,7 @@ fn seven_bytes_of_room<R: Threads + Sync>(
     told_in(threads, rt.alloc(), &words, &[], 7)
 }
 
-/// Steps of several bytes, and a sink in memory that has too little room.
+/// Tests steps of several bytes, and a sink in memory with too little space.
 fn compare_steps<R: Threads + Sync>(
     rt: &HostRuntime,
     threads: &R,
@@ -176,7 +175,7 @@ fn compare_steps<R: Threads + Sync>(
     tally.note(rt, "seven bytes of room", &taken, "5 final a")
 }
 
-/// A save over a sink that fails: the front of its bytes, and at how many operations it was made.
+/// Tests a save over a sink that fails: the front of its bytes, and at how many operations it was made.
 fn save_at<R: Threads + Sync>(
     rt: &HostRuntime,
     threads: &R,

@@ -10,10 +10,10 @@ use test_kit::Tally;
 
 const PUT: &str = "{\"put\":\"id:n:t::1\",\"fields\":{\"f\":5}}\n";
 
-/// A store of one buffer has no room for a put.
+/// A store of one buffer has no space for a put.
 const FULL: &str = "--kind single --value long --readers 0 --buffers 1 --words 8192 5";
 
-/// The exit status of each answer, beside the number that it must be.
+/// Compares the exit status of each answer with the expected number.
 fn compare_answers(rt: &HostRuntime, tally: &mut Tally) -> io::Result<()> {
     let full = Status::Full {
         operation: 22,
@@ -46,7 +46,7 @@ fn compare_answers(rt: &HostRuntime, tally: &mut Tally) -> io::Result<()> {
     Ok(())
 }
 
-/// A real run, with room for so many bytes.
+/// Makes a real run, whose sink has limited space.
 fn run_of<R: Threads + Sync>(
     threads: &R,
     alloc: Global,
@@ -60,7 +60,7 @@ fn run_of<R: Threads + Sync>(
     Ok(outcome_of(threads, alloc, &words, &mut source, &mut sink))
 }
 
-/// A real run, and the exit status of a program that makes it.
+/// Makes a real run, and compares the exit status of a program with it.
 fn compare_run<R: Threads + Sync>(
     rt: &HostRuntime,
     threads: &R,
@@ -78,7 +78,7 @@ fn compare_run<R: Threads + Sync>(
     tally.note(rt, words, found, "as wanted")
 }
 
-/// The exit statuses of a program, for runs that end in each way but for want of memory and a failed read.
+/// Compares the exit statuses of a program, for runs that end in each way except exhausted memory and a failed read.
 fn compare_runs<R: Threads + Sync>(
     rt: &HostRuntime,
     threads: &R,
@@ -117,7 +117,7 @@ pub fn compare<R: Threads + Sync>(rt: &HostRuntime, threads: &R) -> io::Result<(
     runs.print(rt, "exit statuses of runs")
 }
 
-/// A run that finds no room: this program ends with its exit status.
+/// Makes a run that runs out of space; this program ends with its exit status.
 pub fn full<R: Threads + Sync>(threads: &R, alloc: Global) -> Result<Outcome, AllocError> {
     run_of(threads, alloc, FULL, PUT, 4096)
 }

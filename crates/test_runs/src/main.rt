@@ -1,6 +1,6 @@
-//! Whole runs of `attr`, compared with what they must write. The rows of words, feeds and answers
-//! are read from standard input; runs over failing devices, readers held at the gate, and the exit
-//! statuses stand here. A case that differs prints itself. The program ends as a run does that finds no room.
+//! Whole runs of `attr`, compared with what they must write. The rows of words, feeds and answers are read from
+//! standard input; runs over failing devices, with readers held at the gate, and the exit statuses are in code. A
+//! wrong case is printed. The program ends like a run that runs out of space.
 #![tactic(auto)]
 
 mod devices;
@@ -24,7 +24,7 @@ fn compare_all<R: Threads + Sync>(rt: &HostRuntime, threads: &R) -> io::Result<(
     turns::compare(rt, threads)
 }
 
-/// All that is compared, and then a run that finds no room.
+/// Makes all comparisons, and then a run that runs out of space.
 fn last_run<R: Threads + Sync>(rt: &HostRuntime, threads: &R) -> io::Result<Outcome> {
     compare_all(rt, threads)?;
     let outcome = exits::full(threads, rt.alloc())?;

@@ -1,4 +1,4 @@
-//! The words of a running program, its name first, also where they are no UTF-8.
+//! The words of a running program, beginning with its name, also if they are not UTF-8.
 use crate::run::told;
 use attr_run::Words;
 use std::env::FillError;

@@ -1,7 +1,7 @@
 //! The rounds of a report, with slashes for line feeds.
 use std::alloc::{AllocError, Global};
 
-/// The first of these commit points, from one on, whose lines stand in front, and what stands behind them.
+/// Returns the first of these commit points, from one on, whose lines are at the front, and what follows them.
 fn point_in<'a>(lines: &'a str, points: &[String], seen: usize) -> Option<(usize, &'a str)> {
     for at in seen..points.len() {
         if let Some(rest) = lines.strip_prefix(points[at].as_str()) {
@@ -11,7 +11,7 @@ fn point_in<'a>(lines: &'a str, points: &[String], seen: usize) -> Option<(usize
     None
 }
 
-/// What stands behind the rounds of one reader, where each tells the lines of a commit point and they never fall.
+/// Returns what follows the rounds of one reader, if each has the lines of a commit point and they never fall.
 fn after_reader<'a>(
     alloc: Global,
     lines: &'a str,
@@ -35,8 +35,8 @@ fn after_reader<'a>(
     Ok(Some(rest))
 }
 
-/// What a run answered and wrote without its rounds, where each of them tells the lines of a commit point and those of a
-/// reader never fall; else the whole.
+/// Returns what a run answered and wrote without its rounds, if each of them has the lines of a commit point and
+/// those of one reader never fall; otherwise returns all of it.
 pub fn without_rounds(
     alloc: Global,
     line: &str,
@@ -57,7 +57,7 @@ pub fn without_rounds(
     format!(in alloc; "{code} {rest}")
 }
 
-/// The last answers of a report, from `at N` on: what stands between `final ` and the lines of its end.
+/// Returns the last answers of a report, from `at N` on: what is between `final ` and the lines of its end.
 fn last_lines(report: &str) -> Option<&str> {
     let (_, lines) = report.split_once("final ")?;
     if let Some((lines, _)) = lines.split_once("full at ") {
@@ -67,8 +67,8 @@ fn last_lines(report: &str) -> Option<&str> {
     Some(lines)
 }
 
-/// What a run without readers answered and wrote, with two rounds of each of two readers that saw all that was loaded. A
-/// summary tells no rounds.
+/// Returns what a run without readers answered and wrote, with two rounds of each of two readers that saw everything
+/// loaded. A summary has no rounds.
 pub fn with_rounds(alloc: Global, line: &str) -> Result<String, AllocError> {
     let Some((code, report)) = line.split_once(' ') else {
         return String::from_str(alloc, line);

@@ -1,15 +1,16 @@
-//! Rows of standard input: `words LINE`, then `feed LINE` for each line of the feed or `each FIRST LAST LINE` for one line
-//! a number, which stands where the line has a `#`; and at last what the run must come to:
+//! Rows of standard input: `words LINE`, then `feed LINE` for each line of the feed, or `each FIRST LAST LINE` for
+//! one line for each number, which replaces `#` in the line; and at last the expected result of the run:
 //!
-//! - `said LINE`: what it must answer and write. With a short feed it is made again with wide references and bit vectors,
-//!   which change nothing but what size a store may have, also where it is refused, and, where it had no readers, with two
-//!   after the loading, whose rounds tell the last answers.
-//! - `saved LINE`: the same with the bytes written in hexadecimal, and no other run.
-//! - `room OPERATION ACTIVE HELD`: the operation that found no room, and how many buffers were in use and held.
-//! - `beside READERS ROUNDS LINE`: what it must answer and write but for the rounds of its readers, which ran beside the
-//!   loading. Each of these tells the lines of one of the commit points given before by `point LINE`, and they never fall.
+//! - `said LINE`: what it must answer and write. A run with a short feed is repeated with wide references and
+//! `--dense`, which change nothing but the sizes that a store may have, also if it is refused; if it had no readers,
+//! also with two readers after the loading, whose rounds have the last answers.
+//! - `saved LINE`: the same with the written bytes in hexadecimal, and no other run.
+//! - `room OPERATION ACTIVE HELD`: the operation that ran out of space, and how many buffers were in use and held.
+//! - `beside READERS ROUNDS LINE`: what it must answer and write, except the rounds of its readers, which ran beside
+//! the loading. Each round has the lines of one of the commit points given before by `point LINE`, and they never
+//! fall.
 //!
-//! Other lines are remarks.
+//! Other lines are comments.
 use crate::rounds;
 use crate::run::{room, saved, told, words_in};
 use std::alloc::{AllocError, Global};
@@ -17,13 +18,13 @@ use std::io;
 use std::thread::Threads;
 use test_kit::Tally;
 
-/// How many bytes a run may write.
+/// The number of bytes that a run may write.
 const ROOM: usize = 65_536;
 
-/// Feeds of so many bytes are loaded once.
+/// Feeds of at least this many bytes are loaded once.
 const LONG: usize = 40_000;
 
-/// A row so far.
+/// The current row.
 #[derive(Drop)]
 struct Row {
     words: String,
@@ -43,7 +44,7 @@ impl Row {
         })
     }
 
-    /// Takes a line of the feed, or the lines of a commit point; whether it is one of these.
+    /// Takes a line of the feed, or the lines of a commit point. Returns whether it was one of these.
     fn take(&mut self, alloc: Global, line: &str) -> Result<bool, AllocError> {
         if let Some(rest) = line.strip_prefix("feed ") {
             self.feed.push_str(rest)?;
@@ -62,7 +63,7 @@ impl Row {
     }
 }
 
-/// What was compared, by how the rows were run.
+/// Counts of what was compared, by how the rows were run.
 #[derive(Default, Drop)]
 struct Tallies {
     runs: Tally,
@@ -86,7 +87,7 @@ impl Tallies {
     }
 }
 
-/// A line, with a number in place of each `#`.
+/// Appends a line, with a number in place of each `#`.
 fn push_numbered(feed: &mut String, line: &str, number: &str) -> Result<(), AllocError> {
     for (at, part) in line.split('#').enumerate() {
         if at > 0 {
@@ -109,7 +110,8 @@ fn push_each(alloc: Global, feed: &mut String, asked: &str) -> Result<(), AllocE
     Ok(())
 }
 
-/// These words for a variant of a run: over a small store, where they say nothing of it and the operations are few.
+/// Returns the words for a variant of a run: with a small store, if they do not set its size and there are few
+/// operations.
 fn varied(alloc: Global, words: &str) -> Result<String, AllocError> {
     if words.contains("--buffers") || words.contains("--make") {
         return String::from_str(alloc, words);
@@ -117,7 +119,7 @@ fn varied(alloc: Global, words: &str) -> Result<String, AllocError> {
     format!(in alloc; "--buffers 8 --words 8192 {words}")
 }
 
-/// What a run of these words answers and writes.
+/// Returns what a run with these words answers and writes.
 fn told_by<R: Threads + Sync>(
     threads: &R,
     alloc: Global,
@@ -182,7 +184,7 @@ fn compare_after<R: Threads + Sync>(
     compare_varied(rt, threads, tally, &words, row.feed.as_bytes(), &wanted)
 }
 
-/// Whether what a run wrote is a report or a summary.
+/// Returns whether a run wrote a report or a summary.
 fn is_report(wanted: &str) -> bool {
     wanted.starts_with("0 final")
         || wanted.starts_with("0 made")
@@ -211,7 +213,7 @@ fn compare_said<R: Threads + Sync>(
     Ok(())
 }
 
-/// What a run with so many readers and rounds answers and writes, but for its rounds.
+/// Returns what a run with readers and rounds answers and writes, except its rounds.
 fn told_beside<R: Threads + Sync>(
     threads: &R,
     alloc: Global,
@@ -262,7 +264,7 @@ fn compare_saved<R: Threads + Sync>(
     tally.note(rt, &row.words, &found, wanted)
 }
 
-/// A line that says what a row must come to; others are remarks.
+/// Compares the result of a row with a line, unless the line is a comment.
 fn compare_row<R: Threads + Sync>(
     rt: &HostRuntime,
     threads: &R,

@@ -3,7 +3,7 @@ use attr_run::{Outcome, Status, Words, attr_main};
 use std::alloc::{AllocError, Global};
 use std::thread::Threads;
 
-/// The words of a line, which are parted by single spaces: a space at the end holds an empty word.
+/// Returns the words of a line, separated by single spaces; a space at the end is followed by an empty word.
 pub fn words_in(alloc: Global, line: &str) -> Result<Words, AllocError> {
     let mut words = Words::create(alloc);
     for word in line.split(' ') {
@@ -12,7 +12,7 @@ pub fn words_in(alloc: Global, line: &str) -> Result<Words, AllocError> {
     Ok(words)
 }
 
-/// An exit status and, after a space, bytes with a slash for each line feed.
+/// Returns an exit status and, after a space, bytes with a slash for each line feed.
 pub fn line_of(alloc: Global, code: u8, bytes: &[u8]) -> Result<String, AllocError> {
     let mut line = format!(in alloc; "{code} ")?;
     for part in String::from_utf8_lossy(alloc, bytes)?.split('\n') {
@@ -23,7 +23,7 @@ pub fn line_of(alloc: Global, code: u8, bytes: &[u8]) -> Result<String, AllocErr
     Ok(line)
 }
 
-/// The run itself. It promises nothing, so that no proof of its callers carries its contract.
+/// Makes a run. It has no contract, so that the proofs of its callers stay small.
 pub fn outcome_at<R: Threads + Sync, S: Source, K: Sink, G: Gate + Sync + 'static>(
     rt: &R,
     alloc: Global,
@@ -35,7 +35,7 @@ pub fn outcome_at<R: Threads + Sync, S: Source, K: Sink, G: Gate + Sync + 'stati
     attr_main(rt, alloc, words, source, sink, gate)
 }
 
-/// The run at the gate of the program.
+/// Makes a run with the gate of the program.
 pub fn outcome_of<R: Threads + Sync, S: Source, K: Sink>(
     rt: &R,
     alloc: Global,
@@ -46,7 +46,7 @@ pub fn outcome_of<R: Threads + Sync, S: Source, K: Sink>(
     outcome_at(rt, alloc, words, source, sink, &NoGate)
 }
 
-/// What a run answers and writes, where there is room for so many bytes.
+/// Returns what a run answers and writes, into limited space.
 pub fn told<R: Threads + Sync>(
     rt: &R,
     alloc: Global,
@@ -60,7 +60,7 @@ pub fn told<R: Threads + Sync>(
     line_of(alloc, outcome.status.exit_code(), sink.taken())
 }
 
-/// The exit status of a run and the bytes that it writes, in hexadecimal.
+/// Returns the exit status of a run and the bytes that it writes, in hexadecimal.
 pub fn saved<R: Threads + Sync>(
     rt: &R,
     alloc: Global,
@@ -78,7 +78,8 @@ pub fn saved<R: Threads + Sync>(
     Ok(line)
 }
 
-/// The operation that found no room in a run, and how many buffers were in use and held then; else its exit status.
+/// Returns the operation that ran out of space in a run, and how many buffers were then in use and held; otherwise
+/// its exit status.
 pub fn room<R: Threads + Sync>(
     rt: &R,
     alloc: Global,

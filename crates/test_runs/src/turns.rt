@@ -1,5 +1,6 @@
-//! Runs of two readers beside the loading whose order is fixed: their gate holds each thread until the others have come.
-//! Readers on the loader's thread, or one after another, don't come; and a round at an older commit tells other lines.
+//! Runs of two readers beside the loading in a fixed order: the gate holds each thread until the others have arrived.
+//! Readers on the loader's thread, or one after another, would not arrive, and a round at an older commit would have
+//! other lines.
 use crate::run::{line_of, outcome_at, words_in};
 use attr_io::{Gate, Point, SliceSource, VecSink};
 use attr_run::Outcome;
@@ -9,7 +10,7 @@ use std::thread::Threads;
 use std::{io, thread};
 use test_kit::Tally;
 
-/// How often a thread looks whether the others have come.
+/// How often a thread checks whether the others have arrived.
 const TURNS: u64 = 50_000_000;
 
 const WORDS: &str = "--kind single --value long --batch 1 --readers 2 --rounds 2 5";
@@ -29,14 +30,14 @@ const AT_TWO_AND_THREE: &str =
     "0 reader 1 round 1 at 2/1: 1 2/reader 1 round 2 at 3/1: 1 2 3/reader 2 round 1 at 2/1: 1 2/reader 2 round 2 at 3/1: 1 2 3/\
                                 final at 3/1: 1 2 3/done 3 operations 0 skipped/";
 
-/// How far a run came, and how often a thread gave up.
+/// The progress of a run, and how often a thread gave up.
 #[derive(Drop)]
 struct Turns {
     /// How many commits come before that of the first round.
     before: u64,
     /// The last commit.
     committed: AtomicU64,
-    /// How many rounds the readers have come to.
+    /// The number of rounds at which the readers have arrived.
     come: AtomicU64,
     gave_up: AtomicU64,
 }
@@ -51,7 +52,7 @@ impl Turns {
         }
     }
 
-    /// Waits until a count is at least so much, or a thread gave up.
+    /// Waits until a count is at least this great, or a thread gave up.
     fn wait(&self, count: &AtomicU64, least: u64) {
         for _ in 0..TURNS {
             if count.load(Ordering::SeqCst) >= least || self.gave_up.load(Ordering::SeqCst) > 0 {
@@ -62,7 +63,7 @@ impl Turns {
         self.gave_up.fetch_add(1, Ordering::SeqCst);
     }
 
-    /// A round waits for its commit, and the first one for the other reader.
+    /// Holds a round until its commit is made, and the first round also until the other reader arrives.
     fn start(&self, round: u32) {
         self.come.fetch_add(1, Ordering::SeqCst);
         if round == 1 {
@@ -71,7 +72,8 @@ impl Turns {
         self.wait(&self.committed, self.before.saturating_add(round as u64));
     }
 
-    /// The loader waits until both readers have come to the round of its next commit: all that they did before was at this one.
+    /// Holds the loader until both readers have arrived at the round of its next commit: everything that they did
+    /// before was at this commit.
     fn commit(&self, commit: u32) {
         self.committed.store(commit as u64, Ordering::SeqCst);
         let rounds = (commit as u64)
@@ -93,7 +95,7 @@ impl Gate for Turns {
     }
 }
 
-/// What a run answers and writes.
+/// Returns what a run answers and writes.
 fn told<R: Threads + Sync>(
     threads: &R,
     alloc: Global,
@@ -107,7 +109,7 @@ fn told<R: Threads + Sync>(
     line_of(alloc, outcome.status.exit_code(), sink.taken())
 }
 
-/// A run with so many commits before that of the first round, and what it must write.
+/// Makes a run with this many commits before that of the first round, and compares what it writes.
 fn compare_turns<R: Threads + Sync>(
     rt: &HostRuntime,
     threads: &R,
@@ -127,7 +129,7 @@ fn compare_turns<R: Threads + Sync>(
     tally.note(rt, "threads that waited in vain", in_vain, "none")
 }
 
-/// How many operations the rounds of a reader saw.
+/// Writes how many operations each round of a reader saw.
 fn push_counts(text: &mut String, counts: &[u32]) -> Result<(), AllocError> {
     for count in counts {
         write!(text, "{count} ")?;
@@ -144,7 +146,7 @@ fn rounds_in(alloc: Global, outcome: &Outcome) -> Result<String, AllocError> {
     Ok(text)
 }
 
-/// The rounds of a run.
+/// Returns the rounds of a run.
 fn rounds_of<R: Threads + Sync>(
     threads: &R,
     alloc: Global,
@@ -159,7 +161,7 @@ fn rounds_of<R: Threads + Sync>(
     rounds_in(alloc, &outcome)
 }
 
-/// The same order in a run that writes no rounds: its readers are made all the same.
+/// Tests the same order in a run that writes no rounds, whose readers run all the same.
 fn compare_rounds<R: Threads + Sync>(
     rt: &HostRuntime,
     threads: &R,
@@ -180,7 +182,7 @@ fn compare_rounds<R: Threads + Sync>(
     tally.note(rt, "threads that waited in vain", in_vain, "none")
 }
 
-/// Both orders, where operations are made and where the table is saved.
+/// Tests both orders, with made operations and with a saved table.
 fn compare_modes<R: Threads + Sync>(
     rt: &HostRuntime,
     threads: &R,

@@ -11,20 +11,20 @@ use mem_work::OneRecord;
 use std::alloc::{AllocError, Global};
 use store_api::{Store, StoreError};
 
-/// What a new store is asked.
+/// A test of a new store.
 #[derive(Clone, Copy)]
 pub enum Case {
-    /// The entries before and after an undo, which are to be these.
+    /// The expected entries before and after an undo.
     MadeAgain([u32; 4]),
-    /// Records in place of each other under commits.
+    /// Records that replace each other under commits.
     Replaced,
-    /// What is made where a committed record was dropped.
+    /// What is made after a committed record was dropped.
     Kept,
-    /// A victim, which is finished or not, and how many entries of 34 words are made behind the next commit.
+    /// A victim, which is finished or not, and how many entries of 34 words are made after the next commit.
     Emptied { finishes: bool, made: u32 },
 }
 
-/// Whether all answers were the wanted ones, and how many entries of 2, 4, 34 and 1,024 words were made.
+/// Whether all results were the expected ones, and how many entries of 2, 4, 34 and 1,024 words were made.
 #[derive(Clone, Copy)]
 pub struct Came {
     pub is_right: bool,
@@ -61,7 +61,7 @@ fn counted<const OFFSET_BITS: u32, W: Work<OFFSET_BITS>>(
     }
 }
 
-/// What a case comes to over a new store of so many buffers.
+/// Returns the result of a case over a new store with this many buffers.
 pub fn came_to<const OFFSET_BITS: u32>(
     alloc: Global,
     buffers: u32,

@@ -1,4 +1,5 @@
-//! Tests of references, images, the memory, buffers, entries and the store, over their public calls, at both widths of references.
+//! Tests of references, images, the memory, buffers, entries and the store, over their public calls, for both widths
+//! of references.
 #![tactic(auto)]
 
 #[cfg(test)]

@@ -2,7 +2,7 @@ use buffer_states::{BufferState, Buffers};
 use std::alloc::{AllocError, Global};
 use std::test::Fail;
 
-/// Whether a buffer goes from free to active to on hold, and is free again.
+/// Returns whether a buffer goes from free to active to on hold, and is free again.
 fn goes_round(alloc: Global) -> Result<bool, AllocError> {
     let mut buffers = Buffers::create(alloc, 3)?;
     let mut is_right = buffers.state(2) == BufferState::Free;
@@ -13,7 +13,7 @@ fn goes_round(alloc: Global) -> Result<bool, AllocError> {
     buffers.set_counts(1, 340, 68, 34);
     is_right &= (buffers.width(1), buffers.used(1)) == (34, 340);
     is_right &= (buffers.dead(1), buffers.held(1)) == (68, 34);
-    // the next buffer of the width is filled from now on
+    // from now on the next buffer of the width is the one being filled
     buffers.activate(0, 34);
     buffers.seal(1);
     buffers.put_on_hold(1, 7);
@@ -33,7 +33,7 @@ fn a_buffer_goes_from_free_to_active_to_on_hold(rt: HostRuntime) -> Result<(), F
     Ok(())
 }
 
-/// The choice among two buffers, with their used and dead words, beside one that is filled.
+/// Returns the choice among two buffers, with their used and dead words, beside one that is being filled.
 fn victim_of_two(
     alloc: Global,
     first: (u32, u32),
@@ -51,10 +51,10 @@ fn victim_of_two(
 
 #[test]
 fn a_victim_has_the_most_dead_words(rt: HostRuntime) -> Result<(), Fail> {
-    // one in twenty is dead, and no more
+    // one in twenty is dead, but not more
     assert_eq!(rt; victim_of_two(rt.alloc(), (40, 2), (400, 20))?, None);
     assert_eq!(rt; victim_of_two(rt.alloc(), (40, 2), (400, 22))?, Some(1));
-    // more dead words, though fewer of those used
+    // more dead words, though a smaller part of those used
     assert_eq!(rt; victim_of_two(rt.alloc(), (40, 4), (60, 6))?, Some(1));
     // the first of equals
     assert_eq!(rt; victim_of_two(rt.alloc(), (40, 6), (60, 6))?, Some(0));

@@ -11,7 +11,7 @@ use mem_work::OneRecord;
 use std::test::Fail;
 use store_api::{Store, StoreError, Stored, drop_one, make_entry};
 
-/// A first record, where nothing is in use.
+/// Makes a first record, when nothing is in use.
 fn make_root<const OFFSET_BITS: u32, S: Store<OFFSET_BITS>>(
     store: &mut S,
     width: u32,
@@ -29,7 +29,7 @@ fn make_root<const OFFSET_BITS: u32, S: Store<OFFSET_BITS>>(
     Ok(root)
 }
 
-/// Another record in place of the one that is in use.
+/// Makes another record in place of the one in use.
 fn next_root<const OFFSET_BITS: u32, S: Store<OFFSET_BITS>>(
     store: &mut S,
     width: u32,
@@ -49,7 +49,7 @@ fn next_root<const OFFSET_BITS: u32, S: Store<OFFSET_BITS>>(
     Ok(next)
 }
 
-/// Commits the record that is in use, where a commit can be made.
+/// Commits the record in use, if a commit is possible.
 fn commit_root<const OFFSET_BITS: u32, S: Store<OFFSET_BITS, Layout = OneRecord>>(
     store: &mut S,
     root: EntryRef<OFFSET_BITS>,
@@ -66,7 +66,7 @@ fn commit_root<const OFFSET_BITS: u32, S: Store<OFFSET_BITS, Layout = OneRecord>
     Some(store.commit(root))
 }
 
-/// Four records, each in place of the one before and committed, and what the last commit answers.
+/// Makes four records, each in place of the previous one and committed, and returns the result of the last commit.
 fn replace_roots<const OFFSET_BITS: u32, S: Store<OFFSET_BITS, Layout = OneRecord>>(
     store: &mut S,
     width: u32,
@@ -85,7 +85,7 @@ fn replace_roots<const OFFSET_BITS: u32, S: Store<OFFSET_BITS, Layout = OneRecor
     Ok(([first.raw(), second.raw(), third.raw(), fourth.raw()], last))
 }
 
-/// Whether four records take each other's place, the third where the first was.
+/// Returns whether four records replace each other, with the third in the place of the first.
 pub fn are_replaced<const OFFSET_BITS: u32, S: Store<OFFSET_BITS, Layout = OneRecord>>(
     store: &mut S,
 ) -> Result<bool, StoreError>
@@ -119,7 +119,7 @@ fn what_is_dropped_is_made_again_after_a_commit(rt: HostRuntime) -> Result<(), F
     Ok(())
 }
 
-/// What is made of a width where a committed record was dropped in the unit, and where the drop was undone.
+/// Returns what is made of a width after a committed record was dropped in the unit, and after the drop was undone.
 fn fill_after_drop<const OFFSET_BITS: u32, S: Store<OFFSET_BITS, Layout = OneRecord>>(
     store: &mut S,
     width: u32,
@@ -136,7 +136,7 @@ fn fill_after_drop<const OFFSET_BITS: u32, S: Store<OFFSET_BITS, Layout = OneRec
     Ok([dropped, fill_undone(store, width)])
 }
 
-/// Whether a record of the last commit that was dropped stays in the way of others.
+/// Returns whether a dropped record of the last commit still occupies its place.
 pub fn is_kept<const OFFSET_BITS: u32, S: Store<OFFSET_BITS, Layout = OneRecord>>(
     store: &mut S,
 ) -> Result<bool, StoreError>
@@ -164,7 +164,7 @@ fn what_a_commit_has_is_not_made_again(rt: HostRuntime) -> Result<(), Fail> {
     Ok(())
 }
 
-/// Seals the victim, if there is one, and finishes it where that is wanted.
+/// Seals the victim, if there is one, and finishes it on request.
 fn seal_victim<const OFFSET_BITS: u32, S: Store<OFFSET_BITS>>(
     store: &mut S,
     finishes: bool,
@@ -188,8 +188,8 @@ fn seal_victim<const OFFSET_BITS: u32, S: Store<OFFSET_BITS>>(
     }
 }
 
-/// What is made where two buffers were filled and are free again; then where the victim was sealed and a record
-/// was made; and then after a commit, which puts the victim on hold if it is finished.
+/// Returns what is made after two buffers were filled and emptied; after the victim was sealed and a record was made;
+/// and after a commit, which puts the victim on hold if it is finished.
 fn empty_victim<const OFFSET_BITS: u32, S: Store<OFFSET_BITS, Layout = OneRecord>>(
     store: &mut S,
     finishes: bool,
@@ -204,7 +204,8 @@ fn empty_victim<const OFFSET_BITS: u32, S: Store<OFFSET_BITS, Layout = OneRecord
     Ok((victim, [first, sealed, fill_undone(store, 34)]))
 }
 
-/// Whether the first buffer is the victim, and so many entries of 34 words are made behind the commit.
+/// Returns whether the first buffer is the victim, and the expected number of entries of 34 words is made after the
+/// commit.
 pub fn is_emptied<const OFFSET_BITS: u32, S: Store<OFFSET_BITS, Layout = OneRecord>>(
     store: &mut S,
     finishes: bool,
@@ -218,7 +219,7 @@ pub fn is_emptied<const OFFSET_BITS: u32, S: Store<OFFSET_BITS, Layout = OneReco
 
 #[test]
 fn a_victim_goes_on_hold_with_all_its_entries(rt: HostRuntime) -> Result<(), Fail> {
-    // whether the victim is finished, and how many entries of 34 words are made then
+    // whether the victim is finished, and how many entries of 34 words are then made
     for (finishes, made) in [(false, 0), (true, 239)] {
         let came = came_to::<22>(rt.alloc(), 2, Case::Emptied { finishes, made })?;
         assert!(rt; came.is_right);

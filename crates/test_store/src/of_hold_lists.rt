@@ -1,4 +1,4 @@
-//! The hold list over pushes, tags and what is taken below a generation.
+//! The hold list: pushes, tags, and removals below a generation.
 use entry_ref::EntryRef;
 use hold_lists::HoldList;
 use std::alloc::{AllocError, Global};
@@ -8,11 +8,11 @@ use std::test::Fail;
 enum Step {
     Push(u32),
     Tag(u64, u32),
-    /// The oldest generation, and the entry that is taken.
+    /// The oldest generation, and the entry that is removed.
     Pop(u64, Option<u32>),
 }
 
-/// Whether a step takes the entry that is wanted, if it takes one.
+/// Returns whether a step removes the expected entry, if it removes one.
 fn takes<const OFFSET_BITS: u32>(
     list: &mut HoldList<OFFSET_BITS>,
     step: &Step,
@@ -46,7 +46,7 @@ fn takes_all<const OFFSET_BITS: u32>(alloc: Global, steps: &[Step]) -> Result<bo
 #[test]
 fn what_is_tagged_below_is_taken_in_order(rt: HostRuntime) -> Result<(), Fail> {
     let rows: [&[Step]; 5] = [
-        // nothing is there, nothing is tagged
+        // nothing is there, or nothing is tagged
         &[
             Step::Pop(9, None),
             Step::Tag(1, 1),
@@ -112,7 +112,7 @@ fn what_is_tagged_below_is_taken_in_order(rt: HostRuntime) -> Result<(), Fail> {
     Ok(())
 }
 
-/// The entry that is taken first of two that were pushed into the room for two.
+/// Returns the entry that is removed first, of two that were pushed into reserved space for two.
 fn first_of_two(alloc: Global) -> Result<Option<EntryRef<22>>, AllocError> {
     let mut list = HoldList::<22>::create(alloc)?;
     list.reserve(2)?;

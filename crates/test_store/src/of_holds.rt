@@ -1,17 +1,17 @@
-//! The queue of generation holds over openings, renewals and closings.
+//! The queue of generation holds: openings, renewals and closings.
 use generation_handler::{HOLDS, Holds};
 
 #[derive(Clone, Copy)]
 enum Step {
-    /// The hold that comes next is opened for the next generation.
+    /// This hold is the next closed one, and is opened for the next generation.
     Opens(u32),
     /// Holds are opened until none is closed.
     OpensAll,
     /// No hold is closed.
     IsFull,
-    /// The newest hold gets the next generation.
+    /// The newest hold takes the next generation.
     Renews,
-    /// So many of the oldest holds are closed.
+    /// This many of the oldest holds are closed.
     Closes(u32),
 }
 
@@ -35,7 +35,7 @@ const fn after(step: Step, oldest: u64, newest: u64, hold: u32, len: u32) -> Row
     }
 }
 
-/// Whether this hold is the next one. It is opened.
+/// Returns whether this hold is the next closed one, and opens it.
 fn opens(holds: &mut Holds, generation: u64, wanted: Option<u32>) -> bool {
     let next = holds.open_next();
     if let Some(hold) = next {
@@ -52,7 +52,7 @@ fn open_all(holds: &mut Holds, generation: u64) {
     }
 }
 
-/// Closes so many holds, if one is left then.
+/// Closes a number of holds, if one is left.
 fn closes(holds: &mut Holds, count: u32) -> bool {
     for _ in 0..count {
         if holds.len() <= 1 {
@@ -63,7 +63,7 @@ fn closes(holds: &mut Holds, count: u32) -> bool {
     true
 }
 
-/// Whether a step can be taken. It is.
+/// Takes a step, and returns whether that was possible.
 fn takes(holds: &mut Holds, step: Step) -> bool {
     let generation = holds.newest().generation.saturating_add(1);
     match step {
@@ -81,7 +81,7 @@ fn takes(holds: &mut Holds, step: Step) -> bool {
     }
 }
 
-/// Whether the queue is as a row says.
+/// Returns whether the queue is as a row says.
 fn is_as(holds: &Holds, row: &Row) -> bool {
     let newest = holds.newest();
     holds.oldest().generation == row.oldest
@@ -90,7 +90,7 @@ fn is_as(holds: &Holds, row: &Row) -> bool {
         && holds.len() == row.len
 }
 
-/// Whether each step of a run is taken, and the queue after it is the wanted one.
+/// Returns whether each step of a run is taken, and the queue after it is the expected one.
 fn is_right_run(rows: &[Row]) -> bool {
     let mut holds = Holds::new();
     for row in rows {
@@ -130,7 +130,7 @@ fn a_queue_after_each_step(rt: HostRuntime) {
             after(Step::Closes(1), 3, 3, 1, 1),
             after(Step::Opens(0), 3, 4, 0, 2),
         ],
-        // the closed hold of lowest number comes next
+        // the closed hold with the lowest number is the next one
         &[
             after(Step::Opens(1), 0, 1, 1, 2),
             after(Step::Opens(2), 0, 2, 2, 3),
@@ -145,7 +145,7 @@ fn a_queue_after_each_step(rt: HostRuntime) {
     }
 }
 
-/// Whether an entry has the first commit that it was given, and another one when it is renewed.
+/// Returns whether a hold keeps its first commit, and takes another one when it is renewed.
 fn keeps_first_commit() -> bool {
     let mut holds = Holds::new();
     let first = holds.newest().first_commit;

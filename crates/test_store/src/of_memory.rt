@@ -4,15 +4,15 @@ use mem_work::{MemWork, OneRecord};
 use std::alloc::{AllocError, Global};
 use std::test::Fail;
 
-/// Whether nothing was stored.
+/// Returns whether nothing was stored.
 fn has_no_record(alloc: Global, work: &MemWork<22, OneRecord>) -> Result<bool, AllocError> {
     Ok(work.records(alloc)?.is_empty())
 }
 
-/// Whether three buffers are handed out from the lowest on, and no more.
+/// Returns whether exactly three buffers are handed out, from the lowest on.
 fn hands_out_three<const OFFSET_BITS: u32, W: Work<OFFSET_BITS>>(work: &mut W) -> bool {
     let mut is_right = (work.buffers(), work.words()) == (3, 8192);
-    // what is answered, and how many buffers are free then
+    // the result, and how many buffers are then free
     for (buffer, free) in [(Some(0), 2), (Some(1), 1), (Some(2), 0), (None, 0)] {
         is_right &= work.hand_out(34) == buffer;
         is_right &= work.free_buffers() == free;
@@ -20,7 +20,7 @@ fn hands_out_three<const OFFSET_BITS: u32, W: Work<OFFSET_BITS>>(work: &mut W) -
     is_right
 }
 
-/// Whether 1,024 buffers are handed out, one after another, and no more.
+/// Returns whether exactly 1,024 buffers are handed out.
 fn hands_out_all<const OFFSET_BITS: u32, W: Work<OFFSET_BITS>>(work: &mut W) -> bool {
     let mut is_right = (work.buffers(), work.words()) == (1024, 8192);
     for buffer in 0..1024 {
@@ -45,7 +45,7 @@ fn references_of_19_bits_name_1024_buffers(rt: HostRuntime) -> Result<(), Fail> 
     Ok(())
 }
 
-/// Whether a commit is counted, and stores nothing by itself.
+/// Returns whether a commit is counted, and stores nothing by itself.
 fn is_counted(alloc: Global) -> Result<bool, AllocError> {
     let mut work = MemWork::<22, OneRecord>::create(alloc, 8, 8192, 1)?;
     let before = work.commits_left();

@@ -3,7 +3,7 @@ ghost use Rattle.entry_ref.specs.References.{buffer_limit, offset_limit};
 
 use entry_ref::{EntryRef, place_of};
 
-/// Whether the reference of an offset in a buffer is this number, and tells both.
+/// Returns whether the reference of an offset in a buffer is this number, and has both.
 fn is_reference<const OFFSET_BITS: u32>(offset: u32, buffer: u32, raw: u32) -> bool
     requires offset { offset < offset_limit OFFSET_BITS }
     requires buffer { buffer < buffer_limit OFFSET_BITS }
@@ -18,7 +18,7 @@ fn is_reference<const OFFSET_BITS: u32>(offset: u32, buffer: u32, raw: u32) -> b
 
 #[test]
 fn a_reference_is_its_offset_and_its_buffer(rt: HostRuntime) {
-    // offset, buffer, the reference
+    // offset, buffer, reference
     let rows = [
         (0, 0, 0),
         (0, 1023, 1023),
@@ -43,7 +43,7 @@ fn a_reference_is_its_offset_and_its_buffer(rt: HostRuntime) {
 
 #[test]
 fn words_of_entries_stand_at_the_worked_places(rt: HostRuntime) {
-    // buffers, words of each, width; offset, buffer, word; the place
+    // number of buffers, words of each, width; offset, buffer, word; place
     let rows = [
         ((8, 8192, 34), (3, 2, 0), 16512),
         ((8, 8192, 34), (3, 2, 33), 16545),

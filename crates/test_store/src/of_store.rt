@@ -9,7 +9,7 @@ use std::alloc::{AllocError, Global};
 use std::test::Fail;
 use store_api::{Store, StoreError};
 
-/// The entries that a new store makes before and after an undo.
+/// Returns the entries that a new store makes before and after an undo.
 fn make_again<const OFFSET_BITS: u32, S: Store<OFFSET_BITS>>(
     store: &mut S,
 ) -> Result<[u32; 4], StoreError>
@@ -25,7 +25,7 @@ fn make_again<const OFFSET_BITS: u32, S: Store<OFFSET_BITS>>(
     Ok([first.raw(), again.raw(), next.raw(), wide.raw()])
 }
 
-/// Whether these are the entries that a new store makes before and after an undo.
+/// Returns whether these are the entries that a new store makes before and after an undo.
 pub fn is_made_again<const OFFSET_BITS: u32, S: Store<OFFSET_BITS>>(
     store: &mut S,
     wanted: [u32; 4],
@@ -46,7 +46,7 @@ fn an_entry_is_made_again_after_an_undo(rt: HostRuntime) -> Result<(), Fail> {
     Ok(())
 }
 
-/// What a new store makes of a width until it is full, and again after an undo.
+/// Returns what a new store makes of a width until it is full, and again after an undo.
 fn fill_twice<const OFFSET_BITS: u32>(
     alloc: Global,
     buffers: u32,
@@ -63,8 +63,8 @@ fn fill_twice<const OFFSET_BITS: u32>(
     Ok([first, fill_undone::<OFFSET_BITS, _>(&mut store, width)])
 }
 
-/// Whether a new store makes so many entries of a width, the last of them this one, before it is full with so many active buffers,
-/// and as many again after an undo.
+/// Returns whether a new store makes this many entries of a width, with this one as the last, before it is full with
+/// this many active buffers; and as many again after an undo.
 fn is_full_after<const OFFSET_BITS: u32>(
     alloc: Global,
     buffers: u32,

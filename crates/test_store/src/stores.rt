@@ -9,7 +9,7 @@ use mem_work::{MemWork, OneRecord};
 use std::alloc::{AllocError, Global};
 use store_api::{Store, StoreError};
 
-/// A store over `buffers` buffers of 8,192 words.
+/// Creates a store over `buffers` buffers of 8,192 words.
 pub fn new_store<const OFFSET_BITS: u32>(
     alloc: Global,
     buffers: u32,
@@ -27,10 +27,10 @@ pub fn new_store<const OFFSET_BITS: u32>(
     }
 }
 
-/// How many entries of a width are made, the last of them, and why no more are.
+/// How many entries of a width were made, the last of them, and why no more were made.
 pub type Filled = (u32, u32, Option<StoreError>);
 
-/// Makes entries of a width until no more are made.
+/// Makes entries of a width until no more can be made.
 pub fn fill<const OFFSET_BITS: u32, S: Store<OFFSET_BITS>>(store: &mut S, width: u32) -> Filled
     requires unit { (S.ledger store.old).unit ≡ true }
     requires width { is_width width ≡ true }

@@ -1,4 +1,4 @@
-//! Maps by document to be tested, and what is seen of them.
+//! Maps by document under test, and what is seen of them.
 ghost use Rattle.std.specs.Prelude.{◌≡◌, IfOk};
 ghost use Rattle.store_api.specs.Ledgers.{IsNew};
 ghost use Rattle.doc_vector.specs.Documents.{IsDocumentMap};
@@ -13,7 +13,7 @@ use entry_store::EntryStore;
 use std::alloc::{AllocError, Global};
 use store_api::{Store, StoreError};
 
-/// The document of a number, the nearest one where there is none.
+/// Returns the document of a number, or the nearest one if there is none.
 fn doc_of(number: u32) -> Doc {
     Doc::new(number.max(1).min(Doc::LAST))
 }
@@ -32,7 +32,7 @@ fn put<const OFFSET_BITS: u32, S: Store<OFFSET_BITS>>(
     Ok(next)
 }
 
-/// Removes a document, which has to be there.
+/// Removes a document, which must exist.
 fn take<const OFFSET_BITS: u32, S: Store<OFFSET_BITS>>(
     store: &mut S,
     root: EntryRef<OFFSET_BITS>,
@@ -49,7 +49,7 @@ fn take<const OFFSET_BITS: u32, S: Store<OFFSET_BITS>>(
     Ok(next)
 }
 
-/// The map of these documents, each with the reference of its items, without those that are taken out again.
+/// Makes the map of these documents, each with the reference of its items, without those that are removed again.
 fn fill<const OFFSET_BITS: u32, S: Store<OFFSET_BITS>>(
     store: &mut S,
     pairs: &[(u32, u32)],
@@ -69,7 +69,7 @@ fn fill<const OFFSET_BITS: u32, S: Store<OFFSET_BITS>>(
     Ok(root)
 }
 
-/// The pairs of a map from a document on.
+/// Returns the pairs of a map from a document on.
 fn walked<const OFFSET_BITS: u32, F: Frozen<OFFSET_BITS>>(
     alloc: Global,
     frozen: &mut F,
@@ -97,7 +97,7 @@ pub struct Seen {
     pub pairs: Vec<(u64, u64)>,
 }
 
-/// What is seen of a map at a document.
+/// Returns what is seen of a map at a document.
 fn look<const OFFSET_BITS: u32, S: Store<OFFSET_BITS>>(
     alloc: Global,
     store: &mut S,
@@ -119,7 +119,7 @@ fn look<const OFFSET_BITS: u32, S: Store<OFFSET_BITS>>(
     })
 }
 
-/// Fills a map in a store that is new, and looks at it at a document.
+/// Fills a map in a new store, and looks at it at a document.
 fn fill_and_look<const OFFSET_BITS: u32, W: Work<OFFSET_BITS>>(
     alloc: Global,
     store: &mut EntryStore<OFFSET_BITS, W>,

@@ -31,7 +31,7 @@ fn a_class_is_the_least_that_holds_the_words(rt: HostRuntime) {
     }
 }
 
-/// The count of an array that is added to a store that is new, its first item and its last.
+/// Returns the count of an array that is added to a new store, its first item and its last.
 fn ends_of<const OFFSET_BITS: u32, S: Store<OFFSET_BITS>>(
     store: &mut S,
     items: &[u64],
@@ -52,7 +52,7 @@ fn ends_of<const OFFSET_BITS: u32, S: Store<OFFSET_BITS>>(
     Ok((count, first, get(store, array, count - 1)))
 }
 
-/// The same, and how many records of the array's class were made.
+/// The same, with the number of records made of the array's class.
 fn kept_in<const OFFSET_BITS: u32, W: Work<OFFSET_BITS>>(
     store: &mut EntryStore<OFFSET_BITS, W>,
     items: &[u64],
@@ -72,7 +72,7 @@ fn kept(alloc: Global, items: &[u64]) -> Result<((u32, u64, u64), u64), AllocErr
     kept_in::<22, _>(&mut store, items)
 }
 
-/// Whether the first so many odd numbers come to this count, first item and last, and to one record.
+/// Returns whether an array of the first odd numbers has this count, first item and last, and is one record.
 fn are_kept(alloc: Global, many: usize, ends: (u32, u64, u64)) -> Result<bool, AllocError> {
     let mut items = [0; 1023];
     for i in 0..1023 {
@@ -84,7 +84,7 @@ fn are_kept(alloc: Global, many: usize, ends: (u32, u64, u64)) -> Result<bool, A
 #[test]
 fn an_array_reads_back(rt: HostRuntime) -> Result<(), Fail> {
     let alloc = rt.alloc();
-    // how many items; their count, the first and the last
+    // the number of items; their count, the first and the last
     let rows = [
         (0, (0, 0, 0)),
         (1, (1, 1, 1)),

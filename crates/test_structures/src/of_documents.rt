@@ -2,14 +2,14 @@ use crate::maps::see;
 use std::alloc::{AllocError, Global};
 use std::test::Fail;
 
-/// The documents that are set in order, each with the reference of its items, and those that are removed then.
+/// The documents that are set in order, each with the reference of its items, and those that are then removed.
 #[derive(Clone, Copy)]
 struct Made<'a> {
     pairs: &'a [(u32, u32)],
     taken: &'a [u32],
 }
 
-/// Whether a map at a document has these items, and these pairs from it on.
+/// Returns whether a map at a document has these items, and these pairs from it on.
 fn shows(
     alloc: Global,
     made: Made<'_>,
@@ -21,7 +21,7 @@ fn shows(
     Ok(seen.items == items && seen.pairs.as_slice() == rest)
 }
 
-/// Whether the root of a map is 0.
+/// Returns whether the root of a map is 0.
 fn leaves_nothing(alloc: Global, made: Made<'_>) -> Result<bool, AllocError> {
     Ok(see(alloc, made.pairs, made.taken, 2)?.empty)
 }
@@ -33,7 +33,7 @@ fn a_map_by_document_is_sought_between_its_documents(rt: HostRuntime) -> Result<
         pairs: &[],
         taken: &[],
     };
-    // the first and the last document that can be
+    // the lowest and the highest document number
     let ends = Made {
         pairs: &[(1_048_575, 7), (1, 8)],
         taken: &[],
@@ -62,7 +62,7 @@ fn a_map_by_document_is_sought_between_its_documents(rt: HostRuntime) -> Result<
 #[test]
 fn a_document_is_set_once_more_and_removed(rt: HostRuntime) -> Result<(), Fail> {
     let alloc = rt.alloc();
-    // without items it is there, and its reference is 0; it is set once more to the highest reference, and to none
+    // without items the document exists, and its reference is 0; it is then set to the highest reference, and to none
     let twice = Made {
         pairs: &[(2, 20), (5, 0), (2, u32::MAX)],
         taken: &[],
@@ -90,7 +90,7 @@ fn a_document_is_set_once_more_and_removed(rt: HostRuntime) -> Result<(), Fail> 
     Ok(())
 }
 
-/// The first 40 multiples of 3, each with its number: they stand in several leaves.
+/// Returns the first 40 multiples of 3, each with its number. They lie in several leaves.
 fn multiples(alloc: Global) -> Result<Vec<(u32, u32)>, AllocError> {
     let mut pairs = Vec::new(alloc);
     for i in 1..41u32 {
@@ -99,7 +99,7 @@ fn multiples(alloc: Global) -> Result<Vec<(u32, u32)>, AllocError> {
     Ok(pairs)
 }
 
-/// Whether so many of these documents come from one on, and the first of them.
+/// Returns whether this many of these documents follow from one on, and the first of them is as expected.
 fn walks(
     alloc: Global,
     pairs: &[(u32, u32)],

@@ -9,7 +9,7 @@ use std::alloc::{AllocError, Global};
 use std::test::Fail;
 use store_api::Store;
 
-/// What the list of these documents comes to in a store that is new, and how many records of width 16 were made.
+/// Returns what the list of these documents is in a new store, and how many records of width 16 were made.
 fn made_in<const OFFSET_BITS: u32, W: Work<OFFSET_BITS>>(
     store: &mut EntryStore<OFFSET_BITS, W>,
     first: u32,
@@ -40,8 +40,8 @@ fn made(
     made_in::<22, _>(&mut store, first, last, weight, again)
 }
 
-/// Whether this is what the list of these documents comes to, or where `again` says so, the list after the document behind the last was put
-/// in and taken out.
+/// Returns whether the list of these documents is as expected; with `again`, the list after one more document was
+/// added and removed.
 fn is_made(
     alloc: Global,
     (first, last): (u32, u32),
@@ -83,7 +83,7 @@ fn a_weight_has_32_bits(rt: HostRuntime) -> Result<(), Fail> {
     Ok(())
 }
 
-/// The documents from one to another, each with this weight, as a cursor tells them of the list in a store that is new.
+/// Returns the documents from one to another, each with this weight, by a cursor over their list in a new store.
 fn walked_in<const OFFSET_BITS: u32, W: Work<OFFSET_BITS>>(
     alloc: Global,
     store: &mut EntryStore<OFFSET_BITS, W>,
@@ -107,7 +107,7 @@ fn walked(alloc: Global, first: u32, last: u32, weight: i32) -> Result<Vec<(u32,
     walked_in::<22, _>(alloc, &mut store, first, last, weight)
 }
 
-/// Whether a walk of the list of these documents has so many, from one document with its weight to another.
+/// Returns whether a walk of the list of these documents has this many, from one document with its weight to another.
 fn is_walked(
     alloc: Global,
     (first, last): (u32, u32),
@@ -123,7 +123,7 @@ fn is_walked(
 fn a_walk_has_each_document_with_its_weight(rt: HostRuntime) -> Result<(), Fail> {
     let alloc = rt.alloc();
     let of_record = [Some((7, i32::MIN)), Some((8, i32::MIN))];
-    // a tree, of which the last document is the ninth
+    // a tree, with the ninth document as its last
     let of_tree = [Some((992, i32::MAX)), Some((1000, i32::MAX))];
     let rows = [
         ((7, 8), i32::MIN, 2, of_record),

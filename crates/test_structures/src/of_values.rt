@@ -13,7 +13,7 @@ use std::test::Fail;
 use store_api::Store;
 use unique_store::{add, compare, get};
 
-/// The first two words of the record of a value that is added to a store that is new, and whether it reads back.
+/// Returns the first two words of the record of a value that is added to a new store, and whether it reads back.
 fn told_of<const OFFSET_BITS: u32, S: Store<OFFSET_BITS>>(
     alloc: Global,
     store: &mut S,
@@ -34,7 +34,7 @@ fn told_of<const OFFSET_BITS: u32, S: Store<OFFSET_BITS>>(
     Ok((first, second, back == *value))
 }
 
-/// The same, and how many records were made of the class of so many words.
+/// The same, with the number of records made of the class of this many words.
 fn kept_in<const OFFSET_BITS: u32, W: Work<OFFSET_BITS>>(
     alloc: Global,
     store: &mut EntryStore<OFFSET_BITS, W>,
@@ -62,7 +62,7 @@ fn kept(
     kept_in::<22, _>(alloc, &mut store, value, value_type, words)
 }
 
-/// Whether a long is kept as eight and these bits, in one record.
+/// Returns whether a long is stored as eight and these bits, in one record.
 fn is_long_kept(alloc: Global, number: i64, bits: u64) -> Result<bool, AllocError> {
     let kept = kept(alloc, &Value::Long(number), ValueType::Long, 2)?;
     Ok(kept == (8, bits, true, 1))
@@ -86,13 +86,13 @@ fn a_long_is_eight_and_its_bits(rt: HostRuntime) -> Result<(), Fail> {
     Ok(())
 }
 
-/// What a text comes to: its two words, whether it reads back, and how many records of its class there are.
+/// Returns the two words of a text, whether it reads back, and the number of records of its class.
 fn text_kept(alloc: Global, text: Text) -> Result<(u64, u64, bool, u64), AllocError> {
     let words = 1 + (text.as_str().len().min(1024) + 7) / 8;
     kept(alloc, &Value::Text(text), ValueType::Text, words as u32)
 }
 
-/// Whether a text is kept as so many bytes, of which the first eight are these, in one record.
+/// Returns whether a text is stored as this many bytes, which begin with these eight, in one record.
 fn is_text_kept(alloc: Global, text: &str, bytes: u64, first: u64) -> Result<bool, AllocError> {
     if text.len() > Text::MAX_LEN {
         return Ok(false);
@@ -119,7 +119,7 @@ fn a_text_is_its_length_and_its_bytes(rt: HostRuntime) -> Result<(), Fail> {
     Ok(())
 }
 
-/// A text of so many bytes, 1,024 at most, each of which is `a` but for the last.
+/// Returns a text of this many bytes, at most 1,024, which are all `a` except the last.
 fn text_of(alloc: Global, bytes: usize, last: char) -> Result<Text, AllocError> {
     let mut text = String::new(alloc);
     for i in 1..bytes {
@@ -134,7 +134,7 @@ fn text_of(alloc: Global, bytes: usize, last: char) -> Result<Text, AllocError> 
     Ok(Text::new(text))
 }
 
-/// Whether a text of so many bytes is kept in one record, and reads back.
+/// Returns whether a text of this many bytes is stored in one record, and reads back.
 fn are_bytes_kept(alloc: Global, bytes: usize) -> Result<bool, AllocError> {
     let (first, _, same, made) = text_kept(alloc, text_of(alloc, bytes, 'b')?)?;
     Ok(first == bytes as u64 && same && made == 1)
@@ -154,7 +154,7 @@ fn a_text_reads_back_at_each_edge_of_a_class(rt: HostRuntime) -> Result<(), Fail
     Ok(())
 }
 
-/// Whether this is the order of a value that is added to a store that is new and another of its type.
+/// Returns whether a value that is added to a new store has this order with another value of its type.
 fn is_order_in<const OFFSET_BITS: u32, W: Work<OFFSET_BITS>>(
     store: &mut EntryStore<OFFSET_BITS, W>,
     stored: &Value,
@@ -220,7 +220,7 @@ fn is_text_order(
     is_order(alloc, &Value::Text(stored), &Value::Text(given), wanted)
 }
 
-/// Whether this is the order of two texts, each told by its bytes and its last one.
+/// Returns whether two texts, given by their length and last byte, have this order.
 fn is_order_of(
     alloc: Global,
     stored: (usize, char),
@@ -235,7 +235,7 @@ fn is_order_of(
 #[test]
 fn texts_are_in_order_by_their_bytes(rt: HostRuntime) -> Result<(), Fail> {
     let alloc = rt.alloc();
-    // the bytes of each text and its last one, and the order
+    // the length of each text and its last byte, and the order
     let rows = [
         ((0, 'b'), (0, 'b'), Ordering::Equal),
         ((0, 'b'), (1, 'b'), Ordering::Less),
@@ -244,11 +244,11 @@ fn texts_are_in_order_by_their_bytes(rt: HostRuntime) -> Result<(), Fail> {
         ((9, 'c'), (9, 'b'), Ordering::Greater),
         ((1024, 'b'), (1024, 'c'), Ordering::Less),
         ((1024, 'c'), (1024, 'b'), Ordering::Greater),
-        // a front is less than the whole, and a byte decides before the length
+        // a prefix is less than the whole, and a byte decides before the length
         ((7, 'a'), (8, 'a'), Ordering::Less),
         ((17, 'a'), (16, 'a'), Ordering::Greater),
         ((3, 'b'), (1000, 'a'), Ordering::Greater),
-        // a zero byte behind a text is more than its end
+        // a zero byte after a text is greater than its end
         ((3, '\0'), (2, 'a'), Ordering::Greater),
         ((8, 'a'), (9, '\0'), Ordering::Less),
     ];

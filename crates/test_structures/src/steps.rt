@@ -10,7 +10,7 @@ use posting_store::{Posting, add, list_law, remove, walk};
 use std::alloc::{AllocError, Global};
 use store_api::Store;
 
-/// Puts a document in.
+/// Adds a document.
 fn put<const OFFSET_BITS: u32, S: Store<OFFSET_BITS>>(
     store: &mut S,
     list: Posting,
@@ -26,7 +26,7 @@ fn put<const OFFSET_BITS: u32, S: Store<OFFSET_BITS>>(
     }
 }
 
-/// Puts a document in and takes it out.
+/// Adds a document and removes it.
 fn put_and_take<const OFFSET_BITS: u32, S: Store<OFFSET_BITS>>(
     store: &mut S,
     list: Posting,
@@ -45,7 +45,7 @@ fn put_and_take<const OFFSET_BITS: u32, S: Store<OFFSET_BITS>>(
     }
 }
 
-/// The list of the documents from one to another, each with this weight.
+/// Makes the list of the documents from one to another, each with this weight.
 fn listed<const OFFSET_BITS: u32, S: Store<OFFSET_BITS>>(
     store: &mut S,
     first: u32,
@@ -65,7 +65,7 @@ fn listed<const OFFSET_BITS: u32, S: Store<OFFSET_BITS>>(
     Ok(list)
 }
 
-/// Whether a list is a tree, and the first two words of its record or its root.
+/// Returns whether a list is a tree, and the first two words of its record or its root.
 fn words_of<const OFFSET_BITS: u32, S: Store<OFFSET_BITS>>(
     store: &mut S,
     list: Posting,
@@ -81,7 +81,7 @@ fn words_of<const OFFSET_BITS: u32, S: Store<OFFSET_BITS>>(
     (list.word() % 2 == 1, first, second)
 }
 
-/// The documents of a list with their weights, as its cursor tells them.
+/// Returns the documents of a list with their weights, by its cursor.
 fn walked<const OFFSET_BITS: u32, F: Frozen<OFFSET_BITS>>(
     alloc: Global,
     frozen: &mut F,
@@ -101,8 +101,8 @@ fn walked<const OFFSET_BITS: u32, F: Frozen<OFFSET_BITS>>(
     Ok(postings)
 }
 
-/// What the list of the documents from one to another comes to in a store that is new, as `words_of` tells it; or where `again` says so,
-/// the list after the document behind the last was put in and taken out.
+/// Returns what the list of the documents from one to another is in a new store, as `words_of` describes it; with
+/// `again`, the list after one more document was added and removed.
 pub fn form_of<const OFFSET_BITS: u32, S: Store<OFFSET_BITS>>(
     store: &mut S,
     first: u32,
@@ -123,7 +123,7 @@ pub fn form_of<const OFFSET_BITS: u32, S: Store<OFFSET_BITS>>(
     Ok(words_of(store, list))
 }
 
-/// The documents from one to another with their weights, as a cursor tells them of the list in a store that is new.
+/// Returns the documents from one to another with their weights, by a cursor over their list in a new store.
 pub fn walk_of<const OFFSET_BITS: u32, S: Store<OFFSET_BITS>>(
     alloc: Global,
     store: &mut S,

@@ -6,7 +6,7 @@ use mem_work::{MemWork, OneRecord};
 use std::alloc::{AllocError, Global};
 use store_api::Store;
 
-/// A store over eight buffers of 8,192 words, of which nothing is made yet.
+/// Creates a store over eight buffers of 8,192 words, in which nothing is made.
 pub fn new_store(alloc: Global) -> Result<EntryStore<22, MemWork<22, OneRecord>>, AllocError>
     ensures new { IfOk result (λ s. IsNew (⟦<EntryStore<22, MemWork<22, OneRecord>> as Store<22>>⟧.ledger s)) }
 {

@@ -6,14 +6,14 @@ use number_tree::{NumberTree, TreeLayout};
 use std::alloc::{AllocError, Global};
 use store_api::Store;
 
-/// The next number of a fixed order that looks like none.
+/// Returns the next number of a fixed sequence that looks random.
 pub fn scrambled(number: u64) -> u64 {
     let mut next = number ^ (number << 13);
     next ^= next >> 7;
     next ^ (next << 17)
 }
 
-/// Where a key is among sorted pairs, or would be.
+/// Returns where a key is among sorted pairs, or would be.
 fn place_of(pairs: &Vec<(u64, u64)>, key: u64) -> usize {
     for i in 0..pairs.len() {
         if pairs[i].0 >= key {
@@ -23,7 +23,7 @@ fn place_of(pairs: &Vec<(u64, u64)>, key: u64) -> usize {
     pairs.len()
 }
 
-/// Puts a pair among sorted pairs.
+/// Inserts a pair into sorted pairs.
 fn put(pairs: &mut Vec<(u64, u64)>, key: u64, value: u64) -> Result<(), AllocError> {
     let place = place_of(pairs, key);
     if place < pairs.len() && pairs[place].0 == key {
@@ -34,7 +34,7 @@ fn put(pairs: &mut Vec<(u64, u64)>, key: u64, value: u64) -> Result<(), AllocErr
     Ok(())
 }
 
-/// Takes a key out of sorted pairs, and answers whether it was there.
+/// Removes a key from sorted pairs, and returns whether it was there.
 fn take(pairs: &mut Vec<(u64, u64)>, key: u64) -> bool {
     let place = place_of(pairs, key);
     let there = place < pairs.len() && pairs[place].0 == key;
@@ -44,8 +44,8 @@ fn take(pairs: &mut Vec<(u64, u64)>, key: u64) -> bool {
     there
 }
 
-/// 500 changes of a tree and of sorted pairs, `puts` of eight of them puts; the next number, or none where the
-/// two differed.
+/// Makes 500 changes of a tree and of sorted pairs; `puts` of eight changes are puts. Returns the next number, or
+/// `None` if the two differ.
 fn change<const OFFSET_BITS: u32, S: Store<OFFSET_BITS, Layout = TreeLayout>>(
     tree: &mut NumberTree<OFFSET_BITS, S>,
     pairs: &mut Vec<(u64, u64)>,
@@ -68,7 +68,7 @@ fn change<const OFFSET_BITS: u32, S: Store<OFFSET_BITS, Layout = TreeLayout>>(
     Ok(Some(number))
 }
 
-/// Whether a tree is committed, and has these pairs.
+/// Returns whether a tree can be committed and has these pairs.
 fn is_same<const OFFSET_BITS: u32, S: Store<OFFSET_BITS, Layout = TreeLayout>>(
     alloc: Global,
     tree: &mut NumberTree<OFFSET_BITS, S>,
@@ -80,7 +80,8 @@ fn is_same<const OFFSET_BITS: u32, S: Store<OFFSET_BITS, Layout = TreeLayout>>(
     Ok(tree.pairs(alloc)?.as_slice() == pairs)
 }
 
-/// Rounds of 500 changes, each with a commit; whether the tree has the pairs of the list after each.
+/// Makes rounds of 500 changes, each with a commit, and returns whether the tree has the pairs of the list after
+/// each.
 fn are_same<const OFFSET_BITS: u32, S: Store<OFFSET_BITS, Layout = TreeLayout>>(
     alloc: Global,
     tree: &mut NumberTree<OFFSET_BITS, S>,
@@ -108,7 +109,8 @@ fn are_seen(seen: Option<Seen>, pairs: &[(u64, u64)]) -> bool {
     }
 }
 
-/// The rounds of a row on a new tree: whether it has the pairs of the list after each, and at the end more than two nodes.
+/// Makes the rounds of a row on a new tree. Returns whether it has the pairs of the list after each round, and more
+/// than two nodes at the end.
 fn are_right<const OFFSET_BITS: u32, S: Store<OFFSET_BITS, Layout = TreeLayout> + Drop>(
     alloc: Global,
     tree: NumberTree<OFFSET_BITS, S>,
@@ -122,7 +124,7 @@ fn are_right<const OFFSET_BITS: u32, S: Store<OFFSET_BITS, Layout = TreeLayout> 
     Ok(are_seen(look(alloc, tree)?, pairs))
 }
 
-/// Says what comes of a row: rounds of 500 changes, each with so many puts among eight.
+/// Returns the result of a row: for each round of 500 changes, the row says how many of eight are puts.
 pub fn answer<const OFFSET_BITS: u32, S: Store<OFFSET_BITS, Layout = TreeLayout> + Drop>(
     alloc: Global,
     tree: NumberTree<OFFSET_BITS, S>,

@@ -5,7 +5,7 @@ use number_tree::{NumberTree, TreeLayout};
 use std::alloc::AllocError;
 use store_api::{Store, StoreError};
 
-/// Whether each call of the example answers as it has to.
+/// Returns whether each call of the example has the expected result.
 fn is_right<const OFFSET_BITS: u32, S: Store<OFFSET_BITS, Layout = TreeLayout>>(
     map: &mut NumberTree<OFFSET_BITS, S>,
 ) -> bool {
@@ -25,7 +25,7 @@ fn is_right<const OFFSET_BITS: u32, S: Store<OFFSET_BITS, Layout = TreeLayout>>(
     put & got & walked & (last == Err(full)) & map.get(4999).is_none()
 }
 
-/// Says what comes of the example.
+/// Returns the result of the example.
 pub fn answer<const OFFSET_BITS: u32, S: Store<OFFSET_BITS, Layout = TreeLayout> + Drop>(
     map: NumberTree<OFFSET_BITS, S>,
     line: &mut String,

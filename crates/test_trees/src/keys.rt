@@ -1,4 +1,4 @@
-//! How a stored number compares, and keys that are equal and yet other words.
+//! How a stored number compares, and equal keys with different words.
 ghost use Rattle.std.specs.Prelude.{◌≡◌, false, IfOk};
 ghost use Rattle.store_api.specs.Ledgers.{Ledger};
 ghost use Rattle.test_trees.specs.Tens.{HoldsTens};
@@ -14,7 +14,7 @@ use std::cmp::Ordering;
 use std::collections::BTreeMap;
 use store_api::{Store, StoreError};
 
-/// Says what comes of a row: a stored number beside 2 to the power of 40.
+/// Returns the result of a row: the comparison of a stored number with 2 to the power of 40.
 pub fn beside<const OFFSET_BITS: u32, F: Frozen<OFFSET_BITS>>(
     frozen: &mut F,
     stored: u64,
@@ -27,7 +27,7 @@ pub fn beside<const OFFSET_BITS: u32, F: Frozen<OFFSET_BITS>>(
     })
 }
 
-/// A tree of 10 to 170 by tens, in which the last keys of both leaves have become other words.
+/// Makes a tree of 10 to 170 in steps of ten, in which the last keys of both leaves are replaced by other words.
 fn two_replaced<const OFFSET_BITS: u32, S: Store<OFFSET_BITS>>(
     store: &mut S,
 ) -> Result<EntryRef<OFFSET_BITS>, StoreError>
@@ -43,7 +43,7 @@ fn two_replaced<const OFFSET_BITS: u32, S: Store<OFFSET_BITS>>(
     put_word(store, root, 179, 2)
 }
 
-/// Words 0 to 3 of a root, and words 0, 10 and 26 of its first child.
+/// Writes words 0 to 3 of a root, and words 0, 10 and 26 of its first child.
 fn push_words(
     line: &mut String,
     records: &BTreeMap<u32, Vec<u64>>,
@@ -65,7 +65,7 @@ fn push_words(
     )
 }
 
-/// Says what comes of a row: the words of the nodes in which the last key of each leaf was replaced.
+/// Returns the result of a row: the words of the nodes after the last key of each leaf was replaced.
 pub fn replaced<const OFFSET_BITS: u32, S: Store<OFFSET_BITS>>(
     alloc: Global,
     store: &mut S,

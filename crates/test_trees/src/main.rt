@@ -1,6 +1,6 @@
-//! Trees over their public calls, as rows of standard input ask for them: how nodes are filled, where keys are sought, many changes
-//! beside a sorted list, trees built at once and touched, a full store, and keys that are equal and yet other words. A row that
-//! differs prints itself.
+//! Tests of trees over their public calls, as selected by rows of standard input: how nodes are filled, where keys
+//! are found, many changes beside a sorted list, trees that are built at once or touched, a full store, and equal
+//! keys with different words. A wrong row is printed.
 #![tactic(auto)]
 
 mod changes;

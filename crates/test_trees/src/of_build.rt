@@ -1,4 +1,4 @@
-//! Trees built at once, by the number of their pairs.
+//! Trees that are built at once, by the number of their pairs.
 ghost use Rattle.std.specs.Prelude.{◌≡◌, ◌<◌, false, IfOk};
 ghost use Rattle.std.specs.List.Sorted.{IsStrictlySortedBy};
 ghost use Rattle.std.specs.Ordering.{nat_cmp};
@@ -13,7 +13,7 @@ use frozen_btree::{NumberKey, build};
 use std::alloc::{AllocError, Global};
 use store_api::{Store, StoreError};
 
-/// The numbers from 0 on.
+/// Returns the numbers from 0 on.
 fn numbers(alloc: Global, count: u64) -> Result<Vec<u64>, AllocError>
     ensures sorted { IfOk result (λ numbers. IsStrictlySortedBy nat_cmp numbers.items) }
 {
@@ -38,7 +38,7 @@ fn build_numbers<const OFFSET_BITS: u32, S: Store<OFFSET_BITS>>(
     build::<OFFSET_BITS, S, NumberKey>(alloc, store, numbers, numbers)
 }
 
-/// Whether each key is its place, and its own value.
+/// Returns whether each key is its index, and its own value.
 fn are_numbers(pairs: &[(u64, u64)]) -> bool {
     let mut place: u64 = 0;
     for pair in pairs {
@@ -50,7 +50,8 @@ fn are_numbers(pairs: &[(u64, u64)]) -> bool {
     true
 }
 
-/// How many nodes the tree has, the first words of the upper ones, what the root counts and how many pairs there are.
+/// Writes how many nodes the tree has, the first words of the upper ones, the count in the root, and the number of
+/// pairs.
 fn push_built(line: &mut String, seen: &Seen) -> Result<(), AllocError> {
     push_number(line, seen.nodes)?;
     push_seen(line, seen)?;
@@ -61,7 +62,7 @@ fn push_built(line: &mut String, seen: &Seen) -> Result<(), AllocError> {
     })
 }
 
-/// A tree of numbers is built in a store, and looked at.
+/// Builds a tree of numbers in a store, and looks at it.
 fn built_in<const OFFSET_BITS: u32, S: Store<OFFSET_BITS>>(
     alloc: Global,
     store: &mut S,
@@ -76,7 +77,7 @@ fn built_in<const OFFSET_BITS: u32, S: Store<OFFSET_BITS>>(
     }
 }
 
-/// Says what comes of a row, a tree of so many numbers.
+/// Returns the result of a row, a tree of this many numbers.
 pub fn answer<const OFFSET_BITS: u32, S: Store<OFFSET_BITS>>(
     alloc: Global,
     store: &mut S,

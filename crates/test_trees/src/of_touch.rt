@@ -1,4 +1,4 @@
-//! Trees touched, by which nodes on a key's way lie in the sealed buffer.
+//! Trees that are touched, by which nodes on a key's way lie in the sealed buffer.
 ghost use Rattle.std.specs.Prelude.{◌≡◌, ◌<◌, IfOk};
 ghost use Rattle.tree_read.specs.Trees.{IsRootNode};
 ghost use Rattle.number_tree.specs.Maps.{HoldsTree};
@@ -15,7 +15,7 @@ use std::alloc::{AllocError, Global};
 use std::collections::BTreeMap;
 use store_api::{Store, StoreError};
 
-/// The child of a node above the leaves under which a key is sought.
+/// Returns the child of a node above the leaves under which a key is sought.
 fn child_of(words: &[u64], key: u64) -> u64 {
     let used = (word_in(words, 0) % 256) as usize;
     for slot in 0..used {
@@ -45,7 +45,7 @@ fn push_way(
     Ok(())
 }
 
-/// Puts 6,000 keys in, and then makes so many changes, most of which take a key out.
+/// Puts 6,000 keys, and then makes a number of changes, most of which remove a key.
 fn wear<const OFFSET_BITS: u32, S: Store<OFFSET_BITS, Layout = TreeLayout>>(
     tree: &mut NumberTree<OFFSET_BITS, S>,
     changes: u64,
@@ -85,7 +85,7 @@ fn touch_sealed<const OFFSET_BITS: u32, S: Store<OFFSET_BITS>>(
     }
 }
 
-/// Says of each node of a way whether it lies in a buffer.
+/// Writes for each node of a way whether it lies in a buffer.
 fn push_lies<const OFFSET_BITS: u32>(
     line: &mut String,
     way: &[u64],
@@ -101,7 +101,7 @@ fn push_lies<const OFFSET_BITS: u32>(
     Ok(())
 }
 
-/// Says of each node of a way whether it is another in another way.
+/// Writes for each node of a way whether it differs in another way.
 fn push_others(line: &mut String, old: &[u64], new: &[u64]) -> Result<(), AllocError> {
     line.push_str(" ")?;
     for i in 0..old.len() {
@@ -110,7 +110,7 @@ fn push_others(line: &mut String, old: &[u64], new: &[u64]) -> Result<(), AllocE
     Ok(())
 }
 
-/// A tree's records, its root, and the way of a key.
+/// The records of a tree, its root, and the way to a key.
 #[derive(Drop)]
 struct Walked {
     records: BTreeMap<u32, Vec<u64>>,
@@ -118,7 +118,7 @@ struct Walked {
     way: Vec<u64>,
 }
 
-/// The records of a tree, and the way of a key in it.
+/// Returns the records of a tree, and the way to a key in it.
 fn walked_in<const OFFSET_BITS: u32, F: Frozen<OFFSET_BITS>>(
     alloc: Global,
     frozen: &mut F,
@@ -137,7 +137,7 @@ fn walked_in<const OFFSET_BITS: u32, F: Frozen<OFFSET_BITS>>(
     Ok(walked)
 }
 
-/// Whether two trees have the same pairs, to the slow checker.
+/// Returns whether the slow checker finds the same pairs in two trees.
 fn same_pairs(alloc: Global, old: &Walked, new: &Walked) -> Result<bool, AllocError> {
     let Ok(pairs) = check_tree(alloc, Keys::Numbers, &old.records, old.root) else {
         return Ok(false);
@@ -148,8 +148,8 @@ fn same_pairs(alloc: Global, old: &Walked, new: &Walked) -> Result<bool, AllocEr
     }
 }
 
-/// Says what a touch met and did: which nodes of the way lay in the sealed buffer, which of them are others now, which
-/// lie there still, and whether the pairs are the same.
+/// Writes what a touch found and did: which nodes of the way lay in the sealed buffer, which of them were replaced,
+/// which still lie there, and whether the pairs are the same.
 fn push_touched<const OFFSET_BITS: u32>(
     alloc: Global,
     line: &mut String,
@@ -167,7 +167,7 @@ fn push_touched<const OFFSET_BITS: u32>(
     })
 }
 
-/// Touches a tree at a key, and says what that met and did.
+/// Touches a tree at a key, and writes what the touch found and did.
 fn touch_in<const OFFSET_BITS: u32, S: Store<OFFSET_BITS>>(
     alloc: Global,
     store: &mut S,
@@ -186,8 +186,8 @@ fn touch_in<const OFFSET_BITS: u32, S: Store<OFFSET_BITS>>(
     push_touched::<OFFSET_BITS>(alloc, line, &old, &new, buffer)
 }
 
-/// Says what comes of a row: after so many changes, for a key, which nodes of its way lay in the sealed buffer, which were made
-/// anew, which lie there still, and whether the pairs are the same.
+/// Returns the result of a row: after a number of changes, for a key, which nodes of its way lay in the sealed
+/// buffer, which were copied, which still lie there, and whether the pairs are the same.
 pub fn answer<const OFFSET_BITS: u32, S: Store<OFFSET_BITS, Layout = TreeLayout> + Drop>(
     alloc: Global,
     tree: NumberTree<OFFSET_BITS, S>,

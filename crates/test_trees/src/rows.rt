@@ -1,5 +1,5 @@
-//! Rows of standard input: a word that says what is done, with numbers or steps behind it, and then `said ANSWER`, what must come of
-//! it. Other lines are remarks.
+//! Rows of standard input: a word that selects the test, followed by numbers or steps; and then `said ANSWER`, the
+//! expected result. Other lines are comments.
 ghost use Rattle.std.specs.Prelude.{◌≤◌, ◌<◌};
 ghost use Rattle.entry_ref.specs.References.{offset_limit, buffer_limit};
 
@@ -12,7 +12,7 @@ use std::io;
 use store_api::Store;
 use test_kit::Tally;
 
-/// What a row does, and over how many buffers.
+/// The test of a row, and its number of buffers.
 #[derive(Clone, Copy)]
 struct Row<'a> {
     kind: &'a str,
@@ -22,7 +22,7 @@ struct Row<'a> {
     ghost most: { buffers ≤ 64 },
 }
 
-/// The row of a line, if it is one.
+/// Returns the row of a line, if it is one.
 fn row_in(line: &str) -> Option<Row<'_>> {
     let (kind, words) = line.split_once(' ').unwrap_or((line, ""));
     let buffers = match kind {
@@ -42,7 +42,7 @@ fn row_in(line: &str) -> Option<Row<'_>> {
     })
 }
 
-/// Says what comes of a row on a new tree.
+/// Returns the result of a row on a new tree.
 fn answer_in<const OFFSET_BITS: u32, S: Store<OFFSET_BITS, Layout = TreeLayout> + Drop>(
     alloc: Global,
     tree: NumberTree<OFFSET_BITS, S>,
@@ -58,7 +58,7 @@ fn answer_in<const OFFSET_BITS: u32, S: Store<OFFSET_BITS, Layout = TreeLayout> 
     }
 }
 
-/// The same of the rows that are about its store.
+/// Returns the result of a row that tests the tree's store.
 fn answer_on<const OFFSET_BITS: u32, S: Store<OFFSET_BITS, Layout = TreeLayout> + Drop>(
     alloc: Global,
     tree: NumberTree<OFFSET_BITS, S>,
@@ -73,7 +73,7 @@ fn answer_on<const OFFSET_BITS: u32, S: Store<OFFSET_BITS, Layout = TreeLayout> 
     }
 }
 
-/// Says what comes of a row on a tree in a store of its own.
+/// Returns the result of a row on a tree in a store of its own.
 fn answer<const OFFSET_BITS: u32>(
     alloc: Global,
     row: Row<'_>,
@@ -90,7 +90,7 @@ fn answer<const OFFSET_BITS: u32>(
     )
 }
 
-/// The last row, and what came of it over references of 22 and of 19 bits.
+/// The last row, and its results for references with 22 and with 19 bits.
 #[derive(Drop)]
 struct Rows {
     row: String,

@@ -1,4 +1,4 @@
-//! Steps on a tree, each a word with numbers behind it, and what each answers.
+//! Steps on a tree, each a word followed by numbers, and the result of each.
 
 use crate::texts::{number_at, push_numbers, push_pair, push_said, push_value};
 use crate::trees::{Seen, look};
@@ -6,7 +6,8 @@ use number_tree::{NumberTree, TreeLayout};
 use std::alloc::{AllocError, Global};
 use store_api::Store;
 
-/// Keys from one to below another are put, each its own value, up to the first that is refused, which is then not there.
+/// Puts keys from one to below another, each with itself as its value, up to the first that is refused, which must
+/// then be missing.
 fn fill<const OFFSET_BITS: u32, S: Store<OFFSET_BITS, Layout = TreeLayout>>(
     tree: &mut NumberTree<OFFSET_BITS, S>,
     from: u64,
@@ -29,7 +30,7 @@ fn fill<const OFFSET_BITS: u32, S: Store<OFFSET_BITS, Layout = TreeLayout>>(
     line.push_str(" done")
 }
 
-/// A key is taken out, after which it is not there.
+/// Removes a key, which must then be missing.
 fn take<const OFFSET_BITS: u32, S: Store<OFFSET_BITS, Layout = TreeLayout>>(
     tree: &mut NumberTree<OFFSET_BITS, S>,
     key: u64,
@@ -72,7 +73,7 @@ fn take_steps<const OFFSET_BITS: u32, S: Store<OFFSET_BITS, Layout = TreeLayout>
     Ok(())
 }
 
-/// The first words of the upper nodes, what the root counts and how many pairs there are.
+/// Writes the first words of the upper nodes, the count in the root, and the number of pairs.
 pub fn push_seen(line: &mut String, seen: &Seen) -> Result<(), AllocError> {
     line.push_str(if seen.root == 0 { "; empty" } else { ";" })?;
     push_numbers(line, &seen.heads)?;
@@ -80,7 +81,7 @@ pub fn push_seen(line: &mut String, seen: &Seen) -> Result<(), AllocError> {
     push_numbers(line, &[seen.count, seen.pairs.len() as u64])
 }
 
-/// How the nodes of a tree are filled, or whether it counts its pairs.
+/// Writes how the nodes of a tree are filled, or whether its count is right.
 fn push_look(line: &mut String, seen: &Seen, looks: bool) -> Result<(), AllocError> {
     if looks {
         return push_seen(line, seen);
@@ -89,7 +90,7 @@ fn push_look(line: &mut String, seen: &Seen, looks: bool) -> Result<(), AllocErr
     line.push_str(if counted { "" } else { "; not counted" })
 }
 
-/// What a look at the records of a tree comes to.
+/// Writes the result of a look at the records of a tree.
 fn tell<const OFFSET_BITS: u32, S: Store<OFFSET_BITS, Layout = TreeLayout> + Drop>(
     alloc: Global,
     tree: NumberTree<OFFSET_BITS, S>,
@@ -102,7 +103,7 @@ fn tell<const OFFSET_BITS: u32, S: Store<OFFSET_BITS, Layout = TreeLayout> + Dro
     }
 }
 
-/// Says what comes of a row: `BUFFERS STEPS`, taken on a new tree, and a look at its records.
+/// Returns the result of a row: `BUFFERS STEPS`, on a new tree, and a look at its records.
 pub fn answer<const OFFSET_BITS: u32, S: Store<OFFSET_BITS, Layout = TreeLayout> + Drop>(
     alloc: Global,
     tree: NumberTree<OFFSET_BITS, S>,

@@ -10,7 +10,7 @@ use frozen_btree::{KeyOrder, insert};
 use std::cmp::Ordering;
 use store_api::{Store, StoreError};
 
-/// A number of tens: a stored word reads as its tens, so equal keys may be other words.
+/// A number of tens: a stored word reads as its tens, so equal keys may be different words.
 #[derive(Clone, Copy)]
 pub struct TensKey(pub u64);
 
@@ -38,7 +38,7 @@ impl<const OFFSET_BITS: u32> KeyOrder<OFFSET_BITS> for TensKey {
     ghost steady = { λ m n key h s. refl };
 }
 
-/// Puts a word as a key, in place of one of the same tens, within a unit.
+/// Puts a word as a key, in place of one with the same tens, within a unit.
 pub fn put_word<const OFFSET_BITS: u32, S: Store<OFFSET_BITS>>(
     store: &mut S,
     root: EntryRef<OFFSET_BITS>,

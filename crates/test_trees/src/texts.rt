@@ -1,9 +1,9 @@
-//! What is said of numbers, pairs and refusals.
+//! The texts of numbers, pairs and refusals.
 use arena_api::Oldest;
 use std::alloc::AllocError;
 use store_api::StoreError;
 
-/// The oldest open hold of a store without commits: the first, and the newest.
+/// The oldest open hold of a store without commits, which is the first and the newest.
 pub const FIRST: Oldest = Oldest {
     generation: 0,
     hold: 0,
@@ -11,12 +11,12 @@ pub const FIRST: Oldest = Oldest {
     newest: true,
 };
 
-/// The number that a word is, 0 of any other word.
+/// Returns the number that a word is, or 0 for any other word.
 pub fn number_in(word: &str) -> u64 {
     word.parse::<u64>().unwrap_or(0)
 }
 
-/// The number at a place among words, 0 where there is none.
+/// Returns the number at an index among words, or 0 if there is none.
 pub fn number_at(words: &str, place: usize) -> u64 {
     match words.split(' ').skip(place).next() {
         Some(word) => number_in(word),
@@ -24,12 +24,12 @@ pub fn number_at(words: &str, place: usize) -> u64 {
     }
 }
 
-/// A number, behind a space.
+/// Writes a number after a space.
 pub fn push_number(line: &mut String, number: u64) -> Result<(), AllocError> {
     write!(line, " {number}")
 }
 
-/// Numbers, each behind a space.
+/// Writes numbers, each after a space.
 pub fn push_numbers(line: &mut String, numbers: &[u64]) -> Result<(), AllocError> {
     for number in numbers {
         push_number(line, *number)?;
@@ -51,12 +51,13 @@ pub fn push_pair(line: &mut String, pair: Option<(u64, u64)>) -> Result<(), Allo
     }
 }
 
-/// A crossed mark for what is so, and a dot for what is not.
+/// Writes a cross for true, and a dot for false.
 pub fn push_mark(line: &mut String, is_so: bool) -> Result<(), AllocError> {
     line.push_str(if is_so { "x" } else { "." })
 }
 
-/// Why a change was refused: the width, the active buffers and those on hold of a full store without commits.
+/// Writes why a change was refused: for a full store without commits, the width, the active buffers and those on
+/// hold.
 fn push_refusal(line: &mut String, error: StoreError) -> Result<(), AllocError> {
     let StoreError::Full {
         width,
@@ -78,7 +79,7 @@ fn push_refusal(line: &mut String, error: StoreError) -> Result<(), AllocError> 
     )
 }
 
-/// What a change said: that it is done, or why not.
+/// Writes the result of a change: that it is done, or why not.
 pub fn push_said(line: &mut String, said: Result<(), StoreError>) -> Result<(), AllocError> {
     match said {
         Ok(()) => line.push_str(" done"),

@@ -1,4 +1,4 @@
-//! Trees to be tested, and what their records say.
+//! The trees of tests, and what their records contain.
 ghost use Rattle.std.specs.Prelude.{◌≡◌, ◌≤◌, ◌<◌};
 ghost use Rattle.entry_ref.specs.References.{offset_limit, buffer_limit};
 ghost use Rattle.tree_read.specs.Trees.{IsNode, IsRootNode};
@@ -14,7 +14,7 @@ use std::collections::BTreeMap;
 use store_api::Store;
 use tree_read::{NODE_WORDS, read_head, read_node, read_words};
 
-/// The empty tree in a store of its own, of a number of buffers of 8,192 words.
+/// Creates an empty tree in a store of its own, with a number of buffers of 8,192 words.
 pub fn new_tree<const OFFSET_BITS: u32>(
     alloc: Global,
     buffers: u32,
@@ -34,8 +34,8 @@ pub fn new_tree<const OFFSET_BITS: u32>(
     }
 }
 
-/// What the records of a tree say: its root, the first words of its upper nodes, the second word of its root, how many
-/// nodes there are, and its pairs.
+/// The contents of a tree's records: its root, the first words of its upper nodes, the second word of its root, the
+/// number of nodes, and its pairs.
 #[derive(Drop)]
 pub struct Seen {
     pub root: u32,
@@ -45,7 +45,7 @@ pub struct Seen {
     pub pairs: Vec<(u64, u64)>,
 }
 
-/// The first word of the root, and of each of its children where it is above the leaves.
+/// Returns the first word of the root, and of each of its children if it is above the leaves.
 pub fn heads(
     alloc: Global,
     records: &BTreeMap<u32, Vec<u64>>,
@@ -63,7 +63,7 @@ pub fn heads(
     Ok(heads)
 }
 
-/// Adds the records of a node, and of all nodes below it, to those of others.
+/// Adds the records of a node, and of all nodes below it, to other records.
 fn add_below<const OFFSET_BITS: u32, F: Frozen<OFFSET_BITS>>(
     alloc: Global,
     frozen: &mut F,
@@ -88,7 +88,7 @@ fn add_below<const OFFSET_BITS: u32, F: Frozen<OFFSET_BITS>>(
     Ok(())
 }
 
-/// The records of a tree's nodes.
+/// Returns the records of a tree's nodes.
 pub fn records_of<const OFFSET_BITS: u32, F: Frozen<OFFSET_BITS>>(
     alloc: Global,
     frozen: &mut F,
@@ -105,7 +105,7 @@ pub fn records_of<const OFFSET_BITS: u32, F: Frozen<OFFSET_BITS>>(
     Ok(records)
 }
 
-/// Looks at the records of a tree, where the slow checker finds them to be one.
+/// Looks at the records of a tree, if the slow checker accepts them.
 pub fn look_at<const OFFSET_BITS: u32, F: Frozen<OFFSET_BITS>>(
     alloc: Global,
     frozen: &mut F,
@@ -117,7 +117,7 @@ pub fn look_at<const OFFSET_BITS: u32, F: Frozen<OFFSET_BITS>>(
     seen_in(alloc, &records, root.raw())
 }
 
-/// What the records of a tree say, where it is one.
+/// Returns the contents of a tree's records, if they are a tree.
 fn seen_in(
     alloc: Global,
     records: &BTreeMap<u32, Vec<u64>>,

@@ -1,4 +1,4 @@
-//! The program `attr` with a query that is refused: it ends with 2.
+//! The program `attr` with a query that is refused: its exit status is 2.
 #![tactic(auto)]
 
 use attr_run::{exit_of, run_program};

@@ -7,7 +7,7 @@ use Rattle.entry_ref.specs.declared.images.Image.{Image}
 use Rattle.tree_read.specs.Nodes.{node_words}
 use Rattle.tree_read.specs.Trees.{tree_pairs, by_number, IsTree}
 
--- the words of the root stand here as they are kept
+-- the image of the tree, with the words of its root as they are stored
 abbrev pub two_leaves : Image
 two_leaves = record {
   root = 3074;

@@ -1,5 +1,5 @@
--- Nobody has to read this: proofs, which stand here since the laws of a layout cite them.
--- Where the records of a tree are the same in two maps, the tree is the same.
+-- Proofs, which are in specs/ since the laws of a layout cite them. They are not part of the specification.
+-- If the records of a tree are the same in two maps, the tree is the same.
 use Rattle.std.proofs.Common.{◌≡◌, ℕ, zero, suc, ◌<◌, List, [], ◌∷◌, ◌++◌, length, map, refl, sym, ap, subst, ◌∙◌, arith}
 use Rattle.std.specs.Prelude.{min}
 use Rattle.std.specs.declared.cmp.Ordering.{Ordering}
@@ -19,7 +19,7 @@ pub SameAt-right : (m n : Records) (xs ys : List ℕ) → SameAt (xs ++ ys) m n 
 SameAt-right m n [] ys h = h
 SameAt-right m n (x ∷ xs) ys h = SameAt-right m n xs ys h.1
 
--- what each element says of the records that it reaches stays for all of a list
+-- what holds for each element by the records that it reaches holds for the whole list
 module _ {X : Type 0} (m n : Records) (reach : X → List ℕ) where
   pub flat_map-same : {Y : Type 0} (f g : X → List Y) → ((x : X) → SameAt (reach x) m n → g x ≡ f x)
       → (xs : List X) → SameAt (flat_map reach xs) m n → flat_map g xs ≡ flat_map f xs
@@ -79,7 +79,7 @@ IsNode-same m n least (suc level) ref h node =
       subst (λ ws. AllByRecursion (IsNode n 8 level) (node_values ws)) (sym h.0) below,
     )
 
--- a node is the first of those that it reaches
+-- a node is the first of the nodes that it reaches
 pub node-same : (m n : Records) (level ref : ℕ) → SameAt (nodes_below m level ref) m n → n ref ≡ m ref
 unfolding nodes_below
 node-same m n zero ref h = h.0
@@ -104,7 +104,7 @@ IsRootNode-same m n (suc ref) h some node =
     subst (λ ws. IsNode n (root_least (min 7 (level_of ws))) (min 7 (level_of ws)) (suc ref)) (sym same)
     (IsNode-same m n (root_least (root_level m (suc ref))) (root_level m (suc ref)) (suc ref) h node)
 
--- a tree stays where its nodes and what its keys read as stay
+-- a tree stays the same while its nodes and what its keys read as stay the same
 pub IsTree-same : {V : Type 0} (order : V → V → Ordering) (read : Records → ℕ → V) (m n : Records) (root : ℕ)
     → SameAt (tree_nodes m root) m n
     → map (λ p. read n p.0) (tree_pairs m root) ≡ map (λ p. read m p.0) (tree_pairs m root) → IsTree order read m root
@@ -114,7 +114,7 @@ IsTree-same order read m n root h reads tree = record {
   ascends = subst (IsStrictlySortedBy order) (sym (ap (λ ps. map (λ p. read n p.0) ps) (tree_pairs-same m n root h) ∙ reads)) tree.ascends;
 }
 
--- every node of a tree is there
+-- every node of a tree exists
 pub nodes_there : (m : Records) (least level ref : ℕ) → IsNode m least level ref
     → AllByRecursion (λ q. 0 < length (m q)) (nodes_below m level ref)
 unfolding IsNode nodes_below

@@ -15,16 +15,16 @@ use arena_api::Frozen;
 use entry_ref::EntryRef;
 use std::marker::Model;
 
-/// A place before a pair of a tree, or at the end of it.
+/// A position before a pair of a tree, or at its end.
 #[derive(Drop)]
 pub struct Cursor<const OFFSET_BITS: u32> {
     root: EntryRef<OFFSET_BITS>,
     path: Path<OFFSET_BITS>,
     leaf: EntryRef<OFFSET_BITS>,
     slot: u32,
-    // of the leaf; at the end none
+    // of the leaf; 0 at the end
     used: u32,
-    // of the leaf; at the end any
+    // of the leaf; arbitrary at the end
     words: [u64; NODE_WORDS],
 }
 
@@ -41,7 +41,7 @@ impl<const OFFSET_BITS: u32> Model for Cursor<OFFSET_BITS> {
 }
 
 impl<const OFFSET_BITS: u32> Cursor<OFFSET_BITS> {
-    /// At the end.
+    /// Returns a cursor at the end.
     fn at_end_of(root: EntryRef<OFFSET_BITS>) -> Cursor<OFFSET_BITS>
         ensures { result ≡ record { root = root.entry; path = []; leaf = 0; slot = 0; used = 0; words = replicate NODE_WORDS 0 } }
     {
@@ -55,7 +55,7 @@ impl<const OFFSET_BITS: u32> Cursor<OFFSET_BITS> {
         }
     }
 
-    /// Before the first pair.
+    /// Returns a cursor before the first pair.
     pub fn first<F: Frozen<OFFSET_BITS>>(
         frozen: &mut F,
         root: EntryRef<OFFSET_BITS>,
@@ -73,7 +73,7 @@ impl<const OFFSET_BITS: u32> Cursor<OFFSET_BITS> {
         cursor
     }
 
-    /// Goes on to the first pair below a node that the path leads to.
+    /// Moves to the first pair below the node to which the path leads.
     fn enter<F: Frozen<OFFSET_BITS>>(&mut self, frozen: &mut F, below: EntryRef<OFFSET_BITS>)
         requires leads { Leads (F.records frozen.old) self.old.root self.old.path below }
         ensures at { IsAt (F.records frozen.old) self.new }
@@ -96,7 +96,7 @@ impl<const OFFSET_BITS: u32> Cursor<OFFSET_BITS> {
         self.used = head.used;
     }
 
-    /// Before the first pair whose key is not below the key sought.
+    /// Returns a cursor before the first pair whose key is not below the sought key.
     pub fn seek<F: Frozen<OFFSET_BITS>, K: KeyOrder<OFFSET_BITS>>(
         frozen: &mut F,
         root: EntryRef<OFFSET_BITS>,
@@ -130,7 +130,7 @@ impl<const OFFSET_BITS: u32> Cursor<OFFSET_BITS> {
         cursor
     }
 
-    /// Whether no pair follows.
+    /// Returns whether no pair follows.
     pub fn at_end(&self) -> bool
         ensures pair { IsTrue result ↔ ¬ HasPair self.now }
         ensures pairs { (m : Records) → IsAt m self.now → IsTrue result ↔ (pairs_from m self.now ≡ []) }
@@ -138,7 +138,7 @@ impl<const OFFSET_BITS: u32> Cursor<OFFSET_BITS> {
         self.slot >= self.used
     }
 
-    /// The key of the pair that follows.
+    /// Returns the key of the next pair.
     pub fn key(&self) -> u64
         requires { HasPair self.now }
         ensures { (m : Records) → IsAt m self.now → result ≡ first_key (pairs_from m self.now) }
@@ -146,7 +146,7 @@ impl<const OFFSET_BITS: u32> Cursor<OFFSET_BITS> {
         self.words[FIRST_KEY + self.slot as usize]
     }
 
-    /// The value of the pair that follows.
+    /// Returns the value of the next pair.
     pub fn value(&self) -> u64
         requires { HasPair self.now }
         ensures { (m : Records) → IsAt m self.now → result ≡ first_value (pairs_from m self.now) }
@@ -154,7 +154,7 @@ impl<const OFFSET_BITS: u32> Cursor<OFFSET_BITS> {
         self.words[FIRST_VALUE + self.slot as usize]
     }
 
-    /// Goes on behind one pair.
+    /// Moves past one pair.
     pub fn next<F: Frozen<OFFSET_BITS>>(&mut self, frozen: &mut F)
         requires at { IsAt (F.records frozen.old) self.old }
         requires pair { HasPair self.old }
@@ -170,7 +170,7 @@ impl<const OFFSET_BITS: u32> Cursor<OFFSET_BITS> {
         }
     }
 
-    /// Goes on behind the leaf.
+    /// Moves past the leaf.
     fn next_leaf<F: Frozen<OFFSET_BITS>>(&mut self, frozen: &mut F)
         requires leads { Leads (F.records frozen.old) self.old.root self.old.path self.old.leaf }
         requires leaf { level_of (F.records frozen.old self.old.leaf) ≡ 0 }

@@ -11,7 +11,7 @@ use arena_api::Frozen;
 use entry_ref::EntryRef;
 use std::cmp::Ordering;
 
-/// The key of a slot beside the one sought.
+/// Compares the key of a slot with the sought key.
 fn compare_slot<const OFFSET_BITS: u32, F: Frozen<OFFSET_BITS>, K: KeyOrder<OFFSET_BITS>>(
     frozen: &mut F,
     node: EntryRef<OFFSET_BITS>,
@@ -30,7 +30,7 @@ fn compare_slot<const OFFSET_BITS: u32, F: Frozen<OFFSET_BITS>, K: KeyOrder<OFFS
     key.compare(frozen, stored)
 }
 
-/// Seeks a key among the keys of a node, of which no more words are read than it takes.
+/// Searches the keys of a node, and reads no more of its words than needed.
 fn seek_slot<const OFFSET_BITS: u32, F: Frozen<OFFSET_BITS>, K: KeyOrder<OFFSET_BITS>>(
     frozen: &mut F,
     node: EntryRef<OFFSET_BITS>,
@@ -55,7 +55,7 @@ fn seek_slot<const OFFSET_BITS: u32, F: Frozen<OFFSET_BITS>, K: KeyOrder<OFFSET_
     used
 }
 
-/// Whether the key of the slot where a key was sought is equal to it.
+/// Returns whether the key of the slot that a search found is equal to the sought key.
 fn is_at<const OFFSET_BITS: u32, F: Frozen<OFFSET_BITS>, K: KeyOrder<OFFSET_BITS>>(
     frozen: &mut F,
     node: EntryRef<OFFSET_BITS>,
@@ -81,7 +81,7 @@ fn is_at<const OFFSET_BITS: u32, F: Frozen<OFFSET_BITS>, K: KeyOrder<OFFSET_BITS
     }
 }
 
-/// Seeks the pair at a key below a node of this level, from node to node with no answer to hand up.
+/// Finds the pair of a key below a node of this level, by tail calls from node to node.
 fn find_below<const OFFSET_BITS: u32, F: Frozen<OFFSET_BITS>, K: KeyOrder<OFFSET_BITS>>(
     frozen: &mut F,
     node: EntryRef<OFFSET_BITS>,
@@ -120,7 +120,7 @@ fn find_below<const OFFSET_BITS: u32, F: Frozen<OFFSET_BITS>, K: KeyOrder<OFFSET
     *pair = None;
 }
 
-/// The stored key and the value at a key in the tree of a root.
+/// Returns the stored key and the value for a key in the tree with this root.
 pub fn find<const OFFSET_BITS: u32, F: Frozen<OFFSET_BITS>, K: KeyOrder<OFFSET_BITS>>(
     frozen: &mut F,
     root: EntryRef<OFFSET_BITS>,
@@ -143,7 +143,7 @@ pub fn find<const OFFSET_BITS: u32, F: Frozen<OFFSET_BITS>, K: KeyOrder<OFFSET_B
     pair
 }
 
-/// How many pairs the tree of a root has.
+/// Returns the number of pairs in the tree with this root.
 pub fn total<const OFFSET_BITS: u32, F: Frozen<OFFSET_BITS>>(
     frozen: &mut F,
     root: EntryRef<OFFSET_BITS>,

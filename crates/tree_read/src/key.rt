@@ -6,7 +6,7 @@ ghost use Rattle.entry_ref.specs.Records.{Records, SameAt};
 use arena_api::Frozen;
 use std::cmp::Ordering;
 
-/// A key that is sought in a tree. Stored keys read as values of `Read`, over records.
+/// A key to search for in a tree. Over records, stored keys read as values of `Read`.
 pub trait KeyOrder<const OFFSET_BITS: u32> {
     type Read;
 
@@ -14,14 +14,14 @@ pub trait KeyOrder<const OFFSET_BITS: u32> {
 
     ghost read: { Records → ℕ → Self.Read };
 
-    /// The records that a stored key is read from.
+    /// The records from which a stored key is read.
     ghost reads_from: { Records → ℕ → List ℕ };
 
     ghost order: { Self.Read → Self.Read → Ordering };
 
     ghost sought: { Self → Self.Read };
 
-    /// A stored key beside the one sought.
+    /// Compares a stored key with the sought key.
     fn compare<F: Frozen<OFFSET_BITS>>(&self, frozen: &mut F, stored: u64) -> Ordering
         requires { can_read (F.records frozen.old) stored }
         ensures answer { result ≡ order (read (F.records frozen.old) stored) (sought self.now) }
@@ -29,11 +29,11 @@ pub trait KeyOrder<const OFFSET_BITS: u32> {
 
     ghost total: { IsTotalOrder order };
 
-    // a key can be read, as the same, wherever the records that it is read from are the same
+    // a key can be read, with the same result, in all records that agree on those from which it is read
     ghost stays: { (m n : Records) (key : ℕ) → can_read m key → SameAt (reads_from m key) m n
         → can_read n key × (read n key ≡ read m key) };
 
-    // and is read from the same records there
+    // in such records the key is read from the same references
     ghost steady: { (m n : Records) (key : ℕ) → can_read m key → SameAt (reads_from m key) m n
         → reads_from n key ≡ reads_from m key };
 }

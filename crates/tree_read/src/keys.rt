@@ -1,4 +1,4 @@
-//! All keys of a tree, in order, a leaf's at a time.
+//! All keys of a tree, in order, one leaf at a time.
 ghost use Rattle.std.specs.Prelude.{◌≡◌, ◌<◌, ◌≤◌, ◌++◌, ℕ, suc, List, [], OnOk};
 ghost use Rattle.std.specs.List.{AllByRecursion};
 ghost use Rattle.std.specs.Map.{keys_of};
@@ -10,12 +10,12 @@ use arena_api::Frozen;
 use entry_ref::EntryRef;
 use std::alloc::AllocError;
 
-/// What takes the keys of a tree.
+/// A receiver of the keys of a tree.
 pub trait TakesKeys {
-    /// Which keys it can take.
+    /// The keys that it can take.
     ghost can_take: { ℕ → Type 0 };
 
-    /// What it becomes by these keys.
+    /// How these keys change it.
     ghost takes: { Self → List ℕ → Self → Type 0 };
 
     fn take(&mut self, keys: &[u64]) -> Result<(), AllocError>
@@ -27,7 +27,7 @@ pub trait TakesKeys {
     ghost joins: { (a b c : Self) (xs ys : List ℕ) → takes a xs b → takes b ys c → takes a (xs ++ ys) c };
 }
 
-/// The keys of the used slots, by the words before the values.
+/// Returns the keys of the used slots, from the words before the values.
 fn used_keys(words: &[u64; FIRST_VALUE]) -> &[u64]
     requires { used_of words.now ≤ MOST_SLOTS }
     ensures { result.now ≡ node_keys words.now }
@@ -35,7 +35,7 @@ fn used_keys(words: &[u64; FIRST_VALUE]) -> &[u64]
     &words[FIRST_KEY..FIRST_KEY + used_in(words)]
 }
 
-/// The keys of a leaf.
+/// Passes on the keys of a leaf.
 fn take_leaf<const OFFSET_BITS: u32, F: Frozen<OFFSET_BITS>, T: TakesKeys>(
     frozen: &mut F,
     leaf: EntryRef<OFFSET_BITS>,
@@ -51,7 +51,7 @@ fn take_leaf<const OFFSET_BITS: u32, F: Frozen<OFFSET_BITS>, T: TakesKeys>(
     taker.take(used_keys(&words))
 }
 
-/// The keys below a node above the leaves, by its level less one.
+/// Passes on the keys below a node above the leaves. `below` is its level less one.
 fn take_below<const OFFSET_BITS: u32, F: Frozen<OFFSET_BITS>, T: TakesKeys>(
     frozen: &mut F,
     node: EntryRef<OFFSET_BITS>,
@@ -76,7 +76,7 @@ fn take_below<const OFFSET_BITS: u32, F: Frozen<OFFSET_BITS>, T: TakesKeys>(
     Ok(())
 }
 
-/// All keys of the tree of a root.
+/// Passes on all keys of the tree with this root.
 pub fn take_keys<const OFFSET_BITS: u32, F: Frozen<OFFSET_BITS>, T: TakesKeys>(
     frozen: &mut F,
     root: EntryRef<OFFSET_BITS>,

@@ -1,10 +1,11 @@
 //! Reading a B+tree of 64-bit keys and values whose nodes are records: nodes, key orders, search and cursors.
 //!
-//! Keys of trees: what a stored key reads as, the order of what keys read as, and the key that is sought.
+//! Key orders say how a stored key is read, in which order keys are, and which key is sought.
 //!
-//! Nodes of trees, read: the words of one, its slots in hand, and a key sought among keys.
+//! Nodes are read word by word or as slots, and searched for a key.
 //!
-//! Reading a tree: finding a key, counting the pairs, walking them in order, and handing on all keys. Nothing here takes memory.
+//! A tree is read by finding a key, counting its pairs, walking them in order, or passing on all keys. No call here
+//! allocates memory.
 #![tactic(auto)]
 
 mod cursor;

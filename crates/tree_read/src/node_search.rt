@@ -13,15 +13,15 @@ use arena_api::Frozen;
 use entry_ref::EntryRef;
 use std::cmp::Ordering;
 
-/// Where a key stands among keys: the first that is not below it, or past them all.
+/// The position of a key among keys: the first key that is not below it, or past the last.
 #[derive(Clone, Copy, Debug)]
 pub struct Spot {
     pub slot: usize,
-    /// Whether the key there is equal to the one sought.
+    /// Whether the key at this position is equal to the sought key.
     pub found: bool,
 }
 
-/// Seeks a key among keys that ascend.
+/// Searches for a key among ascending keys.
 pub fn first_slot<const OFFSET_BITS: u32, F: Frozen<OFFSET_BITS>, K: KeyOrder<OFFSET_BITS>>(
     frozen: &mut F,
     keys: &[u64],
@@ -47,7 +47,7 @@ pub fn first_slot<const OFFSET_BITS: u32, F: Frozen<OFFSET_BITS>, K: KeyOrder<OF
     }
 }
 
-/// The slot of a node above the leaves under which a key is put: the last where all keys are below it.
+/// Returns the slot, of a node above the leaves, under which a key is put: the last slot if all keys are below it.
 pub fn place_of<const OFFSET_BITS: u32, F: Frozen<OFFSET_BITS>, K: KeyOrder<OFFSET_BITS>>(
     frozen: &mut F,
     keys: &[u64],
@@ -66,7 +66,7 @@ pub fn place_of<const OFFSET_BITS: u32, F: Frozen<OFFSET_BITS>, K: KeyOrder<OFFS
     }
 }
 
-/// Reads a node, and seeks a key among its keys.
+/// Reads a node, and searches its keys.
 pub fn visit<const OFFSET_BITS: u32, F: Frozen<OFFSET_BITS>, K: KeyOrder<OFFSET_BITS>>(
     frozen: &mut F,
     node: EntryRef<OFFSET_BITS>,
@@ -91,7 +91,7 @@ pub fn visit<const OFFSET_BITS: u32, F: Frozen<OFFSET_BITS>, K: KeyOrder<OFFSET_
     first_slot(frozen, keys_in(words), key)
 }
 
-/// The child of a slot.
+/// Returns the child of a slot.
 pub fn child_at<const OFFSET_BITS: u32, F: Frozen<OFFSET_BITS>>(
     frozen: &mut F,
     node: EntryRef<OFFSET_BITS>,

@@ -10,12 +10,12 @@ ghost use Rattle.tree_read.specs.Pairs.{lookup, lookup_pair, put, take_out};
 
 use crate::key::KeyOrder;
 
-/// The value at a key is that of the pair at it.
+/// The value for a key is that of its pair.
 pub fn pair_law()
     ensures { (c : ℕ → Ordering) (ps : List (ℕ × ℕ)) → lookup c ps ≡ option_map (λ p. p.1) (lookup_pair c ps) }
 {}
 
-/// What was put in is found, one pair more or none is there, and keys ascend as before.
+/// After a put, the pair is found, there is one more pair or as many as before, and keys still ascend.
 pub fn put_law<const OFFSET_BITS: u32, K: KeyOrder<OFFSET_BITS>>()
     ensures found { (c : ℕ → Ordering) (pair : ℕ × ℕ) (ps : List (ℕ × ℕ)) → c pair.0 ≡ Equal
         → lookup c (put c pair ps) ≡ Some pair.1 }
@@ -25,7 +25,7 @@ pub fn put_law<const OFFSET_BITS: u32, K: KeyOrder<OFFSET_BITS>>()
         → Ascends K.order K.read m (put (seen_by K.read K.order s m) pair ps) }
 {}
 
-/// One pair is taken out where the key is there, and none where it is not; keys ascend as before.
+/// A removal takes one pair out if the key exists, and none otherwise. Keys still ascend.
 pub fn take_out_law<const OFFSET_BITS: u32, K: KeyOrder<OFFSET_BITS>>()
     ensures count { (c : ℕ → Ordering) (ps : List (ℕ × ℕ)) → IsSome (lookup c ps)
         → length (take_out c ps) + 1 ≡ length ps }
@@ -34,7 +34,7 @@ pub fn take_out_law<const OFFSET_BITS: u32, K: KeyOrder<OFFSET_BITS>>()
         → Ascends K.order K.read m (take_out c ps) }
 {}
 
-/// Keys that are read from no node stay where all records but nodes stay.
+/// Keys that are not read from nodes stay the same while all records that are not nodes stay the same.
 pub fn key_law<const OFFSET_BITS: u32, K: KeyOrder<OFFSET_BITS>>()
     ensures readable { (m n : Records) (ps : List (ℕ × ℕ)) → KeepsOthers m n → AllReadable K.can_read m ps
         → NoneReadsNodes K.reads_from m ps → AllReadable K.can_read n ps }
@@ -44,8 +44,8 @@ pub fn key_law<const OFFSET_BITS: u32, K: KeyOrder<OFFSET_BITS>>()
         → NoneReadsNodes K.reads_from m ps → Ascends K.order K.read m ps → Ascends K.order K.read n ps }
 {}
 
-/// A tree stays where its nodes and the records that its keys are read from stay; a word stays a key where
-/// all records but nodes stay.
+/// A tree stays the same while its nodes and the records of its keys stay the same. A word stays a key while all
+/// records that are not nodes stay the same.
 pub fn keyed_law<const OFFSET_BITS: u32, K: KeyOrder<OFFSET_BITS>>()
     ensures tree { (m n : Records) (root : ℕ) → SameAt (tree_nodes m root) m n
         → SameAt (flat_map (λ p. K.reads_from m p.0) (tree_pairs m root)) m n

@@ -4,7 +4,7 @@ use arrayvec::ArrayVec;
 use entry_ref::EntryRef;
 use std::marker::Model;
 
-/// A node above the leaves, with the slot of one of its children.
+/// A node above the leaves, and the slot of one of its children.
 #[derive(Clone, Copy, Debug, Drop)]
 pub struct Step<const OFFSET_BITS: u32> {
     pub node: EntryRef<OFFSET_BITS>,
@@ -30,7 +30,7 @@ impl<const OFFSET_BITS: u32> Default for Step<OFFSET_BITS> {
     }
 }
 
-/// The steps from a root down. Contracts see the list of them from the lowest up.
+/// The steps down from a root. Contracts see them as a list from the lowest step up.
 #[derive(Drop)]
 pub struct Path<const OFFSET_BITS: u32> {
     steps: ArrayVec<Step<OFFSET_BITS>, 8>,

@@ -21,7 +21,7 @@ pub fn read_words<const OFFSET_BITS: u32, F: Frozen<OFFSET_BITS>>(
     frozen.read(node, 0, into);
 }
 
-/// What word 0 of a node says.
+/// The contents of word 0 of a node.
 #[derive(Clone, Copy, Debug)]
 pub struct Head {
     pub level: u64,
@@ -45,7 +45,7 @@ pub fn read_head<const OFFSET_BITS: u32, F: Frozen<OFFSET_BITS>>(
     }
 }
 
-/// How many slots the node of these words uses.
+/// Returns the number of used slots of a node with these words.
 pub fn used_in(words: &[u64]) -> usize
     requires { 0 < length words.now }
     ensures { result ≡ used_of words.now }
@@ -53,7 +53,7 @@ pub fn used_in(words: &[u64]) -> usize
     (words[0] % 256) as usize
 }
 
-/// The keys of the used slots.
+/// Returns the keys of the used slots.
 pub fn keys_in(words: &[u64]) -> &[u64]
     requires size { length words.now ≡ NODE_WORDS }
     requires room { used_of words.now ≤ MOST_SLOTS }
@@ -62,7 +62,7 @@ pub fn keys_in(words: &[u64]) -> &[u64]
     &words[FIRST_KEY..FIRST_KEY + used_in(words)]
 }
 
-/// The values of the used slots.
+/// Returns the values of the used slots.
 fn values_in(words: &[u64]) -> &[u64]
     requires size { length words.now ≡ NODE_WORDS }
     requires room { used_of words.now ≤ MOST_SLOTS }
@@ -71,7 +71,7 @@ fn values_in(words: &[u64]) -> &[u64]
     &words[FIRST_VALUE..FIRST_VALUE + used_in(words)]
 }
 
-/// The slots of a node's words.
+/// Returns the slots of a node with these words.
 pub fn slots_of(words: &[u64]) -> Slots
     requires size { length words.now ≡ NODE_WORDS }
     requires room { used_of words.now ≤ MOST_SLOTS }
@@ -89,7 +89,7 @@ pub fn slots_of(words: &[u64]) -> Slots
     slots
 }
 
-/// Reads a node, by one call.
+/// Reads a node by one call.
 pub fn read_node<const OFFSET_BITS: u32, F: Frozen<OFFSET_BITS>>(
     frozen: &mut F,
     node: EntryRef<OFFSET_BITS>,

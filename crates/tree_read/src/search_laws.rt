@@ -9,14 +9,15 @@ ghost use Rattle.tree_read.specs.SearchPlaces.{Place, IsAt, pairs_from};
 
 use crate::KeyOrder;
 
-/// A place stays, with the pairs from it on, where the records of the tree's nodes stay.
+/// A cursor's position, and the pairs from it on, stay the same while the records of the tree's nodes stay the same.
 pub fn place_law()
     ensures at { (m n : Records) (at : Place) → SameAt (tree_nodes m at.root) m n → IsAt m at → IsAt n at }
     ensures pairs { (m n : Records) (at : Place) → SameAt (tree_nodes m at.root) m n → IsAt m at
         → pairs_from n at ≡ pairs_from m at }
 {}
 
-/// In a list whose keys ascend, a key is looked up among all pairs, and sought are the pairs not below it.
+/// In a list with ascending keys, a lookup considers all pairs, and a seek finds the pairs whose key is not below the
+/// sought key.
 pub fn search_law<const OFFSET_BITS: u32, K: KeyOrder<OFFSET_BITS>>()
     ensures lookup { (m : Records) (s : K.Read) (ps : List (ℕ × ℕ)) → Ascends K.order K.read m ps
         → lookup (seen_by K.read K.order s m) ps

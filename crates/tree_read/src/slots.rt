@@ -2,7 +2,7 @@ ghost use Rattle.std.specs.Prelude.{◌≡◌, ◌≤◌, ◌+◌, ◌++◌, len
 
 use arrayvec::ArrayVec;
 
-/// The slots of a node in hand, up to 17, each a key and a value; a leaf has level 0.
+/// The slots of a node in memory, at most 17, each with a key and a value. A leaf has level 0.
 #[derive(Drop)]
 pub struct Slots {
     pub level: u64,
@@ -10,7 +10,7 @@ pub struct Slots {
     pub values: ArrayVec<u64, 17>,
 }
 
-/// Appends words, for which there is room.
+/// Appends words, which must fit.
 pub fn append<const CAP: usize>(words: &mut ArrayVec<u64, CAP>, more: &[u64])
     requires { length words.old.items + length more.now ≤ CAP }
     ensures { words.new.items ≡ words.old.items ++ more.now }

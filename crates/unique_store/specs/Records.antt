@@ -1,10 +1,10 @@
--- What the record of a value is, as a law.
+-- The record of a value, as a law.
 use Rattle.std.specs.Prelude.{◌≢◌, ℕ, ◌<◌, List, length}
 use Rattle.tree_read.specs.declared.node_format.TheConstants.{NODE_WORDS}
 use Rattle.attr_images.specs.Values.{IsValueRecord}
 use Rattle.attr_types.specs.declared.kind.ValueType.{ValueType}
 
--- a value's record has two words at least, and is no node of a tree
+-- a value's record has at least two words, and is not a tree node
 abbrev pub ValueIsThere : Type 0
 ValueIsThere = (type : ValueType) (ws : List ℕ) → IsValueRecord type ws → 1 < length ws
 

@@ -24,7 +24,7 @@ fn write_text(words: &mut [u64], bytes: &[u8])
     pack(rest, bytes);
 }
 
-/// Adds a text, by a buffer with room for its record.
+/// Adds a text, with a buffer in which its record fits.
 fn add_by<const OFFSET_BITS: u32, S: Store<OFFSET_BITS>>(
     store: &mut S,
     bytes: &[u8],

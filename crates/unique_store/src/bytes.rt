@@ -2,7 +2,7 @@ ghost use Rattle.std.specs.Prelude.{◌≡◌, ◌+◌, ◌/◌, ◌≤◌, ◌<
 ghost use Rattle.std.specs.Int.{from_be_bytes, w64};
 ghost use Rattle.attr_images.specs.Values.{packed_bytes};
 
-/// Fewer than eight bytes, with zeros behind them.
+/// Returns fewer than eight bytes, followed by zeros.
 fn filled_eight(bytes: &[u8]) -> [u8; 8]
     requires { length bytes.now < 8 }
     ensures { result ≡ take 8 (bytes.now ++ replicate 8 0) }
@@ -12,7 +12,7 @@ fn filled_eight(bytes: &[u8]) -> [u8; 8]
     eight
 }
 
-/// The first eight bytes as a word, the first in the highest place, with zeros where there are fewer.
+/// Returns the first eight bytes as a word, the first byte in the highest place, with zeros for missing bytes.
 pub fn first_word(bytes: &[u8]) -> u64
     ensures { result ≡ from_be_bytes w64 (take 8 (bytes.now ++ replicate 8 0)) }
 {
@@ -22,7 +22,7 @@ pub fn first_word(bytes: &[u8]) -> u64
     }
 }
 
-/// The bytes behind the first eight.
+/// Returns the bytes after the first eight.
 pub fn behind_eight(bytes: &[u8]) -> &[u8]
     ensures { result.now ≡ drop 8 bytes.now }
 {
@@ -32,7 +32,7 @@ pub fn behind_eight(bytes: &[u8]) -> &[u8]
     }
 }
 
-/// Writes bytes as words, eight a word.
+/// Writes bytes as words, eight in each.
 pub fn pack(words: &mut [u64], bytes: &[u8])
     requires { length words.old ≡ (length bytes.now + 7) / 8 }
     ensures { words.new ≡ packed_bytes ((length bytes.now + 7) / 8) bytes.now }

@@ -11,8 +11,8 @@ use attr_types::Value;
 use entry_ref::EntryRef;
 use std::cmp::Ordering;
 
-/// Compares a stored text with bytes. Its words are read as far as they are equal, and no further.
-/// Apart, so that a long is compared without the registers that a text wants.
+/// Compares a stored text with bytes. It reads words only until they differ. It is a function of its own so that the
+/// comparison of longs needs fewer registers.
 #[inline(never)]
 fn compare_text<const OFFSET_BITS: u32, F: Frozen<OFFSET_BITS>>(
     frozen: &mut F,
@@ -36,7 +36,7 @@ fn compare_text<const OFFSET_BITS: u32, F: Frozen<OFFSET_BITS>>(
     count.cmp(&bytes.len())
 }
 
-/// Compares a stored value with one of its type.
+/// Compares a stored value with a value of its type.
 pub fn compare<const OFFSET_BITS: u32, F: Frozen<OFFSET_BITS>>(
     frozen: &mut F,
     stored: EntryRef<OFFSET_BITS>,

@@ -1,6 +1,7 @@
 ghost use Rattle.unique_store.specs.Records.{ValueIsThere, ValueIsNoNode};
 
-/// The record of a value has two words at least, and is no node of a tree. It does nothing: its contract is the law.
+/// The record of a value has at least two words, and is not a tree node. The function does nothing; its contract is
+/// the law.
 pub fn value_law()
     ensures there { ValueIsThere }
     ensures no_node { ValueIsNoNode }

@@ -15,7 +15,7 @@ fn push_word(bytes: &mut Vec<u8>, word: u64) -> Result<(), AllocError>
     bytes.extend_from_slice(&word.to_be_bytes())
 }
 
-/// The bytes of a stored text.
+/// Returns the bytes of a stored text.
 fn read_bytes<const OFFSET_BITS: u32, F: Frozen<OFFSET_BITS>>(
     alloc: Global,
     frozen: &mut F,
@@ -36,7 +36,7 @@ fn read_bytes<const OFFSET_BITS: u32, F: Frozen<OFFSET_BITS>>(
     Ok(bytes)
 }
 
-/// A stored text.
+/// Returns a stored text.
 fn read_text<const OFFSET_BITS: u32, F: Frozen<OFFSET_BITS>>(
     alloc: Global,
     frozen: &mut F,
@@ -53,7 +53,7 @@ fn read_text<const OFFSET_BITS: u32, F: Frozen<OFFSET_BITS>>(
     }
 }
 
-/// A stored value, of the type that is given.
+/// Returns a stored value of the given type.
 pub fn get<const OFFSET_BITS: u32, F: Frozen<OFFSET_BITS>>(
     alloc: Global,
     frozen: &mut F,

@@ -1,4 +1,4 @@
--- What a change of an index leaves of a store.
+-- How a change of an index changes a store.
 use Rattle.std.specs.Prelude.{◌≡◌, ◌⊎◌, ℕ, ◌+◌, ◌*◌, ◌<◌, [], ◌∷◌, length, nat_eq, if◌then◌else◌}
 use Rattle.std.specs.Option.{is_some, unwrap_or}
 use Rattle.entry_ref.specs.Records.{Records}
@@ -20,12 +20,12 @@ use Rattle.posting_store.specs.Lists.{list_levels}
 use Rattle.value_index.specs.Flows.{FlowsIndex}
 use Rattle.value_index.specs.Indexes.{index_part, key_at, IsIndex, IsKey}
 
--- a key whose value still has documents is a key still, and its record is as it was
+-- if the value of a key still has documents, the key is still a key, and its record is unchanged
 pub record KeepsKeys (type : ValueType) (m n : Records) (root next : ℕ) : Type 0 where
   pub kept : (ref : ℕ) → IsKey m root ref → 0 < length (list_of (stored_value type m ref) (index_of type n next))
       → IsKey n next ref × (n ref ≡ m ref)
 
--- an index was made that reads as this one, in place of another
+-- an index with these contents was made, in place of another
 pub record MakesIndex {H : Type 0} (type : ValueType) (old new : Ledger H) (m n : Records) (root : ℕ) (index : Index) (next : ℕ)
     : Type 0 where
   pub index_is : IsIndex type n next
@@ -35,18 +35,19 @@ pub record MakesIndex {H : Type 0} (type : ValueType) (old new : Ledger H) (m n 
   pub owns : Owns new n (index_part next ∷ [])
   pub turns : Turns old new m n (index_part root ∷ []) (index_part next ∷ [])
 
--- how many records of each width a change makes at most: of a dictionary with so many levels of nodes, and of a list
+-- bounds on the records of each width that a change makes: in a dictionary with this many levels of nodes, and in a
+-- list
 abbrev pub nodes_most : ℕ → ℕ → ℕ
 nodes_most levels width = if nat_eq width NODE_WORDS then 2 * levels + 1 else 0
 
 abbrev pub value_levels : Value → Records → ℕ → ℕ
 value_levels value m root = list_levels m (unwrap_or (lookup (beside_value value m) (tree_pairs m root)) 0)
 
--- of a value's list that has so many documents then, and of its pair in the dictionary
+-- bounds for the list of a value that has this many documents after the change, and for its pair in the dictionary
 abbrev pub change_most : Value → Records → ℕ → ℕ → ℕ → ℕ
 change_most value m root count width = list_most (value_levels value m root) count width + nodes_most (levels m root) width
 
--- and the record of a value that is new
+-- a bound for the record of a new value
 abbrev pub record_most : Value → ℕ → ℕ
 record_most value width = if nat_eq width (class_of (length (value_words value))) then 1 else 0
 
@@ -54,11 +55,12 @@ abbrev pub add_most : Value → Records → ℕ → ℕ → ℕ → ℕ
 add_most value m root count width =
     (if is_some (key_at value m root) then 0 else record_most value width) + change_most value m root count width
 
--- a width is that of a record which an image has for a value with so many documents: of its own, or of its list
+-- the width of a record that an image has for a value with this many documents: its own record, or one of its list
 pub record IsValueWidth (value : Value) (count width : ℕ) : Type 0 where
   pub some : 0 < count
   pub one : (width ≡ class_of (length (value_words value))) ⊎ (width ≡ list_width count)
 
--- a width for which a change of a value's list may be refused, by the documents that it has then: of nodes, or of such a record
+-- a width for which a change of a value's list may be refused, by the documents that the value has then: that of
+-- nodes, or of such a record
 abbrev pub IsChangeWidth : Value → ℕ → ℕ → Type 0
 IsChangeWidth value count width = (width ≡ NODE_WORDS) ⊎ IsValueWidth value count width

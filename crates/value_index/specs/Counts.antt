@@ -1,4 +1,4 @@
--- How many records the walks make at most, by what they are and by width.
+-- Bounds on the records that the walks make, by what they are and by width.
 use Rattle.std.specs.Prelude.{◌≡◌, ℕ, ℤ, ◌+◌, ◌*◌, ◌^◌, ◌<◌, ◌≤◌, Bool, not, nat_eq, nat_le, if◌then◌else◌, List, [], ◌∷◌, ◌++◌, length}
 use Rattle.std.specs.Prelude.{Option, None, is_some}
 use Rattle.std.specs.BTreeMap.{insert_entry, is_at}
@@ -16,21 +16,21 @@ use Rattle.attr_types.specs.declared.value.Value.{Value}
 use Rattle.posting_store.specs.Changes.{MakesWithin}
 use Rattle.value_index.specs.Changes.{record_most}
 
--- the entries that other weights lack or have otherwise
+-- the entries that the other weights lack, or have with another weight
 abbrev pub is_added : (Value → Option ℤ) → Value × ℤ → Bool
 is_added old entry = not (is_weight entry.1 (old entry.0))
 
 abbrev pub added_count : (Value → Option ℤ) → List (Value × ℤ) → ℕ
 added_count old entries = count_by (is_added old) entries
 
--- the entries whose values other weights lack
+-- the entries whose values the other weights lack
 abbrev pub is_gone : (Value → Option ℤ) → Value × ℤ → Bool
 is_gone new entry = not (is_some (new entry.0))
 
 abbrev pub gone_count : (Value → Option ℤ) → List (Value × ℤ) → ℕ
 gone_count new entries = count_by (is_gone new) entries
 
--- ---- by width: so many nodes, and so many records of each other width
+-- ---- by width: the number of nodes, and the number of records of each other width
 abbrev pub by_width : ℕ → (ℕ → ℕ) → ℕ → ℕ
 by_width nodes records width = if nat_eq width NODE_WORDS then nodes else records width
 
@@ -39,20 +39,21 @@ abbrev pub new_record : List (ℕ × ℤ) → Value → ℕ → ℕ
 new_record [] value width = record_most value width
 new_record (first ∷ more) value width = 0
 
--- the record of a list that has so many documents then, where it is short
+-- the record of a list that then has this many documents, if it is short
 abbrev pub short_record : ℕ → ℕ → ℕ
 short_record count width = if nat_le count MOST_SHORT then (if nat_eq width (class_of (1 + count)) then 1 else 0) else 0
 
--- what a value makes that the document gets, by the documents that values had: its record where it is new, and its list
+-- the records for a value that the document gets, by the documents that values had: its own record if it is new, and
+-- that of its list
 abbrev pub put_records : (Value → List (ℕ × ℤ)) → ℕ → Value × ℤ → ℕ → ℕ
 put_records lists doc entry width =
     new_record (lists entry.0) entry.0 width + short_record (length (insert_entry nat_cmp (lists entry.0) doc entry.1)) width
 
--- and one that the document loses: its list
+-- the record for a value that the document loses: that of its list
 abbrev pub taken_records : (Value → List (ℕ × ℤ)) → ℕ → Value × ℤ → ℕ → ℕ
 taken_records lists doc entry width = short_record (length (remove_entry (is_at (nat_cmp doc)) (lists entry.0))) width
 
--- the sum over those that a walk changes
+-- the sum over the values that a walk changes
 abbrev pub walk_records : (Value × ℤ → Bool) → (Value × ℤ → ℕ → ℕ) → List (Value × ℤ) → ℕ → ℕ
 walk_records changes each entries width = sum_by (λ entry. if changes entry then each entry width else 0) entries
 
@@ -63,29 +64,30 @@ abbrev pub gone_records : (Value → List (ℕ × ℤ)) → ℕ → (Value → O
 gone_records lists doc new entries = walk_records (is_gone new) (taken_records lists doc) entries
 
 -- ---- by their sum, for a change that makes a record of some width
--- so many of all widths but that of nodes
+-- the sum over all widths but that of nodes
 abbrev pub record_sum : (ℕ → ℕ) → ℕ
 record_sum most = most 2 + most 4 + most 8 + most 16 + most 32 + most 64 + most 128 + most 256 + most 512 + most 1024
 
--- at most so many nodes of trees are made, and at most so many records of all other widths together
+-- bounds on the tree nodes that are made, and on the records of all other widths together
 pub record MakesFew {H : Type 0} (old new : Ledger H) (nodes records : ℕ) : Type 0 where
   pub most : ℕ → ℕ
   pub counts : MakesWithin old new most
   pub nodes_few : most NODE_WORDS ≤ nodes
   pub records_few : record_sum most ≤ records
 
--- the nodes that a change of a value makes at most, where no tree has more levels: in its list and in the dictionary two of each level,
--- and a root
+-- a bound on the nodes that a change of one value makes, if no tree has more levels: in its list and in the
+-- dictionary, two for each level, and a root
 abbrev pub value_nodes : ℕ → ℕ
 value_nodes levels = 2 * (2 * levels + 1)
 
--- no tree of an index has more levels, since it has so few values, each with so few documents
+-- no tree of the index has more levels, by the number of its values and the number of documents of each
 pub record IsLow (levels : ℕ) (index : Index) : Type 0 where
   pub some : 0 < levels
   pub values : length index < 2 * 8 ^ levels
   pub lists : (value : Value) → length (list_of value index) < 2 * 8 ^ levels
 
--- so is each index on the way: with the first of the new weights added, or with the first of the old ones removed
+-- the same holds for each index during the walks: after the first of the new weights are added, or the first of the
+-- old ones removed
 abbrev pub AddsLow : ℕ → Index → ℕ → List (Value × ℤ) → Type 0
 AddsLow levels start doc new = (done rest : List (Value × ℤ)) (index : Index) → done ++ rest ≡ new
     → IsBetween start doc (λ value. lookup (is_at (value_cmp value)) done) (λ value. None) index → IsLow levels index

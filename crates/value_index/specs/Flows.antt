@@ -1,5 +1,5 @@
--- What a change takes over of an index: a reference that was in use when the unit began has no role in the new index that it had not in
--- the old one.
+-- What a change keeps of an index: a reference that was in use when the unit began has only roles in the new index
+-- that it had in the old one.
 use Rattle.std.specs.Prelude.{◌≡◌, ℕ, map}
 use Rattle.std.specs.Option.{unwrap_or}
 use Rattle.entry_ref.specs.Records.{Records}
@@ -13,7 +13,7 @@ use Rattle.attr_types.specs.declared.value.Value.{Value}
 use Rattle.enum_dictionary.specs.Dictionaries.{beside_value}
 use Rattle.posting_store.specs.Lists.{list_reach}
 
--- the word of a value's list, 0 where no document has it
+-- the word of a value's list, or 0 if no document has the value
 abbrev pub list_word : Value → Records → ℕ → ℕ
 list_word value m root = unwrap_or (lookup (beside_value value m) (tree_pairs m root)) 0
 

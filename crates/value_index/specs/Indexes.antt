@@ -1,4 +1,4 @@
--- An index in a store: a dictionary by value, each value of which has a record of its own, its key, and a list of documents.
+-- An index in a store: a dictionary by value. Each value has a record of its own, its key, and a list of documents.
 use Rattle.std.specs.Prelude.{ℕ, ◌<◌, List, ◌++◌, map, Option}
 use Rattle.std.specs.List.{AllByRecursion}
 use Rattle.std.specs.Option.{option_map}
@@ -13,14 +13,14 @@ use Rattle.enum_dictionary.specs.Dictionaries.{IsDictionary, beside_value}
 use Rattle.posting_store.specs.Lists.{IsList, IsPlain}
 use Rattle.value_index.specs.ProofsForIndexes.{index_reach-same}
 
--- a key with its list, which is not the empty one and no bit vector
+-- a key with its list, which is neither empty nor a bit vector
 pub record IsValuePair (m : Records) (p : ℕ × ℕ) : Type 0 where
   pub key : 0 < p.0
   pub some : 0 < p.1
   pub list_is : IsList m p.1
   pub plain : IsPlain p.1
 
--- the root of an index of values of a type; what it reads as is `index_of` of attr_images
+-- the root of an index whose values have this type; its contents are `index_of` of attr_images
 pub record IsIndex (type : ValueType) (m : Records) (root : ℕ) : Type 0 where
   pub dictionary_is : IsDictionary type m root
   pub pairs : AllByRecursion (IsValuePair m) (tree_pairs m root)
@@ -36,6 +36,6 @@ index_part root = record { reach = λ m. index_reach m root; stays = λ m n same
 abbrev pub key_at : Value → Records → ℕ → Option ℕ
 key_at value m root = option_map (λ p. p.0) (lookup_pair (beside_value value m) (tree_pairs m root))
 
--- a reference is that of a key
+-- a reference is a key
 abbrev pub IsKey : Records → ℕ → ℕ → Type 0
 IsKey m root ref = Among ref (map (λ p. p.0) (tree_pairs m root))

@@ -1,4 +1,4 @@
--- What an index and its keys are, as laws.
+-- An index and its keys, as laws.
 use Rattle.std.specs.Prelude.{◌≡◌, ℕ, ◌<◌, [], length, Some}
 use Rattle.std.specs.List.{AllByRecursion}
 use Rattle.entry_ref.specs.Records.{Records, SameAt, Among}
@@ -11,16 +11,17 @@ use Rattle.attr_types.specs.declared.kind.ValueType.{ValueType}
 use Rattle.attr_types.specs.declared.value.Value.{Value}
 use Rattle.value_index.specs.Indexes.{index_reach, key_at, IsIndex, IsKey}
 
--- root 0 is the index of no value, and owns nothing
+-- root 0 is the index without values, and owns nothing
 abbrev pub NothingIsIndex : Type 0
 NothingIsIndex = (type : ValueType) (m : Records) → IsIndex type m 0 × (index_of type m 0 ≡ []) × (index_reach m 0 ≡ [])
 
--- an index stays, with its values and lists and its keys, where its records stay
+-- an index stays the same, with its values, lists and keys, while its records stay the same
 abbrev pub IndexStays : Type 0
 IndexStays = (type : ValueType) (m n : Records) (root : ℕ) → SameAt (index_reach m root) m n → IsIndex type m root
     → IsIndex type n root × (index_of type n root ≡ index_of type m root) × ((ref : ℕ) → IsKey m root ref → IsKey n root ref)
 
--- it is a dictionary as an image has it, and what it reads as is an index: values ascend, and each has documents that ascend
+-- it is a dictionary as in an image, and its contents are an index: values ascend, and the documents of each value
+-- ascend
 pub record IsLawfulIndex (type : ValueType) (m : Records) (root : ℕ) : Type 0 where
   pub dictionary_tree : IsTree value_cmp (stored_value type) m root
   pub entries : AllByRecursion (IsDictionaryEntry type m) (tree_pairs m root)
@@ -29,7 +30,7 @@ pub record IsLawfulIndex (type : ValueType) (m : Records) (root : ℕ) : Type 0 
 abbrev pub IndexIsLawful : Type 0
 IndexIsLawful = (type : ValueType) (m : Records) (root : ℕ) → IsIndex type m root → IsLawfulIndex type m root
 
--- a key is the record of a value that has documents; the index owns it, and it is what `key_at` finds for its value
+-- a key is the record of a value that has documents; the index owns it, and `key_at` finds it for its value
 pub record IsKeyRecord (type : ValueType) (m : Records) (root ref : ℕ) (value : Value) : Type 0 where
   pub record_is : IsValueRecord type (m ref)
   pub reads : stored_value type m ref ≡ value

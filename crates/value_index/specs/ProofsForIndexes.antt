@@ -1,4 +1,5 @@
--- Nobody has to read this: an index stays where its records stay. It stands here since a part cites it.
+-- Proof that an index stays the same while its records do. It is in specs/ since a part cites it, and is not part of
+-- the specification.
 use Rattle.std.proofs.Common.{◌≡◌, ℕ, ◌++◌}
 use Rattle.entry_ref.specs.Records.{Records, SameAt}
 use Rattle.tree_read.specs.Trees.{tree_nodes}

@@ -1,4 +1,4 @@
--- What a walk over the weights of a document makes of an index in a store.
+-- How a walk over the weights of a document changes an index in a store.
 use Rattle.std.specs.Prelude.{ℕ, ℤ, [], ◌∷◌, Option}
 use Rattle.entry_ref.specs.Records.{Records}
 use Rattle.store_api.specs.Ledgers.{Ledger}
@@ -11,7 +11,8 @@ use Rattle.value_index.specs.Changes.{KeepsKeys}
 use Rattle.value_index.specs.Flows.{FlowsIndex}
 use Rattle.value_index.specs.Indexes.{index_part, IsIndex}
 
--- an index was made in place of another: its lists have the document with the weights added, and not with those that were removed
+-- an index was made in place of another: its lists have the document with the added weights, and lack it for the
+-- removed ones
 pub record WalksIndex {H : Type 0} (type : ValueType) (old new : Ledger H) (m n : Records) (root doc : ℕ)
     (added removed : Value → Option ℤ) (next : ℕ) : Type 0 where
   pub index_is : IsIndex type n next

@@ -1,4 +1,4 @@
--- For which widths a walk may be refused.
+-- The widths for which a walk may be refused.
 use Rattle.std.specs.Prelude.{◌≡◌, ◌⊎◌, ℕ, ℤ, length, Option, IsSome}
 use Rattle.tree_read.specs.declared.node_format.TheConstants.{NODE_WORDS}
 use Rattle.attr_index.specs.Changes.{settled}
@@ -6,7 +6,7 @@ use Rattle.attr_index.specs.Index.{Index, list_of}
 use Rattle.attr_types.specs.declared.value.Value.{Value}
 use Rattle.value_index.specs.Changes.{IsValueWidth}
 
--- a width is that of a record which an index has after the walks for a value of the weights that are added or removed
+-- the width of a record that the index has after the walks, for a value whose weight is added or removed
 pub record IsWalkedWidth (start : Index) (doc : ℕ) (added removed : Value → Option ℤ) (width : ℕ) : Type 0 where
   pub value : Value
   pub walked : IsSome (added value) ⊎ IsSome (removed value)

@@ -21,7 +21,7 @@ use posting_store::{Posting, add as add_posting};
 use store_api::{Store, StoreError};
 use unique_store::add as add_value;
 
-/// Gives a value that no document has its first one.
+/// Adds a value with its first document.
 #[tactic(none)]
 fn add_new<const OFFSET_BITS: u32, S: Store<OFFSET_BITS>>(
     store: &mut S,
@@ -49,7 +49,7 @@ fn add_new<const OFFSET_BITS: u32, S: Store<OFFSET_BITS>>(
     set(store, root, value, key, list.word())
 }
 
-/// Puts a document into the list of a value that is there.
+/// Adds a document to the list of an existing value.
 #[tactic(none)]
 fn add_more<const OFFSET_BITS: u32, S: Store<OFFSET_BITS>>(
     store: &mut S,
@@ -79,7 +79,7 @@ fn add_more<const OFFSET_BITS: u32, S: Store<OFFSET_BITS>>(
     set(store, root, value, key, next.word())
 }
 
-/// Puts a document into the list of a value, or replaces its weight there. The answer is the root of the new index.
+/// Adds a document to the list of a value, or replaces its weight there. Returns the root of the new index.
 #[tactic(none)]
 pub fn add<const OFFSET_BITS: u32, S: Store<OFFSET_BITS>>(
     store: &mut S,

@@ -7,7 +7,7 @@ use attr_types::Value;
 use entry_ref::EntryRef;
 use enum_dictionary::find;
 
-/// The key of a value, which is its record, where a document has the value.
+/// Returns the key of a value, which is its record, if some document has the value.
 pub fn key<const OFFSET_BITS: u32, F: Frozen<OFFSET_BITS>>(
     frozen: &mut F,
     root: EntryRef<OFFSET_BITS>,

@@ -1,7 +1,7 @@
 //! An index in a store: a map from each value to the documents that have it, with their weights.
 //!
-//! The index of an attribute in a store, while the items of one document change: it is added to the lists of its new
-//! values, and taken out of the lists of its old ones.
+//! When the items of a document change, two walks update the index of an attribute: the document is added to the
+//! lists of its new values, and removed from the lists of its old ones.
 #![tactic(auto)]
 
 mod adding;

@@ -21,7 +21,7 @@ use enum_dictionary::{find, remove as remove_pair, set};
 use posting_store::{Posting, remove as remove_posting};
 use store_api::{Store, StoreError, drop_one};
 
-/// Takes a document out of the list of a value that is there, and the value where its list is empty then.
+/// Removes a document from the list of an existing value, and removes the value if its list becomes empty.
 #[tactic(none)]
 fn remove_from<const OFFSET_BITS: u32, S: Store<OFFSET_BITS>>(
     store: &mut S,
@@ -57,8 +57,8 @@ fn remove_from<const OFFSET_BITS: u32, S: Store<OFFSET_BITS>>(
     Ok(left)
 }
 
-/// Takes a document that is there out of the list of a value. The answer is the root of the new index, 0 where no
-/// value is left.
+/// Removes a document from the list of a value that has it. Returns the root of the new index, or 0 if no value is
+/// left.
 pub fn remove<const OFFSET_BITS: u32, S: Store<OFFSET_BITS>>(
     store: &mut S,
     root: EntryRef<OFFSET_BITS>,

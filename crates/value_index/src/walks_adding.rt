@@ -22,7 +22,7 @@ use entry_ref::EntryRef;
 use std::collections::BTreeMap;
 use store_api::{Store, StoreError};
 
-/// Whether a value has this weight.
+/// Returns whether a value has this weight.
 fn has_weight(weights: &BTreeMap<Value, i32>, value: &Value, weight: i32) -> bool
     ensures { result ≡ is_weight weight (get value_cmp weights.now value.now) }
 {
@@ -32,8 +32,8 @@ fn has_weight(weights: &BTreeMap<Value, i32>, value: &Value, weight: i32) -> boo
     }
 }
 
-/// Puts a document into the lists of its new values that the old ones lack or have with another weight. The answer is
-/// the root of the new index.
+/// Adds a document to the lists of its new values, unless the old ones include the value with the same weight.
+/// Returns the root of the new index.
 #[tactic(none)]
 pub fn add_all<const OFFSET_BITS: u32, S: Store<OFFSET_BITS>>(
     store: &mut S,

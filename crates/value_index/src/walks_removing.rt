@@ -22,7 +22,8 @@ use entry_ref::EntryRef;
 use std::collections::BTreeMap;
 use store_api::{Store, StoreError};
 
-/// Takes a document out of the lists of its old values that the new ones lack. The answer is the root of the new index.
+/// Removes a document from the lists of its old values that are not among the new ones. Returns the root of the new
+/// index.
 #[tactic(none)]
 pub fn remove_all<const OFFSET_BITS: u32, S: Store<OFFSET_BITS>>(
     store: &mut S,

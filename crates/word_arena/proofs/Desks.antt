@@ -1,8 +1,8 @@
 -- What the ghost field of a writer gives at a call, and how it stands after a step.
-use Rattle.std.proofs.Common.{map, mul-le-mul_left, ◌≡◌, ℕ, ◌*◌, ◌<◌, ◌≤◌, List, [], length, slice_index, refl, sym, ap, ◌∙◌, subst, arith}
+use Rattle.std.proofs.Common.{map, mul-le-mul_left, ◌≡◌, ℕ, ◌+◌, ◌*◌, ◌<◌, ◌≤◌, List, [], length, slice_index, refl, sym, ap, ◌∙◌, subst, arith}
 use Rattle.std.proofs.Props.{props}
 use mathlib.Core.Option.{none}
-use Rattle.entry_ref.specs.References.{buffer_of}
+use Rattle.entry_ref.specs.References.{buffer_of, offset_of}
 use Rattle.atomic_table.specs.Table.{Me, step}
 use Rattle.atomic_table.specs.Seated.{TableId}
 use Rattle.entry_ref.specs.Places.{base, place, size_of, IsEntry}
@@ -19,9 +19,10 @@ use Rattle.gen_core.specs.declared.views.View.TheVariants.{Writer}
 use Rattle.gen_core.specs.Views.{last_number}
 use Rattle.gen_core.specs.Work.{writer_records}
 use Rattle.gen_core.specs.Good.{GoodView}
+use Rattle.gen_core.specs.Conditions.{IsBufferWord, MayLoadOwn}
 use Rattle.gen_core.specs.Events.{with_reader, joined}
 use Rattle.arena_api.specs.Calls.{IsWithinLimits}
-use Rattle.word_arena.specs.Ruled.{Slot, writer_of, api_sizes, ToldLoadOwn}
+use Rattle.word_arena.specs.Ruled.{Slot, writer_in, api_sizes, ToldLoadOwn}
 use Rattle.word_arena.specs.Knows.{own_hold, StoresEntries, IsDesk}
 use Rattle.gen_core.proofs.GoodViews.{records-placed}
 use Rattle.word_arena.proofs.Guards.{base-inside}
@@ -39,7 +40,7 @@ good-joined w r g = record { count = g.count; some_word = g.some_word; queue = g
 
 module _ {bits : ℕ} {arena : TableId} {sizes : Sizes} {buffers : List Buffer} {holds : List HoldEntry} {last made : ℕ} {z : TableId} {me : Me Slot View} (d : IsDesk bits arena sizes buffers holds last made z me) where
   abbrev pub w : WriterView
-  w = writer_of me.0
+  w = writer_in me.0
 
   -- the desk after a step to the view v
   pub desk_after : {z' : TableId} {me' : Me Slot View} {buffers' : List Buffer} {holds' : List HoldEntry} {last' made' : ℕ} (v : WriterView) → z' ≡ z → me' ≡ (Writer v, me.1) → v.sizes ≡ w.sizes → v.buffers ≡ buffers'
@@ -82,7 +83,7 @@ module _ {bits : ℕ} {arena : TableId} {sizes : Sizes} {buffers : List Buffer} 
       omega (arith, product, more)
 
   -- the width of references
-  pub view-bits : (writer_of me.0).sizes.offset_bits ≡ bits
+  pub view-bits : (writer_in me.0).sizes.offset_bits ≡ bits
   view-bits = ap (λ (x : Sizes). x.offset_bits) d.same_sizes ∙ d.same_bits
 
   module _ (ref i : ℕ) (inside : i < length (writer_records w ref)) where
@@ -98,6 +99,21 @@ module _ {bits : ℕ} {arena : TableId} {sizes : Sizes} {buffers : List Buffer} 
 
     pub place-inside : (p : ℕ) → p ≡ place bits sizes.buffers sizes.words (length (writer_records w ref)) ref i → p < arena.words
     place-inside p is = let lt = place-below the_entry i inside in omega (arith, lt, is, arena-words)
+
+    -- each is a word of its buffer
+    pub may_load_width : (p : ℕ) → p ≡ base sizes.buffers sizes.words (buffer_of bits ref) → MayLoadOwn w p
+    may_load_width p is = record {
+      calm = d.calm;
+      word = subst (λ (z : Sizes). IsBufferWord z p) (sym d.same_sizes) (let e = the_entry in
+          record { b = buffer_of bits ref; x = 0; buffer = e.inside; inside = omega (arith, (within e 0 e.wide).1); is = omega (arith, is) });
+    }
+
+    pub may_load_word : (p : ℕ) → p ≡ place bits sizes.buffers sizes.words (length (writer_records w ref)) ref i → MayLoadOwn w p
+    may_load_word p is = record {
+      calm = d.calm;
+      word = subst (λ (z : Sizes). IsBufferWord z p) (sym d.same_sizes) (let e = the_entry in
+          record { b = buffer_of bits ref; x = offset_of bits ref * length (writer_records w ref) + i; buffer = e.inside; inside = (within e i inside).1; is = is });
+    }
 
     pub width_found : {slots p found : ℕ} {me' : Me Slot View} → p ≡ base sizes.buffers sizes.words (buffer_of bits ref) → ToldLoadOwn (step slots p 0 0 none) me found me' → found ≡ length (writer_records w ref)
     width_found {slots} {p} {found} {me'} is told = told.own.width ref some (is ∙ (λ k. base (sym d.same_sizes k).buffers (sym d.same_sizes k).words (buffer_of (sym view-bits k) ref)))

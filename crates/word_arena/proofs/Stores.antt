@@ -29,7 +29,9 @@ use Rattle.gen_core.proofs.StoredWords.{stored-step, stored-given}
 use Rattle.arena_api.specs.Works.{Buffer as ApiBuffer, active_width as api_active, is_free, last_tag as api_last_tag}
 use Rattle.arena_api.specs.Calls.{MayStore, InNoCommit, AddsCommit, with_stored, with_buffer as api_with_buffer, handed_out as api_handed_out}
 use Rattle.word_arena.specs.Knows.{given, api_buffer, image_at, view_of}
+use Rattle.word_arena.specs.WriterSteps.{IsTaggedBelow}
 use Rattle.word_arena.specs.ProofsForWork.{core-active, at_number}
+use Rattle.gen_core.proofs.Holds.{oldest-least}
 
 -- a work's commits that have no record are the writer's kept ones
 unkept-all : (w : WriterView) → GoodView w → {H : Type 0} (home : H) (r : ℕ) → InNoCommit (view_of home w).commits r → All (λ image. words_at image r ≡ []) (kept_of w)
@@ -109,3 +111,10 @@ module _ (w : WriterView) (g : GoodView w) (image : Image) {H : Type 0} (home : 
 
   pub publish-records : writer_records (published w image) ≡ words_at image
   publish-records k ref = records-published w image ref k
+
+-- the last tag of a free buffer is below each open hold's generation
+pub tagged-below : (w : WriterView) (b : ℕ) → GoodView w → slice_get w.buffers b ≡ Some (Free (last_tag_in w.buffers b)) → IsTaggedBelow w b
+tagged-below w b g free tag is k d lt =
+    let below = g.tags.free b tag (free ∙ ap (λ (o : Option Tag). Some (Free o)) is) in
+    let least = oldest-least w.queue.older w.queue.newest g.queue.rising k d lt in
+    omega (arith, below, least)

@@ -1,4 +1,4 @@
--- The work that a writer's view is.
+-- The writer's view as a work.
 use Rattle.std.specs.Prelude.{◌*◌, ◌≡◌, ℕ, ◌+◌, ◌<◌, ◌≤◌, List, [], map, set, slice_get, Option, Some, None}
 use Rattle.std.specs.Option.{unwrap_or}
 use Rattle.atomic_table.specs.Table.{Me}
@@ -22,7 +22,7 @@ use Rattle.gen_core.specs.Work.{work_at, stored_by}
 use Rattle.gen_core.specs.Events.{opening_view}
 use Rattle.arena_api.specs.Works.{WorkView, Hold, Tag as ApiTag, Buffer as ApiBuffer}
 use Rattle.arena_api.specs.Calls.{IsWithinLimits}
-use Rattle.word_arena.specs.Ruled.{Slot, writer_of, api_sizes}
+use Rattle.word_arena.specs.Ruled.{Slot, writer_in, api_sizes}
 use Rattle.gen_core.specs.Good.{GoodView}
 use Rattle.word_arena.specs.declared.config.Config.{Config}
 
@@ -59,32 +59,32 @@ view_of home w = record {
   made = w.made;
 }
 
--- an open hold as the writer's own queue has it
+-- an open hold, as the writer's own queue has it
 abbrev pub own_hold : OpenHold → HoldEntry
 own_hold e = record { generation = e.generation; hold = e.hold; first_commit = e.first_commit }
 
--- where no word of an entry of a buffer was stored since the last commit, no word of the buffer was
+-- if no word of any entry of a buffer was stored since the last commit, then no word of the buffer was
 pub record StoresEntries (w : WriterView) : Type 0 where
   pub none : (b x : ℕ) → x < w.sizes.words → ((r i : ℕ) → buffer_of w.sizes.offset_bits r ≡ b → stored_by w r i ≡ None)
       → work_at w.work (base w.sizes.buffers w.sizes.words b + x) ≡ None
 
--- what a writer has beside its view
+-- what a writer has besides its view
 pub record IsDesk (bits : ℕ) (arena : TableId) (sizes : Sizes) (buffers : List Buffer) (holds : List HoldEntry) (last made : ℕ)
     (z : TableId) (me : Me Slot View) : Type 0 where
   pub own : z ≡ arena
-  pub is : me ≡ (Writer (writer_of me.0), [])
+  pub is : me ≡ (Writer (writer_in me.0), [])
   pub words : z.words ≡ size_of sizes.buffers sizes.words
-  pub same_sizes : (writer_of me.0).sizes ≡ sizes
+  pub same_sizes : (writer_in me.0).sizes ≡ sizes
   pub same_bits : sizes.offset_bits ≡ bits
-  pub limits : IsWithinLimits bits (api_sizes (writer_of me.0).sizes)
-  pub product : (writer_of me.0).sizes.buffers * (writer_of me.0).sizes.words ≤ 67108864
-  pub same_buffers : (writer_of me.0).buffers ≡ buffers
-  pub same_holds : map own_hold (open_holds (writer_of me.0).queue) ≡ holds
-  pub commits : last ≡ last_number (writer_of me.0).commits
-  pub readers : (made ≡ (writer_of me.0).made) × (made ≤ 64)
-  pub calm : (writer_of me.0).queue.pending ≡ Nothing
-  pub good : GoodView (writer_of me.0)
-  pub entries : StoresEntries (writer_of me.0)
+  pub limits : IsWithinLimits bits (api_sizes (writer_in me.0).sizes)
+  pub product : (writer_in me.0).sizes.buffers * (writer_in me.0).sizes.words ≤ 67108864
+  pub same_buffers : (writer_in me.0).buffers ≡ buffers
+  pub same_holds : map own_hold (open_holds (writer_in me.0).queue) ≡ holds
+  pub commits : last ≡ last_number (writer_in me.0).commits
+  pub readers : (made ≡ (writer_in me.0).made) × (made ≤ 64)
+  pub calm : (writer_in me.0).queue.pending ≡ Nothing
+  pub good : GoodView (writer_in me.0)
+  pub entries : StoresEntries (writer_in me.0)
 
 -- the settings of an arena, as the core's sizes
 abbrev pub core_sizes : ℕ → Config → Sizes
@@ -97,7 +97,7 @@ core_sizes bits config = record {
   generation_limit = config.limits.generations;
 }
 
--- the writer's seat at the opening, and what goes with it
+-- the writer's seat in a new arena, with its copies
 pub record IsToken (bits : ℕ) (sizes : Sizes) (buffers : List Buffer) (z : TableId) (me : Me Slot View) : Type 0 where
   pub is : me ≡ (Writer (opening_view sizes), [])
   pub same_buffers : buffers ≡ (opening_view sizes).buffers
@@ -110,10 +110,10 @@ pub record IsToken (bits : ℕ) (sizes : Sizes) (buffers : List Buffer) (z : Tab
 abbrev pub buffers_by : List Buffer → ℕ → ApiBuffer
 buffers_by buffers b = api_buffer (slice_get buffers b)
 
--- which arena no work is of
+-- an arena to which no work belongs
 abbrev pub nowhere : TableId
 nowhere = record { words = 0; slots = 0; views_name = 0; atom = 0; block = 0; offset = 0; slot_names = [] }
 
--- the writer's view with a buffer of a width
+-- the writer's view after a buffer is given a width
 abbrev pub given : WriterView → ℕ → ℕ → Option Tag → WriterView
 given w b width last = record w { buffers = set w.buffers b (Active width last) }

@@ -1,7 +1,9 @@
 pub mod Ruled
+pub mod Watched
 pub mod Knows
 pub mod WriterHolds
 pub mod PlayEvents
+pub mod Released
 pub mod WriterSteps
 pub mod ProofsForGuards
 pub mod ProofsForWork

@@ -1,4 +1,4 @@
--- Nobody has to read this: lemmas that the writer cites for what is always so of a work.
+-- Lemmas that the writer cites for the invariants of a work. They are proofs, not part of the specification.
 use Rattle.std.proofs.Common.{◌≡◌, ◌≢◌, ◌⊎◌, inl, inr, ⊎_elim, ℕ, suc, ◌+◌, ◌<◌, ◌≤◌, List, [], ◌∷◌, map, length, get_or, slice_index}
 use Rattle.std.proofs.Common.{Option, Some, None, refl, sym, ap, subst, ◌∙◌, arith}
 use Rattle.std.specs.Prelude.{◌^◌, ◌++◌, slice_get, All, AllPairs, option_and_then}
@@ -34,13 +34,13 @@ use Rattle.gen_core.proofs.StoredWords.{is_stored, stored-there}
 use Rattle.arena_api.specs.Works.{Hold, Tag as ApiTag, Buffer as ApiBuffer, active_width as api_active, width_of, newest_of, oldest_of}
 use Rattle.arena_api.specs.Generations.{IsBefore as IsLater, AreInOrder, IsOpenHold, IsQueue, IsHeldUnder}
 use Rattle.arena_api.specs.Calls.{IsWithinLimits, IsInOrder, IsWordIn, FitsEntry}
-use Rattle.word_arena.specs.Ruled.{api_sizes, Slot, writer_of}
+use Rattle.word_arena.specs.Ruled.{api_sizes, Slot, writer_in}
 use Rattle.word_arena.specs.Knows.{api_tag, api_buffer, api_hold, image_at, view_of, IsDesk}
 use Rattle.gen_core.specs.declared.views.View.{View}
 use Rattle.atomic_table.specs.Seated.{TableId}
 use Rattle.atomic_table.specs.Table.{Me}
 
--- the words of a record that is there
+-- the words of an existing record
 there : (o : Option (List ℕ)) → 0 < length (unwrap_or o []) → o ≡ Some (unwrap_or o [])
 there None h = absurd (omega arith)
 there (Some ws) h = refl
@@ -53,7 +53,7 @@ at_number commits n lt = by_commit (slice_get commits n) refl
         absurd (cc)
     by_commit (Some x) e = refl
 
--- what holds of each element by its place holds by recursion
+-- what holds of each element by its index holds by recursion
 by_places : {A : Type 0} (P : Hold → Type 0) (f : A → Hold) (xs : List A) → All (λ x. P (f x)) xs → AllByRecursion P (map f xs)
 by_places P f [] all = tt
 by_places P f (x ∷ xs) all = (all 0 x (omega arith), by_places P f xs (λ k d lt. all (suc k) d (omega arith)))
@@ -86,7 +86,7 @@ newest-api [] newest = refl
 newest-api (x ∷ []) newest = refl
 newest-api (x ∷ y ∷ ys) newest = newest-api (y ∷ ys) newest
 
--- widths as the core and as a work tell them
+-- the core and the work agree on widths
 pub api-active : (o : Option Buffer) (n : ℕ) → option_and_then active_width o ≡ Some n → api_active (api_buffer o) ≡ n
 api-active None n e = absurd (cc)
 api-active (Some (Free last)) n e = absurd (cc)
@@ -259,5 +259,5 @@ work_references w g bits same l r some = entry-small (records-placed w g r some)
     (subst (λ b. w.sizes.words ≤ offset_limit b) (sym same) l.offsets)
 
 pub desk_bits : {bits : ℕ} {arena : TableId} {sizes : Sizes} {buffers : List Buffer} {holds : List HoldEntry} {last made : ℕ} {z : TableId}
-    {me : Me Slot View} → IsDesk bits arena sizes buffers holds last made z me → (writer_of me.0).sizes.offset_bits ≡ bits
+    {me : Me Slot View} → IsDesk bits arena sizes buffers holds last made z me → (writer_in me.0).sizes.offset_bits ≡ bits
 desk_bits d = ap (λ (x : Sizes). x.offset_bits) d.same_sizes ∙ d.same_bits

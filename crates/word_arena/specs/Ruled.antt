@@ -1,6 +1,6 @@
--- The core's state, read off a table, and what each step tells its seat.
+-- The state of the core, read from a table, and what each step tells its seat.
 use Rattle.std.specs.Prelude.{◌^◌, ◌≡◌, ℕ, ◌+◌, ◌*◌, ◌<◌, ◌≤◌, List, [], ◌∷◌, map, length, slice_index, Some, All}
-use Rattle.atomic_table.specs.Table.{State, Me, Step}
+use Rattle.atomic_table.specs.Table.{Me, Step}
 use Rattle.atomic_table.specs.Seated.{TableId}
 use Rattle.entry_ref.specs.References.{buffer_of}
 use Rattle.entry_ref.specs.declared.images.Image.{Image}
@@ -9,21 +9,22 @@ use Rattle.entry_ref.specs.Images.{no_image, record_at}
 use Rattle.entry_ref.specs.Places.{base, state_place, size_of, IsEntry}
 use Rattle.gen_core.specs.declared.views.Sizes.{Sizes}
 use Rattle.gen_core.specs.declared.views.OpenHold.{OpenHold}
-use Rattle.gen_core.specs.declared.views.ReaderState.TheVariants.{Idle, Aimed, Raised, Guarded}
+use Rattle.gen_core.specs.declared.views.ReaderState.TheVariants.{Idle, Aimed, Guarded}
 use Rattle.gen_core.specs.declared.views.WriterView.{WriterView}
 use Rattle.gen_core.specs.declared.views.ReaderView.{ReaderView}
 use Rattle.gen_core.specs.declared.views.View.{View}
 use Rattle.gen_core.specs.declared.views.View.TheVariants.{Writer, Reader}
-use Rattle.gen_core.specs.Views.{hold_place, newest_word, IsCommit, root_word, spent}
+use Rattle.gen_core.specs.Views.{hold_place, newest_word, IsCommit, root_word, stands_on, spent}
 use Rattle.gen_core.specs.Work.{place_in, writer_records, next_image}
-use Rattle.gen_core.specs.Good.{State as CoreState, IsLawfulCommit, Good, GoodView}
+use Rattle.gen_core.specs.Good.{IsLawfulCommit, GoodView}
 use Rattle.gen_core.specs.Conditions.{IsUnder}
-use Rattle.gen_core.specs.Events.{stored, aims, with_state, found_state, bounced, opening_view, widened, handed_out, published, sees}
-use Rattle.gen_core.specs.Events.{with_reader, newcomer, joined, Event, Happen, opening}
+use Rattle.gen_core.specs.Events.{stored, first_aim, aims, meets, bounced, released, opening_view, widened, handed_out, published, sees}
+use Rattle.gen_core.specs.Events.{with_reader, newcomer, joined}
+use Rattle.word_arena.specs.declared.rule.Watched.{Watched}
 use Rattle.arena_api.specs.Works.{Sizes as ApiSizes}
 use Rattle.arena_api.specs.Calls.{IsWithinLimits}
 
--- the sizes as a work tells them
+-- the sizes in the form of a work
 abbrev pub api_sizes : Sizes → ApiSizes
 api_sizes z = record { buffers = z.buffers; words = z.words; commits = z.commit_limit; generations = z.generation_limit }
 
@@ -33,60 +34,56 @@ Slot = Unit {0}
 abbrev pub views_of : WriterView → List ReaderView → List View
 views_of w readers = Writer w ∷ map Reader readers
 
--- a good state, to which these events led from the opening
-pub record IsReached (reaches : ℕ → Records → ℕ → List ℕ) (lawful : ℕ → Records → ℕ
-    → Type 0) (sizes : Sizes) (s : CoreState) : Type 0 where
-  pub events : List Event
-  pub run : Happen reaches lawful (opening sizes) events s
-  pub good : Good reaches lawful s
+-- a seat without what it has seen of the run
+abbrev pub bare : Me Slot Watched → Me Slot View
+bare me = (me.0.view, me.1)
 
--- the words and the views are those of a state of a run of the core
-pub record Ruled (reaches : ℕ → Records → ℕ → List ℕ) (lawful : ℕ → Records → ℕ
-    → Type 0) (sizes : Sizes) (t : State Slot View) : Type 0 where
-  pub writer : WriterView
-  pub readers : List ReaderView
-  pub views : t.views ≡ views_of writer readers
-  pub same_sizes : writer.sizes ≡ sizes
-  pub reached : IsReached reaches lawful sizes (record { words = t.words; writer = writer; readers = readers })
+abbrev pub writer_in : View → WriterView
+writer_in (Writer w) = w
+writer_in (Reader r) = opening_view r.sizes
 
-abbrev pub writer_of : View → WriterView
-writer_of (Writer w) = w
-writer_of (Reader r) = opening_view r.sizes
+abbrev pub reader_in : View → ReaderView
+reader_in (Writer w) = spent
+reader_in (Reader r) = r
 
-abbrev pub reader_of : View → ReaderView
-reader_of (Writer w) = spent
-reader_of (Reader r) = r
+-- of a seat
+abbrev pub writer_of : Watched → WriterView
+writer_of x = writer_in x.view
 
--- the seat's view has become this one
+abbrev pub reader_of : Watched → ReaderView
+reader_of x = reader_in x.view
+
+-- the seat's view becomes this one
 pub record Becomes (me : Me Slot View) (w : WriterView) (me' : Me Slot View) : Type 0 where
   pub is : me' ≡ (Writer w, me.1)
   pub good : GoodView w
 
 abbrev pub told_hand_out : Step Slot → Me Slot View → ℕ → Me Slot View → Type 0
-told_hand_out st me found me' = (b : ℕ) → st.word ≡ state_place b → Becomes me (handed_out (writer_of me.0) b) me'
+told_hand_out st me found me' = (b : ℕ) → st.word ≡ state_place b → Becomes me (handed_out (writer_in me.0) b) me'
 
 abbrev pub told_width : Step Slot → Me Slot View → ℕ → Me Slot View → Type 0
 told_width st me found me' =
-    (b : ℕ) → st.word ≡ base (writer_of me.0).sizes.buffers (writer_of me.0).sizes.words b
-    → Becomes me (widened (writer_of me.0) b st.first) me'
+    (b : ℕ) → st.word ≡ base (writer_in me.0).sizes.buffers (writer_in me.0).sizes.words b
+    → Becomes me (widened (writer_in me.0) b st.first) me'
 
 abbrev pub told_store : Step Slot → Me Slot View → ℕ → Me Slot View → Type 0
-told_store st me found me' = Becomes me (stored (writer_of me.0) st.word st.first) me'
+told_store st me found me' = Becomes me (stored (writer_in me.0) st.word st.first) me'
 
 -- the word that was found counts as stored from then on
 abbrev pub told_find : Step Slot → Me Slot View → ℕ → Me Slot View → Type 0
-told_find st me found me' = Becomes me (stored (writer_of me.0) st.word found) me'
+told_find st me found me' = Becomes me (stored (writer_in me.0) st.word found) me'
 
 module _ (reaches : ℕ → Records → ℕ → List ℕ) (lawful : ℕ → Records → ℕ → Type 0) where
   abbrev pub told_publish : Step Slot → Me Slot View → ℕ → Me Slot View → Type 0
   told_publish st me found me' =
-      (root : ℕ) → st.first ≡ length (writer_of me.0).commits * 2 ^ 32 + root
-      → Becomes me (published (writer_of me.0) (next_image reaches (writer_of me.0) root)) me'
+      (root : ℕ) → st.first ≡ length (writer_in me.0).commits * 2 ^ 32 + root
+      → Becomes me (published (writer_in me.0) (next_image reaches (writer_in me.0) root)) me'
 
-  -- the last commit, whose root word was found, is lawful, lies inside the table and was seen
+  -- the last commit, whose root word was loaded, is lawful, lies inside the table and was seen by a reader that
+  -- stands on a hold
   pub record SeesCommit (r : ReaderView) (found : ℕ) (r' : ReaderView) : Type 0 where
     pub hold : ℕ
-    pub raised : r.state ≡ Raised hold
+    pub stands : stands_on r.state ≡ Some hold
     pub number : ℕ
     pub image : Image
     pub is : r' ≡ sees r hold number image
@@ -99,12 +96,12 @@ module _ (reaches : ℕ → Records → ℕ → List ℕ) (lawful : ℕ → Reco
   pub record ToldLoadRoot (me : Me Slot View) (found : ℕ) (me' : Me Slot View) : Type 0 where
     pub reader : ReaderView
     pub is : me' ≡ (Reader reader, me.1)
-    pub sees_commit : SeesCommit (reader_of me.0) found reader
+    pub sees_commit : SeesCommit (reader_in me.0) found reader
 
   abbrev pub told_load_root : Step Slot → Me Slot View → ℕ → Me Slot View → Type 0
   told_load_root st me found me' = ToldLoadRoot me found me'
 
--- the word found is the image's, or a width of it
+-- the loaded word belongs to the image, or is the width of one of its buffers
 pub record IsFoundWord (z : Sizes) (image : Image) (p found : ℕ) : Type 0 where
   pub word : (ref : ℕ) (ws : List ℕ) (i : ℕ) → record_at image ref ≡ Some ws → i < length ws → p ≡ place_in z (length ws) ref i
       → found ≡ slice_index ws i
@@ -113,12 +110,12 @@ pub record IsFoundWord (z : Sizes) (image : Image) (p found : ℕ) : Type 0 wher
 
 pub record ToldLoadWord (st : Step Slot) (me : Me Slot View) (found : ℕ) (me' : Me Slot View) : Type 0 where
   pub same : me' ≡ me
-  pub word : (c : ℕ) (image : Image) → IsUnder (reader_of me.0) c image → IsFoundWord (reader_of me.0).sizes image st.word found
+  pub word : (c : ℕ) (image : Image) → IsUnder (reader_in me.0) c image → IsFoundWord (reader_in me.0).sizes image st.word found
 
 abbrev pub told_load_word : Step Slot → Me Slot View → ℕ → Me Slot View → Type 0
 told_load_word st me found me' = ToldLoadWord st me found me'
 
--- the word found is one of a record of the writer, or the width of an active buffer
+-- the loaded word belongs to a record of the writer, or is the width of an active buffer
 pub record IsOwn (w : WriterView) (p found : ℕ) : Type 0 where
   pub word : (ref i : ℕ) → i < length (writer_records w ref) → p ≡ place_in w.sizes (length (writer_records w ref)) ref i
       → found ≡ slice_index (writer_records w ref) i
@@ -127,45 +124,56 @@ pub record IsOwn (w : WriterView) (p found : ℕ) : Type 0 where
 
 pub record ToldLoadOwn (st : Step Slot) (me : Me Slot View) (found : ℕ) (me' : Me Slot View) : Type 0 where
   pub same : me' ≡ me
-  pub own : IsOwn (writer_of me.0) st.word found
-  -- what joined readers saw are commits
-  pub seen : All (IsCommit (writer_of me.0).commits) (writer_of me.0).saw
+  pub own : IsOwn (writer_in me.0) st.word found
 
 abbrev pub told_load_own : Step Slot → Me Slot View → ℕ → Me Slot View → Type 0
 told_load_own st me found me' = ToldLoadOwn st me found me'
 
--- the newest entry, whose last word was found
+-- what joined readers saw are commits
+pub record ToldMeetLoad (me : Me Slot View) (me' : Me Slot View) : Type 0 where
+  pub same : me' ≡ me
+  pub seen : All (IsCommit (writer_in me.0).commits) (writer_in me.0).saw
+
+abbrev pub told_meet_load : Step Slot → Me Slot View → ℕ → Me Slot View → Type 0
+told_meet_load st me found me' = ToldMeetLoad me me'
+
+-- the newest open hold, whose word was loaded
 pub record ToldLoadNewest (me : Me Slot View) (found : ℕ) (me' : Me Slot View) : Type 0 where
   pub entry : OpenHold
-  pub is : me' ≡ (Reader (aims (reader_of me.0) entry), me.1)
+  pub is : me' ≡ (Reader (aims (reader_in me.0) entry), me.1)
   pub found_last : found ≡ newest_word entry
   pub low : entry.hold < 16
-  pub least : (reader_of me.0).least ≤ entry.generation
+  pub least : (reader_in me.0).least ≤ entry.generation
 
 abbrev pub told_load_newest : Step Slot → Me Slot View → ℕ → Me Slot View → Type 0
 told_load_newest st me found me' = ToldLoadNewest me found me'
 
 abbrev pub told_raise : Step Slot → Me Slot View → ℕ → Me Slot View → Type 0
-told_raise st me found me' = (h : ℕ) → st.word ≡ hold_place h → me' ≡ (Reader (with_state (reader_of me.0) (found_state found h)), me.1)
+told_raise st me found me' = (h : ℕ) → st.word ≡ hold_place h → me' ≡ (Reader (meets (reader_in me.0) found h), me.1)
 
 pub record ToldBounce (me : Me Slot View) (me' : Me Slot View) : Type 0 where
-  pub is : me' ≡ (Reader (bounced (reader_of me.0)), me.1)
-  pub limit : (reader_of me.0).least + 1 ≤ (reader_of me.0).sizes.generation_limit
+  pub is : me' ≡ (Reader (bounced (reader_in me.0)), me.1)
+  pub limit : (reader_in me.0).least + 1 ≤ (reader_in me.0).sizes.generation_limit
 
 abbrev pub told_bounce : Step Slot → Me Slot View → ℕ → Me Slot View → Type 0
 told_bounce st me found me' = ToldBounce me me'
 
 abbrev pub told_release : Step Slot → Me Slot View → ℕ → Me Slot View → Type 0
-told_release st me found me' = me' ≡ (Reader (with_state (reader_of me.0) Idle), me.1)
+told_release st me found me' = me' ≡ (Reader (released (reader_in me.0)), me.1)
 
-abbrev pub cut_left : View → View
-cut_left v = Writer (with_reader (writer_of v))
+-- a new seat begins with what the writer's seat has seen
+abbrev pub cut_left : Watched → Watched
+cut_left x = record x { view = Writer (with_reader (writer_of x)) }
 
-abbrev pub cut_right : View → View
-cut_right v = Reader (newcomer (writer_of v))
+abbrev pub cut_right : Watched → Watched
+cut_right x = record { view = Reader (newcomer (writer_of x)); seen = x.seen; mine = [] }
 
-abbrev pub glued : View → View → View
-glued v u = Writer (joined (writer_of v) (reader_of u))
+abbrev pub glued : Watched → Watched → Watched
+glued x y = record x { view = Writer (joined (writer_of x) (reader_of y)) }
+
+-- the final state of a joined seat
+abbrev pub gone : Watched
+gone = record { view = Reader spent; seen = []; mine = [] }
 
 abbrev pub first_seen : List (ℕ × Image) → ℕ × Image
 first_seen [] = (0, no_image)
@@ -178,39 +186,47 @@ seen_number r = (first_seen r.saw).0
 abbrev pub seen_image : ReaderView → Image
 seen_image r = (first_seen r.saw).1
 
--- what a reader's seat has, whatever its state
+-- what a reader's seat has in every state
 pub record IsPost (bits : ℕ) (arena : TableId) (sizes : Sizes) (z : TableId) (me : Me Slot View) : Type 0 where
   pub own : z ≡ arena
-  pub is : me ≡ (Reader (reader_of me.0), [])
+  pub is : me ≡ (Reader (reader_in me.0), [])
   pub words : z.words ≡ size_of sizes.buffers sizes.words
-  pub same_sizes : (reader_of me.0).sizes ≡ sizes
+  pub same_sizes : (reader_in me.0).sizes ≡ sizes
   pub same_bits : sizes.offset_bits ≡ bits
   pub limits : IsWithinLimits bits (api_sizes sizes)
   pub product : sizes.buffers * sizes.words ≤ 67108864
 
+-- each miss means that a generation has passed
+abbrev pub Climbs : ReaderView → Type 0
+Climbs r = r.first + r.misses.count ≤ r.least
+
 pub record IsWatch (bits : ℕ) (arena : TableId) (sizes : Sizes) (z : TableId) (me : Me Slot View) : Type 0 where
   pub post : IsPost bits arena sizes z me
-  pub idle : (reader_of me.0).state ≡ Idle
+  pub idle : (reader_in me.0).state ≡ Idle
+  pub climbs : Climbs (reader_in me.0)
 
--- the seat of a reader that aims at a hold, of its least generation
+-- the seat of a reader that aims at a hold, of at least its least generation
 pub record IsAim (bits : ℕ) (arena : TableId) (sizes : Sizes) (hold : ℕ) (z : TableId) (me : Me Slot View) : Type 0 where
   pub post : IsPost bits arena sizes z me
   pub low : hold < 16
-  pub aimed : (reader_of me.0).state ≡ Aimed (reader_of me.0).least hold
+  pub aimed : (reader_in me.0).state ≡ Aimed (reader_in me.0).least hold
+  pub climbs : Climbs (reader_in me.0)
 
--- the first that was seen is the guard's: its records lie inside the table
+-- the first image seen is the guarded one: its records lie inside the table
 pub record IsGuard (bits : ℕ) (arena : TableId) (sizes : Sizes) (hold word : ℕ) (z : TableId) (me : Me Slot View) : Type 0 where
   pub post : IsPost bits arena sizes z me
   pub low : hold < 16
-  pub guarded : (reader_of me.0).state ≡ Guarded hold (seen_number (reader_of me.0))
-  pub some : 0 < length (reader_of me.0).saw
-  pub root : word ≡ root_word (seen_number (reader_of me.0)) (seen_image (reader_of me.0))
-  pub small : (seen_image (reader_of me.0)).root < 2 ^ 32
-  pub small_number : seen_number (reader_of me.0) < 2 ^ 32
-  pub entries : All (λ pair. IsEntry bits sizes.buffers sizes.words (length pair.1) pair.0) (seen_image (reader_of me.0)).records
+  pub guarded : (reader_in me.0).state ≡ Guarded hold (seen_number (reader_in me.0))
+  pub climbs : Climbs (reader_in me.0)
+  pub seen : (reader_in me.0).seen ≡ seen_number (reader_in me.0)
+  pub some : 0 < length (reader_in me.0).saw
+  pub root : word ≡ root_word (seen_number (reader_in me.0)) (seen_image (reader_in me.0))
+  pub small : (seen_image (reader_in me.0)).root < 2 ^ 32
+  pub small_number : seen_number (reader_in me.0) < 2 ^ 32
+  pub entries : All (λ pair. IsEntry bits sizes.buffers sizes.words (length pair.1) pair.0) (seen_image (reader_in me.0)).records
 
--- the guard's commit is lawful, not below what the reader had seen, and all that was seen since; nor is the least
--- generation below the one asked for
+-- the guarded commit is lawful, not older than any that the reader saw before, and the only one seen since; and the
+-- least generation does not fall
 pub record IsLater (reaches : ℕ → Records → ℕ → List ℕ) (lawful : ℕ → Records → ℕ
     → Type 0) (r : ReaderView) (r' : ReaderView) : Type 0 where
   pub same_sizes : r'.sizes ≡ r.sizes
@@ -220,7 +236,7 @@ pub record IsLater (reaches : ℕ → Records → ℕ → List ℕ) (lawful : �
   pub least : r.least ≤ r'.least
   pub commit : IsLawfulCommit reaches lawful r'.sizes.shape (seen_image r')
 
--- after a miss the reader aims higher, and not above the limit; nothing else was seen
+-- after a miss the reader aims higher, within the limit; nothing else was seen
 pub record IsHigher (r : ReaderView) (r' : ReaderView) : Type 0 where
   pub higher : r.least + 1 ≤ r'.least
   pub seen : r'.seen ≡ r.seen
@@ -228,9 +244,25 @@ pub record IsHigher (r : ReaderView) (r' : ReaderView) : Type 0 where
   pub same_sizes : r'.sizes ≡ r.sizes
   pub limit : r'.least ≤ r'.sizes.generation_limit
 
--- an aim is not below the least generation that was asked for, and not above the limit; nothing else was seen
+-- the aim is at least the reader's least generation, and within the limit; nothing else was seen
 pub record IsAimOf (r : ReaderView) (r' : ReaderView) : Type 0 where
   pub same_sizes : r'.sizes ≡ r.sizes
   pub seen : r'.seen ≡ r.seen
   pub saw : r'.saw ≡ r.saw
   pub least : r.least ≤ r'.least
+  pub first : r'.first ≡ first_aim r r'.least
+  pub misses : r'.misses ≡ r.misses
+
+-- this many raises missed, and for each a generation has passed
+pub record Missed (r : ReaderView) (r' : ReaderView) (count : ℕ) : Type 0 where
+  pub rises : r.least + count ≤ r'.least
+  pub counted : r'.misses.count ≡ r.misses.count + count
+  pub first : r'.first ≡ r.first
+
+-- the same after an aim. If there was no miss before, the first aim was at a generation not below the reader's least
+-- one; otherwise it is the earlier first aim
+pub record Tries (r : ReaderView) (r' : ReaderView) (count : ℕ) : Type 0 where
+  pub rises : r.least + count ≤ r'.least
+  pub counted : r'.misses.count ≡ r.misses.count + count
+  pub fresh : r.misses.count ≡ 0 → r.least ≤ r'.first
+  pub going : 0 < r.misses.count → r'.first ≡ r.first

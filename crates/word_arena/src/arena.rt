@@ -2,7 +2,7 @@
 ghost use Rattle.std.specs.Prelude.{◌≡◌, ◌^◌, ◌<◌, ◌≤◌, ◌+◌, ◌*◌, IfOk, length};
 ghost use Rattle.entry_ref.specs.References.{buffer_limit, offset_limit};
 ghost use Rattle.gen_core.specs.Events.{opening_view, opening_words};
-ghost use Rattle.word_arena.specs.Ruled.{writer_of};
+ghost use Rattle.word_arena.specs.Ruled.{bare, writer_of};
 ghost use Rattle.word_arena.specs.Knows.{IsToken, core_sizes};
 
 use crate::config::Config;
@@ -15,18 +15,19 @@ use std::alloc::{AllocError, Global};
 #[derive(Drop)]
 pub struct Arena<const OFFSET_BITS: u32, L: Layout> {
     pub(crate) table: Words<L>,
+    pub(crate) sizes: Sizes,
 }
 
-/// The writer's seat, at the opening.
+/// The writer's seat in a new arena.
 #[derive(Drop)]
 pub struct Token<const OFFSET_BITS: u32> {
     pub(crate) sizes: Sizes,
     pub(crate) buffers: Vec<Buffer>,
     pub(crate) place: Place,
-    ghost stands: { IsToken OFFSET_BITS sizes buffers.items place.table_id place.me },
+    ghost stands: { IsToken OFFSET_BITS sizes buffers.items place.table_id (bare place.me) },
 }
 
-/// Every word is 0, but the counts of holds 1 to 15, which are closed.
+/// Returns the words of a new arena. Every word is 0, except the counts of holds 1 to 15, which are closed.
 fn opening_words(alloc: Global, sizes: &Sizes) -> Result<Vec<u64>, AllocError>
     requires some { 0 < sizes.now.words }
     requires product { sizes.now.buffers * sizes.now.words ≤ 67108864 }
@@ -55,7 +56,7 @@ fn sizes_of<const OFFSET_BITS: u32>(config: &Config) -> Sizes
 }
 
 impl<const OFFSET_BITS: u32, L: Layout> Arena<OFFSET_BITS, L> {
-    /// Commit 0, which has no record, at generation 0 on hold 0, with all buffers free.
+    /// Creates an arena at commit 0, which has no record, and at generation 0 on hold 0. All buffers are free.
     pub fn create(
         alloc: Global,
         config: Config,
@@ -67,7 +68,7 @@ impl<const OFFSET_BITS: u32, L: Layout> Arena<OFFSET_BITS, L> {
         requires offsets { config.words ≤ offset_limit OFFSET_BITS }
         requires product { config.buffers * config.words ≤ 67108864 }
         requires generations { config.limits.generations < 2 ^ 48 }
-        ensures own { IfOk result (λ r. r.1.place.table_id ≡ r.0.table.shared.table_id) }
+        ensures own { IfOk result (λ r. (r.1.place.table_id ≡ r.0.table.shared.table_id) × (r.1.sizes ≡ r.0.sizes)) }
         ensures sizes { IfOk result (λ r. r.1.sizes ≡ core_sizes OFFSET_BITS config) }
         ensures view { IfOk result (λ r. writer_of r.1.place.me.0 ≡ opening_view (core_sizes OFFSET_BITS config)) }
     {
@@ -76,7 +77,7 @@ impl<const OFFSET_BITS: u32, L: Layout> Arena<OFFSET_BITS, L> {
         let words = opening_words(alloc, &sizes)?;
         let (table, place) = Table::of_words(alloc, words.as_slice(), &sizes)?;
         Ok((
-            Arena { table },
+            Arena { table, sizes },
             Token {
                 sizes,
                 buffers,

@@ -1,4 +1,4 @@
-//! The writer's own copy of the buffers.
+//! The writer's own copy of the buffers' states.
 ghost use Rattle.std.specs.Prelude.{◌≡◌, ◌↔◌, ◌<◌, ◌≤◌, length, IsNone, IfSome, slice_get};
 ghost use Rattle.arena_api.specs.Works.{active_width, free_count, is_free as is_free_buffer};
 ghost use Rattle.arena_api.specs.Calls.{IsLowestFree};
@@ -8,7 +8,7 @@ ghost use Rattle.word_arena.specs.WriterSteps.{unused_tag_in};
 
 use gen_core::{Buffer, Tag};
 
-/// The width of an active buffer, 0 for the others.
+/// Returns the width of an active buffer, or 0 for any other.
 pub(crate) fn width_of(buffers: &[Buffer], buffer: u32) -> u64
     requires { buffer < length buffers.now }
     ensures { result ≡ active_width (buffers_by buffers.now buffer) }
@@ -20,7 +20,7 @@ pub(crate) fn width_of(buffers: &[Buffer], buffer: u32) -> u64
     }
 }
 
-/// A buffer's last tag.
+/// Returns a buffer's last tag.
 pub(crate) fn last_of(buffers: &[Buffer], buffer: u32) -> Option<Tag>
     requires { buffer < length buffers.now }
     ensures { result ≡ last_tag_in buffers.now buffer }
@@ -32,7 +32,7 @@ pub(crate) fn last_of(buffers: &[Buffer], buffer: u32) -> Option<Tag>
     }
 }
 
-/// The tag of a buffer on hold, where it is below a generation.
+/// Returns the tag of a buffer on hold, if its generation is below `generation`.
 pub(crate) fn unused_tag(buffers: &[Buffer], buffer: u32, generation: u64) -> Option<Tag>
     requires { buffer < length buffers.now }
     ensures { result ≡ unused_tag_in generation buffers.now buffer }
@@ -61,7 +61,7 @@ fn is_free(buffers: &[Buffer], buffer: u32) -> bool
     }
 }
 
-/// The free buffer of lowest number.
+/// Returns the free buffer with the lowest number.
 pub(crate) fn lowest_free(buffers: &[Buffer], count: u32) -> Option<u32>
     requires { count ≡ length buffers.now }
     ensures none { IsNone result ↔ (free_count (buffers_by buffers.now) count ≡ 0) }

@@ -1,13 +1,13 @@
-//! What an arena is made of.
+//! The settings of an arena.
 
-/// The highest number of a commit, and of a generation (below 2^48).
+/// The highest number of a commit, and the highest generation (below 2^48).
 #[derive(Clone, Copy, PartialEq, Eq, Debug, Drop)]
 pub struct Limits {
     pub commits: u32,
     pub generations: u64,
 }
 
-/// So many buffers of so many words each, the shape by which images are read, and the limits.
+/// The number of buffers, the words of each, the shape by which images are read, and the limits.
 #[derive(Clone, Copy, PartialEq, Eq, Debug, Drop)]
 pub struct Config {
     pub buffers: u32,

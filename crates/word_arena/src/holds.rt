@@ -1,4 +1,4 @@
-//! The writer's steps on holds, and on the buffers that readers can have.
+//! The writer's steps on holds, and on buffers that readers may still reach.
 ghost use Rattle.std.specs.Prelude.{◌≡◌, ◌+◌, ◌<◌, ◌≤◌, length};
 ghost use Rattle.gen_core.specs.Views.{oldest_of};
 ghost use Rattle.gen_core.specs.Conditions.{MayReopen, MayPutOnHold};
@@ -17,7 +17,8 @@ use gen_core::{Buffer, Tag};
 use generation_handler::HOLDS;
 
 impl<'a, const OFFSET_BITS: u32, L: Layout> Writer<'a, OFFSET_BITS, L> {
-    // Puts a buffer on hold that the last commit has no record in, under the current generation and that commit.
+    // Puts a buffer on hold in which the last commit has no record, with the current generation and that commit as
+    // its tag.
     pub(crate) fn put_on_hold(&mut self, buffer: u32)
         requires { MayPutOnHold (writer_of self.old.place.me.0) buffer
             (active_width (buffers_by (writer_of self.old.place.me.0).buffers buffer)) }
@@ -39,7 +40,7 @@ impl<'a, const OFFSET_BITS: u32, L: Layout> Writer<'a, OFFSET_BITS, L> {
         self.buffers[at] = Buffer::Held(width, tag);
     }
 
-    // Looks whether the newest hold is in use, and gives it the next generation where it is not. Answers its count.
+    // Tests whether the newest hold is in use. If it is unused, gives it the next generation. Returns its count.
     fn renew_unused(&mut self) -> u64
         requires { (writer_of self.old.place.me.0).queue.newest.generation + 1 ≤ (writer_of self.old.place.me.0).sizes.generation_limit }
         ensures table { self.new.place.table_id ≡ self.old.place.table_id }
@@ -63,7 +64,7 @@ impl<'a, const OFFSET_BITS: u32, L: Layout> Writer<'a, OFFSET_BITS, L> {
         count
     }
 
-    // Opens a closed hold behind the newest, for the next generation.
+    // Opens a closed hold as the newest, for the next generation.
     fn open_hold(&mut self, hold: u32)
         requires { MayReopen (writer_of self.old.place.me.0) hold }
         ensures table { self.new.place.table_id ≡ self.old.place.table_id }
@@ -83,13 +84,13 @@ impl<'a, const OFFSET_BITS: u32, L: Layout> Writer<'a, OFFSET_BITS, L> {
         self.holds.append(newest.generation + 1, hold, self.last);
     }
 
-    // Makes the next generation current.
+    // Begins the next generation.
     pub(crate) fn go_on(&mut self) -> Advance
         ensures table { self.new.place.table_id ≡ self.old.place.table_id }
         ensures view { AdvancesView result (writer_of self.old.place.me.0) (writer_of self.new.place.me.0) }
     {
         let newest = self.holds.newest();
-        if newest.generation >= self.sizes.generation_limit {
+        if newest.generation >= self.arena.sizes.generation_limit {
             return Advance::Spent {
                 generation: newest.generation,
             };
@@ -114,7 +115,7 @@ impl<'a, const OFFSET_BITS: u32, L: Layout> Writer<'a, OFFSET_BITS, L> {
         }
     }
 
-    // Closes the oldest hold where it is not in use. Answers its count.
+    // Closes the oldest hold if it is unused. Returns its count.
     fn close_oldest(&mut self) -> u64
         requires { 1 < length self.old.holds }
         ensures table { self.new.place.table_id ≡ self.old.place.table_id }
@@ -133,7 +134,8 @@ impl<'a, const OFFSET_BITS: u32, L: Layout> Writer<'a, OFFSET_BITS, L> {
         count
     }
 
-    // Closes holds from the oldest on, up to the newest or to one in use. Answers the count of that one, else 0.
+    // Closes holds from the oldest on, up to the newest or to one in use. Returns the count of the one in use,
+    // otherwise 0.
     pub(crate) fn close_unused(&mut self) -> u64
         ensures table { self.new.place.table_id ≡ self.old.place.table_id }
         ensures view { ClosesUnused result (writer_of self.old.place.me.0) (writer_of self.new.place.me.0) }
@@ -147,7 +149,7 @@ impl<'a, const OFFSET_BITS: u32, L: Layout> Writer<'a, OFFSET_BITS, L> {
         0
     }
 
-    // Frees a buffer that is on hold under a tag below the oldest open generation.
+    // Frees a buffer if it is on hold with a tag below the oldest open generation.
     fn free_one(&mut self, buffer: u32, oldest: u64)
         requires below { buffer < length (writer_of self.old.place.me.0).buffers }
         requires oldest { oldest ≡ (oldest_of (writer_of self.old.place.me.0).queue).generation }
@@ -167,13 +169,13 @@ impl<'a, const OFFSET_BITS: u32, L: Layout> Writer<'a, OFFSET_BITS, L> {
         }
     }
 
-    // Frees each such buffer.
+    // Frees every buffer that is on hold with a tag below the oldest open generation.
     pub(crate) fn free_unused(&mut self)
         ensures table { self.new.place.table_id ≡ self.old.place.table_id }
         ensures view { FreesUnused (writer_of self.old.place.me.0) (writer_of self.new.place.me.0) }
     {
         let oldest = self.holds.oldest();
-        let count = self.sizes.buffers as u32;
+        let count = self.arena.sizes.buffers as u32;
         for buffer in 0..count {
             self.free_one(buffer, oldest.generation);
         }

@@ -1,4 +1,4 @@
-//! One writer and many readers over the words of one table.
+//! One writer and many readers over the words of one atomic table.
 #![tactic(auto)]
 
 mod arena;
@@ -15,6 +15,7 @@ mod writer;
 pub use arena::{Arena, Token};
 pub use config::{Config, Limits};
 pub use reader::{Again, Aimed, Guarded, Reader};
+pub use rule::Watched;
 pub use steps::Steps;
 pub use work::Home;
 pub use writer::{NoSeat, Writer};

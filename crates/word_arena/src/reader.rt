@@ -1,10 +1,11 @@
-//! The readers, and their guards.
-ghost use Rattle.std.specs.Prelude.{take, drop, ◌%◌, ◌≡◌, ◌+◌, ◌*◌, ◌<◌, ◌≤◌, ◌^◌, ℕ, List, length, Some, slice_index, IfOk, IfErr};
+//! Readers and their guards.
+ghost use Rattle.std.specs.Prelude.{take, drop, ◌%◌, ◌≡◌, ◌+◌, ◌-◌, ◌*◌, ◌<◌, ◌≤◌, ◌^◌, ℕ, List, length, Some, slice_index, IfOk, IfErr};
 ghost use Rattle.entry_ref.specs.Images.{words_at};
 ghost use Rattle.entry_ref.specs.Places.{place};
-ghost use Rattle.gen_core.specs.Events.{with_state};
-ghost use Rattle.gen_core.specs.declared.views.ReaderState.TheVariants.{Idle};
-ghost use Rattle.word_arena.specs.Ruled.{reader_of, seen_image, seen_number, IsAimOf, IsLater, IsHigher, IsWatch, IsAim, IsGuard};
+ghost use Rattle.gen_core.specs.Views.{stands_on};
+ghost use Rattle.gen_core.specs.Events.{released, sees};
+ghost use Rattle.word_arena.specs.Ruled.{bare, reader_of, seen_image, seen_number, IsAimOf, IsLater, IsHigher, Missed, Tries, IsWatch};
+ghost use Rattle.word_arena.specs.Ruled.{IsAim, IsGuard};
 ghost use Rattle.word_arena.specs.PlayEvents.{LoadsNewest, RaiseFinds, TryFinds};
 ghost use Rattle.entry_ref.specs.Records.{HasWord, word_at};
 
@@ -14,39 +15,35 @@ use crate::rule::Place;
 use crate::steps::Steps;
 use arena_api::Frozen;
 use entry_ref::{EntryRef, Layout, place_of};
-use gen_core::Sizes;
 use std::sync::ledger::Ledger;
 
 #[derive(Drop)]
 pub struct Reader<'a, const OFFSET_BITS: u32, L: Layout> {
     pub(crate) arena: &'a Arena<OFFSET_BITS, L>,
-    pub(crate) sizes: Sizes,
     pub(crate) place: Place,
-    ghost stands: { IsWatch OFFSET_BITS arena.now.table.shared.table_id sizes place.table_id place.me },
+    ghost stands: { IsWatch OFFSET_BITS arena.now.table.shared.table_id arena.now.sizes place.table_id (bare place.me) },
 }
 
-/// A reader that has loaded the root, and the root word.
+/// A reader that guards a commit, with the root word that it loaded.
 #[derive(Drop)]
 pub struct Guarded<'a, const OFFSET_BITS: u32, L: Layout> {
     pub(crate) arena: &'a Arena<OFFSET_BITS, L>,
-    pub(crate) sizes: Sizes,
     pub(crate) hold: u64,
     pub(crate) found: u64,
     pub(crate) place: Place,
-    ghost stands: { IsGuard OFFSET_BITS arena.now.table.shared.table_id sizes hold found place.table_id place.me },
+    ghost stands: { IsGuard OFFSET_BITS arena.now.table.shared.table_id arena.now.sizes hold found place.table_id (bare place.me) },
 }
 
-/// A reader that has loaded the newest hold, and goes for it.
+/// A reader that has loaded the newest hold and aims at it.
 #[derive(Drop)]
 pub struct Aimed<'a, const OFFSET_BITS: u32, L: Layout> {
     pub(crate) arena: &'a Arena<OFFSET_BITS, L>,
-    pub(crate) sizes: Sizes,
     pub(crate) hold: u64,
     pub(crate) place: Place,
-    ghost stands: { IsAim OFFSET_BITS arena.now.table.shared.table_id sizes hold place.table_id place.me },
+    ghost stands: { IsAim OFFSET_BITS arena.now.table.shared.table_id arena.now.sizes hold place.table_id (bare place.me) },
 }
 
-/// The hold was closed meanwhile: the reader again, and the count that it found.
+/// The hold was closed in the meantime: the reader, and the count that it found.
 #[derive(Drop)]
 pub struct Again<'a, const OFFSET_BITS: u32, L: Layout> {
     pub reader: Reader<'a, OFFSET_BITS, L>,
@@ -60,38 +57,35 @@ impl<'a, const OFFSET_BITS: u32, L: Layout> Reader<'a, OFFSET_BITS, L> {
         ensures aims { IsAimOf (reader_of self.entry.place.me.0) (reader_of result.place.me.0) }
         ensures table { result.place.table_id ≡ self.entry.place.table_id }
     {
-        let Reader {
-            arena,
-            sizes,
-            mut place,
-        } = self;
+        let Reader { arena, mut place } = self;
         let last = arena.table.shared.load::<LoadNewest<L>>(&mut place, 1);
         let hold = last % 65536;
-        Aimed {
-            arena,
-            sizes,
-            hold,
-            place,
-        }
+        Aimed { arena, hold, place }
     }
 
-    /// Aims and raises: a guard of the last commit exactly where the count that the raise found is even. Else the
-    /// reader again, since the hold was closed meanwhile.
+    /// Aims at the newest hold and raises it. Returns a guard of the last commit if and only if the count found by
+    /// the raise is even. Otherwise the hold was closed in the meantime, and the reader is returned.
     pub fn try_guard(self) -> Result<Guarded<'a, OFFSET_BITS, L>, Again<'a, OFFSET_BITS, L>>
         ensures ok { IfOk result (λ g. IsLater L.reaches L.lawful (reader_of self.entry.place.me.0) (reader_of g.place.me.0)) }
         ensures again { IfErr result (λ a. IsHigher (reader_of self.entry.place.me.0) (reader_of a.reader.place.me.0)) }
         ensures even { IfOk result (λ g. (n : ℕ) × TryFinds L.reaches L.lawful self.entry.place.me n × (n % 2 ≡ 0)) }
         ensures odd { IfErr result (λ a. TryFinds L.reaches L.lawful self.entry.place.me a.found × (a.found % 2 ≡ 1)) }
+        ensures found { IfErr result (λ a. a.found ≡ (reader_of a.reader.place.me.0).misses.found) }
+        ensures hit { IfOk result (λ g. Tries (reader_of self.entry.place.me.0) (reader_of g.place.me.0) 0) }
+        ensures miss { IfErr result (λ a. Tries (reader_of self.entry.place.me.0) (reader_of a.reader.place.me.0) 1) }
         ensures table { IfOk result (λ g. g.place.table_id ≡ self.entry.place.table_id) }
         ensures back { IfErr result (λ a. a.reader.place.table_id ≡ self.entry.place.table_id) }
     {
         self.aim().try_raise()
     }
 
-    /// A guard of the last commit, after as many tries as it takes: each that fails leaves a generation behind.
+    /// Guards the last commit, with as many tries as it takes. Each failed try means that a generation has passed, so
+    /// there is at most one try for each generation between the first aim and the last.
     pub fn guard<C: Ledger>(self, tries: &mut Steps<C>) -> Guarded<'a, OFFSET_BITS, L>
         ensures later { IsLater L.reaches L.lawful (reader_of self.entry.place.me.0) (reader_of result.place.me.0) }
-        ensures few { tries.new + (reader_of self.entry.place.me.0).least ≤ tries.old + 1 + (reader_of result.place.me.0).least }
+        ensures some { tries.old + 1 ≤ tries.new }
+        ensures tried { Tries (reader_of self.entry.place.me.0) (reader_of result.place.me.0) (tries.new - (tries.old + 1)) }
+        ensures few { tries.new + (reader_of result.place.me.0).first ≤ tries.old + 1 + (reader_of result.place.me.0).least }
         ensures table { result.place.table_id ≡ self.entry.place.table_id }
         ensures limit { tries.new ≤ tries.old + 1 + (reader_of self.entry.place.me.0).sizes.generation_limit }
     {
@@ -113,19 +107,21 @@ impl<'a, const OFFSET_BITS: u32, L: Layout> Reader<'a, OFFSET_BITS, L> {
 }
 
 impl<'a, const OFFSET_BITS: u32, L: Layout> Aimed<'a, OFFSET_BITS, L> {
-    /// A guard of the last commit, exactly where the count that the raise found is even. Else the reader again, which
-    /// has taken its 2 back.
+    /// Raises the hold. Returns a guard of the last commit if and only if the count found is even. Otherwise takes
+    /// the 2 off the count again and returns the reader.
     pub fn try_raise(self) -> Result<Guarded<'a, OFFSET_BITS, L>, Again<'a, OFFSET_BITS, L>>
         ensures ok { IfOk result (λ g. IsLater L.reaches L.lawful (reader_of self.entry.place.me.0) (reader_of g.place.me.0)) }
         ensures again { IfErr result (λ a. IsHigher (reader_of self.entry.place.me.0) (reader_of a.reader.place.me.0)) }
         ensures even { IfOk result (λ g. (n : ℕ) × RaiseFinds L.reaches L.lawful self.entry.place.me n × (n % 2 ≡ 0)) }
         ensures odd { IfErr result (λ a. RaiseFinds L.reaches L.lawful self.entry.place.me a.found × (a.found % 2 ≡ 1)) }
+        ensures found { IfErr result (λ a. a.found ≡ (reader_of a.reader.place.me.0).misses.found) }
+        ensures hit { IfOk result (λ g. Missed (reader_of self.entry.place.me.0) (reader_of g.place.me.0) 0) }
+        ensures miss { IfErr result (λ a. Missed (reader_of self.entry.place.me.0) (reader_of a.reader.place.me.0) 1) }
         ensures table { IfOk result (λ g. g.place.table_id ≡ self.entry.place.table_id) }
         ensures back { IfErr result (λ a. a.reader.place.table_id ≡ self.entry.place.table_id) }
     {
         let Aimed {
             arena,
-            sizes,
             hold,
             mut place,
         } = self;
@@ -138,7 +134,6 @@ impl<'a, const OFFSET_BITS: u32, L: Layout> Aimed<'a, OFFSET_BITS, L> {
             let found = arena.table.shared.load::<LoadRoot<L>>(&mut place, 0);
             return Ok(Guarded {
                 arena,
-                sizes,
                 hold,
                 found,
                 place,
@@ -148,11 +143,7 @@ impl<'a, const OFFSET_BITS: u32, L: Layout> Aimed<'a, OFFSET_BITS, L> {
             .table
             .shared
             .fetch_sub::<Bounce<L>>(&mut place, word, 2);
-        let reader = Reader {
-            arena,
-            sizes,
-            place,
-        };
+        let reader = Reader { arena, place };
         Err(Again {
             reader,
             found: count,
@@ -174,12 +165,11 @@ impl<'a, const OFFSET_BITS: u32, L: Layout> Guarded<'a, OFFSET_BITS, L> {
     }
 
     pub fn release(self) -> Reader<'a, OFFSET_BITS, L>
-        ensures view { reader_of result.place.me.0 ≡ with_state (reader_of self.entry.place.me.0) Idle }
+        ensures view { reader_of result.place.me.0 ≡ released (reader_of self.entry.place.me.0) }
         ensures table { result.place.table_id ≡ self.entry.place.table_id }
     {
         let Guarded {
             arena,
-            sizes,
             hold,
             found: _,
             mut place,
@@ -188,29 +178,51 @@ impl<'a, const OFFSET_BITS: u32, L: Layout> Guarded<'a, OFFSET_BITS, L> {
             .table
             .shared
             .fetch_sub::<Release<L>>(&mut place, (2 + hold) as usize, 2);
-        Reader {
+        Reader { arena, place }
+    }
+
+    /// Loads the last commit again, under the same hold. No count changes.
+    pub fn again(self) -> Guarded<'a, OFFSET_BITS, L>
+        ensures later { IsLater L.reaches L.lawful (reader_of self.entry.place.me.0) (reader_of result.place.me.0) }
+        ensures not_older { seen_number (reader_of self.entry.place.me.0) ≤ seen_number (reader_of result.place.me.0) }
+        ensures view { reader_of result.place.me.0 ≡ sees (reader_of self.entry.place.me.0) self.entry.hold
+            (seen_number (reader_of result.place.me.0)) (seen_image (reader_of result.place.me.0)) }
+        ensures stays { stands_on (reader_of result.place.me.0).state ≡ stands_on (reader_of self.entry.place.me.0).state }
+        ensures table { result.place.table_id ≡ self.entry.place.table_id }
+    {
+        let Guarded {
             arena,
-            sizes,
+            hold,
+            found: _,
+            mut place,
+        } = self;
+        let now = arena.table.shared.load::<LoadRoot<L>>(&mut place, 0);
+        Guarded {
+            arena,
+            hold,
+            found: now,
             place,
         }
     }
 
-    // Where a word of a record stands, by the width that its buffer tells.
+    // Returns the place of a word of a record, by the width that is stored in its buffer.
     fn place_of_word(&mut self, entry: EntryRef<OFFSET_BITS>, i: u32) -> u64
         requires { HasWord (words_at (seen_image (reader_of self.old.place.me.0))) entry i }
-        ensures place { result ≡ place OFFSET_BITS self.old.sizes.buffers self.old.sizes.words
+        ensures place { result ≡ place OFFSET_BITS self.old.arena.now.sizes.buffers self.old.arena.now.sizes.words
             (length (words_at (seen_image (reader_of self.old.place.me.0)) entry.entry)) entry.entry i }
         ensures same { self.new ≡ self.old }
     {
-        let first = 18 + self.sizes.buffers + u64::from(entry.buffer()) * self.sizes.words;
+        let first = 18
+            + self.arena.sizes.buffers
+            + u64::from(entry.buffer()) * self.arena.sizes.words;
         let width = self
             .arena
             .table
             .shared
             .load::<LoadWord<L>>(&mut self.place, first as usize) as u32;
         place_of(
-            self.sizes.buffers as u32,
-            self.sizes.words as u32,
+            self.arena.sizes.buffers as u32,
+            self.arena.sizes.words as u32,
             width,
             entry,
             i,
@@ -221,7 +233,7 @@ impl<'a, const OFFSET_BITS: u32, L: Layout> Guarded<'a, OFFSET_BITS, L> {
 impl<'a, const OFFSET_BITS: u32, L: Layout> Frozen<OFFSET_BITS> for Guarded<'a, OFFSET_BITS, L> {
     ghost use Rattle.word_arena.specs.ProofsForGuards.{guard_references};
 
-    ghost shape = { λ g. g.sizes.shape };
+    ghost shape = { λ g. (reader_of g.place.me.0).sizes.shape };
 
     ghost records = { λ g. words_at (seen_image (reader_of g.place.me.0)) };
 

@@ -1,24 +1,34 @@
-//! The rule of the table: the core's `Good`, over the words and the views of all seats.
+//! The rule of the table: its words and the views of all seats are those of the single run of the core.
+ghost use Rattle.std.specs.Prelude.{[]};
 ghost use Rattle.gen_core.specs.declared.views.View.TheVariants.{Writer};
 ghost use Rattle.gen_core.specs.Events.{opening_view};
-ghost use Rattle.word_arena.specs.Ruled.{Ruled};
+ghost use Rattle.word_arena.specs.Watched.{OneRun};
 
 use atomic_table::{Seat, Table, TableRule};
 use entry_ref::Layout;
-use gen_core::{Sizes, View};
+use gen_core::{Event, Sizes, View};
 use std::alloc::Global;
+use std::collections::LinkedList;
 use std::marker::PhantomData;
+
+/// What a seat knows: its view, all events of the run up to its last step, and its own steps among them. No value of
+/// this type is made.
+pub struct Watched {
+    pub view: View,
+    pub seen: LinkedList<Event>,
+    pub mine: LinkedList<Event>,
+}
 
 pub struct Law<L> {
     layout: PhantomData<L>,
 }
 
-impl<L: Layout> TableRule<(), View, Sizes> for Law<L> {
-    ghost holds = { Ruled L.reaches L.lawful };
+impl<L: Layout> TableRule<(), Watched, Sizes> for Law<L> {
+    ghost holds = { OneRun L.reaches L.lawful };
 
-    ghost first = { λ sizes. Writer (opening_view sizes) };
+    ghost first = { λ sizes. record { view = Writer (opening_view sizes); seen = []; mine = [] } };
 }
 
-pub type Words<L> = Table<(), View, Sizes, Law<L>, Global>;
+pub type Words<L> = Table<(), Watched, Sizes, Law<L>, Global>;
 
-pub type Place = Seat<(), View>;
+pub type Place = Seat<(), Watched>;

@@ -1,15 +1,18 @@
-//! The writer as a work.
-ghost use Rattle.std.specs.Prelude.{◌≡◌, ◌≢◌, ◌<◌, ◌≤◌, ◌+◌, ◌*◌, ℕ, length, Some, slice_index, true};
+//! The writer as a `Work`.
+ghost use Rattle.std.specs.Prelude.{◌≡◌, ◌≢◌, ◌↔◌, ◌<◌, ◌≤◌, ◌+◌, ◌*◌, ℕ, length, Some, slice_index, true, IsNone, IfSome, IfNone};
 ghost use Rattle.word_arena.specs.Ruled.{writer_of};
 ghost use Rattle.entry_ref.specs.Images.{words_at};
 ghost use Rattle.entry_ref.specs.Places.{IsEntry};
 ghost use Rattle.entry_ref.specs.Records.{with_words};
 ghost use Rattle.entry_ref.specs.References.{buffer_of};
-ghost use Rattle.arena_api.specs.Calls.{MayStore, InNoCommit, AddsCommit, with_stored, padded, next_image, published};
-ghost use Rattle.arena_api.specs.Works.{is_free, active_width};
+ghost use Rattle.arena_api.specs.Calls.{MayStore, InNoCommit, AddsCommit, IsLowestFree, with_stored, padded, next_image, handed_out};
+ghost use Rattle.arena_api.specs.Calls.{published};
+ghost use Rattle.arena_api.specs.Works.{is_free, active_width, free_count};
 ghost use Rattle.gen_core.specs.Views.{last_tag_in};
 ghost use Rattle.gen_core.specs.Work.{writer_records};
 ghost use Rattle.word_arena.specs.Knows.{view_of, given, buffers_by};
+ghost use Rattle.word_arena.specs.Released.{HandsOut};
+ghost use Rattle.word_arena.specs.WriterSteps.{IsTaggedBelow};
 
 use crate::buffers::{count_free, last_of, lowest_free, width_of};
 use crate::plays::{FindWord, HandOut, Publish, StoreWidth, StoreWord};
@@ -19,7 +22,7 @@ use entry_ref::{EntryRef, Layout, place_of};
 use gen_core::Buffer;
 use std::marker::Model;
 
-/// Which arena a work is of. No value of it is made.
+/// The arena that a work belongs to. No value of this type is made.
 pub struct Home {
     nothing: u64,
 }
@@ -33,7 +36,7 @@ impl Model for Home {
     ghost view = { λ _. nowhere };
 }
 
-/// The word at a place, 0 behind the last.
+/// Returns word `i`, or 0 past the end.
 fn word_or_zero(words: &[u64], i: u32) -> u64
     ensures { result ≡ slice_index words.now i }
 {
@@ -42,12 +45,14 @@ fn word_or_zero(words: &[u64], i: u32) -> u64
 }
 
 impl<'a, const OFFSET_BITS: u32, L: Layout> Writer<'a, OFFSET_BITS, L> {
-    // Hands a free buffer out, and stores its width.
+    // Hands out a free buffer, and stores its width.
     fn take_buffer(&mut self, buffer: u32, width: u32)
         requires below { buffer < (writer_of self.old.place.me.0).sizes.buffers }
         requires free { is_free (buffers_by (writer_of self.old.place.me.0).buffers buffer) ≡ true }
         requires some { 0 < width }
         ensures table { self.new.place.table_id ≡ self.old.place.table_id }
+        ensures hands { HandsOut L.reaches L.lawful (writer_of self.old.place.me.0).sizes
+            self.old.place.me.0.seen self.new.place.me.0.seen buffer }
         ensures view { writer_of self.new.place.me.0 ≡ given (writer_of self.old.place.me.0) buffer width
             (last_tag_in (writer_of self.old.place.me.0).buffers buffer) }
     {
@@ -57,7 +62,7 @@ impl<'a, const OFFSET_BITS: u32, L: Layout> Writer<'a, OFFSET_BITS, L> {
             .table
             .shared
             .store::<HandOut<L>>(&mut self.place, 18 + at, 1);
-        let first = 18 + self.sizes.buffers + u64::from(buffer) * self.sizes.words;
+        let first = 18 + self.arena.sizes.buffers + u64::from(buffer) * self.arena.sizes.words;
         self.arena
             .table
             .shared
@@ -65,7 +70,7 @@ impl<'a, const OFFSET_BITS: u32, L: Layout> Writer<'a, OFFSET_BITS, L> {
         self.buffers[at] = Buffer::Active(u64::from(width), last);
     }
 
-    /// Finds the word of an entry that is there, which counts as stored from then on. Its buffer has this width.
+    /// Loads a word of an entry, in a buffer of this width. The word counts as stored from then on.
     fn find_in(&mut self, entry: EntryRef<OFFSET_BITS>, width: u32, i: u32) -> u64
         requires may { MayStore OFFSET_BITS (view_of self.old.place.table_id (writer_of self.old.place.me.0)) entry i }
         requires width { active_width ((view_of self.old.place.table_id (writer_of self.old.place.me.0)).buffer
@@ -79,8 +84,8 @@ impl<'a, const OFFSET_BITS: u32, L: Layout> Writer<'a, OFFSET_BITS, L> {
         ensures shape { (writer_of self.new.place.me.0).sizes.shape ≡ (writer_of self.old.place.me.0).sizes.shape }
     {
         let place = place_of(
-            self.sizes.buffers as u32,
-            self.sizes.words as u32,
+            self.arena.sizes.buffers as u32,
+            self.arena.sizes.words as u32,
             width,
             entry,
             i,
@@ -91,7 +96,8 @@ impl<'a, const OFFSET_BITS: u32, L: Layout> Writer<'a, OFFSET_BITS, L> {
             .load::<FindWord<L>>(&mut self.place, place as usize)
     }
 
-    /// Makes a word of an entry this one, by a store only where another is there: a load costs less. Its buffer has this width.
+    /// Sets a word of an entry, in a buffer of this width. It loads the word first and stores only if that differs,
+    /// since a load is cheaper.
     fn put_in(&mut self, entry: EntryRef<OFFSET_BITS>, width: u32, i: u32, word: u64)
         requires may { MayStore OFFSET_BITS (view_of self.old.place.table_id (writer_of self.old.place.me.0)) entry i }
         requires width { active_width ((view_of self.old.place.table_id (writer_of self.old.place.me.0)).buffer
@@ -109,7 +115,7 @@ impl<'a, const OFFSET_BITS: u32, L: Layout> Writer<'a, OFFSET_BITS, L> {
         }
     }
 
-    /// Stores a word of an entry, whose buffer has this width.
+    /// Stores a word of an entry, in a buffer of this width.
     fn store_in(&mut self, entry: EntryRef<OFFSET_BITS>, width: u32, i: u32, word: u64)
         requires may { MayStore OFFSET_BITS (view_of self.old.place.table_id (writer_of self.old.place.me.0)) entry i }
         requires width { active_width ((view_of self.old.place.table_id (writer_of self.old.place.me.0)).buffer
@@ -123,8 +129,8 @@ impl<'a, const OFFSET_BITS: u32, L: Layout> Writer<'a, OFFSET_BITS, L> {
         ensures shape { (writer_of self.new.place.me.0).sizes.shape ≡ (writer_of self.old.place.me.0).sizes.shape }
     {
         let place = place_of(
-            self.sizes.buffers as u32,
-            self.sizes.words as u32,
+            self.arena.sizes.buffers as u32,
+            self.arena.sizes.words as u32,
             width,
             entry,
             i,
@@ -185,8 +191,27 @@ impl<'a, const OFFSET_BITS: u32, L: Layout> Work<OFFSET_BITS> for Writer<'a, OFF
         }
     }
 
-    fn hand_out(&mut self, width: u32) -> Option<u32> {
-        let buffer = lowest_free(self.buffers.as_slice(), self.sizes.buffers as u32)?;
+    /// The last tag of the buffer, if it has one, is below every open generation; and each reader that had a guard
+    /// when the buffer was put on hold has released it since.
+    fn hand_out(&mut self, width: u32) -> Option<u32>
+        requires { 0 < width }
+        ensures none { IsNone result ↔ (free_count (⟦<Writer<'a, OFFSET_BITS, L> as Work<OFFSET_BITS>>⟧.knows self.old).buffer
+            (⟦<Writer<'a, OFFSET_BITS, L> as Work<OFFSET_BITS>>⟧.knows self.old).sizes.buffers ≡ 0) }
+        ensures lowest { IfSome result (IsLowestFree (⟦<Writer<'a, OFFSET_BITS, L> as Work<OFFSET_BITS>>⟧.knows self.old).buffer
+            (⟦<Writer<'a, OFFSET_BITS, L> as Work<OFFSET_BITS>>⟧.knows self.old).sizes.buffers) }
+        ensures tags { IfSome result (IsTaggedBelow (writer_of self.old.place.me.0)) }
+        ensures hands { IfSome result (HandsOut L.reaches L.lawful (writer_of self.old.place.me.0).sizes
+            self.old.place.me.0.seen self.new.place.me.0.seen) }
+        ensures handed { IfSome result (λ b. ⟦<Writer<'a, OFFSET_BITS, L> as Work<OFFSET_BITS>>⟧.knows self.new
+            ≡ handed_out (⟦<Writer<'a, OFFSET_BITS, L> as Work<OFFSET_BITS>>⟧.knows self.old) b width) }
+        ensures refused { IfNone result (⟦<Writer<'a, OFFSET_BITS, L> as Work<OFFSET_BITS>>⟧.knows self.new
+            ≡ ⟦<Writer<'a, OFFSET_BITS, L> as Work<OFFSET_BITS>>⟧.knows self.old) }
+        ensures records { ⟦<Writer<'a, OFFSET_BITS, L> as Frozen<OFFSET_BITS>>⟧.records self.new
+            ≡ ⟦<Writer<'a, OFFSET_BITS, L> as Frozen<OFFSET_BITS>>⟧.records self.old }
+        ensures shape { ⟦<Writer<'a, OFFSET_BITS, L> as Frozen<OFFSET_BITS>>⟧.shape self.new
+            ≡ ⟦<Writer<'a, OFFSET_BITS, L> as Frozen<OFFSET_BITS>>⟧.shape self.old }
+    {
+        let buffer = lowest_free(self.buffers.as_slice(), self.arena.sizes.buffers as u32)?;
         self.take_buffer(buffer, width);
         Some(buffer)
     }
@@ -243,19 +268,19 @@ impl<'a, const OFFSET_BITS: u32, L: Layout> Work<OFFSET_BITS> for Writer<'a, OFF
     }
 
     fn free_buffers(&self) -> u32 {
-        count_free(self.buffers.as_slice(), self.sizes.buffers as u32)
+        count_free(self.buffers.as_slice(), self.arena.sizes.buffers as u32)
     }
 
     fn buffers(&self) -> u32 {
-        self.sizes.buffers as u32
+        self.arena.sizes.buffers as u32
     }
 
     fn words(&self) -> u32 {
-        self.sizes.words as u32
+        self.arena.sizes.words as u32
     }
 
     fn commits_left(&self) -> u32 {
-        self.sizes.commit_limit as u32 - self.last
+        self.arena.sizes.commit_limit as u32 - self.last
     }
 
     ghost limits = { λ w. w.stands.limits };

@@ -7,53 +7,55 @@ ghost use Rattle.gen_core.specs.Views.{IsCommit};
 ghost use Rattle.gen_core.specs.Work.{writer_records};
 ghost use Rattle.gen_core.specs.Events.{opening_view, with_reader, newcomer, joined};
 ghost use Rattle.arena_api.specs.Calls.{IsFresh};
-ghost use Rattle.word_arena.specs.Ruled.{writer_of, reader_of};
+ghost use Rattle.word_arena.specs.Ruled.{bare, writer_of, reader_of};
+ghost use Rattle.word_arena.specs.Released.{IsWholeRun};
 ghost use Rattle.word_arena.specs.Knows.{view_of, IsDesk};
 ghost use Rattle.entry_ref.specs.Records.{HasWord, word_at};
 
 use crate::arena::{Arena, Token};
-use crate::plays::{Cut, Glue, LoadOwn};
+use crate::plays::{Cut, Glue, LoadOwn, MeetLoad};
 use crate::reader::Reader;
 use crate::rule::Place;
 use arena_api::Frozen;
 use entry_ref::{EntryRef, Layout, place_of};
-use gen_core::{Buffer, Sizes};
+use gen_core::Buffer;
 use generation_handler::Holds;
+use thiserror::Error;
 
 #[derive(Drop)]
 pub struct Writer<'a, const OFFSET_BITS: u32, L: Layout> {
     pub(crate) arena: &'a Arena<OFFSET_BITS, L>,
-    pub(crate) sizes: Sizes,
     pub(crate) buffers: Vec<Buffer>,
     pub(crate) holds: Holds,
     pub(crate) last: u32,
     pub(crate) made: u32,
     pub(crate) place: Place,
-    ghost stands: { IsDesk OFFSET_BITS arena.now.table.shared.table_id sizes buffers.items holds last made place.table_id place.me },
+    ghost stands: { IsDesk OFFSET_BITS arena.now.table.shared.table_id arena.now.sizes buffers.items holds last made
+        place.table_id (bare place.me) },
 }
 
-/// As many readers were made as there can be.
-#[derive(Clone, Copy, PartialEq, Eq, Debug, Drop)]
+/// The highest number of readers was made.
+#[derive(Clone, Copy, PartialEq, Eq, Debug, Drop, Error)]
+#[error("{made} readers were made, and there can be no more")]
 pub struct NoSeat {
     pub made: u32,
 }
 
 impl<const OFFSET_BITS: u32, L: Layout> Arena<OFFSET_BITS, L> {
-    /// The token is this arena's.
+    /// Returns the writer of this arena, whose token is given.
     pub fn writer(&self, token: Token<OFFSET_BITS>) -> Writer<'_, OFFSET_BITS, L>
-        requires { token.place.table_id ≡ self.now.table.shared.table_id }
+        requires { (token.place.table_id ≡ self.now.table.shared.table_id) × (token.sizes ≡ self.now.sizes) }
         ensures view { writer_of result.place.me.0 ≡ opening_view token.entry.sizes }
         ensures table { result.place.table_id ≡ self.now.table.shared.table_id }
         ensures fresh { IsFresh (view_of result.place.table_id (writer_of result.place.me.0)) }
     {
         let Token {
-            sizes,
+            sizes: _,
             buffers,
             place,
         } = token;
         Writer {
             arena: self,
-            sizes,
             buffers,
             holds: Holds::new(),
             last: 0,
@@ -64,7 +66,8 @@ impl<const OFFSET_BITS: u32, L: Layout> Arena<OFFSET_BITS, L> {
 }
 
 impl<'a, const OFFSET_BITS: u32, L: Layout> Writer<'a, OFFSET_BITS, L> {
-    /// A reader that has seen the last commit. No seat exactly where 64 were made; one that was taken in still counts.
+    /// Makes a reader that has seen the last commit. Returns `NoSeat` if and only if 64 readers were made; joined
+    /// readers count too.
     pub fn reader(&mut self) -> Result<Reader<'a, OFFSET_BITS, L>, NoSeat>
         ensures ok { IfOk result (λ r. (r.place.table_id ≡ self.old.place.table_id)
             × (reader_of r.place.me.0 ≡ newcomer (writer_of self.old.place.me.0))
@@ -80,23 +83,20 @@ impl<'a, const OFFSET_BITS: u32, L: Layout> Writer<'a, OFFSET_BITS, L> {
         self.made += 1;
         Ok(Reader {
             arena: self.arena,
-            sizes: self.sizes,
             place,
         })
     }
 
-    /// Ends a reader. What it saw is then known to be commits.
+    /// Joins a reader. All that it saw is then known to be commits; and what the writer has seen is then the whole
+    /// run so far, in which no buffer was handed out while a reader had a guard from before its hold.
     pub fn take_in(&mut self, reader: Reader<'a, OFFSET_BITS, L>)
         requires { reader.place.table_id ≡ self.old.place.table_id }
         ensures view { writer_of self.new.place.me.0 ≡ joined (writer_of self.old.place.me.0) (reader_of reader.entry.place.me.0) }
         ensures table { self.new.place.table_id ≡ self.old.place.table_id }
         ensures commits { All (IsCommit (writer_of self.new.place.me.0).commits) (writer_of self.new.place.me.0).saw }
+        ensures run { IsWholeRun L.reaches L.lawful (writer_of self.old.place.me.0).sizes self.new.place.me.0.seen }
     {
-        let Reader {
-            arena: _,
-            sizes: _,
-            place,
-        } = reader;
+        let Reader { arena: _, place } = reader;
         self.arena
             .table
             .shared
@@ -104,25 +104,27 @@ impl<'a, const OFFSET_BITS: u32, L: Layout> Writer<'a, OFFSET_BITS, L> {
         self.arena
             .table
             .shared
-            .load::<LoadOwn<L>>(&mut self.place, 0);
+            .load::<MeetLoad<L>>(&mut self.place, 0);
     }
 
-    // Where a word of a record stands, by the width that its buffer tells.
+    // Returns the place of a word of a record, by the width that is stored in its buffer.
     fn place_of_word(&mut self, entry: EntryRef<OFFSET_BITS>, i: u32) -> u64
         requires { HasWord (writer_records (writer_of self.old.place.me.0)) entry i }
-        ensures place { result ≡ place OFFSET_BITS self.old.sizes.buffers self.old.sizes.words
+        ensures place { result ≡ place OFFSET_BITS self.old.arena.now.sizes.buffers self.old.arena.now.sizes.words
             (length (writer_records (writer_of self.old.place.me.0) entry.entry)) entry.entry i }
         ensures same { self.new ≡ self.old }
     {
-        let first = 18 + self.sizes.buffers + u64::from(entry.buffer()) * self.sizes.words;
+        let first = 18
+            + self.arena.sizes.buffers
+            + u64::from(entry.buffer()) * self.arena.sizes.words;
         let width = self
             .arena
             .table
             .shared
             .load::<LoadOwn<L>>(&mut self.place, first as usize) as u32;
         place_of(
-            self.sizes.buffers as u32,
-            self.sizes.words as u32,
+            self.arena.sizes.buffers as u32,
+            self.arena.sizes.words as u32,
             width,
             entry,
             i,

@@ -15,7 +15,7 @@ fn weight_of(number: i64) -> Option<i32>
     i32::try_from(number).ok()
 }
 
-/// The part at the front.
+/// Reads the part at the front.
 #[tactic(auto, unfolding(crate::specs::Dot::part_front))]
 fn part_in(alloc: Global, bytes: &[u8]) -> Result<(Part, &[u8]), ReadError>
     ensures { Finds (λ found. (found.0, found.1.now)) result (part_front bytes.now) }
@@ -27,7 +27,7 @@ fn part_in(alloc: Global, bytes: &[u8]) -> Result<(Part, &[u8]), ReadError>
     Ok((Part { value, weight }, rest))
 }
 
-/// The parts up to the closing bracket.
+/// Reads the parts up to the closing bracket.
 pub fn parts_up_to_end(alloc: Global, bytes: &[u8]) -> Result<Parts, ReadError>
     ensures { Finds (λ parts. parts) result (parts_front (length bytes.now) bytes.now) }
 {
@@ -48,7 +48,7 @@ pub fn parts_up_to_end(alloc: Global, bytes: &[u8]) -> Result<Parts, ReadError>
     Err(ReadError::NotRead)
 }
 
-/// What follows `dot(`.
+/// Returns what follows `dot(`.
 #[tactic(auto, unfolding(crate::specs::Asks::dot_front))]
 fn after_dot(bytes: &[u8]) -> Option<&[u8]>
     ensures { option_map (λ rest. rest.now) result ≡ dot_front bytes.now }
@@ -68,7 +68,7 @@ fn parts_behind(alloc: Global, bytes: &[u8]) -> Result<Parts, ReadError>
     }
 }
 
-/// The parts of the dot product, which may have a name before it.
+/// Reads the parts of the dot product, which may have a name before it.
 pub fn parts_in(alloc: Global, text: &[u8]) -> Result<Parts, ReadError>
     ensures { Finds (λ parts. parts) result (parts_in text.now) }
 {

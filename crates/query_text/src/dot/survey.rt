@@ -7,7 +7,7 @@ use crate::mode::{Mode, Role, Spell, number_begun, value_begun};
 use crate::survey::{ends_query, is_right, is_small, type_at};
 use attr_types::{Field, ValueType, begins_name, continues_name, field_named};
 
-/// Where the text of a dot product stands between two of its bytes.
+/// The state of the scan of a dot product between two bytes.
 #[derive(Clone, Copy, Debug, PartialEq, Eq)]
 pub enum DotMode {
     /// Before the first byte.
@@ -34,13 +34,13 @@ pub enum DotMode {
     Ended,
 }
 
-/// What the front of the text has shown.
+/// What the scanned front of a text shows.
 #[derive(Clone, Copy, Debug, PartialEq, Eq)]
 pub struct DotSurvey {
     pub mode: DotMode,
-    /// The number of the attribute, where it is there.
+    /// The number of the attribute, if it exists.
     pub found: Option<usize>,
-    /// Whether all values are of the type of the attribute.
+    /// Whether all values have the attribute's type.
     pub right: bool,
     /// Whether all values and weights are in range.
     pub small: bool,
@@ -127,7 +127,7 @@ fn is_weight_size(mode: Mode) -> bool
 }
 
 impl DotMode {
-    /// The mode after one more byte, where some dot product goes on so.
+    /// Returns the mode after one more byte, if some dot product continues with it.
     #[tactic(auto, unfolding(crate::specs::Dot::dot_next))]
     fn next(self, byte: u8) -> Option<DotMode>
         ensures { result ≡ dot_next self byte }
@@ -156,7 +156,7 @@ impl DotMode {
         }
     }
 
-    /// Whether a value that is being read is in range so far.
+    /// Returns whether the current value is in range so far.
     fn is_small(self) -> bool
         ensures { result ≡ is_small_part self }
     {
@@ -166,7 +166,7 @@ impl DotMode {
         }
     }
 
-    /// Whether a weight that ends with the step to the next mode is in range.
+    /// Returns whether a weight that ends with the step to the next mode is in range.
     fn is_small_weight(self, next: DotMode) -> bool
         ensures { result ≡ is_small_weight self next }
     {
@@ -242,7 +242,7 @@ impl DotSurvey {
     }
 }
 
-/// What a text shows, or the place where it stops being a dot product.
+/// Scans a text, and returns what it shows, or the place from which on it is not a dot product.
 pub fn dot_survey_of(text: &[u8], fields: &[Field]) -> Result<DotSurvey, u64>
     ensures { result ≡ dot_surveyed fields.now text.now }
 {

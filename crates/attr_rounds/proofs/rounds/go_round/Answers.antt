@@ -1,7 +1,8 @@
 use Rattle.std.proofs.Common.{subst, sym, refl, ◌∙◌, ap, length, arith}
 use Rattle.gen_core.specs.declared.views.Sizes.{Sizes}
 use Rattle.word_arena.specs.Ruled.{reader_of}
-use Rattle.attr_rounds.proofs.RoundLemmas.{no_rounds}
+use Rattle.attr_rounds.specs.Posts.{view_at}
+use Rattle.attr_rounds.proofs.RoundLemmas.{no_rounds, sight_kept}
 use Rattle.attr_rounds.specs.Rounds.{MakesRounds}
 use Rattle.attr_rounds.proofs.rounds.go_round.Goals as goal
 
@@ -25,7 +26,16 @@ one_round-requires g c =
 pub loop-preserved : goal.loop-preserved
 loop-preserved g c =
     let i = c.loop.invariant in
-    let next = c.in_ok-reader.ensures in
+    let next = c.in_ok-post.ensures in
     let one = next.count in
     let made = i.count in
     record { rounds = next.rounds (reader_of c.args.reader.place.me.0) i.rounds; count = omega (arith, one, made); table = next.table ∙ i.table }
+
+pub returns-clause-rounds : goal.returns-clause-rounds
+returns-clause-rounds g c =
+    let i = c.loop.invariant in
+    sight_kept g.Q.Question.operations (g.Q.Question.answers c.args.question.now) g.L.Layout.lawful (reader_of c.args.reader.place.me.0) (view_at c.loop.post) (reader_of c.let_go-reader.result.place.me.0) c.loop.rounds.items
+    i.rounds c.let_go-reader.ensures.same
+
+pub returns-clause-table : goal.returns-clause-table
+returns-clause-table g c = c.let_go-reader.ensures.table ∙ c.loop.invariant.table

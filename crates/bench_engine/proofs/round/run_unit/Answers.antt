@@ -26,6 +26,6 @@ returns g c =
     let u = c.drop_nodes.new.store in
     let v = c.accept.new.self in
     let refs = c.make_nodes.new.entries.items in
-    let dropped : DropsEntries (ledger t) (ledger u) (records t) (records u) refs = subst (DropsEntries (ledger t) (ledger u) (records t) (records u)) c.deref.ensures.value c.drop_nodes.ensures in
+    let dropped : DropsEntries (ledger t) (ledger u) (records t) (records u) refs = subst (DropsEntries (ledger t) (ledger u) (records t) (records u)) c.deref.ensures.value c.drop_nodes.ensures.drops in
     λ root holds. unit-holds (ledger s) (ledger b) (ledger t) (ledger u) (ledger v) (records s) (records b) (records t) (records u) (records v) refs
     c.begin.ensures.ledger c.in_ok-make_nodes.ensures dropped c.accept.ensures root holds

@@ -39,7 +39,7 @@ returns-clause-keyed g c =
     let pairs = take_out seen (tree_pairs m c.args.root) in
     let most = levels m c.args.root + 1 in
     let u = c.drop_nodes.new.store in
-    let drops = subst (λ xs. DropsEntries (ledger t) (ledger u) (records t) (records u) xs) c.deref.ensures.0 c.drop_nodes.ensures in
+    let drops = subst (λ xs. DropsEntries (ledger t) (ledger u) (records t) (records u) xs) c.deref.ensures.0 c.drop_nodes.ensures.drops in
     let ps = tree_pairs m c.args.root in
     let keyed = c.requires.keyed in
     end-keyed (ledger s) (ledger t) m (records t) most c.args.root c.in_ok-next.next gone pairs c.requires.owns c.in_ok-next.ensures.rebuilds c.rebuild.ensures.makes (g.met.S.Store.recorded s) (ledger u)
@@ -62,7 +62,7 @@ returns-clause-turns g c =
     let pairs = take_out seen (tree_pairs m c.args.root) in
     let most = levels m c.args.root + 1 in
     let u = c.drop_nodes.new.store in
-    let drops = subst (λ xs. DropsEntries (ledger t) (ledger u) (records t) (records u) xs) c.deref.ensures.0 c.drop_nodes.ensures in
+    let drops = subst (λ xs. DropsEntries (ledger t) (ledger u) (records t) (records u) xs) c.deref.ensures.0 c.drop_nodes.ensures.drops in
     end-turns (ledger s) (ledger t) m (records t) most c.args.root c.in_ok-next.next gone pairs c.requires.owns c.in_ok-next.ensures.rebuilds c.rebuild.ensures.makes (g.met.S.Store.recorded s) (ledger u)
     (records u) drops c.requires.keyed.tree.node
 
@@ -79,7 +79,7 @@ returns-clause-owns g c =
     let pairs = take_out seen (tree_pairs m c.args.root) in
     let most = levels m c.args.root + 1 in
     let u = c.drop_nodes.new.store in
-    let drops = subst (λ xs. DropsEntries (ledger t) (ledger u) (records t) (records u) xs) c.deref.ensures.0 c.drop_nodes.ensures in
+    let drops = subst (λ xs. DropsEntries (ledger t) (ledger u) (records t) (records u) xs) c.deref.ensures.0 c.drop_nodes.ensures.drops in
     end-owns (ledger s) (ledger t) m (records t) most c.args.root c.in_ok-next.next gone pairs c.requires.owns c.in_ok-next.ensures.rebuilds c.rebuild.ensures.makes (g.met.S.Store.recorded s) (ledger u)
     (records u) drops c.requires.keyed.tree.node
 
@@ -96,7 +96,7 @@ returns-clause-pairs g c =
     let pairs = take_out seen (tree_pairs m c.args.root) in
     let most = levels m c.args.root + 1 in
     let u = c.drop_nodes.new.store in
-    let drops = subst (λ xs. DropsEntries (ledger t) (ledger u) (records t) (records u) xs) c.deref.ensures.0 c.drop_nodes.ensures in
+    let drops = subst (λ xs. DropsEntries (ledger t) (ledger u) (records t) (records u) xs) c.deref.ensures.0 c.drop_nodes.ensures.drops in
     end-pairs (ledger s) (ledger t) m (records t) most c.args.root c.in_ok-next.next gone pairs c.requires.owns c.in_ok-next.ensures.rebuilds c.rebuild.ensures.makes (g.met.S.Store.recorded s) (ledger u)
     (records u) drops c.requires.keyed.tree.node
 
@@ -113,7 +113,7 @@ returns-clause-others g c =
     let pairs = take_out seen (tree_pairs m c.args.root) in
     let most = levels m c.args.root + 1 in
     let u = c.drop_nodes.new.store in
-    let drops = subst (λ xs. DropsEntries (ledger t) (ledger u) (records t) (records u) xs) c.deref.ensures.0 c.drop_nodes.ensures in
+    let drops = subst (λ xs. DropsEntries (ledger t) (ledger u) (records t) (records u) xs) c.deref.ensures.0 c.drop_nodes.ensures.drops in
     end-others (ledger s) (ledger t) m (records t) most c.args.root c.in_ok-next.next gone pairs c.requires.owns c.in_ok-next.ensures.rebuilds c.rebuild.ensures.makes (g.met.S.Store.recorded s) (ledger u)
     (records u) drops c.requires.keyed.tree.node
 
@@ -130,7 +130,7 @@ returns-clause-may g c =
     let pairs = take_out seen (tree_pairs m c.args.root) in
     let most = levels m c.args.root + 1 in
     let u = c.drop_nodes.new.store in
-    let drops = subst (λ xs. DropsEntries (ledger t) (ledger u) (records t) (records u) xs) c.deref.ensures.0 c.drop_nodes.ensures in
+    let drops = subst (λ xs. DropsEntries (ledger t) (ledger u) (records t) (records u) xs) c.deref.ensures.0 c.drop_nodes.ensures.drops in
     end-may (ledger s) (ledger t) m (records t) most c.args.root c.in_ok-next.next gone pairs c.requires.owns c.in_ok-next.ensures.rebuilds c.rebuild.ensures.makes (g.met.S.Store.recorded s) (ledger u)
     (records u) drops c.requires.keyed.tree.node
 
@@ -147,7 +147,7 @@ returns-clause-counts g c =
     let pairs = take_out seen (tree_pairs m c.args.root) in
     let most = levels m c.args.root + 1 in
     let u = c.drop_nodes.new.store in
-    let drops = subst (λ xs. DropsEntries (ledger t) (ledger u) (records t) (records u) xs) c.deref.ensures.0 c.drop_nodes.ensures in
+    let drops = subst (λ xs. DropsEntries (ledger t) (ledger u) (records t) (records u) xs) c.deref.ensures.0 c.drop_nodes.ensures.drops in
     end-counts (ledger s) (ledger t) m (records t) most c.args.root c.in_ok-next.next gone pairs c.requires.owns c.in_ok-next.ensures.rebuilds c.rebuild.ensures.makes (g.met.S.Store.recorded s) (ledger u)
     (records u) drops c.requires.keyed.tree.node
 

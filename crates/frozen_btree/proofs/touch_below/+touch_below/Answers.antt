@@ -1,4 +1,4 @@
-use Rattle.std.proofs.Common.{rules, ◌≡◌, ◌≢◌, ◌<◌, ◌≤◌, ◌+◌, ◌-◌, ◌++◌, ℕ, suc, [], ◌∷◌, length, get_or, set, true, sym, ap, subst, ◌∙◌, arith}
+use Rattle.std.proofs.Common.{rules, ◌≡◌, ◌≢◌, ◌<◌, ◌≤◌, ◌+◌, ◌-◌, ◌++◌, ℕ, suc, [], ◌∷◌, length, get_or, set, true, refl, sym, ap, subst, ◌∙◌, arith}
 use Rattle.std.proofs.lemmas.Result.{IfOk-weaker}
 use Rattle.entry_ref.specs.References.{buffer_of}
 use Rattle.tree_read.specs.Nodes.{level_of, node_values}
@@ -13,7 +13,11 @@ use Rattle.tree_read.proofs.ReadLemmas.{node-even, inner-pairs}
 use Rattle.tree_read.proofs.PairLemmas.{All-child}
 use Rattle.frozen_btree.specs.Touches.{CopiesNode, Touches}
 use Rattle.frozen_btree.proofs.CopyLemmas.{child-node}
-use Rattle.frozen_btree.proofs.TouchLemmas.{node-stays, node-anew}
+use Rattle.frozen_btree.proofs.TouchLemmas.{node-stays, node-anew, way-apart}
+use Rattle.frozen_btree.proofs.PathLemmas.{path-leaf}
+use Rattle.frozen_btree.proofs.Results.{one_answer, no_error}
+use Rattle.frozen_btree.specs.Paths.{NoneIn, path_below}
+use Rattle.frozen_btree.proofs.touch_below.+touch_below.Goals.{else-raw-step-via-then-raw-step+else-buffer, else-raw-step-via-else-raw-step}
 use Rattle.frozen_btree.proofs.touch_below.+touch_below.Goals as goal
 
 pub step_at-step-requires : goal.step_at-step-requires
@@ -284,3 +288,98 @@ returns-clause-makes g t c =
     subst (λ f. MakesNodes (ledger f) (ledger t) (records f) n (suc l)) c.step_at-step.ensures.same c.touch_below.ensures.makes in
     let u = c.copy_with.new.store in
     makes-then (ledger s) (ledger t) (ledger u) m n (records u) (suc l) 1 (suc c.args.level) (omega arith) makes c.copy_with.ensures.nodes
+
+pub returns-then-level-eq0-clause-still : goal.returns-then-level-eq0-clause-still
+returns-then-level-eq0-clause-still g t c =
+    let key = g.K.KeyOrder in
+    let m = g.S.Frozen.records c.args.store.now in
+    let seen = seen_by key.read key.order (key.sought c.args.key.now) m in
+    let bits = g.row.OFFSET_BITS in
+    let buffer = c.args.buffer in
+    λ none.
+    let leaf : NoneIn bits buffer (c.args.node ∷ []) =
+    subst (NoneIn bits buffer) (path-leaf m seen c.args.node) (subst (λ k. NoneIn bits buffer (path_below m seen k c.args.node)) c.if-level-eq0.true none) in
+    c.touch_leaf.ensures.still leaf.0
+
+pub returns-in_err-next-clause-still : goal.returns-in_err-next-clause-still
+returns-in_err-next-clause-still g t c =
+    let records = g.S.Frozen.records in
+    let s = c.args.store.now in
+    let m = records s in
+    let node = c.args.node in
+    let l = c.args.level - 1 in
+    let up : c.args.level ≡ suc l = (let other = c.if-level-eq0.false in omega arith) in
+    let is : IsNode m 1 (suc l) node = subst (λ k. IsNode m 1 k node) up c.requires.node in
+    let key = g.K.KeyOrder in
+    let seen = seen_by key.read key.order (key.sought c.args.key.now) m in
+    let even = node-even m 1 (suc l) node is in
+    let step = c.step_at-step.ensures in
+    let i = c.step_at-step.result.slot in
+    let vs = node_values (m node) in
+    let q = c.from_raw-child.result in
+    let child : q ≡ get_or vs i 0 = c.from_raw-child.ensures ∙ step.child in
+    let bits = g.row.OFFSET_BITS in
+    let buffer = c.args.buffer in
+    λ none.
+    let apart = way-apart bits buffer m seen l node i even step.place (subst (λ k. NoneIn bits buffer (path_below m seen k node)) up none) in
+    let below : NoneIn bits buffer (path_below m seen l q) = subst (λ r. NoneIn bits buffer (path_below m seen l r)) (sym child) apart.1 in
+    let told = c.touch_below.ensures.still (subst (λ f. NoneIn bits buffer (path_below (records f) (seen_by key.read key.order (key.sought c.args.key.now) (records f)) l q)) (sym step.same) below) in
+    no_error c.touch_below.result q _ told.0 c.in_err-next.was
+
+pub returns-then-buffer-clause-still : goal.returns-then-buffer-clause-still
+returns-then-buffer-clause-still g t c =
+    let records = g.S.Frozen.records in
+    let s = c.args.store.now in
+    let m = records s in
+    let node = c.args.node in
+    let l = c.args.level - 1 in
+    let up : c.args.level ≡ suc l = (let other = c.if-level-eq0.false in omega arith) in
+    let is : IsNode m 1 (suc l) node = subst (λ k. IsNode m 1 k node) up c.requires.node in
+    let key = g.K.KeyOrder in
+    let seen = seen_by key.read key.order (key.sought c.args.key.now) m in
+    let even = node-even m 1 (suc l) node is in
+    let step = c.step_at-step.ensures in
+    let i = c.step_at-step.result.slot in
+    let vs = node_values (m node) in
+    let q = c.from_raw-child.result in
+    let child : q ≡ get_or vs i 0 = c.from_raw-child.ensures ∙ step.child in
+    let bits = g.row.OFFSET_BITS in
+    let buffer = c.args.buffer in
+    λ none.
+    let apart = way-apart bits buffer m seen l node i even step.place (subst (λ k. NoneIn bits buffer (path_below m seen k node)) up none) in
+    let below : NoneIn bits buffer (path_below m seen l q) = subst (λ r. NoneIn bits buffer (path_below m seen l r)) (sym child) apart.1 in
+    let told = c.touch_below.ensures.still (subst (λ f. NoneIn bits buffer (path_below (records f) (seen_by key.read key.order (key.sought c.args.key.now) (records f)) l q)) (sym step.same) below) in
+    (refl, (told.1.0 ∙ step.same, told.1.1))
+
+pub returns-clause-still : goal.returns-clause-still
+returns-clause-still g t c =
+    let records = g.S.Frozen.records in
+    let s = c.args.store.now in
+    let m = records s in
+    let node = c.args.node in
+    let l = c.args.level - 1 in
+    let up : c.args.level ≡ suc l = (let other = c.if-level-eq0.false in omega arith) in
+    let is : IsNode m 1 (suc l) node = subst (λ k. IsNode m 1 k node) up c.requires.node in
+    let key = g.K.KeyOrder in
+    let seen = seen_by key.read key.order (key.sought c.args.key.now) m in
+    let even = node-even m 1 (suc l) node is in
+    let step = c.step_at-step.ensures in
+    let i = c.step_at-step.result.slot in
+    let vs = node_values (m node) in
+    let q = c.from_raw-child.result in
+    let child : q ≡ get_or vs i 0 = c.from_raw-child.ensures ∙ step.child in
+    let bits = g.row.OFFSET_BITS in
+    let buffer = c.args.buffer in
+    λ none.
+    let apart = way-apart bits buffer m seen l node i even step.place (subst (λ k. NoneIn bits buffer (path_below m seen k node)) up none) in
+    let below : NoneIn bits buffer (path_below m seen l q) = subst (λ r. NoneIn bits buffer (path_below m seen l r)) (sym child) apart.1 in
+    let told = c.touch_below.ensures.still (subst (λ f. NoneIn bits buffer (path_below (records f) (seen_by key.read key.order (key.sought c.args.key.now) (records f)) l q)) (sym step.same) below) in
+    let same : c.in_ok-next.next ≡ q = one_answer c.touch_below.result c.in_ok-next.next q c.in_ok-next.was told.0 in
+    elim c.else-raw-step.branch [
+      | else-raw-step-via-then-raw-step+else-buffer w ↦
+          (let at = w.buffer.ensures.value in let lies = w.if-buffer.false in absurd (apart.0 (omega arith)))
+      | else-raw-step-via-else-raw-step w ↦
+          (let raw : c.raw.result ≡ c.in_ok-next.next = c.raw.ensures in
+          let from : q ≡ c.step_at-step.result.child = c.from_raw-child.ensures in
+          absurd (w.if-raw-step.false (raw ∙ same ∙ from)))
+    ]

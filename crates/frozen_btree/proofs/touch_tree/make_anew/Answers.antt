@@ -1,4 +1,4 @@
-use Rattle.std.proofs.Common.{◌≡◌, ◌<◌, suc, [], length, true, sym, ap, subst, ◌∙◌, arith}
+use Rattle.std.proofs.Common.{◌≡◌, ◌<◌, suc, [], length, true, refl, sym, ap, subst, ◌∙◌, arith}
 use Rattle.std.proofs.lemmas.Result.{IfOk-weaker}
 use Rattle.tree_read.specs.Trees.{pairs_below, tree_pairs, root_level, IsNode}
 use Rattle.tree_read.specs.Keys.{seen_by, AllReadable}
@@ -7,7 +7,9 @@ use Rattle.frozen_btree.specs.Makes.{MakesNodes}
 use Rattle.frozen_btree.proofs.MakesLemmas.{makes-none}
 use Rattle.frozen_btree.proofs.Results.{not_valid, is_valid}
 use Rattle.frozen_btree.proofs.TopLemmas.{root-size, root-level, root-low, root-one, root-pairs, root-levels}
+use Rattle.frozen_btree.specs.Paths.{NoneIn, path_nodes, path_below}
 use Rattle.frozen_btree.specs.Touches.{Touches}
+use Rattle.frozen_btree.proofs.PathLemmas.{path_nodes-is}
 use Rattle.frozen_btree.proofs.TouchTreeLemmas.{root-touched, root-apart, none-rebuilt, none-apart}
 use Rattle.frozen_btree.proofs.touch_tree.make_anew.Goals as goal
 
@@ -162,3 +164,30 @@ returns-clause-makes g c =
     let makes : MakesNodes (ledger s) (ledger t) m (records t) (suc level) =
     subst (λ f. MakesNodes (ledger f) (ledger t) (records f) (records t) (suc level)) same c.touch_below.ensures.makes in
     subst (MakesNodes (ledger s) (ledger t) m (records t)) (sym (root-levels key.order key.read m root tree some level level_is)) makes
+
+pub returns-then-not-valid-clause-still : goal.returns-then-not-valid-clause-still
+returns-then-not-valid-clause-still g c = λ none. (refl, (refl, c.requires.replaced))
+
+pub returns-clause-still : goal.returns-clause-still
+returns-clause-still g c =
+    let records = g.S.Frozen.records in
+    let key = g.K.KeyOrder in
+    let s = c.args.store.now in
+    let m = records s in
+    let root = c.args.root in
+    let tree = c.requires.tree in
+    let some : 0 < root = is_valid c.valid.result root c.valid.ensures.0 c.if-not-valid.false in
+    let level = c.read_head-level.result.level in
+    let same = c.read_head-level.ensures.same in
+    let level_is : level ≡ root_level m root = c.read_head-level.ensures.level ∙ root-level key.order key.read m root tree some in
+    let low = root-low key.order key.read m root tree some level level_is in
+    let seen = seen_by key.read key.order (key.sought c.args.key.now) m in
+    let bits = g.row.OFFSET_BITS in
+    let buffer = c.args.buffer in
+    λ none.
+    let way : path_nodes m seen root ≡ path_below m seen level root =
+    path_nodes-is m seen 1 level root low some (root-one key.order key.read m root tree some level level_is) in
+    let told = c.touch_below.ensures.still
+    (subst (λ f. NoneIn bits buffer (path_below (records f) (seen_by key.read key.order (key.sought c.args.key.now) (records f)) level root)) (sym same)
+    (subst (NoneIn bits buffer) way none)) in
+    (told.0, (told.1.0 ∙ same, told.1.1 ∙ c.requires.replaced))

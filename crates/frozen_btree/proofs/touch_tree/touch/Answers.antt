@@ -1,11 +1,11 @@
-use Rattle.std.proofs.Common.{[], ◌∷◌, sym, subst}
+use Rattle.std.proofs.Common.{◌≡◌, [], ◌∷◌, Ok, sym, ap, subst, ◌∙◌}
 use Rattle.tree_read.specs.Trees.{tree_pairs}
 use Rattle.tree_read.specs.Keys.{seen_by}
 use Rattle.tree_read.proofs.OrderKeyLemmas.{others_kept}
 use Rattle.store_api.specs.Parts.{Owns, entries}
 use Rattle.frozen_btree.specs.Changes.{DropsEntries, levels}
 use Rattle.frozen_btree.proofs.ChangeLemmas.{gone-owned, end-turns, end-owns, end-pairs, end-others, end-may, end-counts, end-keyed}
-use Rattle.frozen_btree.proofs.Results.{on_err}
+use Rattle.frozen_btree.proofs.Results.{on_err, one_answer, no_error}
 use Rattle.frozen_btree.specs.Paths.{NoneIn}
 use Rattle.frozen_btree.proofs.TouchTreeLemmas.{nodes-left, path_nodes-same}
 use Rattle.frozen_btree.proofs.touch_tree.touch.Goals as goal
@@ -35,7 +35,7 @@ returns-clause-keyed g c =
     let pairs = tree_pairs m c.args.root in
     let most = levels m c.args.root in
     let u = c.drop_nodes.new.store in
-    let drops = subst (λ xs. DropsEntries (ledger t) (ledger u) (records t) (records u) xs) c.deref.ensures.0 c.drop_nodes.ensures in
+    let drops = subst (λ xs. DropsEntries (ledger t) (ledger u) (records t) (records u) xs) c.deref.ensures.0 c.drop_nodes.ensures.drops in
     let keyed = c.requires.keyed in
     end-keyed (ledger s) (ledger t) m (records t) most c.args.root c.in_ok-next.next gone pairs c.requires.owns c.in_ok-next.ensures.rebuilds c.make_anew.ensures.makes (g.met.S.Store.recorded s) (ledger u)
     (records u) drops c.requires.keyed.tree.node
@@ -53,7 +53,7 @@ returns-clause-turns g c =
     let pairs = tree_pairs m c.args.root in
     let most = levels m c.args.root in
     let u = c.drop_nodes.new.store in
-    let drops = subst (λ xs. DropsEntries (ledger t) (ledger u) (records t) (records u) xs) c.deref.ensures.0 c.drop_nodes.ensures in
+    let drops = subst (λ xs. DropsEntries (ledger t) (ledger u) (records t) (records u) xs) c.deref.ensures.0 c.drop_nodes.ensures.drops in
     end-turns (ledger s) (ledger t) m (records t) most c.args.root c.in_ok-next.next gone pairs c.requires.owns c.in_ok-next.ensures.rebuilds c.make_anew.ensures.makes (g.met.S.Store.recorded s) (ledger u)
     (records u) drops c.requires.keyed.tree.node
 
@@ -68,7 +68,7 @@ returns-clause-owns g c =
     let pairs = tree_pairs m c.args.root in
     let most = levels m c.args.root in
     let u = c.drop_nodes.new.store in
-    let drops = subst (λ xs. DropsEntries (ledger t) (ledger u) (records t) (records u) xs) c.deref.ensures.0 c.drop_nodes.ensures in
+    let drops = subst (λ xs. DropsEntries (ledger t) (ledger u) (records t) (records u) xs) c.deref.ensures.0 c.drop_nodes.ensures.drops in
     end-owns (ledger s) (ledger t) m (records t) most c.args.root c.in_ok-next.next gone pairs c.requires.owns c.in_ok-next.ensures.rebuilds c.make_anew.ensures.makes (g.met.S.Store.recorded s) (ledger u)
     (records u) drops c.requires.keyed.tree.node
 
@@ -83,7 +83,7 @@ returns-clause-pairs g c =
     let pairs = tree_pairs m c.args.root in
     let most = levels m c.args.root in
     let u = c.drop_nodes.new.store in
-    let drops = subst (λ xs. DropsEntries (ledger t) (ledger u) (records t) (records u) xs) c.deref.ensures.0 c.drop_nodes.ensures in
+    let drops = subst (λ xs. DropsEntries (ledger t) (ledger u) (records t) (records u) xs) c.deref.ensures.0 c.drop_nodes.ensures.drops in
     end-pairs (ledger s) (ledger t) m (records t) most c.args.root c.in_ok-next.next gone pairs c.requires.owns c.in_ok-next.ensures.rebuilds c.make_anew.ensures.makes (g.met.S.Store.recorded s) (ledger u)
     (records u) drops c.requires.keyed.tree.node
 
@@ -98,7 +98,7 @@ returns-clause-others g c =
     let pairs = tree_pairs m c.args.root in
     let most = levels m c.args.root in
     let u = c.drop_nodes.new.store in
-    let drops = subst (λ xs. DropsEntries (ledger t) (ledger u) (records t) (records u) xs) c.deref.ensures.0 c.drop_nodes.ensures in
+    let drops = subst (λ xs. DropsEntries (ledger t) (ledger u) (records t) (records u) xs) c.deref.ensures.0 c.drop_nodes.ensures.drops in
     end-others (ledger s) (ledger t) m (records t) most c.args.root c.in_ok-next.next gone pairs c.requires.owns c.in_ok-next.ensures.rebuilds c.make_anew.ensures.makes (g.met.S.Store.recorded s) (ledger u)
     (records u) drops c.requires.keyed.tree.node
 
@@ -113,7 +113,7 @@ returns-clause-may g c =
     let pairs = tree_pairs m c.args.root in
     let most = levels m c.args.root in
     let u = c.drop_nodes.new.store in
-    let drops = subst (λ xs. DropsEntries (ledger t) (ledger u) (records t) (records u) xs) c.deref.ensures.0 c.drop_nodes.ensures in
+    let drops = subst (λ xs. DropsEntries (ledger t) (ledger u) (records t) (records u) xs) c.deref.ensures.0 c.drop_nodes.ensures.drops in
     end-may (ledger s) (ledger t) m (records t) most c.args.root c.in_ok-next.next gone pairs c.requires.owns c.in_ok-next.ensures.rebuilds c.make_anew.ensures.makes (g.met.S.Store.recorded s) (ledger u)
     (records u) drops c.requires.keyed.tree.node
 
@@ -128,7 +128,7 @@ returns-clause-counts g c =
     let pairs = tree_pairs m c.args.root in
     let most = levels m c.args.root in
     let u = c.drop_nodes.new.store in
-    let drops = subst (λ xs. DropsEntries (ledger t) (ledger u) (records t) (records u) xs) c.deref.ensures.0 c.drop_nodes.ensures in
+    let drops = subst (λ xs. DropsEntries (ledger t) (ledger u) (records t) (records u) xs) c.deref.ensures.0 c.drop_nodes.ensures.drops in
     end-counts (ledger s) (ledger t) m (records t) most c.args.root c.in_ok-next.next gone pairs c.requires.owns c.in_ok-next.ensures.rebuilds c.make_anew.ensures.makes (g.met.S.Store.recorded s) (ledger u)
     (records u) drops c.requires.keyed.tree.node
 
@@ -162,6 +162,15 @@ returns-clause-apart g c =
     let gone = c.make_anew.new.replaced.items in
     let next = c.in_ok-next.next in
     let it = c.in_ok-next.ensures.rebuilds in
-    let drops = subst (λ xs. DropsEntries (ledger t) (ledger u) (records t) (records u) xs) c.deref.ensures.0 c.drop_nodes.ensures in
+    let drops = subst (λ xs. DropsEntries (ledger t) (ledger u) (records t) (records u) xs) c.deref.ensures.0 c.drop_nodes.ensures.drops in
     let left = nodes-left (ledger s) (ledger t) (ledger u) m (records t) (records u) c.args.root next gone (tree_pairs m c.args.root) c.requires.owns it drops in
     subst (NoneIn g.row.OFFSET_BITS c.args.buffer) (sym (path_nodes-same (records t) (records u) seen next left it.node)) c.in_ok-next.ensures.apart
+
+pub returns-in_err-next-clause-still : goal.returns-in_err-next-clause-still
+returns-in_err-next-clause-still g c = λ none. no_error c.make_anew.result c.args.root _ (c.make_anew.ensures.still none).0 c.in_err-next.was
+
+pub returns-clause-still : goal.returns-clause-still
+returns-clause-still g c = λ none.
+    let told = c.make_anew.ensures.still none in
+    let next : c.in_ok-next.next ≡ c.args.root = one_answer c.make_anew.result c.in_ok-next.next c.args.root c.in_ok-next.was told.0 in
+    (ap (λ r. Ok r) next, c.drop_nodes.ensures.none (c.deref.ensures.0 ∙ told.1.1) ∙ told.1.0)

@@ -1,6 +1,8 @@
-use Rattle.std.proofs.Common.{rules, arith, ap, ◌∙◌}
+use Rattle.std.proofs.Common.{rules, arith, ◌+◌, ◌*◌, ap, subst, ◌∙◌}
 use Rattle.tree_read.specs.Trees.{tree_pairs}
 use Rattle.tree_read.specs.Pairs.{put}
+use Rattle.frozen_btree.specs.Changes.{levels}
+use Rattle.frozen_btree.specs.Makes.{CountsNodes}
 use Rattle.number_tree.specs.Maps.{beside_number}
 use Rattle.number_tree.proofs.HoldLemmas.{number_keyed, begun_owns, begun_tree, ends_last, ends_sizes, is_refusal, holds_next, pairs_next, left_same, holds_still}
 use Rattle.number_tree.proofs.unit.insert_unit.Goals as goal
@@ -108,4 +110,6 @@ returns-in-Err-clause-refused g c =
     let b = c.begin.new.self in
     let t = c.insert.new.store in
     let u = c.undo.new.self in
-    is_refusal (ledger s) (ledger b) (ledger t) (ledger u) (records s) (records b) (records u) c.args.root c.requires c.begin.ensures.ledger c.begin.ensures.records c.insert.ensures.may _ c.in-Err.ensures.refuses
+    let counts : CountsNodes (ledger b) (ledger t) (2 * levels (records s) c.args.root + 1) = subst (λ f. CountsNodes (ledger b) (ledger t) (2 * levels f c.args.root + 1)) c.begin.ensures.records c.insert.ensures.counts in
+    is_refusal (ledger s) (ledger b) (ledger t) (ledger u) (records s) (records b) (records u) c.args.root c.requires c.begin.ensures.ledger c.begin.ensures.records c.insert.ensures.may
+    (2 * levels (records s) c.args.root + 1) _ counts c.in-Err.ensures.refuses c.undo.ensures

@@ -1,4 +1,4 @@
-use Rattle.std.proofs.Common.{◌≡◌, ◌&&◌, ℕ, Bool, arith, ap, ap₂, subst, ◌∙◌}
+use Rattle.std.proofs.Common.{◌≡◌, ◌&&◌, Bool, arith, ap, ap₂, subst, ◌∙◌}
 use Rattle.std.specs.Map.{keys_of}
 use Rattle.attr_images.specs.Postings.{list_form, postings_at}
 use Rattle.attr_index.specs.Found.{found}

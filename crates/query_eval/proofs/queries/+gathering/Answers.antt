@@ -1,12 +1,15 @@
-use Rattle.std.proofs.Common.{◌≡◌, ◌<◌, ◌||◌, ◌&&◌, ℕ, Bool, List, length, drop, get_or, arith, ap, ◌∙◌, subst}
+use Rattle.std.proofs.Common.{◌≡◌, ◌<◌, ◌||◌, ◌&&◌, ℕ, Bool, List, Option, length, drop, get_or, arith, ap, ◌∙◌, subst}
 use Rattle.std.proofs.lemmas.Result.{IfOk-weaker}
-use Rattle.std.specs.Prelude.{slice_get}
+use Rattle.std.specs.Prelude.{slice_get, IfSome, Vec}
+use Rattle.std.specs.declared.alloc.Global.{Global}
 use Rattle.attr_types.specs.Query.{tree_of, query_trees}
 use Rattle.attr_types.specs.declared.query.Query.{Query}
 use Rattle.attr_index.specs.Gathers.{is_gathered}
 use Rattle.attr_index.specs.Sets.{has, Holds}
 use Rattle.attr_index.specs.Found.{found, found_all, is_listed}
 use Rattle.query_eval.specs.Indexes.{AreMatched, IsMatched, indexes_in}
+use Rattle.query_eval.specs.Lists.{some_has, AreListsOf}
+use Rattle.query_eval.proofs.JoinLemmas.{members_some}
 use Rattle.query_eval.proofs.QueryLemmas.{common_of, none_found, one_more, kept_known, query_there, all_members, none_left}
 use Rattle.query_eval.proofs.queries.+gathering.Goals as goal
 
@@ -60,6 +63,23 @@ gather_common-returns-in-None-clause-docs g t c =
     (ap (λ (f : g.row.F.Denot). is_listed (indexes_in bits (g.F.Frozen.records f) ds) doc) c.shortest_of-first.ensures.same
     ∙ none_found indexes doc queries first within (omega (arith, same, past))))
     c.gather_listed.ensures.docs
+
+pub gather_some-returns-in-Some-clause-docs : goal.gather_some-returns-in-Some-clause-docs
+gather_some-returns-in-Some-clause-docs g t c =
+    let m = g.F.Frozen.records c.args.frozen.now in
+    let queries = c.args.queries.now.items in
+    let indexes = indexes_in g.row.OFFSET_BITS m c.args.dictionaries.now in
+    let lists = c.in-Some.lists.items in
+    let are = subst (λ (o : Option (Vec ℕ Global)). IfSome o (λ (words : Vec ℕ Global). AreListsOf m words.items c.as_slice.result.now indexes))
+    c.in-Some.is c.in_ok-lists.ensures.lists in
+    let own = subst (λ (qs : List Query). AreListsOf m lists qs indexes) c.as_slice.ensures.value are in
+    IfOk-weaker c.gather_lists.result _ _
+    (λ all is. λ doc. is doc
+    ∙ ap (λ (b : Bool). is_gathered c.args.gathered doc || b)
+    (ap (λ (f : g.row.F.Denot). some_has (g.F.Frozen.records f) c.as_slice-in-Some.result.now doc) c.in_ok-lists.ensures.same
+    ∙ ap (λ (ls : List ℕ). some_has m ls doc) c.as_slice-in-Some.ensures.value
+    ∙ members_some m lists queries indexes doc own))
+    c.gather_lists.ensures.docs
 
 pub keep_common-returns-then-is_empty-clause-docs : goal.keep_common-returns-then-is_empty-clause-docs
 keep_common-returns-then-is_empty-clause-docs g t c =

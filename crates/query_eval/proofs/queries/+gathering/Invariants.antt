@@ -8,8 +8,8 @@ use Rattle.query_eval.proofs.QueryLemmas.{IsCommon}
 use Rattle.query_eval.specs.Indexes.{AreMatched, indexes_in}
 
 -- what is there, and what the members that are left bring
-abbrev pub invariant-gather_some-loop-query : goal.invariant-gather_some-loop-query
-invariant-gather_some-loop-query g l =
+abbrev pub invariant-gather_each-loop-query : goal.invariant-gather_each-loop-query
+invariant-gather_each-loop-query g l =
     let m = g.F.Frozen.records l.fn.frozen in
     record {
       same : l.frozen ≡ l.fn.frozen;

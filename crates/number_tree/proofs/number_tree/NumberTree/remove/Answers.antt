@@ -8,4 +8,4 @@ use Rattle.number_tree.proofs.number_tree.NumberTree.remove.Goals as goal
 pub returns-then-is_none-clause-pairs : goal.returns-then-is_none-clause-pairs
 returns-then-is_none-clause-pairs g c =
     let none : lookup (beside_number c.args.key) c.args.self.now.pairs ≡ None = sym c.get.ensures.value ∙ none_of c.get.result c.if-is_none.ensures in
-    ap (λ (v : MapView). v.pairs) c.get.ensures.same ∙ sym (take_out-none (beside_number c.args.key) c.args.self.now.pairs none)
+    ap (λ (v : MapView _). v.pairs) c.get.ensures.same ∙ sym (take_out-none (beside_number c.args.key) c.args.self.now.pairs none)

@@ -4,11 +4,11 @@ use Rattle.atomic_table.specs.declared.shared.Seat.{Seat}
 use Rattle.entry_ref.specs.Images.{words_at}
 use Rattle.atomic_table.specs.Seated.{TableId}
 use Rattle.entry_ref.specs.Places.{place, size_of}
-use Rattle.gen_core.specs.declared.views.View.{View}
-use Rattle.word_arena.specs.Ruled.{Slot, reader_of, seen_image, IsGuard}
+use Rattle.word_arena.specs.Ruled.{Slot, reader_of, seen_image, IsGuard, bare}
 use Rattle.word_arena.proofs.Guards.{few-buffers, place-inside, word_found, may_load_word, seat_same, guard-prop}
 use Rattle.word_arena.proofs.Allowed.{load_word_owed}
 use Rattle.word_arena.proofs.ReadLemmas.{read_more}
+use Rattle.word_arena.specs.declared.rule.Watched.{Watched}
 use Rattle.word_arena.proofs.reader.GuardedFrozen.read.Goals as goal
 
 pub overflow_add-place : goal.overflow_add-place
@@ -20,12 +20,12 @@ overflow_add-place g c =
     let test = c.loop-i-test.true in
     let below : c.args.first + c.loop-i.i < length (words_at (seen_image (reader_of (c.args.self.now).place.me.0)) c.args.entry) = omega (arith, there, test) in
     let inside = subst (λ (n : ℕ). c.args.first + c.loop-i.i < n) (λ k. length (words_at (seen_image (reader_of (sym same k).place.me.0)) c.args.entry)) below in
-    let at : c.place_of_word-place.result ≡ place g.row.OFFSET_BITS s.sizes.buffers s.sizes.words (length (words_at (seen_image (reader_of (s).place.me.0)) c.args.entry)) c.args.entry c.args.first =
-    i.at ∙ (λ k. place g.row.OFFSET_BITS (sym same k).sizes.buffers (sym same k).sizes.words (length (words_at (seen_image (reader_of (sym same k).place.me.0)) c.args.entry)) c.args.entry c.args.first) in
-    let is : c.place_of_word-place.result + c.loop-i.i ≡ place g.row.OFFSET_BITS s.sizes.buffers s.sizes.words (length (words_at (seen_image (reader_of (s).place.me.0)) c.args.entry)) c.args.entry
+    let at : c.place_of_word-place.result ≡ place g.row.OFFSET_BITS s.arena.now.sizes.buffers s.arena.now.sizes.words (length (words_at (seen_image (reader_of (s).place.me.0)) c.args.entry)) c.args.entry c.args.first =
+    i.at ∙ (λ k. place g.row.OFFSET_BITS (sym same k).arena.now.sizes.buffers (sym same k).arena.now.sizes.words (length (words_at (seen_image (reader_of (sym same k).place.me.0)) c.args.entry)) c.args.entry c.args.first) in
+    let is : c.place_of_word-place.result + c.loop-i.i ≡ place g.row.OFFSET_BITS s.arena.now.sizes.buffers s.arena.now.sizes.words (length (words_at (seen_image (reader_of (s).place.me.0)) c.args.entry)) c.args.entry
     (c.args.first + c.loop-i.i) = omega (arith, at) in
     let lt = place-inside s.stands c.args.entry (c.args.first + c.loop-i.i) inside _ is in
-    let words : s.arena.now.table.shared.table_id.words ≡ size_of s.sizes.buffers s.sizes.words = ap (λ (x : TableId). x.words) (sym s.stands.post.own) ∙ s.stands.post.words in
+    let words : s.arena.now.table.shared.table_id.words ≡ size_of s.arena.now.sizes.buffers s.arena.now.sizes.words = ap (λ (x : TableId). x.words) (sym s.stands.post.own) ∙ s.stands.post.words in
     let few = few-buffers s.stands in
     let product = s.stands.post.product in
     omega arith
@@ -39,9 +39,9 @@ load-requires g c =
     let test = c.loop-i-test.true in
     let below : c.args.first + c.loop-i.i < length (words_at (seen_image (reader_of (c.args.self.now).place.me.0)) c.args.entry) = omega (arith, there, test) in
     let inside = subst (λ (n : ℕ). c.args.first + c.loop-i.i < n) (λ k. length (words_at (seen_image (reader_of (sym same k).place.me.0)) c.args.entry)) below in
-    let at : c.place_of_word-place.result ≡ place g.row.OFFSET_BITS s.sizes.buffers s.sizes.words (length (words_at (seen_image (reader_of (s).place.me.0)) c.args.entry)) c.args.entry c.args.first =
-    i.at ∙ (λ k. place g.row.OFFSET_BITS (sym same k).sizes.buffers (sym same k).sizes.words (length (words_at (seen_image (reader_of (sym same k).place.me.0)) c.args.entry)) c.args.entry c.args.first) in
-    let is : c.place_of_word-place.result + c.loop-i.i ≡ place g.row.OFFSET_BITS s.sizes.buffers s.sizes.words (length (words_at (seen_image (reader_of (s).place.me.0)) c.args.entry)) c.args.entry
+    let at : c.place_of_word-place.result ≡ place g.row.OFFSET_BITS s.arena.now.sizes.buffers s.arena.now.sizes.words (length (words_at (seen_image (reader_of (s).place.me.0)) c.args.entry)) c.args.entry c.args.first =
+    i.at ∙ (λ k. place g.row.OFFSET_BITS (sym same k).arena.now.sizes.buffers (sym same k).arena.now.sizes.words (length (words_at (seen_image (reader_of (sym same k).place.me.0)) c.args.entry)) c.args.entry c.args.first) in
+    let is : c.place_of_word-place.result + c.loop-i.i ≡ place g.row.OFFSET_BITS s.arena.now.sizes.buffers s.arena.now.sizes.words (length (words_at (seen_image (reader_of (s).place.me.0)) c.args.entry)) c.args.entry
     (c.args.first + c.loop-i.i) = omega (arith, at) in (
       s.stands.post.own,
       place-inside s.stands c.args.entry (c.args.first + c.loop-i.i) inside _ is,
@@ -57,15 +57,15 @@ loop-i-preserved g c =
     let test = c.loop-i-test.true in
     let below : c.args.first + c.loop-i.i < length (words_at (seen_image (reader_of (c.args.self.now).place.me.0)) c.args.entry) = omega (arith, there, test) in
     let inside = subst (λ (n : ℕ). c.args.first + c.loop-i.i < n) (λ k. length (words_at (seen_image (reader_of (sym same k).place.me.0)) c.args.entry)) below in
-    let at : c.place_of_word-place.result ≡ place g.row.OFFSET_BITS s.sizes.buffers s.sizes.words (length (words_at (seen_image (reader_of (s).place.me.0)) c.args.entry)) c.args.entry c.args.first =
-    i.at ∙ (λ k. place g.row.OFFSET_BITS (sym same k).sizes.buffers (sym same k).sizes.words (length (words_at (seen_image (reader_of (sym same k).place.me.0)) c.args.entry)) c.args.entry c.args.first) in
-    let is : c.place_of_word-place.result + c.loop-i.i ≡ place g.row.OFFSET_BITS s.sizes.buffers s.sizes.words (length (words_at (seen_image (reader_of (s).place.me.0)) c.args.entry)) c.args.entry
+    let at : c.place_of_word-place.result ≡ place g.row.OFFSET_BITS s.arena.now.sizes.buffers s.arena.now.sizes.words (length (words_at (seen_image (reader_of (s).place.me.0)) c.args.entry)) c.args.entry c.args.first =
+    i.at ∙ (λ k. place g.row.OFFSET_BITS (sym same k).arena.now.sizes.buffers (sym same k).arena.now.sizes.words (length (words_at (seen_image (reader_of (sym same k).place.me.0)) c.args.entry)) c.args.entry c.args.first) in
+    let is : c.place_of_word-place.result + c.loop-i.i ≡ place g.row.OFFSET_BITS s.arena.now.sizes.buffers s.arena.now.sizes.words (length (words_at (seen_image (reader_of (s).place.me.0)) c.args.entry)) c.args.entry
     (c.args.first + c.loop-i.i) = omega (arith, at) in
     let l = c.load.ensures in
     let value : c.load.result ≡ slice_index (words_at (seen_image (reader_of (c.args.self.now).place.me.0)) c.args.entry) (c.args.first + c.loop-i.i) =
     word_found s.stands c.args.entry (c.args.first + c.loop-i.i) inside refl is l.2.told ∙ (λ k. slice_index (words_at (seen_image (reader_of (same k).place.me.0)) c.args.entry) (c.args.first + c.loop-i.i)) in
-    let seat = seat_same s.place c.load.new.seat l.0 l.1 l.2.told.same in
-    let back = subst (λ (p : Seat Slot View). (st : IsGuard g.row.OFFSET_BITS s.arena.now.table.shared.table_id s.sizes s.hold s.found p.table_id p.me) → record s { place = p; stands = st } ≡ s) (sym seat)
+    let seat = seat_same s.place c.load.new.seat l.0 l.1 l.2.event.1.same in
+    let back = subst (λ (p : Seat Slot Watched). (st : IsGuard g.row.OFFSET_BITS s.arena.now.table.shared.table_id s.arena.now.sizes s.hold s.found p.table_id (bare p.me)) → record s { place = p; stands = st } ≡ s) (sym seat)
     (λ st. ap (λ x. record s { stands = x }) (guard-prop _ _ _ _ _ _ _ st s.stands)) _ in
     record {
       same = back ∙ same;

@@ -1,10 +1,14 @@
-use Rattle.std.proofs.Common.{refl, ap, ◌∙◌, arith}
+use Rattle.std.proofs.Common.{refl, ap, ◌∙◌, ◌≡◌, ◌-◌, ℕ, subst, arith}
 use Rattle.gen_core.specs.declared.views.Sizes.{Sizes}
-use Rattle.word_arena.proofs.Guards.{saw_on}
+use Rattle.word_arena.specs.Ruled.{reader_of, Tries}
+use Rattle.word_arena.proofs.Guards.{AllMissed, none_missed, try_after, missed_after, saw_on}
 use Rattle.word_arena.proofs.reader.Reader.guard.Goals as goal
 
+nothing : (n : ℕ) → 0 ≡ n - n
+nothing n = omega arith
+
 pub loop-guard-init : goal.loop-guard-init
-loop-guard-init g c = record { table = refl; seen = refl; saw = refl; same_sizes = refl; limit = refl; rises = omega arith; few = omega arith; within = omega arith }
+loop-guard-init g c = record { table = refl; seen = refl; saw = refl; same_sizes = refl; limit = refl; rises = omega arith; ticked = omega arith; missed = subst (AllMissed _ _) (nothing _) (none_missed _); within = omega arith }
 
 pub returns-in-Ok-clause-later : goal.returns-in-Ok-clause-later
 returns-in-Ok-clause-later g c =
@@ -23,12 +27,25 @@ returns-in-Ok-clause-later g c =
       commit = h.commit;
     }
 
+pub returns-in-Ok-clause-some : goal.returns-in-Ok-clause-some
+returns-in-Ok-clause-some g c = let ticked = c.loop-guard.invariant.ticked in let tick = c.tick.ensures in omega (arith, ticked, tick)
+
+pub returns-in-Ok-clause-tried : goal.returns-in-Ok-clause-tried
+returns-in-Ok-clause-tried g c =
+    let i = c.loop-guard.invariant in
+    let ticked = i.ticked in
+    let tick = c.tick.ensures in
+    subst (Tries (reader_of c.args.self.place.me.0) (reader_of c.in-Ok.guard.place.me.0)) (omega (arith, ticked, tick)) (try_after i.missed c.in-Ok.ensures.hit)
+
 pub returns-in-Ok-clause-few : goal.returns-in-Ok-clause-few
 returns-in-Ok-clause-few g c =
-    let least = c.in-Ok.ensures.ok.least in
-    let few = c.loop-guard.invariant.few in
+    let i = c.loop-guard.invariant in
+    let t = try_after i.missed c.in-Ok.ensures.hit in
+    let counted = t.counted in
+    let climbs = c.in-Ok.guard.stands.climbs in
+    let ticked = i.ticked in
     let tick = c.tick.ensures in
-    omega arith
+    omega (arith, counted, climbs, ticked, tick)
 
 pub returns-in-Ok-clause-limit : goal.returns-in-Ok-clause-limit
 returns-in-Ok-clause-limit g c =
@@ -53,7 +70,7 @@ loop-guard-preserved g c =
     let top = h.limit in
     let same = ap (λ (z : Sizes). z.generation_limit) h.same_sizes in
     let rises = i.rises in
-    let few = i.few in
+    let ticked = i.ticked in
     let tick = c.tick.ensures in
     record {
       table = c.in-Err.ensures.back ∙ i.table;
@@ -62,7 +79,8 @@ loop-guard-preserved g c =
       same_sizes = h.same_sizes ∙ i.same_sizes;
       limit = same ∙ i.limit;
       rises = omega arith;
-      few = omega arith;
+      ticked = omega arith;
+      missed = subst (AllMissed (reader_of c.args.self.place.me.0) (reader_of c.in-Err.again.reader.place.me.0)) (omega (arith, ticked, tick)) (missed_after i.missed c.in-Err.ensures.miss);
       within = omega arith;
     }
 

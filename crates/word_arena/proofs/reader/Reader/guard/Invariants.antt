@@ -1,5 +1,6 @@
 use Rattle.std.proofs.Common.{◌≡◌, ◌+◌, ◌-◌, ◌≤◌}
 use Rattle.word_arena.specs.Ruled.{reader_of}
+use Rattle.word_arena.proofs.Guards.{AllMissed}
 use Rattle.word_arena.proofs.reader.Reader.guard.Given as goal
 
 abbrev pub invariant-loop-guard : goal.invariant-loop-guard
@@ -10,7 +11,8 @@ invariant-loop-guard g l = record {
   same_sizes : (reader_of l.reader.place.me.0).sizes ≡ (reader_of l.fn.self.place.me.0).sizes;
   limit : (reader_of l.reader.place.me.0).sizes.generation_limit ≡ (reader_of l.fn.self.place.me.0).sizes.generation_limit;
   rises : (reader_of l.fn.self.place.me.0).least ≤ (reader_of l.reader.place.me.0).least;
-  few : l.tries + (reader_of l.fn.self.place.me.0).least ≤ l.fn.tries + (reader_of l.reader.place.me.0).least;
+  ticked : l.fn.tries ≤ l.tries;
+  missed : AllMissed (reader_of l.fn.self.place.me.0) (reader_of l.reader.place.me.0) (l.tries - l.fn.tries);
   within : l.tries ≤ l.fn.tries + (reader_of l.reader.place.me.0).sizes.generation_limit;
 }
 

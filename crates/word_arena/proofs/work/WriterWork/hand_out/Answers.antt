@@ -8,7 +8,7 @@ use Rattle.arena_api.specs.Works.{free_count}
 use Rattle.arena_api.specs.Calls.{IsLowestFree}
 use Rattle.word_arena.specs.Ruled.{writer_of}
 use Rattle.word_arena.specs.Knows.{buffers_by, view_of}
-use Rattle.word_arena.proofs.Stores.{free-here, hand-knows}
+use Rattle.word_arena.proofs.Stores.{free-here, hand-knows, tagged-below}
 use Rattle.word_arena.proofs.work.WriterWork.hand_out.Goals as goal
 use Rattle.gen_core.proofs.StoredWords.{hand-records}
 
@@ -16,7 +16,7 @@ pub returns-clause-none : goal.returns-clause-none
 returns-clause-none g c =
     let s = c.args.self.now in
     let list : c.as_slice.result.now ≡ (writer_of s.place.me.0).buffers = c.as_slice.ensures.value ∙ sym s.stands.same_buffers in
-    let size : s.sizes.buffers ≡ (writer_of s.place.me.0).sizes.buffers = ap (λ (z : Sizes). z.buffers) (sym s.stands.same_sizes) in
+    let size : s.arena.now.sizes.buffers ≡ (writer_of s.place.me.0).sizes.buffers = ap (λ (z : Sizes). z.buffers) (sym s.stands.same_sizes) in
     let P : List Buffer × ℕ → Type 0 = λ x. (true ≡ false → free_count (buffers_by x.0) x.1 ≡ 0) × (free_count (buffers_by x.0) x.1 ≡ 0 → true ≡ false) in
     subst P (λ k. (list k, size k)) c.in_ok-buffer.ensures.none
 
@@ -26,7 +26,7 @@ returns-clause-handed g c =
     let w : WriterView = writer_of s.place.me.0 in
     let b : ℕ = c.in_ok-buffer.buffer in
     let list : c.as_slice.result.now ≡ w.buffers = c.as_slice.ensures.value ∙ sym s.stands.same_buffers in
-    let size : s.sizes.buffers ≡ w.sizes.buffers = ap (λ (z : Sizes). z.buffers) (sym s.stands.same_sizes) in
+    let size : s.arena.now.sizes.buffers ≡ w.sizes.buffers = ap (λ (z : Sizes). z.buffers) (sym s.stands.same_sizes) in
     let P : List Buffer × ℕ → Type 0 = λ x. IsLowestFree (buffers_by x.0) x.1 b in
     let lowest = subst P (λ k. (list k, size k)) c.in_ok-buffer.ensures.lowest in
     let free = free-here w b (let h = lowest.below in omega (arith, h, s.stands.good.count)) lowest.free in
@@ -38,8 +38,19 @@ returns-clause-records g c =
     let w : WriterView = writer_of s.place.me.0 in
     let b : ℕ = c.in_ok-buffer.buffer in
     let list : c.as_slice.result.now ≡ w.buffers = c.as_slice.ensures.value ∙ sym s.stands.same_buffers in
-    let size : s.sizes.buffers ≡ w.sizes.buffers = ap (λ (z : Sizes). z.buffers) (sym s.stands.same_sizes) in
+    let size : s.arena.now.sizes.buffers ≡ w.sizes.buffers = ap (λ (z : Sizes). z.buffers) (sym s.stands.same_sizes) in
     let P : List Buffer × ℕ → Type 0 = λ x. IsLowestFree (buffers_by x.0) x.1 b in
     let lowest = subst P (λ k. (list k, size k)) c.in_ok-buffer.ensures.lowest in
     let free = free-here w b (let h = lowest.below in omega (arith, h, s.stands.good.count)) lowest.free in
     ap (λ (v : WriterView). writer_records v) c.take_buffer.ensures.view ∙ hand-records w s.stands.good b (last_tag_in w.buffers b) c.args.width free c.requires
+
+pub returns-clause-tags : goal.returns-clause-tags
+returns-clause-tags g c =
+    let s = c.args.self.now in
+    let w : WriterView = writer_of s.place.me.0 in
+    let b : ℕ = c.in_ok-buffer.buffer in
+    let list : c.as_slice.result.now ≡ w.buffers = c.as_slice.ensures.value ∙ sym s.stands.same_buffers in
+    let size : s.arena.now.sizes.buffers ≡ w.sizes.buffers = ap (λ (z : Sizes). z.buffers) (sym s.stands.same_sizes) in
+    let P : List Buffer × ℕ → Type 0 = λ x. IsLowestFree (buffers_by x.0) x.1 b in
+    let lowest = subst P (λ k. (list k, size k)) c.in_ok-buffer.ensures.lowest in
+    tagged-below w b s.stands.good (free-here w b (let h = lowest.below in omega (arith, h, s.stands.good.count)) lowest.free)

@@ -5,7 +5,7 @@ use Rattle.gen_core.specs.declared.views.WriterView.{WriterView}
 use Rattle.gen_core.specs.Work.{writer_records, next_image}
 use Rattle.gen_core.specs.Events.{published}
 use Rattle.arena_api.specs.Calls.{AddsCommit}
-use Rattle.word_arena.specs.Ruled.{Slot, writer_of}
+use Rattle.word_arena.specs.Ruled.{Slot, writer_of, writer_in}
 use Rattle.word_arena.specs.Knows.{view_of}
 use Rattle.word_arena.proofs.Allowed.{publish_owed}
 use Rattle.word_arena.proofs.Desks.{desk-some, desk_after}
@@ -49,7 +49,7 @@ returns-clause-commit g c =
     let root : c.from-2.result ≡ c.args.root = c.from-2.ensures ∙ c.raw.ensures in
     let b = c.store.ensures.2.told c.args.root (λ k. number k * 2 ^ 32 + root k) in
     let image = next_image g.L.Layout.reaches w c.args.root in
-    subst (λ (v : WriterView). AddsCommit (view_of s.place.table_id w).commits (view_of s.place.table_id v).commits image) (sym (ap (λ (m : Me Slot View). writer_of m.0) b.is))
+    subst (λ (v : WriterView). AddsCommit (view_of s.place.table_id w).commits (view_of s.place.table_id v).commits image) (sym (ap (λ (m : Me Slot View). writer_in m.0) b.is))
     (publish-adds w s.stands.good image s.place.table_id)
 
 pub returns-clause-records : goal.returns-clause-records
@@ -60,4 +60,4 @@ returns-clause-records g c =
     let root : c.from-2.result ≡ c.args.root = c.from-2.ensures ∙ c.raw.ensures in
     let b = c.store.ensures.2.told c.args.root (λ k. number k * 2 ^ 32 + root k) in
     let image = next_image g.L.Layout.reaches w c.args.root in
-    ap (λ (v : WriterView). writer_records v) (ap (λ (m : Me Slot View). writer_of m.0) b.is) ∙ publish-records w s.stands.good image s.place.table_id
+    ap (λ (v : WriterView). writer_records v) (ap (λ (m : Me Slot View). writer_in m.0) b.is) ∙ publish-records w s.stands.good image s.place.table_id

@@ -8,7 +8,7 @@ use Rattle.gen_core.specs.Views.{open_holds, oldest_in}
 use Rattle.gen_core.specs.Good.{HoldFits}
 use Rattle.gen_core.specs.Events.{stopped, closed}
 use Rattle.gen_core.proofs.Holds.{at_oldest}
-use Rattle.word_arena.specs.Ruled.{Slot, writer_of}
+use Rattle.word_arena.specs.Ruled.{Slot, writer_of, writer_in}
 use Rattle.word_arena.specs.Knows.{own_hold}
 use Rattle.word_arena.proofs.AllowedHolds.{close_owed}
 use Rattle.word_arena.proofs.Desks.{arena-words, desk_after}
@@ -62,7 +62,7 @@ pub returns-then-count-eq0-clause-view : goal.returns-then-count-eq0-clause-view
 returns-then-count-eq0-clause-view g c =
     let t = c.compare_exchange-count.ensures.2.told in
     record {
-      hit = λ zero e es is. ap (λ (m : Me Slot View). writer_of m.0) (t.hit zero e es is).is;
-      miss = λ ne. ap (λ (m : Me Slot View). writer_of m.0) (t.miss ne).is;
+      hit = λ zero e es is. ap (λ (m : Me Slot View). writer_in m.0) (t.hit zero e es is).is;
+      miss = λ ne. ap (λ (m : Me Slot View). writer_in m.0) (t.miss ne).is;
       alone = t.alone;
     }

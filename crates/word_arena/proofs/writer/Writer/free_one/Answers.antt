@@ -3,7 +3,7 @@ use Rattle.atomic_table.specs.Table.{Me}
 use Rattle.gen_core.specs.declared.views.Sizes.{Sizes}
 use Rattle.gen_core.specs.declared.views.View.{View}
 use Rattle.gen_core.specs.declared.views.WriterView.{WriterView}
-use Rattle.word_arena.specs.Ruled.{Slot, writer_of}
+use Rattle.word_arena.specs.Ruled.{Slot, writer_of, writer_in}
 use Rattle.word_arena.proofs.AllowedHolds.{free_owed}
 use Rattle.word_arena.proofs.Desks.{arena-words, desk_after}
 use Rattle.std.specs.Prelude.{slice_get}
@@ -50,7 +50,7 @@ returns-in-Some-clause-view g c =
     let list : c.as_slice.result.now ≡ w.buffers = c.as_slice.ensures.value ∙ sym s.stands.same_buffers in
     let at = tag-found c.args.oldest (slice_get w.buffers b) c.in-Some.tag (ap (λ (l : List Buffer). unused_tag_in c.args.oldest l b) (sym list) ∙ sym c.in-Some.ensures) in
     let told = c.store.ensures.2.told b at.0 c.in-Some.tag refl at.1 in
-    subst (FreesOne c.args.oldest b w) (sym (ap (λ (m : Me Slot View). writer_of m.0) told.is)) (frees-one w b at.0 c.args.oldest c.in-Some.tag at.1 at.2)
+    subst (FreesOne c.args.oldest b w) (sym (ap (λ (m : Me Slot View). writer_in m.0) told.is)) (frees-one w b at.0 c.args.oldest c.in-Some.tag at.1 at.2)
 
 pub returns-in-None-clause-view : goal.returns-in-None-clause-view
 returns-in-None-clause-view g c =

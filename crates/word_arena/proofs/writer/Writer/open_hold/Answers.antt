@@ -8,7 +8,7 @@ use Rattle.gen_core.specs.declared.views.WriterView.{WriterView}
 use Rattle.gen_core.specs.Views.{open_holds}
 use Rattle.gen_core.specs.Good.{GoodView}
 use Rattle.gen_core.specs.Events.{reopened, advanced, coming_hold}
-use Rattle.word_arena.specs.Ruled.{Slot, writer_of}
+use Rattle.word_arena.specs.Ruled.{Slot, writer_of, writer_in}
 use Rattle.word_arena.specs.Knows.{own_hold}
 use Rattle.word_arena.proofs.AllowedHolds.{reopen_owed, store_newest_owed}
 use Rattle.word_arena.proofs.Desks.{arena-words, desk_after}
@@ -52,14 +52,14 @@ invariant_of-self g c =
     let generation : c.newest-newest.result.generation ≡ w.queue.newest.generation = ap (λ (h : HoldEntry). h.generation) newest in
     let slots : s.place.me.1 ≡ [] = ap (λ (m : Me Slot View). m.1) s.stands.is in
     let first = (c.fetch_sub.ensures.2.told c.args.hold refl).is in
-    let mid : writer_of c.fetch_sub.new.seat.me.0 ≡ reopened w c.args.hold = ap (λ (m : Me Slot View). writer_of m.0) first in
+    let mid : writer_of c.fetch_sub.new.seat.me.0 ≡ reopened w c.args.hold = ap (λ (m : Me Slot View). writer_in m.0) first in
     let b = c.store.ensures.2.told c.args.hold (ap (λ (v : WriterView). v.queue.pending) mid) in
     let queue : map own_hold (open_holds (advanced w c.args.hold).queue) ≡ c.append.new.self =
     map-append own_hold (open_holds w.queue) (coming_hold w c.args.hold ∷ [])
     ∙ (λ k. s.stands.same_holds k ++ record { generation = sym generation k + 1; hold = c.args.hold; first_commit = sym s.stands.commits k } ∷ [])
     ∙ sym c.append.ensures in
     record {
-      stands = desk_after s.stands (advanced w c.args.hold) (c.store.ensures.0 ∙ c.fetch_sub.ensures.0) (b.is ∙ ap (λ (m : Me Slot View). (Writer (advanced (writer_of m.0) c.args.hold), m.1)) first)
+      stands = desk_after s.stands (advanced w c.args.hold) (c.store.ensures.0 ∙ c.fetch_sub.ensures.0) (b.is ∙ ap (λ (m : Me Slot View). (Writer (advanced (writer_in m.0) c.args.hold), m.1)) first)
           refl s.stands.same_buffers queue s.stands.commits s.stands.readers refl (subst (λ (x : WriterView). GoodView (advanced x c.args.hold)) mid b.good) (record { none = s.stands.entries.none });
     }
 
@@ -68,6 +68,6 @@ returns-clause-view g c =
     let s = c.args.self.now in
     let w : WriterView = writer_of s.place.me.0 in
     let first = (c.fetch_sub.ensures.2.told c.args.hold refl).is in
-    let mid : writer_of c.fetch_sub.new.seat.me.0 ≡ reopened w c.args.hold = ap (λ (m : Me Slot View). writer_of m.0) first in
+    let mid : writer_of c.fetch_sub.new.seat.me.0 ≡ reopened w c.args.hold = ap (λ (m : Me Slot View). writer_in m.0) first in
     let b = c.store.ensures.2.told c.args.hold (ap (λ (v : WriterView). v.queue.pending) mid) in
-    ap (λ (m : Me Slot View). writer_of m.0) b.is ∙ ap (λ (v : WriterView). advanced v c.args.hold) mid
+    ap (λ (m : Me Slot View). writer_in m.0) b.is ∙ ap (λ (v : WriterView). advanced v c.args.hold) mid

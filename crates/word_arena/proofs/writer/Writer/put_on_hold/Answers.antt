@@ -9,7 +9,7 @@ use Rattle.gen_core.specs.declared.views.WriterView.{WriterView}
 use Rattle.gen_core.specs.Events.{put_aside}
 use Rattle.gen_core.proofs.Frames.{active-inside}
 use Rattle.arena_api.specs.Works.{active_width}
-use Rattle.word_arena.specs.Ruled.{Slot, writer_of}
+use Rattle.word_arena.specs.Ruled.{Slot, writer_of, writer_in}
 use Rattle.word_arena.specs.Knows.{buffers_by}
 use Rattle.word_arena.proofs.AllowedHolds.{hold_owed}
 use Rattle.word_arena.proofs.Desks.{arena-words, desk_after}
@@ -53,4 +53,4 @@ returns-clause-view g c =
     let s = c.args.self.now in
     let w : WriterView = writer_of s.place.me.0 in
     let width : ℕ = active_width (buffers_by w.buffers c.args.buffer) in
-    ap (λ (m : Me Slot View). writer_of m.0) (c.store.ensures.2.told c.args.buffer width refl c.requires.active).is
+    ap (λ (m : Me Slot View). writer_in m.0) (c.store.ensures.2.told c.args.buffer width refl c.requires.active).is

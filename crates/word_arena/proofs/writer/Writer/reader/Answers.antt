@@ -1,6 +1,6 @@
 use Rattle.std.proofs.Common.{arith, ap, refl, ◌+◌, ℕ}
 use Rattle.gen_core.specs.Events.{with_reader}
-use Rattle.word_arena.specs.Ruled.{writer_of}
+use Rattle.word_arena.specs.Ruled.{writer_of, bare}
 use Rattle.word_arena.proofs.Allowed.{split_owed}
 use Rattle.word_arena.proofs.Desks.{desk-some, desk_after, good-reader}
 use Rattle.word_arena.proofs.writer.Writer.reader.Goals as goal
@@ -21,7 +21,7 @@ invariant_of-self g c =
     let w = writer_of s.place.me.0 in
     let e = c.split_seat-place.ensures in
     record {
-      stands = desk_after s.stands (with_reader w) e.0 e.2 refl s.stands.same_buffers s.stands.same_holds s.stands.commits (
+      stands = desk_after s.stands (with_reader w) e.0 (ap bare e.2) refl s.stands.same_buffers s.stands.same_holds s.stands.commits (
         ap (λ (n : ℕ). n + 1) s.stands.readers.0,
         (let below = c.if-self-ge64.false in
             omega arith),

@@ -8,7 +8,7 @@ use Rattle.gen_core.specs.Views.{open_holds}
 use Rattle.gen_core.specs.Good.{GoodView, HoldFits}
 use Rattle.gen_core.specs.Events.{probed, morphed, stopped}
 use Rattle.gen_core.proofs.Holds.{at_newest}
-use Rattle.word_arena.specs.Ruled.{Slot, writer_of}
+use Rattle.word_arena.specs.Ruled.{Slot, writer_of, writer_in}
 use Rattle.word_arena.specs.Knows.{own_hold}
 use Rattle.word_arena.proofs.AllowedHolds.{probe_owed, morph_owed}
 use Rattle.word_arena.proofs.Desks.{arena-words, desk_after}
@@ -62,13 +62,13 @@ invariant_of-self g c =
     let generation : c.newest-newest.result.generation ≡ w.queue.newest.generation = ap (λ (h : HoldEntry). h.generation) newest in
     let slots : s.place.me.1 ≡ [] = ap (λ (m : Me Slot View). m.1) s.stands.is in
     let first = (c.load-count.ensures.2.told.hit c.if-count-eq0.true).is in
-    let mid : writer_of c.load-count.new.seat.me.0 ≡ probed w = ap (λ (m : Me Slot View). writer_of m.0) first in
+    let mid : writer_of c.load-count.new.seat.me.0 ≡ probed w = ap (λ (m : Me Slot View). writer_in m.0) first in
     let b = c.store.ensures.2.told (ap (λ (v : WriterView). v.queue.pending) mid) in
     let queue : map own_hold (open_holds (morphed w).queue) ≡ c.renew.new.self =
     (λ k. map own_hold (w.queue.older ++ record { generation = sym generation k + 1; hold = w.queue.newest.hold; first_commit = sym s.stands.commits k } ∷ []))
     ∙ sym (c.renew.ensures ∙ own-renewed w.queue s.holds s.stands.same_holds (c.newest-newest.result.generation + 1) s.last) in
     record {
-      stands = desk_after s.stands (morphed w) (c.store.ensures.0 ∙ c.load-count.ensures.0) (b.is ∙ ap (λ (m : Me Slot View). (Writer (morphed (writer_of m.0)), m.1)) first)
+      stands = desk_after s.stands (morphed w) (c.store.ensures.0 ∙ c.load-count.ensures.0) (b.is ∙ ap (λ (m : Me Slot View). (Writer (morphed (writer_in m.0)), m.1)) first)
           refl s.stands.same_buffers queue s.stands.commits s.stands.readers refl (subst (λ (x : WriterView). GoodView (morphed x)) mid b.good) (record { none = s.stands.entries.none });
     }
 

@@ -11,7 +11,7 @@ use Rattle.gen_core.specs.Views.{active_in}
 use Rattle.gen_core.specs.Work.{place_in, writer_records}
 use Rattle.gen_core.specs.Conditions.{MayStoreWord}
 use Rattle.arena_api.specs.Works.{active_width}
-use Rattle.word_arena.specs.Ruled.{Slot, writer_of}
+use Rattle.word_arena.specs.Ruled.{Slot, writer_of, writer_in}
 use Rattle.word_arena.specs.Knows.{api_buffer, view_of, StoresEntries}
 use Rattle.word_arena.proofs.Entries.{entries-stored}
 use Rattle.word_arena.specs.ProofsForWork.{core-active}
@@ -55,7 +55,7 @@ returns-clause-knows g c =
     let e = c.store.ensures in
     let active : active_in w.buffers (buffer_of w.sizes.offset_bits c.args.entry) ≡ Some width = core-active (slice_get w.buffers (buffer_of w.sizes.offset_bits c.args.entry)) may.word.entry.wide in
     let is : writer_of c.store.new.seat.me.0 ≡ stored w (place_in w.sizes width c.args.entry c.args.i) c.args.word =
-    ap (λ (m : Me Slot View). writer_of m.0) e.2.told.is ∙ ap (λ (q : ℕ). stored w q c.args.word) at in
+    ap (λ (m : Me Slot View). writer_in m.0) e.2.told.is ∙ ap (λ (q : ℕ). stored w q c.args.word) at in
     (λ k. view_of (e.0 k) (is k)) ∙ store-knows w c.args.entry c.args.i width c.args.word active may.word.entry may.word.inside s.place.table_id
 
 pub returns-clause-others : goal.returns-clause-others
@@ -73,7 +73,7 @@ returns-clause-others g c q other =
     let e = c.store.ensures in
     let active : active_in w.buffers (buffer_of w.sizes.offset_bits c.args.entry) ≡ Some width = core-active (slice_get w.buffers (buffer_of w.sizes.offset_bits c.args.entry)) may.word.entry.wide in
     let is : writer_of c.store.new.seat.me.0 ≡ stored w (place_in w.sizes width c.args.entry c.args.i) c.args.word =
-    ap (λ (m : Me Slot View). writer_of m.0) e.2.told.is ∙ ap (λ (q : ℕ). stored w q c.args.word) at in
+    ap (λ (m : Me Slot View). writer_in m.0) e.2.told.is ∙ ap (λ (q : ℕ). stored w q c.args.word) at in
     ap (λ (v : WriterView). writer_records v q) is ∙ records-others w c.args.entry width c.args.i c.args.word active may.word.entry may.word.inside q other
 
 pub invariant_of-self : goal.invariant_of-self

@@ -9,13 +9,16 @@ use Rattle.gen_core.specs.declared.views.View.TheVariants.{Writer}
 use Rattle.gen_core.specs.declared.views.WriterView.{WriterView}
 use Rattle.gen_core.specs.Views.{last_tag_in}
 use Rattle.gen_core.specs.Events.{handed_out, widened}
-use Rattle.word_arena.specs.Ruled.{Slot, writer_of}
+use Rattle.word_arena.specs.Ruled.{Slot, writer_of, writer_in}
 use Rattle.word_arena.specs.Knows.{given, StoresEntries}
 use Rattle.word_arena.proofs.Entries.{entries-given}
 use Rattle.word_arena.proofs.Allowed.{hand_out_owed, width_owed}
 use Rattle.word_arena.proofs.Guards.{base-inside}
 use Rattle.word_arena.proofs.Desks.{arena-words, desk_after}
 use Rattle.word_arena.proofs.Stores.{free-here}
+use Rattle.gen_core.proofs.Layouts.{IsLayout}
+use Rattle.word_arena.specs.Released.{HandsOut}
+use Rattle.word_arena.proofs.HandsOut.{hands_out, hands_on}
 use Rattle.word_arena.proofs.writer.Writer.take_buffer.Goals as goal
 use Rattle.gen_core.specs.Good.{GoodView}
 use Rattle.gen_core.proofs.StoredWords.{two-steps, may-hand-out, may-width}
@@ -39,11 +42,11 @@ store-requires-2 g c =
     let free = free-here w b below c.requires.free in
     let some : 0 < c.from-2.result = let h = c.requires.some in omega (arith, h, c.from-2.ensures) in
     let size = s.stands.same_sizes in
-    let at : 18 + s.sizes.buffers + c.from.result * s.sizes.words ≡ base w.sizes.buffers w.sizes.words b = λ k. base (sym size k).buffers (sym size k).words (c.from.ensures k) in
-    let in_table : b < s.sizes.buffers = let h = c.requires.below in omega (arith, h, ap (λ (z : Sizes). z.buffers) size) in
-    let word : 0 < s.sizes.words = subst (λ (z : Sizes). 0 < z.words) size s.stands.good.some_word in
-    let low = base-inside s.sizes.buffers s.sizes.words b in_table word in
-    let here : 18 + s.sizes.buffers + c.from.result * s.sizes.words ≡ base s.sizes.buffers s.sizes.words b = λ k. base s.sizes.buffers s.sizes.words (c.from.ensures k) in
+    let at : 18 + s.arena.now.sizes.buffers + c.from.result * s.arena.now.sizes.words ≡ base w.sizes.buffers w.sizes.words b = λ k. base (sym size k).buffers (sym size k).words (c.from.ensures k) in
+    let in_table : b < s.arena.now.sizes.buffers = let h = c.requires.below in omega (arith, h, ap (λ (z : Sizes). z.buffers) size) in
+    let word : 0 < s.arena.now.sizes.words = subst (λ (z : Sizes). 0 < z.words) size s.stands.good.some_word in
+    let low = base-inside s.arena.now.sizes.buffers s.arena.now.sizes.words b in_table word in
+    let here : 18 + s.arena.now.sizes.buffers + c.from.result * s.arena.now.sizes.words ≡ base s.arena.now.sizes.buffers s.arena.now.sizes.words b = λ k. base s.arena.now.sizes.buffers s.arena.now.sizes.words (c.from.ensures k) in
     let e = c.store.ensures in
     let slots : s.place.me.1 ≡ [] = ap (λ (m : Me Slot View). m.1) s.stands.is in (
       e.0 ∙ s.stands.own,
@@ -61,10 +64,10 @@ invariant_of-self g c =
     let free = free-here w b below c.requires.free in
     let some : 0 < c.from-2.result = let h = c.requires.some in omega (arith, h, c.from-2.ensures) in
     let size = s.stands.same_sizes in
-    let at : 18 + s.sizes.buffers + c.from.result * s.sizes.words ≡ base w.sizes.buffers w.sizes.words b = λ k. base (sym size k).buffers (sym size k).words (c.from.ensures k) in
+    let at : 18 + s.arena.now.sizes.buffers + c.from.result * s.arena.now.sizes.words ≡ base w.sizes.buffers w.sizes.words b = λ k. base (sym size k).buffers (sym size k).words (c.from.ensures k) in
     let e = c.store.ensures in
     let first = (e.2.told b refl).is in
-    let mid : writer_of c.store.new.seat.me.0 ≡ handed_out w b = ap (λ (m : Me Slot View). writer_of m.0) first in
+    let mid : writer_of c.store.new.seat.me.0 ≡ handed_out w b = ap (λ (m : Me Slot View). writer_in m.0) first in
     let f = c.store-2.ensures in
     let second = f.2.told b (at ∙ ap (λ (v : WriterView). base v.sizes.buffers v.sizes.words b) (sym mid)) in
     let v : WriterView = widened (handed_out w b) b c.from-2.result in
@@ -75,7 +78,7 @@ invariant_of-self g c =
     let list : v.buffers ≡ set s.buffers.items b (Active c.from-3.result c.last_of-last.result) =
     ap (λ (x : WriterView). x.buffers) steps ∙ (λ k. set (s.stands.same_buffers k) b (Active (value k) (tag k))) in
     record {
-      stands = desk_after s.stands v (f.0 ∙ e.0) (second.is ∙ ap (λ (m : Me Slot View). (Writer (widened (writer_of m.0) b c.from-2.result), m.1)) first) refl list s.stands.same_holds
+      stands = desk_after s.stands v (f.0 ∙ e.0) (second.is ∙ ap (λ (m : Me Slot View). (Writer (widened (writer_in m.0) b c.from-2.result), m.1)) first) refl list s.stands.same_holds
           s.stands.commits s.stands.readers s.stands.calm (subst (λ (x : WriterView). GoodView (widened x b c.from-2.result)) mid second.good)
           (subst StoresEntries (sym steps) (entries-given w s.stands.good b (last_tag_in w.buffers b) c.from-2.result free some s.stands.entries));
     }
@@ -89,9 +92,20 @@ returns-clause-view g c =
     let free = free-here w b below c.requires.free in
     let some : 0 < c.from-2.result = let h = c.requires.some in omega (arith, h, c.from-2.ensures) in
     let size = s.stands.same_sizes in
-    let at : 18 + s.sizes.buffers + c.from.result * s.sizes.words ≡ base w.sizes.buffers w.sizes.words b = λ k. base (sym size k).buffers (sym size k).words (c.from.ensures k) in
-    let mid : writer_of c.store.new.seat.me.0 ≡ handed_out w b = ap (λ (m : Me Slot View). writer_of m.0) (c.store.ensures.2.told b refl).is in
+    let at : 18 + s.arena.now.sizes.buffers + c.from.result * s.arena.now.sizes.words ≡ base w.sizes.buffers w.sizes.words b = λ k. base (sym size k).buffers (sym size k).words (c.from.ensures k) in
+    let mid : writer_of c.store.new.seat.me.0 ≡ handed_out w b = ap (λ (m : Me Slot View). writer_in m.0) (c.store.ensures.2.told b refl).is in
     let second = c.store-2.ensures.2.told b (at ∙ ap (λ (v : WriterView). base v.sizes.buffers v.sizes.words b) (sym mid)) in
-    ap (λ (m : Me Slot View). writer_of m.0) second.is ∙ ap (λ (x : WriterView). widened x b c.from-2.result) mid
+    ap (λ (m : Me Slot View). writer_in m.0) second.is ∙ ap (λ (x : WriterView). widened x b c.from-2.result) mid
     ∙ two-steps w s.stands.good b (last_tag_in w.buffers b) c.from-2.result free some
     ∙ ap (λ (n : ℕ). given w b n (last_tag_in w.buffers b)) c.from-2.ensures
+
+pub returns-clause-hands : goal.returns-clause-hands
+returns-clause-hands g c =
+    let s = c.args.self.now in
+    let layout : IsLayout g.L.Layout.reaches g.L.Layout.lawful = record { empty_reaches = g.L.Layout.empty_reaches; empty_lawful = g.L.Layout.empty_lawful; present = g.L.Layout.present; stays = g.L.Layout.stays } in
+    let e = c.store.ensures.2.event in
+    let place = e.1.is.word in
+    let b : e.0 ≡ c.args.buffer = omega (arith, place) in
+    let first = hands_out g.L.Layout.reaches g.L.Layout.lawful layout e.0 _ _ _ _ e.1 in
+    subst (λ (n : ℕ). HandsOut g.L.Layout.reaches g.L.Layout.lawful (writer_of s.place.me.0).sizes s.place.me.0.seen c.store-2.new.seat.me.0.seen n) b
+    (hands_on g.L.Layout.reaches g.L.Layout.lawful first c.store-2.ensures.2.event.1)
