@@ -31,7 +31,7 @@ over-same (w ∷ ws) f h same = let here = same w in let rest = over-same ws f h
 
 over-none : (ws : List ℕ) → over ws (λ w. 0) ≡ 0
 over-none [] = refl
-over-none (w ∷ ws) = over-none ws
+over-none (w ∷ ws) = let rest = over-none ws in omega (arith, rest)
 
 -- the values of a walk, each with so many at most
 module _ (ws : List ℕ) (changes : Value × ℤ → Bool) (each : Value × ℤ → ℕ → ℕ) (P : Value × ℤ → Type 0) (k : ℕ) (few : (e : Value × ℤ) → P e → over ws (each e) ≤ k) where
@@ -107,20 +107,32 @@ field_sum kind column doc count old new =
     omega (arith, added, gone, first, last, items)
 
 -- ---- one width
+if_one : (t : Bool) → cond {A = ℕ} t 1 0 ≤ 1
+if_one true = omega arith
+if_one false = omega arith
+
+if_both : (s t : Bool) → cond {A = ℕ} s (cond t 1 0) 0 ≤ 1
+if_both true t = if_one t
+if_both false t = omega arith
+
 new_one : (docs : List (ℕ × ℤ)) (value : Value) (w : ℕ) → new_record docs value w ≤ 1
-new_one [] value w = omega arith
+new_one [] value w = if_one (nat_eq w (class_of (length (value_words value))))
 new_one (d ∷ docs) value w = omega arith
+
+short_one : (count w : ℕ) → short_record count w ≤ 1
+short_one count w = if_both (nat_le count 8) (nat_eq w (class_of (1 + count)))
 
 items_one : (kind : Kind) (count w : ℕ) → items_record kind count w ≤ 1
 items_one kind zero w = omega arith
-items_one kind (suc count) w = omega arith
+items_one kind (suc count) w = if_both (has_list kind) (nat_eq w (class_of (1 + suc count)))
 
 pub field_one : (kind : Kind) (column : Column) (doc count : ℕ) (old new : List (Value × ℤ)) (w : ℕ)
     → field_records kind column doc count old new w ≤ 2 * new_values old new + 1 + lost_values old new
 field_one kind column doc count old new w =
     let lists : Value → List (ℕ × ℤ) = λ value. documents_with value column in
     let added = over_walk (w ∷ []) (is_added (entry_weight old)) (put_records lists doc) (λ e. Unit {0}) 2
-    (λ e is. let one = new_one (lists e.0) e.0 w in omega (arith, one)) new (all_values new) in
-    let gone = over_walk (w ∷ []) (is_gone (entry_weight new)) (taken_records lists doc) (λ e. Unit {0}) 1 (λ e is. omega arith) old (all_values old) in
+    (λ e is. let one = new_one (lists e.0) e.0 w in let short = short_one (length (insert_entry nat_cmp (lists e.0) doc e.1)) w in omega (arith, one, short)) new (all_values new) in
+    let gone = over_walk (w ∷ []) (is_gone (entry_weight new)) (taken_records lists doc) (λ e. Unit {0}) 1
+    (λ e is. let short = short_one (length (remove_entry (is_at (nat_cmp doc)) (lists e.0))) w in omega (arith, short)) old (all_values old) in
     let items = items_one kind count w in
     omega (arith, added, gone, items)
