@@ -20,7 +20,7 @@ use crate::vectors::common_of_vectors;
 use arena_api::Frozen;
 use attr_images::FIRST_VECTOR;
 use attr_index::Gathered;
-use attr_types::{DocList, Query};
+use attr_types::{DocList, Leaf, Query};
 use entry_ref::EntryRef;
 use std::alloc::{AllocError, Global};
 
