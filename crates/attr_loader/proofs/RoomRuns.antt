@@ -86,6 +86,10 @@ take_whole (x ∷ xs) = ap (λ ys. x ∷ ys) (take_whole xs)
 pub take_all : {A : Type 0} (xs : List A) (n : ℕ) → n ≡ length xs → take n xs ≡ xs
 take_all xs n is = ap (λ k. take k xs) is ∙ take_whole xs
 
+none_ascend : IsStrictlySortedBy Rattle.std.proofs.Common.nat_cmp []
+unfolding IsStrictlySortedBy
+none_ascend = tt
+
 -- ---- a batch
 module _ {S H : Type 0} (ledger : S → Ledger H) where
   -- one operation more
@@ -189,10 +193,6 @@ module _ {S H : Type 0} (ledger : S → Ledger H) where
           roots = refl;
           keys = omega arith;
         }
-      where
-        none_ascend : IsStrictlySortedBy Rattle.std.proofs.Common.nat_cmp []
-        unfolding IsStrictlySortedBy
-        none_ascend = tt
 
     module _ (b : AttributeView S) (count : ℕ) (runs : Runs batch ops start b count) (part : List Op) (n : ℕ) (fields : b.fields ≡ start.fields) (table : b.table ≡ after_ops start.fields [] (take count ops))
         (front : take (count + n) ops ≡ take count ops ++ take n part) where
@@ -258,13 +258,13 @@ module _ {S H : Type 0} (ledger : S → Ledger H) where
       weight_is : weight (take (count + before) (values_of start.fields [] ops)) ≡ weight (values_of start.fields [] (take (count + before) ops))
       weight_is = ap weight (values_take start.fields [] ops (count + before))
 
-      owed_now : IsOwed (load_of (ledger c.store).work.sizes c.fields batch ops) (count + before) count
+      owed_now : IsOwed (load_of (ledger c.store).work.sizes.buffers (ledger c.store).work.sizes.words c.fields batch ops) (count + before) count
       owed_now =
           let total : length (values_of c.fields [] ops) ≡ length ops = values_length c.fields [] ops in
           let weights : weight (take (count + before) (values_of c.fields [] ops)) ≡ weight (values_of start.fields [] (take (count + before) ops)) =
           ap (λ fs. weight (take (count + before) (values_of fs [] ops))) same_fields ∙ weight_is in
           let commits : commits_to batch (length (values_of c.fields [] ops)) count ≡ runs.last = ap (λ n. commits_to batch n count) total ∙ commits_are in
-          full_owed (load_of (ledger c.store).work.sizes c.fields batch ops) (count + before) count after made_now.most
+          full_owed (load_of (ledger c.store).work.sizes.buffers (ledger c.store).work.sizes.words c.fields batch ops) (count + before) count after made_now.most
           (λ width. ((ledger c.store).of_width width).made) (λ width. ((ledger c.store).of_width width).buffers) words
           (record {
             pairs = (let pairs = weight_on b count runs part before fields table front in omega (arith, pairs, weights));
@@ -275,7 +275,7 @@ module _ {S H : Type 0} (ledger : S → Ledger H) where
           (within_filled (ledger c.store).work.sizes.words made_now.most (λ width. ((ledger c.store).of_width width).made) (λ width. ((ledger c.store).of_width width).buffers) made_now.within few)
           (omega (arith, counted, free))
 
-      pub owed_at : IsOwed (load_of (ledger start.store).work.sizes start.fields batch ops) (count + before) count
+      pub owed_at : IsOwed (load_of (ledger start.store).work.sizes.buffers (ledger start.store).work.sizes.words start.fields batch ops) (count + before) count
       owed_at =
-          subst (λ (s : Sizes). IsOwed (load_of s start.fields batch ops) (count + before) count) sizes
-          (subst (λ (fs : List Field). IsOwed (load_of (ledger c.store).work.sizes fs batch ops) (count + before) count) same_fields owed_now)
+          subst (λ (s : Sizes). IsOwed (load_of s.buffers s.words start.fields batch ops) (count + before) count) sizes
+          (subst (λ (fs : List Field). IsOwed (load_of (ledger c.store).work.sizes.buffers (ledger c.store).work.sizes.words fs batch ops) (count + before) count) same_fields owed_now)

@@ -205,7 +205,7 @@ module _ {S H : Type 0} (ledger : S → Ledger H) (batch : ℕ) (ops : List Op) 
     ]
 
     pub finds_no_room : (c : AttributeView S) (before active held : ℕ) → 0 < batch → FindsNoRoom ledger b c part before active held
-        → (length start.fields ≡ 1 → HasMadeNothing (ledger start.store) → IsOwed (load_of (ledger start.store).work.sizes start.fields batch ops) (count + before) count)
+        → (length start.fields ≡ 1 → HasMadeNothing (ledger start.store) → IsOwed (load_of (ledger start.store).work.sizes.buffers (ledger start.store).work.sizes.words start.fields batch ops) (count + before) count)
         → current (ledger c.store).work ≤ (ledger c.store).work.commits.last → Loads ledger batch ops start c (record { operations = count; skipped = skips; full = Some (record { operation = count + before; active = active; held = held }) })
     finds_no_room c before active held some full owed timely = record {
       stays = stays_on ledger start b c stands.stays full.keeps.stays;

@@ -101,12 +101,12 @@ module _ {S H : Type 0} (ledger : S → Ledger H) where
   CommitsBatch old new count skipped (Done more) = (more ≡ skipped) × MakesCommit old new
   CommitsBatch old new count skipped (Full before active held) = (before ≡ count) × RefusesCommit old new active held
 
-  -- so much more was made of one attribute, whatever was made before
+  -- the store of one attribute has made at most these steps more, after any steps before
   abbrev pub AddsSteps : AttributeView S → AttributeView S → (Steps → Steps) → Type 0
   AddsSteps old new more = (steps : Steps) → IsMade (ledger old.store) old.fields old.table steps
       → IsMade (ledger new.store) new.fields new.table (more steps)
 
-  -- by operations, the refused one too; by a commit, and the keys after it; and by both
+  -- for operations, with the refused one; for a commit, with the keys after it; and for both
   abbrev pub AppliesRoom : AttributeView S → AttributeView S → List Op → Batch → Type 0
   AppliesRoom old new ops (Done skipped) = AddsSteps old new (λ steps. after_values steps (values_of old.fields old.table ops))
   AppliesRoom old new ops (Full before active held) =

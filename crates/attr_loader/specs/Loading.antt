@@ -90,10 +90,11 @@ module _ {S H : Type 0} (ledger : S → Ledger H) where
     pub commits : (ledger new.store).work.commits.last ≡ (ledger old.store).work.commits.last + last
     pub ends : EndsAt batch (length ops) (ledger new.store).work.sizes.buffers loaded.operations loaded.full
     pub full : IfSome loaded.full (IsFullAt batch ops old new loaded.operations)
-    -- a full store is owed to what one attribute makes, in a store of which nothing was made before
+    -- with one attribute, in a store in which nothing was made before, a full store is owed to what was made
     pub owed : length old.fields ≡ 1 → HasMadeNothing (ledger old.store) → IfSome loaded.full
-        (λ full. IsOwed (load_of (ledger old.store).work.sizes old.fields batch ops) full.operation loaded.operations)
-    -- and where there are no readers none of it is held, while generations last
+        (λ full. IsOwed (load_of (ledger old.store).work.sizes.buffers (ledger old.store).work.sizes.words old.fields batch ops)
+        full.operation loaded.operations)
+    -- without readers nothing is held, while generations last
     pub unheld : (ledger old.store).work.made ≡ 0
         → (ledger old.store).work.commits.last + length ops < (ledger old.store).work.sizes.generations
         → IfSome loaded.full (λ full. full.held ≡ 0)

@@ -1,7 +1,6 @@
--- What a loading of one attribute makes in its store, by what was done.
+-- Bounds on what the loading of one attribute makes in its store, by the steps made so far.
 use Rattle.std.specs.Prelude.{◌≡◌, ℕ, ◌+◌, ◌*◌, ◌≤◌, Bool, true, false, ◌&&◌, List, [], ◌∷◌, length, take}
 use Rattle.std.specs.List.{sum_by}
-use Rattle.arena_api.specs.Works.{Sizes}
 use Rattle.store_api.specs.Ledgers.{Ledger, no_counts}
 use Rattle.attr_index.specs.Changes.{first_weights}
 use Rattle.attr_index.specs.Columns.{Column, column_of}
@@ -32,16 +31,16 @@ is_single_long [] = false
 is_single_long (field ∷ []) = is_single field.kind && is_long field.value
 is_single_long (field ∷ more ∷ fields) = false
 
--- of each operation, how many distinct values the document's items have, before it and after it
+-- for each operation, the number of distinct values in the items of its document, before it and after it
 abbrev pub values_of : List Field → Table → List Op → List ℕ
 values_of fields table [] = []
 values_of fields table (op ∷ ops) = operation_values fields table op ∷ values_of fields (after_op fields table op) ops
 
--- what is loaded, and into what
-abbrev pub load_of : Sizes → List Field → ℕ → List Op → Load
-load_of sizes fields batch ops = record {
-  buffers = sizes.buffers;
-  words = sizes.words;
+-- operations that are loaded, and the buffers and the words of each
+abbrev pub load_of : ℕ → ℕ → List Field → ℕ → List Op → Load
+load_of buffers words fields batch ops = record {
+  buffers = buffers;
+  words = words;
   single_long = is_single_long fields;
   batch = batch;
   values = values_of fields [] ops;
@@ -51,7 +50,7 @@ load_of sizes fields batch ops = record {
 abbrev pub column_weight : Column → ℕ
 column_weight column = sum_by (λ e. length (first_weights [] e.1)) column
 
--- operations that are about so many values each
+-- the steps after operations on this many values each
 abbrev pub after_values : Steps → List ℕ → Steps
 after_values steps [] = steps
 after_values steps (t ∷ values) = after_values (after_operation steps t) values
@@ -60,7 +59,8 @@ after_values steps (t ∷ values) = after_values (after_operation steps t) value
 pub record HasMadeNothing {H : Type 0} (ledger : Ledger H) : Type 0 where
   pub counts : (width : ℕ) → ledger.of_width width ≡ no_counts
 
--- one attribute with this table has made so much at most, by these steps, and has no more values and documents
+-- the store of one attribute has made at most what these steps allow, and its table has at most as many values and
+-- documents
 pub record IsMade {H : Type 0} (ledger : Ledger H) (fields : List Field) (table : Table) (steps : Steps) : Type 0 where
   pub one : length fields ≡ 1
   pub most : ℕ → ℕ
