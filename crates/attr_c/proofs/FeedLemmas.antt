@@ -1,0 +1,174 @@
+-- What one line says, and what lines say one after another.
+use Rattle.std.proofs.Common.{◌≡◌, ℕ, ◌+◌, ◌-◌, ◌<◌, ◌≤◌, drop, slice_index_or, true, false, List, [], ◌∷◌, ◌++◌, length, Result, Ok, Err, Option, Some, None, refl, sym, ◌∙◌, ap, subst, arith, length-append}
+use Rattle.std.specs.List.{AllByRecursion}
+use Rattle.std.proofs.lemmas.List.{drop-drop}
+use Rattle.attr_types.specs.Lawful.{OpFits}
+use Rattle.attr_types.specs.declared.field.Field.{Field}
+use Rattle.attr_types.specs.declared.op.Op.{Op}
+use Rattle.feed_reader.specs.declared.refusal.Refusal.{Refusal}
+use Rattle.feed_reader.specs.declared.error.FeedError.{FeedError}
+use Rattle.feed_reader.specs.declared.error.FeedError.TheVariants as errors
+use Rattle.feed_reader.specs.declared.refusal.Refusal.TheVariants as refusals
+use Rattle.feed_reader.specs.declared.refusal.LineError.TheVariants as line_errors
+use Rattle.feed_reader.specs.Feed.{Fault, feed_of, ops_of_lines, with_op, with_front, FeedFailsBy}
+use Rattle.feed_reader.specs.Grammar.{op_of_line}
+use Rattle.feed_reader.specs.Lines.{lines_of, is_blank}
+use Rattle.feed_reader.proofs.FeedLemmas.{lines_blank, lines_more, lines_end, lines_error, lines_start}
+use Rattle.attr_types.specs.Table.{Table, after_op, after_ops}
+use Rattle.attr_types.specs.declared.applied.Applied.{Applied}
+use Rattle.attr_c.specs.Feeding.{AppliesLine, Stays, SaysLine, FedLine, FedTo, Feeds, IsOfNoLine, RefusesLine, row_of}
+use Rattle.attr_c.specs.declared.stop.Stop.{Stop}
+use Rattle.attr_c.specs.declared.stop.Stop.TheVariants as stops
+
+pub record IsOneOp (fields : List Field) (line : List ℕ) (ops : List Op) : Type 0 where
+  pub op : Op
+  pub ops_are : ops ≡ op ∷ []
+  pub says : op_of_line fields line ≡ Ok op
+  pub fits : OpFits fields op
+
+one_op : (fields : List Field) (line : List ℕ) (ops : List Op) (r : Result Op Refusal) → op_of_line fields line ≡ r → with_op 1 r (Ok []) ≡ Ok ops → AllByRecursion (OpFits fields) ops → IsOneOp fields line ops
+one_op fields line [] (Ok op) is e fit = cc
+one_op fields line (other ∷ []) (Ok op) is e fit =
+    let same : op ∷ [] ≡ other ∷ [] = cc in
+    record { op = other; ops_are = refl; says = is ∙ ap Ok (cc); fits = fit.0 }
+one_op fields line (other ∷ another ∷ ops) (Ok op) is e fit = cc
+one_op fields line ops (Err refusal) is e fit = cc
+
+-- a line that is not blank, read as a feed of its own
+alone_says : (fields : List Field) (line : List ℕ) → lines_of line ≡ line ∷ [] → is_blank line ≡ false → feed_of fields line ≡ with_op 1 (op_of_line fields line) (Ok [])
+unfolding feed_of ops_of_lines
+alone_says fields line alone blank = ap (ops_of_lines fields 1) alone ∙ rw blank refl
+
+pub says_one : (fields : List Field) (line : List ℕ) (ops : List Op) → lines_of line ≡ line ∷ [] → is_blank line ≡ false → feed_of fields line ≡ Ok ops → AllByRecursion (OpFits fields) ops
+    → IsOneOp fields line ops
+says_one fields line ops alone blank says fit =
+    one_op fields line ops (op_of_line fields line) refl (sym (alone_says fields line alone blank) ∙ says) fit
+
+one_row : (r : Result Op Refusal) (n : ℕ) (row : Refusal) → with_op 1 r (Ok []) ≡ Err (n, row) → r ≡ Err row
+one_row (Ok op) n row e = cc
+one_row (Err refusal) n row e =
+    let pair : (1, refusal) ≡ (n, row) = cc in
+    ap (λ (p : ℕ × Refusal). Err p.1) pair
+
+row_said : (fields : List Field) (line : List ℕ) (n : ℕ) (row : Refusal) → lines_of line ≡ line ∷ [] → is_blank line ≡ false → feed_of fields line ≡ Err (n, row) → op_of_line fields line ≡ Err row
+row_said fields line n row alone blank e = one_row (op_of_line fields line) n row (sym (alone_says fields line alone blank) ∙ e)
+
+-- a line that is refused by itself is so among the others
+pub refused_line : (fields : List Field) (bytes : List ℕ) (front : List Op) (number : ℕ) (line : List ℕ) (lines : List (List ℕ)) (error : FeedError) → lines_of line ≡ line ∷ [] → is_blank line ≡ false
+    → FeedFailsBy error (feed_of fields line) → with_front front (ops_of_lines fields number (line ∷ lines)) ≡ feed_of fields bytes → RefusesLine fields bytes number (stops.Line error)
+refused_line fields bytes front number line lines error alone blank fails said = by_row error fails
+  where
+    at : (row : Refusal) (n : ℕ) → feed_of fields line ≡ Err (n, row) → feed_of fields bytes ≡ Err (number, row)
+    at row n e = lines_error fields bytes front (line_errors.Refused row) number line lines blank (row_said fields line n row alone blank e) said
+
+    by_row : (error : FeedError) → FeedFailsBy error (feed_of fields line) → RefusesLine fields bytes number (stops.Line error)
+    by_row (errors.NotJson n) e = at refusals.NotJson n e
+    by_row (errors.NoOperation n) e = at refusals.NoOperation n e
+    by_row (errors.BadId n) e = at refusals.BadId n e
+    by_row (errors.BadValue n) e = at refusals.BadValue n e
+    by_row (errors.Unsupported n) e = at refusals.Unsupported n e
+    by_row (errors.TooManyItems n) e = at refusals.TooManyItems n e
+    by_row errors.FeedTooLong e = tt
+    by_row errors.ReadFault e = tt
+    by_row errors.Memory e = tt
+
+-- a line that is not blank has a byte
+pub filled : (line : List ℕ) → is_blank line ≡ false → 0 < length line
+filled [] blank = cc
+filled (b ∷ line) blank = omega arith
+
+-- what was read of a line is its one operation
+pub says_popped : (fields : List Field) (line : List ℕ) (ops items : List Op) (len : ℕ) (result : Option Op) → IsOneOp fields line ops → items ≡ ops → len ≡ length items
+    → ((d : Op) → 0 < len → result ≡ Some (slice_index_or items (len - 1) d)) → is_blank line ≡ false → SaysLine fields line (Ok result)
+says_popped fields line ops items len result one same long value blank =
+    let is : items ≡ one.op ∷ [] = same ∙ one.ops_are in
+    let count : len ≡ 1 = long ∙ ap length is in
+    let last : result ≡ Some (slice_index_or items (len - 1) one.op) = value one.op (omega (arith, count)) in
+    let at : slice_index_or items (len - 1) one.op ≡ slice_index_or (one.op ∷ []) 0 one.op =
+    ap (λ (xs : List Op). slice_index_or xs (len - 1) one.op) is ∙ ap (λ (n : ℕ). slice_index_or (one.op ∷ []) (n - 1) one.op) count in
+    let found : result ≡ Some one.op = last ∙ ap Some at in
+    subst (λ (r : Option Op). SaysLine fields line (Ok r)) (sym found) (blank, one.says, one.fits)
+
+-- a stop that is of no line left all as it was
+pub fed_stopped : (fields : List Field) (line : List ℕ) (old new : Table) (before after : ℕ) (stop : Stop) → IsOfNoLine stop → Stays old new before after → FedLine fields line old new before after (Err stop)
+fed_stopped fields line old new before after (stops.Line error) none stays = absurd none
+fed_stopped fields line old new before after (stops.Store error) none stays = stays
+fed_stopped fields line old new before after stops.Spent none stays = stays
+fed_stopped fields line old new before after stops.Save none stays = stays
+fed_stopped fields line old new before after stops.Other none stays = stays
+fed_stopped fields line old new before after stops.Memory none stays = stays
+
+-- ---- places
+
+pub drop_none : (bytes : List ℕ) → bytes ≡ drop (length bytes - length bytes) bytes
+drop_none bytes = let none : length bytes - length bytes ≡ 0 = omega arith in ap (λ (n : ℕ). drop n bytes) (sym none)
+
+pub drop_on : (bytes rest after : List ℕ) → rest ≡ drop (length bytes - length rest) bytes → after ≡ drop (length rest - length after) rest → length after ≤ length rest → length rest ≤ length bytes
+    → after ≡ drop (length bytes - length after) bytes
+drop_on bytes rest after at_rest at_after one two =
+    let count : (length bytes - length rest) + (length rest - length after) ≡ length bytes - length after = omega (arith, one, two) in
+    at_after ∙ ap (λ (xs : List ℕ). drop (length rest - length after) xs) at_rest ∙ drop-drop (length rest - length after) (length bytes - length rest) bytes
+    ∙ ap (λ (n : ℕ). drop n bytes) count
+
+-- ---- one line after another
+
+after_one_more : (fields : List Field) (ops : List Op) (op : Op) (table : Table) → after_ops fields table (ops ++ op ∷ []) ≡ after_op fields (after_ops fields table ops) op
+after_one_more fields [] op table = refl
+after_one_more fields (first ∷ ops) op table = after_one_more fields ops op (after_op fields table first)
+
+module _ (fields : List Field) (bytes : List ℕ) where
+  pub fed_none : (old : Table) (before : ℕ) → FedTo fields bytes 1 bytes old old before before
+  fed_none old before = record { ops = []; said = lines_start fields bytes; table = refl; operations = omega arith }
+
+  -- no line is left
+  pub fed_whole : (old new : Table) (before after number : ℕ) (rest : List ℕ) → length rest ≡ 0 → FedTo fields bytes number rest old new before after → Feeds fields bytes old new before after
+  fed_whole old new before after number rest none fed =
+      record { ops = fed.ops; said = sym fed.said ∙ lines_end fields fed.ops number rest none; table = fed.table; operations = fed.operations }
+
+  module _ (old mid new : Table) (before between after : ℕ) (number : ℕ) (rest line left : List ℕ) (lines : lines_of rest ≡ line ∷ lines_of left) (fed : FedTo fields bytes number rest old mid before between) where
+    said_line : with_front fed.ops (ops_of_lines fields number (line ∷ lines_of left)) ≡ feed_of fields bytes
+    said_line = ap (λ (ls : List (List ℕ)). with_front fed.ops (ops_of_lines fields number ls)) (sym lines) ∙ fed.said
+
+    pub fed_blank : is_blank line ≡ true → Stays mid new between after → FedTo fields bytes (number + 1) left old new before after
+    fed_blank blank stays = record {
+      ops = fed.ops;
+      said = ap (with_front fed.ops) (sym (lines_blank fields number line (lines_of left) blank)) ∙ said_line;
+      table = stays.table ∙ fed.table;
+      operations = stays.operations ∙ fed.operations;
+    }
+
+    pub fed_more : AppliesLine fields line mid new between after → FedTo fields bytes (number + 1) left old new before after
+    fed_more one =
+        let was = fed.operations in
+        let is = one.operations in
+        let long = length-append fed.ops (one.op ∷ []) in
+        record {
+          ops = fed.ops ++ one.op ∷ [];
+          said = sym (lines_more fields fed.ops one.op number line (lines_of left) one.some one.says) ∙ said_line;
+          table = one.table ∙ ap (λ (t : Table). after_op fields t one.op) fed.table ∙ sym (after_one_more fields fed.ops one.op old);
+          operations = omega (arith, was, is, long);
+        }
+
+    pub fed_on : (applied : Option Applied) → FedLine fields line mid new between after (Ok applied) → FedTo fields bytes (number + 1) left old new before after
+    fed_on None line_is = fed_blank line_is.0 line_is.1
+    fed_on (Some applied) line_is = fed_more line_is
+
+    -- what was refused left all as it was
+    pub fed_still : (stop : Stop) → FedLine fields line mid new between after (Err stop) → FedTo fields bytes number rest old new before after
+    fed_still stop line_is = let stays = stays_at stop line_is in record { ops = fed.ops; said = fed.said; table = stays.table ∙ fed.table; operations = stays.operations ∙ fed.operations }
+      where
+        stays_at : (stop : Stop) → FedLine fields line mid new between after (Err stop) → Stays mid new between after
+        stays_at (stops.Line error) line_is = line_is.2
+        stays_at (stops.Store error) line_is = line_is
+        stays_at stops.Spent line_is = line_is
+        stays_at stops.Save line_is = line_is
+        stays_at stops.Other line_is = line_is
+        stays_at stops.Memory line_is = line_is
+
+    pub fed_refused : (stop : Stop) → (0 < length line → lines_of line ≡ line ∷ []) → FedLine fields line mid new between after (Err stop) → RefusesLine fields bytes number stop
+    fed_refused (stops.Line error) alone line_is = refused_line fields bytes fed.ops number line (lines_of left) error (alone (filled line line_is.0)) line_is.0 line_is.1 said_line
+    fed_refused (stops.Store error) alone line_is = tt
+    fed_refused stops.Spent alone line_is = tt
+    fed_refused stops.Save alone line_is = tt
+    fed_refused stops.Other alone line_is = tt
+    fed_refused stops.Memory alone line_is = tt

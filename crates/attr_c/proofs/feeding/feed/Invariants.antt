@@ -1,0 +1,15 @@
+use Rattle.std.proofs.Common.{◌≡◌, ◌+◌, ◌-◌, ◌≤◌, length, drop}
+use Rattle.attr_c.specs.Feeding.{FedTo}
+use Rattle.attr_c.proofs.feeding.feed.Given as goal
+
+-- what was applied is what the feed says before the lines that are left
+abbrev pub invariant-loop-rest : goal.invariant-loop-rest
+invariant-loop-rest g l = record {
+  fed : FedTo l.fn.open.fields l.fn.bytes (l.passed + 1) l.rest l.fn.open.attribute.table l.open.attribute.table l.fn.open.attribute.operations l.open.attribute.operations;
+  fields : l.open.fields ≡ l.fn.open.fields;
+  at : l.rest ≡ drop (length l.fn.bytes - length l.rest) l.fn.bytes;
+  few : l.passed + length l.rest ≤ length l.fn.bytes;
+}
+
+abbrev pub decreases-loop-rest : goal.decreases-loop-rest
+decreases-loop-rest g l = length l.rest

@@ -1,0 +1,44 @@
+-- What the writer's handle holds, as its callers see it.
+use Rattle.std.specs.Prelude.{◌≡◌, ℕ, List, length}
+use Rattle.attr_types.specs.Table.{Table}
+use Rattle.attr_types.specs.declared.field.Field.{Field}
+use Rattle.attr_c.specs.declared.state.AnyOpen.{AnyOpen}
+use Rattle.attr_c.specs.declared.state.AnyOpen.TheVariants.{Narrow, Wide}
+use Rattle.attr_c.specs.declared.state.Engine.{Engine}
+
+-- the attributes, the table that was fed, and how many operations made it
+abbrev pub open_fields : AnyOpen → List Field
+open_fields (Narrow o) = o.fields
+open_fields (Wide o) = o.fields
+
+abbrev pub open_table : AnyOpen → Table
+open_table (Narrow o) = o.attribute.table
+open_table (Wide o) = o.attribute.table
+
+abbrev pub open_operations : AnyOpen → ℕ
+open_operations (Narrow o) = o.attribute.operations
+open_operations (Wide o) = o.attribute.operations
+
+-- the table of the last commit, and how many operations it has
+abbrev pub open_committed : AnyOpen → Table
+open_committed (Narrow o) = o.attribute.committed
+open_committed (Wide o) = o.attribute.committed
+
+abbrev pub open_committed_operations : AnyOpen → ℕ
+open_committed_operations (Narrow o) = o.attribute.committed_operations
+open_committed_operations (Wide o) = o.attribute.committed_operations
+
+abbrev pub fields_of : Engine → List Field
+fields_of e = open_fields e.open
+
+abbrev pub table_of : Engine → Table
+table_of e = open_table e.open
+
+abbrev pub operations_of : Engine → ℕ
+operations_of e = open_operations e.open
+
+abbrev pub committed_of : Engine → Table
+committed_of e = open_committed e.open
+
+abbrev pub committed_operations_of : Engine → ℕ
+committed_operations_of e = open_committed_operations e.open

@@ -1,0 +1,84 @@
+-- What a reader's handle holds, as its callers see it, and what its calls say.
+use Rattle.std.specs.Prelude.{◌≡◌, ℕ, Bool, true, false, List, length, Option, Some, None, Result, Ok}
+use Rattle.gen_core.specs.Events.{released}
+use Rattle.word_arena.specs.Ruled.{reader_of, seen_number}
+use Rattle.attr_types.specs.Scores.{AskTree, answer_on, documents_in}
+use Rattle.attr_types.specs.declared.items.Item.{Item}
+use Rattle.query_text.specs.Asks.{ask_of}
+use Rattle.attr_c.specs.Kept.{KeptView, IsGuardOf, operations_of, table_in}
+use Rattle.attr_c.specs.Said.{said, items_of, save_of_table}
+use Rattle.attr_c.specs.declared.answer.Answer.{Answer}
+use Rattle.attr_c.specs.declared.seat.AnyKept.{AnyKept}
+use Rattle.attr_c.specs.declared.seat.AnyKept.TheVariants as kept
+use Rattle.attr_c.specs.declared.seat.Place.{Place}
+use Rattle.attr_c.specs.declared.seat.Place.TheVariants.{Free, Kept}
+use Rattle.attr_c.specs.declared.state.AnyReader.{AnyReader}
+use Rattle.attr_c.specs.declared.state.AnyReader.TheVariants as readers
+use Rattle.attr_c.specs.declared.told.Answered.{Answered}
+
+-- the attributes that a reader is asked of, and what it has seen
+abbrev pub reader_view : AnyReader → KeptView
+reader_view (readers.Narrow w) = record { fields = w.fields; reader = reader_of w.reader.place.me.0 }
+reader_view (readers.Wide w) = record { fields = w.fields; reader = reader_of w.reader.place.me.0 }
+
+abbrev pub kept_view : AnyKept → KeptView
+kept_view (kept.Narrow k) = k
+kept_view (kept.Wide k) = k
+
+abbrev pub is_kept : Place → Bool
+is_kept (Free r) = false
+is_kept (Kept k) = true
+
+-- a guard that a reader took
+pub record IsTaken (reader guard : KeptView) : Type 0 where
+  pub fields : guard.fields ≡ reader.fields
+  pub guard_is : IsGuardOf reader.reader guard.reader
+
+-- the guard that a place has, or takes
+abbrev pub TakesGuard : Place → KeptView → Type 0
+TakesGuard (Free r) guard = IsTaken (reader_view r) guard
+TakesGuard (Kept k) guard = guard ≡ kept_view k
+
+-- the guard stays, or was given back
+abbrev pub LeavesGuard : Bool → KeptView → Place → Type 0
+LeavesGuard true guard (Kept k) = kept_view k ≡ guard
+LeavesGuard true guard (Free r) = ⊥
+LeavesGuard false guard (Free r) = reader_view r ≡ record guard { reader = released guard.reader }
+LeavesGuard false guard (Kept k) = ⊥
+
+-- which commit answers, and how many operations it has
+pub record TellsCommit (guard : KeptView) (told : Answered) : Type 0 where
+  pub commit : told.commit ≡ seen_number guard.reader
+  pub operations : told.operations ≡ operations_of guard
+
+-- what the table of a guard's commit answers to a text
+pub record AnswersText (guard : KeptView) (text : List ℕ) (told : Answered) (answer : Answer) : Type 0 where
+  pub ask : AskTree
+  pub reads : ask_of guard.fields text ≡ Ok ask
+  pub answer_is : said answer ≡ answer_on ask (table_in guard)
+  pub tells : TellsCommit guard told
+  pub count : told.count ≡ documents_in (said answer)
+
+-- the items of a document in the table of a guard's commit
+pub record ReadsItems (guard : KeptView) (document field : ℕ) (told : Answered) (items : List Item) : Type 0 where
+  pub items_are : items_of field document (table_in guard) ≡ Some items
+  pub tells : TellsCommit guard told
+  pub count : told.count ≡ length items
+
+-- a save of the table of a guard's commit
+pub record SavesTable (guard : KeptView) (told : Answered) (bytes : List ℕ) : Type 0 where
+  pub bytes_are : bytes ≡ save_of_table guard.fields (operations_of guard) (table_in guard)
+  pub tells : TellsCommit guard told
+  pub count : told.count ≡ length bytes
+
+-- a call by one guard: the place's own, which stays, or one that was taken and given back
+pub record ByGuard (before after : Place) (P : KeptView → Type 0) : Type 0 where
+  pub guard : KeptView
+  pub takes : TakesGuard before guard
+  pub leaves : LeavesGuard (is_kept before) guard after
+  pub is : P guard
+
+abbrev pub ByGuardOf : Option Place → Option Place → (KeptView → Type 0) → Type 0
+ByGuardOf (Some before) (Some after) P = ByGuard before after P
+ByGuardOf (Some before) None P = ⊥
+ByGuardOf None after P = ⊥

@@ -1,0 +1,168 @@
+//! What a reader is asked, at the commit of its guard.
+ghost use Rattle.std.specs.Prelude.{◌≡◌, ◌<◌, ◌^◌, length, IfOk, Ok};
+ghost use Rattle.query_text.specs.Asks.{ask_of, AsksAs};
+ghost use Rattle.attr_c.specs.Seats.{kept_view, AnswersText, ReadsItems, SavesTable, TellsCommit};
+
+use crate::answer::Answer;
+use crate::codes::{
+    BOUNDS, MEMORY, NO_DOCUMENT, NO_FIELD, OUT_OF_RANGE, SYNTAX, TOO_DEEP, WRONG_TYPE,
+};
+use crate::kept::Kept;
+use crate::seat::AnyKept;
+use crate::told::Answered;
+use attr_types::{Ask, Doc, Fields, Items, QueryError};
+use query_text::parse_ask;
+use std::alloc::Global;
+
+fn code_of(error: QueryError, told: &mut Answered) -> i32 {
+    match error {
+        QueryError::Syntax { place } => {
+            told.place = place;
+            SYNTAX
+        }
+        QueryError::NoField { place } => {
+            told.place = place;
+            NO_FIELD
+        }
+        QueryError::WrongType => WRONG_TYPE,
+        QueryError::OutOfRange => OUT_OF_RANGE,
+        QueryError::TooDeep => TOO_DEEP,
+        QueryError::Memory => MEMORY,
+    }
+}
+
+/// What a text asks for.
+fn ask_in(alloc: Global, text: &str, fields: &Fields, told: &mut Answered) -> Result<Ask, i32>
+    requires { length fields.now < 2 ^ 32 }
+    ensures { IfOk result (λ ask. AsksAs (Ok ask) (ask_of fields.now text.now)) }
+{
+    match parse_ask(alloc, text, fields.as_slice()) {
+        Ok(ask) => Ok(ask),
+        Err(error) => Err(code_of(error, told)),
+    }
+}
+
+/// Which commit answers.
+fn tell_commit<const OFFSET_BITS: u32>(kept: &mut Kept<OFFSET_BITS>, told: &mut Answered)
+    ensures tells { TellsCommit kept.old told.new }
+    ensures same { kept.new ≡ kept.old }
+{
+    told.commit = kept.commit();
+    told.operations = kept.operations();
+}
+
+/// The answer to a text, or the code of its refusal.
+fn answer_of<const OFFSET_BITS: u32>(
+    alloc: Global,
+    kept: &mut Kept<OFFSET_BITS>,
+    text: &str,
+    told: &mut Answered,
+) -> Result<Answer, i32>
+    ensures answers { IfOk result (AnswersText kept.old text.now told.new) }
+    ensures same { kept.new ≡ kept.old }
+{
+    let ask = ask_in(alloc, text, kept.fields(), told)?;
+    tell_commit(kept, told);
+    match kept.answer(alloc, &ask) {
+        Ok(answer) => {
+            told.count = answer.len() as u64;
+            Ok(answer)
+        }
+        Err(_) => Err(MEMORY),
+    }
+}
+
+/// The items of a document, or the code of a refusal.
+fn items_of<const OFFSET_BITS: u32>(
+    alloc: Global,
+    kept: &mut Kept<OFFSET_BITS>,
+    doc: u32,
+    field: u32,
+    told: &mut Answered,
+) -> Result<Items, i32>
+    ensures items { IfOk result (ReadsItems kept.old doc field told.new) }
+    ensures same { kept.new ≡ kept.old }
+{
+    if field as usize >= kept.fields().len() || doc < 1 || doc > Doc::LAST {
+        return Err(BOUNDS);
+    }
+    tell_commit(kept, told);
+    match kept.items(alloc, field, Doc::new(doc)) {
+        Ok(Some(items)) => {
+            told.count = items.len() as u64;
+            Ok(items)
+        }
+        Ok(None) => Err(NO_DOCUMENT),
+        Err(_) => Err(MEMORY),
+    }
+}
+
+/// The bytes of a save, or the code of a refusal.
+fn save_of<const OFFSET_BITS: u32>(
+    alloc: Global,
+    kept: &mut Kept<OFFSET_BITS>,
+    told: &mut Answered,
+) -> Result<Vec<u8>, i32>
+    ensures saves { IfOk result (λ bytes. SavesTable kept.old told.new bytes.items) }
+    ensures same { kept.new ≡ kept.old }
+{
+    tell_commit(kept, told);
+    match kept.saved(alloc) {
+        Ok(bytes) => {
+            told.count = bytes.len() as u64;
+            Ok(bytes)
+        }
+        Err(_) => Err(MEMORY),
+    }
+}
+
+pub fn tell_any(kept: &mut AnyKept, told: &mut Answered)
+    ensures tells { TellsCommit (kept_view kept.old) told.new }
+    ensures same { kept_view kept.new ≡ kept_view kept.old }
+{
+    match kept {
+        AnyKept::Narrow(kept) => tell_commit(kept, told),
+        AnyKept::Wide(kept) => tell_commit(kept, told),
+    }
+}
+
+pub fn answer_any(
+    alloc: Global,
+    kept: &mut AnyKept,
+    text: &str,
+    told: &mut Answered,
+) -> Result<Answer, i32>
+    ensures answers { IfOk result (AnswersText (kept_view kept.old) text.now told.new) }
+    ensures same { kept_view kept.new ≡ kept_view kept.old }
+{
+    match kept {
+        AnyKept::Narrow(kept) => answer_of(alloc, kept, text, told),
+        AnyKept::Wide(kept) => answer_of(alloc, kept, text, told),
+    }
+}
+
+pub fn items_any(
+    alloc: Global,
+    kept: &mut AnyKept,
+    doc: u32,
+    field: u32,
+    told: &mut Answered,
+) -> Result<Items, i32>
+    ensures items { IfOk result (ReadsItems (kept_view kept.old) doc field told.new) }
+    ensures same { kept_view kept.new ≡ kept_view kept.old }
+{
+    match kept {
+        AnyKept::Narrow(kept) => items_of(alloc, kept, doc, field, told),
+        AnyKept::Wide(kept) => items_of(alloc, kept, doc, field, told),
+    }
+}
+
+pub fn save_any(alloc: Global, kept: &mut AnyKept, told: &mut Answered) -> Result<Vec<u8>, i32>
+    ensures saves { IfOk result (λ bytes. SavesTable (kept_view kept.old) told.new bytes.items) }
+    ensures same { kept_view kept.new ≡ kept_view kept.old }
+{
+    match kept {
+        AnyKept::Narrow(kept) => save_of(alloc, kept, told),
+        AnyKept::Wide(kept) => save_of(alloc, kept, told),
+    }
+}

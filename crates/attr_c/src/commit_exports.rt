@@ -1,0 +1,222 @@
+//! What C calls with the writer's handle.
+ghost use Rattle.std.specs.Prelude.{◌≡◌, ◌≢◌, ◌+◌, pos, drop, IsOk, IsErr};
+ghost use Rattle.attr_c.specs.Engines.{committed_of, committed_operations_of, fields_of, operations_of, table_of};
+ghost use Rattle.attr_c.specs.Feeding.{FedTo, Feeds};
+
+use crate::codes::OK;
+use crate::feeding::feed;
+use crate::handles::HeldEngine;
+use crate::loading::load;
+use crate::state::{AnyOpen, Counts, Open};
+use crate::stop::{Stop, code_of};
+use crate::told::{CountsTold, Told};
+use crate::writing::{commit, compact};
+use attr_images::AttrLayout;
+use std::alloc::Global;
+use store_api::Store;
+
+fn no_told() -> Told {
+    Told {
+        line: 0,
+        place: 0,
+        next: 0,
+        operations: 0,
+        skipped: 0,
+        commit: 0,
+        width: 0,
+        active: 0,
+        held: 0,
+        oldest: 0,
+        is_held: 0,
+        keys: 0,
+        finished: 0,
+        buffer: 0,
+    }
+}
+
+/// What a call came to, as a code.
+fn ended(counts: &mut Counts, came: Result<(), Stop>, told: &mut Told) -> i32
+    ensures ok { result ≡ pos 0 → IsOk came }
+    ensures other { result ≢ pos 0 → IsErr came }
+    ensures line { told.new.line ≡ told.old.line }
+    ensures place { told.new.place ≡ told.old.place }
+    ensures operations { told.new.operations ≡ told.old.operations }
+{
+    match came {
+        Ok(()) => OK,
+        Err(stop) => code_of(counts, stop, told),
+    }
+}
+
+/// Feeds lines, and says what it came to.
+fn feed_told<const OFFSET_BITS: u32, S: Store<OFFSET_BITS, Layout = AttrLayout>>(
+    alloc: Global,
+    open: &mut Open<OFFSET_BITS, S>,
+    bytes: &[u8],
+    told: &mut Told,
+) -> i32
+    ensures whole { result ≡ pos 0 → Feeds open.old.fields bytes.now open.old.attribute.table open.new.attribute.table
+        open.old.attribute.operations open.new.attribute.operations }
+    ensures front { result ≢ pos 0 → FedTo open.old.fields bytes.now told.new.line (drop told.new.place bytes.now)
+        open.old.attribute.table open.new.attribute.table open.old.attribute.operations open.new.attribute.operations }
+    ensures count { open.new.attribute.operations ≡ open.old.attribute.operations + told.new.operations }
+    ensures fields { open.new.fields ≡ open.old.fields }
+{
+    let before = open.attribute.operations();
+    let came = feed(alloc, open, bytes, told);
+    told.operations = open.attribute.operations() - before;
+    open.counts.skipped = open.counts.skipped.wrapping_add(u64::from(told.skipped));
+    ended(&mut open.counts, came, told)
+}
+
+/// Applies lines one after another, up to a line that is refused.
+#[unsafe(no_mangle)]
+pub extern "C" fn attr_feed(
+    alloc: Global,
+    at: &mut HeldEngine,
+    bytes: &[u8],
+    told: &mut Told,
+) -> i32
+    ensures whole { result ≡ pos 0 → Feeds (fields_of at.old.value) bytes.now (table_of at.old.value) (table_of at.new.value)
+        (operations_of at.old.value) (operations_of at.new.value) }
+    ensures front { result ≢ pos 0 → FedTo (fields_of at.old.value) bytes.now told.new.line (drop told.new.place bytes.now)
+        (table_of at.old.value) (table_of at.new.value) (operations_of at.old.value) (operations_of at.new.value) }
+    ensures count { operations_of at.new.value ≡ operations_of at.old.value + told.new.operations }
+    ensures fields { fields_of at.new.value ≡ fields_of at.old.value }
+{
+    *told = no_told();
+    let engine = at.get_mut();
+    match &mut engine.open {
+        AnyOpen::Narrow(open) => feed_told(alloc, open, bytes, told),
+        AnyOpen::Wide(open) => feed_told(alloc, open, bytes, told),
+    }
+}
+
+fn commit_told<const OFFSET_BITS: u32, S: Store<OFFSET_BITS, Layout = AttrLayout>>(
+    open: &mut Open<OFFSET_BITS, S>,
+    told: &mut Told,
+) -> i32
+    ensures committed { result ≡ pos 0 → open.new.attribute.committed ≡ open.old.attribute.table }
+    ensures published { result ≡ pos 0 → open.new.attribute.committed_operations ≡ open.old.attribute.operations }
+    ensures told { result ≡ pos 0 → told.new.operations ≡ open.old.attribute.operations }
+    ensures table { open.new.attribute.table ≡ open.old.attribute.table }
+    ensures operations { open.new.attribute.operations ≡ open.old.attribute.operations }
+    ensures fields { open.new.fields ≡ open.old.fields }
+{
+    let came = commit(open, told);
+    ended(&mut open.counts, came, told)
+}
+
+/// Commits what was applied.
+#[unsafe(no_mangle)]
+pub extern "C" fn attr_commit(at: &mut HeldEngine, told: &mut Told) -> i32
+    ensures committed { result ≡ pos 0 → committed_of at.new.value ≡ table_of at.old.value }
+    ensures published { result ≡ pos 0 → committed_operations_of at.new.value ≡ operations_of at.old.value }
+    ensures told { result ≡ pos 0 → told.new.operations ≡ operations_of at.old.value }
+    ensures table { table_of at.new.value ≡ table_of at.old.value }
+    ensures operations { operations_of at.new.value ≡ operations_of at.old.value }
+    ensures fields { fields_of at.new.value ≡ fields_of at.old.value }
+{
+    *told = no_told();
+    let engine = at.get_mut();
+    match &mut engine.open {
+        AnyOpen::Narrow(open) => commit_told(open, told),
+        AnyOpen::Wide(open) => commit_told(open, told),
+    }
+}
+
+fn compact_told<const OFFSET_BITS: u32, S: Store<OFFSET_BITS, Layout = AttrLayout>>(
+    alloc: Global,
+    open: &mut Open<OFFSET_BITS, S>,
+    keys: u32,
+    told: &mut Told,
+) -> i32
+    ensures table { open.new.attribute.table ≡ open.old.attribute.table }
+    ensures operations { open.new.attribute.operations ≡ open.old.attribute.operations }
+    ensures committed { open.new.attribute.committed ≡ open.old.attribute.committed }
+    ensures fields { open.new.fields ≡ open.old.fields }
+{
+    let came = compact(alloc, open, keys, told);
+    ended(&mut open.counts, came, told)
+}
+
+/// Goes so many keys on in a compaction.
+#[unsafe(no_mangle)]
+pub extern "C" fn attr_compact(
+    alloc: Global,
+    at: &mut HeldEngine,
+    keys: u32,
+    told: &mut Told,
+) -> i32
+    ensures table { table_of at.new.value ≡ table_of at.old.value }
+    ensures operations { operations_of at.new.value ≡ operations_of at.old.value }
+    ensures committed { committed_of at.new.value ≡ committed_of at.old.value }
+    ensures fields { fields_of at.new.value ≡ fields_of at.old.value }
+{
+    *told = no_told();
+    let engine = at.get_mut();
+    match &mut engine.open {
+        AnyOpen::Narrow(open) => compact_told(alloc, open, keys, told),
+        AnyOpen::Wide(open) => compact_told(alloc, open, keys, told),
+    }
+}
+
+fn load_told<const OFFSET_BITS: u32, S: Store<OFFSET_BITS, Layout = AttrLayout>>(
+    alloc: Global,
+    open: &mut Open<OFFSET_BITS, S>,
+    bytes: &[u8],
+    told: &mut Told,
+) -> i32
+    ensures { open.new.fields ≡ open.old.fields }
+{
+    let before = open.attribute.operations();
+    let came = load(alloc, open, bytes, told);
+    told.operations = open.attribute.operations().saturating_sub(before);
+    ended(&mut open.counts, came, told)
+}
+
+/// Puts the documents of a save in, one after another, up to one that is refused.
+#[unsafe(no_mangle)]
+pub extern "C" fn attr_load(
+    alloc: Global,
+    at: &mut HeldEngine,
+    bytes: &[u8],
+    told: &mut Told,
+) -> i32
+    ensures { fields_of at.new.value ≡ fields_of at.old.value }
+{
+    *told = no_told();
+    let engine = at.get_mut();
+    match &mut engine.open {
+        AnyOpen::Narrow(open) => load_told(alloc, open, bytes, told),
+        AnyOpen::Wide(open) => load_told(alloc, open, bytes, told),
+    }
+}
+
+fn counts_of<const OFFSET_BITS: u32, S: Store<OFFSET_BITS, Layout = AttrLayout>>(
+    open: &Open<OFFSET_BITS, S>,
+) -> CountsTold {
+    let counts = &open.counts;
+    CountsTold {
+        skipped: counts.skipped,
+        operations: open.attribute.operations(),
+        commit: counts.commit,
+        committed: counts.committed,
+        oldest: counts.oldest,
+        is_held: counts.is_held,
+        active: counts.active,
+        held: counts.held,
+        buffers: counts.sizes.buffers,
+        words: counts.sizes.words,
+        readers: open.pool.len().min(64) as u32,
+    }
+}
+
+/// Tells numbers for a monitor.
+#[unsafe(no_mangle)]
+pub extern "C" fn attr_counts(at: &mut HeldEngine, told: &mut CountsTold) {
+    *told = match &at.get_mut().open {
+        AnyOpen::Narrow(open) => counts_of(open),
+        AnyOpen::Wide(open) => counts_of(open),
+    };
+}

@@ -1,0 +1,56 @@
+//! What was answered, copied out.
+
+use crate::codes::{BOUNDS, OK};
+use crate::told::ItemTold;
+use attr_types::{Item, Value};
+
+/// Copies the front of a list of bytes, as far as there is room, and says how many that were.
+pub fn copy_bytes(from: &[u8], into: &mut [u8]) -> usize {
+    let count = into.len().min(from.len());
+    into[..count].copy_from_slice(&from[..count]);
+    count
+}
+
+/// The same from the byte at this place on.
+pub fn copy_from(from: &[u8], first: usize, into: &mut [u8]) -> usize {
+    copy_bytes(&from[first.min(from.len())..], into)
+}
+
+fn told_item(item: &Item) -> ItemTold {
+    match &item.value {
+        Value::Long(number) => ItemTold {
+            number: *number,
+            length: 0,
+            weight: item.weight,
+            is_text: 0,
+        },
+        Value::Text(text) => ItemTold {
+            number: 0,
+            length: text.len() as u64,
+            weight: item.weight,
+            is_text: 1,
+        },
+    }
+}
+
+/// Tells the item of a number, from 0.
+pub fn item_at(items: &[Item], number: usize, told: &mut ItemTold) -> i32 {
+    match items.get(number) {
+        Some(item) => {
+            *told = told_item(item);
+            OK
+        }
+        None => BOUNDS,
+    }
+}
+
+/// The bytes of the text of an item; none where there is no such text.
+pub fn text_at(items: &[Item], number: usize) -> &[u8] {
+    match items.get(number) {
+        Some(item) => match &item.value {
+            Value::Long(_) => &[],
+            Value::Text(text) => text.as_str().as_bytes(),
+        },
+        None => &[],
+    }
+}

@@ -1,0 +1,113 @@
+//! A reader under a guard: its commit stays readable until the guard is given back.
+ghost use Rattle.std.specs.Prelude.{◌≡◌, ◌<◌, ◌≤◌, length, IfOk};
+ghost use Rattle.gen_core.specs.Events.{released};
+ghost use Rattle.word_arena.specs.Ruled.{reader_of, seen_number};
+ghost use Rattle.attr_types.specs.Scores.{ask_tree, answer_on};
+ghost use Rattle.attr_types.specs.declared.field.TheConstants.{MOST_FIELDS};
+ghost use Rattle.attr_c.specs.Said.{said, items_of, save_of_table};
+ghost use Rattle.attr_c.specs.Kept.{operations_of, table_in, IsGuardOf};
+
+use crate::answer::Answer;
+use crate::guarding::guarded;
+use crate::reading::{answer_at, field_items, operations_in, saved_at};
+use crate::state::Waiting;
+use attr_images::AttrLayout;
+use attr_types::{Ask, Doc, Fields, Items};
+use std::alloc::{AllocError, Global};
+use std::marker::Model;
+use word_arena::Guarded;
+
+/// A reader under a guard, with the attributes that it is asked of.
+#[derive(Drop)]
+pub struct Kept<const OFFSET_BITS: u32> {
+    fields: Fields,
+    guard: Guarded<'static, OFFSET_BITS, AttrLayout>,
+}
+
+impl<const OFFSET_BITS: u32> Model for Kept<OFFSET_BITS> {
+    ghost use Rattle.word_arena.specs.Ruled.{reader_of};
+    ghost use Rattle.attr_c.specs.Kept.{KeptView, IsKept};
+
+    ghost Value = { KeptView };
+
+    ghost view = { λ k. record { fields = k.fields; reader = reader_of k.guard.place.me.0 } };
+
+    ghost invariant = { λ k. IsKept k.fields (reader_of k.guard.place.me.0) };
+}
+
+impl<const OFFSET_BITS: u32> Kept<OFFSET_BITS> {
+    /// A guard of the last commit.
+    pub fn new(waiting: Waiting<OFFSET_BITS>) -> Kept<OFFSET_BITS>
+        ensures fields { result.fields ≡ waiting.entry.fields }
+        ensures guard { IsGuardOf (reader_of waiting.entry.reader.place.me.0) result.reader }
+    {
+        let Waiting { fields, reader } = waiting;
+        let guard = guarded(reader);
+        Kept { fields, guard }
+    }
+
+    /// Gives the guard back.
+    pub fn release(self) -> Waiting<OFFSET_BITS>
+        ensures fields { result.fields ≡ self.entry.fields }
+        ensures idle { reader_of result.reader.place.me.0 ≡ released self.entry.reader }
+    {
+        let Kept { fields, guard } = self;
+        let reader = guard.release();
+        Waiting { fields, reader }
+    }
+
+    pub fn fields(&self) -> &Fields
+        ensures fields { result.now ≡ self.now.fields }
+        ensures few { length result.now ≤ MOST_FIELDS }
+    {
+        &self.fields
+    }
+
+    /// The number of the commit.
+    pub fn commit(&self) -> u32
+        ensures { result ≡ seen_number self.now.reader }
+    {
+        self.guard.commit()
+    }
+
+    /// How many operations it has.
+    pub fn operations(&mut self) -> u32
+        ensures count { result ≡ operations_of self.old }
+        ensures same { self.new ≡ self.old }
+    {
+        let root = self.guard.root();
+        operations_in(&mut self.guard, root)
+    }
+
+    /// What the commit answers.
+    pub fn answer(&mut self, alloc: Global, ask: &Ask) -> Result<Answer, AllocError>
+        ensures answer { IfOk result (λ answer. said answer ≡ answer_on (ask_tree ask.now) (table_in self.old)) }
+        ensures same { self.new ≡ self.old }
+    {
+        let root = self.guard.root();
+        answer_at(alloc, &mut self.guard, root, &self.fields, ask)
+    }
+
+    /// The items that a document has at the commit in the attribute of this number. There are none where it is not there.
+    pub fn items(
+        &mut self,
+        alloc: Global,
+        field: u32,
+        doc: Doc,
+    ) -> Result<Option<Items>, AllocError>
+        ensures items { field < length self.old.fields → IfOk result (λ found. found ≡ items_of field doc (table_in self.old)) }
+        ensures same { self.new ≡ self.old }
+    {
+        let root = self.guard.root();
+        field_items(alloc, &mut self.guard, root, &self.fields, field, doc)
+    }
+
+    /// The bytes of a save of the first attribute at the commit.
+    pub fn saved(&mut self, alloc: Global) -> Result<Vec<u8>, AllocError>
+        ensures bytes { IfOk result (λ bytes. bytes.items ≡ save_of_table self.old.fields (operations_of self.old) (table_in self.old)) }
+        ensures same { self.new ≡ self.old }
+    {
+        let root = self.guard.root();
+        saved_at(alloc, &mut self.guard, root, &self.fields)
+    }
+}

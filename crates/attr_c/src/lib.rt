@@ -1,0 +1,28 @@
+//! The engine, for C: one writer, and readers in threads of C's own. `include/attr.h` is what C sees of it.
+#![tactic(auto)]
+
+mod answer;
+mod asking;
+mod attributes;
+mod codes;
+mod commit_exports;
+mod copying;
+mod feeding;
+mod guarding;
+mod handles;
+mod kept;
+mod line;
+mod loading;
+mod loose;
+mod messages;
+mod open_exports;
+mod opening;
+mod raw;
+mod read_exports;
+mod reading;
+mod seat;
+mod split;
+mod state;
+mod stop;
+mod told;
+mod writing;

@@ -1,0 +1,94 @@
+//! The documents of a save, put in one after another.
+ghost use Rattle.std.specs.Prelude.{◌≡◌};
+
+use crate::feeding::apply;
+use crate::state::Open;
+use crate::stop::Stop;
+use crate::told::Told;
+use attr_images::AttrLayout;
+use attr_io::SliceSource;
+use attr_saver::{LoadError, Saved, SavedDocument, read_saved};
+use attr_types::{Field, FieldItems, Fields, Op, fits};
+use std::alloc::{AllocError, Global};
+use store_api::Store;
+
+/// Whether a save is of an attribute.
+fn is_of(field: &Field, saved: &Saved) -> bool {
+    field.kind == saved.kind && field.value == saved.value
+}
+
+fn is_of_fields(fields: &Fields, saved: &Saved) -> bool {
+    match fields.as_slice() {
+        [field] => is_of(field, saved),
+        _ => false,
+    }
+}
+
+fn put_of(alloc: Global, document: SavedDocument) -> Result<Op, AllocError> {
+    let SavedDocument { doc, items } = document;
+    let items = FieldItems::of_one(alloc, items)?;
+    Ok(Op::Put { doc, items })
+}
+
+/// Puts a document in.
+fn put_document<const OFFSET_BITS: u32, S: Store<OFFSET_BITS, Layout = AttrLayout>>(
+    alloc: Global,
+    open: &mut Open<OFFSET_BITS, S>,
+    document: SavedDocument,
+) -> Result<(), Stop>
+    ensures { open.new.fields ≡ open.old.fields }
+{
+    let Ok(op) = put_of(alloc, document) else {
+        return Err(Stop::Memory);
+    };
+    if !fits(&open.fields, &op) {
+        return Err(Stop::Other);
+    }
+    match apply(alloc, open, &op) {
+        Ok(_) => Ok(()),
+        Err(stop) => Err(stop),
+    }
+}
+
+/// Puts the documents of a save in, up to one that is refused.
+fn put_all<const OFFSET_BITS: u32, S: Store<OFFSET_BITS, Layout = AttrLayout>>(
+    alloc: Global,
+    open: &mut Open<OFFSET_BITS, S>,
+    documents: Vec<SavedDocument>,
+) -> Result<(), Stop>
+    ensures { open.new.fields ≡ open.old.fields }
+{
+    for document in documents {
+        put_document(alloc, open, document)?;
+    }
+    Ok(())
+}
+
+/// What bytes tell as a save.
+fn saved_in(alloc: Global, bytes: &[u8], told: &mut Told) -> Result<Saved, Stop> {
+    match read_saved(alloc, &mut SliceSource::new(bytes)) {
+        Ok(saved) => Ok(saved),
+        Err(LoadError::BadForm { place }) => {
+            told.place = place;
+            Err(Stop::Save)
+        }
+        Err(LoadError::ReadFault) => Err(Stop::Save),
+        Err(LoadError::Memory) => Err(Stop::Memory),
+    }
+}
+
+/// Puts the documents of a save in. The save is of the one attribute that there is.
+pub fn load<const OFFSET_BITS: u32, S: Store<OFFSET_BITS, Layout = AttrLayout>>(
+    alloc: Global,
+    open: &mut Open<OFFSET_BITS, S>,
+    bytes: &[u8],
+    told: &mut Told,
+) -> Result<(), Stop>
+    ensures { open.new.fields ≡ open.old.fields }
+{
+    let saved = saved_in(alloc, bytes, told)?;
+    if !is_of_fields(&open.fields, &saved) {
+        return Err(Stop::Other);
+    }
+    put_all(alloc, open, saved.table.into_vec())
+}

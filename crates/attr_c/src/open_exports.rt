@@ -1,0 +1,134 @@
+//! What C calls to open, to close, and to hand readers out.
+
+use crate::attributes::fields_in;
+use crate::codes::{BOUNDS, LOST, MEMORY, NO_READER, NO_TEXT, OK};
+use crate::handles::{HeldEngine, HeldSeat};
+use crate::opening::{may_cross, opened_in_bounds};
+use crate::seat::{Seat, reader_of};
+use crate::state::{AnyOpen, AnyReader, Engine};
+use crate::told::Sizes;
+use std::alloc::Global;
+
+/// An engine over a new memory, which has no document; or the code of a refusal.
+fn new_engine(
+    alloc: Global,
+    text: &str,
+    sizes: &Sizes,
+    place: &mut u64,
+) -> Result<Box<Engine>, i32> {
+    let fields = match fields_in(alloc, text) {
+        Ok(fields) => fields,
+        Err(error) => {
+            *place = error.number();
+            return Err(error.code());
+        }
+    };
+    let open = match opened_in_bounds(alloc, fields, sizes) {
+        Ok(Some(open)) => may_cross(open),
+        Ok(None) => return Err(BOUNDS),
+        Err(_) => return Err(MEMORY),
+    };
+    match Box::new(alloc, Engine { open }) {
+        Ok(engine) => Ok(engine),
+        Err(_) => Err(MEMORY),
+    }
+}
+
+/// Opens an engine of the attributes that a text names.
+#[unsafe(no_mangle)]
+pub extern "C" fn attr_open(
+    alloc: Global,
+    attributes: &[u8],
+    sizes: &Sizes,
+    out: &mut *mut u8,
+    place: &mut u64,
+) -> i32 {
+    *place = 0;
+    let Ok(text) = str::from_utf8(attributes) else {
+        return NO_TEXT;
+    };
+    match new_engine(alloc, text, sizes, place) {
+        Ok(engine) => {
+            *out = Box::into_raw(engine).cast::<u8>();
+            OK
+        }
+        Err(code) => code,
+    }
+}
+
+/// Gives up the attributes and their writer. The memory of the words stays, and readers go on.
+#[unsafe(no_mangle)]
+pub extern "C" fn attr_close(alloc: Global, at: HeldEngine) {
+    drop(at.into_box(alloc));
+}
+
+/// A reader that was not given away yet.
+fn next_reader(open: &mut AnyOpen) -> Option<AnyReader> {
+    match open {
+        AnyOpen::Narrow(open) => match open.pool.pop() {
+            Some(waiting) => Some(AnyReader::Narrow(waiting)),
+            None => None,
+        },
+        AnyOpen::Wide(open) => match open.pool.pop() {
+            Some(waiting) => Some(AnyReader::Wide(waiting)),
+            None => None,
+        },
+    }
+}
+
+/// Puts a reader back to those that are to be given away.
+fn put_back(open: &mut AnyOpen, reader: AnyReader) -> i32 {
+    match (open, reader) {
+        (AnyOpen::Narrow(open), AnyReader::Narrow(waiting)) => match open.pool.push(waiting) {
+            Ok(()) => OK,
+            Err(_) => MEMORY,
+        },
+        (AnyOpen::Wide(open), AnyReader::Wide(waiting)) => match open.pool.push(waiting) {
+            Ok(()) => OK,
+            Err(_) => MEMORY,
+        },
+        _ => LOST,
+    }
+}
+
+/// Hands out a reader.
+#[unsafe(no_mangle)]
+pub extern "C" fn attr_reader_open(alloc: Global, at: &mut HeldEngine, out: &mut *mut u8) -> i32 {
+    let engine = at.get_mut();
+    let Some(reader) = next_reader(&mut engine.open) else {
+        return NO_READER;
+    };
+    match Box::new(alloc, may_cross(Seat::new(alloc, reader))) {
+        Ok(seat) => {
+            *out = Box::into_raw(seat).cast::<u8>();
+            OK
+        }
+        Err(_) => MEMORY,
+    }
+}
+
+/// The reader of a handle, without a guard.
+fn reader_in(alloc: Global, at: HeldSeat) -> Option<AnyReader> {
+    let Seat { place, .. } = Box::into_inner(at.into_box(alloc));
+    match place {
+        Some(place) => Some(reader_of(place)),
+        None => None,
+    }
+}
+
+/// Takes a reader back, to be handed out again.
+#[unsafe(no_mangle)]
+pub extern "C" fn attr_reader_return(alloc: Global, at: &mut HeldEngine, seat: HeldSeat) -> i32 {
+    let reader = reader_in(alloc, seat);
+    let engine = at.get_mut();
+    match reader {
+        Some(reader) => put_back(&mut engine.open, reader),
+        None => LOST,
+    }
+}
+
+/// Gives up a reader for good.
+#[unsafe(no_mangle)]
+pub extern "C" fn attr_reader_close(alloc: Global, at: HeldSeat) {
+    drop(reader_in(alloc, at));
+}

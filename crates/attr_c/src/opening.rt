@@ -1,0 +1,223 @@
+//! A new memory, which is never given up, its attributes, and its readers.
+ghost use Rattle.std.specs.Prelude.{◌≡◌, ◌≤◌, ◌<◌, ◌*◌, ◌^◌, length, IfOk};
+ghost use Rattle.attr_images.specs.Shapes.{shape_of, types_of};
+ghost use Rattle.attr_types.specs.declared.field.TheConstants.{MOST_FIELDS};
+ghost use Rattle.arena_api.specs.Calls.{IsFresh};
+ghost use Rattle.word_arena.specs.Knows.{view_of};
+ghost use Rattle.word_arena.specs.Ruled.{writer_of};
+
+use crate::state::{AnyOpen, Counts, Narrow, Open, Waiting, Wide};
+use crate::told::Sizes;
+use attr_images::{AttrLayout, shape_of};
+use attr_types::Fields;
+use attribute_kinds::Attribute;
+use entry_store::EntryStore;
+use std::alloc::{AllocError, Global};
+use word_arena::{Arena, Config, Limits, Writer};
+
+/// What may cross to another thread.
+pub fn may_cross<T: Send>(value: T) -> T
+    ensures { result ≡ value }
+{
+    value
+}
+
+/// So many readers, each with the attributes.
+fn waiting<const OFFSET_BITS: u32>(
+    alloc: Global,
+    writer: &mut Writer<'static, OFFSET_BITS, AttrLayout>,
+    fields: &Fields,
+    readers: u32,
+) -> Result<Vec<Waiting<OFFSET_BITS>>, AllocError>
+    requires few { length fields.now ≤ MOST_FIELDS }
+    requires shape { (writer_of writer.old.place.me.0).sizes.shape ≡ shape_of (types_of fields.now) }
+    requires fresh { IsFresh (view_of writer.old.place.table_id (writer_of writer.old.place.me.0)) }
+    ensures shape { (writer_of writer.new.place.me.0).sizes.shape ≡ shape_of (types_of fields.now) }
+    ensures fresh { IsFresh (view_of writer.new.place.table_id (writer_of writer.new.place.me.0)) }
+{
+    let mut pool = Vec::new(alloc);
+    for _ in 0..readers {
+        let Ok(reader) = writer.reader() else {
+            return Ok(pool);
+        };
+        let fields = fields.clone()?;
+        pool.push(Waiting { fields, reader })?;
+    }
+    Ok(pool)
+}
+
+/// Attributes without a document.
+fn running<const OFFSET_BITS: u32>(
+    alloc: Global,
+    writer: Writer<'static, OFFSET_BITS, AttrLayout>,
+    fields: &Fields,
+) -> Result<
+    Attribute<OFFSET_BITS, EntryStore<OFFSET_BITS, Writer<'static, OFFSET_BITS, AttrLayout>>>,
+    AllocError,
+>
+    requires some { 0 < length fields.now }
+    requires few { length fields.now ≤ MOST_FIELDS }
+    requires shape { (writer_of writer.place.me.0).sizes.shape ≡ shape_of (types_of fields.now) }
+    requires fresh { IsFresh (view_of writer.place.table_id (writer_of writer.place.me.0)) }
+    ensures { IfOk result (λ a. a.fields ≡ fields.now) }
+{
+    match Attribute::create(alloc, writer, fields, false) {
+        Ok(attribute) => Ok(attribute),
+        Err(_) => Err(AllocError),
+    }
+}
+
+fn no_counts(sizes: &Sizes) -> Counts {
+    Counts {
+        sizes: *sizes,
+        skipped: 0,
+        commit: 0,
+        committed: 0,
+        since: [0; 16],
+        oldest: 0,
+        is_held: 0,
+        active: 0,
+        held: 0,
+    }
+}
+
+fn config_of(fields: &Fields, sizes: &Sizes) -> Config
+    requires { length fields.now ≤ MOST_FIELDS }
+    ensures buffers { result.buffers ≡ sizes.now.buffers }
+    ensures words { result.words ≡ sizes.now.words }
+    ensures shape { result.shape ≡ shape_of (types_of fields.now) }
+    ensures generations { result.limits.generations < 2 ^ 48 }
+{
+    Config {
+        buffers: sizes.buffers,
+        words: sizes.words,
+        shape: shape_of(fields),
+        limits: Limits {
+            commits: 4_294_967_295,
+            generations: 281_474_976_710_655,
+        },
+    }
+}
+
+/// The writer of a new memory that is never given up, with references of 22 and 10 bits.
+fn narrow_writer(
+    alloc: Global,
+    config: Config,
+) -> Result<Writer<'static, 22, AttrLayout>, AllocError>
+    requires some_buffers { 1 ≤ config.buffers }
+    requires few_buffers { config.buffers < 1024 }
+    requires some_words { 8192 ≤ config.words }
+    requires few_words { config.words ≤ 65536 }
+    requires product { config.buffers * config.words ≤ 67108864 }
+    requires generations { config.limits.generations < 2 ^ 48 }
+    ensures shape { IfOk result (λ w. (writer_of w.place.me.0).sizes.shape ≡ config.shape) }
+    ensures fresh { IfOk result (λ w. IsFresh (view_of w.place.table_id (writer_of w.place.me.0))) }
+{
+    let (arena, token) = Arena::<22, AttrLayout>::create(alloc, config)?;
+    let kept: &'static Arena<22, AttrLayout> = Box::leak(Box::new(alloc, arena)?);
+    Ok(kept.writer(token))
+}
+
+/// The same with references of 19 and 13 bits.
+fn wide_writer(alloc: Global, config: Config) -> Result<Writer<'static, 19, AttrLayout>, AllocError>
+    requires some_buffers { 1 ≤ config.buffers }
+    requires few_buffers { config.buffers < 8192 }
+    requires some_words { 8192 ≤ config.words }
+    requires few_words { config.words ≤ 65536 }
+    requires product { config.buffers * config.words ≤ 67108864 }
+    requires generations { config.limits.generations < 2 ^ 48 }
+    ensures shape { IfOk result (λ w. (writer_of w.place.me.0).sizes.shape ≡ config.shape) }
+    ensures fresh { IfOk result (λ w. IsFresh (view_of w.place.table_id (writer_of w.place.me.0))) }
+{
+    let (arena, token) = Arena::<19, AttrLayout>::create(alloc, config)?;
+    let kept: &'static Arena<19, AttrLayout> = Box::leak(Box::new(alloc, arena)?);
+    Ok(kept.writer(token))
+}
+
+/// Attributes that have no document over a new memory with references of 22 and 10 bits, and its readers.
+fn narrow_open(
+    alloc: Global,
+    config: Config,
+    fields: Fields,
+    sizes: &Sizes,
+) -> Result<Open<22, Narrow>, AllocError>
+    requires some { 0 < length fields }
+    requires few { length fields ≤ MOST_FIELDS }
+    requires some_buffers { 1 ≤ config.buffers }
+    requires few_buffers { config.buffers < 1024 }
+    requires some_words { 8192 ≤ config.words }
+    requires few_words { config.words ≤ 65536 }
+    requires product { config.buffers * config.words ≤ 67108864 }
+    requires generations { config.limits.generations < 2 ^ 48 }
+    requires shape { config.shape ≡ shape_of (types_of fields) }
+    ensures { IfOk result (λ o. o.fields ≡ fields) }
+{
+    let mut writer = narrow_writer(alloc, config)?;
+    let pool = waiting(alloc, &mut writer, &fields, sizes.readers)?;
+    let attribute = running(alloc, writer, &fields)?;
+    Ok(Open {
+        fields,
+        attribute,
+        pool,
+        counts: no_counts(sizes),
+    })
+}
+
+/// The same with references of 19 and 13 bits.
+fn wide_open(
+    alloc: Global,
+    config: Config,
+    fields: Fields,
+    sizes: &Sizes,
+) -> Result<Open<19, Wide>, AllocError>
+    requires some { 0 < length fields }
+    requires few { length fields ≤ MOST_FIELDS }
+    requires some_buffers { 1 ≤ config.buffers }
+    requires few_buffers { config.buffers < 8192 }
+    requires some_words { 8192 ≤ config.words }
+    requires few_words { config.words ≤ 65536 }
+    requires product { config.buffers * config.words ≤ 67108864 }
+    requires generations { config.limits.generations < 2 ^ 48 }
+    requires shape { config.shape ≡ shape_of (types_of fields) }
+    ensures { IfOk result (λ o. o.fields ≡ fields) }
+{
+    let mut writer = wide_writer(alloc, config)?;
+    let pool = waiting(alloc, &mut writer, &fields, sizes.readers)?;
+    let attribute = running(alloc, writer, &fields)?;
+    Ok(Open {
+        fields,
+        attribute,
+        pool,
+        counts: no_counts(sizes),
+    })
+}
+
+/// A new memory of these sizes with attributes that have no document, and its readers; none where the sizes are out of bounds.
+pub fn opened_in_bounds(
+    alloc: Global,
+    fields: Fields,
+    sizes: &Sizes,
+) -> Result<Option<AnyOpen>, AllocError>
+    requires some { 0 < length fields }
+    requires few { length fields ≤ MOST_FIELDS }
+{
+    if sizes.buffers < 1 || sizes.words < 8192 || sizes.words > 65536 || sizes.readers > 64 {
+        return Ok(None);
+    }
+    if u64::from(sizes.buffers) * u64::from(sizes.words) > 67_108_864 {
+        return Ok(None);
+    }
+    let config = config_of(&fields, sizes);
+    if sizes.wide == 0 {
+        if sizes.buffers > 1023 {
+            return Ok(None);
+        }
+        let open = narrow_open(alloc, config, fields, sizes)?;
+        return Ok(Some(AnyOpen::Narrow(open)));
+    }
+    if sizes.buffers > 8191 {
+        return Ok(None);
+    }
+    let open = wide_open(alloc, config, fields, sizes)?;
+    Ok(Some(AnyOpen::Wide(open)))
+}

@@ -1,0 +1,193 @@
+//! What C calls with a reader's handle.
+ghost use Rattle.std.specs.Prelude.{◌≡◌, ◌≢◌, pos, IfOk};
+ghost use Rattle.attr_c.specs.Seats.{AnswersText, ByGuardOf, ReadsItems, SavesTable};
+
+use crate::answer::{Answer, copy_hits, copy_scores};
+use crate::asking::{answer_any, items_any, save_any, tell_any};
+use crate::codes::{LOST, NO_TEXT, OK};
+use crate::copying::{copy_bytes, copy_from, item_at, text_at};
+use crate::handles::HeldSeat;
+use crate::seat::{Place, Seat, kept_of, left, reader_of};
+use crate::told::{Answered, ItemTold, Scored};
+use std::alloc::Global;
+
+fn no_answer() -> Answered {
+    Answered {
+        commit: 0,
+        operations: 0,
+        count: 0,
+        place: 0,
+    }
+}
+
+/// The code of a refusal, which is none of success.
+fn refused(code: i32) -> i32
+    ensures { result ≢ pos 0 }
+{
+    if code == OK { LOST } else { code }
+}
+
+/// Takes a guard of the last commit, and keeps it until it is released. Where there is one it stays.
+#[unsafe(no_mangle)]
+pub extern "C" fn attr_hold(at: &mut HeldSeat, told: &mut Answered) -> i32 {
+    *told = no_answer();
+    let seat = at.get_mut();
+    let Some(place) = seat.place.take() else {
+        return LOST;
+    };
+    let (mut kept, _) = kept_of(place);
+    tell_any(&mut kept, told);
+    seat.place = Some(Place::Kept(kept));
+    OK
+}
+
+/// Gives the guard back.
+#[unsafe(no_mangle)]
+pub extern "C" fn attr_release(at: &mut HeldSeat) -> i32 {
+    let seat = at.get_mut();
+    let Some(place) = seat.place.take() else {
+        return LOST;
+    };
+    seat.place = Some(Place::Free(reader_of(place)));
+    OK
+}
+
+/// The answer to a text at the guard's commit, or at that of a guard that this call takes and gives back.
+fn answer_in(
+    alloc: Global,
+    seat: &mut Seat,
+    text: &[u8],
+    told: &mut Answered,
+) -> Result<Answer, i32>
+    ensures { IfOk result (λ answer. ByGuardOf seat.old.place seat.new.place (λ guard. AnswersText guard text.now told.new answer)) }
+{
+    let Ok(text) = str::from_utf8(text) else {
+        return Err(NO_TEXT);
+    };
+    let Some(place) = seat.place.take() else {
+        return Err(LOST);
+    };
+    let (mut kept, stays) = kept_of(place);
+    let answer = answer_any(alloc, &mut kept, text, told);
+    seat.place = Some(left(kept, stays));
+    answer
+}
+
+/// Answers what a text asks for. The reader keeps the answer until it is asked again.
+#[unsafe(no_mangle)]
+pub extern "C" fn attr_ask(
+    alloc: Global,
+    at: &mut HeldSeat,
+    text: &[u8],
+    told: &mut Answered,
+) -> i32
+    ensures { result ≡ pos 0 → ByGuardOf at.old.value.place at.new.value.place
+        (λ guard. AnswersText guard text.now told.new at.new.value.answer) }
+{
+    *told = no_answer();
+    let seat = at.get_mut();
+    match answer_in(alloc, seat, text, told) {
+        Ok(answer) => {
+            seat.answer = answer;
+            OK
+        }
+        Err(code) => refused(code),
+    }
+}
+
+/// Tells how many documents answer what a text asks for. The reader keeps the answer that it had.
+#[unsafe(no_mangle)]
+pub extern "C" fn attr_count(
+    alloc: Global,
+    at: &mut HeldSeat,
+    text: &[u8],
+    told: &mut Answered,
+) -> i32 {
+    *told = no_answer();
+    match answer_in(alloc, at.get_mut(), text, told) {
+        Ok(_) => OK,
+        Err(code) => refused(code),
+    }
+}
+
+/// Copies the documents of the last answer, from the one at this place on, and says how many.
+#[unsafe(no_mangle)]
+pub extern "C" fn attr_hits(at: &mut HeldSeat, first: usize, into: &mut [u32]) -> usize {
+    copy_hits(&at.get_mut().answer, first, into)
+}
+
+/// The same with their scores. The answer to a query has none.
+#[unsafe(no_mangle)]
+pub extern "C" fn attr_scores(at: &mut HeldSeat, first: usize, into: &mut [Scored]) -> usize {
+    copy_scores(&at.get_mut().answer, first, into)
+}
+
+/// Reads the items of a document in the attribute of a number. The reader keeps them until it reads others.
+#[unsafe(no_mangle)]
+pub extern "C" fn attr_items(
+    alloc: Global,
+    at: &mut HeldSeat,
+    doc: u32,
+    field: u32,
+    told: &mut Answered,
+) -> i32
+    ensures { result ≡ pos 0 → ByGuardOf at.old.value.place at.new.value.place
+        (λ guard. ReadsItems guard doc field told.new at.new.value.items) }
+{
+    *told = no_answer();
+    let seat = at.get_mut();
+    let Some(place) = seat.place.take() else {
+        return LOST;
+    };
+    let (mut kept, stays) = kept_of(place);
+    let items = items_any(alloc, &mut kept, doc, field, told);
+    seat.place = Some(left(kept, stays));
+    match items {
+        Ok(items) => {
+            seat.items = items;
+            OK
+        }
+        Err(code) => refused(code),
+    }
+}
+
+/// Tells an item of those that were read last.
+#[unsafe(no_mangle)]
+pub extern "C" fn attr_item(at: &mut HeldSeat, number: usize, told: &mut ItemTold) -> i32 {
+    item_at(at.get_mut().items.as_slice(), number, told)
+}
+
+/// Copies the text of such an item, and says how many bytes were copied.
+#[unsafe(no_mangle)]
+pub extern "C" fn attr_item_text(at: &mut HeldSeat, number: usize, into: &mut [u8]) -> usize {
+    copy_bytes(text_at(at.get_mut().items.as_slice(), number), into)
+}
+
+/// Saves the first attribute. The reader keeps the bytes until it saves again.
+#[unsafe(no_mangle)]
+pub extern "C" fn attr_save(alloc: Global, at: &mut HeldSeat, told: &mut Answered) -> i32
+    ensures { result ≡ pos 0 → ByGuardOf at.old.value.place at.new.value.place
+        (λ guard. SavesTable guard told.new at.new.value.saved.items) }
+{
+    *told = no_answer();
+    let seat = at.get_mut();
+    let Some(place) = seat.place.take() else {
+        return LOST;
+    };
+    let (mut kept, stays) = kept_of(place);
+    let bytes = save_any(alloc, &mut kept, told);
+    seat.place = Some(left(kept, stays));
+    match bytes {
+        Ok(bytes) => {
+            seat.saved = bytes;
+            OK
+        }
+        Err(code) => refused(code),
+    }
+}
+
+/// Copies bytes of the last save, from the one at this place on, and says how many.
+#[unsafe(no_mangle)]
+pub extern "C" fn attr_saved(at: &mut HeldSeat, first: usize, into: &mut [u8]) -> usize {
+    copy_from(at.get_mut().saved.as_slice(), first, into)
+}

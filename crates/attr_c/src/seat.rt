@@ -1,0 +1,92 @@
+//! What a reader's handle holds.
+ghost use Rattle.std.specs.Prelude.{◌≡◌, false};
+ghost use Rattle.attr_c.specs.Seats.{is_kept, kept_view, reader_view, IsTaken, LeavesGuard, TakesGuard};
+
+use crate::answer::Answer;
+use crate::kept::Kept;
+use crate::state::AnyReader;
+use attr_types::Items;
+use std::alloc::Global;
+
+/// A reader of either width under a guard.
+#[derive(Drop)]
+pub enum AnyKept {
+    Narrow(Kept<22>),
+    Wide(Kept<19>),
+}
+
+/// A reader, under a guard of its own or not.
+#[derive(Drop)]
+pub enum Place {
+    Free(AnyReader),
+    Kept(AnyKept),
+}
+
+/// A reader, and the answers that it keeps.
+#[derive(Drop)]
+pub struct Seat {
+    /// None only where a call is under way.
+    pub place: Option<Place>,
+    pub answer: Answer,
+    pub items: Items,
+    pub saved: Vec<u8>,
+}
+
+impl Seat {
+    pub fn new(alloc: Global, reader: AnyReader) -> Seat {
+        Seat {
+            place: Some(Place::Free(reader)),
+            answer: Answer::new(alloc),
+            items: Items::new(alloc),
+            saved: Vec::new(alloc),
+        }
+    }
+}
+
+fn guarded_reader(reader: AnyReader) -> AnyKept
+    ensures { IsTaken (reader_view reader) (kept_view result) }
+{
+    match reader {
+        AnyReader::Narrow(waiting) => AnyKept::Narrow(Kept::new(waiting)),
+        AnyReader::Wide(waiting) => AnyKept::Wide(Kept::new(waiting)),
+    }
+}
+
+fn released(kept: AnyKept) -> AnyReader
+    ensures { LeavesGuard false (kept_view kept) (Place.Free result) }
+{
+    match kept {
+        AnyKept::Narrow(kept) => AnyReader::Narrow(kept.release()),
+        AnyKept::Wide(kept) => AnyReader::Wide(kept.release()),
+    }
+}
+
+/// A reader under a guard, and whether it was so before.
+pub fn kept_of(place: Place) -> (AnyKept, bool)
+    ensures guard { TakesGuard place (kept_view result.0) }
+    ensures stays { result.1 ≡ is_kept place }
+{
+    match place {
+        Place::Free(reader) => (guarded_reader(reader), false),
+        Place::Kept(kept) => (kept, true),
+    }
+}
+
+/// The reader, under the guard still or not.
+pub fn left(kept: AnyKept, stays: bool) -> Place
+    ensures { LeavesGuard stays (kept_view kept) result }
+{
+    if stays {
+        Place::Kept(kept)
+    } else {
+        Place::Free(released(kept))
+    }
+}
+
+/// The reader without a guard.
+pub fn reader_of(place: Place) -> AnyReader {
+    match place {
+        Place::Free(reader) => reader,
+        Place::Kept(kept) => released(kept),
+    }
+}

@@ -1,0 +1,114 @@
+//! Why a call of the writer stops.
+ghost use Rattle.std.specs.Prelude.{◌≡◌, ◌≢◌, pos};
+
+use crate::codes::{
+    BAD_ID, BAD_SAVE, BAD_VALUE, COMMITS_SPENT, FULL, LINE_TOO_LONG, MEMORY, NO_OPERATION,
+    NOT_JSON, OPERATIONS_SPENT, OTHER_SAVE, TOO_MANY_ITEMS, UNSUPPORTED,
+};
+use crate::state::Counts;
+use crate::told::Told;
+use arena_api::{Advance, Oldest};
+use attribute_kinds::AttrError;
+use feed_reader::FeedError;
+
+/// Why a call of the writer stops.
+#[derive(Clone, Copy, Drop)]
+pub enum Stop {
+    /// A line is refused.
+    Line(FeedError),
+    /// An operation, a commit or a key is refused.
+    Store(AttrError),
+    /// There can be no more operations.
+    Spent,
+    /// The bytes are no save.
+    Save,
+    /// A save is of another attribute.
+    Other,
+    Memory,
+}
+
+/// The code of a line's refusal.
+fn line_code(error: FeedError) -> i32
+    ensures { result ≢ pos 0 }
+{
+    match error {
+        FeedError::NotJson { .. } => NOT_JSON,
+        FeedError::NoOperation { .. } => NO_OPERATION,
+        FeedError::BadId { .. } => BAD_ID,
+        FeedError::BadValue { .. } => BAD_VALUE,
+        FeedError::Unsupported { .. } => UNSUPPORTED,
+        FeedError::TooManyItems { .. } => TOO_MANY_ITEMS,
+        FeedError::FeedTooLong => LINE_TOO_LONG,
+        FeedError::ReadFault => LINE_TOO_LONG,
+        FeedError::Memory => MEMORY,
+    }
+}
+
+/// The commit that was the last one when a hold became the newest.
+fn since(counts: &Counts, hold: u32) -> u32 {
+    match counts.since.get(hold as usize) {
+        Some(commit) => *commit,
+        None => 0,
+    }
+}
+
+/// Notes which commit the reader that holds most may hold.
+pub fn note_oldest(counts: &mut Counts, oldest: Oldest) {
+    counts.oldest = since(counts, oldest.hold);
+    counts.is_held = if oldest.newest { 0 } else { 1 };
+}
+
+/// Notes which commit a hold was begun with.
+pub fn note_advance(counts: &mut Counts, advance: Advance, commit: u32) {
+    if let Advance::To { hold, .. } = advance
+        && let Some(since) = counts.since.get_mut(hold as usize)
+    {
+        *since = commit;
+    }
+}
+
+/// The code of the store's refusal, of which more is told.
+fn store_code(counts: &mut Counts, error: AttrError, told: &mut Told) -> i32
+    ensures code { result ≢ pos 0 }
+    ensures line { told.new.line ≡ told.old.line }
+    ensures place { told.new.place ≡ told.old.place }
+    ensures operations { told.new.operations ≡ told.old.operations }
+{
+    match error {
+        AttrError::Full {
+            width,
+            active,
+            held,
+            oldest,
+        } => {
+            note_oldest(counts, oldest);
+            counts.active = active;
+            counts.held = held;
+            told.width = width;
+            told.active = active;
+            told.held = held;
+            told.oldest = counts.oldest;
+            told.is_held = counts.is_held;
+            FULL
+        }
+        AttrError::CommitsSpent { .. } => COMMITS_SPENT,
+        AttrError::Memory => MEMORY,
+    }
+}
+
+/// The code of a stop, of which more is told.
+pub fn code_of(counts: &mut Counts, stop: Stop, told: &mut Told) -> i32
+    ensures code { result ≢ pos 0 }
+    ensures line { told.new.line ≡ told.old.line }
+    ensures place { told.new.place ≡ told.old.place }
+    ensures operations { told.new.operations ≡ told.old.operations }
+{
+    match stop {
+        Stop::Line(error) => line_code(error),
+        Stop::Store(error) => store_code(counts, error, told),
+        Stop::Spent => OPERATIONS_SPENT,
+        Stop::Save => BAD_SAVE,
+        Stop::Other => OTHER_SAVE,
+        Stop::Memory => MEMORY,
+    }
+}

@@ -1,0 +1,74 @@
+//! Commits, and steps of a compaction.
+ghost use Rattle.std.specs.Prelude.{◌≡◌, OnOk, IfOk};
+
+use crate::state::Open;
+use crate::stop::{Stop, note_advance, note_oldest};
+use crate::told::Told;
+use attr_images::AttrLayout;
+use attribute_kinds::Compacted;
+use std::alloc::Global;
+use store_api::Store;
+
+/// Commits what was applied.
+pub fn commit<const OFFSET_BITS: u32, S: Store<OFFSET_BITS, Layout = AttrLayout>>(
+    open: &mut Open<OFFSET_BITS, S>,
+    told: &mut Told,
+) -> Result<(), Stop>
+    ensures committed { OnOk result (open.new.attribute.committed ≡ open.old.attribute.table) }
+    ensures published { OnOk result (open.new.attribute.committed_operations ≡ open.old.attribute.operations) }
+    ensures counts { OnOk result (told.new.operations ≡ open.old.attribute.operations) }
+    ensures table { open.new.attribute.table ≡ open.old.attribute.table }
+    ensures operations { open.new.attribute.operations ≡ open.old.attribute.operations }
+    ensures fields { open.new.fields ≡ open.old.fields }
+{
+    match open.attribute.commit() {
+        Ok(info) => {
+            note_advance(&mut open.counts, info.advance, info.commit);
+            note_oldest(&mut open.counts, info.oldest);
+            open.counts.commit = info.commit;
+            open.counts.committed = info.operations;
+            told.commit = info.commit;
+            told.operations = info.operations;
+            told.oldest = open.counts.oldest;
+            told.is_held = open.counts.is_held;
+            Ok(())
+        }
+        Err(error) => Err(Stop::Store(error)),
+    }
+}
+
+/// Goes so many keys on in a compaction.
+pub fn compact<const OFFSET_BITS: u32, S: Store<OFFSET_BITS, Layout = AttrLayout>>(
+    alloc: Global,
+    open: &mut Open<OFFSET_BITS, S>,
+    keys: u32,
+    told: &mut Told,
+) -> Result<(), Stop>
+    ensures table { open.new.attribute.table ≡ open.old.attribute.table }
+    ensures operations { open.new.attribute.operations ≡ open.old.attribute.operations }
+    ensures committed { open.new.attribute.committed ≡ open.old.attribute.committed }
+    ensures fields { open.new.fields ≡ open.old.fields }
+{
+    match open.attribute.compact_step(alloc, keys) {
+        Ok(Compacted::Idle) => Ok(()),
+        Ok(Compacted::Moved { keys, stop: None }) => {
+            told.keys = keys;
+            Ok(())
+        }
+        Ok(
+            Compacted::Moved {
+                keys,
+                stop: Some(error),
+            },
+        ) => {
+            told.keys = keys;
+            Err(Stop::Store(error))
+        }
+        Ok(Compacted::Finished(buffer)) => {
+            told.finished = 1;
+            told.buffer = buffer;
+            Ok(())
+        }
+        Err(error) => Err(Stop::Store(error)),
+    }
+}
