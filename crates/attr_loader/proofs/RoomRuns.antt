@@ -1,14 +1,10 @@
 -- What a loading makes, batch by batch, and a full store that is owed to it.
 use Rattle.std.proofs.Common.{◌≡◌, ℕ, zero, suc, ◌+◌, ◌-◌, ◌*◌, ◌/◌, ◌<◌, ◌≤◌, true, List, [], ◌∷◌, ◌++◌, length, take, drop, Some, None, refl, sym, ap, ◌∙◌, subst, arith}
-use Rattle.std.specs.Prelude.{Result, Ok, Err, IfOk, min}
-use Rattle.std.specs.List.{sum_by}
+use Rattle.std.specs.Prelude.{Result, Ok, Err, IfOk}
 use Rattle.std.specs.List.Sorted.{IsStrictlySortedBy}
-use Rattle.std.proofs.lemmas.List.{length-append, length-take}
 use Rattle.std.proofs.lemmas.List.Sums.{sum_by-append, sum_by-cons}
-use Rattle.arena_api.specs.Generations.{current}
 use Rattle.arena_api.specs.Works.{Sizes, free_count}
 use Rattle.store_api.specs.Ledgers.{Ledger, buffers_in, capacity, is_width, widths}
-use Rattle.attr_index.specs.Columns.{column_of}
 use Rattle.attr_room.proofs.Levels.{commits_batches}
 use Rattle.attr_room.proofs.Owed.{full_owed}
 use Rattle.attr_room.proofs.Steps.{start_made, within_filled}

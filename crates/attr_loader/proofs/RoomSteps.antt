@@ -1,6 +1,6 @@
 -- What one operation, one commit and one step of a compaction add to what was made.
-use Rattle.std.proofs.Common.{◌≡◌, ◌≢◌, ℕ, ℤ, zero, suc, ◌+◌, ◌-◌, ◌*◌, ◌^◌, ◌<◌, ◌≤◌, Bool, true, false, ◌&&◌, cond, nat_eq, nat_le, nat_cmp, List, [], ◌∷◌, length, Option, Some, None, option_map, refl, sym, ap, subst, ◌∙◌, arith, inl, inr, leb-true, mul_assoc, mul_comm}
-use Rattle.std.proofs.Math.Nat.{mul-le-mul_left, mul-le-mul_right, pow-le-pow_right}
+use Rattle.std.proofs.Common.{◌≡◌, ℕ, ℤ, zero, suc, ◌+◌, ◌-◌, ◌*◌, ◌^◌, ◌<◌, ◌≤◌, Bool, true, false, ◌&&◌, cond, nat_eq, nat_le, nat_cmp, List, [], ◌∷◌, length, Option, Some, None, option_map, refl, sym, ap, subst, ◌∙◌, arith, inl, inr, leb-true, mul_assoc, mul_comm}
+use Rattle.std.proofs.Math.Nat.{mul-le-mul_right, pow-le-pow_right}
 use Rattle.std.proofs.lemmas.Bool.{cases_lt, eqb-true, eqb-false, true≢false}
 use Rattle.std.specs.BTreeMap.{insert_entry, is_at}
 use Rattle.std.specs.List.{AllByRecursion}
@@ -12,7 +12,6 @@ use Rattle.store_api.specs.Ledgers.{Ledger}
 use Rattle.attr_field.proofs.WeightLemmas.{weights_typed}
 use Rattle.attr_field.specs.Counts.{change_records, entry_weight, lost_values, new_values, StaysLow}
 use Rattle.attr_field.specs.Items.{items_record}
-use Rattle.attr_images.specs.Values.{value_words}
 use Rattle.attr_images.specs.Words.{class_of}
 use Rattle.attr_index.proofs.ColumnLemmas.{operation_changes}
 use Rattle.attr_index.specs.Changes.{first_weights}
@@ -41,11 +40,10 @@ use Rattle.attr_types.specs.declared.value.Value.{Value}
 use Rattle.attr_types.specs.declared.value.Value.TheVariants as values
 use Rattle.attribute_kinds.proofs.RecordSums.{field_sum, over, over_walk, all_values}
 use Rattle.attribute_kinds.specs.Counts.{operation_values}
-use Rattle.compact_steps.specs.Counts.{AreLow, AreSingleLong, MakesKeys}
+use Rattle.compact_steps.specs.Counts.{AreSingleLong, MakesKeys}
 use Rattle.compaction_moves.specs.Counts.{key_nodes, IsLowColumn}
 use Rattle.posting_store.specs.Changes.{MakesWithin}
-use Rattle.value_index.specs.Changes.{record_most}
-use Rattle.value_index.specs.Counts.{by_width, is_added, is_gone, new_record, put_records, short_record, taken_records, value_nodes}
+use Rattle.value_index.specs.Counts.{by_width, is_added, is_gone, new_record, put_records, short_record, taken_records}
 use Rattle.attr_loader.proofs.ColumnWeights.{index_few, put_length, put_weight, taken_length, taken_weight}
 use Rattle.attr_loader.specs.Room.{column_weight, is_long, is_single, is_single_long, IsMade}
 

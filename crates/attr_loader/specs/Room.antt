@@ -1,5 +1,5 @@
 -- Bounds on what the loading of one attribute makes in its store, by the steps made so far.
-use Rattle.std.specs.Prelude.{◌≡◌, ℕ, ◌+◌, ◌*◌, ◌≤◌, Bool, true, false, ◌&&◌, List, [], ◌∷◌, length, take}
+use Rattle.std.specs.Prelude.{◌≡◌, ℕ, ◌≤◌, Bool, true, false, ◌&&◌, List, [], ◌∷◌, length}
 use Rattle.std.specs.List.{sum_by}
 use Rattle.store_api.specs.Ledgers.{Ledger, no_counts}
 use Rattle.attr_index.specs.Changes.{first_weights}
