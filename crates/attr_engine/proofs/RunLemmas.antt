@@ -1,5 +1,5 @@
 -- Rounds of commits are rounds of the plain table, and the rounds of a run are what its report tells.
-use Rattle.std.proofs.Common.{◌≡◌, ◌≤◌, ◌+◌, ℕ, List, [], ◌∷◌, length, Some, sym, ap, subst, ◌∙◌, arith}
+use Rattle.std.proofs.Common.{◌≡◌, ◌≤◌, ◌+◌, ℕ, List, [], ◌∷◌, length, Some, inl, inr, refl, sym, ap, subst, ◌∙◌, arith}
 use Rattle.std.specs.Prelude.{Bool, true, false, if◌then◌else◌, is_some, Option, None, IfSome, Vec}
 use Rattle.std.specs.Global.{Global}
 use Rattle.std.specs.BTreeMap.{BTreeMap}
@@ -19,6 +19,7 @@ use Rattle.attr_types.specs.Table.{Table, after}
 use Rattle.attr_types.specs.declared.items.Item.{Item}
 use Rattle.attr_types.specs.declared.op.Op.{Op}
 use Rattle.attr_loader.specs.Loading.{AreCommits, EndsAt, commit_point}
+use Rattle.attr_loader.specs.Room.{load_of}
 use Rattle.attr_loader.specs.declared.loaded.Loaded.{Loaded}
 use Rattle.attr_loader.specs.declared.loaded.NoRoom.{NoRoom}
 use Rattle.attr_rounds.specs.Rounds.{IsOfCommit}
@@ -27,6 +28,8 @@ use Rattle.attr_rounds.specs.declared.asked.Told.{Told}
 use Rattle.attr_rounds.specs.Lines.{TellsTable}
 use Rattle.attr_report.specs.Run.{Run, table_after}
 use Rattle.attr_report.specs.History.{IsLoaded}
+use Rattle.attr_room.specs.Runs.{IsOwed, IsQuiet}
+use Rattle.attr_engine.specs.FullStore.{load_in, readers_of, IsJustified}
 use Rattle.attr_engine.specs.Run.{full_of}
 use Rattle.attr_engine.specs.Rounds.{IsRoundAt, AreRoundsAt, IsCame, seen_before}
 use Rattle.attr_engine.specs.Steps.{KeepsWriter, saves_of, parts, AreRoundsOf, IsLastAnswer, LoadsInto}
@@ -83,6 +86,22 @@ ended : (run : Run) (total loaded : ℕ) (full : Option NoRoom) → EndsAt run.b
 ended run total loaded None ends = (ends, tt)
 ended run total loaded (Some room) ends = ((ends.0, ends.1, ends.2), ends.3)
 
+-- no reader runs beside the loading
+alone : (run : Run) → IsQuiet (readers_of run) → (parts run.after run.readers).0 ≡ 0
+alone run quiet = elim quiet [
+  | inl after ↦ ap (λ b. (parts b run.readers).0) after
+  | inr few ↦ none_beside run.after run.readers few.0
+]
+  where
+    none_beside : (b : Bool) (readers : ℕ) → readers ≡ 0 → (parts b readers).0 ≡ 0
+    none_beside true readers few = refl
+    none_beside false readers few = few
+
+justified_by : (run : Run) (ops : List Op) (loaded : ℕ) (full : Option NoRoom)
+    → (length run.fields ≡ 1 → IfSome full (λ f. IsOwed (load_in run ops) f.operation loaded)) → (IsQuiet (readers_of run) → IfSome full (λ f. f.held ≡ 0)) → IfSome full (IsJustified run ops loaded)
+justified_by run ops loaded None owed quiet = tt
+justified_by run ops loaded (Some full) owed quiet = record { owed = owed; quiet = quiet }
+
 abbrev pub Documents : Type 0
 Documents = BTreeMap ℕ (List (List Item))
 
@@ -90,8 +109,8 @@ abbrev Saves : Table → Documents → Type 0
 Saves table documents = TellsColumn table documents.entries
 
 -- what a run came to, by the writer before and after the loading
-module _ (run : Run) (ops : List Op) (w v : WriterView) (loaded : Loaded) (loads : LoadsInto run.fields run.batch ops w v loaded) (buffers : w.sizes.buffers ≡ run.buffers)
-    (shape : w.sizes.shape ≡ shape_of (types_of run.fields)) (none : w.commits ≡ no_image ∷ []) where
+module _ (run : Run) (ops : List Op) (w v : WriterView) (loaded : Loaded) (loads : LoadsInto run.fields run.batch ops w v loaded) (buffers : w.sizes.buffers ≡ run.buffers) (words : w.sizes.words ≡ run.words)
+    (made : v.made ≡ (parts run.after run.readers).0) (shape : w.sizes.shape ≡ shape_of (types_of run.fields)) (none : w.commits ≡ no_image ∷ []) where
   abbrev counted : Bool
   counted = is_some run.make
 
@@ -132,6 +151,10 @@ module _ (run : Run) (ops : List Op) (w v : WriterView) (loaded : Loaded) (loads
         point = loads.point;
         skips = loads.skips;
         room = ends.1;
+        justified = justified_by run ops loaded.operations loaded.full
+            (λ one. subst (λ n. IfSome loaded.full (λ (f : NoRoom). IsOwed (load_of run.buffers n run.fields run.batch ops) f.operation loaded.operations)) words
+            (subst (λ n. IfSome loaded.full (λ (f : NoRoom). IsOwed (load_of n w.sizes.words run.fields run.batch ops) f.operation loaded.operations)) buffers (loads.owed one)))
+            (λ quiet. loads.unheld (made ∙ alone run quiet));
         readers = all.count;
         rounds = all.each;
         tells = answers_last (TellsTable counted run.asks) last told;

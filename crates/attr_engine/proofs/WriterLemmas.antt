@@ -14,6 +14,7 @@ use Rattle.gen_core.specs.Views.{last_number}
 use Rattle.store_api.specs.Ledgers.{Ledger, active_count, held_count}
 use Rattle.word_arena.specs.Knows.{view_of}
 use Rattle.attr_images.specs.Images.{table_of, operations_at}
+use Rattle.attr_room.specs.Runs.{IsOwed}
 use Rattle.attr_images.specs.Shapes.{shape_of, types_of}
 use Rattle.attr_types.specs.Lawful.{OpFits}
 use Rattle.attr_types.specs.Table.{skipped}
@@ -21,6 +22,7 @@ use Rattle.attr_types.specs.declared.field.Field.{Field}
 use Rattle.attr_types.specs.declared.op.Op.{Op}
 use Rattle.attr_loader.specs.Attributes.{AttributeView, HasCommit}
 use Rattle.attr_loader.specs.Loading.{CanLoad, IsAtStart, Loads, AreCommits, EndsAt}
+use Rattle.attr_loader.specs.Room.{load_of, HasMadeNothing}
 use Rattle.attr_loader.specs.declared.loaded.Loaded.{Loaded}
 use Rattle.attr_loader.specs.declared.loaded.NoRoom.{NoRoom}
 use Rattle.attr_engine.specs.Steps.{KeepsWriter, IsReader, IsNewWriter, LoadsInto}
@@ -51,14 +53,30 @@ module _ {S : Type 0} (ledger : S → Ledger TableId) (fields : List Field) (bat
   buffers_stay : (ledger b.store).work.sizes.buffers ≡ w.sizes.buffers
   buffers_stay = ap (λ (x : ApiSizes). x.buffers) loads.stays.sizes ∙ ap (λ (x : WorkView TableId). x.sizes.buffers) from
 
-  pub loads_into : v.sizes.shape ≡ shape_of (types_of b.fields) → w.sizes.shape ≡ shape_of (types_of fields) → slice_get v.commits 0 ≡ Some no_image
+  -- as many readers were made
+  pub made_stays : v.made ≡ w.made
+  made_stays = ap (λ (x : WorkView TableId). x.made) to ∙ loads.stays.readers ∙ ap (λ (x : WorkView TableId). x.made) from
+
+  owed_into : HasMadeNothing (ledger a.store) → length fields ≡ 1 → IfSome loaded.full (λ full. IsOwed (load_of w.sizes.buffers w.sizes.words fields batch ops) full.operation loaded.operations)
+  owed_into nothing one =
+      subst (λ (x : WorkView TableId). IfSome loaded.full (λ (full : NoRoom). IsOwed (load_of x.sizes.buffers x.sizes.words fields batch ops) full.operation loaded.operations)) from
+      (subst (λ (fs : List Field). IfSome loaded.full (λ (full : NoRoom). IsOwed (load_of (ledger a.store).work.sizes.buffers (ledger a.store).work.sizes.words fs batch ops) full.operation loaded.operations)) fields_are
+      (loads.owed (ap length fields_are ∙ one) nothing))
+
+  unheld_into : IsNewWriter fields home w → length ops < 2 ^ 32 → v.made ≡ 0 → IfSome loaded.full (λ full. full.held ≡ 0)
+  unheld_into new few none =
+      let last : (ledger a.store).work.commits.last ≡ 0 = ap (λ (x : WorkView TableId). x.commits.last) from ∙ new.fresh.last in
+      let generations : (ledger a.store).work.sizes.generations ≡ 281474976710655 = ap (λ (x : WorkView TableId). x.sizes.generations) from ∙ new.generations in
+      loads.unheld (ap (λ (x : WorkView TableId). x.made) from ∙ sym made_stays ∙ none) (omega (arith, last, generations, few))
+
+  pub loads_into : v.sizes.shape ≡ shape_of (types_of b.fields) → IsNewWriter fields home w → length ops < 2 ^ 32 → slice_get v.commits 0 ≡ Some no_image → HasMadeNothing (ledger a.store)
       → LoadsInto fields batch ops w v loaded
-  loads_into shape_now shape_was first =
+  loads_into shape_now new few first nothing =
       let are : AreCommits fields batch ops loads.last v.commits =
       subst (AreCommits fields batch ops loads.last) told_is (subst (λ fs. AreCommits fs batch ops loads.last ((ledger b.store).work.told)) fields_are loads.told) in
       let long = are.count (slice_get_within v.commits 0 no_image first) in
       record {
-        shape_is = shape_now ∙ ap (λ fs. shape_of (types_of fs)) (loads.stays.fields ∙ fields_are) ∙ sym shape_was;
+        shape_is = shape_now ∙ ap (λ fs. shape_of (types_of fs)) (loads.stays.fields ∙ fields_are) ∙ sym new.shape_is;
         last = loads.last;
         commits = are;
         count = omega (arith, long);
@@ -68,11 +86,9 @@ module _ {S : Type 0} (ledger : S → Ledger TableId) (fields : List Field) (bat
         full = IfSome_then loaded.full loads.full (λ room at.
             let here = subst (λ (x : WorkView TableId). CountsFull x room) (sym to) (at.free, at.active_is, at.held_is) in
             record { free = here.0; active_is = here.1; held_is = here.2 });
+        owed = owed_into nothing;
+        unheld = unheld_into new few;
       }
-
-  -- as many readers were made
-  pub made_stays : v.made ≡ w.made
-  made_stays = ap (λ (x : WorkView TableId). x.made) to ∙ loads.stays.readers ∙ ap (λ (x : WorkView TableId). x.made) from
 
 pub new_on : (fields : List Field) (home z : TableId) (w v : WriterView) → KeepsWriter w v → z ≡ home → IsNewWriter fields home w → IsNewWriter fields z v
 new_on fields home z w v keeps same is =
@@ -83,17 +99,29 @@ new_on fields home z w v keeps same is =
       fresh = record { queue = is.fresh.queue; floor = is.fresh.floor; last = is.fresh.last; image = is.fresh.image; buffers = is.fresh.buffers };
       commits = is.commits;
       limit = is.limit;
+      generations = is.generations;
     }))
 
 -- a loading into a writer that had got readers before is one into the writer that it was
 pub loads_from : (fields : List Field) (batch : ℕ) (ops : List Op) (w v x : WriterView) (loaded : Loaded) → KeepsWriter w v → LoadsInto fields batch ops v x loaded → LoadsInto fields batch ops w x loaded
 loads_from fields batch ops w v x loaded keeps is =
     let moved = subst (λ (y : WriterView). LoadsInto fields batch ops y x loaded) keeps is in
-    record { shape_is = moved.shape_is; last = moved.last; commits = moved.commits; count = moved.count; point = moved.point; skips = moved.skips; ends = moved.ends; full = moved.full }
+    record {
+      shape_is = moved.shape_is;
+      last = moved.last;
+      commits = moved.commits;
+      count = moved.count;
+      point = moved.point;
+      skips = moved.skips;
+      ends = moved.ends;
+      full = moved.full;
+      owed = moved.owed;
+      unheld = moved.unheld;
+    }
 
 -- and one into a writer that then took readers in
-pub loads_kept : (fields : List Field) (batch : ℕ) (ops : List Op) (w v x : WriterView) (loaded : Loaded) → KeepsWriter v x → LoadsInto fields batch ops w v loaded → LoadsInto fields batch ops w x loaded
-loads_kept fields batch ops w v x loaded keeps is =
+pub loads_kept : (fields : List Field) (batch : ℕ) (ops : List Op) (w v x : WriterView) (loaded : Loaded) → KeepsWriter v x → x.made ≡ v.made → LoadsInto fields batch ops w v loaded → LoadsInto fields batch ops w x loaded
+loads_kept fields batch ops w v x loaded keeps made is =
     subst (λ (y : WriterView). LoadsInto fields batch ops w y loaded) (sym keeps)
     (record {
       shape_is = is.shape_is;
@@ -104,6 +132,8 @@ loads_kept fields batch ops w v x loaded keeps is =
       skips = is.skips;
       ends = is.ends;
       full = IfSome_then loaded.full is.full (λ room at. record { free = at.free; active_is = at.active_is; held_is = at.held_is });
+      owed = is.owed;
+      unheld = λ none. is.unheld (sym made ∙ none);
     })
 
 one_image : (image : Image) → All (λ x. x ≡ image) (image ∷ [])

@@ -24,6 +24,7 @@ use Rattle.attr_engine.specs.declared.written.Written.{Written}
 use Rattle.attr_engine.proofs.ReaderLemmas.{all_first, all_rest}
 use Rattle.attr_engine.proofs.HistoryLemmas.{in_rounds, afterwards, is_point}
 use Rattle.attr_loader.specs.declared.loaded.NoRoom.{NoRoom}
+use Rattle.attr_engine.specs.FullStore.{IsJustified}
 use Rattle.attr_report.specs.History.{IsLoaded, IsRounds, IsAfterwards, IsSaved, IsSavedAt}
 use Rattle.attr_engine.specs.Rounds.{IsRoundAt, AreRoundsAt, IsCame, seen_before, progress_at}
 use Rattle.attr_engine.specs.Writing.{round_text, rounds_text, readers_text, report_text, summary_text, text_of, operations_of_rounds, IsWrittenOf, IsSavedOf}
@@ -134,6 +135,8 @@ run_of run ops came w is unsaved wrote =
       in_save = subst (IsSaved run (length ops)) (sym same) (sym unsaved, tt);
       is_written = wrote.text ∙ written-told run ops came is ∙ ap₂ (λ (p : Progress) (f : Option ℕ). written run ops p f) (sym same) (ap full_of (sym wrote.full));
       room = subst (λ (f : Option NoRoom). IfSome f (λ r. r.active + r.held ≡ run.buffers)) (sym wrote.full) is.room;
+      justified = subst (λ k. IfSome w.full (IsJustified run ops k)) (sym wrote.loaded)
+          (subst (λ (f : Option NoRoom). IfSome f (IsJustified run ops came.loaded.operations)) (sym wrote.full) is.justified);
     }
 
 saved-written : (run : Run) (ops : List Op) (came : Came) (n : ℕ) (full : Option ℕ)
@@ -158,6 +161,8 @@ saved_run_of run ops came w is saves wrote =
       is_written = wrote.text ∙ saved-written run ops came n (full_of came.loaded.full)
           ∙ ap₂ (λ (p : Progress) (f : Option ℕ). written run ops p f) (sym same) (ap full_of (sym wrote.full));
       room = subst (λ (f : Option NoRoom). IfSome f (λ r. r.active + r.held ≡ run.buffers)) (sym wrote.full) is.room;
+      justified = subst (λ k. IfSome w.full (IsJustified run ops k)) (sym wrote.loaded)
+          (subst (λ (f : Option NoRoom). IfSome f (IsJustified run ops came.loaded.operations)) (sym wrote.full) is.justified);
     }
 
 -- ---- the first attribute, as a save has it

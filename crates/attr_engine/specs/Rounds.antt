@@ -16,6 +16,7 @@ use Rattle.attr_rounds.specs.Columns.{TellsColumn}
 use Rattle.attr_report.specs.Run.{Run, Progress, table_after, skipped_at}
 use Rattle.attr_report.specs.History.{IsLoaded}
 use Rattle.attr_engine.specs.declared.came.Came.{Came}
+use Rattle.attr_engine.specs.FullStore.{IsJustified}
 use Rattle.attr_engine.specs.Run.{full_of}
 
 -- a round is at a commit up to the last, with the answers of the table after the operations of that commit
@@ -62,6 +63,7 @@ pub record IsCame (run : Run) (ops : List Op) (came : Came) : Type 0 where
   pub point : came.loaded.operations ≡ commit_point run.batch (length ops) last
   pub skips : came.loaded.skipped ≡ skipped_at run ops came.loaded.operations
   pub room : IfSome came.loaded.full (λ r. r.active + r.held ≡ run.buffers)
+  pub justified : IfSome came.loaded.full (IsJustified run ops came.loaded.operations)
   pub readers : length came.rounds.items ≡ run.readers
   pub rounds : AllByRecursion (λ rounds. AreRoundsAt run ops (seen_before run.after last) last rounds.items) came.rounds.items
   pub tells : TellsTable (is_some run.make) run.asks (table_after run ops came.loaded.operations) came.last

@@ -5,6 +5,7 @@ use Rattle.attr_types.specs.declared.op.Op.{Op}
 use Rattle.attr_report.specs.Run.{Run, Progress}
 use Rattle.attr_report.specs.Report.{written}
 use Rattle.attr_report.specs.History.{IsLoaded, IsRounds, IsAfterwards, IsSaved}
+use Rattle.attr_engine.specs.FullStore.{IsJustified}
 use Rattle.attr_engine.specs.declared.error.EngineError.{EngineError}
 use Rattle.attr_engine.specs.declared.error.EngineError.TheVariants.{Memory, TooManyReaders}
 use Rattle.attr_engine.specs.declared.written.Written.{Written}
@@ -26,6 +27,7 @@ pub record IsRunOf (run : Run) (ops : List Op) (w : Written) : Type 0 where
   pub in_save : IsSaved run (length ops) (progress_of w)
   pub is_written : w.text.items ≡ written run ops (progress_of w) (full_of w.full)
   pub room : IfSome w.full (λ r. r.active + r.held ≡ run.buffers)
+  pub justified : IfSome w.full (IsJustified run ops w.loaded)
 
 -- why a run was not made: memory was exhausted, or there are more readers than seats, two of which the last answers
 -- take

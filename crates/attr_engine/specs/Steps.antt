@@ -22,6 +22,8 @@ use Rattle.attr_types.specs.declared.field.TheConstants.{MOST_FIELDS}
 use Rattle.attr_types.specs.declared.items.Item.{Item}
 use Rattle.attr_types.specs.declared.op.Op.{Op}
 use Rattle.attr_loader.specs.Loading.{AreCommits, EndsAt, commit_point}
+use Rattle.attr_loader.specs.Room.{load_of}
+use Rattle.attr_room.specs.Runs.{IsOwed}
 use Rattle.attr_loader.specs.declared.loaded.Loaded.{Loaded}
 use Rattle.attr_loader.specs.declared.loaded.NoRoom.{NoRoom}
 use Rattle.attr_rounds.specs.Rounds.{AreSeen, IsOfCommit, MakesRounds}
@@ -48,6 +50,7 @@ pub record IsNewWriter (fields : List Field) (home : TableId) (w : WriterView) :
   pub fresh : IsFresh (view_of home w)
   pub commits : w.commits ≡ no_image ∷ []
   pub limit : w.sizes.commit_limit ≡ 4294967295
+  pub generations : w.sizes.generation_limit ≡ 281474976710655
 
 -- the buffers of a writer
 abbrev pub buffers_of : WriterView → ℕ → ApiBuffer
@@ -70,6 +73,10 @@ pub record LoadsInto (fields : List Field) (batch : ℕ) (ops : List Op) (old ne
   pub skips : loaded.skipped ≡ skipped fields ops loaded.operations
   pub ends : EndsAt batch (length ops) old.sizes.buffers loaded.operations loaded.full
   pub full : IfSome loaded.full (IsFullWriter new)
+  -- with one attribute, a full store is owed to what was made; and without readers nothing is held
+  pub owed : length fields ≡ 1
+      → IfSome loaded.full (λ full. IsOwed (load_of old.sizes.buffers old.sizes.words fields batch ops) full.operation loaded.operations)
+  pub unheld : new.made ≡ 0 → IfSome loaded.full (λ full. full.held ≡ 0)
 
 -- the answer for a save: the documents of an image, each with its items in the first attribute
 abbrev pub saves_of : ℕ → Records → ℕ → BTreeMap ℕ (List (List Item)) → Type 0

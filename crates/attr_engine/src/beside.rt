@@ -8,6 +8,7 @@ ghost use Rattle.attr_images.specs.Shapes.{shape_of, types_of};
 ghost use Rattle.attr_types.specs.Scores.{ask_tree};
 ghost use Rattle.attr_types.specs.Lawful.{OpFits};
 ghost use Rattle.attr_loader.specs.Loading.{CanLoad, IsAtStart, Loads};
+ghost use Rattle.attr_loader.specs.Room.{HasMadeNothing};
 ghost use Rattle.attr_engine.specs.Steps.{HasRead, IsNewWriter, LoadsInto};
 
 use crate::readers::jobs_of;
@@ -45,6 +46,8 @@ fn opened<'a, const OFFSET_BITS: u32>(
     ensures work { IfOk result (λ a. (⟦<EntryStore<OFFSET_BITS, Writer<'a, OFFSET_BITS, AttrLayout>> as Store<OFFSET_BITS>>⟧.ledger
         a.store).work
         ≡ view_of writer.entry.place.table_id (writer_of writer.entry.place.me.0)) }
+    ensures nothing { IfOk result (λ a. HasMadeNothing (⟦<EntryStore<OFFSET_BITS, Writer<'a, OFFSET_BITS, AttrLayout>> as Store<OFFSET_BITS>>⟧.ledger
+        a.store)) }
 {
     image_law();
     let attribute = match Attribute::create(alloc, writer, fields, false) {

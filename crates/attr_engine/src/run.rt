@@ -108,6 +108,7 @@ fn run_over<'a, const OFFSET_BITS: u32, R: Threads + Sync, G: Gate + Sync + 'sta
     requires unread { (writer_of writer.place.me.0).made ≡ 0 }
     requires seats { request.now.readers ≤ 62 }
     requires buffers { (writer_of writer.place.me.0).sizes.buffers ≡ request.now.buffers }
+    requires words { (writer_of writer.place.me.0).sizes.words ≡ request.now.words }
     requires question { IsQuestionOf (run_in request.now) question.now.fields.now question.now.counted (map ask_tree question.now.asks.now)
         (length question.now.asks.now) }
     requires some { 0 < request.now.batch }

@@ -9,7 +9,10 @@ use Rattle.std.proofs.Math.Seq.{take-add}
 use Rattle.entry_ref.specs.declared.images.Image.{Image}
 use Rattle.entry_ref.specs.Images.{no_image, words_at}
 use Rattle.arena_api.specs.Calls.{told_after}
+use Rattle.arena_api.specs.Generations.{current}
 use Rattle.arena_api.specs.Works.{Sizes}
+use Rattle.attr_room.specs.Runs.{IsOwed}
+use Rattle.attr_loader.specs.Room.{load_of, HasMadeNothing}
 use Rattle.store_api.specs.Ledgers.{Ledger}
 use Rattle.attr_images.specs.Images.{IsLawfulImage, table_of}
 use Rattle.attr_images.specs.Shapes.{shape_of, types_of}
@@ -105,7 +108,7 @@ module _ {S H : Type 0} (ledger : S → Ledger H) (batch : ℕ) (ops : List Op) 
         let l = rest-long in
         omega (arith, a, l)
 
-    front : take (count + length part) ops ≡ take count ops ++ part
+    pub front : take (count + length part) ops ≡ take count ops ++ part
     front =
         take-add count (length part) ops
         ∙ ap (λ xs. take count ops ++ xs) (ap (λ xs. take (length part) xs) (sym rest_is) ∙ ap (λ n. take n rest) (let p = part-long in let l = rest-long in omega (arith, p, l)) ∙ sym part_is)
@@ -114,7 +117,7 @@ module _ {S H : Type 0} (ledger : S → Ledger H) (batch : ℕ) (ops : List Op) 
     table_after = sym (after_ops-append start.fields [] (take count ops) part) ∙ ap (after_ops start.fields []) (sym front)
 
     -- the table after a front of the part
-    front_of : (n : ℕ) → n ≤ length part → take (count + n) ops ≡ take count ops ++ take n part
+    pub front_of : (n : ℕ) → n ≤ length part → take (count + n) ops ≡ take count ops ++ take n part
     front_of n few =
         let a = ap length part_is ∙ length-take (min (length rest) batch) rest in
         let within : n ≤ min (length rest) batch = omega (arith, a, few) in
@@ -202,8 +205,9 @@ module _ {S H : Type 0} (ledger : S → Ledger H) (batch : ℕ) (ops : List Op) 
     ]
 
     pub finds_no_room : (c : AttributeView S) (before active held : ℕ) → 0 < batch → FindsNoRoom ledger b c part before active held
-        → Loads ledger batch ops start c (record { operations = count; skipped = skips; full = Some (record { operation = count + before; active = active; held = held }) })
-    finds_no_room c before active held some full = record {
+        → (length start.fields ≡ 1 → HasMadeNothing (ledger start.store) → IsOwed (load_of (ledger start.store).work.sizes.buffers (ledger start.store).work.sizes.words start.fields batch ops) (count + before) count)
+        → current (ledger c.store).work ≤ (ledger c.store).work.commits.last → Loads ledger batch ops start c (record { operations = count; skipped = skips; full = Some (record { operation = count + before; active = active; held = held }) })
+    finds_no_room c before active held some full owed timely = record {
       stays = stays_on ledger start b c stands.stays full.keeps.stays;
       last = stands.last;
       told = subst (AreCommits start.fields batch ops stands.last) (sym full.keeps.told) stands.told;
@@ -226,6 +230,16 @@ module _ {S H : Type 0} (ledger : S → Ledger H) (batch : ℕ) (ops : List Op) 
             full.full.all,
           );
       full = record { free = full.full.free; active_is = full.full.active_is; held_is = full.full.held_is; at = full_at c before active held full };
+      owed = owed;
+      unheld = λ none few.
+          let stays = stays_on ledger start b c stands.stays full.keeps.stays in
+          let same = full.keeps.last in
+          let before = stands.commits in
+          let generations = ap (λ (s : Sizes). s.generations) stays.sizes in
+          let k = stands.last in
+          let here : count ≡ batch * k = whole batch (length ops) k count stands.point below in
+          let fewer : 1 * k ≤ batch * k = mul-le-mul some (omega arith) in
+          full.full.unread (stays.readers ∙ none) (omega (arith, timely, same, before, generations, few, here, fewer, below));
     }
 
     -- no commit is left: fewer were made than there are operations
@@ -250,6 +264,8 @@ module _ {S H : Type 0} (ledger : S → Ledger H) (batch : ℕ) (ops : List Op) 
     told = stands.told;
     commits = stands.commits;
     full = tt;
+    owed = λ one nothing. tt;
+    unheld = λ none few. tt;
     point = stands.point;
     committed = stands.committed ∙ stands.table;
     committed_operations = stands.committed_operations;

@@ -1,8 +1,9 @@
 -- How one batch changes attributes.
-use Rattle.std.specs.Prelude.{◌≡◌, ℕ, ◌+◌, ◌-◌, ◌≤◌, ◌⊎◌, List, length, take}
+use Rattle.std.specs.Prelude.{◌≡◌, ℕ, ◌+◌, ◌-◌, ◌<◌, ◌≤◌, ◌⊎◌, List, length, take}
 use Rattle.entry_ref.specs.declared.images.Image.{Image}
 use Rattle.entry_ref.specs.Images.{words_at}
 use Rattle.arena_api.specs.Calls.{told_after}
+use Rattle.arena_api.specs.Generations.{current}
 use Rattle.arena_api.specs.Works.{free_count}
 use Rattle.store_api.specs.Ledgers.{Ledger, active_count, held_count}
 use Rattle.attr_types.specs.declared.applied.Applied.{Applied}
@@ -12,7 +13,10 @@ use Rattle.attr_images.specs.Shapes.{shape_of, types_of}
 use Rattle.attr_types.specs.Table.{after_ops, skipped_ops}
 use Rattle.attr_types.specs.declared.op.Op.{Op}
 use Rattle.attribute_kinds.specs.Views.{AttributeView}
+use Rattle.attr_room.specs.Made.{Steps, after_keys, after_root}
+use Rattle.attr_room.specs.Runs.{step_keys}
 use Rattle.attr_loader.specs.Loading.{told_of, StaysIn}
+use Rattle.attr_loader.specs.Room.{after_values, values_of, IsMade}
 use Rattle.attr_loader.specs.declared.error.LoadError.{LoadError}
 use Rattle.attr_loader.specs.declared.error.LoadError.TheVariants.{CommitsSpent, Memory}
 use Rattle.attr_loader.specs.declared.batch.Batch.{Batch}
@@ -65,6 +69,7 @@ module _ {S H : Type 0} (ledger : S → Ledger H) where
     pub active_is : active ≡ active_count (ledger a.store).work.buffer (ledger a.store).work.sizes.buffers
     pub held_is : held ≡ held_count (ledger a.store).work.buffer (ledger a.store).work.sizes.buffers
     pub all : active + held ≡ (ledger a.store).work.sizes.buffers
+    pub unread : (ledger a.store).work.made ≡ 0 → current (ledger a.store).work < (ledger a.store).work.sizes.generations → held ≡ 0
 
   -- there was no space for one of the operations, after those before it; or for their commit, and then the last is
   -- named
@@ -95,6 +100,27 @@ module _ {S H : Type 0} (ledger : S → Ledger H) where
   abbrev pub CommitsBatch : AttributeView S → AttributeView S → ℕ → ℕ → Batch → Type 0
   CommitsBatch old new count skipped (Done more) = (more ≡ skipped) × MakesCommit old new
   CommitsBatch old new count skipped (Full before active held) = (before ≡ count) × RefusesCommit old new active held
+
+  -- the store of one attribute has made at most these steps more, after any steps before
+  abbrev pub AddsSteps : AttributeView S → AttributeView S → (Steps → Steps) → Type 0
+  AddsSteps old new more = (steps : Steps) → IsMade (ledger old.store) old.fields old.table steps
+      → IsMade (ledger new.store) new.fields new.table (more steps)
+
+  -- for operations, with the refused one; for a commit, with the keys after it; and for both
+  abbrev pub AppliesRoom : AttributeView S → AttributeView S → List Op → Batch → Type 0
+  AppliesRoom old new ops (Done skipped) = AddsSteps old new (λ steps. after_values steps (values_of old.fields old.table ops))
+  AppliesRoom old new ops (Full before active held) =
+      AddsSteps old new (λ steps. after_values steps (values_of old.fields old.table (take before ops)))
+
+  abbrev pub CommitsRoom : AttributeView S → AttributeView S → Batch → Type 0
+  CommitsRoom old new (Done skipped) = AddsSteps old new (λ steps. after_keys (after_root steps) step_keys)
+  CommitsRoom old new (Full before active held) = AddsSteps old new after_root
+
+  abbrev pub LoadsRoom : AttributeView S → AttributeView S → List Op → Batch → Type 0
+  LoadsRoom old new ops (Done skipped) =
+      AddsSteps old new (λ steps. after_keys (after_root (after_values steps (values_of old.fields old.table ops))) step_keys)
+  LoadsRoom old new ops (Full before active held) =
+      AddsSteps old new (λ steps. after_root (after_values steps (values_of old.fields old.table (take before ops))))
 
   -- all operations were applied and committed
   pub record LoadsAll (old new : AttributeView S) (ops : List Op) (skipped : ℕ) : Type 0 where

@@ -1,3 +1,4 @@
+pub mod Room
 pub mod Attributes
 pub mod Loading
 pub mod Batches

@@ -13,6 +13,8 @@ use Rattle.attr_types.specs.Table.{after, skipped}
 use Rattle.attr_types.specs.declared.field.Field.{Field}
 use Rattle.attr_types.specs.declared.op.Op.{Op}
 use Rattle.attribute_kinds.specs.Views.{AttributeView}
+use Rattle.attr_room.specs.Runs.{IsOwed}
+use Rattle.attr_loader.specs.Room.{load_of, HasMadeNothing}
 use Rattle.attr_loader.specs.declared.error.LoadError.{LoadError}
 use Rattle.attr_loader.specs.declared.error.LoadError.TheVariants.{CommitsSpent, Memory}
 use Rattle.attr_loader.specs.declared.loaded.Loaded.{Loaded}
@@ -88,6 +90,14 @@ module _ {S H : Type 0} (ledger : S → Ledger H) where
     pub commits : (ledger new.store).work.commits.last ≡ (ledger old.store).work.commits.last + last
     pub ends : EndsAt batch (length ops) (ledger new.store).work.sizes.buffers loaded.operations loaded.full
     pub full : IfSome loaded.full (IsFullAt batch ops old new loaded.operations)
+    -- with one attribute, in a store in which nothing was made before, a full store is owed to what was made
+    pub owed : length old.fields ≡ 1 → HasMadeNothing (ledger old.store) → IfSome loaded.full
+        (λ full. IsOwed (load_of (ledger old.store).work.sizes.buffers (ledger old.store).work.sizes.words old.fields batch ops)
+        full.operation loaded.operations)
+    -- without readers nothing is held, while generations last
+    pub unheld : (ledger old.store).work.made ≡ 0
+        → (ledger old.store).work.commits.last + length ops < (ledger old.store).work.sizes.generations
+        → IfSome loaded.full (λ full. full.held ≡ 0)
 
   -- why a loading failed: memory was exhausted; or the last possible commit has fewer than all operations
   abbrev pub IsSpent : List Op → AttributeView S → LoadError → Type 0

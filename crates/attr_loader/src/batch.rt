@@ -2,7 +2,10 @@
 ghost use Rattle.std.specs.Prelude.{◌≡◌, ◌<◌, ◌+◌, ◌^◌, length, IfOk, IfErr, OnOk};
 ghost use Rattle.std.specs.List.{AllByRecursion};
 ghost use Rattle.attr_types.specs.Lawful.{OpFits};
-ghost use Rattle.attr_loader.specs.Batches.{skips_of, AppliesBatch, CommitsBatch, HasNoCommit, KeepsTable, LoadsBatch};
+ghost use Rattle.attr_loader.specs.Batches.{skips_of, AddsSteps, AppliesBatch, AppliesRoom, CommitsBatch, CommitsRoom, HasNoCommit};
+ghost use Rattle.attr_loader.specs.Batches.{KeepsTable, LoadsBatch, LoadsRoom};
+ghost use Rattle.attr_room.specs.Made.{after_keys, after_root};
+ghost use Rattle.attr_room.specs.Runs.{step_keys};
 
 use crate::error::LoadError;
 use arena_api::Work;
@@ -38,7 +41,8 @@ fn apply_all<const OFFSET_BITS: u32, S: Store<OFFSET_BITS, Layout = AttrLayout>>
 ) -> Result<Batch, AllocError>
     requires room { attribute.old.operations + length ops.now < 2 ^ 32 }
     requires fit { AllByRecursion (OpFits attribute.old.fields) ops.now }
-    ensures { IfOk result (AppliesBatch S.ledger attribute.old attribute.new ops.now) }
+    ensures applies { IfOk result (AppliesBatch S.ledger attribute.old attribute.new ops.now) }
+    ensures room { IfOk result (AppliesRoom S.ledger attribute.old attribute.new ops.now) }
 {
     let mut skipped: u32 = 0;
     let mut done: u32 = 0;
@@ -70,7 +74,8 @@ fn compact_after<const OFFSET_BITS: u32, S: Store<OFFSET_BITS, Layout = AttrLayo
     alloc: Global,
     attribute: &mut Attribute<OFFSET_BITS, S>,
 ) -> Result<(), AllocError>
-    ensures { OnOk result (KeepsTable S.ledger attribute.old attribute.new) }
+    ensures keeps { OnOk result (KeepsTable S.ledger attribute.old attribute.new) }
+    ensures room { AddsSteps S.ledger attribute.old attribute.new (λ steps. after_keys steps step_keys) }
 {
     match attribute.compact_step(alloc, COMPACT_KEYS) {
         Ok(_) => Ok(()),
@@ -88,6 +93,7 @@ fn commit_table<const OFFSET_BITS: u32, S: Store<OFFSET_BITS, Layout = AttrLayou
     gate: &G,
 ) -> Result<Batch, LoadError>
     ensures commits { IfOk result (CommitsBatch S.ledger attribute.old attribute.new count skipped) }
+    ensures room { AddsSteps S.ledger attribute.old attribute.new after_root }
     ensures spent { IfErr result (HasNoCommit S.ledger attribute.old) }
 {
     match attribute.commit() {
@@ -118,6 +124,7 @@ fn commit_all<const OFFSET_BITS: u32, S: Store<OFFSET_BITS, Layout = AttrLayout>
     gate: &G,
 ) -> Result<Batch, LoadError>
     ensures commits { IfOk result (CommitsBatch S.ledger attribute.old attribute.new count skipped) }
+    ensures room { IfOk result (CommitsRoom S.ledger attribute.old attribute.new) }
     ensures spent { IfErr result (HasNoCommit S.ledger attribute.old) }
 {
     match commit_table(attribute, count, skipped, gate)? {
@@ -148,6 +155,7 @@ pub fn load_batch<const OFFSET_BITS: u32, S: Store<OFFSET_BITS, Layout = AttrLay
     requires room { attribute.old.operations + length ops.now < 2 ^ 32 }
     requires fit { AllByRecursion (OpFits attribute.old.fields) ops.now }
     ensures loads { IfOk result (LoadsBatch S.ledger attribute.old attribute.new ops.now) }
+    ensures room { IfOk result (LoadsRoom S.ledger attribute.old attribute.new ops.now) }
     ensures spent { IfErr result (HasNoCommit S.ledger attribute.old) }
 {
     match apply_all(alloc, attribute, ops)? {

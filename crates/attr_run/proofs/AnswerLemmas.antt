@@ -112,12 +112,13 @@ ended-run met status progress Q follows answer full ends =
     let ended = ended-text met status progress full answer ends in
     OfRun-weaker met.words met.left (IsRunUntil progress full ended.0) (Q full) (follows full ended.0) ended.1
 
--- where an operation found no room, the buffers are counted
-pub full-room : (met : Met) (status : Status) (progress : Progress) → Answers met status progress → (operation active held : ℕ)
-    → status ≡ Full operation active held → OfRun met.words met.left (λ run ops. active + held ≡ run.buffers)
-full-room met status progress answer operation active held is =
+-- what holds of a run that ran out of space
+pub full-run : (met : Met) (status : Status) (progress : Progress) → Answers met status progress → (operation active held : ℕ) (Q : Run → List Op → Type 0)
+    → ((text : List ℕ) (run : Run) (ops : List Op) → IsFullRun progress operation active held text run ops → Q run ops)
+    → status ≡ Full operation active held → OfRun met.words met.left Q
+full-run met status progress answer operation active held Q follows is =
     let here = at met status (Full operation active held) progress answer is in
-    OfRun-weaker met.words met.left (IsFullRun progress operation active held here.0) (λ run ops. active + held ≡ run.buffers) (λ run ops full. full.room) here.1
+    OfRun-weaker met.words met.left (IsFullRun progress operation active held here.0) Q (follows here.0) here.1
 
 -- ---- the words
 

@@ -6,7 +6,7 @@ use Rattle.clap.specs.Walk.{Text}
 use Rattle.attr_io.specs.Bytes.{OfBytes}
 use Rattle.attr_types.specs.declared.op.Op.{Op}
 use Rattle.attr_words.specs.Settings.{are_too_many}
-use Rattle.attr_engine.specs.FullStore.{NoRoom}
+use Rattle.attr_engine.specs.FullStore.{NoRoom, IsJustified}
 use Rattle.attr_report.specs.Run.{Run, Progress}
 use Rattle.attr_report.specs.Report.{written}
 use Rattle.attr_report.specs.History.{IsLoaded}
@@ -45,6 +45,8 @@ due-by words left before now run ops w (Some room) asks feeds is at =
     of-run words left run ops (IsFullRun (progress_of w) room.operation room.active room.held w.text.items) asks feeds (record {
       until = until run ops w (Some room) is at;
       room = subst (λ (f : Option NoRoom). IfSome f (λ r. r.active + r.held ≡ run.buffers)) at is.room;
+      owed = (subst (λ (f : Option NoRoom). IfSome f (IsJustified run ops w.loaded)) at is.justified).owed;
+      quiet = (subst (λ (f : Option NoRoom). IfSome f (IsJustified run ops w.loaded)) at is.justified).quiet;
     })
 
 pub due-of : (words : List Text) (left : Option (List ℕ)) (before now : ℕ) (run : Run) (ops : List Op) (w : Written)

@@ -7,6 +7,7 @@ use Rattle.attr_io.specs.Bytes.{AppendsFront, OfBytes}
 use Rattle.attr_io.specs.Faults.{Rose}
 use Rattle.attr_types.specs.declared.op.Op.{Op}
 use Rattle.attr_types.specs.declared.error.QueryError.TheVariants as refusal
+use Rattle.attr_engine.specs.FullStore.{load_in, readers_of, IsOwed, IsQuiet}
 use Rattle.attr_report.specs.Run.{Run, Progress}
 use Rattle.attr_report.specs.Report.{written}
 use Rattle.attr_report.specs.History.{IsLoaded, IsRounds, IsAfterwards, IsSaved, IsLegalHistory, history}
@@ -115,6 +116,8 @@ pub record IsRunUntil (progress : Progress) (full : Option ℕ) (text : List ℕ
 pub record IsFullRun (progress : Progress) (operation active held : ℕ) (text : List ℕ) (run : Run) (ops : List Op) : Type 0 where
   pub until : IsRunUntil progress (Some operation) text run ops
   pub room : active + held ≡ run.buffers
+  pub owed : length run.fields ≡ 1 → IsOwed (load_in run ops) operation progress.loaded
+  pub quiet : IsQuiet (readers_of run) → held ≡ 0
 
 -- the text that is due for an answer, by the words, what the source has left, its counts of faults before and after,
 -- and the progress of the run

@@ -26,6 +26,7 @@ ghost use Rattle.std.specs.List.{AllByRecursion};
 ghost use Rattle.attr_words.specs.Settings.{are_too_many};
 ghost use Rattle.attr_types.specs.Lawful.{OpFits};
 ghost use Rattle.attr_report.specs.Run.{run_in};
+ghost use Rattle.attr_engine.specs.FullStore.{load_in, readers_of, IsOwed, IsQuiet};
 ghost use Rattle.attr_engine.specs.Run.{IsRunOf};
 
 use crate::feed::ops_in;
@@ -282,6 +283,13 @@ pub fn attr_main<R: Threads + Sync, S: Source, K: Sink, G: Gate + Sync + 'static
     // If an operation ran out of space, each buffer is in use, or held for readers.
     ensures room { (operation active held : ℕ) → result.status ≡ Status.Full operation active held
         → OfRun words.now (S.left source.old) (λ run ops. active + held ≡ run.buffers) }
+    // With one attribute, the entries made up to that operation can fill all buffers. If no reader is active while
+    // operations are loaded, no buffer is held.
+    ensures owed { (operation active held : ℕ) → result.status ≡ Status.Full operation active held
+        → OfRun words.now (S.left source.old) (λ run ops.
+        length run.fields ≡ 1 → IsOwed (load_in run ops) operation result.loaded) }
+    ensures quiet { (operation active held : ℕ) → result.status ≡ Status.Full operation active held
+        → OfRun words.now (S.left source.old) (λ run ops. IsQuiet (readers_of run) → held ≡ 0) }
 
     // The words.
     ensures help { ComesExactly (AskForHelp words.now) Status.Help result.status }

@@ -13,3 +13,6 @@ returns-clause-start g c =
 
 pub returns-clause-work : goal.returns-clause-work
 returns-clause-work g c = c.in-Ok.ensures.work
+
+pub returns-clause-nothing : goal.returns-clause-nothing
+returns-clause-nothing g c = record { counts = c.in-Ok.ensures.counts }

@@ -23,7 +23,7 @@ take_all-requires g c =
 pub returns-clause-loads : goal.returns-clause-loads
 returns-clause-loads g c =
     loads_kept c.args.question.now.fields.now c.args.batch c.args.ops.now (writer_of c.args.writer.place.me.0) (writer_of c.in_ok-beside.beside.writer.place.me.0)
-    (writer_of c.take_all.new.writer.place.me.0) c.in_ok-beside.beside.loaded c.in_ok-first.ensures.keeps c.in_ok-beside.ensures.loads
+    (writer_of c.take_all.new.writer.place.me.0) c.in_ok-beside.beside.loaded c.in_ok-first.ensures.keeps c.in_ok-first.ensures.made c.in_ok-beside.ensures.loads
 
 pub returns-clause-count : goal.returns-clause-count
 returns-clause-count g c =

@@ -1,4 +1,4 @@
-use Rattle.std.proofs.Common.{◌∙◌, ℕ, List, map, ap, subst}
+use Rattle.std.proofs.Common.{◌≡◌, ◌∙◌, arith, ℕ, List, map, ap, subst}
 use Rattle.std.specs.Prelude.{is_some}
 use Rattle.std.proofs.lemmas.Option.{IfSome_then}
 use Rattle.gen_core.specs.Views.{last_number}
@@ -6,7 +6,7 @@ use Rattle.word_arena.specs.Ruled.{writer_of}
 use Rattle.attr_types.specs.Scores.{ask_tree}
 use Rattle.attr_types.specs.declared.field.Field.{Field}
 use Rattle.attr_report.specs.Run.{run_in}
-use Rattle.attr_engine.specs.Steps.{saves_of, LoadsInto}
+use Rattle.attr_engine.specs.Steps.{parts, saves_of, LoadsInto}
 use Rattle.attr_engine.specs.Rounds.{operations_of, tells_of}
 use Rattle.attr_engine.proofs.RunLemmas.{Documents, asked_as, last_as, last_on, came_of}
 use Rattle.attr_engine.proofs.WriterLemmas.{keeps_on}
@@ -21,6 +21,10 @@ returns g c =
     let x = writer_of c.read_after.new.writer.place.me.0 in
     let has = c.in_ok-loading.ensures in
     let counted = c.args.question.now.counted in
+    let beside = ap (λ (p : ℕ × ℕ). p.0) c.parts-beside.ensures in
+    let made_is = has.made in
+    let none = c.requires.unread in
+    let made : v.made ≡ (parts run.after run.readers).0 = omega (arith, made_is, none, beside) in
     let asks = map ask_tree c.args.question.now.asks.now in
     let loads = subst (λ (fs : List Field). LoadsInto fs run.batch c.args.ops.now w v c.in_ok-loading.loading.loaded) q.fields_are has.loads in
     let first = asked_as counted (is_some run.make) asks run.asks q.counted_is q.asks_are v.sizes.shape (last_number w.commits) run.rounds v.commits c.in_ok-loading.loading.first.items has.rounds in
@@ -30,7 +34,8 @@ returns g c =
     let y = writer_of c.last_answer.new.writer.place.me.0 in
     let saved = IfSome_then c.in_ok-documents.documents c.in_ok-documents.ensures.last
     (λ (documents : Documents). last_on operations_of saves_of v y documents (keeps_on v x y c.in_ok-later.ensures.keeps c.in_ok-last.ensures.keeps)) in
-    came_of run c.args.ops.now w v c.in_ok-loading.loading.loaded loads c.requires.buffers c.requires.new.shape_is c.requires.new.commits
+    came_of run c.args.ops.now w v c.in_ok-loading.loading.loaded loads c.requires.buffers c.requires.words
+    made c.requires.new.shape_is c.requires.new.commits
     c.in_ok-loading.loading.first.items c.in_ok-later.later.items c.chosen-rounds.result c.in_ok-last.last c.in_ok-documents.documents c.chosen-rounds.ensures
     (record { each = first; count = has.count ∙ ap (λ (p : ℕ × ℕ). p.0) c.parts-beside.ensures })
     (record { each = later; count = c.in_ok-later.ensures.count ∙ ap (λ (p : ℕ × ℕ). p.1) c.parts-beside.ensures }) told c.in_ok-documents.ensures.asked saved

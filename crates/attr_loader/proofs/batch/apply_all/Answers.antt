@@ -1,9 +1,15 @@
-use Rattle.std.proofs.Common.{◌∙◌, ◌+◌, sym, subst, ap, arith, ◌++◌, ◌∷◌, [], List}
+use Rattle.std.proofs.Common.{◌∙◌, ◌+◌, refl, sym, subst, ap, arith, length, ◌++◌, ◌∷◌, [], List}
 use Rattle.std.proofs.lemmas.List.{take_more}
 use Rattle.std.specs.Prelude.{take}
-use Rattle.attr_loader.specs.Batches.{skips_of, AppliesAll}
+use Rattle.std.proofs.lemmas.Option.{slice_get_read}
+use Rattle.list_facts.proofs.Each.{AllByRecursion-slice_get}
+use Rattle.attr_types.specs.Lawful.{OpFits}
+use Rattle.attr_types.specs.declared.field.Field.{Field}
+use Rattle.attr_loader.specs.Room.{after_values, values_of}
+use Rattle.attr_loader.proofs.RoomRuns.{room_applied, room_on, room_refused, take_all}
+use Rattle.attr_loader.specs.Batches.{skips_of, AddsSteps, AppliesAll}
 use Rattle.attr_types.specs.declared.op.Op.{Op}
-use Rattle.attr_loader.proofs.Applying.{keeps_of, one_more, at_most_one}
+use Rattle.attr_loader.proofs.Applying.{applies_none, keeps_of, one_more, at_most_one}
 use Rattle.attr_loader.proofs.batch.apply_all.Goals as goal
 
 pub loop-op-preserved : goal.loop-op-preserved
@@ -24,5 +30,46 @@ loop-op-preserved g c =
       applies = subst (λ n. AppliesAll ledger start c.apply.new.self (take (c.loop-op.op-index + 1) ops) (c.loop-op.skipped + n)) (sym is)
           (subst (λ (list : List Op). AppliesAll ledger start c.apply.new.self list (c.loop-op.skipped + skips_of c.in-Ok.applied)) (sym front) more);
       done = omega (arith, done);
+      room = subst (λ (list : List Op). AddsSteps ledger start c.apply.new.self (λ steps. after_values steps (values_of start.fields start.table list))) (sym front)
+          (room_on ledger start c.loop-op.attribute c.apply.new.self (take c.loop-op.op-index ops) c.op-item.result i.room i.applies.table i.applies.keeps.stays.fields
+          (room_applied ledger c.loop-op.attribute c.apply.new.self c.op-item.result h.fields h.table
+          (subst (λ (fs : List Field). OpFits fs c.op-item.result) (sym i.applies.keeps.stays.fields)
+          (AllByRecursion-slice_get (OpFits start.fields) ops c.loop-op.op-index c.op-item.result c.requires.fit
+          (slice_get_read ops (length ops) c.loop-op.op-index c.op-item.result refl c.loop-op-test.true c.op-item.is)))
+          h.counts));
       few = omega (arith, few, one, is);
     }
+
+pub loop-op-init : goal.loop-op-init
+loop-op-init g c = record {
+  applies = applies_none g.S.Store.ledger c.args.attribute.now;
+  done = refl;
+  few = omega arith;
+  room = λ steps made. made;
+}
+
+pub returns-in-Err-Full-clause-room : goal.returns-in-Err-Full-clause-room
+returns-in-Err-Full-clause-room g c =
+    let i = c.loop-op.invariant in
+    let ledger = g.S.Store.ledger in
+    let start = c.args.attribute.now in
+    let ops = c.args.ops.now in
+    let front = take_more ops c.loop-op.op-index c.op-item.result c.loop-op-test.true ∙ ap (λ x. take c.loop-op.op-index ops ++ x ∷ []) (sym c.op-item.is) in
+    let here = subst (λ (list : List Op). AddsSteps ledger start c.apply.new.self (λ steps. after_values steps (values_of start.fields start.table list))) (sym front)
+    (room_on ledger start c.loop-op.attribute c.apply.new.self (take c.loop-op.op-index ops) c.op-item.result i.room i.applies.table i.applies.keeps.stays.fields
+    (room_refused ledger c.loop-op.attribute c.apply.new.self c.op-item.result (ap (λ v. v.fields) c.in-Err-Full.ensures.left) (ap (λ v. v.table) c.in-Err-Full.ensures.left)
+    (subst (λ (fs : List Field). OpFits fs c.op-item.result) (sym i.applies.keeps.stays.fields)
+    (AllByRecursion-slice_get (OpFits start.fields) ops c.loop-op.op-index c.op-item.result c.requires.fit
+    (slice_get_read ops (length ops) c.loop-op.op-index c.op-item.result refl c.loop-op-test.true c.op-item.is)))
+    c.apply.ensures.counts)) in
+    let done = i.done in
+    subst (λ n. AddsSteps ledger start c.apply.new.self (λ steps. after_values steps (values_of start.fields start.table (take n ops)))) (omega (arith, done)) here
+
+pub returns-clause-room : goal.returns-clause-room
+returns-clause-room g c =
+    let i = c.loop-op.invariant in
+    let ledger = g.S.Store.ledger in
+    let start = c.args.attribute.now in
+    let ops = c.args.ops.now in
+    subst (λ (list : List Op). AddsSteps ledger start c.loop-op.attribute (λ steps. after_values steps (values_of start.fields start.table list)))
+    (take_all ops c.loop-op.op-index (let over = c.loop-op-test.false in let most = c.loop-op.auto.op-index-end in omega arith)) i.room

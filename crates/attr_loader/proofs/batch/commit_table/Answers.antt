@@ -1,6 +1,7 @@
 use Rattle.std.proofs.Common.{refl, rules}
 use Rattle.arena_api.specs.Works.{last_image}
 use Rattle.attr_loader.proofs.Applying.{commit_number, commit_readers}
+use Rattle.attr_loader.proofs.RoomRuns.{room_root}
 use Rattle.attr_loader.proofs.batch.commit_table.Goals as goal
 
 pub returns-in-Ok-clause-commits : goal.returns-in-Ok-clause-commits
@@ -29,3 +30,23 @@ returns-in-Ok-clause-commits g c =
         image_table = search rules;
       },
     )
+
+pub returns-in-Ok-clause-room : goal.returns-in-Ok-clause-room
+returns-in-Ok-clause-room g c =
+    let ledger = g.S.Store.ledger in
+    room_root ledger c.args.attribute.now c.commit.new.self c.commit.ensures.fields c.commit.ensures.table c.commit.ensures.makes
+
+pub returns-in-Err-Full-clause-room : goal.returns-in-Err-Full-clause-room
+returns-in-Err-Full-clause-room g c =
+    let ledger = g.S.Store.ledger in
+    room_root ledger c.args.attribute.now c.commit.new.self c.commit.ensures.fields c.commit.ensures.table c.commit.ensures.makes
+
+pub returns-in-Err-CommitsSpent-clause-room : goal.returns-in-Err-CommitsSpent-clause-room
+returns-in-Err-CommitsSpent-clause-room g c =
+    let ledger = g.S.Store.ledger in
+    room_root ledger c.args.attribute.now c.commit.new.self c.commit.ensures.fields c.commit.ensures.table c.commit.ensures.makes
+
+pub returns-in-Err-Memory-clause-room : goal.returns-in-Err-Memory-clause-room
+returns-in-Err-Memory-clause-room g c =
+    let ledger = g.S.Store.ledger in
+    room_root ledger c.args.attribute.now c.commit.new.self c.commit.ensures.fields c.commit.ensures.table c.commit.ensures.makes

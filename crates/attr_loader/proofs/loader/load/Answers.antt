@@ -4,14 +4,18 @@ use Rattle.std.specs.Prelude.{take, drop}
 use Rattle.std.proofs.lemmas.List.{length-drop, drop-drop}
 use Rattle.std.proofs.lemmas.Bool.{eqb-true, eqb-false}
 use Rattle.attr_types.specs.declared.op.Op.{Op}
-use Rattle.attr_loader.specs.Batches.{LoadsBatch}
-use Rattle.attr_loader.proofs.Stands.{starts, stands_on, more_few, part-long, finds_no_room, given_up, ends_all}
+use Rattle.attr_loader.specs.Batches.{LoadsBatch, LoadsRoom}
+use Rattle.attr_loader.specs.Room.{HasMadeNothing}
+use Rattle.attr_loader.proofs.Points.{next_point}
+use Rattle.attr_loader.proofs.RoomRuns.{owed_at, runs_begin, runs_on}
+use Rattle.attr_loader.proofs.Stands.{front, front_of, starts, stands_on, more_few, part-long, finds_no_room, given_up, ends_all}
 use Rattle.attr_loader.proofs.loader.load.Goals as goal
 
 pub loop-rest-init : goal.loop-rest-init
 loop-rest-init g c = record {
   rest = refl;
   within = omega arith;
+  room = λ one nothing. runs_begin g.S.Store.ledger c.args.batch c.args.ops.now c.args.attribute.now c.requires.start.table one nothing;
   stands = starts g.S.Store.ledger c.args.batch c.args.ops.now c.args.attribute.now c.image_law.ensures.empty c.requires.start;
 }
 
@@ -45,6 +49,12 @@ loop-rest-preserved g c =
     record {
       rest = left ∙ ap (λ n. drop n c.loop-rest.rest.now) (sym c.split_at.ensures.front_len) ∙ ap (λ (xs : List Op). drop (length part) xs) i.rest ∙ drop-drop (length part) c.loop-rest.operations c.args.ops.now;
       within = omega (arith, size, below);
+      room = λ one nothing.
+          let runs = i.room one nothing in
+          runs_on ledger c.args.batch c.args.ops.now c.args.attribute.now c.loop-rest.attribute c.load_batch.new.attribute c.loop-rest.operations c.in-Done.more runs part i.stands.stays.fields i.stands.table
+          (front ledger c.args.batch c.args.ops.now c.args.attribute.now c.loop-rest.attribute c.loop-rest.operations c.loop-rest.skipped i.stands c.loop-rest.rest.now part i.rest part_is below)
+          (next_point c.args.batch (length c.args.ops.now) runs.last c.loop-rest.operations (length part) runs.point below size)
+          (subst (LoadsRoom ledger c.loop-rest.attribute c.load_batch.new.attribute part) c.in-Done.is c.in_ok-more.ensures.room);
       stands = stands_on ledger c.args.batch c.args.ops.now c.args.attribute.now c.loop-rest.attribute c.loop-rest.operations c.loop-rest.skipped i.stands
           c.loop-rest.rest.now part i.rest part_is below c.load_batch.new.attribute c.in-Done.more loads;
     }
@@ -58,8 +68,18 @@ returns-in-Full-clause-loads g c =
     let part_is = c.split_at.ensures.front ∙ ap (λ n. take n c.loop-rest.rest.now) c.min.ensures in
     let some = eqb-false (length c.loop-rest.rest.now) 0 (sym c.loop-rest-test.ensures) in
     let long = ap length i.rest ∙ length-drop c.loop-rest.operations c.args.ops.now in
+    let below : c.loop-rest.operations < length c.args.ops.now = omega (arith, some, long) in
+    let new = c.load_batch.new.attribute in
+    let owed = λ (one : length c.args.attribute.now.fields ≡ 1) (nothing : HasMadeNothing (ledger c.args.attribute.now.store)).
+    owed_at ledger c.args.batch c.args.ops.now c.args.attribute.now c.loop-rest.attribute new c.loop-rest.operations (i.room one nothing) part c.in-Full.before c.in-Full.active c.in-Full.held
+    i.stands.stays.fields i.stands.table
+    (front_of ledger c.args.batch c.args.ops.now c.args.attribute.now c.loop-rest.attribute c.loop-rest.operations c.loop-rest.skipped i.stands c.loop-rest.rest.now part i.rest part_is below
+    c.in-Full.before full.most)
+    (subst (LoadsRoom ledger c.loop-rest.attribute new part) c.in-Full.is c.in_ok-more.ensures.room) c.requires.some below
+    (full.keeps.stays.fields ∙ i.stands.stays.fields) (full.keeps.stays.sizes ∙ i.stands.stays.sizes) full.full.free (g.met.S.Store.limits new.store).some_words
+    (g.met.S.Store.counted new.store) (g.met.S.Store.few_buffers new.store) in
     finds_no_room ledger c.args.batch c.args.ops.now c.args.attribute.now c.loop-rest.attribute c.loop-rest.operations c.loop-rest.skipped i.stands
-    c.loop-rest.rest.now part i.rest part_is (omega (arith, some, long)) c.load_batch.new.attribute c.in-Full.before c.in-Full.active c.in-Full.held c.requires.some full
+    c.loop-rest.rest.now part i.rest part_is below new c.in-Full.before c.in-Full.active c.in-Full.held c.requires.some full owed (g.met.S.Store.timely new.store)
 
 pub returns-clause-loads : goal.returns-clause-loads
 returns-clause-loads g c =

@@ -1,5 +1,7 @@
 use Rattle.std.proofs.Common.{◌≡◌, ◌≤◌, length}
 use Rattle.std.specs.Prelude.{drop}
+use Rattle.attr_loader.specs.Room.{HasMadeNothing}
+use Rattle.attr_loader.proofs.RoomRuns.{Runs}
 use Rattle.attr_loader.proofs.Stands.{Stands}
 use Rattle.attr_loader.proofs.loader.load.Given as goal
 
@@ -7,6 +9,7 @@ abbrev pub invariant-loop-rest : goal.invariant-loop-rest
 invariant-loop-rest g l = record {
   rest : l.rest ≡ drop l.operations l.fn.ops;
   within : l.operations ≤ length l.fn.ops;
+  room : length l.fn.attribute.fields ≡ 1 → HasMadeNothing (g.S.Store.ledger l.fn.attribute.store) → Runs g.S.Store.ledger l.fn.batch l.fn.ops l.fn.attribute l.attribute l.operations;
   stands : Stands g.S.Store.ledger l.fn.batch l.fn.ops l.fn.attribute l.attribute l.operations l.skipped;
 }
 

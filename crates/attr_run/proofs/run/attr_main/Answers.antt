@@ -3,7 +3,7 @@ use Rattle.attr_run.specs.declared.outcome.Status.TheVariants.{BadFeed, ReadFaul
 use Rattle.attr_run.specs.declared.outcome.FeedFault.TheVariants as feed
 use Rattle.attr_run.proofs.AnswerLemmas.{Met, at, ended-report, ended-run, exactly-usage}
 use Rattle.attr_run.proofs.AnswerLemmas.{exactly-help, exactly-feed, early-text}
-use Rattle.attr_run.proofs.AnswerLemmas.{early-no_run, complete-told, full-room}
+use Rattle.attr_run.proofs.AnswerLemmas.{early-no_run, complete-told, full-run}
 use Rattle.attr_run.proofs.run.attr_main.Given.{Over}
 use Rattle.attr_run.proofs.run.attr_main.Goals as goal
 
@@ -50,7 +50,16 @@ returns-clause-history g c = ended-run (met g c) _ _ _ (λ full text run ops unt
     c.whole_run.ensures.answer
 
 pub returns-clause-room : goal.returns-clause-room
-returns-clause-room g c = full-room (met g c) _ _ c.whole_run.ensures.answer
+returns-clause-room g c = λ operation active held.
+    full-run (met g c) _ _ c.whole_run.ensures.answer operation active held _ (λ text run ops full. full.room)
+
+pub returns-clause-owed : goal.returns-clause-owed
+returns-clause-owed g c = λ operation active held.
+    full-run (met g c) _ _ c.whole_run.ensures.answer operation active held _ (λ text run ops full. full.owed)
+
+pub returns-clause-quiet : goal.returns-clause-quiet
+returns-clause-quiet g c = λ operation active held.
+    full-run (met g c) _ _ c.whole_run.ensures.answer operation active held _ (λ text run ops full. full.quiet)
 
 pub returns-clause-help : goal.returns-clause-help
 returns-clause-help g c = exactly-help (met g c) _ _ c.whole_run.ensures.one_kind c.whole_run.ensures.answer
