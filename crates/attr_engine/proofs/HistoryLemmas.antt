@@ -31,7 +31,7 @@ is_point batch total k = elim (cases_lt (batch * k) total) [
   | inr above ↦ (omega arith, inr (omega (arith, above)))
 ]
 
-points_rise : (batch total j k : ℕ) → j ≤ k → commit_point batch total j ≤ commit_point batch total k
+pub points_rise : (batch total j k : ℕ) → j ≤ k → commit_point batch total j ≤ commit_point batch total k
 points_rise batch total j k le = let more : batch * j ≤ batch * k = mul-le-mul_left batch le in omega (arith, more)
 
 points_forward : (batch total : ℕ) (xs : List ℕ) → IsNonDecreasing xs → IsNonDecreasing (map (λ k. commit_point batch total k) xs)

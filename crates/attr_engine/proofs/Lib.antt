@@ -5,3 +5,4 @@ pub mod RunLemmas
 pub mod HistoryLemmas
 pub mod WritingLemmas
 pub mod HappenLemmas
+pub mod SaverLemmas

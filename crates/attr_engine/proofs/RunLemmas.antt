@@ -2,8 +2,7 @@
 use Rattle.std.proofs.Common.{◌≡◌, ◌≤◌, ◌+◌, ℕ, List, [], ◌∷◌, length, Some, inl, inr, refl, sym, ap, subst, ◌∙◌, arith}
 use Rattle.std.specs.Prelude.{Bool, true, false, if◌then◌else◌, is_some, Option, None, IfSome, Vec}
 use Rattle.std.specs.Global.{Global}
-use Rattle.std.specs.BTreeMap.{BTreeMap}
-use Rattle.std.proofs.lemmas.Option.{slice_get_within, IfSome_then}
+use Rattle.std.proofs.lemmas.Option.{slice_get_within}
 use Rattle.entry_ref.specs.declared.images.Image.{Image}
 use Rattle.entry_ref.specs.Images.{no_image, words_at}
 use Rattle.entry_ref.specs.Records.{Records}
@@ -14,9 +13,7 @@ use Rattle.attr_images.specs.Shapes.{shape_of, types_of}
 use Rattle.attr_types.specs.Scores.{AskTree}
 use Rattle.std.specs.List.{AllByRecursion}
 use Rattle.list_facts.proofs.Each.{AllByRecursion-weaker}
-use Rattle.attr_rounds.specs.Columns.{TellsColumn}
 use Rattle.attr_types.specs.Table.{Table, after}
-use Rattle.attr_types.specs.declared.items.Item.{Item}
 use Rattle.attr_types.specs.declared.op.Op.{Op}
 use Rattle.attr_loader.specs.Loading.{AreCommits, EndsAt, commit_point}
 use Rattle.attr_loader.specs.Room.{load_of}
@@ -31,8 +28,9 @@ use Rattle.attr_report.specs.History.{IsLoaded}
 use Rattle.attr_room.specs.Runs.{IsOwed, IsQuiet}
 use Rattle.attr_engine.specs.FullStore.{load_in, readers_of, IsJustified}
 use Rattle.attr_engine.specs.Run.{full_of}
-use Rattle.attr_engine.specs.Rounds.{IsRoundAt, AreRoundsAt, IsCame, seen_before}
-use Rattle.attr_engine.specs.Steps.{KeepsWriter, saves_of, parts, AreRoundsOf, IsLastAnswer, LoadsInto}
+use Rattle.attr_engine.specs.Rounds.{IsRoundAt, AreRoundsAt, IsCame, IsSaveOf, seen_before}
+use Rattle.attr_engine.specs.declared.came.Save.{Save}
+use Rattle.attr_engine.specs.Steps.{KeepsWriter, parts, AreRoundsOf, IsLastAnswer, LoadsInto}
 use Rattle.attr_engine.specs.Rounds.{operations_of, tells_of}
 use Rattle.attr_engine.proofs.ReaderLemmas.{AllOf}
 
@@ -102,12 +100,6 @@ justified_by : (run : Run) (ops : List Op) (loaded : ℕ) (full : Option NoRoom)
 justified_by run ops loaded None owed quiet = tt
 justified_by run ops loaded (Some full) owed quiet = record { owed = owed; quiet = quiet }
 
-abbrev pub Documents : Type 0
-Documents = BTreeMap ℕ (List (List Item))
-
-abbrev Saves : Table → Documents → Type 0
-Saves table documents = TellsColumn table documents.entries
-
 -- what a run came to, by the writer before and after the loading
 module _ (run : Run) (ops : List Op) (w v : WriterView) (loaded : Loaded) (loads : LoadsInto run.fields run.batch ops w v loaded) (buffers : w.sizes.buffers ≡ run.buffers) (words : w.sizes.words ≡ run.words)
     (made : v.made ≡ (parts run.after run.readers).0) (shape : w.sizes.shape ≡ shape_of (types_of run.fields)) (none : w.commits ≡ no_image ∷ []) where
@@ -132,12 +124,12 @@ module _ (run : Run) (ops : List Op) (w v : WriterView) (loaded : Loaded) (loads
       subst (Answers (table_after run ops loaded.operations)) (sym is.is)
       (last_at run ops loads.last v.commits loads.commits loads.count v.sizes.shape (loads.shape_is ∙ shape) Answers loaded.operations loads.point is.round is.of_commit final)
 
-  pub came_of : (first later : List (Vec (Round Told) Global)) (rounds : Vec (Vec (Round Told) Global) Global) (last : Told) (documents : Option Documents)
+  pub came_of : (first later : List (Vec (Round Told) Global)) (rounds : Vec (Vec (Round Told) Global) Global) (last : Told) (saved : Option Save)
       → rounds.items ≡ (if run.after then later else first)
       → AllOf (TakenAt (last_number w.commits)) (parts run.after run.readers).0 first → AllOf (TakenAt (last_number v.commits)) (parts run.after run.readers).1 later
-      → IsLastAnswer operations_of (tells_of counted run.asks) v last → is_some documents ≡ run.save → IfSome documents (IsLastAnswer operations_of saves_of v)
-      → IsCame run ops (record { loaded = loaded; rounds = rounds; last = last; documents = documents })
-  came_of first later rounds last documents is one two told asked saved =
+      → IsLastAnswer operations_of (tells_of counted run.asks) v last → is_some saved ≡ run.save → IfSome saved (IsSaveOf run ops loaded.operations)
+      → IsCame run ops (record { loaded = loaded; rounds = rounds; last = last; saved = saved })
+  came_of first later rounds last saved is one two told asked saves =
       let count = loads.count in
       let zero : last_number w.commits ≡ 0 = ap last_number none in
       let final : last_number v.commits ≡ loads.last = omega (arith, count) in
@@ -159,7 +151,7 @@ module _ (run : Run) (ops : List Op) (w v : WriterView) (loaded : Loaded) (loads
         rounds = all.each;
         tells = answers_last (TellsTable counted run.asks) last told;
         asked = asked;
-        column = IfSome_then documents saved (answers_last Saves);
+        saved = saves;
       }
 
 -- what is asked, under its other names

@@ -1,10 +1,10 @@
 -- What is written of a run is what its report's statement wants.
-use Rattle.std.proofs.Common.{◌≡◌, ◌∙◌, refl, sym, ap, ap₂, subst, ℕ, ◌+◌, List, [], ◌∷◌, ◌++◌, append_assoc, map, length, string_bytes, arith}
+use Rattle.std.proofs.Common.{◌≡◌, ◌∙◌, refl, sym, ap, ap₂, subst, ℕ, ◌+◌, List, [], ◌∷◌, ◌++◌, append_assoc, map, length, string_bytes}
 use Rattle.std.specs.Prelude.{true, false, Option, Some, None, is_some, All, Vec, IfSome}
 use Rattle.std.specs.Global.{Global}
 use Rattle.std.specs.List.{AllByRecursion}
 use Rattle.attr_types.specs.Scores.{AskTree, answer_on, documents_in}
-use Rattle.attr_types.specs.Table.{Table, IsCommitPoint}
+use Rattle.attr_types.specs.Table.{Table}
 use Rattle.attr_types.specs.declared.op.Op.{Op}
 use Rattle.attr_rounds.specs.declared.rounds.Round.{Round}
 use Rattle.attr_rounds.specs.declared.asked.Told.{Told}
@@ -13,20 +13,16 @@ use Rattle.attr_report.specs.Run.{Run, Progress, table_after}
 use Rattle.attr_report.specs.Report.{answer_line, answers_from, answers_at, count_line, counts_from, reader_line, rounds_from, readers_from, final_line, full_line}
 use Rattle.attr_report.specs.Report.{done_line, report, made_line, documents_line, summary, told_by, written, saved_text}
 use Rattle.attr_report.specs.declared.request.Make.{Make}
-use Rattle.attr_index.specs.Columns.{Column, column_of as column_in}
-use Rattle.attr_saver.specs.Lawful.{first_column}
-use Rattle.attr_saver.specs.declared.saved.SavedDocument.{SavedDocument}
-use Rattle.attr_types.specs.Query.{items_in}
-use Rattle.attr_types.specs.declared.items.Item.{Item}
 use Rattle.attr_engine.specs.declared.came.Came.{Came}
+use Rattle.attr_engine.specs.declared.came.Save.{Save}
 use Rattle.attr_engine.specs.Run.{full_of, progress_of, IsRunOf}
 use Rattle.attr_engine.specs.declared.written.Written.{Written}
 use Rattle.attr_engine.proofs.ReaderLemmas.{all_first, all_rest}
-use Rattle.attr_engine.proofs.HistoryLemmas.{in_rounds, afterwards, is_point}
+use Rattle.attr_engine.proofs.HistoryLemmas.{in_rounds, afterwards}
 use Rattle.attr_loader.specs.declared.loaded.NoRoom.{NoRoom}
 use Rattle.attr_engine.specs.FullStore.{IsJustified}
-use Rattle.attr_report.specs.History.{IsLoaded, IsRounds, IsAfterwards, IsSaved, IsSavedAt}
-use Rattle.attr_engine.specs.Rounds.{IsRoundAt, AreRoundsAt, IsCame, seen_before, progress_at}
+use Rattle.attr_report.specs.History.{IsLoaded, IsRounds, IsAfterwards, IsSaved}
+use Rattle.attr_engine.specs.Rounds.{IsRoundAt, AreRoundsAt, IsCame, IsSaveOf, seen_before, progress_at}
 use Rattle.attr_engine.specs.Writing.{round_text, rounds_text, readers_text, report_text, summary_text, text_of, operations_of_rounds, IsWrittenOf, IsSavedOf}
 
 -- ---- one after another
@@ -144,39 +140,22 @@ saved-written : (run : Run) (ops : List Op) (came : Came) (n : ℕ) (full : Opti
 unfolding written
 saved-written run ops came n full = refl
 
--- the same, where the table was saved after all that was loaded
-pub saved_run_of : (run : Run) (ops : List Op) (came : Came) (w : Written) → IsCame run ops came → run.save ≡ true → IsSavedOf run ops came w → IsRunOf run ops w
-saved_run_of run ops came w is saves wrote =
-    let n = came.loaded.operations in
+-- the same, where the table was saved
+pub saved_run_of : (run : Run) (ops : List Op) (came : Came) (save : Save) (w : Written) → IsCame run ops came → came.saved ≡ Some save → IsSavedOf came save w → IsRunOf run ops w
+saved_run_of run ops came save w is saves wrote =
+    let n = save.operations in
     let at : Option ℕ = Some n in
     let same : progress_of w ≡ progress_at came at = λ i. record { loaded = wrote.loaded i; rounds = wrote.rounds i; saved = wrote.saved i } in
-    let point : IsCommitPoint run.batch (length ops) n = subst (IsCommitPoint run.batch (length ops)) (sym is.point) (is_point run.batch (length ops) is.last) in
-    let saved_at : IsSavedAt run (length ops) n n = (point, omega arith, λ after. refl) in
+    let of : IsSaveOf run ops came.loaded.operations save = subst (λ (o : Option Save). IfSome o (IsSaveOf run ops came.loaded.operations)) saves is.saved in
     record {
       is_loaded = subst (λ k. IsLoaded run (length ops) k (full_of w.full)) (sym wrote.loaded)
-          (subst (λ (f : Option NoRoom). IsLoaded run (length ops) n (full_of f)) (sym wrote.full) is.is_loaded);
+          (subst (λ (f : Option NoRoom). IsLoaded run (length ops) came.loaded.operations (full_of f)) (sym wrote.full) is.is_loaded);
       in_rounds = subst (IsRounds run (length ops)) (sym same) (in_rounds run ops came at is);
       afterwards = subst (IsAfterwards run) (sym same) (afterwards run ops came at is);
-      in_save = subst (IsSaved run (length ops)) (sym same) (sym saves, saved_at);
-      is_written = wrote.text ∙ saved-written run ops came n (full_of came.loaded.full)
+      in_save = subst (IsSaved run (length ops)) (sym same) (ap is_some (sym saves) ∙ is.asked, of.at);
+      is_written = ap (λ (b : Vec ℕ Global). b.items) wrote.text ∙ of.bytes ∙ saved-written run ops came n (full_of came.loaded.full)
           ∙ ap₂ (λ (p : Progress) (f : Option ℕ). written run ops p f) (sym same) (ap full_of (sym wrote.full));
       room = subst (λ (f : Option NoRoom). IfSome f (λ r. r.active + r.held ≡ run.buffers)) (sym wrote.full) is.room;
       justified = subst (λ k. IfSome w.full (IsJustified run ops k)) (sym wrote.loaded)
           (subst (λ (f : Option NoRoom). IfSome f (IsJustified run ops came.loaded.operations)) (sym wrote.full) is.justified);
     }
-
--- ---- the first attribute, as a save has it
-
-abbrev pub column_at_first : Table → Column
-column_at_first table = column_in 0 table
-
-abbrev as_saved : ℕ × List Item → SavedDocument
-as_saved e = record { doc = e.0; items = e.1 }
-
-saved_column : (table : Table) → first_column table ≡ map as_saved (column_at_first table)
-saved_column [] = refl
-saved_column (e ∷ table) = ap (λ (c : List SavedDocument). as_saved (e.0, items_in e.1 0) ∷ c) (saved_column table)
-
--- documents with the items of a table's first attribute are saved as that table is
-pub saved_alike : (documents table : Table) → column_at_first documents ≡ column_at_first table → first_column documents ≡ first_column table
-saved_alike documents table same = saved_column documents ∙ ap (λ (c : Column). map as_saved c) same ∙ sym (saved_column table)

@@ -5,3 +5,4 @@ pub mod Steps
 pub mod Laws
 pub mod Writing
 pub mod FullStore
+pub mod Saver

@@ -12,10 +12,11 @@ use Rattle.attr_rounds.specs.Rounds.{MakesRounds}
 use Rattle.attr_rounds.specs.declared.rounds.Round.{Round}
 use Rattle.attr_rounds.specs.declared.asked.Told.{Told}
 use Rattle.attr_rounds.specs.Lines.{TellsTable}
-use Rattle.attr_rounds.specs.Columns.{TellsColumn}
 use Rattle.attr_report.specs.Run.{Run, Progress, table_after, skipped_at}
-use Rattle.attr_report.specs.History.{IsLoaded}
+use Rattle.attr_report.specs.History.{IsLoaded, IsSavedAt}
+use Rattle.attr_report.specs.Report.{saved_text}
 use Rattle.attr_engine.specs.declared.came.Came.{Came}
+use Rattle.attr_engine.specs.declared.came.Save.{Save}
 use Rattle.attr_engine.specs.FullStore.{IsJustified}
 use Rattle.attr_engine.specs.Run.{full_of}
 
@@ -56,7 +57,12 @@ abbrev pub seen_before : Bool → ℕ → ℕ
 seen_before true last = last
 seen_before false last = 0
 
--- the progress of a run, with all rounds and the last answers, and with the documents if the table is saved
+-- a save is of a commit point that was loaded, and after the loading of the last; its bytes are those of the plain table there
+pub record IsSaveOf (run : Run) (ops : List Op) (loaded : ℕ) (save : Save) : Type 0 where
+  pub at : IsSavedAt run (length ops) loaded save.operations
+  pub bytes : save.bytes.items ≡ saved_text run.fields (table_after run ops save.operations) save.operations
+
+-- how far a run came, with all rounds and the last answers, and with the save where the table is saved
 pub record IsCame (run : Run) (ops : List Op) (came : Came) : Type 0 where
   pub last : ℕ
   pub is_loaded : IsLoaded run (length ops) came.loaded.operations (full_of came.loaded.full)
@@ -67,8 +73,8 @@ pub record IsCame (run : Run) (ops : List Op) (came : Came) : Type 0 where
   pub readers : length came.rounds.items ≡ run.readers
   pub rounds : AllByRecursion (λ rounds. AreRoundsAt run ops (seen_before run.after last) last rounds.items) came.rounds.items
   pub tells : TellsTable (is_some run.make) run.asks (table_after run ops came.loaded.operations) came.last
-  pub asked : is_some came.documents ≡ run.save
-  pub column : IfSome came.documents (λ documents. TellsColumn (table_after run ops came.loaded.operations) documents.entries)
+  pub asked : is_some came.saved ≡ run.save
+  pub saved : IfSome came.saved (IsSaveOf run ops came.loaded.operations)
 
 -- the counts of operations that the rounds saw, in the form of the report's statement
 abbrev pub progress_at : Came → Option ℕ → Progress

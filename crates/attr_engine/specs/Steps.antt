@@ -1,6 +1,5 @@
 -- How the steps of a run change the writer, and the results of its readers' tasks.
 use Rattle.std.specs.Prelude.{◌≡◌, ℕ, ◌+◌, ◌<◌, ◌≤◌, ◌^◌, Bool, true, false, ◌∷◌, List, [], length, slice_get, is_some, IfSome, All}
-use Rattle.std.specs.BTreeMap.{BTreeMap}
 use Rattle.std.specs.List.Sorted.{IsNonDecreasing}
 use Rattle.atomic_table.specs.Seated.{TableId}
 use Rattle.entry_ref.specs.declared.images.Image.{Image}
@@ -13,13 +12,12 @@ use Rattle.gen_core.specs.declared.views.ReaderView.{ReaderView}
 use Rattle.gen_core.specs.declared.views.WriterView.{WriterView}
 use Rattle.gen_core.specs.Views.{last_number}
 use Rattle.word_arena.specs.Knows.{view_of, api_buffer}
-use Rattle.attr_images.specs.Images.{table_of, IsLawfulImage}
+use Rattle.attr_images.specs.Images.{IsLawfulImage}
 use Rattle.attr_images.specs.Shapes.{shape_of, types_of}
 use Rattle.attr_types.specs.Scores.{AskTree}
 use Rattle.attr_types.specs.Table.{skipped}
 use Rattle.attr_types.specs.declared.field.Field.{Field}
 use Rattle.attr_types.specs.declared.field.TheConstants.{MOST_FIELDS}
-use Rattle.attr_types.specs.declared.items.Item.{Item}
 use Rattle.attr_types.specs.declared.op.Op.{Op}
 use Rattle.attr_loader.specs.Loading.{AreCommits, EndsAt, commit_point}
 use Rattle.attr_loader.specs.Room.{load_of}
@@ -29,7 +27,6 @@ use Rattle.attr_loader.specs.declared.loaded.NoRoom.{NoRoom}
 use Rattle.attr_rounds.specs.Rounds.{AreSeen, IsOfCommit, MakesRounds}
 use Rattle.attr_rounds.specs.declared.rounds.Round.{Round}
 use Rattle.attr_rounds.specs.declared.asked.Told.{Told}
-use Rattle.attr_rounds.specs.Columns.{TellsColumn}
 use Rattle.attr_report.specs.Run.{Run}
 use Rattle.attr_engine.specs.Rounds.{operations_of, tells_of, commits_of, AreGuarded}
 
@@ -77,10 +74,6 @@ pub record LoadsInto (fields : List Field) (batch : ℕ) (ops : List Op) (old ne
   pub owed : length fields ≡ 1
       → IfSome loaded.full (λ full. IsOwed (load_of old.sizes.buffers old.sizes.words fields batch ops) full.operation loaded.operations)
   pub unheld : new.made ≡ 0 → IfSome loaded.full (λ full. full.held ≡ 0)
-
--- the answer for a save: the documents of an image, each with its items in the first attribute
-abbrev pub saves_of : ℕ → Records → ℕ → BTreeMap ℕ (List (List Item)) → Type 0
-saves_of shape m root documents = TellsColumn (table_of shape m root) documents.entries
 
 -- a reader made by the writer, before any round
 pub record IsReader (w : WriterView) (home : TableId) (r : ReaderView) (table : TableId) : Type 0 where

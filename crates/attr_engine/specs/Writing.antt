@@ -4,11 +4,10 @@ use Rattle.std.specs.Global.{Global}
 use Rattle.attr_rounds.specs.declared.rounds.Round.{Round}
 use Rattle.attr_rounds.specs.declared.asked.Told.{Told}
 use Rattle.attr_loader.specs.declared.loaded.Loaded.{Loaded}
-use Rattle.attr_report.specs.Report.{reader_line, final_line, full_line, done_line, made_line, documents_line, saved_text}
-use Rattle.attr_report.specs.Run.{Run, table_after}
+use Rattle.attr_report.specs.Report.{reader_line, final_line, full_line, done_line, made_line, documents_line}
 use Rattle.attr_report.specs.declared.request.Make.{Make}
-use Rattle.attr_types.specs.declared.op.Op.{Op}
 use Rattle.attr_engine.specs.declared.came.Came.{Came}
+use Rattle.attr_engine.specs.declared.came.Save.{Save}
 use Rattle.attr_engine.specs.declared.written.Written.{Written}
 use Rattle.attr_engine.specs.Run.{full_of}
 
@@ -55,10 +54,10 @@ pub record IsWrittenOf (make : Option Make) (came : Came) (w : Written) : Type 0
   pub saved : w.saved ≡ None
   pub text : w.text.items ≡ text_of make came
 
--- what is written about a run that saves the table, after everything that was loaded
-pub record IsSavedOf (run : Run) (ops : List Op) (came : Came) (w : Written) : Type 0 where
+-- what is written of a run that saves the table: the save
+pub record IsSavedOf (came : Came) (save : Save) (w : Written) : Type 0 where
   pub loaded : w.loaded ≡ came.loaded.operations
   pub full : w.full ≡ came.loaded.full
   pub rounds : w.rounds ≡ map (λ r. operations_of_rounds r.items) came.rounds.items
-  pub saved : w.saved ≡ Some came.loaded.operations
-  pub text : w.text.items ≡ saved_text run.fields (table_after run ops came.loaded.operations) came.loaded.operations
+  pub saved : w.saved ≡ Some save.operations
+  pub text : w.text ≡ save.bytes

@@ -1,5 +1,5 @@
 //! The loading, beside other tasks.
-ghost use Rattle.std.specs.Prelude.{◌≡◌, ◌<◌, ◌≤◌, ◌+◌, ◌^◌, length, map, IfOk, All};
+ghost use Rattle.std.specs.Prelude.{◌≡◌, ◌<◌, ◌≤◌, ◌+◌, ◌^◌, length, map, is_some, IfOk, IfSome, All};
 ghost use Rattle.std.specs.List.{AllByRecursion, AllZip};
 ghost use Rattle.word_arena.specs.Knows.{view_of};
 ghost use Rattle.word_arena.specs.Ruled.{reader_of, writer_of};
@@ -9,13 +9,16 @@ ghost use Rattle.attr_types.specs.Scores.{ask_tree};
 ghost use Rattle.attr_types.specs.Lawful.{OpFits};
 ghost use Rattle.attr_loader.specs.Loading.{CanLoad, IsAtStart, Loads};
 ghost use Rattle.attr_loader.specs.Room.{HasMadeNothing};
+ghost use Rattle.attr_saver.specs.Images.{IsFirst};
 ghost use Rattle.attr_engine.specs.Steps.{HasRead, IsNewWriter, LoadsInto};
+ghost use Rattle.attr_engine.specs.Saver.{one_if, GivesAside, HasSaved};
 
-use crate::readers::jobs_of;
+use crate::aside::run_with;
+use crate::readers::{jobs_of, saver_of};
 use attr_images::{AttrLayout, image_law};
-use attr_io::{Gate, Task, run_beside};
+use attr_io::{Gate, Task};
 use attr_loader::{Attribute, LoadError, Loaded, Loading};
-use attr_rounds::{Asked, Reading, Told};
+use attr_rounds::{Asked, Reading, Saving, Told};
 use attr_types::{Fields, Op};
 use entry_store::EntryStore;
 use std::alloc::{AllocError, Global};
@@ -23,12 +26,13 @@ use std::thread::Threads;
 use store_api::Store;
 use word_arena::Writer;
 
-/// The writer after the loading, how much was loaded, and the rounds of the readers beside it.
+/// The writer after the loading, how much was loaded, the rounds of the readers beside it, and the round of the saver.
 #[derive(Drop)]
 pub struct LoadedBeside<'a, const OFFSET_BITS: u32> {
     pub writer: Writer<'a, OFFSET_BITS, AttrLayout>,
     pub loaded: Loaded,
     pub readings: Vec<Result<Reading<'a, OFFSET_BITS, AttrLayout, Told>, AllocError>>,
+    pub saving: Option<Result<Reading<'a, OFFSET_BITS, AttrLayout, Vec<u8>>, AllocError>>,
 }
 
 /// Returns attributes without documents, over a writer that has committed nothing.
@@ -70,7 +74,7 @@ fn closed<'a, const OFFSET_BITS: u32>(
     store.into_work()
 }
 
-/// Loads operations into attributes beside other tasks. Starts no thread if there are none.
+/// Loads operations into attributes beside other tasks and one of another kind; no thread is started where there are none.
 fn run_loading<
     'a,
     const OFFSET_BITS: u32,
@@ -79,28 +83,33 @@ fn run_loading<
     S: Store<OFFSET_BITS, Layout = AttrLayout> + Drop,
     T: Task<Output = B> + Send + Drop,
     B: Send + Drop,
+    U: Task<Output = C> + Send + Drop,
+    C: Send + Drop,
 >(
     rt: &R,
     alloc: Global,
     loading: Loading<'a, OFFSET_BITS, S, G>,
     others: Vec<T>,
-) -> Result<(Attribute<OFFSET_BITS, S>, Loaded, Vec<B>), AllocError>
+    aside: Option<U>,
+) -> Result<(Attribute<OFFSET_BITS, S>, Loaded, Vec<B>, Option<C>), AllocError>
     requires load { CanLoad S.ledger loading.batch loading.ops.now loading.attribute }
     requires others { All T.can_run others.items }
+    requires aside { IfSome aside U.can_run }
     requires left { (S.ledger loading.attribute.store).work.commits.last + length loading.ops.now
         ≤ (S.ledger loading.attribute.store).work.sizes.commits }
     ensures loads { IfOk result (λ r. Loads S.ledger loading.entry.batch loading.entry.ops.now loading.entry.attribute r.0 r.1) }
     ensures others { IfOk result (λ r. AllZip T.run_gives others.items r.2.items) }
+    ensures aside { IfOk result (λ r. GivesAside U.run_gives aside r.3) }
 {
-    let (given, gives) = run_beside(rt, alloc, loading, others)?;
+    let (given, gives, side) = run_with(rt, alloc, loading, others, aside)?;
     match given {
-        Ok((attribute, loaded)) => Ok((attribute, loaded, gives)),
+        Ok((attribute, loaded)) => Ok((attribute, loaded, gives, side)),
         Err(LoadError::Memory) => Err(AllocError),
         Err(LoadError::CommitsSpent) => unreachable!(),
     }
 }
 
-/// Loads operations into attributes over a writer, beside other tasks.
+/// Loads operations into attributes over a writer, beside other tasks and one of another kind.
 fn load_at<
     'a,
     const OFFSET_BITS: u32,
@@ -108,6 +117,8 @@ fn load_at<
     G: Gate + Sync,
     T: Task<Output = B> + Send + Drop,
     B: Send + Drop,
+    U: Task<Output = C> + Send + Drop,
+    C: Send + Drop,
 >(
     rt: &R,
     alloc: Global,
@@ -117,17 +128,28 @@ fn load_at<
     batch: u32,
     gate: &'a G,
     others: Vec<T>,
-) -> Result<(Writer<'a, OFFSET_BITS, AttrLayout>, Loaded, Vec<B>), AllocError>
+    aside: Option<U>,
+) -> Result<
+    (
+        Writer<'a, OFFSET_BITS, AttrLayout>,
+        Loaded,
+        Vec<B>,
+        Option<C>,
+    ),
+    AllocError,
+>
     requires new { IsNewWriter fields.now writer.place.table_id (writer_of writer.place.me.0) }
     requires some { 0 < batch }
     requires few { length ops.now < 2 ^ 32 }
     requires fit { AllByRecursion (OpFits fields.now) ops.now }
     requires others { All T.can_run others.items }
+    requires aside { IfSome aside U.can_run }
     ensures table { IfOk result (λ r. r.0.place.table_id ≡ writer.entry.place.table_id) }
     ensures loads { IfOk result (λ r. LoadsInto fields.now batch ops.now (writer_of writer.entry.place.me.0)
         (writer_of r.0.place.me.0) r.1) }
     ensures made { IfOk result (λ r. (writer_of r.0.place.me.0).made ≡ (writer_of writer.entry.place.me.0).made) }
     ensures others { IfOk result (λ r. AllZip T.run_gives others.items r.2.items) }
+    ensures aside { IfOk result (λ r. GivesAside U.run_gives aside r.3) }
 {
     let attribute = opened(alloc, writer, fields)?;
     let loading = Loading {
@@ -137,12 +159,12 @@ fn load_at<
         batch,
         gate,
     };
-    let (attribute, loaded, gives) = run_loading(rt, alloc, loading, others)?;
+    let (attribute, loaded, gives, side) = run_loading(rt, alloc, loading, others, aside)?;
     let writer = closed(attribute);
-    Ok((writer, loaded, gives))
+    Ok((writer, loaded, gives, side))
 }
 
-/// Loads operations into attributes over a writer, beside a number of readers. Starts no thread if there are none.
+/// Loads operations into attributes over a writer, beside so many readers, and beside a saver where the table is saved.
 pub fn load_beside<'a, const OFFSET_BITS: u32, R: Threads + Sync, G: Gate + Sync + 'static>(
     rt: &R,
     alloc: Global,
@@ -152,27 +174,36 @@ pub fn load_beside<'a, const OFFSET_BITS: u32, R: Threads + Sync, G: Gate + Sync
     readers: u32,
     rounds: u32,
     question: &'a Asked<'a>,
+    saving: &'a Saving<'a, G>,
+    save: bool,
     gate: &'a G,
 ) -> Result<LoadedBeside<'a, OFFSET_BITS>, AllocError>
     requires new { IsNewWriter question.now.fields.now writer.place.table_id (writer_of writer.place.me.0) }
     requires asks { CanAsk question.now.fields.now (length question.now.asks.now) (writer_of writer.place.me.0).sizes.shape }
-    requires seats { (writer_of writer.place.me.0).made + readers ≤ 64 }
+    requires first { IsFirst saving.now.field.now.kind saving.now.field.now.value (writer_of writer.place.me.0).sizes.shape }
+    requires seats { (writer_of writer.place.me.0).made + readers + one_if save ≤ 64 }
     requires some { 0 < batch }
     requires few { length ops.now < 2 ^ 32 }
     requires fit { AllByRecursion (OpFits question.now.fields.now) ops.now }
     ensures table { IfOk result (λ r. r.writer.place.table_id ≡ writer.entry.place.table_id) }
     ensures loads { IfOk result (λ r. LoadsInto question.now.fields.now batch ops.now (writer_of writer.entry.place.me.0)
         (writer_of r.writer.place.me.0) r.loaded) }
-    ensures made { IfOk result (λ r. (writer_of r.writer.place.me.0).made ≡ (writer_of writer.entry.place.me.0).made + readers) }
+    ensures made { IfOk result (λ r. (writer_of r.writer.place.me.0).made
+        ≡ (writer_of writer.entry.place.me.0).made + readers + one_if save) }
     ensures count { IfOk result (λ r. length r.readings.items ≡ readers) }
     ensures readings { IfOk result (λ r. AllByRecursion (λ reading. IfOk reading (λ x.
         HasRead question.now.counted (map ask_tree question.now.asks.now)
         (writer_of writer.entry.place.me.0) writer.entry.place.table_id rounds
         (reader_of x.reader.place.me.0) x.reader.place.table_id x.rounds.items)) r.readings.items) }
+    ensures asked { IfOk result (λ r. is_some r.saving ≡ save) }
+    ensures saving { IfOk result (λ r. IfSome r.saving (λ given. IfOk given (λ x.
+        HasSaved saving.now.field.now (writer_of writer.entry.place.me.0) writer.entry.place.table_id
+        (reader_of x.reader.place.me.0) x.reader.place.table_id x.rounds.items))) }
 {
     let mut writer = writer;
     let jobs = jobs_of(alloc, &mut writer, readers, rounds, question, gate)?;
-    let (writer, loaded, readings) = load_at(
+    let saver = saver_of(alloc, &mut writer, saving, save);
+    let (writer, loaded, readings, saving) = load_at(
         rt,
         alloc,
         writer,
@@ -181,10 +212,12 @@ pub fn load_beside<'a, const OFFSET_BITS: u32, R: Threads + Sync, G: Gate + Sync
         batch,
         gate,
         jobs,
+        saver,
     )?;
     Ok(LoadedBeside {
         writer,
         loaded,
         readings,
+        saving,
     })
 }

@@ -1,7 +1,12 @@
 use attr_loader::Loaded;
 use attr_rounds::{Round, Told};
-use attr_types::{Doc, FieldItems};
-use std::collections::BTreeMap;
+
+/// A save: of the table after so many operations.
+#[derive(Drop)]
+pub struct Save {
+    pub operations: u32,
+    pub bytes: Vec<u8>,
+}
 
 /// The progress of a run: what was loaded, the rounds of each reader, and the answers at everything loaded.
 #[derive(Drop)]
@@ -9,6 +14,6 @@ pub struct Came {
     pub loaded: Loaded,
     pub rounds: Vec<Vec<Round<Told>>>,
     pub last: Told,
-    /// The documents at the end, each with its items in the first attribute, if the table is saved.
-    pub documents: Option<BTreeMap<Doc, FieldItems>>,
+    /// The save, where the table is saved.
+    pub saved: Option<Save>,
 }

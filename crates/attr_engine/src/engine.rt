@@ -44,7 +44,7 @@ pub fn engine_run<const OFFSET_BITS: u32, R: Threads + Sync, G: Gate + Sync + 's
     ensures readers { IfErr result (IsGivenUp request.now.readers) }
 {
     let came = run_engine::<OFFSET_BITS, R, G>(rt, alloc, request, ops, gate)?;
-    let written = written_in(alloc, request, ops, &came)?;
+    let written = written_in(alloc, request, ops, came)?;
     Ok(written)
 }
 
@@ -53,14 +53,13 @@ fn written_in(
     alloc: Global,
     request: &Request,
     ops: &[Op],
-    came: &Came,
+    came: Came,
 ) -> Result<Written, AllocError>
-    requires came { IsCame (run_in request.now) ops.now came.now }
-    requires fit { AllByRecursion (OpFits request.now.fields) ops.now }
+    requires came { IsCame (run_in request.now) ops.now came }
     ensures { IfOk result (IsRunOf (run_in request.now) ops.now) }
 {
-    match &came.documents {
-        Some(documents) => saved_run(alloc, request, ops, came, documents),
-        None => written_of(alloc, request.make, came),
+    if came.saved.is_some() {
+        return saved_run(alloc, request, ops, came);
     }
+    written_of(alloc, request.make, &came)
 }

@@ -1,6 +1,7 @@
 //! A run over the running memory: operations are loaded and committed while readers answer.
 #![tactic(auto)]
 
+mod aside;
 mod beside;
 mod came;
 mod engine;
@@ -13,7 +14,7 @@ mod writing;
 mod written;
 
 pub use attr_loader::NoRoom;
-pub use came::Came;
+pub use came::{Came, Save};
 pub use engine::engine_run;
 pub use error::EngineError;
 pub use laws::came_law;

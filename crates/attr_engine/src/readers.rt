@@ -6,19 +6,19 @@ ghost use Rattle.word_arena.specs.Ruled.{reader_of, writer_of};
 ghost use Rattle.word_arena.specs.Released.{IsWholeRun};
 ghost use Rattle.attr_images.specs.Images.{attr_reaches, IsLawfulImage};
 ghost use Rattle.attr_rounds.specs.Lines.{CanAsk};
-ghost use Rattle.attr_images.specs.Shapes.{shape_of, types_of};
+ghost use Rattle.attr_saver.specs.Images.{IsFirst};
 ghost use Rattle.attr_types.specs.Scores.{ask_tree};
-ghost use Rattle.attr_types.specs.declared.field.TheConstants.{MOST_FIELDS};
-ghost use Rattle.attr_engine.specs.Steps.{saves_of, KeepsWriter, IsReader, IsReading, IsTakenFrom, AreRoundsOf};
+ghost use Rattle.attr_rounds.specs.Saves.{saves_of};
+ghost use Rattle.attr_engine.specs.Steps.{KeepsWriter, IsReader, IsReading, IsTakenFrom, AreRoundsOf};
 ghost use Rattle.attr_engine.specs.Rounds.{operations_of};
 ghost use Rattle.attr_engine.specs.Steps.{IsLastAnswer};
+ghost use Rattle.attr_engine.specs.Saver.{one_if, IsSaverDone, IsSaveIn};
 
+use crate::came::Save;
 use attr_images::AttrLayout;
 use attr_io::{Gate, NoGate, run_each};
-use attr_rounds::{Asked, Job, Question, Reading, Round, Saving, Told, go_round, take_in};
-use attr_types::{Doc, FieldItems, Fields};
+use attr_rounds::{Asked, Job, Question, Reading, Round, Saver, Saving, Told, go_round, take_in};
 use std::alloc::{AllocError, Global};
-use std::collections::BTreeMap;
 use std::thread::Threads;
 use word_arena::{Reader, Writer};
 
@@ -150,28 +150,96 @@ pub fn last_answer<'a, const OFFSET_BITS: u32, Q: Question<OFFSET_BITS, AttrLayo
     }
 }
 
-/// Returns the documents of the last commit, each with its items in the first attribute, if the table is saved.
-pub fn last_documents<'a, const OFFSET_BITS: u32>(
+/// The saver of a run that saves beside the loading: one more reader, which has seen the last commit.
+pub fn saver_of<'a, const OFFSET_BITS: u32, G: Gate>(
     alloc: Global,
     writer: &mut Writer<'a, OFFSET_BITS, AttrLayout>,
-    fields: &Fields,
+    saving: &'a Saving<'a, G>,
     save: bool,
-) -> Result<Option<BTreeMap<Doc, FieldItems>>, AllocError>
-    requires some { 0 < length fields.now }
-    requires few { length fields.now ≤ MOST_FIELDS }
-    requires shape { (writer_of writer.old.place.me.0).sizes.shape ≡ shape_of (types_of fields.now) }
+) -> Option<Saver<'a, OFFSET_BITS, G>>
+    requires { (writer_of writer.old.place.me.0).made + one_if save ≤ 64 }
+    ensures asked { is_some result ≡ save }
+    ensures saver { IfSome result (λ saver. IsReader (writer_of writer.old.place.me.0) writer.old.place.table_id
+        (reader_of saver.reader.place.me.0) saver.reader.place.table_id × (saver.saving.now ≡ saving.now)) }
+    ensures made { (writer_of writer.new.place.me.0).made ≡ (writer_of writer.old.place.me.0).made + one_if save }
+    ensures keeps { KeepsWriter (writer_of writer.old.place.me.0) (writer_of writer.new.place.me.0) }
+    ensures table { writer.new.place.table_id ≡ writer.old.place.table_id }
+{
+    if !save {
+        return None;
+    }
+    let reader = reader_in(writer);
+    Some(Saver {
+        alloc,
+        reader,
+        saving,
+    })
+}
+
+/// The save of a saver, which is taken in.
+fn take_save<'a, const OFFSET_BITS: u32, G: Gate>(
+    writer: &mut Writer<'a, OFFSET_BITS, AttrLayout>,
+    reading: Reading<'a, OFFSET_BITS, AttrLayout, Vec<u8>>,
+    saving: &Saving<'_, G>,
+) -> Save
+    requires { IsSaverDone saving.now.field.now (writer_of writer.old.place.me.0).sizes.shape writer.old.place.table_id
+        (reader_of reading.reader.place.me.0) reading.reader.place.table_id reading.rounds.items }
+    ensures save { IsSaveIn saving.now.field.now (writer_of writer.old.place.me.0) result }
+    ensures made { (writer_of writer.new.place.me.0).made ≡ (writer_of writer.old.place.me.0).made }
+    ensures keeps { KeepsWriter (writer_of writer.old.place.me.0) (writer_of writer.new.place.me.0) }
+    ensures table { writer.new.place.table_id ≡ writer.old.place.table_id }
+{
+    let mut rounds = take_in(writer, reading, saving);
+    match rounds.pop() {
+        Some(round) => Save {
+            operations: round.operations,
+            bytes: round.answer,
+        },
+        None => unreachable!(),
+    }
+}
+
+/// The save that was made beside the loading, if one was.
+pub fn take_saved<'a, const OFFSET_BITS: u32, G: Gate>(
+    writer: &mut Writer<'a, OFFSET_BITS, AttrLayout>,
+    given: Option<Result<Reading<'a, OFFSET_BITS, AttrLayout, Vec<u8>>, AllocError>>,
+    saving: &Saving<'_, G>,
+) -> Result<Option<Save>, AllocError>
+    requires { IfSome given (λ reading. IfOk reading (λ r. IsSaverDone saving.now.field.now (writer_of writer.old.place.me.0).sizes.shape
+        writer.old.place.table_id (reader_of r.reader.place.me.0) r.reader.place.table_id r.rounds.items)) }
+    ensures asked { IfOk result (λ saved. is_some saved ≡ is_some given.entry) }
+    ensures save { IfOk result (λ saved. IfSome saved (IsSaveIn saving.now.field.now (writer_of writer.old.place.me.0))) }
+    ensures made { (writer_of writer.new.place.me.0).made ≡ (writer_of writer.old.place.me.0).made }
+    ensures keeps { KeepsWriter (writer_of writer.old.place.me.0) (writer_of writer.new.place.me.0) }
+    ensures table { writer.new.place.table_id ≡ writer.old.place.table_id }
+{
+    match given {
+        Some(reading) => {
+            let save = take_save(writer, reading?, saving);
+            Ok(Some(save))
+        }
+        None => Ok(None),
+    }
+}
+
+/// The save of the last commit, by one more reader, where the table is saved after the loading.
+pub fn last_saved<'a, const OFFSET_BITS: u32, G: Gate>(
+    alloc: Global,
+    writer: &mut Writer<'a, OFFSET_BITS, AttrLayout>,
+    saving: &Saving<'_, G>,
+    save: bool,
+    operations: u32,
+) -> Result<Option<Save>, AllocError>
+    requires first { IsFirst saving.now.field.now.kind saving.now.field.now.value (writer_of writer.old.place.me.0).sizes.shape }
     requires seat { (writer_of writer.old.place.me.0).made < 64 }
-    ensures asked { IfOk result (λ documents. is_some documents ≡ save) }
-    ensures last { IfOk result (λ documents. IfSome documents (IsLastAnswer operations_of saves_of (writer_of writer.old.place.me.0))) }
+    ensures asked { IfOk result (λ saved. is_some saved ≡ save) }
+    ensures count { IfOk result (λ saved. IfSome saved (λ s. s.operations ≡ operations)) }
+    ensures last { IfOk result (λ saved. IfSome saved (λ s. IsLastAnswer operations_of (saves_of saving.now.field.now)
+        (writer_of writer.old.place.me.0) s.bytes)) }
 {
     if !save {
         return Ok(None);
     }
-    match fields.as_slice() {
-        [field, ..] => {
-            let documents = last_answer(alloc, writer, &Saving { fields, field })?;
-            Ok(Some(documents))
-        }
-        [] => unreachable!(),
-    }
+    let bytes = last_answer(alloc, writer, saving)?;
+    Ok(Some(Save { operations, bytes }))
 }

@@ -1,8 +1,10 @@
 //! A run: the loading with its readers, and the last answers.
-ghost use Rattle.std.specs.Prelude.{◌≡◌, ◌≤◌, ◌<◌, ◌+◌, ◌*◌, ◌^◌, length, map, if◌then◌else◌, IfOk, IfErr};
+ghost use Rattle.std.specs.Prelude.{◌≡◌, ◌≤◌, ◌<◌, ◌+◌, ◌*◌, ◌^◌, length, map, slice_get, is_some, Some, IfOk, IfErr, IfSome};
+ghost use Rattle.std.specs.Prelude.{if◌then◌else◌};
 ghost use Rattle.std.specs.List.{AllByRecursion};
 ghost use Rattle.entry_ref.specs.References.{buffer_limit, offset_limit};
 ghost use Rattle.word_arena.specs.Ruled.{writer_of};
+ghost use Rattle.attr_images.specs.Shapes.{shape_of, types_of};
 ghost use Rattle.attr_types.specs.Scores.{ask_tree};
 ghost use Rattle.attr_types.specs.Lawful.{OpFits};
 ghost use Rattle.attr_types.specs.declared.field.TheConstants.{MOST_FIELDS};
@@ -10,20 +12,22 @@ ghost use Rattle.attr_report.specs.Run.{run_in};
 ghost use Rattle.attr_engine.specs.Rounds.{IsCame};
 ghost use Rattle.attr_engine.specs.Happenings.{HasHistory};
 ghost use Rattle.attr_engine.specs.Run.{IsGivenUp};
+ghost use Rattle.attr_saver.specs.Images.{IsFirst};
+ghost use Rattle.attr_engine.specs.Saver.{one_if, save_parts, IsSaveIn};
 ghost use Rattle.attr_engine.specs.Steps.{parts, IsNewWriter, IsQuestionOf, LoadsInto, AreRoundsOf};
 ghost use Rattle.attr_rounds.specs.Lines.{CanAsk};
 ghost use Rattle.gen_core.specs.Views.{last_number};
 
 use crate::beside::load_beside;
-use crate::came::Came;
+use crate::came::{Came, Save};
 use crate::error::EngineError;
-use crate::readers::{last_answer, last_documents, read_after, take_all};
+use crate::readers::{last_answer, last_saved, read_after, take_all, take_saved};
 use attr_images::{AttrLayout, shape_of};
 use attr_io::Gate;
 use attr_loader::Loaded;
 use attr_report::Request;
-use attr_rounds::{Asked, Round, Told};
-use attr_types::Op;
+use attr_rounds::{Asked, Round, Saving, Told};
+use attr_types::{Field, Fields, Op};
 use std::alloc::{AllocError, Global};
 use std::thread::Threads;
 use word_arena::{Arena, Config, Limits, Writer};
@@ -45,15 +49,29 @@ fn chosen(
     if after { later } else { first }
 }
 
-/// The writer after the loading, how much was loaded, and the rounds of the readers beside it.
+/// Whether the table is saved beside the loading, and whether after it.
+fn save_parts(after: bool, save: bool) -> (bool, bool)
+    ensures { result ≡ save_parts after save }
+{
+    if after { (false, save) } else { (save, false) }
+}
+
+fn chosen_save(after: bool, later: Option<Save>, first: Option<Save>) -> Option<Save>
+    ensures { result ≡ (if after then later else first) }
+{
+    if after { later } else { first }
+}
+
+/// The writer after the loading, how much was loaded, the rounds of the readers beside it, and the save if one was made.
 #[derive(Drop)]
 pub struct LoadedFirst<'a, const OFFSET_BITS: u32> {
     pub writer: Writer<'a, OFFSET_BITS, AttrLayout>,
     pub loaded: Loaded,
     pub first: Vec<Vec<Round<Told>>>,
+    pub saved: Option<Save>,
 }
 
-/// Loads operations beside readers, and joins the readers.
+/// Loads operations beside so many readers, and beside a saver where the table is saved, and takes these in.
 fn load_first<'a, const OFFSET_BITS: u32, R: Threads + Sync, G: Gate + Sync + 'static>(
     rt: &R,
     alloc: Global,
@@ -63,33 +81,48 @@ fn load_first<'a, const OFFSET_BITS: u32, R: Threads + Sync, G: Gate + Sync + 's
     readers: u32,
     rounds: u32,
     question: &'a Asked<'a>,
+    saving: &'a Saving<'a, G>,
+    save: bool,
     gate: &'a G,
 ) -> Result<LoadedFirst<'a, OFFSET_BITS>, AllocError>
     requires new { IsNewWriter question.now.fields.now writer.place.table_id (writer_of writer.place.me.0) }
     requires asks { CanAsk question.now.fields.now (length question.now.asks.now) (writer_of writer.place.me.0).sizes.shape }
-    requires seats { (writer_of writer.place.me.0).made + readers ≤ 64 }
+    requires first { IsFirst saving.now.field.now.kind saving.now.field.now.value (writer_of writer.place.me.0).sizes.shape }
+    requires seats { (writer_of writer.place.me.0).made + readers + one_if save ≤ 64 }
     requires some { 0 < batch }
     requires few { length ops.now < 2 ^ 32 }
     requires fit { AllByRecursion (OpFits question.now.fields.now) ops.now }
     ensures loads { IfOk result (λ r. LoadsInto question.now.fields.now batch ops.now (writer_of writer.entry.place.me.0)
         (writer_of r.writer.place.me.0) r.loaded) }
-    ensures made { IfOk result (λ r. (writer_of r.writer.place.me.0).made ≡ (writer_of writer.entry.place.me.0).made + readers) }
+    ensures made { IfOk result (λ r. (writer_of r.writer.place.me.0).made
+        ≡ (writer_of writer.entry.place.me.0).made + readers + one_if save) }
     ensures count { IfOk result (λ r. length r.first.items ≡ readers) }
     ensures rounds { IfOk result (λ r. AllByRecursion
         (λ x. AreRoundsOf question.now.counted (map ask_tree question.now.asks.now) (writer_of r.writer.place.me.0).sizes.shape
         (last_number (writer_of writer.entry.place.me.0).commits) rounds (writer_of r.writer.place.me.0).commits x.items) r.first.items) }
+    ensures asked { IfOk result (λ r. is_some r.saved ≡ save) }
+    ensures saved { IfOk result (λ r. IfSome r.saved (IsSaveIn saving.now.field.now (writer_of r.writer.place.me.0))) }
 {
     let beside = load_beside(
-        rt, alloc, writer, ops, batch, readers, rounds, question, gate,
+        rt, alloc, writer, ops, batch, readers, rounds, question, saving, save, gate,
     )?;
     let mut writer = beside.writer;
     let first = take_all(alloc, &mut writer, beside.readings, question)?;
+    let saved = take_saved(&mut writer, beside.saving, saving)?;
     Ok(LoadedFirst {
         writer,
         loaded: beside.loaded,
         first,
+        saved,
     })
 }
+
+/// Images of these attributes have the first of them first. It does nothing: its contract is the law.
+fn first_law(_fields: &Fields, _field: &Field)
+    requires few { length _fields.now ≤ MOST_FIELDS }
+    requires first { slice_get _fields.now 0 ≡ Some _field.now }
+    ensures { IsFirst _field.now.kind _field.now.value (shape_of (types_of _fields.now)) }
+{}
 
 /// The greatest number of readers of a run: a memory has 64 seats, and the last answers take two.
 const MOST_READERS: u32 = 62;
@@ -102,6 +135,7 @@ fn run_over<'a, const OFFSET_BITS: u32, R: Threads + Sync, G: Gate + Sync + 'sta
     request: &Request,
     ops: &'a [Op],
     question: &'a Asked<'a>,
+    saving: &'a Saving<'a, G>,
     gate: &'a G,
 ) -> Result<Came, AllocError>
     requires new { IsNewWriter request.now.fields writer.place.table_id (writer_of writer.place.me.0) }
@@ -111,12 +145,15 @@ fn run_over<'a, const OFFSET_BITS: u32, R: Threads + Sync, G: Gate + Sync + 'sta
     requires words { (writer_of writer.place.me.0).sizes.words ≡ request.now.words }
     requires question { IsQuestionOf (run_in request.now) question.now.fields.now question.now.counted (map ask_tree question.now.asks.now)
         (length question.now.asks.now) }
+    requires field { slice_get request.now.fields 0 ≡ Some saving.now.field.now }
     requires some { 0 < request.now.batch }
     requires few { length ops.now < 2 ^ 32 }
     requires fit { AllByRecursion (OpFits request.now.fields) ops.now }
     ensures { IfOk result (IsCame (run_in request.now) ops.now) }
 {
+    first_law(&request.fields, saving.field);
     let (beside, behind) = parts(request.after, request.readers);
+    let (save, save_behind) = save_parts(request.after, request.save);
     let loading = load_first(
         rt,
         alloc,
@@ -126,6 +163,8 @@ fn run_over<'a, const OFFSET_BITS: u32, R: Threads + Sync, G: Gate + Sync + 'sta
         beside,
         request.rounds,
         question,
+        saving,
+        save,
         gate,
     )?;
     let mut writer = loading.writer;
@@ -139,14 +178,26 @@ fn run_over<'a, const OFFSET_BITS: u32, R: Threads + Sync, G: Gate + Sync + 'sta
         gate,
     )?;
     let last = last_answer(alloc, &mut writer, question)?;
-    let documents = last_documents(alloc, &mut writer, &request.fields, request.save)?;
+    let operations = loading.loaded.operations;
+    let saved = last_saved(alloc, &mut writer, saving, save_behind, operations)?;
     let rounds = chosen(request.after, later, loading.first);
+    let saved = chosen_save(request.after, saved, loading.saved);
     Ok(Came {
         loaded: loading.loaded,
         rounds,
         last,
-        documents,
+        saved,
     })
+}
+
+fn first_of(fields: &Fields) -> &Field
+    requires { 0 < length fields.now }
+    ensures { slice_get fields.now 0 ≡ Some result.now }
+{
+    match fields.as_slice() {
+        [field, ..] => field,
+        [] => unreachable!(),
+    }
 }
 
 /// Makes a run over a new memory: its operations are loaded and committed, its readers answer beside the loading or
@@ -193,6 +244,12 @@ pub fn run_engine<const OFFSET_BITS: u32, R: Threads + Sync, G: Gate + Sync + 's
         asks: request.asks.as_slice(),
         counted: request.make.is_some(),
     };
-    let came = run_over::<OFFSET_BITS, R, G>(rt, alloc, writer, request, ops, &question, gate)?;
+    let saving = Saving {
+        field: first_of(&request.fields),
+        gate,
+    };
+    let came = run_over::<OFFSET_BITS, R, G>(
+        rt, alloc, writer, request, ops, &question, &saving, gate,
+    )?;
     Ok(came)
 }

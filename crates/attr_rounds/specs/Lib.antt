@@ -1,4 +1,4 @@
 pub mod Rounds
 pub mod Posts
 pub mod Lines
-pub mod Columns
+pub mod Saves

@@ -3,7 +3,7 @@
 //!
 //! The asks of a run are answered at an image as lines of the report.
 //!
-//! The documents of an attribute of an image are read with their items.
+//! A reader saves a commit, and the documents of an attribute of an image are read with their items.
 #![tactic(auto)]
 
 mod asked;
@@ -23,5 +23,5 @@ pub use job::Job;
 pub use question::Question;
 pub use reading::documents_in;
 pub use rounds::{ROUNDS_ON_A_HOLD, Reading, Round, go_round};
-pub use saving::Saving;
+pub use saving::{Saver, Saving, saved_image};
 pub use taking::take_in;

@@ -184,7 +184,7 @@ fn save_at<R: Threads + Sync>(
     let alloc = rt.alloc();
     let words = words_in(
         alloc,
-        "--kind single --value long --readers 0 --buffers 8 --words 8192 --save 5",
+        "--kind single --value long --readers 0 --buffers 8 --words 8192 --after --save 5",
     )?;
     let mut source = FakeSource::create(alloc, FEED.as_bytes(), 5, &[])?;
     let mut sink = FakeSink::create(alloc, 100, 4, &[call])?;

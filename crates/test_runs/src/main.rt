@@ -9,6 +9,7 @@ mod program;
 mod rounds;
 mod rows;
 mod run;
+mod saver;
 mod turns;
 
 use attr_run::{Outcome, exit_of};
@@ -21,7 +22,8 @@ fn compare_all<R: Threads + Sync>(rt: &HostRuntime, threads: &R) -> io::Result<(
     exits::compare(rt, threads)?;
     devices::compare(rt, threads)?;
     program::compare(rt, threads)?;
-    turns::compare(rt, threads)
+    turns::compare(rt, threads)?;
+    saver::compare(rt, threads)
 }
 
 /// Makes all comparisons, and then a run that runs out of space.

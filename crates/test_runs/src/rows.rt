@@ -10,9 +10,11 @@
 //! the loading. Each round has the lines of one of the commit points given before by `point LINE`, and they never
 //! fall.
 //!
+//! - `torture RUNS COMMITS`: RUNS runs of COMMITS commits each, with a save beside the loading. Each save must be that of its operations.
+//!
 //! Other lines are comments.
-use crate::rounds;
 use crate::run::{room, saved, told, words_in};
+use crate::{rounds, saver};
 use std::alloc::{AllocError, Global};
 use std::io;
 use std::thread::Threads;
@@ -264,6 +266,14 @@ fn compare_saved<R: Threads + Sync>(
     tally.note(rt, &row.words, &found, wanted)
 }
 
+/// The number at this place of a line, 0 where there is none.
+fn number_in(line: &str, place: usize) -> u64 {
+    match line.split(' ').skip(place).next() {
+        Some(word) => word.parse::<u64>().unwrap_or(0),
+        None => 0,
+    }
+}
+
 /// Compares the result of a row with a line, unless the line is a comment.
 fn compare_row<R: Threads + Sync>(
     rt: &HostRuntime,
@@ -278,6 +288,7 @@ fn compare_row<R: Threads + Sync>(
         "beside" => compare_beside(rt, threads, &mut tallies.beside, row, wanted),
         "room" => compare_room(rt, threads, &mut tallies.full, row, wanted),
         "saved" => compare_saved(rt, threads, &mut tallies.saves, row, wanted),
+        "torture" => saver::torture(rt, threads, number_in(wanted, 0), number_in(wanted, 1)),
         _ => Ok(()),
     }
 }

@@ -89,6 +89,7 @@ impl Gate for Turns {
     fn pass(&self, point: Point) {
         match point {
             Point::Committed { commit, .. } => self.commit(commit),
+            Point::RoundStart { reader: 0, .. } => {}
             Point::RoundStart { round, .. } => self.start(round),
             Point::RoundEnd { .. } => {}
         }

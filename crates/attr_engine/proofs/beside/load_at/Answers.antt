@@ -12,7 +12,10 @@ run_loading-requires-after_bounds g c κs within = (
       can_load _ c.args.fields.now c.args.batch c.args.ops.now c.in_ok-attribute.attribute c.in_ok-attribute.ensures.fields c.requires.some c.requires.few c.requires.fit c.in_ok-attribute.ensures.start,
       (
         c.requires.others,
-        commits_left _ c.args.fields.now c.args.writer.place.table_id (writer_of c.args.writer.place.me.0) c.in_ok-attribute.attribute c.args.ops.now c.in_ok-attribute.ensures.start c.requires.new c.in_ok-attribute.ensures.work c.requires.few,
+        (
+          c.requires.aside,
+          commits_left _ c.args.fields.now c.args.writer.place.table_id (writer_of c.args.writer.place.me.0) c.in_ok-attribute.attribute c.args.ops.now c.in_ok-attribute.ensures.start c.requires.new c.in_ok-attribute.ensures.work c.requires.few,
+        ),
       ),
     ),
   ),
@@ -39,3 +42,6 @@ returns-clause-made g c =
 
 pub returns-clause-others : goal.returns-clause-others
 returns-clause-others g c = c.in_ok-attribute-2.ensures.others
+
+pub returns-clause-aside : goal.returns-clause-aside
+returns-clause-aside g c = c.in_ok-attribute-2.ensures.aside

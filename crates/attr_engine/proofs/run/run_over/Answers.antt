@@ -1,14 +1,17 @@
-use Rattle.std.proofs.Common.{◌≡◌, ◌∙◌, arith, ℕ, List, map, ap, subst}
-use Rattle.std.specs.Prelude.{is_some}
+use Rattle.std.proofs.Common.{◌≡◌, ◌∙◌, ℕ, List, map, refl, ap, subst, arith}
+use Rattle.std.specs.Prelude.{Bool, is_some}
 use Rattle.std.proofs.lemmas.Option.{IfSome_then}
 use Rattle.gen_core.specs.Views.{last_number}
 use Rattle.word_arena.specs.Ruled.{writer_of}
 use Rattle.attr_types.specs.Scores.{ask_tree}
 use Rattle.attr_types.specs.declared.field.Field.{Field}
 use Rattle.attr_report.specs.Run.{run_in}
-use Rattle.attr_engine.specs.Steps.{parts, saves_of, LoadsInto}
+use Rattle.attr_engine.specs.Steps.{parts, LoadsInto}
 use Rattle.attr_engine.specs.Rounds.{operations_of, tells_of}
-use Rattle.attr_engine.proofs.RunLemmas.{Documents, asked_as, last_as, last_on, came_of}
+use Rattle.attr_engine.proofs.RunLemmas.{asked_as, last_as, last_on, came_of}
+use Rattle.attr_engine.proofs.SaverLemmas.{chosen_asked, chosen_is, if_both, save_after, save_beside}
+use Rattle.attr_engine.specs.Rounds.{IsSaveOf}
+use Rattle.attr_rounds.specs.Saves.{saves_of}
 use Rattle.attr_engine.proofs.WriterLemmas.{keeps_on}
 use Rattle.attr_engine.proofs.run.run_over.Goals as goal
 
@@ -32,10 +35,21 @@ returns g c =
     let told = last_as counted (is_some run.make) asks run.asks q.counted_is q.asks_are v c.in_ok-last.last
     (last_on operations_of (tells_of counted asks) v x c.in_ok-last.last c.in_ok-later.ensures.keeps c.in_ok-last.ensures.last) in
     let y = writer_of c.last_answer.new.writer.place.me.0 in
-    let saved = IfSome_then c.in_ok-documents.documents c.in_ok-documents.ensures.last
-    (λ (documents : Documents). last_on operations_of saves_of v y documents (keeps_on v x y c.in_ok-later.ensures.keeps c.in_ok-last.ensures.keeps)) in
+    let field = c.args.saving.now.field.now in
+    let keeps = keeps_on v x y c.in_ok-later.ensures.keeps c.in_ok-last.ensures.keeps in
+    let shape = loads.shape_is ∙ c.requires.new.shape_is in
+    let count = loads.count in
+    let beside = λ beside_is. IfSome_then c.in_ok-loading.loading.saved has.saved
+    (λ save. save_beside run c.args.ops.now field c.requires.field loads.last v.commits loads.commits loads.count v.sizes.shape shape c.in_ok-loading.loading.loaded.operations loads.point v save refl refl beside_is) in
+    let behind = if_both _ _ (IsSaveOf run c.args.ops.now c.in_ok-loading.loading.loaded.operations) c.in_ok-saved.saved
+    (λ save n is. save_after run c.args.ops.now field c.requires.field loads.last v.commits loads.commits loads.count v.sizes.shape shape c.in_ok-loading.loading.loaded.operations loads.point v save refl refl n
+    (omega (arith, count)) (last_on operations_of (saves_of field) v y save.bytes keeps is)) c.in_ok-saved.ensures.count c.in_ok-saved.ensures.last in
+    let asked = chosen_asked run.after run.save c.in_ok-loading.loading.saved c.in_ok-saved.saved c.chosen_save-saved.result c.chosen_save-saved.ensures
+    (has.asked ∙ ap (λ (p : Bool × Bool). p.0) c.save_parts-save.ensures) (c.in_ok-saved.ensures.asked ∙ ap (λ (p : Bool × Bool). p.1) c.save_parts-save.ensures) in
+    let saves = chosen_is (IsSaveOf run c.args.ops.now c.in_ok-loading.loading.loaded.operations) run.after run.after c.in_ok-loading.loading.saved c.in_ok-saved.saved c.chosen_save-saved.result refl
+    c.chosen_save-saved.ensures beside behind in
     came_of run c.args.ops.now w v c.in_ok-loading.loading.loaded loads c.requires.buffers c.requires.words
     made c.requires.new.shape_is c.requires.new.commits
-    c.in_ok-loading.loading.first.items c.in_ok-later.later.items c.chosen-rounds.result c.in_ok-last.last c.in_ok-documents.documents c.chosen-rounds.ensures
+    c.in_ok-loading.loading.first.items c.in_ok-later.later.items c.chosen-rounds.result c.in_ok-last.last c.chosen_save-saved.result c.chosen-rounds.ensures
     (record { each = first; count = has.count ∙ ap (λ (p : ℕ × ℕ). p.0) c.parts-beside.ensures })
-    (record { each = later; count = c.in_ok-later.ensures.count ∙ ap (λ (p : ℕ × ℕ). p.1) c.parts-beside.ensures }) told c.in_ok-documents.ensures.asked saved
+    (record { each = later; count = c.in_ok-later.ensures.count ∙ ap (λ (p : ℕ × ℕ). p.1) c.parts-beside.ensures }) told asked saves
