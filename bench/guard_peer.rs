@@ -1,7 +1,8 @@
 //! What `bench/guard` compares with, in plain Rust. Each run prints the nanoseconds that it took.
-//! Usage: guard_peer add LOOPS | copy LOOPS | KIND READERS LOOPS COMMITS, where KIND is rwlock, arc, or one of four that do what the running
-//! memory does: packed and padded make guards, packed-again and padded-again load the root under one. Packed words stand side by side, as the
-//! formats have them, so that the root, the newest hold's name and eight holds share what a processor takes in at once. Padded words do not.
+//! Usage: guard_peer add LOOPS | copy LOOPS | KIND READERS LOOPS COMMITS, where KIND is rwlock, arc, or one of six that do what the running
+//! memory does: packed and padded make guards, packed-again and padded-again load the root under a hold that is kept, and packed-again-64 and
+//! padded-again-64 take a new hold after 64 loads. Packed words stand side by side, as the formats have them, so that the root, the newest
+//! hold's name and eight holds share what a processor takes in at once. Padded words do not.
 use std::collections::VecDeque;
 use std::hint::black_box;
 use std::sync::atomic::{AtomicBool, AtomicU64, Ordering::SeqCst};
@@ -79,12 +80,17 @@ impl Named {
         &self.words[i * self.stride]
     }
 
-    /// The root under a guard, which is given back.
-    fn guard(&self) -> u64 {
+    /// The root, loaded so often under a guard, which is given back.
+    fn guard(&self, looks: u64) -> u64 {
         loop {
             let hold = (self.at(1).load(SeqCst) % 65536) as usize;
             let open = self.at(2 + hold).fetch_add(2, SeqCst) % 2 == 0;
-            let root = if open { self.at(0).load(SeqCst) } else { 0 };
+            let mut root = 0;
+            if open {
+                for _ in 0..looks {
+                    root = black_box(self.at(0).load(SeqCst));
+                }
+            }
             self.at(2 + hold).fetch_sub(2, SeqCst);
             if open {
                 return root;
@@ -118,10 +124,13 @@ const APART: usize = 16;
 fn named(words: &[String], readers: u64, loops: u64, commits: u64) -> u64 {
     let stride = if words[0].starts_with("padded") { APART } else { 1 };
     let named = Named::new(stride);
+    let commit = |n| named.commit(n);
     if words[0].ends_with("again") {
-        beside(readers, loops, commits, || named.at(0).load(SeqCst), |n| named.commit(n))
+        beside(readers, loops, commits, || named.at(0).load(SeqCst), commit)
+    } else if words[0].ends_with("again-64") {
+        beside(readers, loops / 64, commits, || named.guard(64), commit) * 64
     } else {
-        beside(readers, loops, commits, || named.guard(), |n| named.commit(n))
+        beside(readers, loops, commits, || named.guard(1), commit)
     }
 }
 
@@ -146,7 +155,7 @@ fn main() {
             let root = Arc::new(AtomicU64::new(0));
             beside(number(1), number(2), number(3), || Arc::clone(&root).load(SeqCst), |n| root.store(n, SeqCst))
         }
-        Some("packed" | "padded" | "packed-again" | "padded-again") => named(&words, number(1), number(2), number(3)),
+        Some(kind) if kind.starts_with("packed") || kind.starts_with("padded") => named(&words, number(1), number(2), number(3)),
         _ => panic!("guard_peer add LOOPS | copy LOOPS | KIND READERS LOOPS COMMITS"),
     };
     println!("{looks} looks {} ns", start.elapsed().as_nanos());

@@ -9,11 +9,13 @@ use word_arena::{Again, Arena, Config, Limits, Reader, Writer};
 /// The load of a run.
 #[derive(Clone, Copy)]
 pub enum Load {
+    /// Each reader takes `loops` guards, and loads the root `looks` times under each; with commits, until the last one
+    /// is seen.
     Guards {
         readers: u32,
         loops: u64,
         commits: u32,
-        keeps: bool,
+        looks: u32,
     },
     Read {
         loops: u64,
@@ -33,7 +35,7 @@ struct Job<'a> {
     post: Post<'a>,
     loops: u64,
     commits: u32,
-    keeps: bool,
+    looks: u32,
 }
 
 /// A reader, how often it looked, and the last commit that it saw.
@@ -44,18 +46,18 @@ struct Looked<'a> {
     seen: u32,
 }
 
-/// Takes a guard and loads the root again under it, 64 looks in all.
-fn look_on<'a>(reader: Reader<'a, 22, OneNode>) -> Looked<'a> {
+/// Takes a guard and loads the root again under it, `looks` times in all.
+fn look_on<'a>(reader: Reader<'a, 22, OneNode>, looks: u32) -> Looked<'a> {
     match reader.try_guard() {
         Ok(guard) => {
             let mut guard = guard;
-            for _ in 1..64 {
+            for _ in 1..looks {
                 guard = guard.again();
             }
             let seen = guard.commit();
             Looked {
                 reader: guard.release(),
-                looks: 64,
+                looks: u64::from(looks),
                 seen,
             }
         }
@@ -70,18 +72,18 @@ fn look_on<'a>(reader: Reader<'a, 22, OneNode>) -> Looked<'a> {
     }
 }
 
-/// Looks under guards that are kept: about `loops` times, or until this commit is seen.
-fn looks(reader: Reader<'_, 22, OneNode>, loops: u64, last: u32) -> u64 {
+/// Looks under guards that are kept: `loops` guards of `looks` looks each, or until this commit is seen.
+fn look(reader: Reader<'_, 22, OneNode>, loops: u64, looks: u32, last: u32) -> u64 {
     let mut reader = reader;
     let mut counted = 0u64;
-    for _ in 0..loops / 64 {
+    for _ in 0..loops {
         let Looked {
             reader: next,
-            looks,
+            looks: made,
             seen,
-        } = look_on(reader);
+        } = look_on(reader, looks);
         reader = next;
-        counted = counted.saturating_add(looks);
+        counted = counted.saturating_add(made);
         if last > 0 && seen >= last {
             break;
         }
@@ -129,7 +131,7 @@ fn work_on(job: Job<'_>) -> u64 {
         post,
         loops,
         commits: most,
-        keeps,
+        looks,
     } = job;
     match post {
         Post::Write(writer) => {
@@ -138,8 +140,8 @@ fn work_on(job: Job<'_>) -> u64 {
             0
         }
         Post::Read(reader) => {
-            if keeps {
-                looks(reader, loops, most)
+            if looks > 1 {
+                look(reader, loops, looks, most)
             } else {
                 guards(reader, loops, most)
             }
@@ -154,7 +156,7 @@ fn jobs_of<'a>(
     readers: u32,
     loops: u64,
     commits: u32,
-    keeps: bool,
+    looks: u32,
 ) -> Result<Vec<Job<'a>>, AllocError> {
     let mut writer = writer;
     let mut jobs = Vec::new(alloc);
@@ -164,7 +166,7 @@ fn jobs_of<'a>(
                 post: Post::Read(reader),
                 loops,
                 commits,
-                keeps,
+                looks,
             };
             if jobs.push(job).is_err() {
                 return Err(AllocError);
@@ -175,7 +177,7 @@ fn jobs_of<'a>(
         post: Post::Write(writer),
         loops,
         commits,
-        keeps,
+        looks,
     };
     if jobs.push(job).is_err() {
         return Err(AllocError);
@@ -247,9 +249,9 @@ pub fn count<R: Threads + Sync>(rt: &R, alloc: Global, load: Load) -> Result<u64
             readers,
             loops,
             commits,
-            keeps,
+            looks,
         } => {
-            let jobs = jobs_of(alloc, writer, readers, loops, commits, keeps)?;
+            let jobs = jobs_of(alloc, writer, readers, loops, commits, looks)?;
             let mut counted = 0u64;
             for part in work_all(rt, jobs)? {
                 counted = counted.saturating_add(part);

@@ -1,6 +1,6 @@
 //! `bench_arena guards READERS LOOPS COMMITS`: readers take LOOPS guards each, or, if COMMITS is not 0, guards until
-//! the last commit. `bench_arena again READERS LOOPS COMMITS`: the same, with each guard kept over 64 loads of the
-//! root. `bench_arena read LOOPS`: reads of a node of 34 words under one guard. The counts are printed.
+//! the last commit. `bench_arena again READERS LOOPS COMMITS LOOKS`: the same, with each guard kept over LOOKS loads of
+//! the root. `bench_arena read LOOPS`: reads of a node of 34 words under one guard. The counts are printed.
 #![tactic(auto)]
 
 mod load;
@@ -17,11 +17,15 @@ fn load_in(rt: &HostRuntime) -> Option<Load> {
             let readers = words.next()?.parse::<u32>().ok()?;
             let loops = words.next()?.parse::<u64>().ok()?;
             let commits = words.next()?.parse::<u32>().ok()?;
+            let looks = match words.next() {
+                Some(word) => word.parse::<u32>().ok()?,
+                None => 1,
+            };
             Some(Load::Guards {
                 readers,
                 loops,
                 commits,
-                keeps: name.as_str() == "again",
+                looks,
             })
         }
         "read" => {
