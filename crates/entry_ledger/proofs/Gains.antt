@@ -2,7 +2,7 @@
 use Rattle.std.proofs.Common.{◌≡◌, ℕ, zero, suc, ◌+◌, ◌-◌, ◌<◌, ◌≤◌, Bool, true, false, not, ◌&&◌, cond, eqb, List, [], ◌∷◌, ◌++◌, take, length, get_or, set, Option, refl, sym, ap, subst, ◌∙◌, arith, inl, inr}
 use Rattle.std.proofs.Common.{get_or-set_other, get_or-set_same}
 use Rattle.std.specs.Prelude.{nat_lt}
-use Rattle.std.specs.List.{count_by}
+use Rattle.std.specs.List.{count_by, remove}
 use Rattle.std.proofs.Math.ListN.{length-set}
 use Rattle.std.proofs.lemmas.List.{take_more, set-get_or}
 use Rattle.std.proofs.Math.Seq.{take-length}
@@ -18,7 +18,7 @@ use Rattle.entry_ledger.proofs.StackSteps.{stack-keep, stack-pop, stack-room, co
 use Rattle.entry_ledger.proofs.Settling.{dropped-touched, dropped-kept}
 use Rattle.entry_ledger.specs.Shelves.{ShelvesView, shelf_at, row_of, filled_at}
 use Rattle.entry_ledger.specs.ShelvesKept.{StackView, stack_at, has_spare_in, IsRow, IsOfWidth, AreShelves}
-use Rattle.entry_ledger.proofs.Steps.{row-keep, row-pop, row-gain, of-width, other-width, rows-set, something-spare, empty-none, sealed-none}
+use Rattle.entry_ledger.proofs.Steps.{row-keep, row-remove, row-gain, of-width, other-width, rows-set, something-spare, empty-none, sealed-none}
 use Rattle.entry_ledger.proofs.Making.{made-taken, made-length, can-from, state-can}
 
 -- what holds of each shelf, where one is another
@@ -136,60 +136,77 @@ module _ (words : ℕ) (shelves : List ShelfView) (made : List ℕ) (filled : Li
       lists true = refl
       lists false = set-get_or stacks (row_of old.width) (record { list = []; room = 0 })
 
-  -- an entry is made, where this shelf was put last on the stack of its width
-  takes : (x : ℕ) → can_make old ≡ true → is_width old.width ≡ true → IsOpen old x → (rest : List ℕ) → (stack_at stacks old.width).list ≡ rest ++ b ∷ []
-      → (can : Bool) → can ≡ can_make (with_made old x)
+  -- an entry is made, and this is the stack of the shelf's width then
+  makes-one : (x : ℕ) → is_width old.width ≡ true → IsOpen old x → (row : StackView) → IsRow (set shelves b (with_made old x)) (filled_at filled old.width) row old.width
       → (after : StackView) → IsStack empty_shelf has_touched (set shelves b (with_made old x)) after.list → length shelves ≤ after.room
       → (counts : List ℕ) → length counts ≡ 11
-      → AreShelves words (set shelves b (with_made old x)) counts filled
-      (set stacks (row_of old.width) (cond (not can) (record (stack_at stacks old.width) { list = rest }) (stack_at stacks old.width))) after
-  takes x could valid open_is rest last can can_is after touches room counts eleven =
+      → AreShelves words (set shelves b (with_made old x)) counts filled (set stacks (row_of old.width) row) after
+  makes-one x valid open_is row row_is after touches room counts eleven =
       let new = with_made old x in
       let of = k.each_shelf b in
-      let row = k.each_row old.width valid in
       let long = length-set {A = ShelfView} shelves b new in
       record {
         few = omega (arith, k.few, long);
         made_rows = eleven;
         filled_rows = k.filled_rows;
-        stack_rows = length-set {A = StackView} stacks (row_of old.width) _ ∙ k.stack_rows;
-        each_row = rows-set shelves filled filled stacks old.width b new _ k.stack_rows valid h refl
-            (λ w is ne. other-width w old (λ e. ne (sym e))) (λ w ne. refl) k.each_row (by_test can can_is);
+        stack_rows = length-set {A = StackView} stacks (row_of old.width) row ∙ k.stack_rows;
+        each_row = rows-set shelves filled filled stacks old.width b new row k.stack_rows valid h refl
+            (λ w is ne. other-width w old (λ e. ne (sym e))) (λ w ne. refl) k.each_row row_is;
         each_shelf = each-set (IsOfWidth words) shelves b new h (record { width = of.width; room = of.room; taken = made-taken old x of.taken open_is }) k.each_shelf;
         touched_is = touches;
         touched_room = omega (arith, room, long);
       }
-    where
-      less_before : length (with_made old x).states < (with_made old x).room → length old.states < old.room
-      less_before less = omega (arith, less, made-length old x open_is)
 
-      no_room : can_make (with_made old x) ≡ false → length (with_made old x).states < (with_made old x).room → ⊥
-      no_room out less = true≢false (sym (can-from (with_made old x) (something-spare old could).0 less) ∙ out)
+  less_before : (x : ℕ) → IsOpen old x → length (with_made old x).states < (with_made old x).room → length old.states < old.room
+  less_before x open_is less = omega (arith, less, made-length old x open_is)
 
-      by_test : (t : Bool) → t ≡ can_make (with_made old x)
-          → IsRow (set shelves b (with_made old x)) (filled_at filled old.width) (cond (not t) (record (stack_at stacks old.width) { list = rest }) (stack_at stacks old.width)) old.width
-      by_test true e = row-keep shelves (filled_at filled old.width) (stack_at stacks old.width) old.width b (with_made old x) h (k.each_row old.width valid)
-          (of-width old.width (with_made old x) refl ∙ sym e ∙ sym could ∙ sym (of-width old.width old refl))
-          (λ wide less. (k.each_row old.width valid).unmade b refl (less_before less))
-      by_test false e = row-pop shelves (filled_at filled old.width) (stack_at stacks old.width) old.width b (with_made old x) h (k.each_row old.width valid)
-          rest last (of-width old.width (with_made old x) refl ∙ sym e) (λ wide less. no_room (sym e) less)
+  -- the shelf stays on its stack, since there is one to spare still
+  row-stays : (x : ℕ) → can_make old ≡ true → is_width old.width ≡ true → IsOpen old x → can_make (with_made old x) ≡ true
+      → IsRow (set shelves b (with_made old x)) (filled_at filled old.width) (stack_at stacks old.width) old.width
+  row-stays x could valid open_is can =
+      row-keep shelves (filled_at filled old.width) (stack_at stacks old.width) old.width b (with_made old x) h (k.each_row old.width valid)
+      (of-width old.width (with_made old x) refl ∙ can ∙ sym could ∙ sym (of-width old.width old refl))
+      (λ wide less. (k.each_row old.width valid).unmade b refl (less_before x open_is less))
 
-  pub took : (w x : ℕ) → old.width ≡ w → can_make old ≡ true → is_width w ≡ true → IsOpen old x
-      → (stack_at stacks w).list ≡ take (length (stack_at stacks w).list - 1) (stack_at stacks w).list ++ b ∷ []
+  -- or it leaves it
+  row-left : (x i : ℕ) → can_make old ≡ true → is_width old.width ≡ true → IsOpen old x → i < length (stack_at stacks old.width).list → get_or (stack_at stacks old.width).list i 0 ≡ b
+      → (can : Bool) → can ≡ can_make (with_made old x) → IsRow (set shelves b (with_made old x)) (filled_at filled old.width)
+      (cond (not can) (record (stack_at stacks old.width) { list = remove (stack_at stacks old.width).list i }) (stack_at stacks old.width)) old.width
+  row-left x i could valid open_is within is true e = row-stays x could valid open_is (sym e)
+  row-left x i could valid open_is within is false e =
+      row-remove shelves (filled_at filled old.width) (stack_at stacks old.width) old.width b (with_made old x) h (k.each_row old.width valid)
+      i within is (of-width old.width (with_made old x) refl ∙ sym e)
+      (λ wide less. true≢false (sym (can-from (with_made old x) (something-spare old could).0 less) ∙ sym e))
+
+  -- an entry of a shelf is made that stays on its stack
+  pub took-inside : (w x : ℕ) → old.width ≡ w → can_make old ≡ true → is_width w ≡ true → IsOpen old x → can_make (with_made old x) ≡ true
+      → (after : StackView) → IsStack empty_shelf has_touched (set shelves b (with_made old x)) after.list → length shelves ≤ after.room
+      → (counts : List ℕ) → length counts ≡ 11 → (new : ShelfView) → new ≡ with_made old x
+      → AreShelves words (set shelves b new) counts filled stacks after
+  took-inside w x wide could valid open_is can after touches room counts eleven new new_is =
+      let wide_is = ap is_width wide ∙ valid in
+      subst (λ (n : ShelfView). AreShelves words (set shelves b n) counts filled stacks after) (sym new_is)
+      (subst (λ (l : List StackView). AreShelves words (set shelves b (with_made old x)) counts filled l after) (set-get_or stacks (row_of old.width) (record { list = []; room = 0 }))
+      (makes-one x wide_is open_is (stack_at stacks old.width) (row-stays x could wide_is open_is can) after touches room counts eleven))
+
+  -- an entry of a shelf is made that is this one of the stack of its width
+  pub took : (w x i : ℕ) → old.width ≡ w → can_make old ≡ true → is_width w ≡ true → IsOpen old x
+      → i < length (stack_at stacks w).list → get_or (stack_at stacks w).list i 0 ≡ b
       → (can : Bool) → can ≡ can_make (with_made old x)
       → (after : StackView) → IsStack empty_shelf has_touched (set shelves b (with_made old x)) after.list → length shelves ≤ after.room
       → (counts : List ℕ) → length counts ≡ 11
       → (new : ShelfView) (place : ℕ) (stack entered : StackView) → new ≡ with_made old x → place ≡ row_of w → stack ≡ stack_at stacks w
-      → entered ≡ cond (not can) (record stack { list = take (length stack.list - 1) stack.list }) stack
+      → entered ≡ cond (not can) (record stack { list = remove stack.list i }) stack
       → AreShelves words (set shelves b new) counts filled (set stacks place entered) after
-  took w x wide could valid open_is last can can_is after touches room counts eleven new place stack entered new_is place_is stack_is entered_is =
+  took w x i wide could valid open_is within is can can_is after touches room counts eleven new place stack entered new_is place_is stack_is entered_is =
+      let wide_is = ap is_width wide ∙ valid in
       subst (λ (n : ShelfView). AreShelves words (set shelves b n) counts filled (set stacks place entered) after) (sym new_is)
       (subst (λ p. AreShelves words (set shelves b (with_made old x)) counts filled (set stacks p entered) after) (sym (place_is ∙ ap row_of (sym wide)))
       (subst (λ (t : StackView). AreShelves words (set shelves b (with_made old x)) counts filled (set stacks (row_of old.width) t) after)
-      (sym (entered_is ∙ ap (λ (t : StackView). cond (not can) (record t { list = take (length t.list - 1) t.list }) t) (stack_is ∙ ap (stack_at stacks) (sym wide))))
-      (takes x could (ap is_width wide ∙ valid) open_is (take (length (stack_at stacks old.width).list - 1) (stack_at stacks old.width).list)
-      (subst (λ v. (stack_at stacks v).list ≡ take (length (stack_at stacks v).list - 1) (stack_at stacks v).list ++ b ∷ []) (sym wide) last)
-      can can_is after touches room counts eleven)))
+      (sym (entered_is ∙ ap (λ (t : StackView). cond (not can) (record t { list = remove t.list i }) t) (stack_is ∙ ap (stack_at stacks) (sym wide))))
+      (makes-one x wide_is open_is _
+      (row-left x i could wide_is open_is (subst (λ v. i < length (stack_at stacks v).list) (sym wide) within) (subst (λ v. get_or (stack_at stacks v).list i 0 ≡ b) (sym wide) is) can can_is)
+      after touches room counts eleven)))
 
   -- the stack of changed shelves, where this one stays on it while an entry of it is changed
   pub touched-leave : (new : ShelfView) (still : Bool) → still ≡ has_touched new → 0 < length touched.list → get_or touched.list (length touched.list - 1) 0 ≡ b
@@ -236,24 +253,21 @@ release-touched s x below is =
     let same : count_by is_touched (set s.states x Free) ≡ count_by is_touched s.states = omega (arith, count, was) in
     ap (nat_lt 0) same
 
--- the shelf that was put last on the stack of a width
-pub record IsTop (shelves : List ShelfView) (stack : StackView) (w b : ℕ) : Type 0 where
+-- a shelf on the stack of a width
+pub record IsOnRow (shelves : List ShelfView) (w b : ℕ) : Type 0 where
   pub below : b < length shelves
   pub wide : (shelf_at shelves b).width ≡ w
   pub can : can_make (shelf_at shelves b) ≡ true
-  pub last : stack.list ≡ take (length stack.list - 1) stack.list ++ b ∷ []
 
-pub is-top : (shelves : List ShelfView) (filled : Option ℕ) (stack : StackView) (w b : ℕ) → IsRow shelves filled stack w
-    → (0 < length stack.list) × (get_or stack.list (length stack.list - 1) 0 ≡ b) → IsTop shelves stack w b
-is-top shelves filled stack w b row top =
-    let within : length stack.list - 1 < length stack.list = omega (arith, top.0) in
-    let passes : has_spare_in w (shelf_at shelves b) ≡ true = ap (λ n. has_spare_in w (shelf_at shelves n)) (sym top.1) ∙ row.open_is.passes (length stack.list - 1) within in
+pub is-on_row : (shelves : List ShelfView) (filled : Option ℕ) (stack : StackView) (w b i : ℕ) → IsRow shelves filled stack w
+    → i < length stack.list → get_or stack.list i 0 ≡ b → IsOnRow shelves w b
+is-on_row shelves filled stack w b i row within is =
+    let passes : has_spare_in w (shelf_at shelves b) ≡ true = ap (λ n. has_spare_in w (shelf_at shelves n)) (sym is) ∙ row.open_is.passes i within in
     let parts = and_parts (eqb (shelf_at shelves b).width w) (can_make (shelf_at shelves b)) passes in
     record {
-      below = subst (λ n. n < length shelves) top.1 (row.open_is.below (length stack.list - 1) within);
+      below = subst (λ n. n < length shelves) is (row.open_is.below i within);
       wide = eqb-true (shelf_at shelves b).width w parts.0;
       can = parts.1;
-      last = last-split stack.list b top.0 top.1;
     }
 
 -- whether a place was taken before

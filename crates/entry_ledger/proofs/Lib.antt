@@ -33,6 +33,7 @@ pub mod Opened
 pub mod Opens
 pub mod Creates
 pub mod StackSteps
+pub mod StackSwaps
 pub mod StackRemoval
 pub mod Settling
 pub mod Rows

@@ -6,12 +6,12 @@ use Rattle.std.proofs.Math.ListN.{length-set}
 use Rattle.std.proofs.Math.Seq.{get_or-append_seam}
 use Rattle.std.proofs.lemmas.List.{length_push}
 use Rattle.std.proofs.lemmas.List.Sums.{sum_by_push}
-use Rattle.std.proofs.lemmas.Bool.{cases_eq, eq-eqb, ne_eqb, true≢false, lt-ltb, ltb-true, and_right}
+use Rattle.std.proofs.lemmas.Bool.{cases_eq, eq-eqb, ne_eqb, true≢false, lt-ltb, ltb-true, and_parts, and_right}
 use Rattle.list_facts.specs.Counting.{one_if}
 use Rattle.list_facts.proofs.Counts.{count_by-set}
 use Rattle.entry_ledger.specs.declared.state.State.{State}
 use Rattle.entry_ledger.specs.declared.state.State.TheVariants.{Free, Made}
-use Rattle.entry_ledger.specs.States.{ShelfView, can_make, has_one_spare, has_touched, has_one_touched, spare_of, is_free_state, is_touched, state_at, IsOpen, with_made, with_state_at}
+use Rattle.entry_ledger.specs.States.{ShelfView, can_make, has_free_and_more, has_one_spare, has_touched, has_one_touched, spare_of, is_free_state, is_touched, state_at, IsOpen, with_made, with_state_at}
 use Rattle.entry_ledger.proofs.StackSteps.{count-some}
 
 -- after a take one less is to spare
@@ -146,3 +146,35 @@ pub can-from : (s : ShelfView) → s.sealed ≡ false → length s.states < s.ro
 can-from s unsealed less =
     let some : 0 < spare_of s = omega (arith, less) in
     ap (λ t. not t && nat_lt 0 (spare_of s)) unsealed ∙ lt-ltb 0 (spare_of s) some
+
+-- a shelf with a free entry and another one to spare
+pub record HasMore (s : ShelfView) : Type 0 where
+  pub unsealed : s.sealed ≡ false
+  pub free : 0 < count_by is_free_state s.states
+  pub can : can_make s ≡ true
+  pub still : (x : ℕ) → length s.states ≤ s.room → IsOpen s x → can_make (with_made s x) ≡ true
+
+pub has-more : (s : ShelfView) → has_free_and_more s ≡ true → HasMore s
+has-more s is =
+    let parts = and_parts (not s.sealed) (nat_lt 0 (count_by is_free_state s.states) && nat_lt 1 (spare_of s)) is in
+    let both = and_parts (nat_lt 0 (count_by is_free_state s.states)) (nat_lt 1 (spare_of s)) parts.1 in
+    let some : 1 < spare_of s = ltb-true 1 (spare_of s) both.1 in
+    let unsealed = by_test s.sealed parts.0 in
+    record {
+      unsealed = unsealed;
+      free = ltb-true 0 (count_by is_free_state s.states) both.0;
+      can = ap (λ t. not t && nat_lt 0 (spare_of s)) unsealed ∙ lt-ltb 0 (spare_of s) (omega (arith, some));
+      still = λ x fits can.
+          ap (λ t. not t && nat_lt 0 (spare_of (with_made s x))) unsealed ∙ lt-ltb 0 (spare_of (with_made s x)) (let less = made-spare s x fits can in omega (arith, some, less));
+    }
+  where
+    by_test : (t : Bool) → not t ≡ true → t ≡ false
+    by_test true e = absurd (true≢false (sym e))
+    by_test false e = refl
+
+-- where there is a free entry, that which can be taken was taken before
+pub open-free : (s : ShelfView) (x : ℕ) → IsOpen s x → 0 < count_by is_free_state s.states → x < length s.states
+open-free s x can free = elim (cases_eq x (length s.states)) [
+  | inl e ↦ absurd (omega (arith, (can.next e).1, free))
+  | inr ne ↦ omega (arith, can.within, ne)
+]

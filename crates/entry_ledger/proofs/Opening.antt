@@ -1,9 +1,8 @@
 -- The shelves after one is opened or sealed.
-use Rattle.std.proofs.Common.{◌≡◌, ◌≢◌, ℕ, zero, suc, ◌/◌, ◌<◌, ◌≤◌, true, cond, List, [], ◌∷◌, ◌++◌, length, get_or, set, Option, None, Some, refl, sym, ap, subst, ◌∙◌, arith, get_or-set_other, get_or-set_same}
+use Rattle.std.proofs.Common.{◌≡◌, ◌≢◌, ℕ, ◌/◌, ◌<◌, ◌≤◌, true, cond, List, [], ◌∷◌, ◌++◌, length, get_or, set, Option, None, Some, refl, sym, ap, subst, ◌∙◌, arith, get_or-set_other, get_or-set_same}
 use Rattle.std.specs.List.{remove}
 use Rattle.std.proofs.Math.ListN.{length-set}
 use Rattle.std.proofs.lemmas.Nat.{le-div}
-use Rattle.std.proofs.lemmas.List.Edits.{get_or-remove_below, length-remove}
 use Rattle.std.proofs.lemmas.Bool.{ne_eqb, lt-ltb}
 use Rattle.store_api.specs.Ledgers.{is_width, capacity}
 use Rattle.entry_ledger.specs.States.{ShelfView, empty_shelf, has_touched}
@@ -13,7 +12,7 @@ use Rattle.entry_ledger.proofs.StackRemoval.{stack-absent, stack-remove}
 use Rattle.entry_ledger.specs.Shelves.{shelf_at, row_of, filled_at, spare_of_width}
 use Rattle.entry_ledger.specs.ShelvesKept.{StackView, stack_at, has_spare_in, IsBottom, IsRow, IsOfWidth, AreShelves}
 use Rattle.entry_ledger.proofs.Rows.{width-bounds, row_of-below, row_of-apart}
-use Rattle.entry_ledger.proofs.Steps.{row-keep, row-push, of-width, other-width, rows-set, unmade-set, empty-none, sealed-none, some-spare}
+use Rattle.entry_ledger.proofs.Steps.{bottom-remove, row-keep, row-push, of-width, other-width, rows-set, unmade-set, empty-none, sealed-none, some-spare}
 use Rattle.entry_ledger.proofs.Gains.{each-set}
 
 -- a buffer has at least one entry of each width
@@ -32,14 +31,6 @@ empty-row shelves filled stack w row none = by_list stack.list refl
     by_list (x ∷ xs) e =
         let some : 0 < length stack.list = omega (arith, ap length e) in
         absurd (omega (arith, none, some-spare w shelves (get_or stack.list 0 0) (row.open_is.below 0 some) (row.open_is.passes 0 some)))
-
-bottom-remove : (xs : List ℕ) (filled : Option ℕ) (a place : ℕ) → IsBottom xs filled a → place < length xs → get_or xs place 0 ≢ a → IsBottom (remove xs place) filled a
-bottom-remove xs filled a zero is below ne = absurd (ne is.bottom)
-bottom-remove xs filled a (suc place) is below ne = record {
-  filled_is = is.filled_is;
-  some = (let long = length-remove xs (suc place) below in omega (arith, long, below));
-  bottom = get_or-remove_below xs (suc place) 0 0 (omega arith) below ∙ is.bottom;
-}
 
 module _ (words : ℕ) (shelves : List ShelfView) (made : List ℕ) (filled : List (Option ℕ)) (stacks : List StackView) (touched : StackView)
     (k : AreShelves words shelves made filled stacks touched) (b : ℕ) (h : b < length shelves) where

@@ -2,17 +2,18 @@
 use Rattle.std.proofs.Common.{◌≡◌, ◌≢◌, ℕ, zero, suc, ◌+◌, ◌<◌, Bool, true, false, not, ◌&&◌, cond, eqb, List, [], ◌∷◌, ◌++◌, length, get_or, set, Option, refl, sym, ap, subst, ◌∙◌, arith, inl, inr, get_or-set_other}
 use Rattle.std.proofs.Common.{get_or-set_same}
 use Rattle.std.specs.Prelude.{nat_lt}
-use Rattle.std.specs.List.{count_by}
+use Rattle.std.specs.List.{count_by, remove}
 use Rattle.std.proofs.Math.ListN.{length-set, get_or-append}
-use Rattle.std.proofs.Math.Seq.{get_or-append_seam}
 use Rattle.std.proofs.lemmas.List.{length_push}
 use Rattle.std.proofs.lemmas.List.Sums.{sum_by-cons, sum_by-set}
-use Rattle.std.proofs.lemmas.Bool.{cases_eq, ne_eqb, eq-eqb, true≢false, lt-ltb, ltb-true, and_parts}
+use Rattle.std.proofs.lemmas.List.Edits.{get_or-remove_below, length-remove}
+use Rattle.std.proofs.lemmas.Bool.{cases_eq, cases_lt, ne_eqb, eq-eqb, true≢false, lt-ltb, ltb-true, and_parts}
 use Rattle.list_facts.specs.Counting.{one_if}
 use Rattle.store_api.specs.Ledgers.{is_width}
 use Rattle.entry_ledger.specs.States.{ShelfView, empty_shelf, can_make, spare_of, is_free_state, IsOpen}
 use Rattle.entry_ledger.specs.Stacks.{IsStack}
-use Rattle.entry_ledger.proofs.StackSteps.{stack-keep, stack-push, stack-pop, count-none}
+use Rattle.entry_ledger.proofs.StackSteps.{stack-keep, stack-push, count-none}
+use Rattle.entry_ledger.proofs.StackRemoval.{stack-remove}
 use Rattle.entry_ledger.specs.Shelves.{shelf_at, row_of, filled_at, spare_in, spare_of_width}
 use Rattle.entry_ledger.specs.ShelvesKept.{StackView, stack_at, has_spare_in, IsBottom, IsRow}
 use Rattle.entry_ledger.proofs.Rows.{row_of-below, row_of-apart}
@@ -38,9 +39,13 @@ bottom-push xs filled a x is = record {
   bottom = get_or-append xs (x ∷ []) 0 0 is.some ∙ is.bottom;
 }
 
-bottom-pop : (xs : List ℕ) (filled : Option ℕ) (a x : ℕ) → IsBottom (xs ++ x ∷ []) filled a → a ≢ x → IsBottom xs filled a
-bottom-pop [] filled a x is ne = absurd (ne (sym is.bottom))
-bottom-pop (y ∷ ys) filled a x is ne = record { filled_is = is.filled_is; some = omega arith; bottom = is.bottom }
+pub bottom-remove : (xs : List ℕ) (filled : Option ℕ) (a place : ℕ) → IsBottom xs filled a → place < length xs → get_or xs place 0 ≢ a → IsBottom (remove xs place) filled a
+bottom-remove xs filled a zero is below ne = absurd (ne is.bottom)
+bottom-remove xs filled a (suc place) is below ne = record {
+  filled_is = is.filled_is;
+  some = (let long = length-remove xs (suc place) below in omega (arith, long, below));
+  bottom = get_or-remove_below xs (suc place) 0 0 (omega arith) below ∙ is.bottom;
+}
 
 module _ (shelves : List ShelfView) (filled : Option ℕ) (stack : StackView) (w b : ℕ) (new : ShelfView) (h : b < length shelves) (row : IsRow shelves filled stack w) where
   pub row-keep : has_spare_in w new ≡ has_spare_in w (shelf_at shelves b) → (new.width ≡ w → length new.states < new.room → IsBottom stack.list filled b)
@@ -59,13 +64,14 @@ module _ (shelves : List ShelfView) (filled : Option ℕ) (stack : StackView) (w
     unmade = unmade-set shelves w b new h (IsBottom (stack.list ++ b ∷ []) filled) (λ a ne wide less. bottom-push stack.list filled a b (row.unmade a wide less)) mine;
   }
 
-  pub row-pop : (rest : List ℕ) → stack.list ≡ rest ++ b ∷ [] → has_spare_in w new ≡ false → (new.width ≡ w → length new.states < new.room → ⊥)
-      → IsRow (set shelves b new) filled (record stack { list = rest }) w
-  row-pop rest is out mine = record {
-    open_is = stack-pop empty_shelf (has_spare_in w) shelves rest b (subst (IsStack empty_shelf (has_spare_in w) shelves) is row.open_is) new out;
+  pub row-remove : (i : ℕ) → i < length stack.list → get_or stack.list i 0 ≡ b → has_spare_in w new ≡ false → (new.width ≡ w → length new.states < new.room → ⊥)
+      → IsRow (set shelves b new) filled (record stack { list = remove stack.list i }) w
+  row-remove i within is out mine = record {
+    open_is = subst (λ n. IsStack empty_shelf (has_spare_in w) (set shelves n new) (remove stack.list i)) is
+        (stack-remove empty_shelf (has_spare_in w) shelves stack.list row.open_is i within new out);
     room = omega (arith, row.room, length-set {A = ShelfView} shelves b new);
-    unmade = unmade-set shelves w b new h (IsBottom rest filled)
-        (λ a ne wide less. bottom-pop rest filled a b (subst (λ xs. IsBottom xs filled a) is (row.unmade a wide less)) ne) (λ wide less. absurd (mine wide less));
+    unmade = unmade-set shelves w b new h (IsBottom (remove stack.list i) filled)
+        (λ a ne wide less. bottom-remove stack.list filled a i (row.unmade a wide less) within (λ e. ne (sym e ∙ is))) (λ wide less. absurd (mine wide less));
   }
 
   -- a shelf that has no less to spare than before enters where it had nothing
@@ -171,25 +177,24 @@ something-spare s is = (unsealed s.sealed (and_parts (not s.sealed) (nat_lt 0 (s
     unsealed true e = absurd (true≢false (sym e))
     unsealed false e = refl
 
-alone : (xs : List ℕ) (filled : Option ℕ) (b : ℕ) → IsBottom (xs ++ b ∷ []) filled b
-    → ((i j : ℕ) → i < j → j < length (xs ++ b ∷ []) → get_or (xs ++ b ∷ []) i 0 ≢ get_or (xs ++ b ∷ []) j 0) → xs ≡ []
-alone [] filled b is apart = refl
-alone (x ∷ xs) filled b is apart =
-    absurd (apart 0 (suc (length xs)) (omega arith) (omega (arith, length_push (x ∷ xs) b)) (is.bottom ∙ sym (get_or-append_seam (x ∷ xs) b [] 0)))
-
 -- where the next entry of the filled shelf is taken, no other shelf of the width has a free one
-pub first-free : (shelves : List ShelfView) (filled : Option ℕ) (stack : StackView) (w b place : ℕ) (rest : List ℕ) → IsRow shelves filled stack w
-    → stack.list ≡ rest ++ b ∷ [] → (shelf_at shelves b).width ≡ w → IsOpen (shelf_at shelves b) place → place ≡ length (shelf_at shelves b).states
+pub first-free : (shelves : List ShelfView) (filled : Option ℕ) (stack : StackView) (w b place i : ℕ) → IsRow shelves filled stack w
+    → i < length stack.list → get_or stack.list i 0 ≡ b → (i ≡ 0 → length stack.list ≡ 1)
+    → (shelf_at shelves b).width ≡ w → IsOpen (shelf_at shelves b) place → place ≡ length (shelf_at shelves b).states
     → (a : ℕ) → (shelf_at shelves a).width ≡ w → (shelf_at shelves a).sealed ≡ false → count_by is_free_state (shelf_at shelves a).states ≡ 0
-first-free shelves filled stack w b place rest row is wide can next a of_w unsealed = elim (cases_eq a b) [
+first-free shelves filled stack w b place i row within is one wide can next a of_w unsealed = elim (cases_eq a b) [
   | inl e ↦ ap (λ n. count_by is_free_state (shelf_at shelves n).states) e ∙ (can.next next).1
   | inr ne ↦
       (let less : length (shelf_at shelves b).states < (shelf_at shelves b).room = omega (arith, (can.next next).0, next) in
-      let bottom : IsBottom (rest ++ b ∷ []) filled b = subst (λ xs. IsBottom xs filled b) is (row.unmade b wide less) in
-      let stands : IsStack empty_shelf (has_spare_in w) shelves (rest ++ b ∷ []) = subst (IsStack empty_shelf (has_spare_in w) shelves) is row.open_is in
-      let none : rest ≡ [] = alone rest filled b bottom stands.apart in
-      let left : IsStack empty_shelf (has_spare_in w) (set shelves b empty_shelf) rest = stack-pop empty_shelf (has_spare_in w) shelves rest b stands empty_shelf (empty-none w) in
-      let zero_is : count_by (has_spare_in w) (set shelves b empty_shelf) ≡ 0 = sym left.count ∙ ap length none in
+      let bottom = (row.unmade b wide less).bottom in
+      let lowest : i ≡ 0 = elim (cases_lt 0 i) [
+        | inl above ↦ absurd (row.open_is.apart 0 i above within (bottom ∙ sym is))
+        | inr low ↦ omega arith
+      ] in
+      let left : IsStack empty_shelf (has_spare_in w) (set shelves b empty_shelf) (remove stack.list i) =
+      subst (λ n. IsStack empty_shelf (has_spare_in w) (set shelves n empty_shelf) (remove stack.list i)) is
+      (stack-remove empty_shelf (has_spare_in w) shelves stack.list row.open_is i within empty_shelf (empty-none w)) in
+      let zero_is : count_by (has_spare_in w) (set shelves b empty_shelf) ≡ 0 = omega (arith, left.count, length-remove stack.list i within, one lowest) in
       let fails : has_spare_in w (shelf_at shelves a) ≡ false =
       ap (has_spare_in w) (sym (get_or-set_other shelves b a empty_shelf empty_shelf ne)) ∙ count-none empty_shelf (has_spare_in w) (set shelves b empty_shelf) (empty-none w) zero_is a in
       let spare = nothing-spare (shelf_at shelves a) (sym (of-width w (shelf_at shelves a) of_w) ∙ fails) unsealed in

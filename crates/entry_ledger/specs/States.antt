@@ -107,6 +107,10 @@ can_make shelf = not shelf.sealed && nat_lt 0 (spare_of shelf)
 abbrev pub has_one_spare : ShelfView → Bool
 has_one_spare shelf = not shelf.sealed && nat_eq (spare_of shelf) 1
 
+-- a free entry may be made, and another entry after it
+abbrev pub has_free_and_more : ShelfView → Bool
+has_free_and_more shelf = not shelf.sealed && (nat_lt 0 (count_by is_free_state shelf.states) && nat_lt 1 (spare_of shelf))
+
 -- the unit changed an entry
 abbrev pub has_touched : ShelfView → Bool
 has_touched shelf = nat_lt 0 (count_by is_touched shelf.states)

@@ -158,10 +158,10 @@ impl<const OFFSET_BITS: u32> EntryLedger<OFFSET_BITS> {
         self.buffers.choose_victim()
     }
 
-    /// Makes an entry: a free one of the width, or else the next offset of the buffer being filled. Returns `None` if
-    /// there is neither.
+    /// Makes an entry: a free one of the width, else the next offset of the buffer that is filled. None where there is neither. It is
+    /// to replace the entry of the reference `near`, 0 for none: where the one that this one replaced is free, that one is made.
     #[tactic(none)]
-    pub fn take(&mut self, width: u32) -> Option<EntryRef<OFFSET_BITS>>
+    pub fn take(&mut self, width: u32, near: u32) -> Option<EntryRef<OFFSET_BITS>>
         requires { is_width width ≡ true }
         ensures none { IsNone result ↔ (((entries_of OFFSET_BITS self.old).of_width width).spare ≡ 0) }
         ensures left { IfNone result (self.new ≡ self.old) }
@@ -169,7 +169,8 @@ impl<const OFFSET_BITS: u32> EntryLedger<OFFSET_BITS> {
         ensures made { IfSome result (λ r. entries_of OFFSET_BITS self.new ≡ made_at (entries_of OFFSET_BITS self.old) width r) }
         ensures good { IsGood OFFSET_BITS (entries_of OFFSET_BITS self.new) }
     {
-        let taken = self.shelves.take(width)?;
+        let aim = replaced_by::<OFFSET_BITS>(&self.shelves, near);
+        let taken = self.shelves.take(width, aim.buffer, aim.place, near)?;
         count_take(&mut self.buffers, taken.buffer, taken.again);
         Some(EntryRef::new(taken.place + 1, taken.buffer))
     }
@@ -326,6 +327,29 @@ impl<const OFFSET_BITS: u32> EntryLedger<OFFSET_BITS> {
         self.shelves.close(buffer);
         self.buffers.put_on_hold(buffer, self.generation);
         self.finished = None;
+    }
+}
+
+/// A buffer, and a place in it.
+#[derive(Clone, Copy)]
+struct Aim {
+    buffer: u32,
+    place: u32,
+}
+
+/// The place of an offset, and none for the offset 0, which is kept back.
+fn place_in(offset: u32) -> u32 {
+    if offset == 0 { u32::MAX } else { offset - 1 }
+}
+
+/// Where the entry lies that another one replaced, as it is noted of this one.
+fn replaced_by<const OFFSET_BITS: u32>(shelves: &Shelves, near: u32) -> Aim {
+    let entry = EntryRef::<OFFSET_BITS>::from_raw(near);
+    let link = shelves.link(entry.buffer(), place_in(entry.offset()));
+    let aim = EntryRef::<OFFSET_BITS>::from_raw(link);
+    Aim {
+        buffer: aim.buffer(),
+        place: place_in(aim.offset()),
     }
 }
 

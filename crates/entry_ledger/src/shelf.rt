@@ -1,5 +1,6 @@
 ghost use Rattle.std.specs.Prelude.{◌≡◌, ◌↔◌, ◌<◌, ◌≤◌, ◌+◌, ◌^◌, ℕ, [], true, false, nat_lt, length, slice_set, vec_len, vec_capacity};
-ghost use Rattle.std.specs.Prelude.{count_by};
+ghost use Rattle.std.specs.Prelude.{◌-◌, count_by};
+ghost use Rattle.std.specs.List.{SwappedAt};
 ghost use Rattle.std.specs.Prelude.{IsNone, IfSome, IfNone, OnOk, OnErr, if◌then◌else◌, ◌∷◌, ◌++◌};
 ghost use Rattle.entry_ledger.specs.States.{is_free_state, is_touched};
 ghost use Rattle.entry_ledger.specs.Stacks.{IsStack};
@@ -17,6 +18,10 @@ pub struct Shelf {
     free: Vec<u32>,
     touched: Vec<u32>,
     room: u32,
+    // Hints, of which nothing is kept: of a free entry its place in `free`, of one in use the reference that it replaced;
+    // and where the next entry to be made stands in `free`.
+    links: Vec<u32>,
+    turn: usize,
 }
 
 impl Model for Shelf {
@@ -43,7 +48,7 @@ pub struct Settled {
 impl Shelf {
     ghost use Rattle.std.specs.List.{slice_get};
     ghost use Rattle.entry_ledger.specs.States.{empty_shelf, state_at, is_used, is_dropped, spare_of, can_make, has_one_spare, has_touched};
-    ghost use Rattle.entry_ledger.specs.States.{has_one_touched, IsOpen, Settles, with_made, with_state_at, dropped};
+    ghost use Rattle.entry_ledger.specs.States.{has_one_touched, has_free_and_more, IsOpen, Settles, with_made, with_state_at, dropped};
     ghost use Rattle.entry_ledger.specs.declared.state.State.TheVariants.{Free};
 
     /// Returns a shelf without entries and without reserved space.
@@ -57,6 +62,8 @@ impl Shelf {
             free: Vec::new(alloc),
             touched: Vec::new(alloc),
             room: 0,
+            links: Vec::new(alloc),
+            turn: 0,
         }
     }
 
@@ -70,6 +77,7 @@ impl Shelf {
         self.states.reserve(most - self.states.len())?;
         self.free.reserve(most - self.free.len())?;
         self.touched.reserve(most - self.touched.len())?;
+        make_links(&mut self.links, most)?;
         self.width = width;
         self.room = room;
         Ok(())
@@ -157,6 +165,13 @@ impl Shelf {
         self.free.len() <= 1 && self.spare() == 1 && !self.sealed
     }
 
+    /// Whether a free entry may be made, and another entry after it.
+    pub fn has_free_and_more(&self) -> bool
+        ensures { result ≡ has_free_and_more self.now }
+    {
+        !self.sealed & (self.free.len() > 0) & (self.spare() > 1)
+    }
+
     /// Returns the number of entries that accepted units dropped and that are not free.
     pub fn dropped(&self) -> u32
         ensures value { result ≡ count_by is_dropped self.now.states }
@@ -180,6 +195,46 @@ impl Shelf {
         ensures { result ≡ has_one_touched self.now }
     {
         self.touched.len() == 1
+    }
+
+    /// What is noted of an entry: where it stands among the free ones, or the reference that it replaced.
+    pub fn link(&self, entry: u32) -> u32 {
+        match self.links.get(entry as usize) {
+            Some(link) => *link,
+            None => 0,
+        }
+    }
+
+    /// Notes the reference that an entry replaced.
+    pub fn set_link(&mut self, entry: u32, link: u32)
+        ensures { self.new ≡ self.old }
+    {
+        set_link(&mut self.links, entry, link);
+    }
+
+    /// Lets an entry be the next that is made, where it is free by its link; whether it is.
+    pub fn call(&mut self, entry: u32) -> bool
+        ensures { self.new ≡ self.old }
+    {
+        let place = self.link(entry) as usize;
+        if place < self.free.len() && self.free[place] == entry {
+            put_last(&mut self.free, &mut self.links, place);
+            return true;
+        }
+        false
+    }
+
+    /// Lets one that is free for long be the next that is made.
+    pub fn call_next(&mut self)
+        ensures { self.new ≡ self.old }
+    {
+        let place = if self.turn < self.free.len() {
+            self.turn
+        } else {
+            0
+        };
+        self.turn = place + 1;
+        put_last(&mut self.free, &mut self.links, place);
     }
 
     /// Makes an entry: a free one, or else the next that was not taken. Returns `None` if no place is left.
@@ -213,7 +268,7 @@ impl Shelf {
     {
         let state = self.states[entry as usize];
         if state.is_made() {
-            put(&mut self.free, entry);
+            put_free(&mut self.free, &mut self.links, entry);
             self.states[entry as usize] = State::Returned;
             return State::Returned;
         }
@@ -229,7 +284,7 @@ impl Shelf {
         requires dropped { is_dropped (state_at self.old.states entry) ≡ true }
         ensures { self.new ≡ with_state_at self.old entry Free }
     {
-        put(&mut self.free, entry);
+        put_free(&mut self.free, &mut self.links, entry);
         self.states[entry as usize] = State::Free;
     }
 
@@ -242,7 +297,12 @@ impl Shelf {
     {
         let place = self.touched.pop()?;
         let was = self.states[place as usize];
-        enter(&mut self.free, place, was.is_freed(accepts));
+        enter_free(
+            &mut self.free,
+            &mut self.links,
+            place,
+            was.is_freed(accepts),
+        );
         let now = was.settled(accepts, last, generation);
         self.states[place as usize] = now;
         Some(Settled { place, was, now })
@@ -266,5 +326,55 @@ fn enter(stack: &mut Vec<u32>, entry: u32, enters: bool)
 {
     if enters {
         put(stack, entry);
+    }
+}
+
+/// Makes room for a link of each entry.
+fn make_links(links: &mut Vec<u32>, most: usize) -> Result<(), AllocError> {
+    for made in links.len()..most {
+        links.push(0)?;
+    }
+    Ok(())
+}
+
+/// Sets a link, where there is room for it.
+fn set_link(links: &mut Vec<u32>, entry: u32, link: u32) {
+    if (entry as usize) < links.len() {
+        links[entry as usize] = link;
+    }
+}
+
+/// Appends a free entry, and links it to its place.
+fn put_free(free: &mut Vec<u32>, links: &mut Vec<u32>, entry: u32)
+    requires { vec_len free.old < vec_capacity free.old }
+    ensures items { free.new.items ≡ free.old.items ++ entry ∷ [] }
+    ensures capacity { vec_capacity free.old ≤ vec_capacity free.new }
+{
+    set_link(links, entry, u32::try_from(free.len()).unwrap_or(0));
+    put(free, entry);
+}
+
+/// The same where the entry enters, else nothing.
+fn enter_free(free: &mut Vec<u32>, links: &mut Vec<u32>, entry: u32, enters: bool)
+    requires { enters ≡ true → vec_len free.old < vec_capacity free.old }
+    ensures stack { free.new.items ≡ (if enters then free.old.items ++ entry ∷ [] else free.old.items) }
+    ensures capacity { vec_capacity free.old ≤ vec_capacity free.new }
+{
+    if enters {
+        put_free(free, links, entry);
+    }
+}
+
+/// Lets the free entry at a place and the last one change places.
+fn put_last(free: &mut Vec<u32>, links: &mut Vec<u32>, place: usize)
+    ensures stays { length free.old.items ≤ place → free.new.items ≡ free.old.items }
+    ensures swapped { place < length free.old.items → SwappedAt free.old.items free.new.items place (length free.old.items - 1) }
+    ensures length { length free.new.items ≡ length free.old.items }
+    ensures capacity { vec_capacity free.old ≤ vec_capacity free.new }
+{
+    let count = free.len();
+    if place < count {
+        free.swap(place, count - 1);
+        set_link(links, free[place], u32::try_from(place).unwrap_or(0));
     }
 }

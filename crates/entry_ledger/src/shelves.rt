@@ -1,7 +1,7 @@
 ghost use Rattle.std.specs.Prelude.{◌≡◌, ◌≢◌, ◌↔◌, ◌<◌, ◌≤◌, ◌+◌, ◌-◌, ◌/◌, ◌^◌, ◌++◌, ◌∷◌, if◌then◌else◌, ℕ, [], true, false, length};
 ghost use Rattle.std.specs.Prelude.{replicate, slice_set, count_by, Some, None, IsNone, IfSome, IfNone, IfOk, OnOk, OnErr};
 ghost use Rattle.store_api.specs.Ledgers.{is_width, capacity};
-ghost use Rattle.entry_ledger.specs.States.{empty_shelf, is_used, is_dropped, is_touched, state_at, dropped, with_state_at};
+ghost use Rattle.entry_ledger.specs.States.{empty_shelf, has_free_and_more, is_used, is_dropped, is_touched, state_at, dropped, with_state_at};
 ghost use Rattle.entry_ledger.specs.ShelvesKept.{stack_at};
 ghost use Rattle.entry_ledger.specs.Shelves.{shelf_at, made_in, filled_at, row_of, spare_of_width, with_shelf, Takes, SettlesOne};
 
@@ -130,29 +130,123 @@ impl Shelves {
         self.filled[place_of(width)]
     }
 
-    /// Makes an entry of a width. Returns `None` if no shelf of the width has a spare entry.
-    pub fn take(&mut self, width: u32) -> Option<Taken>
+    /// What is noted of an entry.
+    pub fn link(&self, buffer: u32, place: u32) -> u32 {
+        match self.shelves.get(buffer as usize) {
+            Some(shelf) => shelf.link(place),
+            None => 0,
+        }
+    }
+
+    /// Notes the reference that an entry replaced.
+    fn set_link(&mut self, buffer: u32, place: u32, link: u32)
+        ensures { self.new ≡ self.old }
+    {
+        if (buffer as usize) < self.shelves.len() {
+            self.shelves[buffer as usize].set_link(place, link);
+        }
+    }
+
+    /// Whether a shelf is of the width, and has a free entry and another one to spare.
+    fn suits(&self, width: u32, buffer: u32) -> bool
+        ensures { result ≡ true → (buffer < length self.now.shelves) × (((shelf_at self.now.shelves buffer).width ≡ width)
+            × (has_free_and_more (shelf_at self.now.shelves buffer) ≡ true)) }
+    {
+        match self.shelves.get(buffer as usize) {
+            Some(shelf) => shelf.width() == width && shelf.has_free_and_more(),
+            None => false,
+        }
+    }
+
+    /// Lets an entry be the next that is made in its shelf, where it is free; whether it is.
+    fn call(&mut self, buffer: u32, place: u32) -> bool
+        ensures { self.new ≡ self.old }
+    {
+        if (buffer as usize) < self.shelves.len() {
+            return self.shelves[buffer as usize].call(place);
+        }
+        false
+    }
+
+    /// The same, where its shelf is of the width and has another one to spare.
+    fn calls(&mut self, width: u32, buffer: u32, place: u32) -> bool
+        ensures same { self.new ≡ self.old }
+        ensures can { result ≡ true → (buffer < length self.old.shelves) × (((shelf_at self.old.shelves buffer).width ≡ width)
+            × (has_free_and_more (shelf_at self.old.shelves buffer) ≡ true)) }
+    {
+        if !self.suits(width, buffer) {
+            return false;
+        }
+        self.call(buffer, place)
+    }
+
+    /// Makes a free entry of a shelf that has more than it to spare.
+    fn take_free(&mut self, width: u32, buffer: u32) -> Taken
+        requires width { is_width width ≡ true }
+        requires inside { buffer < length self.old.shelves }
+        requires of { (shelf_at self.old.shelves buffer).width ≡ width }
+        requires more { has_free_and_more (shelf_at self.old.shelves buffer) ≡ true }
+        ensures some { 0 < spare_of_width self.old.shelves width }
+        ensures takes { Takes self.old self.new width result }
+    {
+        let row = place_of(width);
+        self.made[row] = self.made[row].saturating_add(1);
+        let shelf = &mut self.shelves[buffer as usize];
+        let had_touched = shelf.has_touched();
+        let Some(place) = shelf.take() else {
+            unreachable!()
+        };
+        self.touched.enter(buffer, !had_touched);
+        Taken {
+            buffer,
+            place,
+            again: true,
+        }
+    }
+
+    /// Makes an entry of a width, of those that are free for long. None where no shelf of the width has one to spare.
+    fn take_oldest(&mut self, width: u32) -> Option<Taken>
         requires { is_width width ≡ true }
         ensures none { IsNone result ↔ (spare_of_width self.old.shelves width ≡ 0) }
         ensures left { IfNone result (self.new ≡ self.old) }
         ensures takes { IfSome result (Takes self.old self.new width) }
     {
         let row = place_of(width);
-        let buffer = self.open[row].last()?;
+        let at = self.open[row].place_of_oldest()?;
+        let buffer = self.open[row].number_at(at);
         self.made[row] = self.made[row].saturating_add(1);
         let shelf = &mut self.shelves[buffer as usize];
+        shelf.call_next();
         let next = shelf.taken();
         let had_touched = shelf.has_touched();
         let Some(place) = shelf.take() else {
             unreachable!()
         };
         self.touched.enter(buffer, !had_touched);
-        self.open[row].leave(!shelf.has_spare());
+        self.open[row].leave_at(at, !shelf.has_spare());
         Some(Taken {
             buffer,
             place,
             again: place != next,
         })
+    }
+
+    /// Makes an entry of a width: the free one at a place where there is one, else one that is free for long. `link` is noted of it.
+    /// None where no shelf of the width has one to spare.
+    pub fn take(&mut self, width: u32, buffer: u32, place: u32, link: u32) -> Option<Taken>
+        requires { is_width width ≡ true }
+        ensures none { IsNone result ↔ (spare_of_width self.old.shelves width ≡ 0) }
+        ensures left { IfNone result (self.new ≡ self.old) }
+        ensures takes { IfSome result (Takes self.old self.new width) }
+    {
+        if self.calls(width, buffer, place) {
+            let taken = self.take_free(width, buffer);
+            self.set_link(taken.buffer, taken.place, link);
+            return Some(taken);
+        }
+        let taken = self.take_oldest(width)?;
+        self.set_link(taken.buffer, taken.place, link);
+        Some(taken)
     }
 
     /// Drops an entry in use and returns its state. `last` is the number of the last commit.

@@ -40,6 +40,39 @@ impl Stack {
         self.list.last().copied()
     }
 
+    /// The place of the number that was put first but for the lowest, or of the lowest where there is no other.
+    pub fn place_of_oldest(&self) -> Option<u32>
+        ensures none { IfNone result (self.now.list ≡ []) }
+        ensures some { IfSome result (λ i. (i < length self.now.list) × (i ≡ 0 → length self.now.list ≡ 1)) }
+    {
+        let count = self.list.len();
+        if count == 0 {
+            return None;
+        }
+        if count == 1 {
+            return Some(0);
+        }
+        Some(1)
+    }
+
+    /// The number at a place.
+    pub fn number_at(&self, place: u32) -> u32
+        requires { place < length self.now.list }
+        ensures { result ≡ slice_index self.now.list place }
+    {
+        self.list[place as usize]
+    }
+
+    /// Takes the number at a place out, where that is to be.
+    pub fn leave_at(&mut self, place: u32, leaves: bool)
+        requires { place < length self.old.list }
+        ensures { self.new ≡ (if leaves then record self.old { list = remove self.old.list place } else self.old) }
+    {
+        if leaves {
+            let _ = self.list.remove(place as usize);
+        }
+    }
+
     /// Removes the last number if `leaves` is true.
     pub fn leave(&mut self, leaves: bool)
         requires { leaves ≡ true → 0 < length self.old.list }

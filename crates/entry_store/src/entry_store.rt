@@ -90,8 +90,8 @@ impl<const OFFSET_BITS: u32, W: Work<OFFSET_BITS>> EntryStore<OFFSET_BITS, W> {
         oldest
     }
 
-    /// Makes an entry if the width has a spare one.
-    fn make_spare(&mut self, width: u32, words: &[u64]) -> Option<EntryRef<OFFSET_BITS>>
+    /// Makes an entry where the width has one to spare, in place of the one of the reference `near`, 0 for none.
+    fn make_spare(&mut self, width: u32, words: &[u64], near: u32) -> Option<EntryRef<OFFSET_BITS>>
         requires unit { self.old.unit ≡ true }
         requires width { is_width width ≡ true }
         requires fits { length words.now ≤ width }
@@ -104,7 +104,7 @@ impl<const OFFSET_BITS: u32, W: Work<OFFSET_BITS>> EntryStore<OFFSET_BITS, W> {
             (⟦<EntryStore<OFFSET_BITS, W> as Frozen<OFFSET_BITS>>⟧.records self.old)
             (⟦<EntryStore<OFFSET_BITS, W> as Frozen<OFFSET_BITS>>⟧.records self.new) width words.now) }
     {
-        match self.entries.take(width) {
+        match self.entries.take(width, near) {
             Some(entry) => {
                 self.work.put(entry, width, words);
                 Some(entry)
@@ -169,7 +169,7 @@ impl<const OFFSET_BITS: u32, W: Work<OFFSET_BITS>> EntryStore<OFFSET_BITS, W> {
             (⟦<EntryStore<OFFSET_BITS, W> as Store<OFFSET_BITS>>⟧.ledger self.new) }
     {
         match self.open_buffer(width, oldest) {
-            Ok(()) => match self.make_spare(width, words) {
+            Ok(()) => match self.make_spare(width, words, 0) {
                 Some(entry) => Ok(entry),
                 None => unreachable!(),
             },
@@ -202,7 +202,7 @@ impl<const OFFSET_BITS: u32, W: Work<OFFSET_BITS>> EntryStore<OFFSET_BITS, W> {
             (⟦<EntryStore<OFFSET_BITS, W> as Store<OFFSET_BITS>>⟧.ledger self.new) }
     {
         let oldest = self.reclaim();
-        match self.make_spare(width, words) {
+        match self.make_spare(width, words, 0) {
             Some(entry) => Ok(entry),
             None => self.make_opened(width, words, oldest),
         }
@@ -358,7 +358,34 @@ impl<const OFFSET_BITS: u32, W: Work<OFFSET_BITS>> Store<OFFSET_BITS>
     }
 
     fn make(&mut self, width: u32, words: &[u64]) -> Result<EntryRef<OFFSET_BITS>, StoreError> {
-        match self.make_spare(width, words) {
+        self.make_near(width, words, EntryRef::from_raw(0))
+    }
+
+    fn make_near(
+        &mut self,
+        width: u32,
+        words: &[u64],
+        near: EntryRef<OFFSET_BITS>,
+    ) -> Result<EntryRef<OFFSET_BITS>, StoreError>
+        requires unit { (⟦<EntryStore<OFFSET_BITS, W> as Store<OFFSET_BITS>>⟧.ledger self.old).unit ≡ true }
+        requires width { is_width width ≡ true }
+        requires fits { length words.now ≤ width }
+        ensures makes { IfOk result (Makes OFFSET_BITS (⟦<EntryStore<OFFSET_BITS, W> as Store<OFFSET_BITS>>⟧.ledger self.old)
+            (⟦<EntryStore<OFFSET_BITS, W> as Store<OFFSET_BITS>>⟧.ledger self.new)
+            (⟦<EntryStore<OFFSET_BITS, W> as Frozen<OFFSET_BITS>>⟧.records self.old)
+            (⟦<EntryStore<OFFSET_BITS, W> as Frozen<OFFSET_BITS>>⟧.records self.new) width words.now) }
+        ensures refuses { IfErr result (Refuses (⟦<EntryStore<OFFSET_BITS, W> as Store<OFFSET_BITS>>⟧.ledger self.old)
+            (⟦<EntryStore<OFFSET_BITS, W> as Store<OFFSET_BITS>>⟧.ledger self.new) width) }
+        ensures refused { OnErr result (MayGiveBack (⟦<EntryStore<OFFSET_BITS, W> as Store<OFFSET_BITS>>⟧.ledger self.old)
+            (⟦<EntryStore<OFFSET_BITS, W> as Store<OFFSET_BITS>>⟧.ledger self.new)) }
+        ensures after { IfErr result (ComesAfter (⟦<EntryStore<OFFSET_BITS, W> as Store<OFFSET_BITS>>⟧.ledger self.old)
+            (⟦<EntryStore<OFFSET_BITS, W> as Store<OFFSET_BITS>>⟧.ledger self.new) width) }
+        ensures left { OnErr result (⟦<EntryStore<OFFSET_BITS, W> as Frozen<OFFSET_BITS>>⟧.records self.new
+            ≡ ⟦<EntryStore<OFFSET_BITS, W> as Frozen<OFFSET_BITS>>⟧.records self.old) }
+        ensures may { MayDo (⟦<EntryStore<OFFSET_BITS, W> as Store<OFFSET_BITS>>⟧.ledger self.old)
+            (⟦<EntryStore<OFFSET_BITS, W> as Store<OFFSET_BITS>>⟧.ledger self.new) }
+    {
+        match self.make_spare(width, words, near.raw()) {
             Some(entry) => Ok(entry),
             None => self.make_again(width, words),
         }

@@ -11,6 +11,7 @@ use tree_read::{FIRST_VALUE, MOST_SLOTS, NODE_WORDS, read_words};
 fn make_words<const OFFSET_BITS: u32, S: Store<OFFSET_BITS>>(
     store: &mut S,
     words: &[u64; NODE_WORDS],
+    near: u32,
 ) -> Result<EntryRef<OFFSET_BITS>, StoreError>
     requires unit { (S.ledger store.old).unit ≡ true }
     ensures copies { IfOk result (CopiesNode OFFSET_BITS (S.ledger store.old) (S.ledger store.new)
@@ -18,7 +19,7 @@ fn make_words<const OFFSET_BITS: u32, S: Store<OFFSET_BITS>>(
     ensures nodes { MakesNodes (S.ledger store.old) (S.ledger store.new) (S.records store.old) (S.records store.new) 1 }
     ensures refuses { IfErr result (Refuses (S.ledger store.old) (S.ledger store.new) NODE_WORDS) }
 {
-    store.make(NODE_WORDS as u32, words)
+    store.make_near(NODE_WORDS as u32, words, EntryRef::from_raw(near))
 }
 
 /// Makes a copy of a node.
@@ -35,7 +36,7 @@ pub fn copy_of<const OFFSET_BITS: u32, S: Store<OFFSET_BITS>>(
 {
     let mut words = [0; NODE_WORDS];
     read_words(store, node, &mut words);
-    make_words(store, &words)
+    make_words(store, &words, node.raw())
 }
 
 /// Makes a copy of a node, with another child in one slot.
@@ -56,5 +57,5 @@ pub fn copy_with<const OFFSET_BITS: u32, S: Store<OFFSET_BITS>>(
     let mut words = [0; NODE_WORDS];
     read_words(store, node, &mut words);
     words[FIRST_VALUE + slot] = child;
-    make_words(store, &words)
+    make_words(store, &words, node.raw())
 }

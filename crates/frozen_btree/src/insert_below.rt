@@ -35,7 +35,7 @@ fn insert_in_leaf<const OFFSET_BITS: u32, S: Store<OFFSET_BITS>, K: KeyOrder<OFF
 {
     let mut words = [0; NODE_WORDS];
     let spot = visit(store, node, key, &mut words);
-    put_pair(store, &mut words, spot, word, value)
+    put_pair(store, &mut words, spot, word, value, node.raw())
 }
 
 /// Reads a node above the leaves, and finds the slot under which a key is put.
@@ -96,5 +96,5 @@ pub fn insert_below<const OFFSET_BITS: u32, S: Store<OFFSET_BITS>, K: KeyOrder<O
     let before = store.word(child, 1);
     let parts = insert_below(store, child, level - 1, key, word, value, replaced)?;
     let pairs = words[1] - before + count_parts(store, &parts);
-    put_parts(store, &mut words, pairs, place, &parts)
+    put_parts(store, &mut words, pairs, place, &parts, node.raw())
 }

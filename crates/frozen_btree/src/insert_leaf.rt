@@ -17,6 +17,7 @@ pub fn put_pair<const OFFSET_BITS: u32, S: Store<OFFSET_BITS>>(
     spot: Spot,
     word: u64,
     value: u64,
+    near: u32,
 ) -> Result<Parts, StoreError>
     requires unit { (S.ledger store.old).unit ≡ true }
     requires form { IsNodeForm 0 1 words.old }
@@ -30,7 +31,7 @@ pub fn put_pair<const OFFSET_BITS: u32, S: Store<OFFSET_BITS>>(
     let pairs = used_in(words) as u64;
     if spot.found {
         set_slot(words, pairs, spot.slot, word, value);
-        return make_one(store, words);
+        return make_one(store, words, near);
     }
-    put_slot(store, words, pairs + 1, spot.slot, word, value)
+    put_slot(store, words, pairs + 1, spot.slot, word, value, near)
 }

@@ -91,10 +91,11 @@ pub fn make_part<const OFFSET_BITS: u32, S: Store<OFFSET_BITS>>(
     })
 }
 
-/// Makes a node of words in memory.
+/// Makes the node of words in hand, in place of another.
 pub fn make_words<const OFFSET_BITS: u32, S: Store<OFFSET_BITS>>(
     store: &mut S,
     words: &[u64; NODE_WORDS],
+    near: u32,
 ) -> Result<Part, StoreError>
     requires unit { (S.ledger store.old).unit ≡ true }
     requires some { 0 < used_of words.now }
@@ -108,7 +109,7 @@ pub fn make_words<const OFFSET_BITS: u32, S: Store<OFFSET_BITS>>(
     ensures refused { OnErr result (MakesNodes (S.ledger store.old) (S.ledger store.new) (S.records store.old) (S.records store.new) 0) }
     ensures refuses { IfErr result (Refuses (S.ledger store.old) (S.ledger store.new) NODE_WORDS) }
 {
-    let node = store.make(NODE_WORDS as u32, words)?;
+    let node = store.make_near(NODE_WORDS as u32, words, EntryRef::from_raw(near))?;
     let key = words[1 + used_in(words)];
     Ok(Part {
         key,

@@ -122,6 +122,7 @@ pub fn put_child<const OFFSET_BITS: u32, S: Store<OFFSET_BITS>>(
     place: usize,
     child: &[u64; NODE_WORDS],
     replaced: &mut ArrayVec<u32, 16>,
+    near: u32,
 ) -> Result<(), StoreError>
     requires unit { (S.ledger store.old).unit ≡ true }
     requires low { level_of child.now < 7 }
@@ -153,7 +154,7 @@ pub fn put_child<const OFFSET_BITS: u32, S: Store<OFFSET_BITS>>(
     if used_in(child) < LEAST_SLOTS {
         return put_short(store, words, pairs, place, child, replaced);
     }
-    let part = make_words(store, child)?;
+    let part = make_words(store, child, near)?;
     set_slot(words, pairs, place, part.key, u64::from(part.node));
     Ok(())
 }

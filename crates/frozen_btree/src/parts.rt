@@ -69,10 +69,11 @@ pub fn make_parts<const OFFSET_BITS: u32, S: Store<OFFSET_BITS>>(
     Ok(Parts::Two(first, second))
 }
 
-/// Makes a node of words in memory.
+/// Makes a node of words in hand, in place of another.
 pub fn make_one<const OFFSET_BITS: u32, S: Store<OFFSET_BITS>>(
     store: &mut S,
     words: &[u64; NODE_WORDS],
+    near: u32,
 ) -> Result<Parts, StoreError>
     requires unit { (S.ledger store.old).unit ≡ true }
     requires some { 0 < used_of words.now }
@@ -85,7 +86,7 @@ pub fn make_one<const OFFSET_BITS: u32, S: Store<OFFSET_BITS>>(
     ensures makes { MakesNodes (S.ledger store.old) (S.ledger store.new) (S.records store.old) (S.records store.new) 2 }
     ensures refuses { IfErr result (Refuses (S.ledger store.old) (S.ledger store.new) NODE_WORDS) }
 {
-    Ok(Parts::One(make_words(store, words)?))
+    Ok(Parts::One(make_words(store, words, near)?))
 }
 
 /// Inserts a slot before another or at the end, and makes the node, or two nodes if it was full. `pairs` is the count
@@ -97,6 +98,7 @@ pub fn put_slot<const OFFSET_BITS: u32, S: Store<OFFSET_BITS>>(
     slot: usize,
     key: u64,
     value: u64,
+    near: u32,
 ) -> Result<Parts, StoreError>
     requires unit { (S.ledger store.old).unit ≡ true }
     requires form { IsNodeForm (level_of words.old) 1 words.old }
@@ -115,7 +117,7 @@ pub fn put_slot<const OFFSET_BITS: u32, S: Store<OFFSET_BITS>>(
 {
     if used_in(words) < MOST_SLOTS {
         add_slot(words, pairs, slot, key, value);
-        return make_one(store, words);
+        return make_one(store, words, near);
     }
     let mut slots = slots_of(words);
     slots.keys.insert(slot, key);
@@ -130,6 +132,7 @@ pub fn put_parts<const OFFSET_BITS: u32, S: Store<OFFSET_BITS>>(
     pairs: u64,
     place: usize,
     parts: &Parts,
+    near: u32,
 ) -> Result<Parts, StoreError>
     requires unit { (S.ledger store.old).unit ≡ true }
     requires form { IsNodeForm (level_of words.old) 1 words.old }
@@ -154,12 +157,12 @@ pub fn put_parts<const OFFSET_BITS: u32, S: Store<OFFSET_BITS>>(
     match *parts {
         Parts::One(part) => {
             set_slot(words, pairs, place, part.key, u64::from(part.node));
-            make_one(store, words)
+            make_one(store, words, near)
         }
         Parts::Two(first, second) => {
             set_slot(words, pairs, place, first.key, u64::from(first.node));
             let (key, node) = (second.key, second.node);
-            put_slot(store, words, pairs, place + 1, key, u64::from(node))
+            put_slot(store, words, pairs, place + 1, key, u64::from(node), near)
         }
     }
 }

@@ -113,6 +113,6 @@ pub fn remove_below<const OFFSET_BITS: u32, S: Store<OFFSET_BITS>, K: KeyOrder<O
     let step = step_down(store, node, key, words);
     let mut child = [0; NODE_WORDS];
     remove_below(store, step.child, level - 1, key, replaced, &mut child)?;
-    put_child(store, words, step.place, &child, replaced)?;
+    put_child(store, words, step.place, &child, replaced, step.child.raw())?;
     Ok(())
 }

@@ -22,6 +22,7 @@ use tree_read::{KeyOrder, NODE_WORDS, slots_of, used_in};
 fn make_top<const OFFSET_BITS: u32, S: Store<OFFSET_BITS>>(
     store: &mut S,
     words: &[u64; NODE_WORDS],
+    near: u32,
 ) -> Result<EntryRef<OFFSET_BITS>, StoreError>
     requires unit { (S.ledger store.old).unit ≡ true }
     requires low { level_of words.now ≤ 7 }
@@ -39,7 +40,7 @@ fn make_top<const OFFSET_BITS: u32, S: Store<OFFSET_BITS>>(
     if used_in(words) < 2 {
         return make_root(store, &slots_of(words));
     }
-    let part = make_words(store, words)?;
+    let part = make_words(store, words, near)?;
     Ok(EntryRef::from_raw(part.node))
 }
 
@@ -67,7 +68,7 @@ fn rebuild<const OFFSET_BITS: u32, S: Store<OFFSET_BITS>, K: KeyOrder<OFFSET_BIT
     let level = store.word(root, 0) / 256;
     let mut words = [0; NODE_WORDS];
     remove_below(store, root, level, key, replaced, &mut words)?;
-    make_top(store, &words)
+    make_top(store, &words, root.raw())
 }
 
 /// Removes the pair of a key that exists. Returns the new root, or 0 if no pair is left, and drops the nodes of the

@@ -75,6 +75,29 @@ pub trait Store<const OFFSET_BITS: u32>: Frozen<OFFSET_BITS> {
         ensures left { OnErr result (Self.records self.new ≡ Self.records self.old) }
         ensures may { MayDo (ledger self.old) (ledger self.new) };
 
+    /// Makes an entry as `make` does, for one that takes the place of `near`. A store may take the free entry whose words are
+    /// most like those, so that fewer of them differ.
+    fn make_near(
+        &mut self,
+        width: u32,
+        words: &[u64],
+        near: EntryRef<OFFSET_BITS>,
+    ) -> Result<EntryRef<OFFSET_BITS>, StoreError>
+        requires unit { (ledger self.old).unit ≡ true }
+        requires width { is_width width ≡ true }
+        requires fits { length words.now ≤ width }
+        ensures makes { IfOk result (Makes OFFSET_BITS (ledger self.old) (ledger self.new)
+            (Self.records self.old) (Self.records self.new) width words.now) }
+        ensures refuses { IfErr result (Refuses (ledger self.old) (ledger self.new) width) }
+        ensures refused { OnErr result (MayGiveBack (ledger self.old) (ledger self.new)) }
+        ensures after { IfErr result (ComesAfter (ledger self.old) (ledger self.new) width) }
+        ensures left { OnErr result (Self.records self.new ≡ Self.records self.old) }
+        ensures may { MayDo (ledger self.old) (ledger self.new) }
+    {
+        let _ = near;
+        self.make(width, words)
+    }
+
     /// Drops an entry in use. An entry that the unit made is free at once. An entry that was pending before the unit
     /// is let go, and is free once the unit is accepted.
     fn drop_entry(&mut self, entry: EntryRef<OFFSET_BITS>)

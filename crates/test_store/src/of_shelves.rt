@@ -17,7 +17,7 @@ fn what_a_unit_took_is_free_after_its_end_is_undone(rt: HostRuntime) -> Result<(
 #[test]
 fn a_width_without_a_buffer_has_nothing_to_spare(rt: HostRuntime) -> Result<(), Fail> {
     let mut shelves = Shelves::create(rt.alloc(), 2, 8192)?;
-    assert!(rt; shelves.take(34).is_none());
+    assert!(rt; shelves.take(34, 0, 0, 0).is_none());
     assert_eq!(rt;
         (shelves.width(0), shelves.filled(34), shelves.made(34)),
         (0, None, 0)

@@ -24,8 +24,8 @@ dropped-after-requires c =
     let state = get_or_read s.states.items c.args.entry _ there c.index-state.ensures Free in
     ap is_used state ∙ used
 
-pub put-requires : goal.put-requires
-put-requires c =
+pub put_free-requires : goal.put_free-requires
+put_free-requires c =
     let k = c.self.invariant in
     let s = c.self.inside in
     let there : c.args.entry < length s.states.items = subst (λ (v : ShelfView). c.args.entry < length v.states) (sym c.self.view_is) c.requires.there in
@@ -34,8 +34,8 @@ put-requires c =
     let less = stack-room Free is_free_state s.states.items s.free.items k.free_is c.args.entry Returned there (used-free _ used) refl in
     omega (arith, less, s.free.ok.0, k.taken, k.room2)
 
-pub put-requires-2 : goal.put-requires-2
-put-requires-2 c =
+pub put-requires : goal.put-requires
+put-requires c =
     let k = c.self.invariant in
     let s = c.self.inside in
     let there : c.args.entry < length s.states.items = subst (λ (v : ShelfView). c.args.entry < length v.states) (sym c.self.view_is) c.requires.there in
@@ -60,10 +60,10 @@ invariant_of-self c =
     record {
       taken = omega (arith, long, k.taken);
       fits = k.fits;
-      free_is = rw c.put.ensures.items free;
+      free_is = rw c.put_free.ensures.items free;
       touched_is = stack-keep Free is_touched s.states.items s.touched.items k.touched_is c.args.entry Returned there (sym made);
       room1 = k.room1;
-      room2 = omega (arith, k.room2, c.put.ensures.capacity);
+      room2 = omega (arith, k.room2, c.put_free.ensures.capacity);
       room3 = k.room3;
     }
 
@@ -84,8 +84,8 @@ invariant_of-self-2 c =
       taken = omega (arith, long, k.taken);
       fits = k.fits;
       free_is = stack-keep Free is_free_state s.states.items s.free.items k.free_is c.args.entry c.dropped-after.result there (held ∙ sym (used-free _ used));
-      touched_is = rw c.put-2.ensures.items touched;
+      touched_is = rw c.put.ensures.items touched;
       room1 = k.room1;
       room2 = k.room2;
-      room3 = omega (arith, k.room3, c.put-2.ensures.capacity);
+      room3 = omega (arith, k.room3, c.put.ensures.capacity);
     }

@@ -7,8 +7,8 @@ use Rattle.entry_ledger.proofs.StackSteps.{stack-room, stack-push, stack-keep}
 use Rattle.entry_ledger.proofs.Settling.{dropped-kept}
 use Rattle.entry_ledger.proofs.shelf.Shelf.release.Goals as goal
 
-pub put-requires : goal.put-requires
-put-requires c =
+pub put_free-requires : goal.put_free-requires
+put_free-requires c =
     let s = c.self.inside in
     let k = c.self.invariant in
     let there : c.args.entry < length s.states.items = subst (λ (v : ShelfView). c.args.entry < length v.states) (sym c.self.view_is) c.requires.there in
@@ -27,9 +27,9 @@ invariant_of-self c =
     record {
       taken = omega (arith, long, k.taken);
       fits = k.fits;
-      free_is = rw c.put.ensures.items (stack-push Free is_free_state s.states.items s.free.items k.free_is c.args.entry Free there kept.0 refl);
+      free_is = rw c.put_free.ensures.items (stack-push Free is_free_state s.states.items s.free.items k.free_is c.args.entry Free there kept.0 refl);
       touched_is = stack-keep Free is_touched s.states.items s.touched.items k.touched_is c.args.entry Free there (sym kept.1);
       room1 = k.room1;
-      room2 = omega (arith, k.room2, c.put.ensures.capacity);
+      room2 = omega (arith, k.room2, c.put_free.ensures.capacity);
       room3 = k.room3;
     }

@@ -10,8 +10,8 @@ use Rattle.entry_ledger.proofs.StackSteps.{stack-room, stack-settle, stack-pop, 
 use Rattle.entry_ledger.proofs.Settling.{settled-touched, settled-free, freed-is}
 use Rattle.entry_ledger.proofs.shelf.Shelf.settle.Goals as goal
 
-pub enter-requires : goal.enter-requires
-enter-requires c e =
+pub enter_free-requires : goal.enter_free-requires
+enter_free-requires c e =
     let s = c.self.inside in
     let k = c.self.invariant in
     let place = c.in_ok-place.place in
@@ -44,11 +44,11 @@ invariant_of-self-2 c =
     record {
       taken = omega (arith, long, k.taken);
       fits = k.fits;
-      free_is = rw c.enter.ensures.stack (subst (λ t. IsStack Free is_free_state (set s.states.items place now) (cond t (s.free.items ++ place ∷ []) s.free.items)) (sym freed) free);
+      free_is = rw c.enter_free.ensures.stack (subst (λ t. IsStack Free is_free_state (set s.states.items place now) (cond t (s.free.items ++ place ∷ []) s.free.items)) (sym freed) free);
       touched_is = stack-pop Free is_touched s.states.items c.pop.new.self.items place touched now
           (ap is_touched after ∙ settled-touched c.args.accepts c.args.last c.args.generation was);
       room1 = k.room1;
-      room2 = omega (arith, k.room2, c.enter.ensures.capacity);
+      room2 = omega (arith, k.room2, c.enter_free.ensures.capacity);
       room3 = omega (arith, k.room3, c.pop.ensures.capacity);
     }
 
