@@ -1,12 +1,11 @@
 -- The form of a posting list, and that none is empty.
-use Rattle.std.proofs.Common.{◌≡◌, ℕ, pos, ◌+◌, ◌-◌, ◌*◌, ◌/◌, ◌%◌, ◌<◌, ◌^◌, List, [], ◌∷◌, length, length-append, sym, ap, subst, ◌∙◌, arith, cond}
+use Rattle.std.proofs.Common.{◌≡◌, ℕ, pos, ◌+◌, ◌-◌, ◌*◌, ◌/◌, ◌%◌, ◌<◌, ◌^◌, List, [], ◌∷◌, length, sym, ap, subst, ◌∙◌, arith, cond}
 use Rattle.std.specs.Prelude.{nat_eq, nat_le}
 use Rattle.std.proofs.lemmas.Bool.{cond-true, cond-false, lt-leb, le-leb}
 use Rattle.std.proofs.lemmas.List.{length-map}
-use Rattle.std.specs.List.{AllByRecursion, flat_map}
 use Rattle.entry_ref.specs.Records.{Records}
 use Rattle.tree_read.specs.Trees.{tree_pairs}
-use Rattle.attr_images.specs.Postings.{ListForm, short, tree, vector, list_form, block_documents, vector_documents, postings_at, IsBlock, IsPostingList}
+use Rattle.attr_images.specs.Postings.{ListForm, short, tree, vector, list_form, vector_documents, postings_at, IsPostingList}
 use Rattle.attr_images.specs.Words.{stored_items, unpacked, weight_in_bits}
 use Rattle.attr_images.specs.declared.TheConstants.{FIRST_VECTOR}
 
@@ -35,19 +34,11 @@ word_vector ref =
 pub word_tells_form : (ref : ℕ) → ref < 2 ^ 32 → (list_form (ref * 2) ≡ short ref) × (list_form (ref * 2 + 1) ≡ tree ref) × (list_form (FIRST_VECTOR + ref) ≡ vector ref)
 word_tells_form ref below = (word_short ref below, word_tree ref below, word_vector ref)
 
--- some block has some document
-blocks_filled : (m : Records) (pairs : List (ℕ × ℕ)) → 0 < length pairs → AllByRecursion (λ p. IsBlock p.0 (m p.1)) pairs
-    → 0 < length (flat_map (λ (p : ℕ × ℕ). block_documents p.0 (m p.1)) pairs)
-blocks_filled m [] some all = absurd (omega arith)
-blocks_filled m (p ∷ pairs) some all =
-    let first = all.0.some in
-    let size = length-append (block_documents p.0 (m p.1)) (flat_map (λ (q : ℕ × ℕ). block_documents q.0 (m q.1)) pairs) in
-    omega arith
-
 pub lists_filled : (m : Records) (form : ListForm) → IsPostingList m form → 0 < length (postings_at m form)
 lists_filled m (short ref) list = subst (λ n. 0 < n) (sym (length-map (stored_items (m ref)) unpacked)) list.some
 lists_filled m (tree root) list =
     let many : 0 < length (tree_pairs m root) = (let more = list.1 in omega arith) in
     subst (λ n. 0 < n) (sym (length-map (tree_pairs m root) (λ (p : ℕ × ℕ). (p.0, weight_in_bits p.1)))) many
 lists_filled m (vector root) list =
-    subst (λ n. 0 < n) (sym (length-map (vector_documents m root) (λ (doc : ℕ). (doc, pos 1)))) (blocks_filled m (tree_pairs m root) list.1 list.2)
+    let many : 0 < length (vector_documents m root) = (let more = list.1 in omega arith) in
+    subst (λ n. 0 < n) (sym (length-map (vector_documents m root) (λ (doc : ℕ). (doc, pos 1)))) many

@@ -1,11 +1,11 @@
 -- The dictionary: each value with the list of documents that have it.
-use Rattle.std.specs.Prelude.{◌≡◌, ℕ, ℤ, pos, ◌+◌, ◌-◌, ◌*◌, ◌/◌, ◌%◌, ◌^◌, ◌<◌, nat_eq, nat_le, if◌then◌else◌}
+use Rattle.std.specs.Prelude.{◌≡◌, Bool, ◌&&◌, ℕ, ℤ, pos, ◌+◌, ◌-◌, ◌*◌, ◌/◌, ◌%◌, ◌^◌, ◌<◌, nat_eq, nat_le, if◌then◌else◌}
 use Rattle.std.specs.Prelude.{List, [], ◌∷◌, ◌++◌, length, map, filter}
 use Rattle.std.specs.List.{flat_map, range_with_len, AllByRecursion}
 use Rattle.std.specs.Ordering.{nat_cmp}
 use Rattle.entry_ref.specs.Records.{Records}
 use Rattle.tree_read.specs.Trees.{tree_pairs, tree_nodes, by_number, IsTree}
-use Rattle.attr_images.specs.declared.TheConstants.{MOST_SHORT, FIRST_VECTOR, BLOCK_WORDS, BLOCK_DOCUMENTS}
+use Rattle.attr_images.specs.declared.TheConstants.{MOST_SHORT, FIRST_VECTOR, BLOCK_WORDS, BLOCK_DOCUMENTS, LEAST_DENSE, MOST_SPREAD}
 use Rattle.attr_images.specs.Values.{stored_value, IsValueRecord}
 use Rattle.attr_images.specs.Words.{stored_items, unpacked, weight_in_bits, IsStoredList}
 use Rattle.attr_types.specs.declared.kind.ValueType.{ValueType}
@@ -45,12 +45,12 @@ pub record IsBlock (k : ℕ) (ws : List ℕ) : Type 0 where
   pub size : length ws ≡ BLOCK_WORDS
   pub some : 0 < length (block_documents k ws)
 
--- a short list has at most MOST_SHORT documents, a tree has more; a bit vector has at least one block
+-- a short list has at most MOST_SHORT documents, a tree or a bit vector has more
 abbrev pub IsPostingList : Records → ListForm → Type 0
 IsPostingList m (short ref) = IsStoredList MOST_SHORT (m ref)
 IsPostingList m (tree root) = IsTree nat_cmp by_number m root × (MOST_SHORT < length (tree_pairs m root))
     × AllByRecursion (λ p. p.1 < 2 ^ 32) (tree_pairs m root)
-IsPostingList m (vector root) = IsTree nat_cmp by_number m root × (0 < length (tree_pairs m root))
+IsPostingList m (vector root) = IsTree nat_cmp by_number m root × (MOST_SHORT < length (vector_documents m root))
     × AllByRecursion (λ p. IsBlock p.0 (m p.1)) (tree_pairs m root)
 
 -- what a list reaches
@@ -58,6 +58,11 @@ abbrev pub postings_reach : Records → ListForm → List ℕ
 postings_reach m (short ref) = ref ∷ []
 postings_reach m (tree root) = tree_nodes m root
 postings_reach m (vector root) = tree_nodes m root ++ map (λ p. p.1) (tree_pairs m root)
+
+-- whether a list of `n` of `m` documents, as a change leaves it, is to be a bit vector: bit vectors are wanted, and the
+-- list is long and has at least one document in MOST_SPREAD
+abbrev pub is_dense : Bool → ℕ → ℕ → Bool
+is_dense dense n m = dense && nat_le LEAST_DENSE n && nat_le m (MOST_SPREAD * n)
 
 -- the values of a dictionary, each with its list
 abbrev pub index_of : ValueType → Records → ℕ → List (Value × List (ℕ × ℤ))

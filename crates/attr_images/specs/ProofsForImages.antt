@@ -137,7 +137,7 @@ IsPostingList-same m n (tree root) h list =
 IsPostingList-same m n (vector root) h list =
     let nodes = SameAt-left m n (tree_nodes m root) (map (λ p. p.1) (tree_pairs m root)) h in (
       IsTree-same nat_cmp by_number m n root nodes refl list.0,
-      subst (λ ps. 0 < length ps) (sym (block_pairs-same m n root h)) list.1,
+      subst (λ (ds : List ℕ). MOST_SHORT < length ds) (sym (vector_documents-same m n root h)) list.1,
       are_blocks-same m n root h list.2,
     )
 

@@ -366,7 +366,25 @@ impl<const OFFSET_BITS: u32, W: Work<OFFSET_BITS>> Store<OFFSET_BITS>
         width: u32,
         words: &[u64],
         near: EntryRef<OFFSET_BITS>,
-    ) -> Result<EntryRef<OFFSET_BITS>, StoreError> {
+    ) -> Result<EntryRef<OFFSET_BITS>, StoreError>
+        requires unit { (⟦<EntryStore<OFFSET_BITS, W> as Store<OFFSET_BITS>>⟧.ledger self.old).unit ≡ true }
+        requires width { is_width width ≡ true }
+        requires fits { length words.now ≤ width }
+        ensures makes { IfOk result (Makes OFFSET_BITS (⟦<EntryStore<OFFSET_BITS, W> as Store<OFFSET_BITS>>⟧.ledger self.old)
+            (⟦<EntryStore<OFFSET_BITS, W> as Store<OFFSET_BITS>>⟧.ledger self.new)
+            (⟦<EntryStore<OFFSET_BITS, W> as Frozen<OFFSET_BITS>>⟧.records self.old)
+            (⟦<EntryStore<OFFSET_BITS, W> as Frozen<OFFSET_BITS>>⟧.records self.new) width words.now) }
+        ensures refuses { IfErr result (Refuses (⟦<EntryStore<OFFSET_BITS, W> as Store<OFFSET_BITS>>⟧.ledger self.old)
+            (⟦<EntryStore<OFFSET_BITS, W> as Store<OFFSET_BITS>>⟧.ledger self.new) width) }
+        ensures refused { OnErr result (MayGiveBack (⟦<EntryStore<OFFSET_BITS, W> as Store<OFFSET_BITS>>⟧.ledger self.old)
+            (⟦<EntryStore<OFFSET_BITS, W> as Store<OFFSET_BITS>>⟧.ledger self.new)) }
+        ensures after { IfErr result (ComesAfter (⟦<EntryStore<OFFSET_BITS, W> as Store<OFFSET_BITS>>⟧.ledger self.old)
+            (⟦<EntryStore<OFFSET_BITS, W> as Store<OFFSET_BITS>>⟧.ledger self.new) width) }
+        ensures left { OnErr result (⟦<EntryStore<OFFSET_BITS, W> as Frozen<OFFSET_BITS>>⟧.records self.new
+            ≡ ⟦<EntryStore<OFFSET_BITS, W> as Frozen<OFFSET_BITS>>⟧.records self.old) }
+        ensures may { MayDo (⟦<EntryStore<OFFSET_BITS, W> as Store<OFFSET_BITS>>⟧.ledger self.old)
+            (⟦<EntryStore<OFFSET_BITS, W> as Store<OFFSET_BITS>>⟧.ledger self.new) }
+    {
         match self.make_spare(width, words, near.raw()) {
             Some(entry) => Ok(entry),
             None => self.make_again(width, words),
