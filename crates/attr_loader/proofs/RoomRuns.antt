@@ -35,11 +35,11 @@ pub values_append : (fields : List Field) (table : Table) (xs ys : List Op) → 
 values_append fields table [] ys = refl
 values_append fields table (x ∷ xs) ys = ap (λ ts. operation_values fields table x ∷ ts) (values_append fields (after_op fields table x) xs ys)
 
-values_length : (fields : List Field) (table : Table) (ops : List Op) → length (values_of fields table ops) ≡ length ops
+pub values_length : (fields : List Field) (table : Table) (ops : List Op) → length (values_of fields table ops) ≡ length ops
 values_length fields table [] = refl
 values_length fields table (op ∷ ops) = ap suc (values_length fields (after_op fields table op) ops)
 
-values_take : (fields : List Field) (table : Table) (ops : List Op) (n : ℕ) → take n (values_of fields table ops) ≡ values_of fields table (take n ops)
+pub values_take : (fields : List Field) (table : Table) (ops : List Op) (n : ℕ) → take n (values_of fields table ops) ≡ values_of fields table (take n ops)
 values_take fields table ops zero = refl
 values_take fields table [] (suc n) = refl
 values_take fields table (op ∷ ops) (suc n) = ap (λ ts. operation_values fields table op ∷ ts) (values_take fields (after_op fields table op) ops n)
@@ -48,18 +48,18 @@ pub after_append : (steps : Steps) (xs ys : List ℕ) → after_values steps (xs
 after_append steps [] ys = refl
 after_append steps (x ∷ xs) ys = after_append (after_operation steps x) xs ys
 
-after_pairs : (steps : Steps) (ts : List ℕ) → pairs_of (after_values steps ts) ≡ pairs_of steps + weight ts
+pub after_pairs : (steps : Steps) (ts : List ℕ) → pairs_of (after_values steps ts) ≡ pairs_of steps + weight ts
 after_pairs steps [] = omega arith
 after_pairs steps (t ∷ ts) =
     let rest = after_pairs (after_operation steps t) ts in
     let one = sum_by-cons (λ (x : ℕ). x + 1) t ts in
     omega (arith, rest, one)
 
-after_roots : (steps : Steps) (ts : List ℕ) → (after_values steps ts).roots ≡ steps.roots
+pub after_roots : (steps : Steps) (ts : List ℕ) → (after_values steps ts).roots ≡ steps.roots
 after_roots steps [] = refl
 after_roots steps (t ∷ ts) = after_roots (after_operation steps t) ts
 
-after_key : (steps : Steps) (ts : List ℕ) → (after_values steps ts).keys ≡ steps.keys
+pub after_key : (steps : Steps) (ts : List ℕ) → (after_values steps ts).keys ≡ steps.keys
 after_key steps [] = refl
 after_key steps (t ∷ ts) = after_key (after_operation steps t) ts
 
@@ -94,6 +94,24 @@ take_all xs n is = ap (λ k. take k xs) is ∙ take_whole xs
 none_ascend : IsStrictlySortedBy Rattle.std.proofs.Common.nat_cmp []
 unfolding IsStrictlySortedBy
 none_ascend = tt
+
+-- nothing was made of an empty table
+pub empty_made : {H : Type 0} (ledger : Ledger H) (fields : List Field) → length fields ≡ 1 → HasMadeNothing ledger → IsMade ledger fields [] no_steps
+empty_made ledger fields one nothing = record {
+  one = one;
+  most = λ w. 0;
+  has = start_made (is_single_long fields);
+  long = start_long;
+  plain = λ none w off. refl;
+  within = record {
+    made_few = λ w. (let same = ap (λ c. c.made) (nothing.counts w) in omega (arith, same));
+    buffers_few = λ w. (let same = ap (λ c. c.buffers) (nothing.counts w) in omega (arith, same));
+  };
+  lawful = record { ascends = none_ascend; numbers = tt; documents = tt };
+  typed = tt;
+  values = omega arith;
+  documents = omega arith;
+}
 
 -- ---- a batch
 module _ {S H : Type 0} (ledger : S → Ledger H) where
@@ -202,6 +220,24 @@ module _ {S H : Type 0} (ledger : S → Ledger H) where
     adds = λ steps start. refused_more (ledger c.store) c.fields c.table (after_values steps (values_of a.fields a.table (take before ops))) applies.width (applies.adds steps start);
   }
 
+  -- the values of one part more
+  module _ (start b : AttributeView S) (steps : Steps) (count : ℕ) (ops part : List Op) (n : ℕ) (fields : b.fields ≡ start.fields) (table : b.table ≡ after_ops start.fields [] (take count ops))
+      (front : take (count + n) ops ≡ take count ops ++ take n part) where
+    abbrev ts : List ℕ
+    ts = values_of b.fields b.table (take n part)
+
+    ts_are : values_of start.fields [] (take (count + n) ops) ≡ values_of start.fields [] (take count ops) ++ ts
+    ts_are =
+        ap (values_of start.fields []) front ∙ values_append start.fields [] (take count ops) (take n part)
+        ∙ ap (λ us. values_of start.fields [] (take count ops) ++ us)
+        (sym (ap (λ fs. values_of fs b.table (take n part)) fields ∙ ap (λ tb. values_of start.fields tb (take n part)) table))
+
+    pub weight_on : pairs_of steps ≡ weight (values_of start.fields [] (take count ops)) → pairs_of (after_values steps ts) ≡ weight (values_of start.fields [] (take (count + n) ops))
+    weight_on so_far =
+        let pairs = after_pairs steps ts in
+        let whole_sum = ap weight ts_are ∙ sum_by-append (λ (x : ℕ). x + 1) (values_of start.fields [] (take count ops)) ts in
+        omega (arith, pairs, so_far, whole_sum)
+
   -- ---- a loading
   -- what was made after so many operations, in whole batches but for the last one
   pub record Runs (batch : ℕ) (ops : List Op) (start now : AttributeView S) (count : ℕ) : Type 0 where
@@ -216,48 +252,15 @@ module _ {S H : Type 0} (ledger : S → Ledger H) where
   module _ (batch : ℕ) (ops : List Op) (start : AttributeView S) where
     pub runs_begin : start.table ≡ [] → length start.fields ≡ 1 → HasMadeNothing (ledger start.store) → Runs batch ops start start 0
     runs_begin empty one nothing =
-        let made : IsMade (ledger start.store) start.fields [] no_steps = record {
-          one = one;
-          most = λ w. 0;
-          has = start_made (is_single_long start.fields);
-          long = start_long;
-          plain = λ none w off. refl;
-          within = record {
-            made_few = λ w. (let same = ap (λ c. c.made) (nothing.counts w) in omega (arith, same));
-            buffers_few = λ w. (let same = ap (λ c. c.buffers) (nothing.counts w) in omega (arith, same));
-          };
-          lawful = record { ascends = none_ascend; numbers = tt; documents = tt };
-          typed = tt;
-          values = omega arith;
-          documents = omega arith;
-        } in
         record {
           last = 0;
           point = (let m = Rattle.std.proofs.Common.mul-zero batch in omega (arith, m));
           steps = no_steps;
-          made = subst (λ (t : Table). IsMade (ledger start.store) start.fields t no_steps) (sym empty) made;
+          made = subst (λ (t : Table). IsMade (ledger start.store) start.fields t no_steps) (sym empty) (empty_made (ledger start.store) start.fields one nothing);
           pairs = refl;
           roots = refl;
           keys = omega arith;
         }
-
-    module _ (b : AttributeView S) (count : ℕ) (runs : Runs batch ops start b count) (part : List Op) (n : ℕ) (fields : b.fields ≡ start.fields) (table : b.table ≡ after_ops start.fields [] (take count ops))
-        (front : take (count + n) ops ≡ take count ops ++ take n part) where
-      abbrev ts : List ℕ
-      ts = values_of b.fields b.table (take n part)
-
-      ts_are : values_of start.fields [] (take (count + n) ops) ≡ values_of start.fields [] (take count ops) ++ ts
-      ts_are =
-          ap (values_of start.fields []) front ∙ values_append start.fields [] (take count ops) (take n part)
-          ∙ ap (λ us. values_of start.fields [] (take count ops) ++ us)
-          (sym (ap (λ fs. values_of fs b.table (take n part)) fields ∙ ap (λ tb. values_of start.fields tb (take n part)) table))
-
-      pub weight_on : pairs_of (after_values runs.steps ts) ≡ weight (values_of start.fields [] (take (count + n) ops))
-      weight_on =
-          let pairs = after_pairs runs.steps ts in
-          let so_far = runs.pairs in
-          let whole_sum = ap weight ts_are ∙ sum_by-append (λ (x : ℕ). x + 1) (values_of start.fields [] (take count ops)) ts in
-          omega (arith, pairs, so_far, whole_sum)
 
     pub runs_on : (b c : AttributeView S) (count skipped : ℕ) (runs : Runs batch ops start b count) (part : List Op) → b.fields ≡ start.fields → b.table ≡ after_ops start.fields [] (take count ops)
         → take (count + length part) ops ≡ take count ops ++ part → count + length part ≡ commit_point batch (length ops) (suc runs.last) → LoadsRoom ledger b c part (Done skipped)
@@ -266,7 +269,7 @@ module _ {S H : Type 0} (ledger : S → Ledger H) where
         let ts = values_of b.fields b.table part in
         let pairs = subst (λ (xs : List Op). pairs_of (after_values runs.steps (values_of b.fields b.table xs)) ≡ weight (values_of start.fields [] (take (count + length part) ops)))
         (take_all part (length part) refl)
-        (weight_on b count runs part (length part) fields table (front ∙ ap (λ xs. take count ops ++ xs) (sym (take_all part (length part) refl)))) in
+        (weight_on start b runs.steps count ops part (length part) fields table (front ∙ ap (λ xs. take count ops ++ xs) (sym (take_all part (length part) refl))) runs.pairs) in
         let roots = after_roots runs.steps ts in
         let keys = after_key runs.steps ts in
         let was = runs.roots in
@@ -314,7 +317,7 @@ module _ {S H : Type 0} (ledger : S → Ledger H) where
           full_owed (load_of (ledger c.store).work.sizes.buffers (ledger c.store).work.sizes.words c.fields batch ops) (count + before) count after made_now.most
           (λ width. ((ledger c.store).of_width width).made) (λ width. ((ledger c.store).of_width width).buffers) words
           (record {
-            pairs = (let pairs = weight_on b count runs part before fields table front in omega (arith, pairs, weights));
+            pairs = (let pairs = weight_on start b runs.steps count ops part before fields table front runs.pairs in omega (arith, pairs, weights));
             roots = (let roots = after_roots runs.steps (values_of b.fields b.table (take before part)) in let was = runs.roots in omega (arith, roots, was, commits));
             keys = (let keys = after_key runs.steps (values_of b.fields b.table (take before part)) in let had = runs.keys in omega (arith, keys, had, commits));
           })

@@ -121,12 +121,16 @@ module _ {S H : Type 0} (ledger : S → Ledger H) where
       → LeavesRoom (ledger old.store).work.sizes.words (is_single_long old.fields) (more steps)
       → (new.plan ≡ None) × IsMade (ledger new.store) new.fields new.table (more steps)
 
-  -- for operations, with the refused one; for a commit, with the keys after it; and for both
+  -- for operations, with the refused one; for a commit, without and with the keys after it; and for both
   abbrev pub AppliesRoom : AttributeView S → AttributeView S → List Op → Batch → Type 0
   AppliesRoom old new ops (Done skipped) =
       (new.plan ≡ old.plan) × AddsSteps old new (λ steps. after_values steps (values_of old.fields old.table ops))
   AppliesRoom old new ops (Full before active held) =
       RefusesSteps old new (λ steps. after_values steps (values_of old.fields old.table (take before ops)))
+
+  abbrev pub CommitsRoot : AttributeView S → AttributeView S → Batch → Type 0
+  CommitsRoot old new (Done skipped) = (new.plan ≡ old.plan) × AddsSteps old new after_root
+  CommitsRoot old new (Full before active held) = RefusesSteps old new after_root
 
   abbrev pub CommitsRoom : AttributeView S → AttributeView S → Batch → Type 0
   CommitsRoom old new (Done skipped) =
