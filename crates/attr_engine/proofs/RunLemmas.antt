@@ -1,5 +1,5 @@
 -- Rounds of commits are rounds of the plain table, and the rounds of a run are what its report tells.
-use Rattle.std.proofs.Common.{◌≡◌, ◌≤◌, ◌+◌, ℕ, List, [], ◌∷◌, length, Some, inl, inr, refl, sym, ap, subst, ◌∙◌, arith}
+use Rattle.std.proofs.Common.{◌≡◌, ◌≤◌, ◌+◌, ℕ, List, [], ◌∷◌, length, Some, inl, inr, refl, sym, ap, ap₂, subst, ◌∙◌, arith}
 use Rattle.std.specs.Prelude.{Bool, true, false, if◌then◌else◌, is_some, Option, None, IfSome, Vec}
 use Rattle.std.specs.Global.{Global}
 use Rattle.std.proofs.lemmas.Option.{slice_get_within}
@@ -30,6 +30,7 @@ use Rattle.attr_engine.specs.FullStore.{load_in, readers_of, IsJustified}
 use Rattle.attr_engine.specs.Run.{full_of}
 use Rattle.attr_engine.specs.Rounds.{IsRoundAt, AreRoundsAt, IsCame, IsSaveOf, seen_before}
 use Rattle.attr_engine.specs.declared.came.Save.{Save}
+use Rattle.attr_engine.specs.Saver.{one_if, save_parts}
 use Rattle.attr_engine.specs.Steps.{KeepsWriter, parts, AreRoundsOf, IsLastAnswer, LoadsInto}
 use Rattle.attr_engine.specs.Rounds.{operations_of, tells_of}
 use Rattle.attr_engine.proofs.ReaderLemmas.{AllOf}
@@ -84,16 +85,16 @@ ended : (run : Run) (total loaded : ℕ) (full : Option NoRoom) → EndsAt run.b
 ended run total loaded None ends = (ends, tt)
 ended run total loaded (Some room) ends = ((ends.0, ends.1, ends.2), ends.3)
 
--- no reader runs beside the loading
-alone : (run : Run) → IsQuiet (readers_of run) → (parts run.after run.readers).0 ≡ 0
+-- no reader runs beside the loading, and no saver
+alone : (run : Run) → IsQuiet (readers_of run) → (parts run.after run.readers).0 + one_if (save_parts run.after run.save).0 ≡ 0
 alone run quiet = elim quiet [
-  | inl after ↦ ap (λ b. (parts b run.readers).0) after
-  | inr few ↦ none_beside run.after run.readers few.0
+  | inl after ↦ ap (λ b. (parts b run.readers).0 + one_if (save_parts b run.save).0) after
+  | inr few ↦ none_beside run.after run.readers run.save few.0 few.1
 ]
   where
-    none_beside : (b : Bool) (readers : ℕ) → readers ≡ 0 → (parts b readers).0 ≡ 0
-    none_beside true readers few = refl
-    none_beside false readers few = few
+    none_beside : (b : Bool) (readers : ℕ) (save : Bool) → readers ≡ 0 → save ≡ false → (parts b readers).0 + one_if (save_parts b save).0 ≡ 0
+    none_beside true readers save few unsaved = refl
+    none_beside false readers save few unsaved = ap₂ (λ n s. n + one_if s) few unsaved
 
 justified_by : (run : Run) (ops : List Op) (loaded : ℕ) (full : Option NoRoom)
     → (length run.fields ≡ 1 → IfSome full (λ f. IsOwed (load_in run ops) f.operation loaded)) → (IsQuiet (readers_of run) → IfSome full (λ f. f.held ≡ 0)) → IfSome full (IsJustified run ops loaded)
@@ -102,7 +103,7 @@ justified_by run ops loaded (Some full) owed quiet = record { owed = owed; quiet
 
 -- what a run came to, by the writer before and after the loading
 module _ (run : Run) (ops : List Op) (w v : WriterView) (loaded : Loaded) (loads : LoadsInto run.fields run.batch ops w v loaded) (buffers : w.sizes.buffers ≡ run.buffers) (words : w.sizes.words ≡ run.words)
-    (made : v.made ≡ (parts run.after run.readers).0) (shape : w.sizes.shape ≡ shape_of (types_of run.fields)) (none : w.commits ≡ no_image ∷ []) where
+    (made : v.made ≡ (parts run.after run.readers).0 + one_if (save_parts run.after run.save).0) (shape : w.sizes.shape ≡ shape_of (types_of run.fields)) (none : w.commits ≡ no_image ∷ []) where
   abbrev counted : Bool
   counted = is_some run.make
 

@@ -219,7 +219,7 @@ module _ (run : Run) (ops : List Op) (field : Field) (first : slice_get run.fiel
       }
 
 -- a saver takes one seat, beside the loading or after it
-pub one_part : (after save : Bool) → one_if (save_parts after save).0 ≤ 1
+pub one_part : (after save : Bool) → one_if (save_parts after save).0 + one_if (save_parts after save).1 ≤ 1
 one_part true true = omega arith
 one_part true false = omega arith
 one_part false true = omega arith

@@ -157,7 +157,7 @@ pub fn saver_of<'a, const OFFSET_BITS: u32, G: Gate>(
     saving: &'a Saving<'a, G>,
     save: bool,
 ) -> Option<Saver<'a, OFFSET_BITS, G>>
-    requires { (writer_of writer.old.place.me.0).made + one_if save ≤ 64 }
+    requires { (writer_of writer.old.place.me.0).made < 64 }
     ensures asked { is_some result ≡ save }
     ensures saver { IfSome result (λ saver. IsReader (writer_of writer.old.place.me.0) writer.old.place.table_id
         (reader_of saver.reader.place.me.0) saver.reader.place.table_id × (saver.saving.now ≡ saving.now)) }
@@ -231,7 +231,7 @@ pub fn last_saved<'a, const OFFSET_BITS: u32, G: Gate>(
     operations: u32,
 ) -> Result<Option<Save>, AllocError>
     requires first { IsFirst saving.now.field.now.kind saving.now.field.now.value (writer_of writer.old.place.me.0).sizes.shape }
-    requires seat { (writer_of writer.old.place.me.0).made < 64 }
+    requires seat { (writer_of writer.old.place.me.0).made + one_if save ≤ 64 }
     ensures asked { IfOk result (λ saved. is_some saved ≡ save) }
     ensures count { IfOk result (λ saved. IfSome saved (λ s. s.operations ≡ operations)) }
     ensures last { IfOk result (λ saved. IfSome saved (λ s. IsLastAnswer operations_of (saves_of saving.now.field.now)

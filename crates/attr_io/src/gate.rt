@@ -1,6 +1,5 @@
-/// Where a run stands: after a commit of the loader, or before or after a round of a reader.
-/// Readers and their rounds are numbered from 1; `operations` is how many the commit has. Reader 0 is the saver: its
-/// round 1 is as any round, and while it has its guard it writes the save in a round 0.
+/// A point of a run: after a commit of the loader, or before or after a round of a reader. Readers and their rounds
+/// are numbered from 1; `operations` is the number of operations in the commit.
 #[derive(Clone, Copy, Debug, PartialEq, Eq)]
 pub enum Point {
     Committed {

@@ -6,22 +6,26 @@ use Rattle.std.specs.BTreeMap.{insert_entry, is_at}
 use Rattle.std.specs.List.{AllByRecursion}
 use Rattle.std.specs.Map.{keys_of, remove_entry}
 use Rattle.std.specs.Option.{unwrap_or}
+use Rattle.std.proofs.lemmas.Option.{slice_get_within}
+use Rattle.std.specs.Prelude.{slice_get}
 use Rattle.array_store.proofs.ClassLemmas.{class_least}
 use Rattle.array_store.specs.Adding.{MakesOneOf}
-use Rattle.store_api.specs.Ledgers.{Ledger}
+use Rattle.store_api.specs.Ledgers.{Ledger, is_width}
 use Rattle.attr_field.proofs.WeightLemmas.{weights_typed}
 use Rattle.attr_field.specs.Counts.{change_records, entry_weight, lost_values, new_values, StaysLow}
 use Rattle.attr_field.specs.Items.{items_record}
+use Rattle.attr_field.specs.Widths.{IsFieldWidth}
 use Rattle.attr_images.specs.Words.{class_of}
 use Rattle.attr_index.proofs.ColumnLemmas.{operation_changes}
 use Rattle.attr_index.specs.Changes.{first_weights}
 use Rattle.attr_index.specs.Columns.{Column, column_of, documents_with, with_change}
 use Rattle.attr_room.proofs.Levels.{levels_there}
-use Rattle.attr_room.proofs.Steps.{counts_rise, keys_made, operation_few, operation_made, root_made}
+use Rattle.attr_room.proofs.Steps.{counts_rise, keys_long, keys_made, operation_few, operation_long, operation_made, root_long, root_made}
 use Rattle.attr_room.specs.Laws.{HasLevels}
 use Rattle.attr_room.specs.Made as room
 use Rattle.attr_room.specs.Made.{Steps, HasMade, MakesRoot, RiseBy, after_keys, after_operation, after_root, both, broad_sum, pairs_of}
 use Rattle.attr_room.specs.Runs.{AreLevels}
+use Rattle.attr_steps.specs.Widths.{IsOperationWidth}
 use Rattle.attr_steps.specs.Counts.{document_after, document_before, document_records, items_if_there, kind_at, low_document, weights_at, MakesOperation}
 use Rattle.attr_types.proofs.EntryLemmas.{all-lookup}
 use Rattle.attr_types.proofs.TableLemmas.{step_keeps}
@@ -45,7 +49,8 @@ use Rattle.compaction_moves.specs.Counts.{key_nodes, IsLowColumn}
 use Rattle.posting_store.specs.Changes.{MakesWithin}
 use Rattle.value_index.specs.Counts.{by_width, is_added, is_gone, new_record, put_records, short_record, taken_records}
 use Rattle.attr_loader.proofs.ColumnWeights.{index_few, put_length, put_weight, taken_length, taken_weight}
-use Rattle.attr_loader.specs.Room.{column_weight, is_long, is_single, is_single_long, IsMade}
+use Rattle.attr_loader.proofs.LongRecords.{broad, change_long, change_off, change_wide, change_widest, items_refused, off_node, short_broad}
+use Rattle.attr_loader.specs.Room.{column_weight, is_long, is_single, is_single_long, IsMade, IsRefusedBy}
 
 -- ---- the table after an operation
 with_weight : (column : Column) (doc : ℕ) (o : Option Document) → column_weight (with_change column doc (option_map (λ d. items_in d 0) o)) ≤ column_weight column + length (weights_at o 0)
@@ -114,33 +119,6 @@ single_long (field ∷ []) is =
     let parts = two_true (is_single field.kind) (is_long field.value) is in
     record { kind = single_is field.kind parts.0; all = ((single_is field.kind parts.0, long_is field.value parts.1), tt) }
 single_long (field ∷ more ∷ fields) is = absurd (true≢false (sym is))
-
--- widths from 32 on
-abbrev broad : List ℕ
-broad = 32 ∷ 64 ∷ 128 ∷ 256 ∷ 512 ∷ 1024 ∷ []
-
-far : (w k : ℕ) → k < w → cond {A = ℕ} (nat_eq w k) 1 0 ≡ 0
-far w k less = told (nat_eq w k) refl
-  where
-    told : (t : Bool) → nat_eq w k ≡ t → cond {A = ℕ} t 1 0 ≡ 0
-    told true is = absurd (let same = eqb-true w k is in omega arith)
-    told false is = refl
-
-short_broad : (count : ℕ) → over broad (short_record count) ≡ 0
-short_broad count = told (nat_le count 8) refl
-  where
-    told : (t : Bool) → nat_le count 8 ≡ t → over broad (λ w. cond t (cond (nat_eq w (class_of (1 + count))) 1 0) 0) ≡ 0
-    told true is =
-        let few = leb-true count 8 is in
-        let k = class_least (1 + count) 16 (inr (inr (inr (inl refl)))) (omega arith) in
-        let a = far 32 (class_of (1 + count)) (omega (arith, k)) in
-        let b = far 64 (class_of (1 + count)) (omega (arith, k)) in
-        let c = far 128 (class_of (1 + count)) (omega (arith, k)) in
-        let d = far 256 (class_of (1 + count)) (omega (arith, k)) in
-        let e = far 512 (class_of (1 + count)) (omega (arith, k)) in
-        let f = far 1024 (class_of (1 + count)) (omega (arith, k)) in
-        omega (arith, a, b, c, d, e, f)
-    told false is = refl
 
 own_broad : (docs : List (ℕ × ℤ)) (value : Value) → type_of value ≡ types.Long → over broad (new_record docs value) ≡ 0
 own_broad [] (values.Long number) is = refl
@@ -254,6 +232,45 @@ module _ {H : Type 0} (old new : Ledger H) (fields : List Field) (table : Table)
       (weights_typed types.Long ow (items_if_there (document_after fields table op) 0) refl typed) in
       omega (arith, none)
 
+  long_few : room.MakesFewLong t more
+  long_few =
+      let before = items_if_there (document_before table op) 0 in
+      let after = items_if_there (document_after fields table op) 0 in
+      let long = change_long (column_of 0 table) (op_doc op) before after (kind_at fields 0) in
+      let wide = change_wide (column_of 0 table) (op_doc op) before after (kind_at fields 0) in
+      let few = few_values in
+      record { long = omega (arith, long, few); wide = omega (arith, wide) }
+
+  plain_none : (w : ℕ) → is_width w ≡ false → more w ≡ 0
+  plain_none w off = told (nat_eq w 34) (off_node w off)
+    where
+      told : (b : Bool) → b ≡ false → cond b (low_document there.levels (document_before table op) (document_after fields table op) 1) (records w) ≡ 0
+      told true is = absurd (true≢false is)
+      told false is =
+          let none = change_off w off (column_of 0 table) (op_doc op) (items_if_there (document_before table op) 0) (items_if_there (document_after fields table op) 0) (kind_at fields 0) in
+          omega (arith, none)
+
+  plain : (after_operation steps t).keys ≡ 0 → (w : ℕ) → is_width w ≡ false → both made.most more w ≡ 0
+  plain none w off = let so_far = made.plain none w off in let here = plain_none w off in omega (arith, so_far, here)
+
+  -- the record of 512 words was refused
+  widest_none : (width : ℕ) → width ≡ 512 → IsOperationWidth fields table op width → more 1024 ≡ 0
+  widest_none width is names =
+      told names.number names.field (slice_get_within fields names.number names.field names.field_is) names.field_is
+      (subst (IsFieldWidth names.field.kind (column_of names.number (after_op fields table op)) (items_if_there (document_before table op) names.number)
+      (items_if_there (document_after fields table op) names.number)) is names.is)
+    where
+      told : (number : ℕ) (field : Field) → number < length fields → slice_get fields number ≡ Some field
+          → IsFieldWidth field.kind (column_of number (after_op fields table op)) (items_if_there (document_before table op) number) (items_if_there (document_after fields table op) number) 512
+          → more 1024 ≡ 0
+      told zero field below found is =
+          let kind : kind_at fields 0 ≡ field.kind = ap (λ o. unwrap_or (option_map (λ f. f.kind) o) Single) found in
+          let none = items_refused field.kind (column_of 0 (after_op fields table op)) (items_if_there (document_before table op) 0) (items_if_there (document_after fields table op) 0) is in
+          let widest = change_widest (column_of 0 table) (op_doc op) (items_if_there (document_before table op) 0) (items_if_there (document_after fields table op) 0) (kind_at fields 0)
+          (ap (λ k. items_record k (length (items_if_there (document_after fields table op) 0)) 1024) kind ∙ none) in
+          omega (arith, widest)
+      told (suc number) field below found is = absurd (let one = made.one in omega (arith, one, below))
+
   has : HasMade (is_single_long fields) (after_operation steps t) (both made.most more)
   has = operation_made (is_single_long fields) steps t made.most more made.has (record { nodes = nodes_few; records = sum_few; narrow = narrow_none })
 
@@ -270,6 +287,8 @@ module _ {H : Type 0} (old new : Ledger H) (fields : List Field) (table : Table)
         one = made.one;
         most = both made.most more;
         has = has;
+        long = operation_long steps t made.most more made.long long_few;
+        plain = plain;
         within = within;
         lawful = sound.0;
         typed = sound.1;
@@ -278,16 +297,21 @@ module _ {H : Type 0} (old new : Ledger H) (fields : List Field) (table : Table)
       }
 
   -- it was refused
-  pub made_refused : IsMade new fields table (after_operation steps t)
-  made_refused = record {
-    one = made.one;
-    most = both made.most more;
-    has = has;
-    within = within;
-    lawful = made.lawful;
-    typed = made.typed;
-    values = let all = made.values in omega (arith, all);
-    documents = let all = made.documents in omega (arith, all);
+  pub made_refused : (width : ℕ) → IsOperationWidth fields table op width → IsRefusedBy new fields table (after_operation steps t) width
+  made_refused width names = record {
+    made = record {
+      one = made.one;
+      most = both made.most more;
+      has = has;
+      long = operation_long steps t made.most more made.long long_few;
+      plain = plain;
+      within = within;
+      lawful = made.lawful;
+      typed = made.typed;
+      values = let all = made.values in omega (arith, all);
+      documents = let all = made.documents in omega (arith, all);
+    };
+    apart = λ is. (let before = made.long.wide in let none = widest_none width is names in omega (arith, before, none));
   }
 
 -- ---- a commit
@@ -302,6 +326,8 @@ made_root old new fields table steps made makes =
       one = made.one;
       most = both made.most more;
       has = root_made (is_single_long fields) steps made.most more made.has (record { nodes = refl; root = omega arith; others = refl });
+      long = root_long steps made.most more made.long (record { nodes = refl; root = omega arith; others = refl });
+      plain = λ none w off. (let so_far = made.plain none w off in let here = root_none w off (nat_eq w 4) refl in omega (arith, so_far, here));
       within = counts_rise made.most more (λ width. (old.of_width width).made) (λ width. (new.of_width width).made) (λ width. (old.of_width width).buffers) (λ width. (new.of_width width).buffers)
           made.within rise;
       lawful = made.lawful;
@@ -310,6 +336,10 @@ made_root old new fields table steps made makes =
       documents = made.documents;
     }
   where
+    root_none : (w : ℕ) → is_width w ≡ false → (t : Bool) → nat_eq w 4 ≡ t → cond {A = ℕ} t 1 0 ≡ 0
+    root_none w off true is = absurd (let same : true ≡ is_width w = ap is_width (sym (eqb-true w 4 is)) in true≢false (same ∙ off))
+    root_none w off false is = refl
+
     by_root : {H : Type 0} (old new : Ledger H) → MakesOneOf 4 old new → (w : ℕ) (t : Bool) → nat_eq w 4 ≡ t
         → ((new.of_width w).made ≤ (old.of_width w).made + cond t 1 0) × ((new.of_width w).buffers ≤ (old.of_width w).buffers + cond t 1 0)
     by_root old new here w true is =
@@ -322,9 +352,9 @@ made_root old new fields table steps made makes =
 twice : (a k : ℕ) → 2 * a * k ≡ a * (2 * k)
 twice a k = ap (λ x. x * k) (mul_comm 2 a) ∙ mul_assoc a 2 k
 
-pub made_keys : {H : Type 0} (old new : Ledger H) (fields : List Field) (table : Table) (steps : Steps) (keys : ℕ) → IsMade old fields table steps → MakesKeys fields table old new keys
+pub made_keys : {H : Type 0} (old new : Ledger H) (fields : List Field) (table : Table) (steps : Steps) (keys : ℕ) → 0 < keys → IsMade old fields table steps → MakesKeys fields table old new keys
     → IsMade new fields table (after_keys steps keys)
-made_keys old new fields table steps keys made makes =
+made_keys old new fields table steps keys some_keys made makes =
     let there = levels_there (pairs_of steps) in
     let low_column : IsLowColumn there.levels (column_of 0 table) = record {
       some = there.are.some;
@@ -333,22 +363,25 @@ made_keys old new fields table steps keys made makes =
     } in
     let low = makes.low there.levels (λ field below. first there.levels field low_column (omega (arith, below, made.one))) in
     let more = by_width (key_nodes there.levels * keys) makes.records in
+    let keyed : room.MakesKeys (is_single_long fields) (pairs_of steps) keys more = record {
+      nodes = λ levels some below.
+          let up = least (pairs_of steps) there.levels levels there.are below some in
+          let inner : key_nodes there.levels * keys ≤ 2 * (2 * levels + 1) * keys = mul-le-mul_right keys (omega (arith, up)) in
+          let same = twice (2 * levels + 1) keys in
+          omega (arith, inner, same);
+      records = let few = makes.few in omega (arith, few);
+      narrow = λ is.
+          let none = makes.narrow (single_long fields is).all in
+          let a = none 32 (omega arith) in let b = none 64 (omega arith) in let c = none 128 (omega arith) in
+          let d = none 256 (omega arith) in let e = none 512 (omega arith) in let f = none 1024 (omega arith) in
+          omega (arith, a, b, c, d, e, f);
+    } in
     record {
       one = made.one;
       most = both made.most more;
-      has = keys_made (is_single_long fields) steps keys made.most more made.has (record {
-        nodes = λ levels some below.
-            let up = least (pairs_of steps) there.levels levels there.are below some in
-            let inner : key_nodes there.levels * keys ≤ 2 * (2 * levels + 1) * keys = mul-le-mul_right keys (omega (arith, up)) in
-            let same = twice (2 * levels + 1) keys in
-            omega (arith, inner, same);
-        records = let few = makes.few in omega (arith, few);
-        narrow = λ is.
-            let none = makes.narrow (single_long fields is).all in
-            let a = none 32 (omega arith) in let b = none 64 (omega arith) in let c = none 128 (omega arith) in
-            let d = none 256 (omega arith) in let e = none 512 (omega arith) in let f = none 1024 (omega arith) in
-            omega (arith, a, b, c, d, e, f);
-      });
+      has = keys_made (is_single_long fields) steps keys made.most more made.has keyed;
+      long = keys_long (is_single_long fields) steps keys made.most more made.long keyed;
+      plain = λ none. absurd (omega (arith, none, some_keys));
       within = counts_rise made.most more (λ width. (old.of_width width).made) (λ width. (new.of_width width).made) (λ width. (old.of_width width).buffers) (λ width. (new.of_width width).buffers)
           made.within (record { made_few = low.made; buffers_few = low.buffers });
       lawful = made.lawful;

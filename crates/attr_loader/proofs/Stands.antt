@@ -11,7 +11,7 @@ use Rattle.entry_ref.specs.Images.{no_image, words_at}
 use Rattle.arena_api.specs.Calls.{told_after}
 use Rattle.arena_api.specs.Generations.{current}
 use Rattle.arena_api.specs.Works.{Sizes}
-use Rattle.attr_room.specs.Runs.{IsOwed}
+use Rattle.attr_room.specs.Runs.{IsOwed, IsSmall}
 use Rattle.attr_loader.specs.Room.{load_of, HasMadeNothing}
 use Rattle.store_api.specs.Ledgers.{Ledger}
 use Rattle.attr_images.specs.Images.{IsLawfulImage, table_of}
@@ -206,8 +206,10 @@ module _ {S H : Type 0} (ledger : S → Ledger H) (batch : ℕ) (ops : List Op) 
 
     pub finds_no_room : (c : AttributeView S) (before active held : ℕ) → 0 < batch → FindsNoRoom ledger b c part before active held
         → (length start.fields ≡ 1 → HasMadeNothing (ledger start.store) → IsOwed (load_of (ledger start.store).work.sizes.buffers (ledger start.store).work.sizes.words start.fields batch ops) (count + before) count)
+        → (length start.fields ≡ 1 → HasMadeNothing (ledger start.store) → start.plan ≡ None → 8 ≤ (ledger start.store).work.sizes.buffers
+        → ¬ IsSmall (load_of (ledger start.store).work.sizes.buffers (ledger start.store).work.sizes.words start.fields batch ops))
         → current (ledger c.store).work ≤ (ledger c.store).work.commits.last → Loads ledger batch ops start c (record { operations = count; skipped = skips; full = Some (record { operation = count + before; active = active; held = held }) })
-    finds_no_room c before active held some full owed timely = record {
+    finds_no_room c before active held some full owed small timely = record {
       stays = stays_on ledger start b c stands.stays full.keeps.stays;
       last = stands.last;
       told = subst (AreCommits start.fields batch ops stands.last) (sym full.keeps.told) stands.told;
@@ -231,6 +233,7 @@ module _ {S H : Type 0} (ledger : S → Ledger H) (batch : ℕ) (ops : List Op) 
           );
       full = record { free = full.full.free; active_is = full.full.active_is; held_is = full.full.held_is; at = full_at c before active held full };
       owed = owed;
+      small = λ one nothing plan many is. absurd (small one nothing plan many is);
       unheld = λ none few.
           let stays = stays_on ledger start b c stands.stays full.keeps.stays in
           let same = full.keeps.last in
@@ -265,6 +268,7 @@ module _ {S H : Type 0} (ledger : S → Ledger H) (batch : ℕ) (ops : List Op) 
     commits = stands.commits;
     full = tt;
     owed = λ one nothing. tt;
+    small = λ one nothing plan many is. refl;
     unheld = λ none few. tt;
     point = stands.point;
     committed = stands.committed ∙ stands.table;

@@ -1,11 +1,11 @@
 -- How one batch changes attributes.
-use Rattle.std.specs.Prelude.{◌≡◌, ℕ, ◌+◌, ◌-◌, ◌<◌, ◌≤◌, ◌⊎◌, List, length, take}
+use Rattle.std.specs.Prelude.{◌≡◌, ℕ, ◌+◌, ◌-◌, ◌*◌, ◌<◌, ◌≤◌, ◌⊎◌, true, List, length, take, None}
 use Rattle.entry_ref.specs.declared.images.Image.{Image}
 use Rattle.entry_ref.specs.Images.{words_at}
 use Rattle.arena_api.specs.Calls.{told_after}
 use Rattle.arena_api.specs.Generations.{current}
 use Rattle.arena_api.specs.Works.{free_count}
-use Rattle.store_api.specs.Ledgers.{Ledger, active_count, held_count}
+use Rattle.store_api.specs.Ledgers.{Ledger, active_count, capacity, held_count, is_width}
 use Rattle.attr_types.specs.declared.applied.Applied.{Applied}
 use Rattle.attr_types.specs.declared.applied.Applied.TheVariants.{Changed, Skipped}
 use Rattle.attr_images.specs.Images.{IsLawfulImage, table_of, operations_at}
@@ -16,7 +16,7 @@ use Rattle.attribute_kinds.specs.Views.{AttributeView}
 use Rattle.attr_room.specs.Made.{Steps, after_keys, after_root}
 use Rattle.attr_room.specs.Runs.{step_keys}
 use Rattle.attr_loader.specs.Loading.{told_of, StaysIn}
-use Rattle.attr_loader.specs.Room.{after_values, values_of, IsMade}
+use Rattle.attr_loader.specs.Room.{after_values, is_single_long, values_of, IsMade, IsRefusedBy, LeavesRoom}
 use Rattle.attr_loader.specs.declared.error.LoadError.{LoadError}
 use Rattle.attr_loader.specs.declared.error.LoadError.TheVariants.{CommitsSpent, Memory}
 use Rattle.attr_loader.specs.declared.batch.Batch.{Batch}
@@ -106,21 +106,43 @@ module _ {S H : Type 0} (ledger : S → Ledger H) where
   AddsSteps old new more = (steps : Steps) → IsMade (ledger old.store) old.fields old.table steps
       → IsMade (ledger new.store) new.fields new.table (more steps)
 
-  -- for operations, with the refused one; for a commit, with the keys after it; and for both
+  -- the same for a store that refused an entry of some width: all entries of its buffers were made
+  pub record RefusesSteps (old new : AttributeView S) (more : Steps → Steps) : Type 0 where
+    pub width : ℕ
+    pub is : is_width width ≡ true
+    pub whole : ((ledger new.store).of_width width).buffers * capacity (ledger new.store).work.sizes.words width
+        ≤ ((ledger new.store).of_width width).made
+    pub adds : (steps : Steps) → IsMade (ledger old.store) old.fields old.table steps
+        → IsRefusedBy (ledger new.store) new.fields new.table (more steps) width
+
+  -- the same while these steps leave room: if no compaction is in progress, none is begun
+  abbrev pub AddsQuietly : AttributeView S → AttributeView S → (Steps → Steps) → Type 0
+  AddsQuietly old new more = old.plan ≡ None → (steps : Steps) → IsMade (ledger old.store) old.fields old.table steps
+      → LeavesRoom (ledger old.store).work.sizes.words (is_single_long old.fields) (more steps)
+      → (new.plan ≡ None) × IsMade (ledger new.store) new.fields new.table (more steps)
+
+  -- for operations, with the refused one; for a commit, without and with the keys after it; and for both
   abbrev pub AppliesRoom : AttributeView S → AttributeView S → List Op → Batch → Type 0
-  AppliesRoom old new ops (Done skipped) = AddsSteps old new (λ steps. after_values steps (values_of old.fields old.table ops))
+  AppliesRoom old new ops (Done skipped) =
+      (new.plan ≡ old.plan) × AddsSteps old new (λ steps. after_values steps (values_of old.fields old.table ops))
   AppliesRoom old new ops (Full before active held) =
-      AddsSteps old new (λ steps. after_values steps (values_of old.fields old.table (take before ops)))
+      RefusesSteps old new (λ steps. after_values steps (values_of old.fields old.table (take before ops)))
+
+  abbrev pub CommitsRoot : AttributeView S → AttributeView S → Batch → Type 0
+  CommitsRoot old new (Done skipped) = (new.plan ≡ old.plan) × AddsSteps old new after_root
+  CommitsRoot old new (Full before active held) = RefusesSteps old new after_root
 
   abbrev pub CommitsRoom : AttributeView S → AttributeView S → Batch → Type 0
-  CommitsRoom old new (Done skipped) = AddsSteps old new (λ steps. after_keys (after_root steps) step_keys)
-  CommitsRoom old new (Full before active held) = AddsSteps old new after_root
+  CommitsRoom old new (Done skipped) =
+      AddsSteps old new (λ steps. after_keys (after_root steps) step_keys) × AddsQuietly old new after_root
+  CommitsRoom old new (Full before active held) = RefusesSteps old new after_root
 
   abbrev pub LoadsRoom : AttributeView S → AttributeView S → List Op → Batch → Type 0
   LoadsRoom old new ops (Done skipped) =
       AddsSteps old new (λ steps. after_keys (after_root (after_values steps (values_of old.fields old.table ops))) step_keys)
+      × AddsQuietly old new (λ steps. after_root (after_values steps (values_of old.fields old.table ops)))
   LoadsRoom old new ops (Full before active held) =
-      AddsSteps old new (λ steps. after_root (after_values steps (values_of old.fields old.table (take before ops))))
+      RefusesSteps old new (λ steps. after_root (after_values steps (values_of old.fields old.table (take before ops))))
 
   -- all operations were applied and committed
   pub record LoadsAll (old new : AttributeView S) (ops : List Op) (skipped : ℕ) : Type 0 where

@@ -13,7 +13,7 @@ use Rattle.attr_types.specs.Table.{after, skipped}
 use Rattle.attr_types.specs.declared.field.Field.{Field}
 use Rattle.attr_types.specs.declared.op.Op.{Op}
 use Rattle.attribute_kinds.specs.Views.{AttributeView}
-use Rattle.attr_room.specs.Runs.{IsOwed}
+use Rattle.attr_room.specs.Runs.{IsOwed, IsSmall}
 use Rattle.attr_loader.specs.Room.{load_of, HasMadeNothing}
 use Rattle.attr_loader.specs.declared.error.LoadError.{LoadError}
 use Rattle.attr_loader.specs.declared.error.LoadError.TheVariants.{CommitsSpent, Memory}
@@ -94,6 +94,10 @@ module _ {S H : Type 0} (ledger : S → Ledger H) where
     pub owed : length old.fields ≡ 1 → HasMadeNothing (ledger old.store) → IfSome loaded.full
         (λ full. IsOwed (load_of (ledger old.store).work.sizes.buffers (ledger old.store).work.sizes.words old.fields batch ops)
         full.operation loaded.operations)
+    -- and a small run is never out of room, if no compaction is in progress at its start
+    pub small : length old.fields ≡ 1 → HasMadeNothing (ledger old.store) → old.plan ≡ None → 8 ≤ (ledger old.store).work.sizes.buffers
+        → IsSmall (load_of (ledger old.store).work.sizes.buffers (ledger old.store).work.sizes.words old.fields batch ops)
+        → loaded.full ≡ None
     -- without readers nothing is held, while generations last
     pub unheld : (ledger old.store).work.made ≡ 0
         → (ledger old.store).work.commits.last + length ops < (ledger old.store).work.sizes.generations

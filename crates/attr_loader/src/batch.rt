@@ -2,9 +2,9 @@
 ghost use Rattle.std.specs.Prelude.{◌≡◌, ◌<◌, ◌+◌, ◌^◌, length, IfOk, IfErr, OnOk};
 ghost use Rattle.std.specs.List.{AllByRecursion};
 ghost use Rattle.attr_types.specs.Lawful.{OpFits};
-ghost use Rattle.attr_loader.specs.Batches.{skips_of, AddsSteps, AppliesBatch, AppliesRoom, CommitsBatch, CommitsRoom, HasNoCommit};
-ghost use Rattle.attr_loader.specs.Batches.{KeepsTable, LoadsBatch, LoadsRoom};
-ghost use Rattle.attr_room.specs.Made.{after_keys, after_root};
+ghost use Rattle.attr_loader.specs.Batches.{skips_of, AddsQuietly, AddsSteps, AppliesBatch, AppliesRoom, CommitsBatch, CommitsRoom, CommitsRoot};
+ghost use Rattle.attr_loader.specs.Batches.{HasNoCommit, KeepsTable, LoadsBatch, LoadsRoom};
+ghost use Rattle.attr_room.specs.Made.{after_keys};
 ghost use Rattle.attr_room.specs.Runs.{step_keys};
 
 use crate::error::LoadError;
@@ -76,6 +76,7 @@ fn compact_after<const OFFSET_BITS: u32, S: Store<OFFSET_BITS, Layout = AttrLayo
 ) -> Result<(), AllocError>
     ensures keeps { OnOk result (KeepsTable S.ledger attribute.old attribute.new) }
     ensures room { AddsSteps S.ledger attribute.old attribute.new (λ steps. after_keys steps step_keys) }
+    ensures quiet { AddsQuietly S.ledger attribute.old attribute.new (λ steps. steps) }
 {
     match attribute.compact_step(alloc, COMPACT_KEYS) {
         Ok(_) => Ok(()),
@@ -93,7 +94,7 @@ fn commit_table<const OFFSET_BITS: u32, S: Store<OFFSET_BITS, Layout = AttrLayou
     gate: &G,
 ) -> Result<Batch, LoadError>
     ensures commits { IfOk result (CommitsBatch S.ledger attribute.old attribute.new count skipped) }
-    ensures room { AddsSteps S.ledger attribute.old attribute.new after_root }
+    ensures room { IfOk result (CommitsRoot S.ledger attribute.old attribute.new) }
     ensures spent { IfErr result (HasNoCommit S.ledger attribute.old) }
 {
     match attribute.commit() {

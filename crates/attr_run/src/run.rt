@@ -246,8 +246,8 @@ fn whole_run<R: Threads + Sync, S: Source, K: Sink, G: Gate + Sync + 'static>(
 ///
 /// Statements about the bytes of a feed hold for some bytes, and for those that the source has left if they are
 /// known. Statements about written bytes hold if the sink knows what it took. Exhausted memory may be the answer
-/// instead of any other. Each reader is a thread; the loading stays on the caller's thread, and with `--readers 0` no
-/// thread is started. `--dense` changes no answer.
+/// instead of any other. Each reader is a thread, and so is a saver beside the loading. The loading stays on the caller's
+/// thread; with `--readers 0` and no save beside it no thread is started. `--dense` changes no answer.
 pub fn attr_main<R: Threads + Sync, S: Source, K: Sink, G: Gate + Sync + 'static>(
     rt: &R,
     alloc: Global,

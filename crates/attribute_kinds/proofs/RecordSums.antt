@@ -66,8 +66,12 @@ others = 2 ∷ 4 ∷ 8 ∷ 16 ∷ 32 ∷ 64 ∷ 128 ∷ 256 ∷ 512 ∷ 1024 ∷
 over-others : (f : ℕ → ℕ) → over others f ≡ record_sum f
 over-others f = omega arith
 
+-- of one record that is not wide
+cut_few : (f : ℕ → ℕ) → record_sum f ≤ 1 → record_sum (λ w. cond (nat_le w 256) (f w) 0) ≤ 1
+cut_few f one = let cut : f 2 + f 4 + f 8 + f 16 + f 32 + f 64 + f 128 + f 256 + 0 + 0 ≤ 1 = omega (arith, one) in cut
+
 new_few : (docs : List (ℕ × ℤ)) (value : Value) → record_sum (new_record docs value) ≤ 1
-new_few [] value = one_of (class_of (length (value_words value)))
+new_few [] value = cut_few (λ w. cond (nat_eq w (class_of (length (value_words value)))) 1 0) (one_of (class_of (length (value_words value))))
 new_few (d ∷ docs) value = omega arith
 
 one_if_few : (t : Bool) (k : ℕ) → record_sum (λ w. cond t (cond (nat_eq w k) 1 0) 0) ≤ 1
@@ -116,7 +120,7 @@ if_both true t = if_one t
 if_both false t = omega arith
 
 new_one : (docs : List (ℕ × ℤ)) (value : Value) (w : ℕ) → new_record docs value w ≤ 1
-new_one [] value w = if_one (nat_eq w (class_of (length (value_words value))))
+new_one [] value w = if_both (nat_le w 256) (nat_eq w (class_of (length (value_words value))))
 new_one (d ∷ docs) value w = omega arith
 
 short_one : (count w : ℕ) → short_record count w ≤ 1

@@ -24,6 +24,9 @@ pub words_few : (v : Value) → IsLawfulValue v → length (value_words v) ≤ 1
 words_few (values.Long number) lawful = omega arith
 words_few (values.Text bytes) lawful = let size = packed_size ((length bytes + 7) / 8) bytes in let few = lawful.1 in omega arith
 
+pub text_few : (bytes : List ℕ) → length bytes ≤ 1024 → length (value_words (values.Text bytes)) ≤ 129
+text_few bytes few = let size = packed_size ((length bytes + 7) / 8) bytes in omega arith
+
 pub value_there : (type : ValueType) (ws : List ℕ) → IsValueRecord type ws → 1 < length ws
 value_there type ws record_of =
     let words = value_words (value_of type ws) in

@@ -66,6 +66,7 @@ fn add_text<const OFFSET_BITS: u32, S: Store<OFFSET_BITS>>(
     ensures refused { OnErr result (AddsNothing (S.ledger store.old) (S.ledger store.new) (S.records store.old) (S.records store.new)) }
     ensures counts { MakesOneOf (class_of (length (value_words (values.Text bytes.now)))) (S.ledger store.old) (S.ledger store.new) }
     ensures may { MayDo (S.ledger store.old) (S.ledger store.new) }
+    ensures short { length (value_words (values.Text bytes.now)) ≤ 129 }
 {
     if bytes.len() <= 120 {
         add_by(store, bytes, &mut [0; 16])
@@ -74,7 +75,7 @@ fn add_text<const OFFSET_BITS: u32, S: Store<OFFSET_BITS>>(
     }
 }
 
-/// Adds a value.
+/// Adds a value. Its record has at most 129 words, since a text has at most 1,024 bytes.
 pub fn add<const OFFSET_BITS: u32, S: Store<OFFSET_BITS>>(
     store: &mut S,
     value: &Value,
@@ -88,6 +89,7 @@ pub fn add<const OFFSET_BITS: u32, S: Store<OFFSET_BITS>>(
     ensures refused { OnErr result (AddsNothing (S.ledger store.old) (S.ledger store.new) (S.records store.old) (S.records store.new)) }
     ensures counts { MakesOneOf (class_of (length (value_words value.now))) (S.ledger store.old) (S.ledger store.new) }
     ensures may { MayDo (S.ledger store.old) (S.ledger store.new) }
+    ensures short { length (value_words value.now) ≤ 129 }
 {
     match value {
         Value::Long(number) => make_record(store, &[8, number.cast_unsigned()]),

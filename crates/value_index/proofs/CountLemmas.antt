@@ -1,6 +1,6 @@
 -- How many records a change makes of each width.
-use Rattle.std.proofs.Common.{◌≡◌, ◌≢◌, ℕ, ◌+◌, ◌*◌, ◌≤◌, Bool, true, false, cond, nat_eq, Option, None, Some, option_map, refl, sym, ap, subst, ◌∙◌, arith}
-use Rattle.std.proofs.lemmas.Bool.{eqb-true, eqb-false}
+use Rattle.std.proofs.Common.{◌≡◌, ◌≢◌, ℕ, ◌+◌, ◌*◌, ◌≤◌, Bool, true, false, cond, inl, inr, length, nat_eq, nat_le, Option, None, Some, option_map, refl, sym, ap, subst, ◌∙◌, arith}
+use Rattle.std.proofs.lemmas.Bool.{eqb-true, eqb-false, leb-false}
 use Rattle.std.specs.Option.{is_some, unwrap_or}
 use Rattle.frozen_btree.proofs.TopLemmas.{levels-same}
 use Rattle.entry_ref.specs.Records.{Records, SameAt}
@@ -12,12 +12,15 @@ use Rattle.store_api.proofs.Counts.{at_most-more, at_most-none, at_most-then}
 use Rattle.tree_read.specs.Trees.{tree_nodes, tree_pairs}
 use Rattle.frozen_btree.specs.Changes.{levels}
 use Rattle.frozen_btree.specs.Makes.{CountsNodes}
+use Rattle.array_store.proofs.ClassLemmas.{class_least}
 use Rattle.array_store.specs.Adding.{MakesOneOf}
+use Rattle.attr_images.specs.Values.{value_words}
+use Rattle.attr_images.specs.Words.{class_of}
 use Rattle.attr_types.specs.declared.value.Value.{Value}
 use Rattle.enum_dictionary.specs.Dictionaries.{beside_value}
 use Rattle.posting_store.specs.Changes.{list_most, MakesWithin}
 use Rattle.posting_store.specs.Lists.{list_levels}
-use Rattle.value_index.specs.Changes.{add_most, change_most, nodes_most, record_most}
+use Rattle.value_index.specs.Changes.{add_most, change_most, new_most, nodes_most, record_most}
 
 pub within_more : {H : Type 0} (a b : Ledger H) (f g : ℕ → ℕ) → ((w : ℕ) → f w ≤ g w) → MakesWithin a b f → MakesWithin a b g
 within_more a b f g more made = record {
@@ -51,6 +54,25 @@ within_nodes a b h most few counts =
 pub within_record : {H : Type 0} (a b : Ledger H) (width : ℕ) → MakesOneOf width a b → MakesWithin a b (λ w. cond (nat_eq w width) 1 0)
 within_record a b width made = one_width a b width 1 made.one made.others
 
+-- the record of a value in a store is not wide
+pub new_all : (value : Value) → length (value_words value) ≤ 129 → (w : ℕ) → record_most value w ≤ new_most value w
+new_all value short w = told (nat_le w 256) refl
+  where
+    far : (t : Bool) → nat_eq w (class_of (length (value_words value))) ≡ t → nat_le w 256 ≡ false → cond {A = ℕ} t 1 0 ≤ 0
+    far true is past = absurd (
+        let wide = leb-false w 256 past in
+        let same = eqb-true w (class_of (length (value_words value))) is in
+        let few = class_least (length (value_words value)) 256 (inr (inr (inr (inr (inr (inr (inr (inl refl)))))))) (omega (arith, short)) in
+        omega (arith, wide, same, few))
+    far false is past = omega arith
+
+    told : (t : Bool) → nat_le w 256 ≡ t → record_most value w ≤ cond t (record_most value w) 0
+    told true is = omega arith
+    told false is = far (nat_eq w (class_of (length (value_words value)))) refl is
+
+pub within_new : {H : Type 0} (a b : Ledger H) (value : Value) → length (value_words value) ≤ 129 → MakesOneOf (class_of (length (value_words value))) a b → MakesWithin a b (new_most value)
+within_new a b value short made = within_more a b (record_most value) (new_most value) (new_all value short) (within_record a b (class_of (length (value_words value))) made)
+
 pub within_dropped : {H : Type 0} (a b c : Ledger H) (f : ℕ → ℕ) → MayDo a b → MakesWithin a b f → ((k w : ℕ) → MakesAtMost k 0 (b.of_width w) (c.of_width w)) → MakesWithin a c f
 within_dropped a b c f may made none =
     within_more a c (λ w. f w + 0) f (λ w. omega arith) (within_then a b c f (λ w. 0) may made (record { each = λ w. none (capacity b.work.sizes.words w) w }))
@@ -83,11 +105,11 @@ module _ (value : Value) (m : Records) (root : ℕ) where
   add_found key word count w found = let few = change_found key word count w found in omega arith
 
   pub add_none : (count w : ℕ) → lookup_pair (beside_value value m) (tree_pairs m root) ≡ None
-      → record_most value w + (list_most 0 count w + nodes_most (levels m root) w) ≤ add_most value m root count w
+      → new_most value w + (list_most 0 count w + nodes_most (levels m root) w) ≤ add_most value m root count w
   add_none count w none =
       let word_is : unwrap_or (lookup (beside_value value m) (tree_pairs m root)) 0 ≡ 0 =
       ap (λ (o : Option ℕ). unwrap_or o 0) (pair_word ∙ ap (λ (o : Option (ℕ × ℕ)). option_map (λ (p : ℕ × ℕ). p.1) o) none) in
       let same = change_by 0 count w word_is in
-      let fresh : cond (is_some (option_map (λ (p : ℕ × ℕ). p.0) (lookup_pair (beside_value value m) (tree_pairs m root)))) 0 (record_most value w) ≡ record_most value w =
-      ap (λ (o : Option (ℕ × ℕ)). cond (is_some (option_map (λ (p : ℕ × ℕ). p.0) o)) 0 (record_most value w)) none in
+      let fresh : cond (is_some (option_map (λ (p : ℕ × ℕ). p.0) (lookup_pair (beside_value value m) (tree_pairs m root)))) 0 (new_most value w) ≡ new_most value w =
+      ap (λ (o : Option (ℕ × ℕ)). cond (is_some (option_map (λ (p : ℕ × ℕ). p.0) o)) 0 (new_most value w)) none in
       omega arith

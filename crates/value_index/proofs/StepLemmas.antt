@@ -1,5 +1,6 @@
 -- A call's steps together: why it was refused, and the index that it makes.
-use Rattle.std.proofs.Common.{◌≡◌, ℕ, zero, suc, ℤ, ◌<◌, [], ◌∷◌, length, None, Some, Option, option_map, IsSome, Result, Ok, Err, refl, sym, ap, subst, ◌∙◌, arith, inl, inr}
+use Rattle.std.proofs.Common.{◌≡◌, ℕ, zero, suc, ℤ, ◌+◌, ◌<◌, ◌≤◌, Bool, true, false, cond, nat_le, [], ◌∷◌, length, None, Some, Option, option_map, IsSome, Result, Ok, Err, refl, sym, ap, subst, ◌∙◌, arith, inl, inr}
+use Rattle.std.proofs.lemmas.Bool.{leb-true}
 use Rattle.std.specs.Prelude.{IfOk}
 use Rattle.std.specs.BTreeMap.{insert_entry, is_at}
 use Rattle.std.specs.declared.cmp.Ordering.TheVariants.{Less, Equal, Greater}
@@ -14,6 +15,7 @@ use Rattle.store_api.proofs.PartLemmas.{owns-some}
 use Rattle.store_api.specs.Units.{MayDo}
 use Rattle.store_api.specs.declared.store.StoreError.{StoreError}
 use Rattle.tree_read.specs.Trees.{tree_pairs}
+use Rattle.array_store.proofs.ClassLemmas.{class_least}
 use Rattle.array_store.specs.Adding.{AddsRecord}
 use Rattle.attr_images.specs.Postings.{index_of}
 use Rattle.attr_images.specs.Values.{stored_value, value_words, IsValueRecord}
@@ -37,10 +39,21 @@ use Rattle.value_index.proofs.ShownLemmas.{Docs, with_some}
 
 -- ---- of which width
 pub list_change : (value : Value) (count width : ℕ) → IsListWidth count width → IsChangeWidth value count width
-list_change value count width is = inr (record { some = is.some; one = inr is.width_is })
+list_change value count width is = inr (record { some = is.some; one = inr is.width_is; few = subst (λ w. w ≤ 256) (sym is.width_is) (told (nat_le count 8) refl) })
+  where
+    told : (t : Bool) → nat_le count 8 ≡ t → cond t (class_of (1 + count)) 34 ≤ 256
+    told true short =
+        let few = leb-true count 8 short in
+        let low = class_least (1 + count) 16 (inr (inr (inr (inl refl)))) (omega (arith, few)) in
+        omega (arith, low)
+    told false long = omega arith
 
-pub record_change : (value : Value) (count : ℕ) → 0 < count → IsChangeWidth value count (class_of (length (value_words value)))
-record_change value count some = inr (record { some = some; one = inl refl })
+pub record_change : (value : Value) (count : ℕ) → 0 < count → length (value_words value) ≤ 129 → IsChangeWidth value count (class_of (length (value_words value)))
+record_change value count some short = inr (record {
+  some = some;
+  one = inl refl;
+  few = class_least (length (value_words value)) 256 (inr (inr (inr (inr (inr (inr (inr (inl refl)))))))) (omega (arith, short));
+})
 
 pub node_change : (value : Value) (count : ℕ) → IsChangeWidth value count 34
 node_change value count = inl refl

@@ -24,20 +24,11 @@ use Rattle.attr_types.specs.declared.value.Value.{Value}
 use Rattle.enum_dictionary.specs.Dictionaries.{beside_value}
 use Rattle.posting_store.specs.Changes.{MakesWithin}
 use Rattle.posting_store.specs.Lists.{form_levels}
-use Rattle.value_index.specs.Changes.{add_most, change_most, record_most, value_levels}
+use Rattle.value_index.specs.Changes.{add_most, change_most, new_most, value_levels}
 use Rattle.value_index.specs.Indexes.{key_at, IsIndex}
 use Rattle.value_index.proofs.CountLemmas.{within_more, within_none, within_then}
 use Rattle.value_index.proofs.KeyLemmas.{list_none}
-use Rattle.value_index.specs.Counts.{value_nodes, by_width, new_record, put_records, short_record, taken_records, walk_records, MakesFew, record_sum}
-
--- ---- few records, by nodes and others
-pub few_more : {H : Type 0} (a b : Ledger H) (nodes records more most : ℕ) → nodes ≤ more → records ≤ most → MakesFew a b nodes records → MakesFew a b more most
-few_more a b nodes records more most up rises made = record {
-  most = made.most;
-  counts = made.counts;
-  nodes_few = let few = made.nodes_few in omega arith;
-  records_few = let few = made.records_few in omega arith;
-}
+use Rattle.value_index.specs.Counts.{value_nodes, by_width, new_record, put_records, short_record, taken_records, walk_records, record_sum}
 
 -- ---- so many nodes, and so many records of each other width
 by_more : (nodes more : ℕ) (records most : ℕ → ℕ) → nodes ≤ more → ((w : ℕ) → records w ≤ most w) → (w : ℕ) → by_width nodes records w ≤ by_width more most w
@@ -148,7 +139,7 @@ Docs = List (ℕ × ℤ)
 
 module _ (value : Value) (m : Records) (root w : ℕ) (is : IsIndex (type_of value) m root) where
   new_few : (o : Option (ℕ × ℕ)) → lookup_pair (beside_value value m) (tree_pairs m root) ≡ o → (docs : Docs) → list_of value (index_of (type_of value) m root) ≡ docs
-      → cond (is_some (option_map (λ (p : ℕ × ℕ). p.0) o)) 0 (record_most value w) ≤ new_record docs value w
+      → cond (is_some (option_map (λ (p : ℕ × ℕ). p.0) o)) 0 (new_most value w) ≤ new_record docs value w
   new_few None none [] reads = omega arith
   new_few None none (d ∷ docs) reads = absurd (
       let same : suc (length docs) ≡ 0 = ap (λ (ds : Docs). length ds) (sym reads ∙ list_none value m root is none) in

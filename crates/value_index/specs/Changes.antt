@@ -1,5 +1,5 @@
 -- How a change of an index changes a store.
-use Rattle.std.specs.Prelude.{◌≡◌, ◌⊎◌, ℕ, ◌+◌, ◌*◌, ◌<◌, [], ◌∷◌, length, nat_eq, if◌then◌else◌}
+use Rattle.std.specs.Prelude.{◌≡◌, ◌⊎◌, ℕ, ◌+◌, ◌*◌, ◌<◌, ◌≤◌, [], ◌∷◌, length, nat_eq, nat_le, if◌then◌else◌}
 use Rattle.std.specs.Option.{is_some, unwrap_or}
 use Rattle.entry_ref.specs.Records.{Records}
 use Rattle.store_api.specs.Ledgers.{Ledger}
@@ -51,14 +51,20 @@ change_most value m root count width = list_most (value_levels value m root) cou
 abbrev pub record_most : Value → ℕ → ℕ
 record_most value width = if nat_eq width (class_of (length (value_words value))) then 1 else 0
 
+-- the same, if the value is in a store: a text has at most 1,024 bytes, so its record has at most 256 words
+abbrev pub new_most : Value → ℕ → ℕ
+new_most value width = if nat_le width 256 then record_most value width else 0
+
 abbrev pub add_most : Value → Records → ℕ → ℕ → ℕ → ℕ
 add_most value m root count width =
-    (if is_some (key_at value m root) then 0 else record_most value width) + change_most value m root count width
+    (if is_some (key_at value m root) then 0 else new_most value width) + change_most value m root count width
 
--- the width of a record that an image has for a value with this many documents: its own record, or one of its list
+-- the width of a record that an image has for a value with this many documents: its own record, or one of its list;
+-- at most 256, since a text has at most 1,024 bytes
 pub record IsValueWidth (value : Value) (count width : ℕ) : Type 0 where
   pub some : 0 < count
   pub one : (width ≡ class_of (length (value_words value))) ⊎ (width ≡ list_width count)
+  pub few : width ≤ 256
 
 -- a width for which a change of a value's list may be refused, by the documents that the value has then: that of
 -- nodes, or of such a record

@@ -1,11 +1,10 @@
 -- Bounds on the records that the walks make, by what they are and by width.
-use Rattle.std.specs.Prelude.{◌≡◌, ℕ, ℤ, ◌+◌, ◌*◌, ◌^◌, ◌<◌, ◌≤◌, Bool, not, nat_eq, nat_le, if◌then◌else◌, List, [], ◌∷◌, ◌++◌, length}
+use Rattle.std.specs.Prelude.{◌≡◌, ℕ, ℤ, ◌+◌, ◌*◌, ◌^◌, ◌<◌, Bool, not, nat_eq, nat_le, if◌then◌else◌, List, [], ◌∷◌, ◌++◌, length}
 use Rattle.std.specs.Prelude.{Option, None, is_some}
 use Rattle.std.specs.BTreeMap.{insert_entry, is_at}
 use Rattle.std.specs.List.{count_by, sum_by}
 use Rattle.std.specs.Map.{lookup, remove_entry}
 use Rattle.std.specs.Ordering.{nat_cmp}
-use Rattle.store_api.specs.Ledgers.{Ledger}
 use Rattle.tree_read.specs.declared.node_format.TheConstants.{NODE_WORDS}
 use Rattle.attr_images.specs.Words.{class_of}
 use Rattle.attr_images.specs.declared.TheConstants.{MOST_SHORT}
@@ -13,8 +12,7 @@ use Rattle.attr_index.specs.Changes.{is_weight, IsBetween}
 use Rattle.attr_index.specs.Index.{Index, list_of}
 use Rattle.attr_types.specs.Value.{value_cmp}
 use Rattle.attr_types.specs.declared.value.Value.{Value}
-use Rattle.posting_store.specs.Changes.{MakesWithin}
-use Rattle.value_index.specs.Changes.{record_most}
+use Rattle.value_index.specs.Changes.{new_most}
 
 -- the entries that the other weights lack, or have with another weight
 abbrev pub is_added : (Value → Option ℤ) → Value × ℤ → Bool
@@ -36,7 +34,7 @@ by_width nodes records width = if nat_eq width NODE_WORDS then nodes else record
 
 -- the record of a value that no document had
 abbrev pub new_record : List (ℕ × ℤ) → Value → ℕ → ℕ
-new_record [] value width = record_most value width
+new_record [] value width = new_most value width
 new_record (first ∷ more) value width = 0
 
 -- the record of a list that then has this many documents, if it is short
@@ -67,13 +65,6 @@ gone_records lists doc new entries = walk_records (is_gone new) (taken_records l
 -- the sum over all widths but that of nodes
 abbrev pub record_sum : (ℕ → ℕ) → ℕ
 record_sum most = most 2 + most 4 + most 8 + most 16 + most 32 + most 64 + most 128 + most 256 + most 512 + most 1024
-
--- bounds on the tree nodes that are made, and on the records of all other widths together
-pub record MakesFew {H : Type 0} (old new : Ledger H) (nodes records : ℕ) : Type 0 where
-  pub most : ℕ → ℕ
-  pub counts : MakesWithin old new most
-  pub nodes_few : most NODE_WORDS ≤ nodes
-  pub records_few : record_sum most ≤ records
 
 -- a bound on the nodes that a change of one value makes, if no tree has more levels: in its list and in the
 -- dictionary, two for each level, and a root

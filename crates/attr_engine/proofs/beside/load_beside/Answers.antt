@@ -43,5 +43,7 @@ returns-clause-saving g c =
     aside_each (GivesSave bits G field w home) (IsSaver bits G field w home) (SavedBy bits G field w home) (saved_by bits G field w home)
     c.saver_of-saver.result c.in_ok-writer.saving c.in_ok-writer.ensures.aside
     (IfSome_then c.saver_of-saver.result c.saver_of-saver.ensures.saver
-    (λ saver is. (reader_kept w v home c.jobs_of.new.writer.place.table_id (reader_of saver.reader.place.me.0) saver.reader.place.table_id c.in_ok-jobs.ensures.keeps c.in_ok-jobs.ensures.table is.0,
-    ap (λ saving. saving.field.now) is.1)))
+    (λ saver is. (
+      reader_kept w v home c.jobs_of.new.writer.place.table_id (reader_of saver.reader.place.me.0) saver.reader.place.table_id c.in_ok-jobs.ensures.keeps c.in_ok-jobs.ensures.table is.0,
+      ap (λ saving. saving.field.now) is.1,
+    )))

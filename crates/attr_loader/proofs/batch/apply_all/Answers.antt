@@ -5,7 +5,7 @@ use Rattle.std.proofs.lemmas.Option.{slice_get_read}
 use Rattle.list_facts.proofs.Each.{AllByRecursion-slice_get}
 use Rattle.attr_types.specs.Lawful.{OpFits}
 use Rattle.attr_types.specs.declared.field.Field.{Field}
-use Rattle.attr_loader.specs.Room.{after_values, values_of}
+use Rattle.attr_loader.specs.Room.{after_values, values_of, IsMade, IsRefusedBy}
 use Rattle.attr_loader.proofs.RoomRuns.{room_applied, room_on, room_refused, take_all}
 use Rattle.attr_loader.specs.Batches.{skips_of, AddsSteps, AppliesAll}
 use Rattle.attr_types.specs.declared.op.Op.{Op}
@@ -30,8 +30,10 @@ loop-op-preserved g c =
       applies = subst (λ n. AppliesAll ledger start c.apply.new.self (take (c.loop-op.op-index + 1) ops) (c.loop-op.skipped + n)) (sym is)
           (subst (λ (list : List Op). AppliesAll ledger start c.apply.new.self list (c.loop-op.skipped + skips_of c.in-Ok.applied)) (sym front) more);
       done = omega (arith, done);
+      plan = h.plan ∙ i.plan;
       room = subst (λ (list : List Op). AddsSteps ledger start c.apply.new.self (λ steps. after_values steps (values_of start.fields start.table list))) (sym front)
-          (room_on ledger start c.loop-op.attribute c.apply.new.self (take c.loop-op.op-index ops) c.op-item.result i.room i.applies.table i.applies.keeps.stays.fields
+          (room_on ledger start c.loop-op.attribute (λ steps. IsMade (ledger c.apply.new.self.store) c.apply.new.self.fields c.apply.new.self.table steps) (take c.loop-op.op-index ops) c.op-item.result
+          i.room i.applies.table i.applies.keeps.stays.fields
           (room_applied ledger c.loop-op.attribute c.apply.new.self c.op-item.result h.fields h.table
           (subst (λ (fs : List Field). OpFits fs c.op-item.result) (sym i.applies.keeps.stays.fields)
           (AllByRecursion-slice_get (OpFits start.fields) ops c.loop-op.op-index c.op-item.result c.requires.fit
@@ -45,6 +47,7 @@ loop-op-init g c = record {
   applies = applies_none g.S.Store.ledger c.args.attribute.now;
   done = refl;
   few = omega arith;
+  plan = refl;
   room = λ steps made. made;
 }
 
@@ -53,23 +56,36 @@ returns-in-Err-Full-clause-room g c =
     let i = c.loop-op.invariant in
     let ledger = g.S.Store.ledger in
     let start = c.args.attribute.now in
+    let new = c.apply.new.self in
     let ops = c.args.ops.now in
+    let refused = c.in-Err-Full.ensures.refused in
+    let width = c.in-Err-Full.width in
     let front = take_more ops c.loop-op.op-index c.op-item.result c.loop-op-test.true ∙ ap (λ x. take c.loop-op.op-index ops ++ x ∷ []) (sym c.op-item.is) in
-    let here = subst (λ (list : List Op). AddsSteps ledger start c.apply.new.self (λ steps. after_values steps (values_of start.fields start.table list))) (sym front)
-    (room_on ledger start c.loop-op.attribute c.apply.new.self (take c.loop-op.op-index ops) c.op-item.result i.room i.applies.table i.applies.keeps.stays.fields
-    (room_refused ledger c.loop-op.attribute c.apply.new.self c.op-item.result (ap (λ v. v.fields) c.in-Err-Full.ensures.left) (ap (λ v. v.table) c.in-Err-Full.ensures.left)
-    (subst (λ (fs : List Field). OpFits fs c.op-item.result) (sym i.applies.keeps.stays.fields)
-    (AllByRecursion-slice_get (OpFits start.fields) ops c.loop-op.op-index c.op-item.result c.requires.fit
-    (slice_get_read ops (length ops) c.loop-op.op-index c.op-item.result refl c.loop-op-test.true c.op-item.is)))
-    c.apply.ensures.counts)) in
     let done = i.done in
-    subst (λ n. AddsSteps ledger start c.apply.new.self (λ steps. after_values steps (values_of start.fields start.table (take n ops)))) (omega (arith, done)) here
+    let here : take (c.loop-op.done + 1) ops ≡ take c.loop-op.op-index ops ++ c.op-item.result ∷ [] = ap (λ n. take n ops) (omega (arith, done)) ∙ front in
+    record {
+      width = width;
+      is = refused.is_width_of;
+      whole = refused.made;
+      adds = λ steps made.
+          subst (λ (list : List Op). IsRefusedBy (ledger new.store) new.fields new.table (after_values steps (values_of start.fields start.table list)) width) (sym here)
+          (room_on ledger start c.loop-op.attribute (λ s. IsRefusedBy (ledger new.store) new.fields new.table s width) (take c.loop-op.op-index ops) c.op-item.result i.room
+          i.applies.table i.applies.keeps.stays.fields
+          (room_refused ledger c.loop-op.attribute new c.op-item.result width (ap (λ v. v.fields) c.in-Err-Full.ensures.left) (ap (λ v. v.table) c.in-Err-Full.ensures.left)
+          (subst (λ (fs : List Field). OpFits fs c.op-item.result) (sym i.applies.keeps.stays.fields)
+          (AllByRecursion-slice_get (OpFits start.fields) ops c.loop-op.op-index c.op-item.result c.requires.fit
+          (slice_get_read ops (length ops) c.loop-op.op-index c.op-item.result refl c.loop-op-test.true c.op-item.is)))
+          c.apply.ensures.counts c.in-Err-Full.ensures.widths)
+          steps made);
+    }
 
 pub returns-clause-room : goal.returns-clause-room
 returns-clause-room g c =
     let i = c.loop-op.invariant in
     let ledger = g.S.Store.ledger in
     let start = c.args.attribute.now in
-    let ops = c.args.ops.now in
-    subst (λ (list : List Op). AddsSteps ledger start c.loop-op.attribute (λ steps. after_values steps (values_of start.fields start.table list)))
-    (take_all ops c.loop-op.op-index (let over = c.loop-op-test.false in let most = c.loop-op.auto.op-index-end in omega arith)) i.room
+    let ops = c.args.ops.now in (
+      i.plan,
+      subst (λ (list : List Op). AddsSteps ledger start c.loop-op.attribute (λ steps. after_values steps (values_of start.fields start.table list)))
+      (take_all ops c.loop-op.op-index (let over = c.loop-op-test.false in let most = c.loop-op.auto.op-index-end in omega arith)) i.room,
+    )

@@ -1,7 +1,7 @@
 use Rattle.std.proofs.Common.{refl, rules}
 use Rattle.arena_api.specs.Works.{last_image}
 use Rattle.attr_loader.proofs.Applying.{commit_number, commit_readers}
-use Rattle.attr_loader.proofs.RoomRuns.{room_root}
+use Rattle.attr_loader.proofs.RoomRuns.{room_root, root_refused}
 use Rattle.attr_loader.proofs.batch.commit_table.Goals as goal
 
 pub returns-in-Ok-clause-commits : goal.returns-in-Ok-clause-commits
@@ -34,19 +34,10 @@ returns-in-Ok-clause-commits g c =
 pub returns-in-Ok-clause-room : goal.returns-in-Ok-clause-room
 returns-in-Ok-clause-room g c =
     let ledger = g.S.Store.ledger in
-    room_root ledger c.args.attribute.now c.commit.new.self c.commit.ensures.fields c.commit.ensures.table c.commit.ensures.makes
+    (c.commit.ensures.plan, room_root ledger c.args.attribute.now c.commit.new.self c.commit.ensures.fields c.commit.ensures.table c.commit.ensures.makes)
 
 pub returns-in-Err-Full-clause-room : goal.returns-in-Err-Full-clause-room
 returns-in-Err-Full-clause-room g c =
     let ledger = g.S.Store.ledger in
-    room_root ledger c.args.attribute.now c.commit.new.self c.commit.ensures.fields c.commit.ensures.table c.commit.ensures.makes
-
-pub returns-in-Err-CommitsSpent-clause-room : goal.returns-in-Err-CommitsSpent-clause-room
-returns-in-Err-CommitsSpent-clause-room g c =
-    let ledger = g.S.Store.ledger in
-    room_root ledger c.args.attribute.now c.commit.new.self c.commit.ensures.fields c.commit.ensures.table c.commit.ensures.makes
-
-pub returns-in-Err-Memory-clause-room : goal.returns-in-Err-Memory-clause-room
-returns-in-Err-Memory-clause-room g c =
-    let ledger = g.S.Store.ledger in
-    room_root ledger c.args.attribute.now c.commit.new.self c.commit.ensures.fields c.commit.ensures.table c.commit.ensures.makes
+    let refused = c.in-Err-Full.ensures.refused in
+    root_refused ledger c.args.attribute.now c.commit.new.self _ c.commit.ensures.fields c.commit.ensures.table c.commit.ensures.makes c.in-Err-Full.ensures.width refused.room.is_width_of refused.room.made

@@ -1,13 +1,15 @@
-use Rattle.std.proofs.Common.{◌≡◌, ◌<◌, ◌∙◌, List, length, refl, sym, ap, subst, arith, Err}
+use Rattle.std.proofs.Common.{◌≡◌, ◌<◌, ◌≤◌, ◌∙◌, ◌++◌, List, length, length-take, None, refl, sym, ap, subst, arith, Err}
 use Rattle.std.proofs.lemmas.Result.{err_from_is_err_and}
 use Rattle.std.specs.Prelude.{take, drop}
 use Rattle.std.proofs.lemmas.List.{length-drop, drop-drop}
 use Rattle.std.proofs.lemmas.Bool.{eqb-true, eqb-false}
 use Rattle.attr_types.specs.declared.op.Op.{Op}
 use Rattle.attr_loader.specs.Batches.{LoadsBatch, LoadsRoom}
-use Rattle.attr_loader.specs.Room.{HasMadeNothing}
+use Rattle.attr_room.specs.Runs.{IsSmall}
+use Rattle.attr_loader.specs.Room.{load_of, HasMadeNothing}
 use Rattle.attr_loader.proofs.Points.{next_point}
-use Rattle.attr_loader.proofs.RoomRuns.{owed_at, runs_begin, runs_on}
+use Rattle.attr_loader.proofs.RoomRuns.{owed_at, runs_begin, runs_on, take_all}
+use Rattle.attr_loader.proofs.SmallRuns.{never_full, quiet_begin, quiet_on}
 use Rattle.attr_loader.proofs.Stands.{front, front_of, starts, stands_on, more_few, part-long, finds_no_room, given_up, ends_all}
 use Rattle.attr_loader.proofs.loader.load.Goals as goal
 
@@ -16,6 +18,7 @@ loop-rest-init g c = record {
   rest = refl;
   within = omega arith;
   room = λ one nothing. runs_begin g.S.Store.ledger c.args.batch c.args.ops.now c.args.attribute.now c.requires.start.table one nothing;
+  small = λ one nothing plan small below. quiet_begin g.S.Store.ledger c.args.batch c.args.ops.now c.args.attribute.now c.requires.start.table one nothing plan;
   stands = starts g.S.Store.ledger c.args.batch c.args.ops.now c.args.attribute.now c.image_law.ensures.empty c.requires.start;
 }
 
@@ -55,6 +58,15 @@ loop-rest-preserved g c =
           (front ledger c.args.batch c.args.ops.now c.args.attribute.now c.loop-rest.attribute c.loop-rest.operations c.loop-rest.skipped i.stands c.loop-rest.rest.now part i.rest part_is below)
           (next_point c.args.batch (length c.args.ops.now) runs.last c.loop-rest.operations (length part) runs.point below size)
           (subst (LoadsRoom ledger c.loop-rest.attribute c.load_batch.new.attribute part) c.in-Done.is c.in_ok-more.ensures.room);
+      small = λ one nothing plan small more.
+          let runs = i.small one nothing plan small below in
+          let whole = take_all part (length part) refl in
+          quiet_on ledger c.args.batch c.args.ops.now c.args.attribute.now c.loop-rest.attribute c.loop-rest.operations runs part (length part) (ap length whole) (omega (arith, size, below, c.requires.some))
+          (omega (arith, more)) i.stands.stays.fields i.stands.table
+          (front ledger c.args.batch c.args.ops.now c.args.attribute.now c.loop-rest.attribute c.loop-rest.operations c.loop-rest.skipped i.stands c.loop-rest.rest.now part i.rest part_is below
+          ∙ ap (λ (xs : List Op). take c.loop-rest.operations c.args.ops.now ++ xs) (sym whole))
+          c.load_batch.new.attribute c.in-Done.more whole i.stands.stays.sizes (g.met.S.Store.limits c.args.attribute.now.store).some_words small more
+          (subst (LoadsRoom ledger c.loop-rest.attribute c.load_batch.new.attribute part) c.in-Done.is c.in_ok-more.ensures.room);
       stands = stands_on ledger c.args.batch c.args.ops.now c.args.attribute.now c.loop-rest.attribute c.loop-rest.operations c.loop-rest.skipped i.stands
           c.loop-rest.rest.now part i.rest part_is below c.load_batch.new.attribute c.in-Done.more loads;
     }
@@ -78,8 +90,22 @@ returns-in-Full-clause-loads g c =
     (subst (LoadsRoom ledger c.loop-rest.attribute new part) c.in-Full.is c.in_ok-more.ensures.room) c.requires.some below
     (full.keeps.stays.fields ∙ i.stands.stays.fields) (full.keeps.stays.sizes ∙ i.stands.stays.sizes) full.full.free (g.met.S.Store.limits new.store).some_words
     (g.met.S.Store.counted new.store) (g.met.S.Store.few_buffers new.store) in
+    let small = λ (one : length c.args.attribute.now.fields ≡ 1) (nothing : HasMadeNothing (ledger c.args.attribute.now.store)) (plan : c.args.attribute.now.plan ≡ None)
+    (many : 8 ≤ (ledger c.args.attribute.now.store).work.sizes.buffers)
+    (is : IsSmall (load_of (ledger c.args.attribute.now.store).work.sizes.buffers (ledger c.args.attribute.now.store).work.sizes.words c.args.attribute.now.fields c.args.batch c.args.ops.now)).
+    let first = full.some in
+    let most = full.most in
+    let size = part-long ledger c.args.batch c.args.ops.now c.args.attribute.now c.loop-rest.attribute c.loop-rest.operations c.loop-rest.skipped i.stands c.loop-rest.rest.now part i.rest part_is below in
+    let fits = length-take c.in-Full.before part in
+    never_full ledger c.args.batch c.args.ops.now c.args.attribute.now c.loop-rest.attribute c.loop-rest.operations (i.small one nothing plan is below) part c.in-Full.before
+    (omega (arith, fits, most)) (omega (arith, first)) (omega (arith, size, most, below)) i.stands.stays.fields i.stands.table
+    (front_of ledger c.args.batch c.args.ops.now c.args.attribute.now c.loop-rest.attribute c.loop-rest.operations c.loop-rest.skipped i.stands c.loop-rest.rest.now part i.rest part_is below
+    c.in-Full.before full.most)
+    new (subst (LoadsRoom ledger c.loop-rest.attribute new part) c.in-Full.is c.in_ok-more.ensures.room)
+    (full.keeps.stays.fields ∙ i.stands.stays.fields) (full.keeps.stays.sizes ∙ i.stands.stays.sizes) (g.met.S.Store.limits new.store).some_words full.full.free
+    (g.met.S.Store.counted new.store) (g.met.S.Store.few_buffers new.store) many is in
     finds_no_room ledger c.args.batch c.args.ops.now c.args.attribute.now c.loop-rest.attribute c.loop-rest.operations c.loop-rest.skipped i.stands
-    c.loop-rest.rest.now part i.rest part_is below new c.in-Full.before c.in-Full.active c.in-Full.held c.requires.some full owed (g.met.S.Store.timely new.store)
+    c.loop-rest.rest.now part i.rest part_is below new c.in-Full.before c.in-Full.active c.in-Full.held c.requires.some full owed small (g.met.S.Store.timely new.store)
 
 pub returns-clause-loads : goal.returns-clause-loads
 returns-clause-loads g c =

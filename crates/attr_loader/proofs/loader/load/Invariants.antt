@@ -1,7 +1,9 @@
-use Rattle.std.proofs.Common.{◌≡◌, ◌≤◌, length}
+use Rattle.std.proofs.Common.{◌≡◌, ◌<◌, ◌≤◌, length, None}
 use Rattle.std.specs.Prelude.{drop}
-use Rattle.attr_loader.specs.Room.{HasMadeNothing}
+use Rattle.attr_room.specs.Runs.{IsSmall}
+use Rattle.attr_loader.specs.Room.{load_of, HasMadeNothing}
 use Rattle.attr_loader.proofs.RoomRuns.{Runs}
+use Rattle.attr_loader.proofs.SmallRuns.{QuietRuns}
 use Rattle.attr_loader.proofs.Stands.{Stands}
 use Rattle.attr_loader.proofs.loader.load.Given as goal
 
@@ -10,6 +12,9 @@ invariant-loop-rest g l = record {
   rest : l.rest ≡ drop l.operations l.fn.ops;
   within : l.operations ≤ length l.fn.ops;
   room : length l.fn.attribute.fields ≡ 1 → HasMadeNothing (g.S.Store.ledger l.fn.attribute.store) → Runs g.S.Store.ledger l.fn.batch l.fn.ops l.fn.attribute l.attribute l.operations;
+  small : length l.fn.attribute.fields ≡ 1 → HasMadeNothing (g.S.Store.ledger l.fn.attribute.store) → l.fn.attribute.plan ≡ None
+      → IsSmall (load_of (g.S.Store.ledger l.fn.attribute.store).work.sizes.buffers (g.S.Store.ledger l.fn.attribute.store).work.sizes.words l.fn.attribute.fields l.fn.batch l.fn.ops)
+      → l.operations < length l.fn.ops → QuietRuns g.S.Store.ledger l.fn.batch l.fn.ops l.fn.attribute l.attribute l.operations;
   stands : Stands g.S.Store.ledger l.fn.batch l.fn.ops l.fn.attribute l.attribute l.operations l.skipped;
 }
 

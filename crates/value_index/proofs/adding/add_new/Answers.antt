@@ -16,8 +16,8 @@ use Rattle.posting_store.proofs.ListLemmas.{nothing_is}
 use Rattle.posting_store.proofs.RefusalLemmas.{if_one, of_more, of_one}
 use Rattle.store_api.proofs.May.{may_do-same, may_do-then}
 use Rattle.value_index.proofs.ChangeLemmas.{open_dictionary, open_owns}
-use Rattle.value_index.specs.Changes.{add_most, nodes_most, record_most, IsChangeWidth}
-use Rattle.value_index.proofs.CountLemmas.{add_none, within_more, within_record, within_then, within_tree}
+use Rattle.value_index.specs.Changes.{add_most, new_most, nodes_most, IsChangeWidth}
+use Rattle.value_index.proofs.CountLemmas.{add_none, within_more, within_new, within_then, within_tree}
 use Rattle.value_index.proofs.KeyLemmas.{list_none}
 use Rattle.value_index.proofs.OpenFlows.{flows_new}
 use Rattle.value_index.proofs.ShownLemmas.{Docs}
@@ -40,7 +40,7 @@ returns-in_err-key-clause-refuses g c =
     let a = ledger c.args.store.now in
     let p = err_from_is_err_and c.from_residual.result c.from_residual.ensures.1 in
     rw (p.1, p.2) (of_one (IsChangeWidth value count) a a (ledger c.add.new.store) (class_of (length (value_words value))) _ (may_do-same a) (class_width (length (value_words value)))
-    (record_change value count (inserted_some (list_of value (index_of (type_of value) m root)) c.args.doc c.args.weight)) c.in_err-key.ensures.refuses)
+    (record_change value count (inserted_some (list_of value (index_of (type_of value) m root)) c.args.doc c.args.weight) c.add.ensures.short) c.in_err-key.ensures.refuses)
 
 pub returns-in_err-key-clause-may : goal.returns-in_err-key-clause-may
 returns-in_err-key-clause-may g c = c.add.ensures.may
@@ -158,8 +158,8 @@ returns-in_err-key-clause-counts g c =
     let a = ledger c.args.store.now in
     let b = ledger c.add.new.store in
     let count : ℕ = length (insert_entry nat_cmp (list_of value (index_of (type_of value) m c.args.root)) c.args.doc c.args.weight) in
-    within_more a b (record_most value) (add_most value m c.args.root count) (λ w. let e = add_none value m c.args.root count w c.requires.new in omega arith)
-    (within_record a b (class_of (length (value_words value))) c.add.ensures.counts)
+    within_more a b (new_most value) (add_most value m c.args.root count) (λ w. let e = add_none value m c.args.root count w c.requires.new in omega arith)
+    (within_new a b value c.add.ensures.short c.add.ensures.counts)
 
 pub returns-in_err-list-clause-counts : goal.returns-in_err-list-clause-counts
 returns-in_err-list-clause-counts g c =
@@ -172,8 +172,8 @@ returns-in_err-list-clause-counts g c =
     let size : length (insert_entry nat_cmp (list_of value (index_of (type_of value) m c.args.root)) c.args.doc c.args.weight) ≡ 1 =
     ap (λ (ds : Docs). length (insert_entry nat_cmp ds c.args.doc c.args.weight)) (list_none value m c.args.root c.requires.index c.requires.new) in
     subst (λ k. MakesWithin a d (add_most value m c.args.root k)) (sym size)
-    (within_more a d (λ w. record_most value w + list_most 0 1 w) (add_most value m c.args.root 1) (λ w. let e = add_none value m c.args.root 1 w c.requires.new in omega arith)
-    (within_then a b d (record_most value) (list_most 0 1) c.add.ensures.may (within_record a b (class_of (length (value_words value))) c.add.ensures.counts) c.add-2.ensures.counts))
+    (within_more a d (λ w. new_most value w + list_most 0 1 w) (add_most value m c.args.root 1) (λ w. let e = add_none value m c.args.root 1 w c.requires.new in omega arith)
+    (within_then a b d (new_most value) (list_most 0 1) c.add.ensures.may (within_new a b value c.add.ensures.short c.add.ensures.counts) c.add-2.ensures.counts))
 
 pub returns-clause-counts : goal.returns-clause-counts
 returns-clause-counts g c =
@@ -197,8 +197,8 @@ returns-clause-counts g c =
     let size : length (insert_entry nat_cmp (list_of value (index_of (type_of value) m root)) c.args.doc c.args.weight) ≡ 1 =
     ap (λ (ds : Docs). length (insert_entry nat_cmp ds c.args.doc c.args.weight)) (list_none value m root c.requires.index c.requires.new) in
     let may = may_do-then a b d c.add.ensures.may c.add-2.ensures.may in
-    let made = within_then a b d (record_most value) (list_most 0 1) c.add.ensures.may (within_record a b (class_of (length (value_words value))) c.add.ensures.counts) c.add-2.ensures.counts in
+    let made = within_then a b d (new_most value) (list_most 0 1) c.add.ensures.may (within_new a b value c.add.ensures.short c.add.ensures.counts) c.add-2.ensures.counts in
     let nodes = within_tree d f m o root (2 * levels o root + 1) is.nodes (omega arith) c.set.ensures.counts in
     subst (λ k. MakesWithin a f (add_most value m root k)) (sym size)
-    (within_more a f (λ w. record_most value w + list_most 0 1 w + nodes_most (levels m root) w) (add_most value m root 1) (λ w. let e = add_none value m root 1 w c.requires.new in omega arith)
-    (within_then a d f (λ w. record_most value w + list_most 0 1 w) (nodes_most (levels m root)) may made nodes))
+    (within_more a f (λ w. new_most value w + list_most 0 1 w + nodes_most (levels m root) w) (add_most value m root 1) (λ w. let e = add_none value m root 1 w c.requires.new in omega arith)
+    (within_then a d f (λ w. new_most value w + list_most 0 1 w) (nodes_most (levels m root)) may made nodes))
