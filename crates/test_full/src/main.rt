@@ -3,6 +3,7 @@
 #![tactic(auto)]
 
 mod attributes;
+mod lost;
 mod rows;
 mod run;
 

@@ -1,8 +1,9 @@
 //! Rows of standard input: `row BUFFERS DOCUMENTS PUTS BATCH GUARD KEYS LEAST MOST`: after GUARD puts a guard is
 //! taken; from LEAST to MOST puts are committed before its release, and all of them after it. `limits PUTS COMMITS
-//! GENERATIONS = LINE`: the results of the commits after each of the puts. Other lines are comments.
+//! GENERATIONS = LINE`: the results of the commits after each of the puts. `lost BUFFERS PUTS = LINE`: what is
+//! refused after a guard was dropped without a release, and the table then. Other lines are comments.
 use crate::attributes::NoRoom;
-use crate::run::{Load, Told, run, tell};
+use crate::run::{Load, Told, run, tell, tell_lost};
 use std::alloc::AllocError;
 use std::io;
 use test_kit::Tally;
@@ -102,12 +103,21 @@ fn compare_limits(rt: &HostRuntime, row: &str, tally: &mut Tally) -> io::Result<
     tally.note(rt, asked, &told, wanted)
 }
 
+fn compare_lost(rt: &HostRuntime, row: &str, tally: &mut Tally) -> io::Result<()> {
+    let (asked, wanted) = row.split_once(" = ").unwrap_or((row, ""));
+    let told = tell_lost(rt.alloc(), number_at(asked, 1), number_at(asked, 2))?;
+    tally.note(rt, asked, &told, wanted)
+}
+
 fn compare_line(rt: &HostRuntime, line: &str, tally: &mut Tally) -> io::Result<()> {
     if line.starts_with("row ") {
         return compare_row(rt, line, tally);
     }
     if line.starts_with("limits ") {
         return compare_limits(rt, line, tally);
+    }
+    if line.starts_with("lost ") {
+        return compare_lost(rt, line, tally);
     }
     Ok(())
 }

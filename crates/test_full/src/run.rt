@@ -1,10 +1,12 @@
 //! Puts before a guard, under it, and after its release.
 ghost use Rattle.std.specs.Prelude.{◌≡◌, ◌<◌, ◌≤◌, ◌^◌, length};
 ghost use Rattle.attr_types.specs.declared.field.TheConstants.{MOST_FIELDS};
-ghost use Rattle.word_arena.specs.Ruled.{writer_of};
+ghost use Rattle.attr_images.specs.Shapes.{shape_of, types_of};
+ghost use Rattle.word_arena.specs.Ruled.{reader_of, writer_of};
 ghost use Rattle.test_full.specs.New.{IsNewWriter};
 
 use crate::attributes::{NoRoom, commit, compact, one_field, put, seat_in, tell_commit};
+use crate::lost::lose;
 use attr_images::{AttrLayout, shape_of};
 use attr_types::Fields;
 use attribute_kinds::Attribute;
@@ -49,6 +51,8 @@ pub enum Asked {
     Guard(Load),
     /// This many puts to one document, with a commit after each.
     Limits(u32),
+    /// The same after a guard was dropped without a release, until one is refused.
+    Lost(u32),
 }
 
 /// What was committed around a guard; or the results of commits under limits, in order.
@@ -186,16 +190,19 @@ fn tell_all<const OFFSET_BITS: u32, S: Store<OFFSET_BITS, Layout = AttrLayout>>(
     Ok(())
 }
 
-/// Runs a test on attributes without documents, with a reader beside them.
+/// Runs a test on attributes without documents, with two readers beside them.
 fn answer_one<'a, const OFFSET_BITS: u32, S: Store<OFFSET_BITS, Layout = AttrLayout>>(
     alloc: Global,
     attribute: &mut Attribute<OFFSET_BITS, S>,
     reader: Reader<'a, 22, AttrLayout>,
+    other: Reader<'a, 22, AttrLayout>,
     fields: &Fields,
     asked: Asked,
     answer: &mut Answer,
 ) -> Result<(), AllocError>
     requires same { attribute.old.fields ≡ fields.now }
+    requires few { length fields.now ≤ MOST_FIELDS }
+    requires shape { (reader_of other.place.me.0).sizes.shape ≡ shape_of (types_of fields.now) }
 {
     match asked {
         Asked::Guard(load) => {
@@ -203,6 +210,15 @@ fn answer_one<'a, const OFFSET_BITS: u32, S: Store<OFFSET_BITS, Layout = AttrLay
             Ok(())
         }
         Asked::Limits(puts) => tell_all(alloc, attribute, fields, puts, &mut answer.line),
+        Asked::Lost(puts) => lose(
+            alloc,
+            attribute,
+            reader,
+            other,
+            fields,
+            puts,
+            &mut answer.line,
+        ),
     }
 }
 
@@ -211,14 +227,16 @@ fn answer_over<'a>(
     alloc: Global,
     writer: Writer<'a, 22, AttrLayout>,
     reader: Reader<'a, 22, AttrLayout>,
+    other: Reader<'a, 22, AttrLayout>,
     fields: &Fields,
     asked: Asked,
     told: &mut Answer,
 ) -> Result<(), AllocError>
     requires new { IsNewWriter fields.now writer.place.table_id (writer_of writer.place.me.0) }
+    requires shape { (reader_of other.place.me.0).sizes.shape ≡ shape_of (types_of fields.now) }
 {
     match Attribute::create(alloc, writer, fields, false) {
-        Ok(mut attribute) => answer_one(alloc, &mut attribute, reader, fields, asked, told),
+        Ok(mut attribute) => answer_one(alloc, &mut attribute, reader, other, fields, asked, told),
         Err(_) => Err(AllocError),
     }
 }
@@ -235,7 +253,8 @@ fn answer_seated<'a>(
 {
     let mut writer = writer;
     let reader = seat_in(&mut writer, fields)?;
-    answer_over(alloc, writer, reader, fields, asked, told)
+    let other = seat_in(&mut writer, fields)?;
+    answer_over(alloc, writer, reader, other, fields, asked, told)
 }
 
 /// The same over a new memory with this many buffers and these limits.
@@ -295,6 +314,19 @@ pub fn run(alloc: Global, load: Load) -> Result<Option<Told>, AllocError> {
     };
     let answer = answer_of(alloc, load.buffers, limits, Asked::Guard(load))?;
     Ok(answer.told)
+}
+
+/// Makes puts in 1 to 64 buffers, after a guard was dropped without a release.
+pub fn tell_lost(alloc: Global, buffers: u32, puts: u32) -> Result<String, AllocError> {
+    if buffers < 1 || buffers > 64 {
+        return Err(AllocError);
+    }
+    let limits = Limits {
+        commits: 4_294_967_295,
+        generations: 281_474_976_710_655,
+    };
+    let answer = answer_of(alloc, buffers, limits, Asked::Lost(puts))?;
+    Ok(answer.line)
 }
 
 /// Makes puts in eight buffers under limits of commits and of generations.
