@@ -63,7 +63,7 @@ fn put_of(alloc: Global, document: u32, number: u32) -> Result<Op, AllocError> {
 }
 
 /// Returns the refusal for lack of space; other refusals are an error.
-fn refused(error: AttrError) -> Result<Option<NoRoom>, AllocError> {
+pub fn refused(error: AttrError) -> Result<Option<NoRoom>, AllocError> {
     match error {
         AttrError::Full {
             width: _,
@@ -149,7 +149,7 @@ pub fn compact<const OFFSET_BITS: u32, S: Store<OFFSET_BITS, Layout = AttrLayout
     }
 }
 
-fn push_info(line: &mut String, info: CommitInfo) -> Result<(), AllocError> {
+pub fn push_info(line: &mut String, info: CommitInfo) -> Result<(), AllocError> {
     let commit = info.commit;
     match info.advance {
         Advance::To { generation, .. } => write!(line, "{commit} to {generation}"),

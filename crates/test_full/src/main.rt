@@ -6,6 +6,7 @@ mod attributes;
 mod lost;
 mod rows;
 mod run;
+mod script;
 
 use std::io;
 

@@ -7,6 +7,7 @@ ghost use Rattle.test_full.specs.New.{IsNewWriter};
 
 use crate::attributes::{NoRoom, commit, compact, one_field, put, seat_in, tell_commit};
 use crate::lost::lose;
+use crate::script::{Script, follow, tell_offset};
 use attr_images::{AttrLayout, shape_of};
 use attr_types::Fields;
 use attribute_kinds::Attribute;
@@ -46,13 +47,15 @@ pub struct Told {
 
 /// A test of a new memory.
 #[derive(Clone, Copy, Drop)]
-pub enum Asked {
+pub enum Asked<'t> {
     /// Puts before a guard, under it and after it.
     Guard(Load),
     /// This many puts to one document, with a commit after each.
     Limits(u32),
     /// The same after a guard was dropped without a release, until one is refused.
     Lost(u32),
+    /// Steps, and whether a new entry has a new offset then.
+    Steps(Script<'t>),
 }
 
 /// What was committed around a guard; or the results of commits under limits, in order.
@@ -197,7 +200,7 @@ fn answer_one<'a, const OFFSET_BITS: u32, S: Store<OFFSET_BITS, Layout = AttrLay
     reader: Reader<'a, 22, AttrLayout>,
     other: Reader<'a, 22, AttrLayout>,
     fields: &Fields,
-    asked: Asked,
+    asked: Asked<'_>,
     answer: &mut Answer,
 ) -> Result<(), AllocError>
     requires same { attribute.old.fields ≡ fields.now }
@@ -219,7 +222,25 @@ fn answer_one<'a, const OFFSET_BITS: u32, S: Store<OFFSET_BITS, Layout = AttrLay
             puts,
             &mut answer.line,
         ),
+        Asked::Steps(script) => follow(alloc, attribute, reader, fields, script, &mut answer.line),
     }
+}
+
+/// Closes the attributes. After steps, makes one more entry of two words, and says whether its offset is new.
+fn answer_end<const OFFSET_BITS: u32, S: Store<OFFSET_BITS, Layout = AttrLayout>>(
+    attribute: Attribute<OFFSET_BITS, S>,
+    asked: Asked<'_>,
+    answer: &mut Answer,
+) -> (S, Result<(), AllocError>) {
+    let _ = attribute.operations();
+    let (mut store, _) = attribute.into_store();
+    let told = match asked {
+        Asked::Steps(script) => tell_offset(&mut store, script.last, &mut answer.line),
+        Asked::Guard(_) => Ok(()),
+        Asked::Limits(_) => Ok(()),
+        Asked::Lost(_) => Ok(()),
+    };
+    (store, told)
 }
 
 /// The same over a writer that has committed nothing.
@@ -229,14 +250,18 @@ fn answer_over<'a>(
     reader: Reader<'a, 22, AttrLayout>,
     other: Reader<'a, 22, AttrLayout>,
     fields: &Fields,
-    asked: Asked,
+    asked: Asked<'_>,
     told: &mut Answer,
 ) -> Result<(), AllocError>
     requires new { IsNewWriter fields.now writer.place.table_id (writer_of writer.place.me.0) }
     requires shape { (reader_of other.place.me.0).sizes.shape ≡ shape_of (types_of fields.now) }
 {
     match Attribute::create(alloc, writer, fields, false) {
-        Ok(mut attribute) => answer_one(alloc, &mut attribute, reader, other, fields, asked, told),
+        Ok(mut attribute) => {
+            answer_one(alloc, &mut attribute, reader, other, fields, asked, told)?;
+            let (_store, ended) = answer_end(attribute, asked, told);
+            ended
+        }
         Err(_) => Err(AllocError),
     }
 }
@@ -246,7 +271,7 @@ fn answer_seated<'a>(
     alloc: Global,
     writer: Writer<'a, 22, AttrLayout>,
     fields: &Fields,
-    asked: Asked,
+    asked: Asked<'_>,
     told: &mut Answer,
 ) -> Result<(), AllocError>
     requires new { IsNewWriter fields.now writer.place.table_id (writer_of writer.place.me.0) }
@@ -263,7 +288,7 @@ fn answer_with(
     fields: &Fields,
     buffers: u32,
     limits: Limits,
-    asked: Asked,
+    asked: Asked<'_>,
     told: &mut Answer,
 ) -> Result<(), AllocError>
     requires some_fields { 0 < length fields.now }
@@ -288,7 +313,7 @@ fn answer_of(
     alloc: Global,
     buffers: u32,
     limits: Limits,
-    asked: Asked,
+    asked: Asked<'_>,
 ) -> Result<Answer, AllocError>
     requires some_buffers { 1 ≤ buffers }
     requires few_buffers { buffers ≤ 64 }
@@ -314,6 +339,20 @@ pub fn run(alloc: Global, load: Load) -> Result<Option<Told>, AllocError> {
     };
     let answer = answer_of(alloc, load.buffers, limits, Asked::Guard(load))?;
     Ok(answer.told)
+}
+
+/// Follows steps in eight buffers, under a limit of generations.
+pub fn tell_steps(
+    alloc: Global,
+    generations: u32,
+    script: Script<'_>,
+) -> Result<String, AllocError> {
+    let limits = Limits {
+        commits: 4_294_967_295,
+        generations: u64::from(generations),
+    };
+    let answer = answer_of(alloc, 8, limits, Asked::Steps(script))?;
+    Ok(answer.line)
 }
 
 /// Makes puts in 1 to 64 buffers, after a guard was dropped without a release.
