@@ -1,4 +1,4 @@
-use Rattle.std.proofs.Common.{arith, ap, subst, sym, ◌∙◌, ◌≡◌, ◌+◌, ◌*◌, ℕ}
+use Rattle.std.proofs.Common.{arith, ap, subst, sym, ◌∙◌, ◌≡◌, ℕ}
 use Rattle.entry_ref.specs.References.{buffer_of}
 use Rattle.atomic_table.specs.declared.shared.Seat.{Seat}
 use Rattle.entry_ref.specs.Places.{base, place, IsEntry}
@@ -9,7 +9,7 @@ use Rattle.word_arena.specs.declared.rule.Watched.{Watched}
 use Rattle.word_arena.proofs.reader.Guarded.place_of_word.Goals as goal
 
 pub first_word-first-requires : goal.first_word-first-requires
-first_word-first-requires g c = let s = c.args.self.now in (post-buffers s.stands.post, s.stands.post.limits.few_words)
+first_word-first-requires g c = let s = c.args.self.now in record { few_buffers = post-buffers s.stands.post; few_words = s.stands.post.limits.few_words }
 
 pub load-width-requires : goal.load-width-requires
 load-width-requires g c =

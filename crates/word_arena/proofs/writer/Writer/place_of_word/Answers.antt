@@ -1,4 +1,4 @@
-use Rattle.std.proofs.Common.{arith, ap, subst, sym, ◌∙◌, ◌≡◌, ◌+◌, ◌*◌, ℕ}
+use Rattle.std.proofs.Common.{arith, ap, subst, sym, ◌∙◌, ◌≡◌, ℕ}
 use Rattle.entry_ref.specs.References.{buffer_of}
 use Rattle.atomic_table.specs.declared.shared.Seat.{Seat}
 use Rattle.entry_ref.specs.Places.{base, place, IsEntry}
@@ -11,7 +11,7 @@ use Rattle.word_arena.specs.declared.rule.Watched.{Watched}
 use Rattle.word_arena.proofs.writer.Writer.place_of_word.Goals as goal
 
 pub first_word-first-requires : goal.first_word-first-requires
-first_word-first-requires g c = let s = c.args.self.now in (few-buffers s.stands, few-words s.stands)
+first_word-first-requires g c = let s = c.args.self.now in record { few_buffers = few-buffers s.stands; few_words = few-words s.stands }
 
 pub load-width-requires : goal.load-width-requires
 load-width-requires g c =

@@ -1,4 +1,4 @@
-use Rattle.std.proofs.Common.{ap, sym, refl, subst, arith, ◌∙◌, ◌≡◌, ◌+◌, ◌*◌, ◌<◌, ℕ, length, set, [], List}
+use Rattle.std.proofs.Common.{ap, sym, refl, subst, arith, ◌∙◌, ◌≡◌, ◌+◌, ◌<◌, ℕ, length, set, [], List}
 use Rattle.atomic_table.specs.Table.{Me}
 use Rattle.entry_ref.specs.Places.{base}
 use Rattle.gen_core.specs.declared.views.Sizes.{Sizes}
@@ -24,7 +24,7 @@ use Rattle.gen_core.specs.Good.{GoodView}
 use Rattle.gen_core.proofs.StoredWords.{two-steps, may-hand-out, may-width}
 
 pub first_word-first-requires : goal.first_word-first-requires
-first_word-first-requires g c = let s = c.args.self.now in (few-buffers s.stands, few-words s.stands)
+first_word-first-requires g c = let s = c.args.self.now in record { few_buffers = few-buffers s.stands; few_words = few-words s.stands }
 
 pub store-requires : goal.store-requires
 store-requires g c =
