@@ -42,7 +42,7 @@ settled_few (Some weight) r doc docs = inserted docs doc weight
 settled_few None (Some weight) doc docs = let few = length-remove_entry (is_at (nat_cmp doc)) docs in omega arith
 settled_few None None doc docs = omega arith
 
-documents_few : (value : Value) (column : Column) → length (documents_with value column) ≤ length column
+pub documents_few : (value : Value) (column : Column) → length (documents_with value column) ≤ length column
 documents_few value [] = omega arith
 documents_few value (e ∷ column) = told (option_map (λ (item : Item). (e.0, item.weight)) (find (λ (item : Item). is_eq (value_cmp value item.value)) e.1)) (documents_few value column)
   where

@@ -19,7 +19,8 @@ ghost use Rattle.attr_types.specs.Lawful.{ItemsFit};
 ghost use Rattle.attr_types.specs.Value.{value_cmp, AreOfType};
 ghost use Rattle.attr_types.specs.declared.value.Value.{Value as OneValue};
 ghost use Rattle.posting_store.specs.Changes.{MakesWithin};
-ghost use Rattle.value_index.specs.Counts.{added_count, added_records, by_width, gone_count, gone_records, value_nodes, AddsLow, RemovesLow};
+ghost use Rattle.value_index.specs.Counts.{added_count, added_records, by_width, gone_count, gone_records, value_nodes};
+ghost use Rattle.value_index.specs.Counts.{AddsLow, RemovesLow};
 ghost use Rattle.value_index.specs.Widths.{IsWalkWidth};
 
 use crate::keys::keys_of;

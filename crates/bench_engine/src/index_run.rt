@@ -1,14 +1,14 @@
 //! Additions, removals and reads of an index in a store of its own.
 use crate::items::value_at;
 use crate::postings::draws;
-use crate::stores::{index_memory, new_lists, words_made};
+use crate::stores::{index_memory, words_made};
 use arena_api::Work;
 use attr_types::{Doc, Value, ValueType};
 use entry_store::EntryStore;
 use mem_work::{MemWork, OneRecord};
 use std::alloc::{AllocError, Global};
 use store_api::Store;
-use test_kit::ValueLists;
+use test_kit::{ValueLists, new_lists};
 
 /// An index over a memory without readers.
 type Lists = ValueLists<22, EntryStore<22, MemWork<22, OneRecord>>>;

@@ -4,13 +4,11 @@ ghost use Rattle.arena_api.specs.Calls.{IsFresh};
 ghost use Rattle.store_api.specs.Ledgers.{IsNew, is_width};
 
 use arena_api::Work;
-use attr_types::ValueType;
 use entry_ref::Layout;
 use entry_store::EntryStore;
 use mem_work::{MemWork, OneRecord};
 use std::alloc::{AllocError, Global};
 use store_api::Store;
-use test_kit::ValueLists;
 
 /// Creates a store over a memory of buffers of 65,536 words, in which nothing is made.
 pub fn new_store<L: Layout>(
@@ -34,20 +32,6 @@ pub fn index_memory(alloc: Global, postings: u32) -> Result<MemWork<22, OneRecor
 {
     let work = MemWork::create(alloc, (postings / 8_000).min(111) + 17, 65536, 1)?;
     Ok(work)
-}
-
-/// Creates an empty index, in a store over a work in which nothing is handed out.
-pub fn new_lists<const OFFSET_BITS: u32, W: Work<OFFSET_BITS> + Drop>(
-    alloc: Global,
-    work: W,
-    value_type: ValueType,
-) -> Result<ValueLists<OFFSET_BITS, EntryStore<OFFSET_BITS, W>>, AllocError>
-    requires fresh { IsFresh (W.knows work) }
-{
-    match EntryStore::create(alloc, work) {
-        Ok(store) => Ok(ValueLists::new(store, value_type)),
-        Err(_) => Err(AllocError),
-    }
 }
 
 /// Returns the number of words of all entries of a width that were made.

@@ -5,7 +5,6 @@ pub mod WordLemmas
 pub mod ListLemmas
 pub mod IndexNodeLemmas
 pub mod IndexUsedLemmas
-pub mod SearchLemmas
 pub mod LyingLemmas
 pub mod DocumentSetLemmas
 pub mod DocumentNodeLemmas

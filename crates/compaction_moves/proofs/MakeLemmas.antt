@@ -1,9 +1,7 @@
 -- How many records a move makes.
-use Rattle.std.proofs.Common.{◌≡◌, ℕ, zero, suc, ◌+◌, ◌*◌, ◌≤◌, Bool, true, false, cond, nat_eq, nat_le, ℤ, [], ◌∷◌, length, Option, None, Some, refl, sym, ap, subst, ◌∙◌, arith, inl, inr, leb-true}
+use Rattle.std.proofs.Common.{◌≡◌, ℕ, zero, suc, ◌+◌, ◌*◌, ◌≤◌, Bool, true, false, cond, nat_eq, nat_le, length, refl, sym, ap, subst, ◌∙◌, arith, inl, inr, leb-true}
 use Rattle.std.proofs.lemmas.Bool.{eqb-true}
-use Rattle.std.specs.List.{cons_option, find}
-use Rattle.std.specs.Option.{option_map, unwrap_or}
-use Rattle.std.specs.Ordering.{is_eq}
+use Rattle.std.specs.Option.{unwrap_or}
 use Rattle.entry_ref.specs.Records.{Records}
 use Rattle.tree_read.specs.Pairs.{lookup}
 use Rattle.store_api.specs.Ledgers.{Ledger}
@@ -12,6 +10,7 @@ use Rattle.frozen_btree.specs.Changes.{levels}
 use Rattle.frozen_btree.specs.Makes.{CountsNodes}
 use Rattle.array_store.proofs.ClassLemmas.{class_least, class_no_node}
 use Rattle.attr_field.proofs.CountLemmas.{documents_low}
+use Rattle.attr_field.proofs.SizeLemmas.{documents_few}
 use Rattle.attr_field.specs.DocumentsChanges.{documents_most}
 use Rattle.attr_field.specs.Fields.{IsField}
 use Rattle.attr_field.specs.Items.{has_list, items_record}
@@ -21,8 +20,7 @@ use Rattle.attr_images.specs.Values.{value_words}
 use Rattle.attr_images.specs.Words.{class_of}
 use Rattle.attr_index.specs.Columns.{Column, documents_with}
 use Rattle.attr_index.specs.Index.{list_of}
-use Rattle.attr_types.specs.Value.{type_of, value_cmp}
-use Rattle.attr_types.specs.declared.items.Item.{Item}
+use Rattle.attr_types.specs.Value.{type_of}
 use Rattle.attr_types.specs.declared.kind.Kind.{Kind}
 use Rattle.attr_types.specs.declared.kind.Kind.TheVariants.{Single}
 use Rattle.attr_types.specs.declared.kind.ValueType.{ValueType}
@@ -41,8 +39,8 @@ use Rattle.value_index.proofs.CountLemmas.{within_more, within_nodes}
 use Rattle.value_index.specs.Changes.{nodes_most, value_levels}
 
 -- ---- a bound by width, from what is made of nodes and of other widths
-by_parts : (w x n r : ℕ) → (nat_eq w 34 ≡ true → x ≤ n) → (nat_eq w 34 ≡ false → x ≤ r) → x ≤ cond (nat_eq w 34) n r
-by_parts w x n r node other = told (nat_eq w 34) refl
+node_or_record : (w x n r : ℕ) → (nat_eq w 34 ≡ true → x ≤ n) → (nat_eq w 34 ≡ false → x ≤ r) → x ≤ cond (nat_eq w 34) n r
+node_or_record w x n r node other = told (nat_eq w 34) refl
   where
     told : (t : Bool) → nat_eq w 34 ≡ t → x ≤ cond t n r
     told true is = node is
@@ -61,7 +59,7 @@ past_node t n is = ap (λ b. cond b n 0) is
 -- a record of this width, and nodes of the dictionary
 record_nodes : (k l n w : ℕ) → (k ≡ 34 → ⊥) → l ≤ n → cond (nat_eq w k) 1 0 + nodes_most l w ≤ by_width (key_nodes n) (one_record k) w
 record_nodes k l n w none low =
-    by_parts w (cond (nat_eq w k) 1 0 + nodes_most l w) (key_nodes n) (one_record k w)
+    node_or_record w (cond (nat_eq w k) 1 0 + nodes_most l w) (key_nodes n) (one_record k w)
     (λ node. let no_record = none_there w k node none in let few = in_node (nat_eq w 34) (2 * l + 1) in omega (arith, no_record, few, low))
     (λ other. let none = past_node (nat_eq w 34) (2 * l + 1) other in omega (arith, none))
 
@@ -70,13 +68,13 @@ list_nodes : (t : Bool) (k h l n w : ℕ) → (k ≡ 34 → ⊥) → h ≤ n →
     → cond t (cond (nat_eq w k) 1 0) (cond (nat_eq w 34) h 0) + nodes_most l w ≤ by_width (key_nodes n) (one_record (cond t k 2)) w
 list_nodes true k h l n w none high low = record_nodes k l n w none low
 list_nodes false k h l n w none high low =
-    by_parts w (cond (nat_eq w 34) h 0 + nodes_most l w) (key_nodes n) (one_record 2 w)
+    node_or_record w (cond (nat_eq w 34) h 0 + nodes_most l w) (key_nodes n) (one_record 2 w)
     (λ node. let few = in_node (nat_eq w 34) (2 * l + 1) in let own = in_node (nat_eq w 34) h in omega (arith, few, own, high, low))
     (λ other. let none = past_node (nat_eq w 34) (2 * l + 1) other in let own = past_node (nat_eq w 34) h other in omega (arith, none, own))
 
 only_nodes : (l n w : ℕ) → l ≤ n → nodes_most l w ≤ by_width (key_nodes n) (one_record 2) w
 only_nodes l n w low =
-    by_parts w (nodes_most l w) (key_nodes n) (one_record 2 w)
+    node_or_record w (nodes_most l w) (key_nodes n) (one_record 2 w)
     (λ node. let few = in_node (nat_eq w 34) (2 * l + 1) in omega (arith, few, low))
     (λ other. let none = past_node (nat_eq w 34) (2 * l + 1) other in omega (arith, none))
 
@@ -109,15 +107,6 @@ single_width : (kind : Kind) (count : ℕ) → kind ≡ Single → cond (has_lis
 single_width kind count is =
     let same : cond (has_list kind) (class_of (1 + count)) 2 ≡ 2 = ap (λ k. cond (has_list k) (class_of (1 + count)) 2) is in
     omega (arith, same)
-
--- a list of the documents that have a value has no more of them than there are
-documents_few : (value : Value) (column : Column) → length (documents_with value column) ≤ length column
-documents_few value [] = omega arith
-documents_few value (e ∷ column) = told (option_map (λ (item : Item). (e.0, item.weight)) (find (λ (item : Item). is_eq (value_cmp value item.value)) e.1)) (documents_few value column)
-  where
-    told : (o : Option (ℕ × ℤ)) → length (documents_with value column) ≤ length column → length (cons_option o (documents_with value column)) ≤ suc (length column)
-    told None rest = omega arith
-    told (Some p) rest = omega arith
 
 -- ---- what is made of one key
 module _ {H : Type 0} (a b : Ledger H) (m : Records) (kind : Kind) (type : ValueType) (documents dictionary : ℕ) (field : IsField kind type m documents dictionary) where

@@ -2,12 +2,11 @@
 use Rattle.std.proofs.Common.{◌≡◌, ◌≢◌, ◌⊎◌, ℕ, ◌+◌, ◌<◌, Bool, true, false, cond, nat_lt, List, [], ◌∷◌, Option, None, Some, Less, Equal, Greater, is_lt, inl, inr, refl, sym, ap, subst, ◌∙◌, arith, true≢false}
 use Rattle.std.proofs.lemmas.Bool.{cases_eq, ltb-true, ltb-false}
 use Rattle.std.proofs.lemmas.Cmp.{tied_itself, nat_cmp_total}
-use Rattle.std.specs.Cmp.{nat_cmp_is}
 use Rattle.std.specs.List.{find, AllByRecursion}
 use Rattle.std.specs.List.Sorted.{IsStrictlySortedBy}
 use Rattle.std.specs.declared.cmp.Ordering.{Ordering}
 use Rattle.std.specs.Ordering.{nat_cmp, ordering_reverse, ordering_then}
-use Rattle.compaction_moves.proofs.VisitLemmas.{key_above}
+use Rattle.compaction_moves.proofs.VisitLemmas.{key_above, less_not_greater, number_above}
 use Rattle.compaction_moves.specs.Cleared.{IsVisited}
 use Rattle.attr_compaction.proofs.PlaceLemmas.{key_total, place_total, below}
 use Rattle.attr_compaction.specs.Places.{is_start, key_cmp, place_cmp, stage_cmp, PlanPlace}
@@ -23,14 +22,8 @@ stage_of field phase = record { field = field; phase = phase }
 abbrev place_of : ℕ → ℕ → PlanKey → PlanPlace
 place_of field phase key = record { stage = stage_of field phase; key = key }
 
-above : (a b : ℕ) → b < a → nat_cmp a b ≡ Greater
-above a b h = sym (nat_cmp_is a b Greater h)
-
 equal : (a b : ℕ) → a ≡ b → nat_cmp a b ≡ Equal
 equal a b e = ap (λ (x : ℕ). nat_cmp x b) e ∙ tied_itself nat_cmp_total b
-
-less_not_greater : (o : Ordering) → o ≡ Less → o ≢ Greater
-less_not_greater o less greater = true≢false (sym (ap is_lt less) ∙ ap is_lt greater)
 
 -- ---- stages beside each other
 stage_less : (field phase : ℕ) (s : Stage) → (field < s.field) ⊎ ((s.field ≡ field) × (phase < s.phase)) → stage_cmp (stage_of field phase) s ≡ Less
@@ -38,8 +31,8 @@ stage_less field phase s (inl h) = ap (λ (o : Ordering). ordering_then o (nat_c
 stage_less field phase s (inr h) = ap (λ (o : Ordering). ordering_then o (nat_cmp phase s.phase)) (equal field s.field (sym h.0)) ∙ below phase s.phase h.1
 
 stage_greater : (field phase : ℕ) (s : Stage) → (s.field < field) ⊎ ((s.field ≡ field) × (s.phase < phase)) → stage_cmp (stage_of field phase) s ≡ Greater
-stage_greater field phase s (inl h) = ap (λ (o : Ordering). ordering_then o (nat_cmp phase s.phase)) (above field s.field h)
-stage_greater field phase s (inr h) = ap (λ (o : Ordering). ordering_then o (nat_cmp phase s.phase)) (equal field s.field (sym h.0)) ∙ above phase s.phase h.1
+stage_greater field phase s (inl h) = ap (λ (o : Ordering). ordering_then o (nat_cmp phase s.phase)) (number_above field s.field h)
+stage_greater field phase s (inr h) = ap (λ (o : Ordering). ordering_then o (nat_cmp phase s.phase)) (equal field s.field (sym h.0)) ∙ number_above phase s.phase h.1
 
 stage_equal : (field phase : ℕ) (s : Stage) → s.field ≡ field → s.phase ≡ phase → stage_cmp (stage_of field phase) s ≡ Equal
 stage_equal field phase s ef ep = ap (λ (o : Ordering). ordering_then o (nat_cmp phase s.phase)) (equal field s.field (sym ef)) ∙ equal phase s.phase (sym ep)

@@ -1,5 +1,5 @@
 -- Which keys were visited: none at first, more at each place, and all past the last phase.
-use Rattle.std.proofs.Common.{◌≡◌, ℕ, zero, suc, ◌<◌, ◌≤◌, Less, Greater, false, is_lt, inl, inr, refl, sym, ap, ◌∙◌, arith, true≢false}
+use Rattle.std.proofs.Common.{◌≡◌, ◌≢◌, ℕ, zero, suc, ◌<◌, ◌≤◌, Less, Greater, false, is_lt, inl, inr, refl, sym, ap, ◌∙◌, arith, true≢false}
 use Rattle.std.proofs.lemmas.Bool.{cases_eq}
 use Rattle.std.proofs.lemmas.Cmp.{tied_itself, nat_cmp_total}
 use Rattle.std.specs.Cmp.{nat_cmp_is}
@@ -15,8 +15,8 @@ use Rattle.compaction_moves.specs.Laws.{AllIsVisited, NothingIsVisited, VisitedS
 abbrev place_at : ℕ → ℕ → PlanKey → PlanPlace
 place_at field phase key = record { stage = record { field = field; phase = phase }; key = key }
 
-above : (a b : ℕ) → b < a → nat_cmp a b ≡ Greater
-above a b h = sym (nat_cmp_is a b Greater h)
+pub number_above : (a b : ℕ) → b < a → nat_cmp a b ≡ Greater
+number_above a b h = sym (nat_cmp_is a b Greater h)
 
 -- ---- at first
 pub key_above : (key : PlanKey) → is_start key ≡ false → key_cmp key Start ≡ Greater
@@ -27,8 +27,8 @@ key_above (Pair v d) h = refl
 
 first_below : (field phase : ℕ) (key : PlanKey) → is_start key ≡ false → place_cmp (place_at field phase key) first_place ≡ Greater
 first_below zero zero key h = key_above key h
-first_below zero (suc phase) key h = ap (λ (o : Ordering). ordering_then o (key_cmp key Start)) (above (suc phase) 0 (omega arith))
-first_below (suc field) phase key h = ap (λ (o : Ordering). ordering_then (ordering_then o (nat_cmp phase 0)) (key_cmp key Start)) (above (suc field) 0 (omega arith))
+first_below zero (suc phase) key h = ap (λ (o : Ordering). ordering_then o (key_cmp key Start)) (number_above (suc phase) 0 (omega arith))
+first_below (suc field) phase key h = ap (λ (o : Ordering). ordering_then (ordering_then o (nat_cmp phase 0)) (key_cmp key Start)) (number_above (suc field) 0 (omega arith))
 
 pub nothing_visited : NothingIsVisited
 nothing_visited field phase key h visited = visited (first_below field phase key h)
@@ -42,8 +42,8 @@ visited_stays at next field phase key rises visited past =
     visited (place_total.antisymm here at ∙ ap ordering_reverse under)
 
 -- ---- past the last phase
-not_greater : Less ≡ Greater → ⊥
-not_greater e = true≢false (ap is_lt e)
+pub less_not_greater : (o : Ordering) → o ≡ Less → o ≢ Greater
+less_not_greater o less greater = true≢false (sym (ap is_lt less) ∙ ap is_lt greater)
 
 stage_below : (at : PlanPlace) (field phase : ℕ) → at.stage.phase ≡ PHASES → field ≤ at.stage.field → phase < PHASES
     → stage_cmp (record { field = field; phase = phase }) at.stage ≡ Less
@@ -55,4 +55,4 @@ stage_below at field phase over few within = elim (cases_eq field at.stage.field
 
 pub all_visited : AllIsVisited
 all_visited at field phase key over few within past =
-    not_greater (sym (ap (λ (o : Ordering). ordering_then o (key_cmp key at.key)) (stage_below at field phase over few within)) ∙ past)
+    less_not_greater Less refl (sym (ap (λ (o : Ordering). ordering_then o (key_cmp key at.key)) (stage_below at field phase over few within)) ∙ past)

@@ -12,9 +12,8 @@ ghost use Rattle.attr_field.specs.DocumentsChanges.{documents_most};
 ghost use Rattle.attr_field.specs.DocumentsFlows.{reference_at};
 ghost use Rattle.compaction_moves.specs.DocumentMoves.{AreItemsApart, CanMoveItems, MovesItems};
 
-use crate::document_keys::keys_of;
 use crate::lying::document_lies;
-use attr_field::{document_items as read_items, set_document};
+use attr_field::{document_items as read_items, keys_of, set_document};
 use attr_types::{Doc, Item, Kind, ValueType};
 use entry_ref::EntryRef;
 use std::alloc::Global;

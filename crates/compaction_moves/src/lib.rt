@@ -9,8 +9,6 @@
 #![tactic(auto)]
 
 mod cleared_documents;
-mod document_keys;
-mod document_moves;
 mod document_moving;
 mod document_nodes;
 mod field_documents;

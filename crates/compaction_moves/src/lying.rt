@@ -12,9 +12,9 @@ ghost use Rattle.compaction_moves.specs.DocumentMoves.{AreItemsApart};
 ghost use Rattle.entry_ref.specs.References.{buffer_of};
 ghost use Rattle.frozen_btree.specs.Paths.{NoneIn};
 
-use crate::document_moves::WEIGHT_BASE;
 use arena_api::Frozen;
 use array_store::{count, get as array_item};
+use attr_field::WEIGHT_BASE;
 use attr_types::{Doc, Kind, ValueType};
 use doc_vector::get;
 use entry_ref::EntryRef;

@@ -1,5 +1,6 @@
 -- Bit vectors joined block by block.
 use Rattle.std.proofs.Common.{◌≡◌, ◌≢◌, ℕ, ◌+◌, ◌*◌, ◌/◌, ◌%◌, ◌<◌, ◌≤◌, Bool, true, false, ◌&&◌, ◌||◌, List, [], ◌∷◌, ℤ, length, map, drop, get_or, nat_eq, nat_lt, Option, Some, None, refl, sym, ap, ap₂, subst, ◌∙◌, arith}
+use mathlib.Core.Bool.{and-true}
 use Rattle.std.specs.List.{AllByRecursion}
 use Rattle.std.specs.Map.{keys_of}
 use Rattle.std.specs.Prelude.{IfSome}
@@ -35,10 +36,6 @@ and_apart false b c = refl
 or_apart : (a b c : Bool) → ((a || b) || c) ≡ (a || (b || c))
 or_apart true b c = refl
 or_apart false b c = refl
-
-and_true : (b : Bool) → b ≡ (b && true)
-and_true true = refl
-and_true false = refl
 
 or_false : (b : Bool) → b ≡ (b || false)
 or_false true = refl
@@ -81,7 +78,7 @@ module _ (m : Records) (doc : ℕ) (lists : List ℕ) (n : ℕ) where
       ∙ before
 
   pub all_ends : (bits whole : Bool) → length lists ≤ n → (bits && all_have m (drop n lists) doc) ≡ whole → bits ≡ whole
-  all_ends bits whole past before = and_true bits ∙ ap (λ (ls : List ℕ). bits && all_have m ls doc) (sym (drop_all n lists past)) ∙ before
+  all_ends bits whole past before = sym (and-true bits) ∙ ap (λ (ls : List ℕ). bits && all_have m ls doc) (sym (drop_all n lists past)) ∙ before
 
   pub some_ends : (bits whole : Bool) → length lists ≤ n → (bits || some_has m (drop n lists) doc) ≡ whole → bits ≡ whole
   some_ends bits whole past before = or_false bits ∙ ap (λ (ls : List ℕ). bits || some_has m ls doc) (sym (drop_all n lists past)) ∙ before

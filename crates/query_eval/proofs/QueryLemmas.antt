@@ -1,5 +1,6 @@
 -- Members of a query.
 use Rattle.std.proofs.Common.{◌≡◌, ◌≤◌, ◌<◌, ◌+◌, ℕ, Bool, true, false, zero, suc, ◌&&◌, List, [], ◌∷◌, length, drop, get_or, refl, sym, ap, ap₂, subst, ◌∙◌, Some, arith}
+use mathlib.Core.Bool.{and-true}
 use Rattle.std.specs.Prelude.{slice_get}
 use Rattle.std.proofs.lemmas.List.{drop_all, at_drop_more}
 use Rattle.std.proofs.lemmas.Option.{slice_get_read}
@@ -53,11 +54,7 @@ module _ (indexes : List Index) (doc : ℕ) where
   two_found (a ∷ []) one other least most first second = absurd (omega (arith, least))
   two_found (a ∷ b ∷ []) one other least most first second =
       ap₂ (λ (p q : Query). found (tree_of p) indexes doc && found (tree_of q) indexes doc) first second
-      ∙ ap (λ (x : Bool). found (tree_of a) indexes doc && x) (and_true (found (tree_of b) indexes doc))
-    where
-      and_true : (x : Bool) → x ≡ (x && true)
-      and_true true = refl
-      and_true false = refl
+      ∙ ap (λ (x : Bool). found (tree_of a) indexes doc && x) (sym (and-true (found (tree_of b) indexes doc)))
   two_found (a ∷ b ∷ c ∷ rest) one other least most first second = absurd (omega (arith, most))
 
   -- without members
@@ -86,11 +83,7 @@ module _ (indexes : List Index) (doc : ℕ) where
   pub all_members : (queries : List Query) (n : ℕ) (common all : Bool) → length queries ≤ n
       → (common && found_all (query_trees (drop n queries)) indexes doc) ≡ all → common ≡ all
   all_members queries n common all past whole =
-      and_true common ∙ ap (λ rest. common && found_all (query_trees rest) indexes doc) (sym (drop_all n queries past)) ∙ whole
-    where
-      and_true : (b : Bool) → b ≡ (b && true)
-      and_true true = refl
-      and_true false = refl
+      sym (and-true common) ∙ ap (λ rest. common && found_all (query_trees rest) indexes doc) (sym (drop_all n queries past)) ∙ whole
 
   pub none_left : (rest : Bool) (common : List ℕ) (all : Bool) → common ≡ [] → (has common doc && rest) ≡ all → has common doc ≡ all
   none_left rest common all none whole =

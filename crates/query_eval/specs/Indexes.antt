@@ -5,7 +5,7 @@ use Rattle.entry_ref.specs.Records.{Records}
 use Rattle.attr_images.specs.Images.{dictionary_at}
 use Rattle.attr_images.specs.Postings.{index_of}
 use Rattle.attr_index.specs.Index.{Index}
-use Rattle.attr_types.specs.Query.{tree_of}
+use Rattle.attr_types.specs.Query.{tree_of, query_trees, and}
 use Rattle.attr_types.specs.declared.field.Field.{Field}
 use Rattle.attr_types.specs.declared.query.Query.{Query}
 use Rattle.attr_index.specs.Sets.{has}
@@ -31,6 +31,10 @@ abbrev pub HasDictionaries : Records → ℕ → ℕ → List Field → Type 0
 HasDictionaries m root i [] = Unit {0}
 HasDictionaries m root i (field ∷ fields) =
     (0 < root → 2 + 2 * i < length (m root)) × (dictionary_at m root i < 2 ^ 32) × HasDictionaries m root (suc i) fields
+
+-- exactly the documents that all of these queries match
+abbrev pub AreCommon : List ℕ → List Query → List Index → Type 0
+AreCommon docs queries indexes = (doc : ℕ) → has docs doc ≡ found (and (query_trees queries)) indexes doc
 
 -- a query matches all of these documents
 abbrev pub IsMatched : List ℕ → Query → List Index → Type 0

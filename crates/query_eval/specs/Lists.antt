@@ -1,5 +1,5 @@
 -- The lists of values, by the words that a dictionary stores for them.
-use Rattle.std.specs.Prelude.{◌≡◌, ℕ, ◌≤◌, Bool, List, map, Some}
+use Rattle.std.specs.Prelude.{◌≡◌, ℕ, ◌≤◌, ◌&&◌, Bool, List, map, Some}
 use Rattle.std.specs.List.{list_all, list_any, AllByRecursion}
 use Rattle.std.specs.Map.{keys_of}
 use Rattle.entry_ref.specs.Records.{Records}
@@ -15,6 +15,10 @@ use Rattle.query_eval.specs.Weights.{IsListWord}
 -- a list has a document
 abbrev pub list_has : Records → ℕ → ℕ → Bool
 list_has m list doc = has (keys_of (postings_at m (list_form list))) doc
+
+-- exactly the documents that are in both lists
+abbrev pub AreInBoth : Records → ℕ → ℕ → List ℕ → Type 0
+AreInBoth m first second docs = (doc : ℕ) → has docs doc ≡ (list_has m first doc && list_has m second doc)
 
 -- all of the lists have it, or some of them do
 abbrev pub all_have : Records → List ℕ → ℕ → Bool

@@ -5,9 +5,12 @@ ghost use Rattle.attr_images.specs.Postings.{block_documents};
 ghost use Rattle.attr_index.specs.Sets.{has, in_words};
 ghost use Rattle.query_eval.specs.Blocks.{in_word};
 
-use attr_images::BLOCK_WORDS;
+use attr_images::{BLOCK_DOCUMENTS, BLOCK_WORDS};
 use attr_types::Doc;
 use std::alloc::AllocError;
+
+/// The number of documents of a block.
+pub const BLOCK_SIZE: u32 = BLOCK_DOCUMENTS as u32;
 
 /// Returns whether bit `i` of these words is set.
 pub fn has_bit(words: &[u64], i: u32) -> bool

@@ -1,13 +1,11 @@
 //! An `And` of values, by their lists.
 ghost use Rattle.std.specs.Prelude.{◌≡◌, ◌<◌, ◌&&◌, ℕ, length, IfOk, IfSome};
 ghost use Rattle.std.specs.Map.{keys_of};
-ghost use Rattle.attr_images.specs.Postings.{list_form, postings_at, tree, IsPostingList};
-ghost use Rattle.attr_index.specs.Found.{found};
+ghost use Rattle.attr_images.specs.Postings.{postings_at, tree, IsPostingList};
 ghost use Rattle.attr_index.specs.Postings.{HaveDocNumbers};
 ghost use Rattle.attr_index.specs.Sets.{has};
-ghost use Rattle.attr_types.specs.Query.{query_trees, and};
-ghost use Rattle.query_eval.specs.Indexes.{AreIndexed, indexes_in};
-ghost use Rattle.query_eval.specs.Lists.{all_have, AreListWords};
+ghost use Rattle.query_eval.specs.Indexes.{AreCommon, AreIndexed, indexes_in};
+ghost use Rattle.query_eval.specs.Lists.{all_have, AreInBoth, AreListWords};
 ghost use Rattle.query_eval.specs.Weights.{IsListWord};
 
 use crate::dictionary::Dictionary;
@@ -58,9 +56,7 @@ fn common_by_marks<const OFFSET_BITS: u32, F: Frozen<OFFSET_BITS>>(
 ) -> Result<Option<DocList>, AllocError>
     requires first { IsListWord (F.records frozen.old) (Some first) }
     requires second { IsListWord (F.records frozen.old) (Some second) }
-    ensures common { IfOk result (λ common. IfSome common (λ docs. (doc : ℕ) → has docs doc
-        ≡ (has (keys_of (postings_at (F.records frozen.old) (list_form first))) doc
-        && has (keys_of (postings_at (F.records frozen.old) (list_form second))) doc))) }
+    ensures common { IfOk result (λ common. IfSome common (AreInBoth (F.records frozen.old) first second)) }
     ensures same { frozen.new ≡ frozen.old }
 {
     if first >= FIRST_VECTOR || first % 2 == 0 {
@@ -86,9 +82,7 @@ fn common_in_order<const OFFSET_BITS: u32, F: Frozen<OFFSET_BITS>>(
 ) -> Result<DocList, AllocError>
     requires first { IsListWord (F.records frozen.old) (Some first) }
     requires second { IsListWord (F.records frozen.old) (Some second) }
-    ensures common { IfOk result (λ docs. (doc : ℕ) → has docs doc
-        ≡ (has (keys_of (postings_at (F.records frozen.old) (list_form first))) doc
-        && has (keys_of (postings_at (F.records frozen.old) (list_form second))) doc)) }
+    ensures common { IfOk result (AreInBoth (F.records frozen.old) first second) }
     ensures same { frozen.new ≡ frozen.old }
 {
     if let Some(common) = common_by_marks(alloc, frozen, first, second)? {
@@ -108,9 +102,7 @@ fn common_of_lists<const OFFSET_BITS: u32, F: Frozen<OFFSET_BITS>>(
 ) -> Result<DocList, AllocError>
     requires one { IsListWord (F.records frozen.old) (Some one) }
     requires other { IsListWord (F.records frozen.old) (Some other) }
-    ensures common { IfOk result (λ docs. (doc : ℕ) → has docs doc
-        ≡ (has (keys_of (postings_at (F.records frozen.old) (list_form one))) doc
-        && has (keys_of (postings_at (F.records frozen.old) (list_form other))) doc)) }
+    ensures common { IfOk result (AreInBoth (F.records frozen.old) one other) }
     ensures same { frozen.new ≡ frozen.old }
 {
     if one >= FIRST_VECTOR && other >= FIRST_VECTOR {
@@ -149,8 +141,8 @@ fn common_of_many<const OFFSET_BITS: u32, F: Frozen<OFFSET_BITS>>(
     queries: &[Query],
 ) -> Result<Option<DocList>, AllocError>
     requires { AreIndexed OFFSET_BITS (F.records frozen.old) dictionaries.now }
-    ensures docs { IfOk result (λ common. IfSome common (λ docs. (doc : ℕ) → has docs doc
-        ≡ found (and (query_trees queries.now)) (indexes_in OFFSET_BITS (F.records frozen.old) dictionaries.now) doc)) }
+    ensures docs { IfOk result (λ common. IfSome common (λ docs.
+        AreCommon docs queries.now (indexes_in OFFSET_BITS (F.records frozen.old) dictionaries.now))) }
     ensures same { frozen.new ≡ frozen.old }
 {
     match lists_of(alloc, frozen, dictionaries, queries, FIRST_VECTOR)? {
@@ -177,8 +169,8 @@ fn common_of_two<const OFFSET_BITS: u32, F: Frozen<OFFSET_BITS>>(
     queries: &[Query],
 ) -> Result<Option<DocList>, AllocError>
     requires { AreIndexed OFFSET_BITS (F.records frozen.old) dictionaries.now }
-    ensures docs { IfOk result (λ common. IfSome common (λ docs. (doc : ℕ) → has docs doc
-        ≡ found (and (query_trees queries.now)) (indexes_in OFFSET_BITS (F.records frozen.old) dictionaries.now) doc)) }
+    ensures docs { IfOk result (λ common. IfSome common (λ docs.
+        AreCommon docs queries.now (indexes_in OFFSET_BITS (F.records frozen.old) dictionaries.now))) }
     ensures same { frozen.new ≡ frozen.old }
 {
     let [one, other] = queries else {
@@ -209,8 +201,8 @@ pub fn common_of_values<const OFFSET_BITS: u32, F: Frozen<OFFSET_BITS>>(
     queries: &[Query],
 ) -> Result<Option<DocList>, AllocError>
     requires { AreIndexed OFFSET_BITS (F.records frozen.old) dictionaries.now }
-    ensures docs { IfOk result (λ common. IfSome common (λ docs. (doc : ℕ) → has docs doc
-        ≡ found (and (query_trees queries.now)) (indexes_in OFFSET_BITS (F.records frozen.old) dictionaries.now) doc)) }
+    ensures docs { IfOk result (λ common. IfSome common (λ docs.
+        AreCommon docs queries.now (indexes_in OFFSET_BITS (F.records frozen.old) dictionaries.now))) }
     ensures same { frozen.new ≡ frozen.old }
 {
     if queries.len() > 2 {

@@ -8,7 +8,7 @@ use crate::dictionary::Dictionary;
 use crate::words::word_of;
 use arena_api::Frozen;
 use array_store::count;
-use attr_images::FIRST_VECTOR;
+use attr_images::{BLOCK_DOCUMENTS, FIRST_VECTOR};
 use attr_types::{Leaf, Query, Value, ValueType};
 use entry_ref::EntryRef;
 use frozen_btree::total;
@@ -22,7 +22,8 @@ pub fn size_of_list<const OFFSET_BITS: u32, F: Frozen<OFFSET_BITS>>(
     ensures same { frozen.new ≡ frozen.old }
 {
     if list >= FIRST_VECTOR {
-        return u64::from(total(frozen, EntryRef::from_raw((list - FIRST_VECTOR) as u32))) * 4096;
+        let root = EntryRef::from_raw((list - FIRST_VECTOR) as u32);
+        return u64::from(total(frozen, root)) * BLOCK_DOCUMENTS;
     }
     let list_root = EntryRef::from_raw((list / 2) as u32);
     if list % 2 == 0 {

@@ -3,13 +3,14 @@ ghost use Rattle.std.specs.Prelude.{◌≡◌, ◌<◌, ◌≤◌, ◌+◌, ◌*
 ghost use Rattle.std.specs.List.{AllByRecursion};
 ghost use Rattle.tree_read.specs.SearchPlaces.{IsAt, pairs_from};
 ghost use Rattle.attr_images.specs.Postings.{block_documents};
+ghost use Rattle.attr_images.specs.declared.TheConstants.{BLOCK_DOCUMENTS};
 ghost use Rattle.attr_index.specs.Gathers.{is_gathered};
 ghost use Rattle.attr_index.specs.Sets.{has, in_words};
 ghost use Rattle.query_eval.specs.Blocks.{IsDocumentBlock, documents_of};
 ghost use Rattle.query_eval.specs.Lists.{list_has, all_have, some_has, IsVectorWord, AreVectorWords};
 ghost use Rattle.query_eval.specs.Vectors.{IsInHand};
 
-use crate::blocks::{has_bit, push_block};
+use crate::blocks::{BLOCK_SIZE, has_bit, push_block};
 use crate::kernels::{block_and, block_or};
 use arena_api::Frozen;
 use attr_images::{BLOCK_WORDS, FIRST_VECTOR};
@@ -62,7 +63,7 @@ fn block_of<const OFFSET_BITS: u32, F: Frozen<OFFSET_BITS>>(
     block: u64,
 ) -> [u64; BLOCK_WORDS]
     requires { IsVectorWord (F.records frozen.old) list }
-    ensures bits { (i : ℕ) → i < 4096 → in_words result i ≡ list_has (F.records frozen.old) list (4096 * block + i) }
+    ensures bits { (i : ℕ) → i < BLOCK_DOCUMENTS → in_words result i ≡ list_has (F.records frozen.old) list (BLOCK_DOCUMENTS * block + i) }
     ensures same { frozen.new ≡ frozen.old }
 {
     let root = root_of(frozen, list);
@@ -82,8 +83,8 @@ fn keep_in_all<const OFFSET_BITS: u32, F: Frozen<OFFSET_BITS>>(
     requires lists { AreVectorWords (F.records frozen.old) lists.now }
     requires size { length words.old ≡ BLOCK_WORDS }
     ensures size { length words.new ≡ BLOCK_WORDS }
-    ensures kept { (i : ℕ) → i < 4096
-        → in_words words.new i ≡ (in_words words.old i && all_have (F.records frozen.old) lists.now (4096 * block + i)) }
+    ensures kept { (i : ℕ) → i < BLOCK_DOCUMENTS
+        → in_words words.new i ≡ (in_words words.old i && all_have (F.records frozen.old) lists.now (BLOCK_DOCUMENTS * block + i)) }
     ensures same { frozen.new ≡ frozen.old }
 {
     for list in lists {
@@ -163,8 +164,8 @@ fn add_of_all<const OFFSET_BITS: u32, F: Frozen<OFFSET_BITS>>(
     requires lists { AreVectorWords (F.records frozen.old) lists.now }
     requires size { length words.old ≡ BLOCK_WORDS }
     ensures size { length words.new ≡ BLOCK_WORDS }
-    ensures added { (i : ℕ) → i < 4096
-        → in_words words.new i ≡ (in_words words.old i || some_has (F.records frozen.old) lists.now (4096 * block + i)) }
+    ensures added { (i : ℕ) → i < BLOCK_DOCUMENTS
+        → in_words words.new i ≡ (in_words words.old i || some_has (F.records frozen.old) lists.now (BLOCK_DOCUMENTS * block + i)) }
     ensures same { frozen.new ≡ frozen.old }
 {
     for list in lists {
@@ -183,7 +184,7 @@ fn push_union<const OFFSET_BITS: u32, F: Frozen<OFFSET_BITS>>(
     requires few { block < BLOCKS }
     requires lists { AreVectorWords (F.records frozen.old) lists.now }
     ensures docs { OnOk result ((doc : ℕ) → has docs.new.items doc ≡ (has docs.old.items doc
-        || (nat_eq (doc / 4096) block && some_has (F.records frozen.old) lists.now doc))) }
+        || (nat_eq (doc / BLOCK_DOCUMENTS) block && some_has (F.records frozen.old) lists.now doc))) }
     ensures same { frozen.new ≡ frozen.old }
 {
     let mut words = no_block();
@@ -229,14 +230,14 @@ fn is_in_vector<const OFFSET_BITS: u32, F: Frozen<OFFSET_BITS>>(
     ensures same { frozen.new ≡ frozen.old }
 {
     let place = doc.number();
-    let number = u64::from(place / 4096);
+    let number = u64::from(place / BLOCK_SIZE);
     if hand.number != number {
         *hand = Block {
             number,
             words: block_of(frozen, list, number),
         };
     }
-    has_bit(&hand.words, place % 4096)
+    has_bit(&hand.words, place % BLOCK_SIZE)
 }
 
 /// Returns the documents of `docs` that a bit vector has, tested one by one.

@@ -5,18 +5,22 @@ ghost use Rattle.attr_images.specs.Postings.{list_form, postings_at, short, tree
 ghost use Rattle.attr_images.specs.Words.{unpacked};
 ghost use Rattle.query_eval.specs.Weights.{weight_in_list};
 
+use crate::blocks::BLOCK_SIZE;
 use arena_api::Frozen;
 use array_store::count;
 use attr_images::{FIRST_VECTOR, MOST_SHORT};
 use entry_ref::EntryRef;
 use frozen_btree::{NumberKey, find};
 
+/// The factor for the document in an item of a short list: an item is `document * ITEM_BASE + weight`.
+const ITEM_BASE: u64 = 4_294_967_296;
+
 fn weight_among(words: &[u64], doc: u32) -> i32
     ensures { result ≡ weight_in_list doc (map unpacked words.now) }
 {
     for word in words {
         if *word >> 32 == u64::from(doc) {
-            return ((*word % 4_294_967_296) as u32).cast_signed();
+            return ((*word % ITEM_BASE) as u32).cast_signed();
         }
     }
     0
@@ -70,9 +74,9 @@ fn weight_in_vector<const OFFSET_BITS: u32, F: Frozen<OFFSET_BITS>>(
     ensures weight { result ≡ weight_in_list doc (postings_at (F.records frozen.old) (vector root.entry)) }
     ensures same { frozen.new ≡ frozen.old }
 {
-    match find(frozen, root, &NumberKey(u64::from(doc / 4096))) {
+    match find(frozen, root, &NumberKey(u64::from(doc / BLOCK_SIZE))) {
         Some((_, block)) => {
-            let place = doc % 4096;
+            let place = doc % BLOCK_SIZE;
             let word = frozen.word(EntryRef::from_raw(block as u32), place / 64);
             weight_of_bit(word, place % 64)
         }

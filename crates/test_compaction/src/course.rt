@@ -74,6 +74,8 @@ pub enum Next {
     Commit,
     /// The lowest document is removed, and a commit follows.
     Remove,
+    /// A commit, and then the same.
+    CommitRemove,
     /// The buffer with this number was emptied, and goes on hold with a commit.
     Finish(u32),
 }
@@ -127,6 +129,9 @@ impl Told {
         self.resume();
         let was_first = self.is_first;
         self.is_first = false;
+        if load.removes && load.each {
+            return Next::CommitRemove;
+        }
         if load.removes || was_first && load.parts > 0 {
             return Next::Remove;
         }

@@ -1,5 +1,5 @@
-//! The memories of a run: one without readers, and the running one.
-ghost use Rattle.std.specs.Prelude.{◌≡◌, ◌<◌, ◌≤◌, length, IfOk};
+//! The memory of a run: the one that has readers beside it.
+ghost use Rattle.std.specs.Prelude.{◌≡◌, ◌<◌, ◌≤◌, length};
 ghost use Rattle.arena_api.specs.Calls.{IsFresh};
 ghost use Rattle.attr_images.specs.Shapes.{shape_of, types_of};
 ghost use Rattle.attr_types.specs.declared.field.TheConstants.{MOST_FIELDS};
@@ -10,54 +10,10 @@ use crate::course::{Course, Load};
 use crate::outcome::Outcome;
 use crate::run::{finish, open, play_out, work_of};
 use crate::seats::Readers;
-use crate::watched::Watched;
-use arena_api::Frozen;
 use attr_images::{AttrLayout, shape_of};
 use attr_types::Fields;
-use attribute_kinds::Attribute;
-use entry_store::EntryStore;
-use mem_work::MemWork;
 use std::alloc::{AllocError, Global};
 use word_arena::{Arena, Config, Limits, Writer};
-
-/// Attributes over a memory without readers.
-type Kinds = Attribute<22, EntryStore<22, Watched<22, MemWork<22, AttrLayout>>>>;
-
-/// Creates attributes without documents, in `buffers` buffers of 8,192 words of a memory without readers.
-fn new_attribute(
-    alloc: Global,
-    fields: &Fields,
-    buffers: u32,
-    load: Load,
-) -> Result<Kinds, AllocError>
-    requires some { 0 < length fields.now }
-    requires few { length fields.now ≤ MOST_FIELDS }
-    requires buffers { 1 ≤ buffers }
-    requires fit { buffers ≤ 1000 }
-    ensures fields { IfOk result (λ a. a.fields ≡ fields.now) }
-{
-    let work = MemWork::<22, AttrLayout>::create(alloc, buffers, 8192, shape_of(fields))?;
-    open(alloc, work, fields, load)
-}
-
-/// Makes a run over a memory without readers.
-fn run_alone(
-    alloc: Global,
-    fields: &Fields,
-    buffers: u32,
-    course: &mut Course,
-) -> Result<Outcome, AllocError>
-    requires some { 0 < length fields.now }
-    requires few { length fields.now ≤ MOST_FIELDS }
-    requires buffers { 1 ≤ buffers }
-    requires fit { buffers ≤ 1000 }
-{
-    let mut readers = Readers::new(alloc);
-    let attribute = new_attribute(alloc, fields, buffers, course.load)?;
-    let (store, ending) = play_out(alloc, attribute, fields, course, &mut readers);
-    let watch = work_of(store).into_watch(ending.root);
-    finish(course, ending, &watch, readers.sights())
-}
 
 /// Makes a run over a writer that has committed nothing, with the readers that keep guards.
 fn run_seated<'a>(
@@ -80,8 +36,8 @@ fn run_seated<'a>(
     finish(course, ending, &watch, readers.sights())
 }
 
-/// Makes a run over the running memory.
-fn run_guarded(
+/// Makes a run over a memory of this many buffers of 8,192 words.
+fn run_over(
     alloc: Global,
     fields: &Fields,
     buffers: u32,
@@ -113,8 +69,5 @@ pub fn run(alloc: Global, fields: &Fields, load: Load) -> Result<Outcome, AllocE
 {
     let mut course = Course::new(alloc, fields, load)?;
     let buffers = load.buffers.max(1).min(1000);
-    if load.guards > 0 {
-        return run_guarded(alloc, fields, buffers, &mut course);
-    }
-    run_alone(alloc, fields, buffers, &mut course)
+    run_over(alloc, fields, buffers, &mut course)
 }

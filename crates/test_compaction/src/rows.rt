@@ -6,76 +6,33 @@ use crate::course::Load;
 use crate::memory::run;
 use crate::outcome::Outcome;
 use crate::script::Script;
-use attr_types::{Field, Fields, Kind, MOST_FIELDS, Name, ValueType};
 use std::alloc::{AllocError, Global};
 use std::io;
-use test_kit::Tally;
+use test_kit::{Tally, fields_in, number_at};
 
-fn number_at(row: &str, place: usize) -> u32 {
-    match row.split(' ').skip(place).next() {
-        Some(word) => word.parse::<u32>().unwrap_or(0).min(1_000_000),
-        None => 0,
-    }
+fn count_at(row: &str, place: usize) -> u32 {
+    number_at(row, place).min(1_000_000)
 }
 
 fn load_in(row: &str) -> Load {
     Load {
-        buffers: number_at(row, 1),
+        buffers: count_at(row, 1),
         script: Script {
-            puts: number_at(row, 2),
-            values: number_at(row, 3),
-            last: number_at(row, 4),
-            keep: number_at(row, 5),
+            puts: count_at(row, 2),
+            values: count_at(row, 3),
+            last: count_at(row, 4),
+            keep: count_at(row, 5),
         },
-        commits: number_at(row, 6),
-        keys: number_at(row, 7),
-        finishes: number_at(row, 8),
-        checks: number_at(row, 9),
-        each: number_at(row, 10) != 0,
-        removes: number_at(row, 11) != 0,
-        parts: number_at(row, 12),
-        waits: number_at(row, 13) != 0,
-        guards: number_at(row, 14),
+        commits: count_at(row, 6),
+        keys: count_at(row, 7),
+        finishes: count_at(row, 8),
+        checks: count_at(row, 9),
+        each: count_at(row, 10) != 0,
+        removes: count_at(row, 11) != 0,
+        parts: count_at(row, 12),
+        waits: count_at(row, 13) != 0,
+        guards: count_at(row, 14),
     }
-}
-
-fn kind_in(word: &str) -> Kind {
-    match word.split(':').next() {
-        Some("array") => Kind::Array,
-        Some("weightedset") => Kind::WeightedSet,
-        _ => Kind::Single,
-    }
-}
-
-fn type_in(word: &str) -> ValueType {
-    match word.split(':').skip(1).next() {
-        Some("string") => ValueType::Text,
-        _ => ValueType::Long,
-    }
-}
-
-fn field_in(alloc: Global, word: &str) -> Result<Field, AllocError> {
-    let name = Name::from_str(alloc, word)?;
-    Ok(Field {
-        name,
-        kind: kind_in(word),
-        value: type_in(word),
-    })
-}
-
-fn first_word(row: &str) -> &str {
-    match row.split(' ').next() {
-        Some(word) => word,
-        None => row,
-    }
-}
-
-fn fields_in(alloc: Global, row: &str) -> Result<Fields, AllocError> {
-    let mut fields = Fields::new(alloc);
-    for word in first_word(row).split(',') {
-        fields.push(field_in(alloc, word)?)?;
-    }
-    Ok(fields)
 }
 
 /// Returns how much was done; only about compactions if a row does not fix how many operations come between steps.
@@ -176,14 +133,10 @@ fn described(alloc: Global, outcome: Option<Outcome>) -> Result<String, AllocErr
 
 /// Returns the result of a row's run, if it names one to eight attributes.
 fn outcome_of(alloc: Global, row: &str) -> Result<Option<Outcome>, AllocError> {
-    let fields = fields_in(alloc, row)?;
-    if fields.is_empty() {
-        return Ok(None);
+    match fields_in(alloc, row)? {
+        Some(fields) => Ok(Some(run(alloc, &fields, load_in(row))?)),
+        None => Ok(None),
     }
-    if fields.len() > MOST_FIELDS {
-        return Ok(None);
-    }
-    Ok(Some(run(alloc, &fields, load_in(row))?))
 }
 
 /// The last row, its result, and the number of lines compared.

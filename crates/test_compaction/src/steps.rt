@@ -115,6 +115,22 @@ fn remove_lowest<const OFFSET_BITS: u32, S: Store<OFFSET_BITS, Layout = AttrLayo
     commit_now(attribute, fields, course)
 }
 
+/// Makes a commit; then removes the lowest document, followed by a commit. Returns whether the run continues.
+fn commit_and_remove<const OFFSET_BITS: u32, S: Store<OFFSET_BITS, Layout = AttrLayout>>(
+    alloc: Global,
+    attribute: &mut Attribute<OFFSET_BITS, S>,
+    fields: &Fields,
+    course: &mut Course,
+) -> Result<bool, AllocError>
+    requires same { attribute.old.fields ≡ fields.now }
+    ensures same { attribute.new.fields ≡ fields.now }
+{
+    if !commit_now(attribute, fields, course)? {
+        return Ok(false);
+    }
+    remove_lowest(alloc, attribute, fields, course)
+}
+
 /// Notes that a compaction ended. None is begun until its buffer goes on hold with a commit.
 fn end_one<const OFFSET_BITS: u32, S: Store<OFFSET_BITS, Layout = AttrLayout>>(
     alloc: Global,
@@ -154,6 +170,7 @@ fn step_now<const OFFSET_BITS: u32, S: Store<OFFSET_BITS, Layout = AttrLayout>>(
         Next::Step => Ok(true),
         Next::Commit => commit_now(attribute, fields, course),
         Next::Remove => remove_lowest(alloc, attribute, fields, course),
+        Next::CommitRemove => commit_and_remove(alloc, attribute, fields, course),
         Next::Finish(buffer) => end_one(alloc, attribute, fields, course, buffer),
     }
 }

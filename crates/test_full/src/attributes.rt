@@ -1,6 +1,7 @@
 //! One attribute of longs over a running memory: its operations and commits.
 ghost use Rattle.std.specs.Prelude.{◌≡◌, length, IfOk, OnOk};
-ghost use Rattle.word_arena.specs.Ruled.{writer_of};
+ghost use Rattle.attr_images.specs.Shapes.{shape_of, types_of};
+ghost use Rattle.word_arena.specs.Ruled.{reader_of, writer_of};
 ghost use Rattle.test_full.specs.New.{IsNewWriter};
 
 use arena_api::{Advance, Oldest};
@@ -43,6 +44,7 @@ pub fn seat_in<'a>(
 ) -> Result<Reader<'a, 22, AttrLayout>, AllocError>
     requires new { IsNewWriter fields.now writer.old.place.table_id (writer_of writer.old.place.me.0) }
     ensures new { OnOk result (IsNewWriter fields.now writer.new.place.table_id (writer_of writer.new.place.me.0)) }
+    ensures shape { IfOk result (λ reader. (reader_of reader.place.me.0).sizes.shape ≡ shape_of (types_of fields.now)) }
 {
     match writer.reader() {
         Ok(reader) => Ok(reader),
@@ -61,7 +63,7 @@ fn put_of(alloc: Global, document: u32, number: u32) -> Result<Op, AllocError> {
 }
 
 /// Returns the refusal for lack of space; other refusals are an error.
-fn refused(error: AttrError) -> Result<Option<NoRoom>, AllocError> {
+pub fn refused(error: AttrError) -> Result<Option<NoRoom>, AllocError> {
     match error {
         AttrError::Full {
             width: _,
@@ -147,7 +149,7 @@ pub fn compact<const OFFSET_BITS: u32, S: Store<OFFSET_BITS, Layout = AttrLayout
     }
 }
 
-fn push_info(line: &mut String, info: CommitInfo) -> Result<(), AllocError> {
+pub fn push_info(line: &mut String, info: CommitInfo) -> Result<(), AllocError> {
     let commit = info.commit;
     match info.advance {
         Advance::To { generation, .. } => write!(line, "{commit} to {generation}"),

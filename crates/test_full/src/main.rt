@@ -3,8 +3,10 @@
 #![tactic(auto)]
 
 mod attributes;
+mod lost;
 mod rows;
 mod run;
+mod script;
 
 use std::io;
 

@@ -1,18 +1,14 @@
 //! Rows of standard input: `row BUFFERS DOCUMENTS PUTS BATCH GUARD KEYS LEAST MOST`: after GUARD puts a guard is
 //! taken; from LEAST to MOST puts are committed before its release, and all of them after it. `limits PUTS COMMITS
-//! GENERATIONS = LINE`: the results of the commits after each of the puts. Other lines are comments.
+//! GENERATIONS = LINE`: the results of the commits after each of the puts. `lost BUFFERS PUTS = LINE`: what is
+//! refused after a guard was dropped without a release, and the table then. `steps GENERATIONS LAST | BEFORE | UNDER |
+//! AFTER = LINE`: steps before a guard, under it and after its release. Other lines are comments.
 use crate::attributes::NoRoom;
-use crate::run::{Load, Told, run, tell};
+use crate::run::{Load, Told, run, tell, tell_lost, tell_steps};
+use crate::script::Script;
 use std::alloc::AllocError;
 use std::io;
-use test_kit::Tally;
-
-fn number_at(row: &str, place: usize) -> u32 {
-    match row.split(' ').skip(place).next() {
-        Some(word) => word.parse::<u32>().unwrap_or(0),
-        None => 0,
-    }
-}
+use test_kit::{Tally, number_at};
 
 fn load_in(row: &str) -> Load {
     Load {
@@ -102,12 +98,35 @@ fn compare_limits(rt: &HostRuntime, row: &str, tally: &mut Tally) -> io::Result<
     tally.note(rt, asked, &told, wanted)
 }
 
+fn compare_lost(rt: &HostRuntime, row: &str, tally: &mut Tally) -> io::Result<()> {
+    let (asked, wanted) = row.split_once(" = ").unwrap_or((row, ""));
+    let told = tell_lost(rt.alloc(), number_at(asked, 1), number_at(asked, 2))?;
+    tally.note(rt, asked, &told, wanted)
+}
+
+fn compare_steps(rt: &HostRuntime, row: &str, tally: &mut Tally) -> io::Result<()> {
+    let (asked, wanted) = row.split_once(" = ").unwrap_or((row, ""));
+    let (numbers, steps) = asked.split_once(" | ").unwrap_or((asked, ""));
+    let script = Script {
+        steps,
+        last: number_at(numbers, 2),
+    };
+    let told = tell_steps(rt.alloc(), number_at(numbers, 1), script)?;
+    tally.note(rt, asked, &told, wanted)
+}
+
 fn compare_line(rt: &HostRuntime, line: &str, tally: &mut Tally) -> io::Result<()> {
     if line.starts_with("row ") {
         return compare_row(rt, line, tally);
     }
     if line.starts_with("limits ") {
         return compare_limits(rt, line, tally);
+    }
+    if line.starts_with("lost ") {
+        return compare_lost(rt, line, tally);
+    }
+    if line.starts_with("steps ") {
+        return compare_steps(rt, line, tally);
     }
     Ok(())
 }

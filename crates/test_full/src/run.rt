@@ -1,10 +1,13 @@
 //! Puts before a guard, under it, and after its release.
 ghost use Rattle.std.specs.Prelude.{◌≡◌, ◌<◌, ◌≤◌, ◌^◌, length};
 ghost use Rattle.attr_types.specs.declared.field.TheConstants.{MOST_FIELDS};
-ghost use Rattle.word_arena.specs.Ruled.{writer_of};
+ghost use Rattle.attr_images.specs.Shapes.{shape_of, types_of};
+ghost use Rattle.word_arena.specs.Ruled.{reader_of, writer_of};
 ghost use Rattle.test_full.specs.New.{IsNewWriter};
 
 use crate::attributes::{NoRoom, commit, compact, one_field, put, seat_in, tell_commit};
+use crate::lost::lose;
+use crate::script::{Script, follow, tell_offset};
 use attr_images::{AttrLayout, shape_of};
 use attr_types::Fields;
 use attribute_kinds::Attribute;
@@ -44,11 +47,15 @@ pub struct Told {
 
 /// A test of a new memory.
 #[derive(Clone, Copy, Drop)]
-pub enum Asked {
+pub enum Asked<'t> {
     /// Puts before a guard, under it and after it.
     Guard(Load),
     /// This many puts to one document, with a commit after each.
     Limits(u32),
+    /// The same after a guard was dropped without a release, until one is refused.
+    Lost(u32),
+    /// Steps, and whether a new entry has a new offset then.
+    Steps(Script<'t>),
 }
 
 /// What was committed around a guard; or the results of commits under limits, in order.
@@ -186,16 +193,19 @@ fn tell_all<const OFFSET_BITS: u32, S: Store<OFFSET_BITS, Layout = AttrLayout>>(
     Ok(())
 }
 
-/// Runs a test on attributes without documents, with a reader beside them.
+/// Runs a test on attributes without documents, with two readers beside them.
 fn answer_one<'a, const OFFSET_BITS: u32, S: Store<OFFSET_BITS, Layout = AttrLayout>>(
     alloc: Global,
     attribute: &mut Attribute<OFFSET_BITS, S>,
     reader: Reader<'a, 22, AttrLayout>,
+    other: Reader<'a, 22, AttrLayout>,
     fields: &Fields,
-    asked: Asked,
+    asked: Asked<'_>,
     answer: &mut Answer,
 ) -> Result<(), AllocError>
     requires same { attribute.old.fields ≡ fields.now }
+    requires few { length fields.now ≤ MOST_FIELDS }
+    requires shape { (reader_of other.place.me.0).sizes.shape ≡ shape_of (types_of fields.now) }
 {
     match asked {
         Asked::Guard(load) => {
@@ -203,7 +213,34 @@ fn answer_one<'a, const OFFSET_BITS: u32, S: Store<OFFSET_BITS, Layout = AttrLay
             Ok(())
         }
         Asked::Limits(puts) => tell_all(alloc, attribute, fields, puts, &mut answer.line),
+        Asked::Lost(puts) => lose(
+            alloc,
+            attribute,
+            reader,
+            other,
+            fields,
+            puts,
+            &mut answer.line,
+        ),
+        Asked::Steps(script) => follow(alloc, attribute, reader, fields, script, &mut answer.line),
     }
+}
+
+/// Closes the attributes. After steps, makes one more entry of two words, and says whether its offset is new.
+fn answer_end<const OFFSET_BITS: u32, S: Store<OFFSET_BITS, Layout = AttrLayout>>(
+    attribute: Attribute<OFFSET_BITS, S>,
+    asked: Asked<'_>,
+    answer: &mut Answer,
+) -> (S, Result<(), AllocError>) {
+    let _ = attribute.operations();
+    let (mut store, _) = attribute.into_store();
+    let told = match asked {
+        Asked::Steps(script) => tell_offset(&mut store, script.last, &mut answer.line),
+        Asked::Guard(_) => Ok(()),
+        Asked::Limits(_) => Ok(()),
+        Asked::Lost(_) => Ok(()),
+    };
+    (store, told)
 }
 
 /// The same over a writer that has committed nothing.
@@ -211,14 +248,20 @@ fn answer_over<'a>(
     alloc: Global,
     writer: Writer<'a, 22, AttrLayout>,
     reader: Reader<'a, 22, AttrLayout>,
+    other: Reader<'a, 22, AttrLayout>,
     fields: &Fields,
-    asked: Asked,
+    asked: Asked<'_>,
     told: &mut Answer,
 ) -> Result<(), AllocError>
     requires new { IsNewWriter fields.now writer.place.table_id (writer_of writer.place.me.0) }
+    requires shape { (reader_of other.place.me.0).sizes.shape ≡ shape_of (types_of fields.now) }
 {
     match Attribute::create(alloc, writer, fields, false) {
-        Ok(mut attribute) => answer_one(alloc, &mut attribute, reader, fields, asked, told),
+        Ok(mut attribute) => {
+            answer_one(alloc, &mut attribute, reader, other, fields, asked, told)?;
+            let (_store, ended) = answer_end(attribute, asked, told);
+            ended
+        }
         Err(_) => Err(AllocError),
     }
 }
@@ -228,14 +271,15 @@ fn answer_seated<'a>(
     alloc: Global,
     writer: Writer<'a, 22, AttrLayout>,
     fields: &Fields,
-    asked: Asked,
+    asked: Asked<'_>,
     told: &mut Answer,
 ) -> Result<(), AllocError>
     requires new { IsNewWriter fields.now writer.place.table_id (writer_of writer.place.me.0) }
 {
     let mut writer = writer;
     let reader = seat_in(&mut writer, fields)?;
-    answer_over(alloc, writer, reader, fields, asked, told)
+    let other = seat_in(&mut writer, fields)?;
+    answer_over(alloc, writer, reader, other, fields, asked, told)
 }
 
 /// The same over a new memory with this many buffers and these limits.
@@ -244,7 +288,7 @@ fn answer_with(
     fields: &Fields,
     buffers: u32,
     limits: Limits,
-    asked: Asked,
+    asked: Asked<'_>,
     told: &mut Answer,
 ) -> Result<(), AllocError>
     requires some_fields { 0 < length fields.now }
@@ -269,7 +313,7 @@ fn answer_of(
     alloc: Global,
     buffers: u32,
     limits: Limits,
-    asked: Asked,
+    asked: Asked<'_>,
 ) -> Result<Answer, AllocError>
     requires some_buffers { 1 ≤ buffers }
     requires few_buffers { buffers ≤ 64 }
@@ -295,6 +339,33 @@ pub fn run(alloc: Global, load: Load) -> Result<Option<Told>, AllocError> {
     };
     let answer = answer_of(alloc, load.buffers, limits, Asked::Guard(load))?;
     Ok(answer.told)
+}
+
+/// Follows steps in eight buffers, under a limit of generations.
+pub fn tell_steps(
+    alloc: Global,
+    generations: u32,
+    script: Script<'_>,
+) -> Result<String, AllocError> {
+    let limits = Limits {
+        commits: 4_294_967_295,
+        generations: u64::from(generations),
+    };
+    let answer = answer_of(alloc, 8, limits, Asked::Steps(script))?;
+    Ok(answer.line)
+}
+
+/// Makes puts in 1 to 64 buffers, after a guard was dropped without a release.
+pub fn tell_lost(alloc: Global, buffers: u32, puts: u32) -> Result<String, AllocError> {
+    if buffers < 1 || buffers > 64 {
+        return Err(AllocError);
+    }
+    let limits = Limits {
+        commits: 4_294_967_295,
+        generations: 281_474_976_710_655,
+    };
+    let answer = answer_of(alloc, buffers, limits, Asked::Lost(puts))?;
+    Ok(answer.line)
 }
 
 /// Makes puts in eight buffers under limits of commits and of generations.

@@ -5,19 +5,12 @@ ghost use Rattle.std.specs.Prelude.{◌≤◌};
 use crate::checked::is_sound_after;
 use crate::plain::Plain;
 use crate::run::{Load, Told, run_on};
-use crate::stores::{new_lists, new_memory};
+use crate::stores::new_memory;
 use crate::values::values_of;
 use attr_types::{Value, ValueType};
 use std::alloc::{AllocError, Global};
 use std::io;
-use test_kit::Tally;
-
-fn number_at(row: &str, place: usize) -> u32 {
-    match row.split(' ').skip(place).next() {
-        Some(word) => word.parse::<u32>().unwrap_or(0),
-        None => 0,
-    }
-}
+use test_kit::{Tally, new_lists, number_at};
 
 fn load_in(row: &str) -> Load {
     Load {

@@ -9,7 +9,7 @@ use entry_store::EntryStore;
 use mem_work::{MemWork, OneRecord};
 use std::alloc::{AllocError, Global};
 use store_api::Store;
-use test_kit::{NotedWork, ValueLists};
+use test_kit::{NotedWork, ValueLists, new_lists};
 
 /// Creates a memory of buffers of 8,192 words, in which nothing is handed out.
 pub fn new_memory(alloc: Global, buffers: u32) -> Result<MemWork<22, OneRecord>, AllocError>
@@ -21,21 +21,7 @@ pub fn new_memory(alloc: Global, buffers: u32) -> Result<MemWork<22, OneRecord>,
     Ok(work)
 }
 
-/// Creates an empty index, in a store over a work in which nothing is handed out.
-pub fn new_lists<const OFFSET_BITS: u32, W: Work<OFFSET_BITS> + Drop>(
-    alloc: Global,
-    work: W,
-    value_type: ValueType,
-) -> Result<ValueLists<OFFSET_BITS, EntryStore<OFFSET_BITS, W>>, AllocError>
-    requires fresh { IsFresh (W.knows work) }
-{
-    match EntryStore::create(alloc, work) {
-        Ok(store) => Ok(ValueLists::new(store, value_type)),
-        Err(_) => Err(AllocError),
-    }
-}
-
-/// The same over a work that keeps a copy of the words of each record.
+/// Creates an empty index, in a store over a work that keeps a copy of the words of each record.
 pub fn noted_lists<const OFFSET_BITS: u32, W: Work<OFFSET_BITS> + Drop>(
     alloc: Global,
     work: W,
@@ -43,10 +29,7 @@ pub fn noted_lists<const OFFSET_BITS: u32, W: Work<OFFSET_BITS> + Drop>(
 ) -> Result<ValueLists<OFFSET_BITS, EntryStore<OFFSET_BITS, NotedWork<OFFSET_BITS, W>>>, AllocError>
     requires fresh { IsFresh (W.knows work) }
 {
-    match EntryStore::create(alloc, NotedWork::new(alloc, work, true)) {
-        Ok(store) => Ok(ValueLists::new(store, value_type)),
-        Err(_) => Err(AllocError),
-    }
+    new_lists(alloc, NotedWork::new(alloc, work, true), value_type)
 }
 
 /// Creates a store over 32 buffers of 8,192 words, in which nothing is made.

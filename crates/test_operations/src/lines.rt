@@ -1,8 +1,7 @@
 //! The lines of a worked row.
-use crate::row::{fields_in, number_at};
 use crate::worked::told_of;
-use attr_types::MOST_FIELDS;
 use std::alloc::{AllocError, Global};
+use test_kit::{fields_in, number_at};
 
 /// The attributes and the number of buffers; the operations and commits, one in each line; and the queries, one in
 /// each line.
@@ -51,11 +50,10 @@ impl Lines {
 
     /// Returns the result of the row, if it names one to eight attributes.
     pub fn answer(&self, alloc: Global) -> Result<String, AllocError> {
-        let fields = fields_in(alloc, &self.row)?;
-        if fields.is_empty() || fields.len() > MOST_FIELDS {
-            return String::from_str(alloc, "no attribute");
-        }
         let buffers = number_at(&self.row, 1);
-        told_of(alloc, &fields, buffers, &self.turns, &self.queries)
+        match fields_in(alloc, &self.row)? {
+            Some(fields) => told_of(alloc, &fields, buffers, &self.turns, &self.queries),
+            None => String::from_str(alloc, "no attribute"),
+        }
     }
 }

@@ -6,7 +6,6 @@ mod ask;
 mod image;
 mod lines;
 mod make;
-mod row;
 mod rows;
 mod run;
 mod told;

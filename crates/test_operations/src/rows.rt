@@ -4,12 +4,10 @@
 //! each line, `ask QUERY` for each query, and `answers LINE`, the expected result. Other lines are comments.
 use crate::lines::Lines;
 use crate::make::Sizes;
-use crate::row::{fields_in, number_at};
 use crate::run::{Load, Told, run};
-use attr_types::MOST_FIELDS;
 use std::alloc::{AllocError, Global};
 use std::io;
-use test_kit::Tally;
+use test_kit::{Tally, fields_in, number_at};
 
 fn load_in(row: &str) -> Load {
     Load {
@@ -77,14 +75,10 @@ fn push_met(line: &mut String, told: Told) -> Result<(), AllocError> {
 
 /// Returns the result of a row's run, if it names one to eight attributes.
 fn told(alloc: Global, row: &str) -> Result<Option<Told>, AllocError> {
-    let fields = fields_in(alloc, row)?;
-    if fields.is_empty() {
-        return Ok(None);
+    match fields_in(alloc, row)? {
+        Some(fields) => Ok(Some(run(alloc, &fields, load_in(row))?)),
+        None => Ok(None),
     }
-    if fields.len() > MOST_FIELDS {
-        return Ok(None);
-    }
-    Ok(Some(run(alloc, &fields, load_in(row))?))
 }
 
 /// The last row, its result, and the counts of what was compared.

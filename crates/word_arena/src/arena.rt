@@ -7,6 +7,7 @@ ghost use Rattle.word_arena.specs.Knows.{IsToken, core_sizes};
 
 use crate::config::Config;
 use crate::rule::{Place, Words};
+use crate::words::{CLOSED, FIRST_COUNT, FIRST_STATE};
 use atomic_table::Table;
 use entry_ref::Layout;
 use gen_core::{Buffer, Sizes};
@@ -35,10 +36,10 @@ fn opening_words(alloc: Global, sizes: &Sizes) -> Result<Vec<u64>, AllocError>
 {
     let count = sizes.buffers as usize + sizes.buffers as usize * sizes.words as usize;
     let mut words = Vec::new(alloc);
-    words.reserve(18 + count)?;
-    words.resize(3, 0)?;
-    words.resize(18, 1)?;
-    words.resize(18 + count, 0)?;
+    words.reserve(FIRST_STATE + count)?;
+    words.resize(FIRST_COUNT + 1, 0)?;
+    words.resize(FIRST_STATE, CLOSED)?;
+    words.resize(FIRST_STATE + count, 0)?;
     Ok(words)
 }
 

@@ -10,6 +10,7 @@ ghost use Rattle.word_arena.specs.WriterSteps.{ProbesNewest, AdvancesView, Close
 
 use crate::buffers::{unused_tag, width_of};
 use crate::plays::{Close, FreeBuffer, Morph, Probe, PutOnHold, Reopen, StoreNewest};
+use crate::words::{CLOSED, FIRST_COUNT, FIRST_STATE, FREE, GENERATION_BASE, LAST, ON_HOLD};
 use crate::writer::Writer;
 use arena_api::Advance;
 use entry_ref::Layout;
@@ -36,7 +37,7 @@ impl<'a, const OFFSET_BITS: u32, L: Layout> Writer<'a, OFFSET_BITS, L> {
         self.arena
             .table
             .shared
-            .store::<PutOnHold<L>>(&mut self.place, 18 + at, 2);
+            .store::<PutOnHold<L>>(&mut self.place, FIRST_STATE + at, ON_HOLD);
         self.buffers[at] = Buffer::Held(width, tag);
     }
 
@@ -52,13 +53,13 @@ impl<'a, const OFFSET_BITS: u32, L: Layout> Writer<'a, OFFSET_BITS, L> {
             .arena
             .table
             .shared
-            .load::<Probe<L>>(&mut self.place, 2 + hold);
+            .load::<Probe<L>>(&mut self.place, FIRST_COUNT + hold);
         if count == 0 {
-            let word = (newest.generation + 1) * 65536 + u64::from(newest.hold);
+            let word = (newest.generation + 1) * GENERATION_BASE + u64::from(newest.hold);
             self.arena
                 .table
                 .shared
-                .store::<Morph<L>>(&mut self.place, 1, word);
+                .store::<Morph<L>>(&mut self.place, LAST, word);
             self.holds.renew(newest.generation + 1, self.last);
         }
         count
@@ -71,16 +72,16 @@ impl<'a, const OFFSET_BITS: u32, L: Layout> Writer<'a, OFFSET_BITS, L> {
         ensures view { writer_of self.new.place.me.0 ≡ advanced (writer_of self.old.place.me.0) hold }
     {
         let newest = self.holds.newest();
-        let word = (newest.generation + 1) * 65536 + u64::from(hold);
+        let word = (newest.generation + 1) * GENERATION_BASE + u64::from(hold);
         let at = hold as usize;
         self.arena
             .table
             .shared
-            .fetch_sub::<Reopen<L>>(&mut self.place, 2 + at, 1);
+            .fetch_sub::<Reopen<L>>(&mut self.place, FIRST_COUNT + at, CLOSED);
         self.arena
             .table
             .shared
-            .store::<StoreNewest<L>>(&mut self.place, 1, word);
+            .store::<StoreNewest<L>>(&mut self.place, LAST, word);
         self.holds.append(newest.generation + 1, hold, self.last);
     }
 
@@ -127,7 +128,7 @@ impl<'a, const OFFSET_BITS: u32, L: Layout> Writer<'a, OFFSET_BITS, L> {
             .arena
             .table
             .shared
-            .compare_exchange::<Close<L>>(&mut self.place, 2 + hold, 0, 1);
+            .compare_exchange::<Close<L>>(&mut self.place, FIRST_COUNT + hold, 0, CLOSED);
         if count == 0 {
             self.holds.pop_oldest();
         }
@@ -163,7 +164,7 @@ impl<'a, const OFFSET_BITS: u32, L: Layout> Writer<'a, OFFSET_BITS, L> {
                 self.arena
                     .table
                     .shared
-                    .store::<FreeBuffer<L>>(&mut self.place, 18 + at, 0);
+                    .store::<FreeBuffer<L>>(&mut self.place, FIRST_STATE + at, FREE);
                 self.buffers[at] = Buffer::Free(Some(tag));
             }
         }

@@ -9,6 +9,7 @@ mod plays;
 mod reader;
 mod rule;
 mod steps;
+mod words;
 mod work;
 mod writer;
 

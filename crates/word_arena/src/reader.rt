@@ -13,6 +13,7 @@ use crate::arena::Arena;
 use crate::plays::{Bounce, LoadNewest, LoadRoot, LoadWord, Raise, Release};
 use crate::rule::Place;
 use crate::steps::Steps;
+use crate::words::{COMMIT_BASE, FIRST_COUNT, GENERATION_BASE, LAST, RAISED, ROOT, first_word};
 use arena_api::Frozen;
 use entry_ref::{EntryRef, Layout, place_of};
 use std::sync::ledger::Ledger;
@@ -58,8 +59,8 @@ impl<'a, const OFFSET_BITS: u32, L: Layout> Reader<'a, OFFSET_BITS, L> {
         ensures table { result.place.table_id ≡ self.entry.place.table_id }
     {
         let Reader { arena, mut place } = self;
-        let last = arena.table.shared.load::<LoadNewest<L>>(&mut place, 1);
-        let hold = last % 65536;
+        let last = arena.table.shared.load::<LoadNewest<L>>(&mut place, LAST);
+        let hold = last % GENERATION_BASE;
         Aimed { arena, hold, place }
     }
 
@@ -125,13 +126,13 @@ impl<'a, const OFFSET_BITS: u32, L: Layout> Aimed<'a, OFFSET_BITS, L> {
             hold,
             mut place,
         } = self;
-        let word = (2 + hold) as usize;
+        let word = FIRST_COUNT + hold as usize;
         let count = arena
             .table
             .shared
-            .fetch_add::<Raise<L>>(&mut place, word, 2);
+            .fetch_add::<Raise<L>>(&mut place, word, RAISED);
         if count % 2 == 0 {
-            let found = arena.table.shared.load::<LoadRoot<L>>(&mut place, 0);
+            let found = arena.table.shared.load::<LoadRoot<L>>(&mut place, ROOT);
             return Ok(Guarded {
                 arena,
                 hold,
@@ -142,7 +143,7 @@ impl<'a, const OFFSET_BITS: u32, L: Layout> Aimed<'a, OFFSET_BITS, L> {
         arena
             .table
             .shared
-            .fetch_sub::<Bounce<L>>(&mut place, word, 2);
+            .fetch_sub::<Bounce<L>>(&mut place, word, RAISED);
         let reader = Reader { arena, place };
         Err(Again {
             reader,
@@ -155,13 +156,13 @@ impl<'a, const OFFSET_BITS: u32, L: Layout> Guarded<'a, OFFSET_BITS, L> {
     pub fn commit(&self) -> u32
         ensures { result ≡ seen_number (reader_of self.now.place.me.0) }
     {
-        (self.found / 4294967296) as u32
+        (self.found / COMMIT_BASE) as u32
     }
 
     pub fn root(&self) -> EntryRef<OFFSET_BITS>
         ensures { result ≡ (seen_image (reader_of self.now.place.me.0)).root }
     {
-        EntryRef::from_raw((self.found % 4294967296) as u32)
+        EntryRef::from_raw((self.found % COMMIT_BASE) as u32)
     }
 
     pub fn release(self) -> Reader<'a, OFFSET_BITS, L>
@@ -177,7 +178,7 @@ impl<'a, const OFFSET_BITS: u32, L: Layout> Guarded<'a, OFFSET_BITS, L> {
         arena
             .table
             .shared
-            .fetch_sub::<Release<L>>(&mut place, (2 + hold) as usize, 2);
+            .fetch_sub::<Release<L>>(&mut place, FIRST_COUNT + hold as usize, RAISED);
         Reader { arena, place }
     }
 
@@ -196,7 +197,7 @@ impl<'a, const OFFSET_BITS: u32, L: Layout> Guarded<'a, OFFSET_BITS, L> {
             found: _,
             mut place,
         } = self;
-        let now = arena.table.shared.load::<LoadRoot<L>>(&mut place, 0);
+        let now = arena.table.shared.load::<LoadRoot<L>>(&mut place, ROOT);
         Guarded {
             arena,
             hold,
@@ -212,14 +213,12 @@ impl<'a, const OFFSET_BITS: u32, L: Layout> Guarded<'a, OFFSET_BITS, L> {
             (length (words_at (seen_image (reader_of self.old.place.me.0)) entry.entry)) entry.entry i }
         ensures same { self.new ≡ self.old }
     {
-        let first = 18
-            + self.arena.sizes.buffers
-            + u64::from(entry.buffer()) * self.arena.sizes.words;
+        let first = first_word(&self.arena.sizes, entry.buffer());
         let width = self
             .arena
             .table
             .shared
-            .load::<LoadWord<L>>(&mut self.place, first as usize) as u32;
+            .load::<LoadWord<L>>(&mut self.place, first) as u32;
         place_of(
             self.arena.sizes.buffers as u32,
             self.arena.sizes.words as u32,

@@ -16,6 +16,7 @@ ghost use Rattle.word_arena.specs.WriterSteps.{IsTaggedBelow};
 
 use crate::buffers::{count_free, last_of, lowest_free, width_of};
 use crate::plays::{FindWord, HandOut, Publish, StoreWidth, StoreWord};
+use crate::words::{ACTIVE, COMMIT_BASE, FIRST_STATE, ROOT, first_word};
 use crate::writer::Writer;
 use arena_api::{Advance, Frozen, Oldest, Work};
 use entry_ref::{EntryRef, Layout, place_of};
@@ -61,12 +62,12 @@ impl<'a, const OFFSET_BITS: u32, L: Layout> Writer<'a, OFFSET_BITS, L> {
         self.arena
             .table
             .shared
-            .store::<HandOut<L>>(&mut self.place, 18 + at, 1);
-        let first = 18 + self.arena.sizes.buffers + u64::from(buffer) * self.arena.sizes.words;
+            .store::<HandOut<L>>(&mut self.place, FIRST_STATE + at, ACTIVE);
+        let first = first_word(&self.arena.sizes, buffer);
         self.arena
             .table
             .shared
-            .store::<StoreWidth<L>>(&mut self.place, first as usize, u64::from(width));
+            .store::<StoreWidth<L>>(&mut self.place, first, u64::from(width));
         self.buffers[at] = Buffer::Active(u64::from(width), last);
     }
 
@@ -238,11 +239,11 @@ impl<'a, const OFFSET_BITS: u32, L: Layout> Work<OFFSET_BITS> for Writer<'a, OFF
             ≡ ⟦<Writer<'a, OFFSET_BITS, L> as Frozen<OFFSET_BITS>>⟧.shape self.old }
     {
         let number = self.last + 1;
-        let word = u64::from(number) * 4294967296 + u64::from(root.raw());
+        let word = u64::from(number) * COMMIT_BASE + u64::from(root.raw());
         self.arena
             .table
             .shared
-            .store::<Publish<L>>(&mut self.place, 0, word);
+            .store::<Publish<L>>(&mut self.place, ROOT, word);
         self.last = number;
         number
     }

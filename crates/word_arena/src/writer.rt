@@ -16,6 +16,7 @@ use crate::arena::{Arena, Token};
 use crate::plays::{Cut, Glue, LoadOwn, MeetLoad};
 use crate::reader::Reader;
 use crate::rule::Place;
+use crate::words::{ROOT, first_word};
 use arena_api::Frozen;
 use entry_ref::{EntryRef, Layout, place_of};
 use gen_core::Buffer;
@@ -104,7 +105,7 @@ impl<'a, const OFFSET_BITS: u32, L: Layout> Writer<'a, OFFSET_BITS, L> {
         self.arena
             .table
             .shared
-            .load::<MeetLoad<L>>(&mut self.place, 0);
+            .load::<MeetLoad<L>>(&mut self.place, ROOT);
     }
 
     // Returns the place of a word of a record, by the width that is stored in its buffer.
@@ -114,14 +115,12 @@ impl<'a, const OFFSET_BITS: u32, L: Layout> Writer<'a, OFFSET_BITS, L> {
             (length (writer_records (writer_of self.old.place.me.0) entry.entry)) entry.entry i }
         ensures same { self.new ≡ self.old }
     {
-        let first = 18
-            + self.arena.sizes.buffers
-            + u64::from(entry.buffer()) * self.arena.sizes.words;
+        let first = first_word(&self.arena.sizes, entry.buffer());
         let width = self
             .arena
             .table
             .shared
-            .load::<LoadOwn<L>>(&mut self.place, first as usize) as u32;
+            .load::<LoadOwn<L>>(&mut self.place, first) as u32;
         place_of(
             self.arena.sizes.buffers as u32,
             self.arena.sizes.words as u32,

@@ -7,7 +7,7 @@ use Rattle.attr_images.specs.Postings.{index_of}
 use Rattle.attr_index.specs.Changes.{HasItems}
 use Rattle.attr_types.specs.Scores.{score_of}
 use Rattle.attr_types.specs.declared.score.Score.{Score}
-use Rattle.query_eval.proofs.ScoreListLemmas.{one_more}
+use Rattle.query_eval.proofs.ScoreListLemmas.{score_more}
 use Rattle.query_eval.proofs.parts.scores_of.Goals as goal
 
 pub returns-clause-scores : goal.returns-clause-scores
@@ -31,7 +31,7 @@ loop-doc-preserved g c =
           let own = c.score_at-score.ensures.score (items doc)
           (subst (λ (n : ℕ). HasItems (index_of c.args.value_type (g.F.Frozen.records c.loop-doc.frozen) c.args.root) n (items doc)) (sym c.number.ensures.number)
           (subst (λ (f : g.row.F.Denot). HasItems (index_of c.args.value_type (g.F.Frozen.records f) c.args.root) doc (items doc)) (sym before.same) (has doc))) in
-          one_more (λ d. record { doc = d; score = score_of c.args.parts.now (items d) }) docs k doc c.loop-doc.list c.push.new.self _ _ below c.doc-item.is
+          score_more (λ d. record { doc = d; score = score_of c.args.parts.now (items d) }) docs k doc c.loop-doc.list c.push.new.self _ _ below c.doc-item.is
           c.in_ok-push.ensures.ok
           (ap (λ (z : ℤ). record { doc = doc; score = z }) (to_z-of_z w128 c.score_at-score.result fits ∙ own))
           (before.whole items has);

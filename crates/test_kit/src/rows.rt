@@ -1,5 +1,8 @@
-//! The contents of a row's words.
-use attr_types::{Field, Fields, Kind, Name, ValueType};
+//! The words of a row.
+ghost use Rattle.std.specs.Prelude.{◌<◌, ◌≤◌, length, IfOk, IfSome};
+ghost use Rattle.attr_types.specs.declared.field.TheConstants.{MOST_FIELDS};
+
+use attr_types::{Field, Fields, Kind, MOST_FIELDS, Name, ValueType};
 use std::alloc::{AllocError, Global};
 
 /// Returns the number at this index of a row, or 0 if there is none.
@@ -33,8 +36,7 @@ fn field_in(alloc: Global, word: &str) -> Result<Field, AllocError> {
     })
 }
 
-/// Returns the attributes that a row names, each with the name `f`.
-pub fn fields_in(alloc: Global, row: &str) -> Result<Fields, AllocError> {
+fn all_fields_in(alloc: Global, row: &str) -> Result<Fields, AllocError> {
     let mut fields = Fields::new(alloc);
     if let Some(words) = row.split(' ').next() {
         for word in words.split(',') {
@@ -42,4 +44,20 @@ pub fn fields_in(alloc: Global, row: &str) -> Result<Fields, AllocError> {
         }
     }
     Ok(fields)
+}
+
+/// Returns the attributes that the first word of a row names as `KIND:TYPE`, separated by commas, each with the name
+/// `f`. Returns `None` if they are more than eight.
+pub fn fields_in(alloc: Global, row: &str) -> Result<Option<Fields>, AllocError>
+    ensures some { IfOk result (λ found. IfSome found (λ fields. 0 < length fields)) }
+    ensures few { IfOk result (λ found. IfSome found (λ fields. length fields ≤ MOST_FIELDS)) }
+{
+    let fields = all_fields_in(alloc, row)?;
+    if fields.is_empty() {
+        return Ok(None);
+    }
+    if fields.len() > MOST_FIELDS {
+        return Ok(None);
+    }
+    Ok(Some(fields))
 }
