@@ -1,12 +1,13 @@
 -- The documents of a block, one bit after another.
 use Rattle.std.proofs.Common.{◌≡◌, ℕ, zero, suc, ◌+◌, ◌*◌, ◌<◌, pos, Bool, true, false, cond, List, [], ◌∷◌, ◌++◌, length, map, filter, take, get_or, refl, sym, ap, subst, ◌∙◌, arith, true≢false}
 use Rattle.std.specs.Prelude.{ℤ, nat_eq}
-use Rattle.std.proofs.lemmas.List.{map-id, append-nil, append_assoc, take_more, map-append}
+use Rattle.std.proofs.lemmas.List.{map-id, append-nil, append_assoc, take_more, map-append, length-map}
 use Rattle.std.proofs.lemmas.Grind.{flat_map-append}
 use Rattle.std.proofs.lemmas.List.FromFn.{filter_of_map_range_with_len_more}
 use Rattle.std.specs.List.{range_with_len, flat_map, AllByRecursion}
 use Rattle.entry_ref.specs.Records.{Records}
-use Rattle.attr_images.specs.Postings.{block_documents, IsBlock}
+use Rattle.tree_read.specs.Trees.{tree_pairs}
+use Rattle.attr_images.specs.Postings.{block_documents, vector_documents, IsBlock}
 use Rattle.attr_images.specs.declared.TheConstants.{BLOCK_DOCUMENTS}
 use Rattle.attr_index.specs.Sets.{in_words}
 
@@ -86,6 +87,13 @@ module _ (m : Records) (pairs : List (ℕ × ℕ)) where
       both : (ps : List (ℕ × ℕ)) (p : ℕ × ℕ) → AllByRecursion (λ (q : ℕ × ℕ). IsBlock q.0 (m q.1)) ps → IsBlock p.0 (m p.1) → AllByRecursion (λ (q : ℕ × ℕ). IsBlock q.0 (m q.1)) (ps ++ p ∷ [])
       both [] p all block = (block, tt)
       both (q ∷ ps) p all block = (all.0, both ps p all.1 block)
+
+-- how many documents a bit vector has
+pub many_documents : (m : Records) (root : ℕ) (pairs : List (ℕ × ℕ)) (list : List (ℕ × ℤ)) → pairs ≡ tree_pairs m root
+    → list ≡ map weighed (flat_map (λ (p : ℕ × ℕ). block_documents p.0 (m p.1)) pairs) → length list ≡ length (vector_documents m root)
+many_documents m root pairs list same is =
+    let f : ℕ × ℕ → List ℕ = λ p. block_documents p.0 (m p.1) in
+    ap length is ∙ length-map (flat_map f pairs) weighed ∙ ap (λ ps. length (flat_map f ps)) same
 
 pub more_than_none : (n : ℕ) → false ≡ nat_eq n 0 → 0 < n
 more_than_none zero is = absurd (true≢false (sym is))

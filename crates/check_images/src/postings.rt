@@ -49,7 +49,7 @@ fn read_tree(
     }
 }
 
-/// Returns the documents of a bit vector, if it has at least one block.
+/// Returns the documents of a bit vector, if it has more than a short list.
 fn read_vector(
     alloc: Global,
     records: &BTreeMap<u32, Vec<u64>>,
@@ -60,10 +60,11 @@ fn read_vector(
     ensures exact { IfErr result (Refutes (IsPostingList (seen records.now) (vector root))) }
 {
     let pairs = check_tree(alloc, Keys::Numbers, records, root)?;
-    if pairs.is_empty() {
+    let list = read_blocks(alloc, records, pairs.as_slice())?;
+    if list.len() <= MOST_SHORT {
         return Err(CheckFault::Broken);
     }
-    read_blocks(alloc, records, pairs.as_slice())
+    Ok(list)
 }
 
 /// Returns the documents of the list for a word of the dictionary.

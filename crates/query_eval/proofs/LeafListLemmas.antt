@@ -49,8 +49,14 @@ root_of_some m zero node some = absurd (omega (arith, some))
 root_of_some m (suc root) node some =
     node_there m (root_least (root_level m (suc root))) (root_level m (suc root)) (suc root) (node (omega arith))
 
+-- a bit vector with documents has blocks
+some_blocks : (m : Records) (ps : List (ℕ × ℕ)) → 0 < length (documents_of m ps) → 0 < length ps
+some_blocks m [] some = absurd (omega (arith, some))
+some_blocks m (p ∷ ps) some = omega arith
+
 pub vector_root : (m : Records) (word : ℕ) → FIRST_VECTOR ≤ word → IsPostingList m (list_form word) → 0 < length (m (word - FIRST_VECTOR))
 vector_root m word high list =
     let form : list_form word ≡ vector (word - FIRST_VECTOR) = cond-true (nat_le FIRST_VECTOR word) (vector (word - FIRST_VECTOR)) _ (le-leb FIRST_VECTOR word high) in
     let is = subst (IsPostingList m) form list in
-    root_of_some m (word - FIRST_VECTOR) is.0.node is.1
+    let many = is.1 in
+    root_of_some m (word - FIRST_VECTOR) is.0.node (some_blocks m (tree_pairs m (word - FIRST_VECTOR)) (omega (arith, many)))

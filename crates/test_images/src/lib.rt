@@ -2,8 +2,12 @@
 #![tactic(auto)]
 
 #[cfg(test)]
+mod held;
+#[cfg(test)]
 mod made;
 #[cfg(test)]
 mod of_check_images;
 #[cfg(test)]
 mod of_check_trees;
+#[cfg(test)]
+mod of_queries;

@@ -278,18 +278,19 @@ fn images_of_two_attributes_have_the_same_documents(rt: HostRuntime) -> Result<(
     Ok(())
 }
 
-/// Returns whether an image whose posting list is a bit vector has this many documents after a record replaces its
-/// own; with 0, whether it is refused.
+/// Returns whether an image of documents from 7 on, whose posting list is a bit vector, has this many after a record
+/// replaces its own; with 0, whether it is refused.
 fn has_documents(
     alloc: Global,
     block: &[u64; 64],
+    documents: usize,
     row: Row,
     count: usize,
 ) -> Result<bool, AllocError> {
-    let (documents, dictionary) = (run(7, 2, 1024), run(1024, 1, 8589941762));
+    let (documents, dictionary) = (run(7, documents, 1024), run(1024, 1, 8589941762));
     let of_block = run(0, 1, 1029);
     let image: [Row; 6] = [
-        (1027, &[2, 1026, 2050, 0]),
+        (1027, &[9, 1026, 2050, 0]),
         (1026, &documents),
         (1024, &[8, 5]),
         (2050, &dictionary),
@@ -308,20 +309,22 @@ fn has_documents(
 fn a_bit_vector_is_a_posting_list(rt: HostRuntime) -> Result<(), AllocError> {
     let of_other = run(1, 1, 1029);
     let mut block = [0; 64];
-    block[0] = 0x180;
-    let (none, short) = ([0; 64], [0x180; 2]);
-    let mut more = block;
+    block[0] = 0xFF80;
+    let (none, short) = ([0; 64], [0xFF80; 2]);
+    let (mut more, mut few) = (block, block);
     more[63] = 1;
-    let rows: [(Row, usize); 5] = [
-        ((1029, &block), 2),
-        ((1029, &none), 0),
-        ((1029, &short), 0),
-        ((1029, &more), 0),
-        ((7170, &of_other), 0),
+    few[0] = 0x7F80;
+    let rows: [(usize, Row, usize); 6] = [
+        (9, (1029, &block), 9),
+        (9, (1029, &none), 0),
+        (9, (1029, &short), 0),
+        (9, (1029, &more), 0),
+        (9, (7170, &of_other), 0),
+        (8, (1029, &few), 0),
     ];
-    for (row, count) in rows {
-        let is_right = has_documents(rt.alloc(), &block, row, count)?;
-        assert!(rt; is_right, "{count} documents");
+    for (documents, row, count) in rows {
+        let is_right = has_documents(rt.alloc(), &block, documents, row, count)?;
+        assert!(rt; is_right, "{count} of {documents} documents");
     }
     Ok(())
 }
