@@ -87,5 +87,5 @@ returns-clause-room g c =
     let ops = c.args.ops.now in (
       i.plan,
       subst (λ (list : List Op). AddsSteps ledger start c.loop-op.attribute (λ steps. after_values steps (values_of start.fields start.table list)))
-      (take_all ops c.loop-op.op-index (let over = c.loop-op-test.false in let most = c.loop-op.auto.op-index-end in omega arith)) i.room,
+          (take_all ops c.loop-op.op-index (let over = c.loop-op-test.false in let most = c.loop-op.auto.op-index-end in omega arith)) i.room,
     )
