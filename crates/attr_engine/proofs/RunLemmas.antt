@@ -25,7 +25,7 @@ use Rattle.attr_rounds.specs.declared.asked.Told.{Told}
 use Rattle.attr_rounds.specs.Lines.{TellsTable}
 use Rattle.attr_report.specs.Run.{Run, table_after}
 use Rattle.attr_report.specs.History.{IsLoaded}
-use Rattle.attr_room.specs.Runs.{IsOwed, IsQuiet}
+use Rattle.attr_room.specs.Runs.{IsOwed, IsQuiet, IsSmall}
 use Rattle.attr_engine.specs.FullStore.{load_in, readers_of, IsJustified}
 use Rattle.attr_engine.specs.Run.{full_of}
 use Rattle.attr_engine.specs.Rounds.{IsRoundAt, AreRoundsAt, IsCame, IsSaveOf, seen_before}
@@ -97,9 +97,10 @@ alone run quiet = elim quiet [
     none_beside false readers save few unsaved = ap₂ (λ n s. n + one_if s) few unsaved
 
 justified_by : (run : Run) (ops : List Op) (loaded : ℕ) (full : Option NoRoom)
-    → (length run.fields ≡ 1 → IfSome full (λ f. IsOwed (load_in run ops) f.operation loaded)) → (IsQuiet (readers_of run) → IfSome full (λ f. f.held ≡ 0)) → IfSome full (IsJustified run ops loaded)
-justified_by run ops loaded None owed quiet = tt
-justified_by run ops loaded (Some full) owed quiet = record { owed = owed; quiet = quiet }
+    → (length run.fields ≡ 1 → IfSome full (λ f. IsOwed (load_in run ops) f.operation loaded)) → (IsQuiet (readers_of run) → IfSome full (λ f. f.held ≡ 0))
+    → (length run.fields ≡ 1 → 8 ≤ run.buffers → IsSmall (load_in run ops) → full ≡ None) → IfSome full (IsJustified run ops loaded)
+justified_by run ops loaded None owed quiet small = tt
+justified_by run ops loaded (Some full) owed quiet small = record { owed = owed; large = λ one many is. absurd (let e : Some full ≡ None = small one many is in cc); quiet = quiet }
 
 -- what a run came to, by the writer before and after the loading
 module _ (run : Run) (ops : List Op) (w v : WriterView) (loaded : Loaded) (loads : LoadsInto run.fields run.batch ops w v loaded) (buffers : w.sizes.buffers ≡ run.buffers) (words : w.sizes.words ≡ run.words)
@@ -147,7 +148,9 @@ module _ (run : Run) (ops : List Op) (w v : WriterView) (loaded : Loaded) (loads
         justified = justified_by run ops loaded.operations loaded.full
             (λ one. subst (λ n. IfSome loaded.full (λ (f : NoRoom). IsOwed (load_of run.buffers n run.fields run.batch ops) f.operation loaded.operations)) words
             (subst (λ n. IfSome loaded.full (λ (f : NoRoom). IsOwed (load_of n w.sizes.words run.fields run.batch ops) f.operation loaded.operations)) buffers (loads.owed one)))
-            (λ quiet. loads.unheld (made ∙ alone run quiet));
+            (λ quiet. loads.unheld (made ∙ alone run quiet))
+            (λ one many is. loads.small one (subst (λ n. 8 ≤ n) (sym buffers) many)
+            (subst (λ n. IsSmall (load_of n w.sizes.words run.fields run.batch ops)) (sym buffers) (subst (λ n. IsSmall (load_of run.buffers n run.fields run.batch ops)) (sym words) is)));
         readers = all.count;
         rounds = all.each;
         tells = answers_last (TellsTable counted run.asks) last told;

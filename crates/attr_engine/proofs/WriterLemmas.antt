@@ -1,5 +1,5 @@
 -- What stays of a writer, and what a loading makes of it.
-use Rattle.std.proofs.Common.{◌≡◌, ◌<◌, ◌≤◌, ◌+◌, ℕ, zero, suc, List, [], ◌∷◌, length, Some, refl, sym, ap, subst, ◌∙◌, arith}
+use Rattle.std.proofs.Common.{◌≡◌, ◌<◌, ◌≤◌, ◌+◌, ℕ, zero, suc, List, [], ◌∷◌, length, None, Some, refl, sym, ap, subst, ◌∙◌, arith}
 use Rattle.std.specs.Prelude.{slice_get, All, ◌^◌}
 use Rattle.std.specs.List.{AllByRecursion}
 use Rattle.std.proofs.lemmas.Option.{slice_get_within, IfSome_then}
@@ -14,7 +14,7 @@ use Rattle.gen_core.specs.Views.{last_number}
 use Rattle.store_api.specs.Ledgers.{Ledger, active_count, held_count}
 use Rattle.word_arena.specs.Knows.{view_of}
 use Rattle.attr_images.specs.Images.{table_of, operations_at}
-use Rattle.attr_room.specs.Runs.{IsOwed}
+use Rattle.attr_room.specs.Runs.{IsOwed, IsSmall}
 use Rattle.attr_images.specs.Shapes.{shape_of, types_of}
 use Rattle.attr_types.specs.Lawful.{OpFits}
 use Rattle.attr_types.specs.Table.{skipped}
@@ -63,6 +63,12 @@ module _ {S : Type 0} (ledger : S → Ledger TableId) (fields : List Field) (bat
       (subst (λ (fs : List Field). IfSome loaded.full (λ (full : NoRoom). IsOwed (load_of (ledger a.store).work.sizes.buffers (ledger a.store).work.sizes.words fs batch ops) full.operation loaded.operations)) fields_are
       (loads.owed (ap length fields_are ∙ one) nothing))
 
+  small_into : HasMadeNothing (ledger a.store) → a.plan ≡ None → length fields ≡ 1 → 8 ≤ w.sizes.buffers → IsSmall (load_of w.sizes.buffers w.sizes.words fields batch ops) → loaded.full ≡ None
+  small_into nothing plan one many small =
+      loads.small (ap length fields_are ∙ one) nothing plan (subst (λ (x : WorkView TableId). 8 ≤ x.sizes.buffers) (sym from) many)
+      (subst (λ (fs : List Field). IsSmall (load_of (ledger a.store).work.sizes.buffers (ledger a.store).work.sizes.words fs batch ops)) (sym fields_are)
+      (subst (λ (x : WorkView TableId). IsSmall (load_of x.sizes.buffers x.sizes.words fields batch ops)) (sym from) small))
+
   unheld_into : IsNewWriter fields home w → length ops < 2 ^ 32 → v.made ≡ 0 → IfSome loaded.full (λ full. full.held ≡ 0)
   unheld_into new few none =
       let last : (ledger a.store).work.commits.last ≡ 0 = ap (λ (x : WorkView TableId). x.commits.last) from ∙ new.fresh.last in
@@ -70,8 +76,8 @@ module _ {S : Type 0} (ledger : S → Ledger TableId) (fields : List Field) (bat
       loads.unheld (ap (λ (x : WorkView TableId). x.made) from ∙ sym made_stays ∙ none) (omega (arith, last, generations, few))
 
   pub loads_into : v.sizes.shape ≡ shape_of (types_of b.fields) → IsNewWriter fields home w → length ops < 2 ^ 32 → slice_get v.commits 0 ≡ Some no_image → HasMadeNothing (ledger a.store)
-      → LoadsInto fields batch ops w v loaded
-  loads_into shape_now new few first nothing =
+      → a.plan ≡ None → LoadsInto fields batch ops w v loaded
+  loads_into shape_now new few first nothing plan =
       let are : AreCommits fields batch ops loads.last v.commits =
       subst (AreCommits fields batch ops loads.last) told_is (subst (λ fs. AreCommits fs batch ops loads.last ((ledger b.store).work.told)) fields_are loads.told) in
       let long = are.count (slice_get_within v.commits 0 no_image first) in
@@ -87,6 +93,7 @@ module _ {S : Type 0} (ledger : S → Ledger TableId) (fields : List Field) (bat
             let here = subst (λ (x : WorkView TableId). CountsFull x room) (sym to) (at.free, at.active_is, at.held_is) in
             record { free = here.0; active_is = here.1; held_is = here.2 });
         owed = owed_into nothing;
+        small = small_into nothing plan;
         unheld = unheld_into new few;
       }
 
@@ -116,6 +123,7 @@ loads_from fields batch ops w v x loaded keeps is =
       ends = moved.ends;
       full = moved.full;
       owed = moved.owed;
+      small = moved.small;
       unheld = moved.unheld;
     }
 
@@ -133,6 +141,7 @@ loads_kept fields batch ops w v x loaded keeps made is =
       ends = is.ends;
       full = IfSome_then loaded.full is.full (λ room at. record { free = at.free; active_is = at.active_is; held_is = at.held_is });
       owed = is.owed;
+      small = is.small;
       unheld = λ none. is.unheld (sym made ∙ none);
     })
 

@@ -1,5 +1,5 @@
 -- How the steps of a run change the writer, and the results of its readers' tasks.
-use Rattle.std.specs.Prelude.{◌≡◌, ℕ, ◌+◌, ◌<◌, ◌≤◌, ◌^◌, Bool, true, false, ◌∷◌, List, [], length, slice_get, is_some, IfSome, All}
+use Rattle.std.specs.Prelude.{◌≡◌, ℕ, ◌+◌, ◌<◌, ◌≤◌, ◌^◌, Bool, true, false, ◌∷◌, List, [], length, slice_get, is_some, IfSome, All, None}
 use Rattle.std.specs.List.Sorted.{IsNonDecreasing}
 use Rattle.atomic_table.specs.Seated.{TableId}
 use Rattle.entry_ref.specs.declared.images.Image.{Image}
@@ -21,7 +21,7 @@ use Rattle.attr_types.specs.declared.field.TheConstants.{MOST_FIELDS}
 use Rattle.attr_types.specs.declared.op.Op.{Op}
 use Rattle.attr_loader.specs.Loading.{AreCommits, EndsAt, commit_point}
 use Rattle.attr_loader.specs.Room.{load_of}
-use Rattle.attr_room.specs.Runs.{IsOwed}
+use Rattle.attr_room.specs.Runs.{IsOwed, IsSmall}
 use Rattle.attr_loader.specs.declared.loaded.Loaded.{Loaded}
 use Rattle.attr_loader.specs.declared.loaded.NoRoom.{NoRoom}
 use Rattle.attr_rounds.specs.Rounds.{AreSeen, IsOfCommit, MakesRounds}
@@ -70,9 +70,12 @@ pub record LoadsInto (fields : List Field) (batch : ℕ) (ops : List Op) (old ne
   pub skips : loaded.skipped ≡ skipped fields ops loaded.operations
   pub ends : EndsAt batch (length ops) old.sizes.buffers loaded.operations loaded.full
   pub full : IfSome loaded.full (IsFullWriter new)
-  -- with one attribute, a full store is owed to what was made; and without readers nothing is held
+  -- with one attribute, a full store is owed to what was made, and the operations are not a small run; and without
+  -- readers nothing is held
   pub owed : length fields ≡ 1
       → IfSome loaded.full (λ full. IsOwed (load_of old.sizes.buffers old.sizes.words fields batch ops) full.operation loaded.operations)
+  pub small : length fields ≡ 1 → 8 ≤ old.sizes.buffers → IsSmall (load_of old.sizes.buffers old.sizes.words fields batch ops)
+      → loaded.full ≡ None
   pub unheld : new.made ≡ 0 → IfSome loaded.full (λ full. full.held ≡ 0)
 
 -- a reader made by the writer, before any round

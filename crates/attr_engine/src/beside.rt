@@ -1,5 +1,5 @@
 //! The loading, beside other tasks.
-ghost use Rattle.std.specs.Prelude.{◌≡◌, ◌<◌, ◌≤◌, ◌+◌, ◌^◌, length, map, is_some, IfOk, IfSome, All};
+ghost use Rattle.std.specs.Prelude.{◌≡◌, ◌<◌, ◌≤◌, ◌+◌, ◌^◌, length, map, is_some, None, IfOk, IfSome, All};
 ghost use Rattle.std.specs.List.{AllByRecursion, AllZip};
 ghost use Rattle.word_arena.specs.Knows.{view_of};
 ghost use Rattle.word_arena.specs.Ruled.{reader_of, writer_of};
@@ -50,6 +50,7 @@ fn opened<'a, const OFFSET_BITS: u32>(
     ensures work { IfOk result (λ a. (⟦<EntryStore<OFFSET_BITS, Writer<'a, OFFSET_BITS, AttrLayout>> as Store<OFFSET_BITS>>⟧.ledger
         a.store).work
         ≡ view_of writer.entry.place.table_id (writer_of writer.entry.place.me.0)) }
+    ensures plan { IfOk result (λ a. a.plan ≡ None) }
     ensures nothing { IfOk result (λ a. HasMadeNothing (⟦<EntryStore<OFFSET_BITS, Writer<'a, OFFSET_BITS, AttrLayout>> as Store<OFFSET_BITS>>⟧.ledger
         a.store)) }
 {

@@ -15,7 +15,7 @@ use Rattle.attr_report.specs.Report.{written}
 use Rattle.attr_run.specs.Run.{Task, asked, ReadsFeed, task_of}
 use Rattle.attr_run.specs.Texts.{answer_text}
 use Rattle.attr_run.specs.Answers.{EndsRun, IsEnd, IsRefusedFeed, OfRun, ComesExactly, ComesExactlyOfFeed}
-use Rattle.attr_run.specs.Answers.{IsBeforeRun, HasNoRun, IsRunUntil, IsFullRun, IsDue}
+use Rattle.attr_run.specs.Answers.{IsBeforeRun, HasNoRun, IsRunUntil, IsFullRun, IsDue, IsSmallRun}
 use Rattle.attr_run.specs.Settings.{QueriesAreRefused}
 use Rattle.attr_run.specs.Refusals.{IsRefusedFor}
 use Rattle.attr_run.specs.Steps.{IsAnswer, IsRuled}
@@ -264,3 +264,35 @@ complete-told met ReadFault progress answer ok reads writes = absurd (reads answ
 complete-told met WriteFault progress answer ok reads writes = absurd (writes answer.0)
 complete-told met (Full operation active held) progress answer ok reads writes = inl tt
 complete-told met Memory progress answer ok reads writes = inr (inr refl)
+
+-- ---- a small run
+
+no_task : (r : Result Task Status) (why : Status) (P : Task → Type 0) → r ≡ Err why → IsOkAnd r P → ⊥
+no_task r why P is holds = subst (λ (x : Result Task Status). IsOkAnd x P) is holds
+
+too_small : (r : Result Task Status) (progress : Progress) (operation active held : ℕ) (text : List ℕ)
+    → IsOkAnd r (λ task. IsFullRun progress operation active held text task.run task.ops) → IsOkAnd r (λ task. IsSmallRun task.run task.ops) → ⊥
+too_small (Ok task) progress operation active held text full small = full.large small
+too_small (Err why) progress operation active held text full small = small
+
+small-by : (met : Met) (bytes : List ℕ) (status : Status) (progress : Progress) → met.left ≡ Some bytes → Answers met status progress
+    → IsOkAnd (task_of met.words bytes) (λ task. IsSmallRun task.run task.ops) → (Rose met.before met.now → ⊥) → (Rose met.sink_before met.sink_now → ⊥)
+    → (status ≡ Done) ⊎ (status ≡ Memory)
+small-by met bytes Done progress told answer small reads writes = inl refl
+small-by met bytes Help progress told answer small reads writes = absurd (no_task (task_of met.words bytes) Help _ (task-unasked met.words bytes Help answer.1.0) small)
+small-by met bytes (Usage cause) progress told answer small reads writes =
+    absurd (no_task (task_of met.words bytes) (Usage cause) _ (task-unasked met.words bytes (Usage cause) answer.1.0) small)
+small-by met bytes (BadFeed fault) progress told answer small reads writes = absurd (no_task (task_of met.words bytes) (BadFeed fault) _
+    (at_told bytes (λ b. task_of met.words b ≡ Err (BadFeed fault)) (subst (λ (l : Option (List ℕ)). OfBytes l (λ b. task_of met.words b ≡ Err (BadFeed fault))) told answer.1.0.1)) small)
+small-by met bytes ReadFault progress told answer small reads writes = absurd (reads answer.1.0.1)
+small-by met bytes WriteFault progress told answer small reads writes = absurd (writes answer.0)
+small-by met bytes (Full operation active held) progress told answer small reads writes = absurd (too_small (task_of met.words bytes) progress operation active held answer.0
+    (at_told bytes (λ b. IsOkAnd (task_of met.words b) (λ task. IsFullRun progress operation active held answer.0 task.run task.ops))
+    (subst (λ (l : Option (List ℕ)). OfRun met.words l (IsFullRun progress operation active held answer.0)) told answer.1)) small)
+small-by met bytes Memory progress told answer small reads writes = inr refl
+
+pub small-told : (met : Met) (status : Status) (progress : Progress) → Answers met status progress → (left : Option (List ℕ)) → met.left ≡ left
+    → IfSome left (λ bytes. IsOkAnd (task_of met.words bytes) (λ task. IsSmallRun task.run task.ops) → (Rose met.before met.now → ⊥) → (Rose met.sink_before met.sink_now → ⊥)
+    → (status ≡ Done) ⊎ (status ≡ Memory))
+small-told met status progress answer None told = tt
+small-told met status progress answer (Some bytes) told = small-by met bytes status progress told answer

@@ -37,34 +37,35 @@ until run ops w full is at = record {
 
 -- its text is due at its answer
 due-by : (words : List Text) (left : Option (List ℕ)) (before now : ℕ) (run : Run) (ops : List Op) (w : Written) (full : Option NoRoom)
-    → asked words ≡ Ok run → OfBytes left (λ bytes. fed run bytes ≡ Ok ops) → IsRunOf run ops w → w.full ≡ full
+    → 8 ≤ run.buffers → asked words ≡ Ok run → OfBytes left (λ bytes. fed run bytes ≡ Ok ops) → IsRunOf run ops w → w.full ≡ full
     → IsDue words left before now (ended_status full) (progress_of w) w.text.items
-due-by words left before now run ops w None asks feeds is at =
+due-by words left before now run ops w None many asks feeds is at =
     of-run words left run ops (IsRunUntil (progress_of w) None w.text.items) asks feeds (until run ops w None is at)
-due-by words left before now run ops w (Some room) asks feeds is at =
+due-by words left before now run ops w (Some room) many asks feeds is at =
     of-run words left run ops (IsFullRun (progress_of w) room.operation room.active room.held w.text.items) asks feeds (record {
       until = until run ops w (Some room) is at;
       room = subst (λ (f : Option NoRoom). IfSome f (λ r. r.active + r.held ≡ run.buffers)) at is.room;
       owed = (subst (λ (f : Option NoRoom). IfSome f (IsJustified run ops w.loaded)) at is.justified).owed;
+      large = λ small. (subst (λ (f : Option NoRoom). IfSome f (IsJustified run ops w.loaded)) at is.justified).large small.0 many small.1;
       quiet = (subst (λ (f : Option NoRoom). IfSome f (IsJustified run ops w.loaded)) at is.justified).quiet;
     })
 
 pub due-of : (words : List Text) (left : Option (List ℕ)) (before now : ℕ) (run : Run) (ops : List Op) (w : Written)
-    → asked words ≡ Ok run → OfBytes left (λ bytes. fed run bytes ≡ Ok ops) → IsRunOf run ops w
+    → 8 ≤ run.buffers → asked words ≡ Ok run → OfBytes left (λ bytes. fed run bytes ≡ Ok ops) → IsRunOf run ops w
     → IsDue words left before now (ended_status w.full) (progress_of w) w.text.items
-due-of words left before now run ops w asks feeds is = due-by words left before now run ops w w.full asks feeds is refl
+due-of words left before now run ops w many asks feeds is = due-by words left before now run ops w w.full many asks feeds is refl
 
 -- the same of an answer with these parts
 pub answered : (words : List Text) (left : Option (List ℕ)) (before now : ℕ) (run : Run) (ops : List Op) (w : Written)
     (status : Status) (loaded : ℕ) (rounds : List (List ℕ)) (saved : Option ℕ) (text : List ℕ)
     → status ≡ ended_status w.full → loaded ≡ w.loaded → rounds ≡ w.rounds → saved ≡ w.saved → text ≡ w.text.items
-    → asked words ≡ Ok run → OfBytes left (λ bytes. fed run bytes ≡ Ok ops) → IsRunOf run ops w
+    → 8 ≤ run.buffers → asked words ≡ Ok run → OfBytes left (λ bytes. fed run bytes ≡ Ok ops) → IsRunOf run ops w
     → IsDue words left before now status (record { loaded = loaded; rounds = rounds; saved = saved }) text
-answered words left before now run ops w status loaded rounds saved text st l r s t asks feeds is =
+answered words left before now run ops w status loaded rounds saved text st l r s t many asks feeds is =
     let same : progress_of w ≡ so_far loaded rounds saved = λ i. record { loaded = sym l i; rounds = sym r i; saved = sym s i } in
     subst (λ (x : Status). IsDue words left before now x (so_far loaded rounds saved) text) (sym st)
     (subst (λ (p : Progress). IsDue words left before now (ended_status w.full) p text) same
-    (subst (λ (x : List ℕ). IsDue words left before now (ended_status w.full) (progress_of w) x) (sym t) (due-of words left before now run ops w asks feeds is)))
+    (subst (λ (x : List ℕ). IsDue words left before now (ended_status w.full) (progress_of w) x) (sym t) (due-of words left before now run ops w many asks feeds is)))
 
 proper-by : (full : Option NoRoom) → IsProper (ended_status full)
 proper-by None = tt

@@ -7,7 +7,7 @@ use Rattle.attr_io.specs.Bytes.{AppendsFront, OfBytes}
 use Rattle.attr_io.specs.Faults.{Rose}
 use Rattle.attr_types.specs.declared.op.Op.{Op}
 use Rattle.attr_types.specs.declared.error.QueryError.TheVariants as refusal
-use Rattle.attr_engine.specs.FullStore.{load_in, readers_of, IsOwed, IsQuiet}
+use Rattle.attr_engine.specs.FullStore.{load_in, readers_of, IsOwed, IsQuiet, IsSmall}
 use Rattle.attr_report.specs.Run.{Run, Progress}
 use Rattle.attr_report.specs.Report.{written}
 use Rattle.attr_report.specs.History.{IsLoaded, IsRounds, IsAfterwards, IsSaved, IsLegalHistory, history}
@@ -45,6 +45,10 @@ IsEnd _ = ⊥
 -- property
 abbrev pub OfRun : List Text → Option (List ℕ) → (Run → List Op → Type 0) → Type 0
 OfRun words left P = OfBytes left (λ bytes. IsOkAnd (task_of words bytes) (λ task. P task.run task.ops))
+
+-- a small run with one attribute
+abbrev pub IsSmallRun : Run → List Op → Type 0
+IsSmallRun run ops = (length run.fields ≡ 1) × IsSmall (load_in run ops)
 
 -- the feed is refused
 abbrev pub IsRefusedFeed : Status → Type 0
@@ -117,6 +121,7 @@ pub record IsFullRun (progress : Progress) (operation active held : ℕ) (text :
   pub until : IsRunUntil progress (Some operation) text run ops
   pub room : active + held ≡ run.buffers
   pub owed : length run.fields ≡ 1 → IsOwed (load_in run ops) operation progress.loaded
+  pub large : ¬ IsSmallRun run ops
   pub quiet : IsQuiet (readers_of run) → held ≡ 0
 
 -- the text that is due for an answer, by the words, what the source has left, its counts of faults before and after,

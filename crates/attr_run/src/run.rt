@@ -16,7 +16,7 @@ ghost use Rattle.attr_run.specs.Refusals.{IsRefusedFor};
 ghost use Rattle.attr_run.specs.Texts.{answer_text};
 ghost use Rattle.attr_run.specs.Answers.{progress_of, EndsRun, IsEnd, OfRun, ComesExactly};
 ghost use Rattle.attr_run.specs.Answers.{ComesExactlyOfFeed, IsRefusedFeed, IsBeforeRun, IsProper, HasNoRun};
-ghost use Rattle.attr_run.specs.Answers.{ReadsAsAsked, IsDue, WritesFront};
+ghost use Rattle.attr_run.specs.Answers.{ReadsAsAsked, IsDue, IsSmallRun, WritesFront};
 ghost use Rattle.attr_run.specs.Steps.{IsStopped, IsProperStop, IsEarly, IsAnswer, HasEnded, ended_status};
 ghost use Rattle.attr_run.specs.Steps.{TellsFault, IsRuled, IsRuledStop};
 ghost use Rattle.attr_run.specs.declared.outcome.Status.TheVariants.{ReadFault};
@@ -283,11 +283,13 @@ pub fn attr_main<R: Threads + Sync, S: Source, K: Sink, G: Gate + Sync + 'static
     // If an operation ran out of space, each buffer is in use, or held for readers.
     ensures room { (operation active held : ℕ) → result.status ≡ Status.Full operation active held
         → OfRun words.now (S.left source.old) (λ run ops. active + held ≡ run.buffers) }
-    // With one attribute, the entries made up to that operation can fill all buffers. If no reader is active while
-    // operations are loaded, no buffer is held.
+    // With one attribute, the entries made up to that operation can fill all buffers, and the run is not small. If no
+    // reader is active while operations are loaded, no buffer is held.
     ensures owed { (operation active held : ℕ) → result.status ≡ Status.Full operation active held
         → OfRun words.now (S.left source.old) (λ run ops.
         length run.fields ≡ 1 → IsOwed (load_in run ops) operation result.loaded) }
+    ensures large { (operation active held : ℕ) → result.status ≡ Status.Full operation active held
+        → OfRun words.now (S.left source.old) (λ run ops. ¬ IsSmallRun run ops) }
     ensures quiet { (operation active held : ℕ) → result.status ≡ Status.Full operation active held
         → OfRun words.now (S.left source.old) (λ run ops. IsQuiet (readers_of run) → held ≡ 0) }
 
@@ -339,6 +341,12 @@ pub fn attr_main<R: Threads + Sync, S: Source, K: Sink, G: Gate + Sync + 'static
         → ¬ Rose (S.faults source.old) (S.faults source.new)
         → ¬ Rose (K.faults sink.old) (K.faults sink.new)
         → IsEnd result.status ⊎ (IsRefusedFeed result.status ⊎ (result.status ≡ Status.Memory)) }
+    // A small run with one attribute is then done.
+    ensures small { IfSome (S.left source.old) (λ bytes.
+        IsOkAnd (task_of words.now bytes) (λ task. IsSmallRun task.run task.ops)
+        → ¬ Rose (S.faults source.old) (S.faults source.new)
+        → ¬ Rose (K.faults sink.old) (K.faults sink.new)
+        → (result.status ≡ Status.Done) ⊎ (result.status ≡ Status.Memory)) }
 {
     settings_law();
     whole_run(rt, alloc, words, source, sink, gate)

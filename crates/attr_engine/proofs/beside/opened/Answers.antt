@@ -16,3 +16,6 @@ returns-clause-work g c = c.in-Ok.ensures.work
 
 pub returns-clause-nothing : goal.returns-clause-nothing
 returns-clause-nothing g c = record { counts = c.in-Ok.ensures.counts }
+
+pub returns-clause-plan : goal.returns-clause-plan
+returns-clause-plan g c = c.in-Ok.ensures.plan

@@ -1,9 +1,11 @@
-use Rattle.std.proofs.Common.{◌∙◌, ◌+◌, refl, sym, subst, ap, arith, length, ◌++◌, ◌∷◌, [], List}
+use Rattle.std.proofs.Common.{◌≡◌, ◌∙◌, ◌+◌, refl, sym, subst, ap, arith, length, ◌++◌, ◌∷◌, [], List}
 use Rattle.std.proofs.lemmas.List.{take_more}
 use Rattle.std.specs.Prelude.{take}
 use Rattle.std.proofs.lemmas.Option.{slice_get_read}
 use Rattle.list_facts.proofs.Each.{AllByRecursion-slice_get}
 use Rattle.attr_types.specs.Lawful.{OpFits}
+use Rattle.attribute_kinds.specs.Calls.{RefusesOperation}
+use Rattle.attribute_kinds.specs.Counts.{NamesWidth}
 use Rattle.attr_types.specs.declared.field.Field.{Field}
 use Rattle.attr_loader.specs.Room.{after_values, values_of, IsMade, IsRefusedBy}
 use Rattle.attr_loader.proofs.RoomRuns.{room_applied, room_on, room_refused, take_all}
@@ -58,8 +60,10 @@ returns-in-Err-Full-clause-room g c =
     let start = c.args.attribute.now in
     let new = c.apply.new.self in
     let ops = c.args.ops.now in
-    let refused = c.in-Err-Full.ensures.refused in
-    let width = c.in-Err-Full.width in
+    let before = c.loop-op.attribute in
+    let refused = subst (RefusesOperation (ledger before.store) (ledger new.store)) c.in-Err-Full.field-0-is c.in-Err-Full.ensures.refused in
+    let names = subst (NamesWidth before.fields before.table c.op-item.result) c.in-Err-Full.field-0-is c.in-Err-Full.ensures.widths in
+    let width = c.in-Err-Full.field-0-0 in
     let front = take_more ops c.loop-op.op-index c.op-item.result c.loop-op-test.true ∙ ap (λ x. take c.loop-op.op-index ops ++ x ∷ []) (sym c.op-item.is) in
     let done = i.done in
     let here : take (c.loop-op.done + 1) ops ≡ take c.loop-op.op-index ops ++ c.op-item.result ∷ [] = ap (λ n. take n ops) (omega (arith, done)) ∙ front in
@@ -75,7 +79,7 @@ returns-in-Err-Full-clause-room g c =
           (subst (λ (fs : List Field). OpFits fs c.op-item.result) (sym i.applies.keeps.stays.fields)
           (AllByRecursion-slice_get (OpFits start.fields) ops c.loop-op.op-index c.op-item.result c.requires.fit
           (slice_get_read ops (length ops) c.loop-op.op-index c.op-item.result refl c.loop-op-test.true c.op-item.is)))
-          c.apply.ensures.counts c.in-Err-Full.ensures.widths)
+          c.apply.ensures.counts names)
           steps made);
     }
 
@@ -87,5 +91,5 @@ returns-clause-room g c =
     let ops = c.args.ops.now in (
       i.plan,
       subst (λ (list : List Op). AddsSteps ledger start c.loop-op.attribute (λ steps. after_values steps (values_of start.fields start.table list)))
-      (take_all ops c.loop-op.op-index (let over = c.loop-op-test.false in let most = c.loop-op.auto.op-index-end in omega arith)) i.room,
+          (take_all ops c.loop-op.op-index (let over = c.loop-op-test.false in let most = c.loop-op.auto.op-index-end in omega arith)) i.room,
     )

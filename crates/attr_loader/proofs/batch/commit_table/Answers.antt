@@ -1,5 +1,6 @@
-use Rattle.std.proofs.Common.{refl, rules}
+use Rattle.std.proofs.Common.{refl, rules, subst}
 use Rattle.arena_api.specs.Works.{last_image}
+use Rattle.attribute_kinds.specs.Calls.{IsForRoot, RefusesCommit}
 use Rattle.attr_loader.proofs.Applying.{commit_number, commit_readers}
 use Rattle.attr_loader.proofs.RoomRuns.{room_root, root_refused}
 use Rattle.attr_loader.proofs.batch.commit_table.Goals as goal
@@ -39,5 +40,8 @@ returns-in-Ok-clause-room g c =
 pub returns-in-Err-Full-clause-room : goal.returns-in-Err-Full-clause-room
 returns-in-Err-Full-clause-room g c =
     let ledger = g.S.Store.ledger in
-    let refused = c.in-Err-Full.ensures.refused in
-    root_refused ledger c.args.attribute.now c.commit.new.self _ c.commit.ensures.fields c.commit.ensures.table c.commit.ensures.makes c.in-Err-Full.ensures.width refused.room.is_width_of refused.room.made
+    let old = c.args.attribute.now in
+    let new = c.commit.new.self in
+    let refused = subst (RefusesCommit (ledger old.store) (ledger new.store)) c.in-Err-Full.field-0-is c.in-Err-Full.ensures.refused in
+    let for_root = subst (IsForRoot old.fields) c.in-Err-Full.field-0-is c.in-Err-Full.ensures.width in
+    root_refused ledger old new c.in-Err-Full.field-0-0 c.commit.ensures.fields c.commit.ensures.table c.commit.ensures.makes for_root refused.room.is_width_of refused.room.made

@@ -3,7 +3,7 @@ use Rattle.attr_run.specs.declared.outcome.Status.TheVariants.{BadFeed, ReadFaul
 use Rattle.attr_run.specs.declared.outcome.FeedFault.TheVariants as feed
 use Rattle.attr_run.proofs.AnswerLemmas.{Met, at, ended-report, ended-run, exactly-usage}
 use Rattle.attr_run.proofs.AnswerLemmas.{exactly-help, exactly-feed, early-text}
-use Rattle.attr_run.proofs.AnswerLemmas.{early-no_run, complete-told, full-run}
+use Rattle.attr_run.proofs.AnswerLemmas.{early-no_run, complete-told, full-run, small-told}
 use Rattle.attr_run.proofs.run.attr_main.Given.{Over}
 use Rattle.attr_run.proofs.run.attr_main.Goals as goal
 
@@ -56,6 +56,10 @@ returns-clause-room g c = λ operation active held.
 pub returns-clause-owed : goal.returns-clause-owed
 returns-clause-owed g c = λ operation active held.
     full-run (met g c) _ _ c.whole_run.ensures.answer operation active held _ (λ text run ops full. full.owed)
+
+pub returns-clause-large : goal.returns-clause-large
+returns-clause-large g c = λ operation active held.
+    full-run (met g c) _ _ c.whole_run.ensures.answer operation active held _ (λ text run ops full. full.large)
 
 pub returns-clause-quiet : goal.returns-clause-quiet
 returns-clause-quiet g c = λ operation active held.
@@ -112,3 +116,6 @@ returns-clause-proper g c = c.whole_run.ensures.proper
 
 pub returns-clause-complete : goal.returns-clause-complete
 returns-clause-complete g c = complete-told (met g c) _ _ c.whole_run.ensures.answer
+
+pub returns-clause-small : goal.returns-clause-small
+returns-clause-small g c = small-told (met g c) _ _ c.whole_run.ensures.answer _ refl

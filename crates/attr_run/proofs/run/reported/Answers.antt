@@ -34,7 +34,7 @@ returns-clause-due g c =
     let a = c.answer_of.ensures in
     let is = subst (λ (ops : List Op). IsRunOf run ops c.in_ok-written.written) c.as_slice.ensures c.in_ok-written.ensures in
     answered c.args.words.now (g.S.Source.left c.args.source.now) _ _ run c.in_ok-ops.ops c.in_ok-written.written
-    _ _ _ _ _ a.status a.loaded a.rounds a.saved a.text c.in_ok-request.ensures.asked c.in_ok-ops.ensures.fed is
+    _ _ _ _ _ a.status a.loaded a.rounds a.saved a.text c.in_ok-request.ensures.lawful.lawful.in_buffers.0 c.in_ok-request.ensures.asked c.in_ok-ops.ensures.fed is
 
 pub returns-clause-whole : goal.returns-clause-whole
 returns-clause-whole g c = proper-of _ c.in_ok-written.written.full c.answer_of.ensures.status
