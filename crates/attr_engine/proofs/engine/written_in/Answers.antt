@@ -8,4 +8,4 @@ pub returns : goal.returns
 returns c =
     let came = c.requires.came in
     IfOk-weaker c.written_of.result _ _
-    (λ w wrote. run_of (run_in c.args.request.now) c.args.ops.now c.args.came w came (sym came.asked ∙ c.if-is_some.false) wrote) c.written_of.ensures
+    (λ w wrote. run_of (run_in c.args.request.now) c.args.ops.now c.args.came w came (sym came.asked ∙ sym c.is_some.ensures ∙ c.if-is_some.false) wrote) c.written_of.ensures

@@ -1,5 +1,4 @@
-use Rattle.std.proofs.Common.{◌∙◌, refl, ap, sym, List, map, Vec, Global, true≢false}
-use Rattle.std.specs.Prelude.{is_some}
+use Rattle.std.proofs.Common.{◌∙◌, refl, ap, List, map, Vec, Global}
 use Rattle.attr_rounds.specs.declared.rounds.Round.{Round}
 use Rattle.attr_rounds.specs.declared.asked.Told.{Told}
 use Rattle.attr_report.specs.Run.{run_in}
@@ -15,6 +14,3 @@ returns c = saved_run_of (run_in c.args._request.now) c.args._ops.now c.args.cam
   saved = refl;
   text = refl;
 })
-
-pub unreachable-requires : goal.unreachable-requires
-unreachable-requires c = true≢false (sym c.requires.saved ∙ ap is_some c.in-None.is)
