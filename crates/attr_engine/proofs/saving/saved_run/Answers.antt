@@ -1,5 +1,4 @@
-use Rattle.std.proofs.Common.{◌∙◌, refl, ap, sym, List, map, Vec, Global, true≢false}
-use Rattle.std.specs.Prelude.{is_some}
+use Rattle.std.proofs.Common.{◌∙◌, refl, ap, List, map, Vec, Global}
 use Rattle.attr_rounds.specs.declared.rounds.Round.{Round}
 use Rattle.attr_rounds.specs.declared.asked.Told.{Told}
 use Rattle.attr_report.specs.Run.{run_in}
@@ -7,14 +6,11 @@ use Rattle.attr_engine.specs.Writing.{operations_of_rounds}
 use Rattle.attr_engine.proofs.WritingLemmas.{saved_run_of}
 use Rattle.attr_engine.proofs.saving.saved_run.Goals as goal
 
-pub returns-in-Some : goal.returns-in-Some
-returns-in-Some c = saved_run_of (run_in c.args._request.now) c.args._ops.now c.args.came c.in-Some.save _ c.requires.came c.in-Some.is (record {
+pub returns : goal.returns
+returns c = saved_run_of (run_in c.args._request.now) c.args._ops.now c.args.came c.in-Some.save _ c.requires.came c.in-Some.is (record {
   loaded = refl;
   full = refl;
   rounds = c.in_ok-rounds.ensures ∙ ap (λ (all_rounds : List (Vec (Round Told) Global)). map (λ r. operations_of_rounds r.items) all_rounds) c.as_slice.ensures.value;
   saved = refl;
   text = refl;
 })
-
-pub unreachable-requires : goal.unreachable-requires
-unreachable-requires c = true≢false (sym c.requires.saved ∙ ap is_some c.in-None.is)
