@@ -1,6 +1,6 @@
 -- A saver, its round taken in, and the save that its bytes are.
 use Rattle.std.proofs.Common.{◌≡◌, ◌≤◌, ◌+◌, ℕ, suc, true≢false, List, [], ◌∷◌, length, refl, sym, ap, subst, ◌∙◌, arith, Some}
-use Rattle.std.specs.Prelude.{Bool, true, false, All, Option, None, is_some, IfSome, Result, Ok, Err, IfOk, Vec, slice_get}
+use Rattle.std.specs.Prelude.{Bool, true, false, if◌then◌else◌, All, Option, None, is_some, IfSome, Result, Ok, Err, IfOk, Vec, slice_get}
 use Rattle.std.specs.Global.{Global}
 use Rattle.std.specs.declared.alloc.AllocError.{AllocError}
 use Rattle.std.proofs.lemmas.Option.{slice_get_within}

@@ -28,15 +28,13 @@ pub fn saved_run(
         last: _last,
         saved,
     } = came;
+    let Some(save) = saved else { unreachable!() };
     let rounds = all_counts(alloc, rounds.as_slice())?;
-    match saved {
-        Some(save) => Ok(Written {
-            loaded: loaded.operations,
-            full: loaded.full,
-            rounds,
-            saved: Some(save.operations),
-            text: save.bytes,
-        }),
-        None => unreachable!(),
-    }
+    Ok(Written {
+        loaded: loaded.operations,
+        full: loaded.full,
+        rounds,
+        saved: Some(save.operations),
+        text: save.bytes,
+    })
 }

@@ -23,11 +23,11 @@ load_at-requires-lives-T-Task-2 g c κs within = λ a member. ⊑_static _ a (c.
 pub load_at-requires-lives-T-Destruct-2 : goal.load_at-requires-lives-T-Destruct-2
 load_at-requires-lives-T-Destruct-2 g c κs within = λ a member. ⊑_static _ a (c.type_bounds.static-G a member)
 
-pub load_at-requires-lives-U-Task-2 : goal.load_at-requires-lives-U-Task-2
-load_at-requires-lives-U-Task-2 g c κs within = λ a member. ⊑_static _ a (c.type_bounds.static-G a member)
+pub load_at-requires-lives-U-Task : goal.load_at-requires-lives-U-Task
+load_at-requires-lives-U-Task g c κs within = λ a member. ⊑_static _ a (c.type_bounds.static-G a member)
 
-pub load_at-requires-lives-U-Destruct-2 : goal.load_at-requires-lives-U-Destruct-2
-load_at-requires-lives-U-Destruct-2 g c κs within = λ a member. ⊑_static _ a (c.type_bounds.static-G a member)
+pub load_at-requires-lives-U-Destruct : goal.load_at-requires-lives-U-Destruct
+load_at-requires-lives-U-Destruct g c κs within = λ a member. ⊑_static _ a (c.type_bounds.static-G a member)
 
 pub returns-clause-asked : goal.returns-clause-asked
 returns-clause-asked g c = aside_some _ c.saver_of-saver.result c.in_ok-writer.saving c.in_ok-writer.ensures.aside ∙ c.saver_of-saver.ensures.asked

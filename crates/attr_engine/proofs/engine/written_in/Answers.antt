@@ -6,6 +6,6 @@ use Rattle.attr_engine.proofs.engine.written_in.Goals as goal
 
 pub returns : goal.returns
 returns c =
-    let came = c.requires in
+    let came = c.requires.came in
     IfOk-weaker c.written_of.result _ _
     (λ w wrote. run_of (run_in c.args.request.now) c.args.ops.now c.args.came w came (sym came.asked ∙ c.if-is_some.false) wrote) c.written_of.ensures

@@ -1,11 +1,12 @@
-use Rattle.std.proofs.Common.{◌≡◌, ◌∙◌, ℕ, List, map, refl, ap, subst, arith}
-use Rattle.std.specs.Prelude.{Bool, is_some}
+use Rattle.std.proofs.Common.{◌≡◌, ◌+◌, ◌∙◌, ℕ, List, map, refl, ap, subst, arith}
+use Rattle.std.specs.Prelude.{Bool, false, is_some, IfSome}
 use Rattle.std.proofs.lemmas.Option.{IfSome_then}
 use Rattle.gen_core.specs.Views.{last_number}
 use Rattle.word_arena.specs.Ruled.{writer_of}
 use Rattle.attr_types.specs.Scores.{ask_tree}
 use Rattle.attr_types.specs.declared.field.Field.{Field}
 use Rattle.attr_report.specs.Run.{run_in}
+use Rattle.attr_engine.specs.Saver.{one_if, save_parts}
 use Rattle.attr_engine.specs.Steps.{parts, LoadsInto}
 use Rattle.attr_engine.specs.Rounds.{operations_of, tells_of}
 use Rattle.attr_engine.proofs.RunLemmas.{asked_as, last_as, last_on, came_of}
@@ -24,10 +25,12 @@ returns g c =
     let x = writer_of c.read_after.new.writer.place.me.0 in
     let has = c.in_ok-loading.ensures in
     let counted = c.args.question.now.counted in
-    let beside = ap (λ (p : ℕ × ℕ). p.0) c.parts-beside.ensures in
+    let loaded = c.in_ok-loading.loading.loaded.operations in
+    let some = ap (λ (p : ℕ × ℕ). p.0) c.parts-beside.ensures in
+    let one = ap (λ (p : Bool × Bool). one_if p.0) c.save_parts-save.ensures in
     let made_is = has.made in
     let none = c.requires.unread in
-    let made : v.made ≡ (parts run.after run.readers).0 = omega (arith, made_is, none, beside) in
+    let made : v.made ≡ (parts run.after run.readers).0 + one_if (save_parts run.after run.save).0 = omega (arith, made_is, none, some, one) in
     let asks = map ask_tree c.args.question.now.asks.now in
     let loads = subst (λ (fs : List Field). LoadsInto fs run.batch c.args.ops.now w v c.in_ok-loading.loading.loaded) q.fields_are has.loads in
     let first = asked_as counted (is_some run.make) asks run.asks q.counted_is q.asks_are v.sizes.shape (last_number w.commits) run.rounds v.commits c.in_ok-loading.loading.first.items has.rounds in
@@ -39,7 +42,7 @@ returns g c =
     let keeps = keeps_on v x y c.in_ok-later.ensures.keeps c.in_ok-last.ensures.keeps in
     let shape = loads.shape_is ∙ c.requires.new.shape_is in
     let count = loads.count in
-    let beside = λ beside_is. IfSome_then c.in_ok-loading.loading.saved has.saved
+    let beside : run.after ≡ false → IfSome c.in_ok-loading.loading.saved (IsSaveOf run c.args.ops.now loaded) = λ beside_is. IfSome_then c.in_ok-loading.loading.saved has.saved
     (λ save. save_beside run c.args.ops.now field c.requires.field loads.last v.commits loads.commits loads.count v.sizes.shape shape c.in_ok-loading.loading.loaded.operations loads.point v save refl refl beside_is) in
     let behind = if_both _ _ (IsSaveOf run c.args.ops.now c.in_ok-loading.loading.loaded.operations) c.in_ok-saved.saved
     (λ save n is. save_after run c.args.ops.now field c.requires.field loads.last v.commits loads.commits loads.count v.sizes.shape shape c.in_ok-loading.loading.loaded.operations loads.point v save refl refl n
