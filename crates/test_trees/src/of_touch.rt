@@ -45,12 +45,13 @@ fn push_way(
     Ok(())
 }
 
-/// Puts 6,000 keys, and then makes a number of changes, most of which remove a key.
+/// Puts a number of keys, and then makes a number of changes of 6,000 keys, most of which remove a key.
 fn wear<const OFFSET_BITS: u32, S: Store<OFFSET_BITS, Layout = TreeLayout>>(
     tree: &mut NumberTree<OFFSET_BITS, S>,
+    keys: u64,
     changes: u64,
 ) -> Result<(), StoreError> {
-    for key in 0..6000 {
+    for key in 0..keys {
         tree.put(key, key)?;
     }
     let mut number = 20261127;
@@ -186,7 +187,7 @@ fn touch_in<const OFFSET_BITS: u32, S: Store<OFFSET_BITS>>(
     push_touched::<OFFSET_BITS>(alloc, line, &old, &new, buffer)
 }
 
-/// Returns the result of a row: after a number of changes, for a key, which nodes of its way lay in the sealed
+/// Returns the result of a row: after so many keys and changes, for a key, which nodes of its way lay in the sealed
 /// buffer, which were copied, which still lie there, and whether the pairs are the same.
 pub fn answer<const OFFSET_BITS: u32, S: Store<OFFSET_BITS, Layout = TreeLayout> + Drop>(
     alloc: Global,
@@ -195,10 +196,10 @@ pub fn answer<const OFFSET_BITS: u32, S: Store<OFFSET_BITS, Layout = TreeLayout>
     line: &mut String,
 ) -> Result<(), AllocError> {
     let mut tree = tree;
-    if wear(&mut tree, number_at(words, 0)).is_err() {
+    if wear(&mut tree, number_at(words, 0), number_at(words, 1)).is_err() {
         return line.push_str(" full");
     }
     let root = tree.root();
     let mut store = tree.into_store();
-    touch_in(alloc, &mut store, root, number_at(words, 1), line)
+    touch_in(alloc, &mut store, root, number_at(words, 2), line)
 }
