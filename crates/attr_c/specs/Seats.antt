@@ -59,6 +59,13 @@ pub record AnswersText (guard : KeptView) (text : List ℕ) (told : Answered) (a
   pub tells : TellsCommit guard told
   pub count : told.count ≡ documents_in (said answer)
 
+-- how many documents that answer has
+pub record CountsText (guard : KeptView) (text : List ℕ) (told : Answered) : Type 0 where
+  pub ask : AskTree
+  pub reads : ask_of guard.fields text ≡ Ok ask
+  pub count : told.count ≡ documents_in (answer_on ask (table_in guard))
+  pub tells : TellsCommit guard told
+
 -- the items of a document in the table of a guard's commit
 pub record ReadsItems (guard : KeptView) (document field : ℕ) (told : Answered) (items : List Item) : Type 0 where
   pub items_are : items_of field document (table_in guard) ≡ Some items
@@ -70,6 +77,24 @@ pub record SavesTable (guard : KeptView) (told : Answered) (bytes : List ℕ) : 
   pub bytes_are : bytes ≡ save_of_table guard.fields (operations_of guard) (table_in guard)
   pub tells : TellsCommit guard told
   pub count : told.count ≡ length bytes
+
+-- the reader is under a guard, its own or one that it took, and it is told of which commit
+abbrev pub HoldsGuard : Option Place → Option Place → Answered → Type 0
+HoldsGuard (Some before) (Some (Kept k)) told = TakesGuard before (kept_view k) × TellsCommit (kept_view k) told
+HoldsGuard (Some before) (Some (Free r)) told = ⊥
+HoldsGuard (Some before) None told = ⊥
+HoldsGuard None after told = ⊥
+
+-- the reader is without a guard: it had none, or gave it back
+abbrev pub Releases : Place → AnyReader → Type 0
+Releases (Free r) after = after ≡ r
+Releases (Kept k) after = LeavesGuard false (kept_view k) (Free after)
+
+abbrev pub ReleasesGuard : Option Place → Option Place → Type 0
+ReleasesGuard (Some before) (Some (Free r)) = Releases before r
+ReleasesGuard (Some before) (Some (Kept k)) = ⊥
+ReleasesGuard (Some before) None = ⊥
+ReleasesGuard None after = ⊥
 
 -- a call by one guard: the place's own, which stays, or one that was taken and given back
 pub record ByGuard (before after : Place) (P : KeptView → Type 0) : Type 0 where

@@ -1,5 +1,6 @@
 //! The answer that a reader keeps until it is asked again.
-ghost use Rattle.std.specs.Prelude.{◌≡◌, min, length, take};
+ghost use Rattle.std.specs.Prelude.{◌≡◌, map};
+ghost use Rattle.attr_c.specs.Copies.{documents_of, Copies};
 
 use crate::told::Scored;
 use attr_types::{Doc, DocList, Score, ScoreList};
@@ -31,8 +32,7 @@ impl Answer {
 }
 
 fn copy_docs(docs: &[Doc], into: &mut [u32]) -> usize
-    ensures count { result ≡ min (length into.old) (length docs.now) }
-    ensures front { take result into.new ≡ take result docs.now }
+    ensures { Copies docs.now 0 into.old into.new result }
 {
     let count = into.len().min(docs.len());
     for i in 0..count {
@@ -41,7 +41,9 @@ fn copy_docs(docs: &[Doc], into: &mut [u32]) -> usize
     count
 }
 
-fn copy_scored_docs(scores: &[Score], into: &mut [u32]) -> usize {
+fn copy_scored_docs(scores: &[Score], into: &mut [u32]) -> usize
+    ensures { Copies (map (λ s. s.doc) scores.now) 0 into.old into.new result }
+{
     let count = into.len().min(scores.len());
     for i in 0..count {
         into[i] = scores[i].doc.number();
@@ -50,7 +52,9 @@ fn copy_scored_docs(scores: &[Score], into: &mut [u32]) -> usize {
 }
 
 /// Copies the numbers of documents from the one at this place on, and says how many.
-pub fn copy_hits(answer: &Answer, first: usize, into: &mut [u32]) -> usize {
+pub fn copy_hits(answer: &Answer, first: usize, into: &mut [u32]) -> usize
+    ensures { Copies (documents_of answer.now) first into.old into.new result }
+{
     match answer {
         Answer::Hits(docs) => {
             let docs = docs.as_slice();

@@ -1,4 +1,5 @@
 //! What C calls to open, to close, and to hand readers out.
+ghost use Rattle.attr_c.specs.Engines.{KeepsTables};
 
 use crate::attributes::fields_in;
 use crate::codes::{BOUNDS, LOST, MEMORY, NO_READER, NO_TEXT, OK};
@@ -63,7 +64,9 @@ pub extern "C" fn attr_close(alloc: Global, at: HeldEngine) {
 }
 
 /// A reader that was not given away yet.
-fn next_reader(open: &mut AnyOpen) -> Option<AnyReader> {
+fn next_reader(open: &mut AnyOpen) -> Option<AnyReader>
+    ensures { KeepsTables open.old open.new }
+{
     match open {
         AnyOpen::Narrow(open) => match open.pool.pop() {
             Some(waiting) => Some(AnyReader::Narrow(waiting)),
@@ -77,7 +80,9 @@ fn next_reader(open: &mut AnyOpen) -> Option<AnyReader> {
 }
 
 /// Puts a reader back to those that are to be given away.
-fn put_back(open: &mut AnyOpen, reader: AnyReader) -> i32 {
+fn put_back(open: &mut AnyOpen, reader: AnyReader) -> i32
+    ensures { KeepsTables open.old open.new }
+{
     match (open, reader) {
         (AnyOpen::Narrow(open), AnyReader::Narrow(waiting)) => match open.pool.push(waiting) {
             Ok(()) => OK,
@@ -93,7 +98,9 @@ fn put_back(open: &mut AnyOpen, reader: AnyReader) -> i32 {
 
 /// Hands out a reader.
 #[unsafe(no_mangle)]
-pub extern "C" fn attr_reader_open(alloc: Global, at: &mut HeldEngine, out: &mut *mut u8) -> i32 {
+pub extern "C" fn attr_reader_open(alloc: Global, at: &mut HeldEngine, out: &mut *mut u8) -> i32
+    ensures { KeepsTables at.old.value.open at.new.value.open }
+{
     let engine = at.get_mut();
     let Some(reader) = next_reader(&mut engine.open) else {
         return NO_READER;
@@ -118,7 +125,9 @@ fn reader_in(alloc: Global, at: HeldSeat) -> Option<AnyReader> {
 
 /// Takes a reader back, to be handed out again.
 #[unsafe(no_mangle)]
-pub extern "C" fn attr_reader_return(alloc: Global, at: &mut HeldEngine, seat: HeldSeat) -> i32 {
+pub extern "C" fn attr_reader_return(alloc: Global, at: &mut HeldEngine, seat: HeldSeat) -> i32
+    ensures { KeepsTables at.old.value.open at.new.value.open }
+{
     let reader = reader_in(alloc, seat);
     let engine = at.get_mut();
     match reader {

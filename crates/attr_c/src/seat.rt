@@ -1,6 +1,6 @@
 //! What a reader's handle holds.
 ghost use Rattle.std.specs.Prelude.{◌≡◌, false};
-ghost use Rattle.attr_c.specs.Seats.{is_kept, kept_view, reader_view, IsTaken, LeavesGuard, TakesGuard};
+ghost use Rattle.attr_c.specs.Seats.{is_kept, kept_view, reader_view, IsTaken, LeavesGuard, Releases, TakesGuard};
 
 use crate::answer::Answer;
 use crate::kept::Kept;
@@ -84,7 +84,9 @@ pub fn left(kept: AnyKept, stays: bool) -> Place
 }
 
 /// The reader without a guard.
-pub fn reader_of(place: Place) -> AnyReader {
+pub fn reader_of(place: Place) -> AnyReader
+    ensures { Releases place result }
+{
     match place {
         Place::Free(reader) => reader,
         Place::Kept(kept) => released(kept),
