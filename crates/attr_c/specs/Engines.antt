@@ -6,7 +6,7 @@ use Rattle.attr_c.specs.declared.state.AnyOpen.{AnyOpen}
 use Rattle.attr_c.specs.declared.state.AnyOpen.TheVariants.{Narrow, Wide}
 use Rattle.attr_c.specs.declared.state.Engine.{Engine}
 
--- the attributes, the table that was fed, and how many operations made it
+-- the attributes, the table that was fed, and the number of operations that made it
 abbrev pub open_fields : AnyOpen → List Field
 open_fields (Narrow o) = o.fields
 open_fields (Wide o) = o.fields
@@ -19,7 +19,7 @@ abbrev pub open_operations : AnyOpen → ℕ
 open_operations (Narrow o) = o.attribute.operations
 open_operations (Wide o) = o.attribute.operations
 
--- the table of the last commit, and how many operations it has
+-- the table of the last commit, and its number of operations
 abbrev pub open_committed : AnyOpen → Table
 open_committed (Narrow o) = o.attribute.committed
 open_committed (Wide o) = o.attribute.committed

@@ -1,4 +1,4 @@
--- What lines make of attributes.
+-- How lines change attributes.
 use Rattle.std.specs.Prelude.{◌≡◌, ℕ, ◌+◌, true, false, List, length, Option, Some, None, IfSome, Result, Ok, Err}
 use Rattle.attr_types.specs.Lawful.{OpFits}
 use Rattle.attr_types.specs.Table.{Table, after_op, after_ops}
@@ -15,13 +15,13 @@ use Rattle.feed_reader.specs.declared.refusal.Refusal.TheVariants as refusals
 use Rattle.attr_c.specs.declared.stop.Stop.{Stop}
 use Rattle.attr_c.specs.declared.stop.Stop.TheVariants as stops
 
--- what is read of one line: nothing of a blank one, else its operation, or the line by itself is a feed that is refused so
+-- the content of one line: none if it is blank, otherwise its operation, or the refusal of a feed of this line alone
 abbrev pub SaysLine : List Field → List ℕ → Result (Option Op) FeedError → Type 0
 SaysLine fields line (Ok None) = is_blank line ≡ true
 SaysLine fields line (Ok (Some op)) = (is_blank line ≡ false) × (op_of_line fields line ≡ Ok op) × OpFits fields op
 SaysLine fields line (Err error) = (is_blank line ≡ false) × FeedFailsBy error (feed_of fields line)
 
--- a line was applied: its operation, or nothing where it is blank
+-- a line was applied: its operation, or nothing if it is blank
 pub record AppliesLine (fields : List Field) (line : List ℕ) (old new : Table) (before after : ℕ) : Type 0 where
   pub op : Op
   pub some : is_blank line ≡ false
@@ -29,12 +29,12 @@ pub record AppliesLine (fields : List Field) (line : List ℕ) (old new : Table)
   pub table : new ≡ after_op fields old op
   pub operations : after ≡ before + 1
 
--- a stop that refuses no line
+-- a stop that is not the refusal of a line
 abbrev pub IsOfNoLine : Stop → Type 0
 IsOfNoLine (stops.Line error) = ⊥
 IsOfNoLine stop = Unit {0}
 
--- tables and operations, before and after
+-- the table and the number of operations are unchanged
 pub record Stays (old new : Table) (before after : ℕ) : Type 0 where
   pub table : new ≡ old
   pub operations : after ≡ before
@@ -46,14 +46,15 @@ FedLine fields line old new before after (Err (stops.Line error)) =
     (is_blank line ≡ false) × FeedFailsBy error (feed_of fields line) × Stays old new before after
 FedLine fields line old new before after (Err stop) = Stays old new before after
 
--- a feed up to one of its lines: these operations were applied, and they are what it says before the rest, whose first line has this number
+-- a feed up to one of its lines: these operations were applied, and they are those of the feed before the rest, whose
+-- first line has this number
 pub record FedTo (fields : List Field) (bytes : List ℕ) (number : ℕ) (rest : List ℕ) (old new : Table) (before after : ℕ) : Type 0 where
   pub ops : List Op
   pub said : with_front ops (ops_of_lines fields number (lines_of rest)) ≡ feed_of fields bytes
   pub table : new ≡ after_ops fields old ops
   pub operations : after ≡ before + length ops
 
--- why a line is refused, whatever its number
+-- why a line is refused, without its number
 abbrev pub row_of : FeedError → Option Refusal
 row_of (errors.NotJson line) = Some refusals.NotJson
 row_of (errors.NoOperation line) = Some refusals.NoOperation
@@ -65,7 +66,7 @@ row_of errors.FeedTooLong = None
 row_of errors.ReadFault = None
 row_of errors.Memory = None
 
--- where a line is refused, it is the first faulty line of the feed
+-- if a line is refused, it is the first faulty line of the feed
 abbrev pub RefusesLine : List Field → List ℕ → ℕ → Stop → Type 0
 RefusesLine fields bytes number (stops.Line error) = IfSome (row_of error) (λ row. feed_of fields bytes ≡ Err (number, row))
 RefusesLine fields bytes number stop = Unit {0}

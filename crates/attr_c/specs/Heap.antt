@@ -1,4 +1,4 @@
--- The right to give up a block of the heap.
+-- The right to free a block of the heap.
 use base.Fml.{Fml}
 use mir.Syntax.{Ty}
 use denote.RawPtr.{Ptr}

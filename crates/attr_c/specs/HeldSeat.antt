@@ -1,4 +1,4 @@
--- What a handle becomes as what it holds is written.
+-- How a handle changes when its content is written.
 use base.Fml.{Fml}
 use denote.Ref.{MutBor}
 use denote.Follow.{follows}

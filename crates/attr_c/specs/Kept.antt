@@ -9,25 +9,25 @@ use Rattle.attr_types.specs.Table.{Table}
 use Rattle.attr_types.specs.declared.field.Field.{Field}
 use Rattle.attr_types.specs.declared.field.TheConstants.{MOST_FIELDS}
 
--- the attributes that it is asked of, and what the reader has seen, the guard's commit first
+-- the attributes for the asks, and what the reader has seen, the guarded commit first
 pub record KeptView : Type 0 where
   pub fields : List Field
   pub reader : ReaderView
 
--- the commit of the guard is one of these attributes
+-- the guarded commit is one of these attributes
 pub record IsKept (fields : List Field) (reader : ReaderView) : Type 0 where
   pub few : length fields ≤ MOST_FIELDS
   pub shaped : reader.sizes.shape ≡ shape_of (types_of fields)
   pub lawful : IsLawfulImage (shape_of (types_of fields)) (words_at (seen_image reader)) (seen_image reader).root
 
--- the table of the guard's commit, and how many operations it has
+-- the table of the guarded commit, and its number of operations
 abbrev pub table_in : KeptView → Table
 table_in k = table_of (shape_of (types_of k.fields)) (words_at (seen_image k.reader)) (seen_image k.reader).root
 
 abbrev pub operations_of : KeptView → ℕ
 operations_of k = operations_at (words_at (seen_image k.reader)) (seen_image k.reader).root
 
--- a guard's commit is not below what the reader had seen before, and nothing else was seen
+-- the guarded commit is not older than any that the reader saw before, and nothing else was seen
 pub record IsGuardOf (before after : ReaderView) : Type 0 where
   pub same_sizes : after.sizes ≡ before.sizes
   pub later : before.seen ≤ seen_number after

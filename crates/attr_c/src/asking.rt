@@ -1,4 +1,4 @@
-//! What a reader is asked, at the commit of its guard.
+//! The asks of a reader, at the commit of its guard.
 ghost use Rattle.std.specs.Prelude.{◌≡◌, ◌<◌, ◌^◌, length, IfOk, Ok};
 ghost use Rattle.query_text.specs.Asks.{ask_of, AsksAs};
 ghost use Rattle.attr_c.specs.Seats.{kept_view, AnswersText, ReadsItems, SavesTable, TellsCommit};
@@ -31,7 +31,7 @@ fn code_of(error: QueryError, told: &mut Answered) -> i32 {
     }
 }
 
-/// What a text asks for.
+/// Returns what a text asks for.
 fn ask_in(alloc: Global, text: &str, fields: &Fields, told: &mut Answered) -> Result<Ask, i32>
     requires { length fields.now < 2 ^ 32 }
     ensures { IfOk result (λ ask. AsksAs (Ok ask) (ask_of fields.now text.now)) }
@@ -42,7 +42,7 @@ fn ask_in(alloc: Global, text: &str, fields: &Fields, told: &mut Answered) -> Re
     }
 }
 
-/// Which commit answers.
+/// Writes which commit answers.
 fn tell_commit<const OFFSET_BITS: u32>(kept: &mut Kept<OFFSET_BITS>, told: &mut Answered)
     ensures tells { TellsCommit kept.old told.new }
     ensures same { kept.new ≡ kept.old }
@@ -51,7 +51,7 @@ fn tell_commit<const OFFSET_BITS: u32>(kept: &mut Kept<OFFSET_BITS>, told: &mut 
     told.operations = kept.operations();
 }
 
-/// The answer to a text, or the code of its refusal.
+/// Returns the answer to a text, or the code of its refusal.
 fn answer_of<const OFFSET_BITS: u32>(
     alloc: Global,
     kept: &mut Kept<OFFSET_BITS>,
@@ -72,7 +72,7 @@ fn answer_of<const OFFSET_BITS: u32>(
     }
 }
 
-/// The items of a document, or the code of a refusal.
+/// Returns the items of a document, or the code of a refusal.
 fn items_of<const OFFSET_BITS: u32>(
     alloc: Global,
     kept: &mut Kept<OFFSET_BITS>,
@@ -97,7 +97,7 @@ fn items_of<const OFFSET_BITS: u32>(
     }
 }
 
-/// The bytes of a save, or the code of a refusal.
+/// Returns the bytes of a save, or the code of a refusal.
 fn save_of<const OFFSET_BITS: u32>(
     alloc: Global,
     kept: &mut Kept<OFFSET_BITS>,

@@ -9,7 +9,8 @@ use std::alloc::{AllocError, Global};
 /// Why a text names no attributes.
 #[derive(Clone, Copy, Drop)]
 pub enum AttributesError {
-    /// The attribute of this number, from 0, is not of the form, or has the name of one before it, or is the ninth.
+    /// The attribute with this number, from 0, does not have the form, has the name of an earlier one, or is the
+    /// ninth.
     Broken { number: usize },
     Memory,
 }
@@ -42,7 +43,7 @@ fn parts_of<'a>(alloc: Global, text: &'a str, mark: char) -> Result<Vec<&'a str>
     text.split(mark).collect(alloc)
 }
 
-/// The attribute of a name, a kind and a value type, where none before it has that name.
+/// Returns the attribute with a name, a kind and a value type, if no earlier one has that name.
 fn named_field(
     alloc: Global,
     before: &[Field],
@@ -63,7 +64,7 @@ fn named_field(
     Ok(Some(Field { name, kind, value }))
 }
 
-/// The attribute of a text `name:kind:value`.
+/// Returns the attribute of a text `name:kind:value`.
 fn field_in(alloc: Global, before: &[Field], text: &str) -> Result<Option<Field>, AllocError> {
     let parts = parts_of(alloc, text, ':')?;
     match parts.as_slice() {
@@ -72,7 +73,7 @@ fn field_in(alloc: Global, before: &[Field], text: &str) -> Result<Option<Field>
     }
 }
 
-/// The attribute of a text, where there is room for one more.
+/// Returns the attribute of a text, if one more attribute is allowed.
 fn next_field(alloc: Global, before: &[Field], text: &str) -> Result<Field, AttributesError> {
     let number = before.len();
     match field_in(alloc, before, text)? {
@@ -97,7 +98,7 @@ fn fields_of(alloc: Global, texts: &[&str]) -> Result<Fields, AttributesError>
     Ok(fields)
 }
 
-/// The attributes that a text names, `name:kind:value` each, parted by commas: one to eight.
+/// Returns the attributes that a text names, each as `name:kind:value`, separated by commas: one to eight.
 pub fn fields_in(alloc: Global, text: &str) -> Result<Fields, AttributesError>
     ensures some { IfOk result (λ fields. 0 < length fields) }
     ensures few { IfOk result (λ fields. length fields ≤ MOST_FIELDS) }

@@ -1,4 +1,4 @@
-//! What C calls with the writer's handle.
+//! The calls from C with the writer's handle.
 ghost use Rattle.std.specs.Prelude.{◌≡◌, ◌≢◌, ◌+◌, pos, drop, IsOk, IsErr};
 ghost use Rattle.attr_c.specs.Engines.{committed_of, committed_operations_of, fields_of, operations_of, table_of, KeepsTables};
 ghost use Rattle.attr_c.specs.Feeding.{FedTo, Feeds, Stays};
@@ -35,7 +35,7 @@ fn no_told() -> Told {
     }
 }
 
-/// What a call came to, as a code.
+/// Returns the result of a call, as a code.
 fn ended(counts: &mut Counts, came: Result<(), Stop>, told: &mut Told) -> i32
     ensures ok { result ≡ pos 0 → IsOk came }
     ensures other { result ≢ pos 0 → IsErr came }
@@ -49,7 +49,7 @@ fn ended(counts: &mut Counts, came: Result<(), Stop>, told: &mut Told) -> i32
     }
 }
 
-/// Feeds lines, and says what it came to.
+/// Feeds lines, and writes the result.
 fn feed_told<const OFFSET_BITS: u32, S: Store<OFFSET_BITS, Layout = AttrLayout>>(
     alloc: Global,
     open: &mut Open<OFFSET_BITS, S>,
@@ -149,7 +149,7 @@ fn compact_told<const OFFSET_BITS: u32, S: Store<OFFSET_BITS, Layout = AttrLayou
     ended(&mut open.counts, came, told)
 }
 
-/// Goes so many keys on in a compaction.
+/// Visits a number of compaction keys.
 #[unsafe(no_mangle)]
 pub extern "C" fn attr_compact(
     alloc: Global,
@@ -188,7 +188,7 @@ fn load_told<const OFFSET_BITS: u32, S: Store<OFFSET_BITS, Layout = AttrLayout>>
     ended(&mut open.counts, came, told)
 }
 
-/// Puts the documents of a save in, one after another, up to one that is refused.
+/// Puts the documents of a save, one after another, up to one that is refused.
 #[unsafe(no_mangle)]
 pub extern "C" fn attr_load(
     alloc: Global,
@@ -234,7 +234,7 @@ fn counts_of<const OFFSET_BITS: u32, S: Store<OFFSET_BITS, Layout = AttrLayout>>
     }
 }
 
-/// Tells numbers for a monitor.
+/// Writes numbers for a monitor.
 #[unsafe(no_mangle)]
 pub extern "C" fn attr_counts(at: &mut HeldEngine, told: &mut CountsTold)
     ensures same { at.new.value ≡ at.old.value }

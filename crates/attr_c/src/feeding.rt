@@ -72,7 +72,7 @@ fn note_skip(told: &mut Told, applied: Option<Applied>)
     }
 }
 
-/// Applies the operations of lines, one after another, up to a line that is refused, which is told.
+/// Applies the operations of lines, one after another, up to a line that is refused, which is reported.
 pub fn feed<const OFFSET_BITS: u32, S: Store<OFFSET_BITS, Layout = AttrLayout>>(
     alloc: Global,
     open: &mut Open<OFFSET_BITS, S>,

@@ -5,7 +5,7 @@ ghost use Rattle.word_arena.specs.Ruled.{reader_of, IsLater};
 use entry_ref::Layout;
 use word_arena::{Again, Guarded, Reader};
 
-/// A guard after as many tries as it takes.
+/// Returns a guard, after as many tries as it takes.
 pub fn guarded<'a, const OFFSET_BITS: u32, L: Layout>(
     reader: Reader<'a, OFFSET_BITS, L>,
 ) -> Guarded<'a, OFFSET_BITS, L>

@@ -1,4 +1,4 @@
-//! A reader under a guard: its commit stays readable until the guard is given back.
+//! A reader under a guard. Its commit stays readable until the guard is released.
 ghost use Rattle.std.specs.Prelude.{◌≡◌, ◌<◌, ◌≤◌, length, IfOk};
 ghost use Rattle.gen_core.specs.Events.{released};
 ghost use Rattle.word_arena.specs.Ruled.{reader_of, seen_number};
@@ -17,7 +17,7 @@ use std::alloc::{AllocError, Global};
 use std::marker::Model;
 use word_arena::Guarded;
 
-/// A reader under a guard, with the attributes that it is asked of.
+/// A reader under a guard, with the attributes for its asks.
 #[derive(Drop)]
 pub struct Kept<const OFFSET_BITS: u32> {
     fields: Fields,
@@ -36,7 +36,7 @@ impl<const OFFSET_BITS: u32> Model for Kept<OFFSET_BITS> {
 }
 
 impl<const OFFSET_BITS: u32> Kept<OFFSET_BITS> {
-    /// A guard of the last commit.
+    /// Takes a guard of the last commit.
     pub fn new(waiting: Waiting<OFFSET_BITS>) -> Kept<OFFSET_BITS>
         ensures fields { result.fields ≡ waiting.entry.fields }
         ensures guard { IsGuardOf (reader_of waiting.entry.reader.place.me.0) result.reader }
@@ -46,7 +46,7 @@ impl<const OFFSET_BITS: u32> Kept<OFFSET_BITS> {
         Kept { fields, guard }
     }
 
-    /// Gives the guard back.
+    /// Releases the guard.
     pub fn release(self) -> Waiting<OFFSET_BITS>
         ensures fields { result.fields ≡ self.entry.fields }
         ensures idle { reader_of result.reader.place.me.0 ≡ released self.entry.reader }
@@ -63,14 +63,14 @@ impl<const OFFSET_BITS: u32> Kept<OFFSET_BITS> {
         &self.fields
     }
 
-    /// The number of the commit.
+    /// Returns the number of the commit.
     pub fn commit(&self) -> u32
         ensures { result ≡ seen_number self.now.reader }
     {
         self.guard.commit()
     }
 
-    /// How many operations it has.
+    /// The number of operations in the commit.
     pub fn operations(&mut self) -> u32
         ensures count { result ≡ operations_of self.old }
         ensures same { self.new ≡ self.old }
@@ -79,7 +79,7 @@ impl<const OFFSET_BITS: u32> Kept<OFFSET_BITS> {
         operations_in(&mut self.guard, root)
     }
 
-    /// What the commit answers.
+    /// Returns the answer of the commit.
     pub fn answer(&mut self, alloc: Global, ask: &Ask) -> Result<Answer, AllocError>
         ensures answer { IfOk result (λ answer. said answer ≡ answer_on (ask_tree ask.now) (table_in self.old)) }
         ensures same { self.new ≡ self.old }
@@ -88,7 +88,8 @@ impl<const OFFSET_BITS: u32> Kept<OFFSET_BITS> {
         answer_at(alloc, &mut self.guard, root, &self.fields, ask)
     }
 
-    /// The items that a document has at the commit in the attribute of this number. There are none where it is not there.
+    /// Returns the items of a document at the commit, in the attribute with this number, or `None` if the document
+    /// does not exist.
     pub fn items(
         &mut self,
         alloc: Global,
@@ -102,7 +103,7 @@ impl<const OFFSET_BITS: u32> Kept<OFFSET_BITS> {
         field_items(alloc, &mut self.guard, root, &self.fields, field, doc)
     }
 
-    /// The bytes of a save of the first attribute at the commit.
+    /// Returns the bytes of a save of the first attribute at the commit.
     pub fn saved(&mut self, alloc: Global) -> Result<Vec<u8>, AllocError>
         ensures bytes { IfOk result (λ bytes. bytes.items ≡ save_of_table self.old.fields (operations_of self.old) (table_in self.old)) }
         ensures same { self.new ≡ self.old }

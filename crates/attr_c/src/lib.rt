@@ -1,4 +1,4 @@
-//! The engine, for C: one writer, and readers in threads of C's own. `include/attr.h` is what C sees of it.
+//! The engine for C: one writer, and readers in threads of the caller. `include/attr.h` declares what C sees of it.
 #![tactic(auto)]
 
 mod answer;

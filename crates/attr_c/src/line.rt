@@ -9,7 +9,7 @@ use attr_types::{Fields, Op};
 use feed_reader::{FeedError, read_feed};
 use std::alloc::Global;
 
-/// The operation of a line, if it has one.
+/// Returns the operation of a line, if it has one.
 pub fn operation_in(alloc: Global, fields: &Fields, line: &[u8]) -> Result<Option<Op>, FeedError>
     requires { 0 < length line.now → lines_of line.now ≡ line.now ∷ [] }
     ensures { SaysLine fields.now line.now result }

@@ -1,4 +1,4 @@
-//! What a code means, in words.
+//! The meaning of a code, in words.
 
 use crate::codes::{
     ATTRIBUTES, BAD_ID, BAD_SAVE, BAD_VALUE, BOUNDS, COMMITS_SPENT, FULL, LINE_TOO_LONG, LOST,
@@ -51,7 +51,7 @@ fn line_message(code: i32) -> &'static str {
     }
 }
 
-/// What a code means.
+/// Returns the meaning of a code.
 pub fn message_of(code: i32) -> &'static str {
     if code < SYNTAX {
         call_message(code)
@@ -62,13 +62,13 @@ pub fn message_of(code: i32) -> &'static str {
     }
 }
 
-/// Copies what a code means, and says how many bytes that are.
+/// Copies the meaning of a code, and returns the number of bytes.
 #[unsafe(no_mangle)]
 pub extern "C" fn attr_message(code: i32, into: &mut [u8]) -> usize {
     copy_bytes(message_of(code).as_bytes(), into)
 }
 
-/// 1,000,000 times the version, 1,000 times the part behind it, and the last part.
+/// Returns 1,000,000 times the version, plus 1,000 times its second part, plus its last part.
 #[unsafe(no_mangle)]
 pub extern "C" fn attr_version() -> u32 {
     1_000

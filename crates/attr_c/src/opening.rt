@@ -1,4 +1,4 @@
-//! A new memory, which is never given up, its attributes, and its readers.
+//! A new memory, which is never freed, with its attributes and readers.
 ghost use Rattle.std.specs.Prelude.{◌≡◌, ◌≤◌, ◌<◌, ◌*◌, ◌^◌, length, IfOk};
 ghost use Rattle.attr_images.specs.Shapes.{shape_of, types_of};
 ghost use Rattle.attr_types.specs.declared.field.TheConstants.{MOST_FIELDS};
@@ -15,14 +15,14 @@ use entry_store::EntryStore;
 use std::alloc::{AllocError, Global};
 use word_arena::{Arena, Config, Limits, Writer};
 
-/// What may cross to another thread.
+/// Returns a value, whose type may cross to another thread.
 pub fn may_cross<T: Send>(value: T) -> T
     ensures { result ≡ value }
 {
     value
 }
 
-/// So many readers, each with the attributes.
+/// Returns readers, each with the attributes.
 fn waiting<const OFFSET_BITS: u32>(
     alloc: Global,
     writer: &mut Writer<'static, OFFSET_BITS, AttrLayout>,
@@ -46,7 +46,7 @@ fn waiting<const OFFSET_BITS: u32>(
     Ok(pool)
 }
 
-/// Attributes without a document.
+/// Returns attributes without documents.
 fn running<const OFFSET_BITS: u32>(
     alloc: Global,
     writer: Writer<'static, OFFSET_BITS, AttrLayout>,
@@ -99,7 +99,7 @@ fn config_of(fields: &Fields, sizes: &Sizes) -> Config
     }
 }
 
-/// The writer of a new memory that is never given up, with references of 22 and 10 bits.
+/// Returns the writer of a new memory that is never freed, with references of 22 and 10 bits.
 fn narrow_writer(
     alloc: Global,
     config: Config,
@@ -134,7 +134,7 @@ fn wide_writer(alloc: Global, config: Config) -> Result<Writer<'static, 19, Attr
     Ok(kept.writer(token))
 }
 
-/// Attributes that have no document over a new memory with references of 22 and 10 bits, and its readers.
+/// Returns attributes without documents over a new memory with references of 22 and 10 bits, and its readers.
 fn narrow_open(
     alloc: Global,
     config: Config,
@@ -192,7 +192,8 @@ fn wide_open(
     })
 }
 
-/// A new memory of these sizes with attributes that have no document, and its readers; none where the sizes are out of bounds.
+/// Returns attributes without documents over a new memory of these sizes, and its readers. Returns `None` if the
+/// sizes are out of bounds.
 pub fn opened_in_bounds(
     alloc: Global,
     fields: Fields,

@@ -1,4 +1,4 @@
-//! Through the pointers of the handles.
+//! Access through the pointers of the handles.
 ghost use Rattle.std.specs.Prelude.{◌≡◌};
 ghost use Rattle.std.specs.Borrow.{sem};
 ghost use Rattle.attr_c.specs.HeldEngine.{held_engine_follows};

@@ -1,4 +1,4 @@
-//! What an image answers.
+//! The answers of an image.
 ghost use Rattle.std.specs.Prelude.{◌≡◌, ◌<◌, ◌≤◌, ◌^◌, Some, length, slice_get, slice_index, IfOk};
 ghost use Rattle.attr_images.specs.Images.{operations_at, root_words, table_of, IsLawfulImage};
 ghost use Rattle.attr_images.specs.Shapes.{shape_of, types_of};
@@ -19,7 +19,7 @@ use entry_ref::EntryRef;
 use query_eval::{hits, scores};
 use std::alloc::{AllocError, Global};
 
-/// How many operations an image has.
+/// Returns the number of operations of an image.
 pub fn operations_in<const OFFSET_BITS: u32, F: Frozen<OFFSET_BITS>>(
     frozen: &mut F,
     root: EntryRef<OFFSET_BITS>,
@@ -35,7 +35,7 @@ pub fn operations_in<const OFFSET_BITS: u32, F: Frozen<OFFSET_BITS>>(
     }
 }
 
-/// What an image answers to what is asked.
+/// Returns the answer of an image to an ask.
 pub fn answer_at<const OFFSET_BITS: u32, F: Frozen<OFFSET_BITS>>(
     alloc: Global,
     frozen: &mut F,
@@ -62,7 +62,7 @@ pub fn answer_at<const OFFSET_BITS: u32, F: Frozen<OFFSET_BITS>>(
     }
 }
 
-/// The root that word `i` of the root record names.
+/// Returns the root in word `i` of the root record.
 fn root_at<const OFFSET_BITS: u32, F: Frozen<OFFSET_BITS>>(
     frozen: &mut F,
     root: EntryRef<OFFSET_BITS>,
@@ -80,7 +80,7 @@ fn root_at<const OFFSET_BITS: u32, F: Frozen<OFFSET_BITS>>(
     }
 }
 
-/// The items of a document in the attribute of a number.
+/// Returns the items of a document in the attribute with a number.
 pub fn field_items<const OFFSET_BITS: u32, F: Frozen<OFFSET_BITS>>(
     alloc: Global,
     frozen: &mut F,
@@ -105,7 +105,7 @@ pub fn field_items<const OFFSET_BITS: u32, F: Frozen<OFFSET_BITS>>(
     }
 }
 
-/// The bytes of a save of the first attribute of an image.
+/// Returns the bytes of a save of the first attribute of an image.
 fn first_saved<const OFFSET_BITS: u32, F: Frozen<OFFSET_BITS>>(
     alloc: Global,
     frozen: &mut F,
@@ -128,7 +128,7 @@ fn first_saved<const OFFSET_BITS: u32, F: Frozen<OFFSET_BITS>>(
     saved_in(alloc, field.kind, field.value, operations, &documents)
 }
 
-/// The same, where there is one.
+/// Returns the bytes of a save of the first attribute of an image, or no bytes if there are no attributes.
 pub fn saved_at<const OFFSET_BITS: u32, F: Frozen<OFFSET_BITS>>(
     alloc: Global,
     frozen: &mut F,

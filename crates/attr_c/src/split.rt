@@ -10,7 +10,7 @@ fn newline_in(bytes: &[u8]) -> Option<usize>
     memchr(b'\n', bytes)
 }
 
-/// The first line, and what follows its line feed.
+/// Returns the first line, and what follows its line feed.
 pub fn split_line(bytes: &[u8]) -> (&[u8], &[u8])
     requires { 0 < length bytes.now }
     ensures lines { lines_of bytes.now ≡ result.0.now ∷ lines_of result.1.now }
@@ -25,7 +25,7 @@ pub fn split_line(bytes: &[u8]) -> (&[u8], &[u8])
     }
 }
 
-/// Whether a line has spaces, tabs and carriage returns alone.
+/// Returns whether a line has only spaces, tabs and carriage returns.
 pub fn is_blank_line(line: &[u8]) -> bool
     ensures { result ≡ is_blank line.now }
 {

@@ -12,13 +12,13 @@ use entry_store::EntryStore;
 use store_api::Store;
 use word_arena::{Reader, Writer};
 
-/// The store of attributes over running memory that is never given up, with references of 22 and 10 bits.
+/// The store of attributes over a running memory that is never freed, with references of 22 and 10 bits.
 pub type Narrow = EntryStore<22, Writer<'static, 22, AttrLayout>>;
 
 /// The same with references of 19 and 13 bits.
 pub type Wide = EntryStore<19, Writer<'static, 19, AttrLayout>>;
 
-/// A reader with the attributes that it is asked of.
+/// A reader with the attributes for its asks.
 #[derive(Drop)]
 pub struct Waiting<const OFFSET_BITS: u32> {
     pub fields: Fields,
@@ -34,7 +34,7 @@ pub struct Counts {
     pub skipped: u64,
     pub commit: u32,
     pub committed: u32,
-    /// The commit that was the last one when each hold became the newest.
+    /// The last commit at the time when each hold became the newest.
     pub since: [u32; 16],
     pub oldest: u32,
     pub is_held: u32,
@@ -42,7 +42,7 @@ pub struct Counts {
     pub held: u32,
 }
 
-/// The attributes, and the readers that are still to be given away.
+/// The attributes, and the readers that are still to be handed out.
 #[derive(Drop)]
 pub struct Open<const OFFSET_BITS: u32, S: Store<OFFSET_BITS, Layout = AttrLayout>> {
     pub fields: Fields,
@@ -52,7 +52,7 @@ pub struct Open<const OFFSET_BITS: u32, S: Store<OFFSET_BITS, Layout = AttrLayou
     ghost same: { attribute.fields ≡ fields },
 }
 
-/// By how many bits a reference tells the words of a buffer apart.
+/// The attributes, by the width of references.
 #[derive(Drop)]
 pub enum AnyOpen {
     Narrow(Open<22, Narrow>),

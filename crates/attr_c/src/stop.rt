@@ -18,16 +18,16 @@ pub enum Stop {
     Line(FeedError),
     /// An operation, a commit or a key is refused.
     Store(AttrError),
-    /// There can be no more operations.
+    /// No more operations are possible.
     Spent,
-    /// The bytes are no save.
+    /// The bytes are not a save.
     Save,
     /// A save is of another attribute.
     Other,
     Memory,
 }
 
-/// The code of a line's refusal.
+/// Returns the code of a line's refusal.
 fn line_code(error: FeedError) -> i32
     ensures { result ≢ pos 0 }
 {
@@ -44,7 +44,7 @@ fn line_code(error: FeedError) -> i32
     }
 }
 
-/// The commit that was the last one when a hold became the newest.
+/// Returns the last commit at the time when a hold became the newest.
 fn since(counts: &Counts, hold: u32) -> u32 {
     match counts.since.get(hold as usize) {
         Some(commit) => *commit,
@@ -52,13 +52,13 @@ fn since(counts: &Counts, hold: u32) -> u32 {
     }
 }
 
-/// Notes which commit the reader that holds most may hold.
+/// Notes the earliest commit on which the oldest reader may stand.
 pub fn note_oldest(counts: &mut Counts, oldest: Oldest) {
     counts.oldest = since(counts, oldest.hold);
     counts.is_held = if oldest.newest { 0 } else { 1 };
 }
 
-/// Notes which commit a hold was begun with.
+/// Notes the commit with which a hold began.
 pub fn note_advance(counts: &mut Counts, advance: Advance, commit: u32) {
     if let Advance::To { hold, .. } = advance
         && let Some(since) = counts.since.get_mut(hold as usize)
@@ -67,7 +67,7 @@ pub fn note_advance(counts: &mut Counts, advance: Advance, commit: u32) {
     }
 }
 
-/// The code of the store's refusal, of which more is told.
+/// Returns the code of the store's refusal, and writes its details.
 fn store_code(counts: &mut Counts, error: AttrError, told: &mut Told) -> i32
     ensures code { result ≢ pos 0 }
     ensures line { told.new.line ≡ told.old.line }
@@ -96,7 +96,7 @@ fn store_code(counts: &mut Counts, error: AttrError, told: &mut Told) -> i32
     }
 }
 
-/// The code of a stop, of which more is told.
+/// Returns the code of a stop, and writes its details.
 pub fn code_of(counts: &mut Counts, stop: Stop, told: &mut Told) -> i32
     ensures code { result ≢ pos 0 }
     ensures line { told.new.line ≡ told.old.line }

@@ -1,57 +1,57 @@
-//! What calls tell beside their codes.
+//! The results of calls beside their codes.
 
-/// How large a new engine is.
+/// The sizes of a new engine.
 #[repr(C)]
 #[derive(Clone, Copy, Drop)]
 pub struct Sizes {
-    /// How many buffers the words lie in.
+    /// The number of buffers.
     pub buffers: u32,
-    /// How many words a buffer has.
+    /// The number of words of a buffer.
     pub words: u32,
-    /// How many readers are made, 64 at most.
+    /// The number of readers, at most 64.
     pub readers: u32,
-    /// 1 for references of 19 and 13 bits in place of 22 and 10.
+    /// 1 for references of 19 and 13 bits instead of 22 and 10.
     pub wide: u32,
 }
 
-/// What the calls of the writer tell.
+/// The results of the writer's calls.
 #[repr(C)]
 #[derive(Clone, Copy, Drop)]
 pub struct Told {
-    /// The number of the line that is refused, from 1, where it begins, and where the next one does.
+    /// The number of the refused line, from 1, where it begins, and where the next line begins.
     pub line: u64,
     pub place: u64,
     pub next: u64,
-    /// How many operations the call applied, the skipped ones counted.
+    /// The number of operations that the call applied, including skipped ones.
     pub operations: u32,
-    /// How many of these changed nothing.
+    /// The number of these operations that changed nothing.
     pub skipped: u32,
     /// The number of the last commit.
     pub commit: u32,
-    /// A full store: for which width, and how many buffers are in use and wait for readers.
+    /// For a full store: the width, and how many buffers are in use and how many wait for readers.
     pub width: u32,
     pub active: u32,
     pub held: u32,
-    /// The commit since which the reader that holds most may stand, and whether there is such a reader.
+    /// The earliest commit on which the oldest reader may stand, and whether there is such a reader.
     pub oldest: u32,
     pub is_held: u32,
-    /// A step of a compaction: how many keys it visited, whether it emptied a buffer, and which.
+    /// For a step of a compaction: how many keys it visited, whether it emptied a buffer, and which.
     pub keys: u32,
     pub finished: u32,
     pub buffer: u32,
 }
 
-/// What the calls of a reader tell.
+/// The results of a reader's calls.
 #[repr(C)]
 #[derive(Clone, Copy, Drop)]
 pub struct Answered {
     /// The commit that answered.
     pub commit: u32,
-    /// How many operations it has.
+    /// The number of operations in the commit.
     pub operations: u32,
-    /// How many documents, items or bytes the answer has.
+    /// The number of documents, items or bytes of the answer.
     pub count: u64,
-    /// Where a text that asks for nothing breaks off.
+    /// The place from which on a text asks for nothing.
     pub place: u64,
 }
 
@@ -59,10 +59,10 @@ pub struct Answered {
 #[repr(C)]
 #[derive(Clone, Copy, Drop)]
 pub struct Scored {
-    /// The score, or the nearest number of 64 bits where it is larger.
+    /// The score, or the nearest number of 64 bits if it does not fit.
     pub score: i64,
     pub doc: u32,
-    /// 1 where the score is exact.
+    /// 1 if the score is exact.
     pub exact: u32,
 }
 
@@ -70,9 +70,9 @@ pub struct Scored {
 #[repr(C)]
 #[derive(Clone, Copy, Drop)]
 pub struct ItemTold {
-    /// The value, where it is a number.
+    /// The value, if it is a number.
     pub number: i64,
-    /// How many bytes the value has, where it is a text.
+    /// The number of bytes of the value, if it is a text.
     pub length: u64,
     pub weight: i32,
     pub is_text: u32,
@@ -82,22 +82,22 @@ pub struct ItemTold {
 #[repr(C)]
 #[derive(Clone, Copy, Drop)]
 pub struct CountsTold {
-    /// How many operations changed nothing.
+    /// The number of operations that changed nothing.
     pub skipped: u64,
-    /// How many were applied, these counted.
+    /// The number of operations that were applied, including these.
     pub operations: u32,
-    /// The last commit, and how many operations it has.
+    /// The last commit, and its number of operations.
     pub commit: u32,
     pub committed: u32,
-    /// The commit since which the reader that holds most may stand, and whether there is such a reader, as of the last commit
-    /// or refusal.
+    /// The earliest commit on which the oldest reader may stand, and whether there is such a reader, at the last
+    /// commit or refusal.
     pub oldest: u32,
     pub is_held: u32,
-    /// How many buffers were in use and waited for readers when the store was full last.
+    /// How many buffers were in use, and how many waited for readers, when the store was last full.
     pub active: u32,
     pub held: u32,
     pub buffers: u32,
     pub words: u32,
-    /// How many readers are still to be handed out.
+    /// The number of readers that are still to be handed out.
     pub readers: u32,
 }

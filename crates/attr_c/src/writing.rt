@@ -39,7 +39,7 @@ pub fn commit<const OFFSET_BITS: u32, S: Store<OFFSET_BITS, Layout = AttrLayout>
     }
 }
 
-/// Goes so many keys on in a compaction.
+/// Visits a number of compaction keys.
 pub fn compact<const OFFSET_BITS: u32, S: Store<OFFSET_BITS, Layout = AttrLayout>>(
     alloc: Global,
     open: &mut Open<OFFSET_BITS, S>,

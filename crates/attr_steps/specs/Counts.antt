@@ -26,12 +26,11 @@ items_if_there document field = unwrap_or (option_map (λ d. items_in d field) d
 abbrev pub weights_at : Option Document → ℕ → List (Value × ℤ)
 weights_at document field = first_weights [] (items_if_there document field)
 
--- the kind of the attribute of this number
+-- the kind of the attribute with this number
 abbrev pub kind_at : List Field → ℕ → Kind
 kind_at fields field = unwrap_or (option_map (λ f. f.kind) (slice_get fields field)) Single
 
--- what a document's change from one to another makes at most, nodes and of each width other records: the sum over the first so many
--- attributes
+-- bounds on what the change of a document makes: nodes, and other records by width; sums over the first attributes
 abbrev pub document_nodes : Option Document → Option Document → ℕ → ℕ
 document_nodes old new zero = 0
 document_nodes old new (suc field) = document_nodes old new field + field_nodes (weights_at old field) (weights_at new field)

@@ -1,4 +1,4 @@
--- How many records a compaction makes at most while it visits keys.
+-- Bounds on the records that a compaction makes while it visits keys.
 use Rattle.std.specs.Prelude.{◌≡◌, ℕ, ◌+◌, ◌*◌, ◌<◌, ◌≤◌, List, length}
 use Rattle.std.specs.List.{AllByRecursion}
 use Rattle.store_api.specs.Ledgers.{Ledger}
@@ -10,7 +10,7 @@ use Rattle.attr_types.specs.declared.kind.ValueType.TheVariants.{Long}
 use Rattle.compaction_moves.specs.Counts.{key_nodes, IsLowColumn}
 use Rattle.value_index.specs.Counts.{by_width, record_sum}
 
--- of each width at most so many entries were made, and at most so many buffers taken
+-- of each width at most this many entries were made, and at most this many buffers were taken
 pub record RisesBy {H : Type 0} (old new : Ledger H) (most : ℕ → ℕ) : Type 0 where
   pub made : (width : ℕ) → (new.of_width width).made ≤ (old.of_width width).made + most width
   pub buffers : (width : ℕ) → (new.of_width width).buffers ≤ (old.of_width width).buffers + most width
@@ -23,8 +23,9 @@ AreSingleLong fields = AllByRecursion (λ field. (field.kind ≡ Single) × (fie
 abbrev pub AreLow : ℕ → List Field → Table → Type 0
 AreLow levels fields table = (field : ℕ) → field < length fields → IsLowColumn levels (column_of field table)
 
--- with so many keys of attributes with this table: for each the nodes of its move, whatever the trees are and where none has more levels, and
--- one other record, of which single attributes of longs have none of more than 16 words
+-- bounds for this many keys of attributes with this table: for each key the nodes of its move, for any trees and for
+-- trees with a bounded number of levels, and one other record, which for attributes of kind single with long values
+-- has at most 16 words
 pub record MakesKeys {H : Type 0} (fields : List Field) (table : Table) (old new : Ledger H) (keys : ℕ) : Type 0 where
   pub records : ℕ → ℕ
   pub few : record_sum records ≤ keys

@@ -1,4 +1,4 @@
--- How many records the move of one key makes at most.
+-- Bounds on the records that the move of one key makes.
 use Rattle.std.specs.Prelude.{◌≡◌, ℕ, ◌+◌, ◌*◌, ◌^◌, ◌<◌, ◌≤◌, nat_eq, if◌then◌else◌, length}
 use Rattle.store_api.specs.Ledgers.{Ledger}
 use Rattle.attr_index.specs.Columns.{Column}
@@ -10,21 +10,22 @@ use Rattle.attr_types.specs.declared.kind.ValueType.TheVariants.{Long}
 use Rattle.posting_store.specs.Changes.{MakesWithin}
 use Rattle.value_index.specs.Counts.{by_width}
 
--- the nodes, where no tree has more levels: in two trees, of a list one of each level, and of the dictionary two of each and a root
+-- the nodes, if no tree has more levels: in two trees, one of each level in a list, and two of each level and a root
+-- in the dictionary
 abbrev pub key_nodes : ℕ → ℕ
 key_nodes levels = 3 * levels + 1
 
 abbrev pub one_record : ℕ → ℕ → ℕ
 one_record width w = if nat_eq w width then 1 else 0
 
--- no tree of an attribute with this column has more levels, since it has so few values, and so few documents
+-- no tree of an attribute with this column has more levels, by the number of its values and of its documents
 pub record IsLowColumn (levels : ℕ) (column : Column) : Type 0 where
   pub some : 0 < levels
   pub values : (index : Index) → IsIndexOf column index → length index < 2 * 8 ^ levels
   pub documents : length column < 2 * 8 ^ levels
 
--- nodes are made, and one record of some width: of a value, a short list or a document's items. For an attribute of kind single with long
--- values that width is 16 at most.
+-- nodes are made, and one record of some width: for a value, a short list or a document's items. For an attribute of
+-- kind single with long values that width is at most 16
 pub record MakesKey {H : Type 0} (kind : Kind) (type : ValueType) (column : Column) (old new : Ledger H) : Type 0 where
   pub width : ℕ
   pub narrow : kind ≡ Single → type ≡ Long → width ≤ 16

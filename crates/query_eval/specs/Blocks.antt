@@ -17,6 +17,6 @@ pub record IsDocumentBlock (m : Records) (p : ℕ × ℕ) : Type 0 where
 abbrev pub documents_of : Records → List (ℕ × ℕ) → List ℕ
 documents_of m blocks = flat_map (λ p. block_documents p.0 (m p.1)) blocks
 
--- a document of word `place` of a bit vector is that of its bit
+-- whether a document has its bit set in word `place` of a bit vector
 abbrev pub in_word : ℕ → ℕ → ℕ → Bool
 in_word place word doc = nat_eq (doc / 64) place && nat_eq (bit_at word (doc % 64)) 1

@@ -1,4 +1,4 @@
--- The lists of values, by the words that a dictionary keeps for them.
+-- The lists of values, by the words that a dictionary stores for them.
 use Rattle.std.specs.Prelude.{◌≡◌, ℕ, ◌≤◌, Bool, List, map, Some}
 use Rattle.std.specs.List.{list_all, list_any, AllByRecursion}
 use Rattle.std.specs.Map.{keys_of}
@@ -16,7 +16,7 @@ use Rattle.query_eval.specs.Weights.{IsListWord}
 abbrev pub list_has : Records → ℕ → ℕ → Bool
 list_has m list doc = has (keys_of (postings_at m (list_form list))) doc
 
--- all lists have it, or some
+-- all of the lists have it, or some of them do
 abbrev pub all_have : Records → List ℕ → ℕ → Bool
 all_have m lists doc = list_all (λ list. list_has m list doc) lists
 

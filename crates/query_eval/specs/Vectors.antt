@@ -1,4 +1,4 @@
--- A block of a bit vector that was read.
+-- A block of a bit vector in memory.
 use Rattle.std.specs.Prelude.{◌≡◌, ℕ, ◌<◌, ◌+◌, ◌*◌}
 use Rattle.entry_ref.specs.Records.{Records}
 use Rattle.attr_index.specs.Sets.{in_words}

@@ -9,7 +9,7 @@ use attr_images::BLOCK_WORDS;
 use attr_types::Doc;
 use std::alloc::AllocError;
 
-/// Whether bit `i` of some words is set.
+/// Returns whether bit `i` of these words is set.
 pub fn has_bit(words: &[u64], i: u32) -> bool
     requires { i / 64 < length words.now }
     ensures { result ≡ in_words words.now i }

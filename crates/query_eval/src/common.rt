@@ -1,4 +1,4 @@
-//! An And of values, by their lists.
+//! An `And` of values, by their lists.
 ghost use Rattle.std.specs.Prelude.{◌≡◌, ◌<◌, ◌&&◌, ℕ, length, IfOk, IfSome};
 ghost use Rattle.std.specs.Map.{keys_of};
 ghost use Rattle.attr_images.specs.Postings.{list_form, postings_at, tree, IsPostingList};
@@ -123,7 +123,7 @@ fn common_of_lists<const OFFSET_BITS: u32, F: Frozen<OFFSET_BITS>>(
     }
 }
 
-/// The documents that all of some lists have, if all are bit vectors.
+/// Returns the documents that are in all of the lists, if all are bit vectors.
 fn common_of_all<const OFFSET_BITS: u32, F: Frozen<OFFSET_BITS>>(
     alloc: Global,
     frozen: &mut F,
@@ -141,7 +141,7 @@ fn common_of_all<const OFFSET_BITS: u32, F: Frozen<OFFSET_BITS>>(
     Ok(Some(common))
 }
 
-/// The documents that several members match which are one value each, if the lists of all are bit vectors.
+/// Returns the documents that several members match, if each is one value and all of their lists are bit vectors.
 fn common_of_many<const OFFSET_BITS: u32, F: Frozen<OFFSET_BITS>>(
     alloc: Global,
     frozen: &mut F,
@@ -200,8 +200,8 @@ fn common_of_two<const OFFSET_BITS: u32, F: Frozen<OFFSET_BITS>>(
     Ok(Some(common))
 }
 
-/// The documents that members match which are one value each. None where there are others, or where there are more than
-/// two and not all lists are bit vectors.
+/// Returns the documents that all members match, if each is one value. Returns `None` if there are other members, or
+/// if there are more than two and not all of their lists are bit vectors.
 pub fn common_of_values<const OFFSET_BITS: u32, F: Frozen<OFFSET_BITS>>(
     alloc: Global,
     frozen: &mut F,

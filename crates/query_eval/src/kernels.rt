@@ -1,4 +1,4 @@
-//! And and Or of words, many at once.
+//! `And` and `Or` of words, several at once.
 ghost use Rattle.std.specs.Prelude.{◌≡◌, ◌+◌, ◌≤◌, length, bit_and};
 ghost use Rattle.std.specs.Int.RustNames.{bit_or};
 ghost use Rattle.std.specs.Simd.Lanes.{chunk, put_chunk, zip2};
@@ -6,7 +6,7 @@ ghost use Rattle.query_eval.specs.Kernels.{joined_from};
 
 use std::simd::prelude::*;
 
-/// How many words are joined at once.
+/// The number of words that are combined at once.
 const LANES: usize = 8;
 
 fn and_lanes(into: &mut [u64], other: &[u64], at: usize)
@@ -18,7 +18,7 @@ fn and_lanes(into: &mut [u64], other: &[u64], at: usize)
     both.copy_to_slice(&mut into[at..]);
 }
 
-/// Joins words while there are enough for the lanes, and tells how many it joined.
+/// Combines words as long as there are enough for the lanes. Returns how many it combined.
 fn and_most(into: &mut [u64], other: &[u64]) -> usize
     requires { length into.old ≡ length other.now }
     ensures size { length into.new ≡ length into.old }
@@ -33,7 +33,7 @@ fn and_most(into: &mut [u64], other: &[u64]) -> usize
     at
 }
 
-/// Joins the words from a place on.
+/// Combines the words from a place on.
 fn and_rest(into: &mut [u64], other: &[u64], from: usize)
     requires size { length into.old ≡ length other.now }
     requires within { from ≤ length into.old }
@@ -44,7 +44,7 @@ fn and_rest(into: &mut [u64], other: &[u64], from: usize)
     }
 }
 
-/// Keeps the bits that other words have too.
+/// Keeps the bits that the other words have too.
 pub fn block_and(into: &mut [u64], other: &[u64])
     requires { length into.old ≡ length other.now }
     ensures { into.new ≡ zip2 bit_and into.old other.now }
@@ -62,7 +62,7 @@ fn or_lanes(into: &mut [u64], other: &[u64], at: usize)
     both.copy_to_slice(&mut into[at..]);
 }
 
-/// Joins words while there are enough for the lanes, and tells how many it joined.
+/// Combines words as long as there are enough for the lanes. Returns how many it combined.
 fn or_most(into: &mut [u64], other: &[u64]) -> usize
     requires { length into.old ≡ length other.now }
     ensures size { length into.new ≡ length into.old }
@@ -77,7 +77,7 @@ fn or_most(into: &mut [u64], other: &[u64]) -> usize
     at
 }
 
-/// Joins the words from a place on.
+/// Combines the words from a place on.
 fn or_rest(into: &mut [u64], other: &[u64], from: usize)
     requires size { length into.old ≡ length other.now }
     requires within { from ≤ length into.old }
@@ -88,7 +88,7 @@ fn or_rest(into: &mut [u64], other: &[u64], from: usize)
     }
 }
 
-/// Adds the bits that other words have.
+/// Adds the bits of the other words.
 pub fn block_or(into: &mut [u64], other: &[u64])
     requires { length into.old ≡ length other.now }
     ensures { into.new ≡ zip2 bit_or into.old other.now }

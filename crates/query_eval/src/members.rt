@@ -24,7 +24,7 @@ use attr_index::Gathered;
 use attr_types::{Leaf, Query};
 use std::alloc::{AllocError, Global};
 
-/// The word of the list of a leaf that is one value.
+/// Returns the word of the list of a leaf that is one value.
 fn word_of_leaf<const OFFSET_BITS: u32, F: Frozen<OFFSET_BITS>>(
     frozen: &mut F,
     dictionary: Dictionary<OFFSET_BITS>,
@@ -42,7 +42,7 @@ fn word_of_leaf<const OFFSET_BITS: u32, F: Frozen<OFFSET_BITS>>(
     }
 }
 
-/// The word of the list of a leaf in an attribute that is one value.
+/// Returns the word of the list of a leaf that is one value, in an attribute.
 fn word_of_one<const OFFSET_BITS: u32, F: Frozen<OFFSET_BITS>>(
     frozen: &mut F,
     dictionaries: &[Dictionary<OFFSET_BITS>],
@@ -61,7 +61,7 @@ fn word_of_one<const OFFSET_BITS: u32, F: Frozen<OFFSET_BITS>>(
     }
 }
 
-/// The word of the list of a member that is one value.
+/// Returns the word of the list of a member that is one value.
 pub fn word_of_member<const OFFSET_BITS: u32, F: Frozen<OFFSET_BITS>>(
     frozen: &mut F,
     dictionaries: &[Dictionary<OFFSET_BITS>],
@@ -79,7 +79,7 @@ pub fn word_of_member<const OFFSET_BITS: u32, F: Frozen<OFFSET_BITS>>(
     }
 }
 
-/// Whether a query asks for one value.
+/// Returns whether a query is one value.
 fn is_value(query: &Query) -> bool {
     match query {
         Query::One { field: _, leaf } => match leaf {
@@ -99,7 +99,8 @@ fn are_values(queries: &[Query]) -> bool {
     true
 }
 
-/// The words of the lists of members that are one value each. None where there are others, or where a word is below `least`.
+/// Returns the words of the lists of members that are one value each. Returns `None` if there are other members, or
+/// if a word is below `least`.
 pub fn lists_of<const OFFSET_BITS: u32, F: Frozen<OFFSET_BITS>>(
     alloc: Global,
     frozen: &mut F,
@@ -128,7 +129,7 @@ pub fn lists_of<const OFFSET_BITS: u32, F: Frozen<OFFSET_BITS>>(
     Ok(Some(lists))
 }
 
-/// Whether all lists are bit vectors.
+/// Returns whether all lists are bit vectors.
 pub fn are_vectors(lists: &[u64]) -> bool
     ensures { result ≡ true → AllByRecursion (λ list. FIRST_VECTOR ≤ list) lists.now }
 {
@@ -140,7 +141,7 @@ pub fn are_vectors(lists: &[u64]) -> bool
     true
 }
 
-/// The documents with those of each of some lists.
+/// Adds the documents of each list to those gathered.
 fn gather_each<const OFFSET_BITS: u32, F: Frozen<OFFSET_BITS>>(
     alloc: Global,
     frozen: &mut F,
@@ -159,7 +160,7 @@ fn gather_each<const OFFSET_BITS: u32, F: Frozen<OFFSET_BITS>>(
     Ok(all)
 }
 
-/// The documents with those of some lists. Bit vectors are joined block by block.
+/// Adds the documents of the lists to those gathered. Bit vectors are combined block by block.
 pub fn gather_lists<const OFFSET_BITS: u32, F: Frozen<OFFSET_BITS>>(
     alloc: Global,
     frozen: &mut F,

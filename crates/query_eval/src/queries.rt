@@ -151,7 +151,8 @@ fn gather<const OFFSET_BITS: u32, F: Frozen<OFFSET_BITS>>(
     }
 }
 
-/// The documents with those that some member matches. Values are looked up, and then their lists are read.
+/// Adds the documents that some member matches to those gathered. Values are looked up first, and then their lists
+/// are read.
 #[cycle(gathering)]
 fn gather_some<const OFFSET_BITS: u32, F: Frozen<OFFSET_BITS>>(
     alloc: Global,
@@ -172,7 +173,7 @@ fn gather_some<const OFFSET_BITS: u32, F: Frozen<OFFSET_BITS>>(
     }
 }
 
-/// The documents with those that some member matches, member by member.
+/// Adds the documents that some member matches to those gathered, member by member.
 #[cycle(gathering)]
 fn gather_each<const OFFSET_BITS: u32, F: Frozen<OFFSET_BITS>>(
     alloc: Global,
@@ -242,7 +243,8 @@ fn kept<const OFFSET_BITS: u32, F: Frozen<OFFSET_BITS>>(
     }
 }
 
-/// The documents with those that all members match. Those that are one value each may be answered by their lists.
+/// Adds the documents that all members match to those gathered. Members that are one value each may be answered from
+/// their lists.
 #[cycle(gathering)]
 fn gather_and<const OFFSET_BITS: u32, F: Frozen<OFFSET_BITS>>(
     alloc: Global,

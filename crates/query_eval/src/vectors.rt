@@ -19,10 +19,10 @@ use entry_ref::EntryRef;
 use frozen_btree::{Cursor, NumberKey, find};
 use std::alloc::{AllocError, Global};
 
-/// How many blocks have a bit for each document.
+/// The number of blocks with one bit for each document.
 const BLOCKS: u32 = 256;
 
-/// The words of a record of a block.
+/// Returns the words of a block's record.
 fn read_block<const OFFSET_BITS: u32, F: Frozen<OFFSET_BITS>>(
     frozen: &mut F,
     stored: u64,
@@ -36,7 +36,7 @@ fn read_block<const OFFSET_BITS: u32, F: Frozen<OFFSET_BITS>>(
     words
 }
 
-/// The root of a bit vector.
+/// Returns the root of a bit vector.
 fn root_of<const OFFSET_BITS: u32, F: Frozen<OFFSET_BITS>>(
     frozen: &mut F,
     list: u64,
@@ -48,14 +48,14 @@ fn root_of<const OFFSET_BITS: u32, F: Frozen<OFFSET_BITS>>(
     EntryRef::from_raw((list - FIRST_VECTOR) as u32)
 }
 
-/// The words of a block without documents.
+/// Returns the words of a block without documents.
 fn no_block() -> [u64; BLOCK_WORDS]
     ensures { (i : ℕ) → in_words result i ≡ false }
 {
     [0; BLOCK_WORDS]
 }
 
-/// The words of a block of a bit vector, zeros where it has no such block.
+/// Returns the words of a block of a bit vector, which are zeros if it lacks the block.
 fn block_of<const OFFSET_BITS: u32, F: Frozen<OFFSET_BITS>>(
     frozen: &mut F,
     list: u64,
@@ -72,7 +72,7 @@ fn block_of<const OFFSET_BITS: u32, F: Frozen<OFFSET_BITS>>(
     }
 }
 
-/// Keeps the bits of a block that all of some bit vectors have.
+/// Keeps the bits of a block that all of the bit vectors have.
 fn keep_in_all<const OFFSET_BITS: u32, F: Frozen<OFFSET_BITS>>(
     frozen: &mut F,
     lists: &[u64],
@@ -92,7 +92,7 @@ fn keep_in_all<const OFFSET_BITS: u32, F: Frozen<OFFSET_BITS>>(
     }
 }
 
-/// Adds the documents of a block that all of some bit vectors have.
+/// Adds the documents of a block that are in all of the bit vectors.
 fn push_common<const OFFSET_BITS: u32, F: Frozen<OFFSET_BITS>>(
     frozen: &mut F,
     block: u64,
@@ -111,7 +111,7 @@ fn push_common<const OFFSET_BITS: u32, F: Frozen<OFFSET_BITS>>(
     push_block(docs, block as u32, &words)
 }
 
-/// Adds the documents of the blocks from a place on that all of some bit vectors have.
+/// Adds the documents of the blocks from a place on that are in all of the bit vectors.
 fn push_rest<const OFFSET_BITS: u32, F: Frozen<OFFSET_BITS>>(
     frozen: &mut F,
     cursor: &mut Cursor<OFFSET_BITS>,
@@ -133,7 +133,7 @@ fn push_rest<const OFFSET_BITS: u32, F: Frozen<OFFSET_BITS>>(
     Ok(())
 }
 
-/// The documents of a bit vector that all others have.
+/// Returns the documents of a bit vector that are in all of the others.
 pub fn common_of_vectors<const OFFSET_BITS: u32, F: Frozen<OFFSET_BITS>>(
     alloc: Global,
     frozen: &mut F,
@@ -153,7 +153,7 @@ pub fn common_of_vectors<const OFFSET_BITS: u32, F: Frozen<OFFSET_BITS>>(
     Ok(DocList::from_vec(docs))
 }
 
-/// Adds the bits of a block that some bit vectors have.
+/// Adds the bits of a block that some of the bit vectors have.
 fn add_of_all<const OFFSET_BITS: u32, F: Frozen<OFFSET_BITS>>(
     frozen: &mut F,
     lists: &[u64],
@@ -173,7 +173,7 @@ fn add_of_all<const OFFSET_BITS: u32, F: Frozen<OFFSET_BITS>>(
     }
 }
 
-/// Adds the documents of a block that some bit vector has.
+/// Adds the documents of a block that are in some of the bit vectors.
 fn push_union<const OFFSET_BITS: u32, F: Frozen<OFFSET_BITS>>(
     frozen: &mut F,
     block: u32,
@@ -191,7 +191,7 @@ fn push_union<const OFFSET_BITS: u32, F: Frozen<OFFSET_BITS>>(
     push_block(docs, block, &words)
 }
 
-/// The documents that some bit vector has.
+/// Returns the documents that are in some of the bit vectors.
 pub fn union_of_vectors<const OFFSET_BITS: u32, F: Frozen<OFFSET_BITS>>(
     alloc: Global,
     frozen: &mut F,
@@ -215,7 +215,7 @@ struct Block {
     words: [u64; BLOCK_WORDS],
 }
 
-/// Whether a bit vector has a document. The block that was read last is in hand.
+/// Returns whether a bit vector has a document. The block that was read last is kept in memory.
 fn is_in_vector<const OFFSET_BITS: u32, F: Frozen<OFFSET_BITS>>(
     frozen: &mut F,
     list: u64,
@@ -239,7 +239,7 @@ fn is_in_vector<const OFFSET_BITS: u32, F: Frozen<OFFSET_BITS>>(
     has_bit(&hand.words, place % 4096)
 }
 
-/// Those of some documents that a bit vector has, asked document by document.
+/// Returns the documents of `docs` that a bit vector has, tested one by one.
 pub fn kept_in_vector<const OFFSET_BITS: u32, F: Frozen<OFFSET_BITS>>(
     alloc: Global,
     frozen: &mut F,
@@ -263,7 +263,7 @@ pub fn kept_in_vector<const OFFSET_BITS: u32, F: Frozen<OFFSET_BITS>>(
     Ok(kept)
 }
 
-/// The documents with those of a list that is a bit vector.
+/// Adds the documents of a list that is a bit vector to those gathered.
 pub fn gather_vector<const OFFSET_BITS: u32, F: Frozen<OFFSET_BITS>>(
     alloc: Global,
     frozen: &mut F,

@@ -18,8 +18,9 @@ use std::alloc::{AllocError, Global};
 /// The root record of each image.
 const ROOT: u32 = 1027;
 
-/// An image of arrays of longs. The lists of 5 and 6 are bit vectors of two blocks, and that of 7 is a record:
-/// documents 7 to 17, 5000 and 5001 have 5 and 6, but 13 has 5 alone and 14 has 6 alone; 8 and 5001 have 7 too.
+/// Returns an image of arrays of longs. The lists of 5 and 6 are bit vectors of two blocks, and that of 7 is a
+/// record. Documents 7 to 17, 5000 and 5001 have 5 and 6, except that 13 has only 5 and 14 has only 6. Documents 8
+/// and 5001 also have 7.
 fn image(alloc: Global) -> Result<Map, AllocError> {
     let documents = node(
         13,
@@ -87,7 +88,7 @@ fn hits_of(
     Ok(said)
 }
 
-/// Whether a query has these hits.
+/// Returns whether a query has these hits.
 fn has_hits(
     alloc: Global,
     held: &mut Held,
@@ -109,7 +110,7 @@ fn has_hits(
     }
 }
 
-/// The first query whose hits are others than those beside it.
+/// Returns the first query whose hits differ from the expected ones.
 fn first_wrong<'a>(
     alloc: Global,
     held: &mut Held,
@@ -128,7 +129,7 @@ fn first_wrong<'a>(
     Ok(None)
 }
 
-/// The first wrong query of an image, if the image is lawful.
+/// Returns the first wrong query of an image, if the image is lawful.
 fn wrong_in(alloc: Global, records: Map, rows: &[(&str, &str)]) -> Result<String, AllocError> {
     let fields = one_field(alloc, Kind::Array, ValueType::Long)?;
     let shape = shape_of(&fields);

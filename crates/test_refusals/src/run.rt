@@ -7,11 +7,11 @@ ghost use Rattle.attr_types.specs.declared.field.TheConstants.{MOST_FIELDS};
 
 use crate::again::{Refused, apply, commit, read};
 use crate::asking::tell_queries;
-use crate::saves::{push_bytes, saved, tell_saved, tell_writes};
+use crate::saves::{first_law, push_bytes, saved, tell_saved, tell_writes};
 use crate::script::Script;
 use crate::told::push_answer;
 use arena_api::{Frozen, Work};
-use attr_images::{AttrLayout, shape_law, shape_of};
+use attr_images::{AttrLayout, shape_of};
 use attr_types::{Fields, Op};
 use attribute_kinds::{Attribute, Published, committed_work};
 use entry_ref::EntryRef;
@@ -93,9 +93,9 @@ fn tell_save<const OFFSET_BITS: u32, F: Frozen<OFFSET_BITS>>(
     requires image { IsLawfulImage (F.shape frozen.old) (F.records frozen.old) root }
     ensures same { frozen.new ≡ frozen.old }
 {
-    shape_law();
     match fields.as_slice() {
         [field, ..] => {
+            first_law(fields, field);
             let (kind, value) = (field.kind, field.value);
             let sink = saved(alloc, frozen, root, kind, value)?;
             let bytes = sink.taken();

@@ -1,6 +1,8 @@
 //! The save of an image: its bytes, read again, and written over sinks that fail.
-ghost use Rattle.std.specs.Prelude.{◌≡◌};
+ghost use Rattle.std.specs.Prelude.{◌≡◌, ◌≤◌, length, slice_get, Some};
 ghost use Rattle.attr_images.specs.Images.{IsLawfulImage};
+ghost use Rattle.attr_images.specs.Shapes.{shape_of, types_of};
+ghost use Rattle.attr_types.specs.declared.field.TheConstants.{MOST_FIELDS};
 ghost use Rattle.attr_saver.specs.Images.{IsFirst};
 
 use crate::again::{Refused, load};
@@ -8,9 +10,16 @@ use crate::told::push_items;
 use arena_api::Frozen;
 use attr_io::{FakeSink, VecSink};
 use attr_saver::{SaveError, Saved, save, saved_size};
-use attr_types::{Kind, ValueType};
+use attr_types::{Field, Fields, Kind, ValueType};
 use entry_ref::EntryRef;
 use std::alloc::{AllocError, Global};
+
+/// Images of these attributes have the first of them first. It does nothing: its contract is the law.
+pub fn first_law(_fields: &Fields, _field: &Field)
+    requires few { length _fields.now ≤ MOST_FIELDS }
+    requires first { slice_get _fields.now 0 ≡ Some _field.now }
+    ensures { IsFirst _field.now.kind _field.now.value (shape_of (types_of _fields.now)) }
+{}
 
 /// Returns the bytes of a save. It needs memory only for them.
 pub fn saved<const OFFSET_BITS: u32, F: Frozen<OFFSET_BITS>>(
