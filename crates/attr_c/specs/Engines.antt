@@ -28,6 +28,14 @@ abbrev pub open_committed_operations : AnyOpen → ℕ
 open_committed_operations (Narrow o) = o.attribute.committed_operations
 open_committed_operations (Wide o) = o.attribute.committed_operations
 
+-- a call that leaves the attributes, what was fed and what was committed as they were
+pub record KeepsTables (old new : AnyOpen) : Type 0 where
+  pub fields : open_fields new ≡ open_fields old
+  pub table : open_table new ≡ open_table old
+  pub operations : open_operations new ≡ open_operations old
+  pub committed : open_committed new ≡ open_committed old
+  pub published : open_committed_operations new ≡ open_committed_operations old
+
 abbrev pub fields_of : Engine → List Field
 fields_of e = open_fields e.open
 

@@ -1,11 +1,12 @@
-//! The answer that a reader keeps until its next ask.
-ghost use Rattle.std.specs.Prelude.{◌≡◌, min, length, take};
+//! The answer that a reader keeps until it is asked again.
+ghost use Rattle.std.specs.Prelude.{◌≡◌, map};
+ghost use Rattle.attr_c.specs.Copies.{documents_of, Copies};
 
 use crate::told::Scored;
 use attr_types::{Doc, DocList, Score, ScoreList};
 use std::alloc::Global;
 
-/// Documents, ascending; for a dot product each with its score.
+/// Documents, ascending; with a dot product each has its score.
 #[derive(Drop)]
 pub enum Answer {
     Hits(DocList),
@@ -31,8 +32,7 @@ impl Answer {
 }
 
 fn copy_docs(docs: &[Doc], into: &mut [u32]) -> usize
-    ensures count { result ≡ min (length into.old) (length docs.now) }
-    ensures front { take result into.new ≡ take result docs.now }
+    ensures { Copies docs.now 0 into.old into.new result }
 {
     let count = into.len().min(docs.len());
     for i in 0..count {
@@ -41,7 +41,9 @@ fn copy_docs(docs: &[Doc], into: &mut [u32]) -> usize
     count
 }
 
-fn copy_scored_docs(scores: &[Score], into: &mut [u32]) -> usize {
+fn copy_scored_docs(scores: &[Score], into: &mut [u32]) -> usize
+    ensures { Copies (map (λ s. s.doc) scores.now) 0 into.old into.new result }
+{
     let count = into.len().min(scores.len());
     for i in 0..count {
         into[i] = scores[i].doc.number();
@@ -49,8 +51,10 @@ fn copy_scored_docs(scores: &[Score], into: &mut [u32]) -> usize {
     count
 }
 
-/// Copies the numbers of documents from index `first` on, and returns how many.
-pub fn copy_hits(answer: &Answer, first: usize, into: &mut [u32]) -> usize {
+/// Copies the numbers of documents from the one at this place on, and says how many.
+pub fn copy_hits(answer: &Answer, first: usize, into: &mut [u32]) -> usize
+    ensures { Copies (documents_of answer.now) first into.old into.new result }
+{
     match answer {
         Answer::Hits(docs) => {
             let docs = docs.as_slice();
@@ -87,7 +91,7 @@ fn copy_scored(scores: &[Score], into: &mut [Scored]) -> usize {
     count
 }
 
-/// Copies documents with their scores from index `first` on, and returns how many.
+/// Copies documents with their scores from the one at this place on, and says how many.
 pub fn copy_scores(answer: &Answer, first: usize, into: &mut [Scored]) -> usize {
     match answer {
         Answer::Hits(_) => 0,
