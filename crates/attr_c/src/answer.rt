@@ -1,6 +1,7 @@
 //! The answer that a reader keeps until it is asked again.
 ghost use Rattle.std.specs.Prelude.{◌≡◌, map};
-ghost use Rattle.attr_c.specs.Copies.{documents_of, Copies};
+ghost use Rattle.attr_types.specs.Change.{if_signed};
+ghost use Rattle.attr_c.specs.Copies.{documents_of, nearest_end, score_told, scores_told, Copies};
 
 use crate::told::Scored;
 use attr_types::{Doc, DocList, Score, ScoreList};
@@ -67,32 +68,51 @@ pub fn copy_hits(answer: &Answer, first: usize, into: &mut [u32]) -> usize
     }
 }
 
-fn scored(score: &Score) -> Scored {
+fn long_of(score: i128) -> Option<i64>
+    ensures { result ≡ if_signed 63 score }
+{
+    i64::try_from(score).ok()
+}
+
+/// Returns the end of the 64-bit numbers that is nearest to a score outside them.
+fn nearest_end(score: i128) -> i64
+    ensures { result ≡ nearest_end score }
+{
+    if score < 0 { i64::MIN } else { i64::MAX }
+}
+
+fn told_score(score: &Score) -> Scored
+    ensures { result ≡ score_told score.now }
+{
     let doc = score.doc.number();
-    match i64::try_from(score.score) {
-        Ok(score) => Scored {
-            score,
+    match long_of(score.score) {
+        Some(number) => Scored {
+            score: number,
             doc,
             exact: 1,
         },
-        Err(_) => Scored {
-            score: if score.score < 0 { i64::MIN } else { i64::MAX },
+        None => Scored {
+            score: nearest_end(score.score),
             doc,
             exact: 0,
         },
     }
 }
 
-fn copy_scored(scores: &[Score], into: &mut [Scored]) -> usize {
+fn copy_scored(scores: &[Score], into: &mut [Scored]) -> usize
+    ensures { Copies (map score_told scores.now) 0 into.old into.new result }
+{
     let count = into.len().min(scores.len());
     for i in 0..count {
-        into[i] = scored(&scores[i]);
+        into[i] = told_score(&scores[i]);
     }
     count
 }
 
 /// Copies documents with their scores from the one at this place on, and says how many.
-pub fn copy_scores(answer: &Answer, first: usize, into: &mut [Scored]) -> usize {
+pub fn copy_scores(answer: &Answer, first: usize, into: &mut [Scored]) -> usize
+    ensures { Copies (scores_told answer.now) first into.old into.new result }
+{
     match answer {
         Answer::Hits(_) => 0,
         Answer::Scores(scores) => {

@@ -1,14 +1,24 @@
 //! What C calls to open, to close, and to hand readers out.
-ghost use Rattle.attr_c.specs.Engines.{KeepsTables};
+ghost use Rattle.std.specs.Prelude.{◌≡◌, IfOk};
+ghost use Rattle.attr_c.specs.Engines.{IsNewEngine, KeepsTables};
 
 use crate::attributes::fields_in;
 use crate::codes::{BOUNDS, LOST, MEMORY, NO_READER, NO_TEXT, OK};
 use crate::handles::{HeldEngine, HeldSeat};
 use crate::opening::{may_cross, opened_in_bounds};
-use crate::seat::{Seat, reader_of};
+use crate::seat::{Place, Seat, reader_of};
 use crate::state::{AnyOpen, AnyReader, Engine};
 use crate::told::Sizes;
 use std::alloc::Global;
+
+fn engine_of(alloc: Global, open: AnyOpen) -> Result<Box<Engine>, i32>
+    ensures { IfOk result (λ engine. engine.value.open ≡ open) }
+{
+    match Box::new(alloc, Engine { open }) {
+        Ok(engine) => Ok(engine),
+        Err(_) => Err(MEMORY),
+    }
+}
 
 /// An engine over a new memory, which has no document; or the code of a refusal.
 fn new_engine(
@@ -16,7 +26,9 @@ fn new_engine(
     text: &str,
     sizes: &Sizes,
     place: &mut u64,
-) -> Result<Box<Engine>, i32> {
+) -> Result<Box<Engine>, i32>
+    ensures { IfOk result (λ engine. IsNewEngine engine.value) }
+{
     let fields = match fields_in(alloc, text) {
         Ok(fields) => fields,
         Err(error) => {
@@ -29,10 +41,7 @@ fn new_engine(
         Ok(None) => return Err(BOUNDS),
         Err(_) => return Err(MEMORY),
     };
-    match Box::new(alloc, Engine { open }) {
-        Ok(engine) => Ok(engine),
-        Err(_) => Err(MEMORY),
-    }
+    engine_of(alloc, open)
 }
 
 /// Opens an engine of the attributes that a text names.
@@ -101,17 +110,16 @@ fn put_back(open: &mut AnyOpen, reader: AnyReader) -> i32
 pub extern "C" fn attr_reader_open(alloc: Global, at: &mut HeldEngine, out: &mut *mut u8) -> i32
     ensures { KeepsTables at.old.value.open at.new.value.open }
 {
+    let Ok(mut seat) = Box::new(alloc, may_cross(Seat::new(alloc))) else {
+        return MEMORY;
+    };
     let engine = at.get_mut();
     let Some(reader) = next_reader(&mut engine.open) else {
         return NO_READER;
     };
-    match Box::new(alloc, may_cross(Seat::new(alloc, reader))) {
-        Ok(seat) => {
-            *out = Box::into_raw(seat).cast::<u8>();
-            OK
-        }
-        Err(_) => MEMORY,
-    }
+    seat.place = Some(Place::Free(reader));
+    *out = Box::into_raw(seat).cast::<u8>();
+    OK
 }
 
 /// The reader of a handle, without a guard.

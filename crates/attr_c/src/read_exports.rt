@@ -1,6 +1,6 @@
 //! What C calls with a reader's handle.
 ghost use Rattle.std.specs.Prelude.{◌≡◌, ◌≢◌, pos, Some, None, option_map, slice_get, IfOk};
-ghost use Rattle.attr_c.specs.Copies.{documents_of, item_told, text_in, Copies};
+ghost use Rattle.attr_c.specs.Copies.{documents_of, item_told, scores_told, text_in, Copies};
 ghost use Rattle.attr_c.specs.Seats.{AnswersText, ByGuardOf, CountsText, HoldsGuard, ReadsItems, ReleasesGuard, SavesTable};
 
 use crate::answer::{Answer, copy_hits, copy_scores};
@@ -130,7 +130,10 @@ pub extern "C" fn attr_hits(at: &mut HeldSeat, first: usize, into: &mut [u32]) -
 
 /// The same with their scores. The answer to a query has none.
 #[unsafe(no_mangle)]
-pub extern "C" fn attr_scores(at: &mut HeldSeat, first: usize, into: &mut [Scored]) -> usize {
+pub extern "C" fn attr_scores(at: &mut HeldSeat, first: usize, into: &mut [Scored]) -> usize
+    ensures copies { Copies (scores_told at.old.value.answer) first into.old into.new result }
+    ensures same { at.new.value ≡ at.old.value }
+{
     copy_scores(&at.get_mut().answer, first, into)
 }
 

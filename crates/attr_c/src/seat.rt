@@ -25,7 +25,7 @@ pub enum Place {
 /// A reader, and the answers that it keeps.
 #[derive(Drop)]
 pub struct Seat {
-    /// None only where a call is under way.
+    /// None only while a call runs.
     pub place: Option<Place>,
     pub answer: Answer,
     pub items: Items,
@@ -33,9 +33,10 @@ pub struct Seat {
 }
 
 impl Seat {
-    pub fn new(alloc: Global, reader: AnyReader) -> Seat {
+    /// Returns a seat without a reader.
+    pub fn new(alloc: Global) -> Seat {
         Seat {
-            place: Some(Place::Free(reader)),
+            place: None,
             answer: Answer::new(alloc),
             items: Items::new(alloc),
             saved: Vec::new(alloc),
