@@ -11,10 +11,10 @@ use crate::state::{AnyOpen, AnyReader, Engine};
 use crate::told::Sizes;
 use std::alloc::Global;
 
-fn engine_of(alloc: Global, open: AnyOpen) -> Result<Box<Engine>, i32>
-    ensures { IfOk result (λ engine. engine.value.open ≡ open) }
+fn engine_of(alloc: Global, opened: AnyOpen) -> Result<Box<Engine>, i32>
+    ensures { IfOk result (λ engine. engine.value.open ≡ opened) }
 {
-    match Box::new(alloc, Engine { open }) {
+    match Box::new(alloc, Engine { open: opened }) {
         Ok(engine) => Ok(engine),
         Err(_) => Err(MEMORY),
     }
