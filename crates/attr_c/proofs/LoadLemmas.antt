@@ -1,5 +1,6 @@
 -- Documents of a save, put in one after another.
 use Rattle.std.proofs.Common.{◌≡◌, ℕ, ◌+◌, List, [], ◌∷◌, ◌++◌, length, map, take, Result, Ok, Err, refl, sym, ◌∙◌, ap, subst, arith, length-append}
+use Rattle.std.specs.Prelude.{OnErr}
 use Rattle.attr_saver.specs.Fields.{read_of}
 use Rattle.attr_saver.specs.declared.saved.Saved.{Saved}
 use Rattle.attr_saver.specs.declared.saved.SavedDocument.{SavedDocument}
@@ -52,3 +53,8 @@ module _ (fields : List Field) (old : Table) (before : ℕ) where
 
     pub loads_none : Stays old new before after → LoadsFront fields bytes old new before after
     loads_none stays = record { documents = []; puts = record { table = stays.table; operations = let same = stays.operations in omega (arith, same) }; front = λ saved says. refl }
+
+-- what holds of a refusal that is handed on
+pub on_err : {A E : Type 0} {P : Type 0} (result : Result A E) → P → OnErr result P
+on_err (Ok x) p = tt
+on_err (Err e) p = p

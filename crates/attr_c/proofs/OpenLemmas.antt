@@ -1,26 +1,25 @@
 -- What a new engine has.
-use Rattle.std.proofs.Common.{◌≡◌, ◌<◌, ◌≤◌, ℕ, List, [], length, refl, sym, ◌∙◌, ap, subst}
-use Rattle.entry_ref.specs.Records.{Records}
+use Rattle.std.proofs.Common.{◌≡◌, ℕ, List, [], sym, ◌∙◌, ap}
+use Rattle.arena_api.specs.Works.{last_image}
+use Rattle.entry_ref.specs.Images.{words_at}
+use Rattle.store_api.specs.Ledgers.{Ledger}
 use Rattle.attr_images.specs.Images.{operations_at, table_of}
+use Rattle.attr_images.specs.Shapes.{shape_of, types_of}
 use Rattle.attr_images.proofs.ImageLemmas.{table_empty}
+use Rattle.attribute_kinds.specs.Calls.{HasCommit}
 use Rattle.attr_types.specs.Table.{Table}
 use Rattle.attr_types.specs.declared.field.Field.{Field}
-use Rattle.attr_types.specs.declared.field.TheConstants.{MOST_FIELDS}
-use Rattle.attr_c.specs.Engines.{HasNothing, IsNewEngine, IsOpened}
-use Rattle.attr_c.specs.declared.state.AnyOpen.{AnyOpen}
-use Rattle.attr_c.specs.declared.state.Engine.{Engine}
+use Rattle.attr_c.specs.Engines.{HasNothing}
 
 -- without a root nothing is committed
-pub nothing_yet : (shape : ℕ) (m : Records) (root : ℕ) (table committed : Table) (operations published : ℕ) → root ≡ 0 → table ≡ [] → operations ≡ 0 → table_of shape m root ≡ committed
-    → operations_at m root ≡ published → HasNothing table committed operations published
-nothing_yet shape m root table committed operations published no_root no_table none table_is operations_are = record {
-  table_is = no_table;
-  committed_is = sym table_is ∙ ap (table_of shape m) no_root ∙ table_empty shape m;
-  operations_are = none;
-  published_are = sym operations_are ∙ ap (operations_at m) no_root;
-}
-
-pub new_engine_of : (fields : List Field) (o : AnyOpen) (e : Engine) → 0 < length fields → length fields ≤ MOST_FIELDS → IsOpened fields o → e.open ≡ o → IsNewEngine e
-new_engine_of fields o e some few opened same =
-    let is = subst (IsOpened fields) (sym same) opened in
-    record { some = subst (λ (fs : List Field). 0 < length fs) (sym is.fields_are) some; few = subst (λ (fs : List Field). length fs ≤ MOST_FIELDS) (sym is.fields_are) few; has_nothing = is.has_nothing }
+pub nothing_yet : {H : Type 0} (ledger : Ledger H) (fields : List Field) (root : ℕ) (table committed : Table) (operations published : ℕ) → HasCommit ledger fields root committed published → root ≡ 0
+    → table ≡ [] → operations ≡ 0 → HasNothing table committed operations published
+nothing_yet ledger fields root table committed operations published has no_root no_table none =
+    let shape = shape_of (types_of fields) in
+    let m = words_at (last_image ledger.work.commits) in
+    record {
+      table_is = no_table;
+      committed_is = sym has.table_is ∙ ap (table_of shape m) no_root ∙ table_empty shape m;
+      operations_are = none;
+      published_are = sym has.operations_are ∙ ap (operations_at m) no_root;
+    }

@@ -21,12 +21,7 @@ fn engine_of(alloc: Global, opened: AnyOpen) -> Result<Box<Engine>, i32>
 }
 
 /// An engine over a new memory, which has no document; or the code of a refusal.
-fn new_engine(
-    alloc: Global,
-    text: &str,
-    sizes: &Sizes,
-    place: &mut u64,
-) -> Result<Box<Engine>, i32>
+fn new_engine(alloc: Global, text: &str, sizes: &Sizes, place: &mut u64) -> Result<Box<Engine>, i32>
     ensures { IfOk result (λ engine. IsNewEngine engine.value) }
 {
     let fields = match fields_in(alloc, text) {

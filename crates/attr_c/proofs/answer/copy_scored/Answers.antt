@@ -1,7 +1,7 @@
 use Rattle.std.proofs.Common.{◌≡◌, ℕ, ◌+◌, ◌<◌, List, length, map, take, slice_set, rules, ◌∙◌, ap}
 use Rattle.attr_c.specs.Copies.{score_told}
 use Rattle.attr_c.specs.declared.told.Scored.{Scored}
-use Rattle.attr_c.proofs.CopyLemmas.{mapped_more}
+use Rattle.attr_c.proofs.CopyLemmas.{mapped_more, rest_kept}
 use Rattle.attr_c.proofs.answer.copy_scored.Goals as goal
 
 pub loop-i-preserved : goal.loop-i-preserved
@@ -14,6 +14,6 @@ loop-i-preserved c =
     record {
       front = ap (λ (x : Scored). take (i + 1) (slice_set into i x)) told
           ∙ mapped_more score_told scores into i one (search rules) (search rules) c.index-scores-i.is c.loop-i.invariant.front;
-      rest = search rules;
+      rest = rest_kept into c.args.into.now i c.told_score.result (search rules) c.loop-i.invariant.rest;
       long = search rules;
     }

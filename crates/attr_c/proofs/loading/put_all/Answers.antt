@@ -4,7 +4,7 @@ use Rattle.std.specs.Vec.Iter.{into_iter_items}
 use Rattle.attr_types.specs.Table.{after_op}
 use Rattle.attr_types.specs.declared.field.Field.{Field}
 use Rattle.attr_c.specs.Loading.{put_of}
-use Rattle.attr_c.proofs.LoadLemmas.{puts_front, puts_more}
+use Rattle.attr_c.proofs.LoadLemmas.{on_err, puts_front, puts_more}
 use Rattle.attr_c.proofs.loading.put_all.Goals as goal
 
 pub loop-document-preserved : goal.loop-document-preserved
@@ -30,5 +30,6 @@ returns-in_err-put_document-clause-front g c =
     let mid = c.loop-document.open.attribute in
     let now = c.put_document.new.open.attribute in
     let i = c.loop-document.invariant in
-    puts_front was.fields was.attribute.table was.attribute.operations c.loop-document.yielded (into_iter_items c.loop-document.document-iterator) c.args.documents.items mid.table now.table
-    mid.operations now.operations i.all i.puts c.in_err-put_document.ensures.left
+    on_err c.from_residual.result
+    (puts_front was.fields was.attribute.table was.attribute.operations c.loop-document.yielded (into_iter_items c.loop-document.document-iterator) c.args.documents.items mid.table now.table
+    mid.operations now.operations i.all i.puts c.in_err-put_document.ensures.left)
