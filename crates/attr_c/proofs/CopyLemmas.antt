@@ -1,5 +1,5 @@
 -- What is copied from a place on.
-use Rattle.std.proofs.Common.{◌≡◌, ℕ, zero, suc, ◌+◌, ◌-◌, ◌<◌, List, [], ◌∷◌, ◌++◌, length, map, min, take, drop, get_or, slice_set, refl, sym, ◌∙◌, ap, arith}
+use Rattle.std.proofs.Common.{◌≡◌, ℕ, zero, suc, ◌+◌, ◌-◌, ◌<◌, List, [], ◌∷◌, ◌++◌, length, map, min, take, drop, get_or, slice_set, sym, ◌∙◌, ap, arith}
 use Rattle.std.proofs.lemmas.List.{drop-drop, drop-map, drop-set, get_or-map, length-map, take_more, take_more_set, take_rest}
 use Rattle.attr_c.specs.Copies.{Copies}
 

@@ -1,5 +1,5 @@
 -- Documents of a save, put in one after another.
-use Rattle.std.proofs.Common.{◌≡◌, ℕ, ◌+◌, List, [], ◌∷◌, ◌++◌, length, map, take, Result, Ok, Err, refl, sym, ◌∙◌, ap, subst, arith, length-append}
+use Rattle.std.proofs.Common.{◌≡◌, ℕ, ◌+◌, List, [], ◌∷◌, ◌++◌, length, take, Result, Ok, Err, refl, sym, ◌∙◌, ap, arith, length-append}
 use Rattle.std.specs.Prelude.{OnErr}
 use Rattle.attr_saver.specs.Fields.{read_of}
 use Rattle.attr_saver.specs.declared.saved.Saved.{Saved}

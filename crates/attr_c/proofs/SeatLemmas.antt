@@ -1,5 +1,5 @@
 -- Calls by one guard.
-use Rattle.std.proofs.Common.{◌≡◌, ℕ, List, Option, Some, None, ◌∙◌, ap}
+use Rattle.std.proofs.Common.{ℕ, List, Option, Some, None, ◌∙◌, ap}
 use Rattle.attr_types.specs.Scores.{documents_in}
 use Rattle.attr_c.specs.Kept.{KeptView}
 use Rattle.attr_c.specs.Seats.{AnswersText, CountsText, ByGuardOf}

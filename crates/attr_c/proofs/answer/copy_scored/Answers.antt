@@ -1,4 +1,4 @@
-use Rattle.std.proofs.Common.{◌≡◌, ℕ, ◌+◌, ◌<◌, List, length, map, take, slice_set, rules, ◌∙◌, ap}
+use Rattle.std.proofs.Common.{◌≡◌, ◌+◌, take, slice_set, rules, ◌∙◌, ap}
 use Rattle.attr_c.specs.Copies.{score_told}
 use Rattle.attr_c.specs.declared.told.Scored.{Scored}
 use Rattle.attr_c.proofs.CopyLemmas.{mapped_more, rest_kept}

@@ -1,4 +1,4 @@
-use Rattle.std.proofs.Common.{◌≡◌, ℕ, ◌+◌, ◌<◌, List, length, map, take, slice_set, rules, ◌∙◌, ap}
+use Rattle.std.proofs.Common.{◌≡◌, ℕ, ◌+◌, take, slice_set, rules, ◌∙◌, ap}
 use Rattle.attr_types.specs.declared.score.Score.{Score}
 use Rattle.attr_c.proofs.CopyLemmas.{mapped_more, rest_kept}
 use Rattle.attr_c.proofs.answer.copy_scored_docs.Goals as goal

@@ -1,4 +1,4 @@
-use Rattle.std.proofs.Common.{◌≡◌, ◌+◌, ◌≤◌, List, length, refl, subst, rules, ◌∙◌, arith, Ok, Err}
+use Rattle.std.proofs.Common.{◌+◌, List, refl, subst, rules, ◌∙◌, arith, Ok, Err}
 use Rattle.attr_types.specs.declared.field.Field.{Field}
 use Rattle.attr_c.specs.Feeding.{FedLine}
 use Rattle.attr_c.proofs.FeedLemmas.{drop_none, drop_on, fed_none, fed_on, fed_refused, fed_whole}
