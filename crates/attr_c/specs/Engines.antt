@@ -1,7 +1,8 @@
 -- What the writer's handle holds, as its callers see it.
-use Rattle.std.specs.Prelude.{◌≡◌, ℕ, List, length}
+use Rattle.std.specs.Prelude.{◌≡◌, ◌<◌, ◌≤◌, ℕ, List, [], length}
 use Rattle.attr_types.specs.Table.{Table}
 use Rattle.attr_types.specs.declared.field.Field.{Field}
+use Rattle.attr_types.specs.declared.field.TheConstants.{MOST_FIELDS}
 use Rattle.attr_c.specs.declared.state.AnyOpen.{AnyOpen}
 use Rattle.attr_c.specs.declared.state.AnyOpen.TheVariants.{Narrow, Wide}
 use Rattle.attr_c.specs.declared.state.Engine.{Engine}
@@ -27,6 +28,32 @@ open_committed (Wide o) = o.attribute.committed
 abbrev pub open_committed_operations : AnyOpen → ℕ
 open_committed_operations (Narrow o) = o.attribute.committed_operations
 open_committed_operations (Wide o) = o.attribute.committed_operations
+
+-- a call that leaves the attributes, what was fed and what was committed as they were
+pub record KeepsTables (old new : AnyOpen) : Type 0 where
+  pub fields : open_fields new ≡ open_fields old
+  pub table : open_table new ≡ open_table old
+  pub operations : open_operations new ≡ open_operations old
+  pub committed : open_committed new ≡ open_committed old
+  pub published : open_committed_operations new ≡ open_committed_operations old
+
+-- no document, nothing applied, nothing committed
+pub record HasNothing (table committed : Table) (operations published : ℕ) : Type 0 where
+  pub table_is : table ≡ []
+  pub committed_is : committed ≡ []
+  pub operations_are : operations ≡ 0
+  pub published_are : published ≡ 0
+
+-- the attributes that were asked for, and nothing else
+pub record IsOpened (fields : List Field) (o : AnyOpen) : Type 0 where
+  pub fields_are : open_fields o ≡ fields
+  pub has_nothing : HasNothing (open_table o) (open_committed o) (open_operations o) (open_committed_operations o)
+
+-- one to eight attributes, and nothing else
+pub record IsNewEngine (e : Engine) : Type 0 where
+  pub some : 0 < length (open_fields e.open)
+  pub few : length (open_fields e.open) ≤ MOST_FIELDS
+  pub has_nothing : HasNothing (open_table e.open) (open_committed e.open) (open_operations e.open) (open_committed_operations e.open)
 
 abbrev pub fields_of : Engine → List Field
 fields_of e = open_fields e.open

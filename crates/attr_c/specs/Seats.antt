@@ -1,4 +1,4 @@
--- What a reader's handle holds, as its callers see it, and the results of its calls.
+-- What a reader's handle holds, as its callers see it, and what its calls say.
 use Rattle.std.specs.Prelude.{◌≡◌, ℕ, Bool, true, false, List, length, Option, Some, None, Result, Ok}
 use Rattle.gen_core.specs.Events.{released}
 use Rattle.word_arena.specs.Ruled.{reader_of, seen_number}
@@ -16,7 +16,7 @@ use Rattle.attr_c.specs.declared.state.AnyReader.{AnyReader}
 use Rattle.attr_c.specs.declared.state.AnyReader.TheVariants as readers
 use Rattle.attr_c.specs.declared.told.Answered.{Answered}
 
--- the attributes for a reader's asks, and what it has seen
+-- the attributes that a reader is asked of, and what it has seen
 abbrev pub reader_view : AnyReader → KeptView
 reader_view (readers.Narrow w) = record { fields = w.fields; reader = reader_of w.reader.place.me.0 }
 reader_view (readers.Wide w) = record { fields = w.fields; reader = reader_of w.reader.place.me.0 }
@@ -34,24 +34,24 @@ pub record IsTaken (reader guard : KeptView) : Type 0 where
   pub fields : guard.fields ≡ reader.fields
   pub guard_is : IsGuardOf reader.reader guard.reader
 
--- the guard that a place has or takes
+-- the guard that a place has, or takes
 abbrev pub TakesGuard : Place → KeptView → Type 0
 TakesGuard (Free r) guard = IsTaken (reader_view r) guard
 TakesGuard (Kept k) guard = guard ≡ kept_view k
 
--- the guard is kept, or was released
+-- the guard stays, or was given back
 abbrev pub LeavesGuard : Bool → KeptView → Place → Type 0
 LeavesGuard true guard (Kept k) = kept_view k ≡ guard
 LeavesGuard true guard (Free r) = ⊥
 LeavesGuard false guard (Free r) = reader_view r ≡ record guard { reader = released guard.reader }
 LeavesGuard false guard (Kept k) = ⊥
 
--- which commit answers, and its number of operations
+-- which commit answers, and how many operations it has
 pub record TellsCommit (guard : KeptView) (told : Answered) : Type 0 where
   pub commit : told.commit ≡ seen_number guard.reader
   pub operations : told.operations ≡ operations_of guard
 
--- the answer of a guarded commit's table to a text
+-- what the table of a guard's commit answers to a text
 pub record AnswersText (guard : KeptView) (text : List ℕ) (told : Answered) (answer : Answer) : Type 0 where
   pub ask : AskTree
   pub reads : ask_of guard.fields text ≡ Ok ask
@@ -59,19 +59,44 @@ pub record AnswersText (guard : KeptView) (text : List ℕ) (told : Answered) (a
   pub tells : TellsCommit guard told
   pub count : told.count ≡ documents_in (said answer)
 
--- the items of a document in the table of a guarded commit
+-- how many documents that answer has
+pub record CountsText (guard : KeptView) (text : List ℕ) (told : Answered) : Type 0 where
+  pub ask : AskTree
+  pub reads : ask_of guard.fields text ≡ Ok ask
+  pub count : told.count ≡ documents_in (answer_on ask (table_in guard))
+  pub tells : TellsCommit guard told
+
+-- the items of a document in the table of a guard's commit
 pub record ReadsItems (guard : KeptView) (document field : ℕ) (told : Answered) (items : List Item) : Type 0 where
   pub items_are : items_of field document (table_in guard) ≡ Some items
   pub tells : TellsCommit guard told
   pub count : told.count ≡ length items
 
--- a save of the table of a guarded commit
+-- a save of the table of a guard's commit
 pub record SavesTable (guard : KeptView) (told : Answered) (bytes : List ℕ) : Type 0 where
   pub bytes_are : bytes ≡ save_of_table guard.fields (operations_of guard) (table_in guard)
   pub tells : TellsCommit guard told
   pub count : told.count ≡ length bytes
 
--- a call under one guard: the place's own, which is kept, or one that was taken and released
+-- the reader is under a guard, its own or one that it took, and it is told of which commit
+abbrev pub HoldsGuard : Option Place → Option Place → Answered → Type 0
+HoldsGuard (Some before) (Some (Kept k)) told = TakesGuard before (kept_view k) × TellsCommit (kept_view k) told
+HoldsGuard (Some before) (Some (Free r)) told = ⊥
+HoldsGuard (Some before) None told = ⊥
+HoldsGuard None after told = ⊥
+
+-- the reader is without a guard: it had none, or gave it back
+abbrev pub Releases : Place → AnyReader → Type 0
+Releases (Free r) after = after ≡ r
+Releases (Kept k) after = LeavesGuard false (kept_view k) (Free after)
+
+abbrev pub ReleasesGuard : Option Place → Option Place → Type 0
+ReleasesGuard (Some before) (Some (Free r)) = Releases before r
+ReleasesGuard (Some before) (Some (Kept k)) = ⊥
+ReleasesGuard (Some before) None = ⊥
+ReleasesGuard None after = ⊥
+
+-- a call by one guard: the place's own, which stays, or one that was taken and given back
 pub record ByGuard (before after : Place) (P : KeptView → Type 0) : Type 0 where
   pub guard : KeptView
   pub takes : TakesGuard before guard

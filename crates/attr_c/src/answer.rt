@@ -1,11 +1,13 @@
-//! The answer that a reader keeps until its next ask.
-ghost use Rattle.std.specs.Prelude.{◌≡◌, min, length, take};
+//! The answer that a reader keeps until it is asked again.
+ghost use Rattle.std.specs.Prelude.{◌≡◌, map};
+ghost use Rattle.attr_types.specs.Change.{if_signed};
+ghost use Rattle.attr_c.specs.Copies.{documents_of, nearest_end, score_told, scores_told, Copies};
 
 use crate::told::Scored;
 use attr_types::{Doc, DocList, Score, ScoreList};
 use std::alloc::Global;
 
-/// Documents, ascending; for a dot product each with its score.
+/// Documents, ascending; with a dot product each has its score.
 #[derive(Drop)]
 pub enum Answer {
     Hits(DocList),
@@ -31,8 +33,7 @@ impl Answer {
 }
 
 fn copy_docs(docs: &[Doc], into: &mut [u32]) -> usize
-    ensures count { result ≡ min (length into.old) (length docs.now) }
-    ensures front { take result into.new ≡ take result docs.now }
+    ensures { Copies docs.now 0 into.old into.new result }
 {
     let count = into.len().min(docs.len());
     for i in 0..count {
@@ -41,7 +42,9 @@ fn copy_docs(docs: &[Doc], into: &mut [u32]) -> usize
     count
 }
 
-fn copy_scored_docs(scores: &[Score], into: &mut [u32]) -> usize {
+fn copy_scored_docs(scores: &[Score], into: &mut [u32]) -> usize
+    ensures { Copies (map (λ s. s.doc) scores.now) 0 into.old into.new result }
+{
     let count = into.len().min(scores.len());
     for i in 0..count {
         into[i] = scores[i].doc.number();
@@ -49,8 +52,10 @@ fn copy_scored_docs(scores: &[Score], into: &mut [u32]) -> usize {
     count
 }
 
-/// Copies the numbers of documents from index `first` on, and returns how many.
-pub fn copy_hits(answer: &Answer, first: usize, into: &mut [u32]) -> usize {
+/// Copies the numbers of documents from the one at this place on, and says how many.
+pub fn copy_hits(answer: &Answer, first: usize, into: &mut [u32]) -> usize
+    ensures { Copies (documents_of answer.now) first into.old into.new result }
+{
     match answer {
         Answer::Hits(docs) => {
             let docs = docs.as_slice();
@@ -63,32 +68,51 @@ pub fn copy_hits(answer: &Answer, first: usize, into: &mut [u32]) -> usize {
     }
 }
 
-fn scored(score: &Score) -> Scored {
+fn long_of(score: i128) -> Option<i64>
+    ensures { result ≡ if_signed 63 score }
+{
+    i64::try_from(score).ok()
+}
+
+/// Returns the end of the 64-bit numbers that is nearest to a score outside them.
+fn nearest_end(score: i128) -> i64
+    ensures { result ≡ nearest_end score }
+{
+    if score < 0 { i64::MIN } else { i64::MAX }
+}
+
+fn told_score(score: &Score) -> Scored
+    ensures { result ≡ score_told score.now }
+{
     let doc = score.doc.number();
-    match i64::try_from(score.score) {
-        Ok(score) => Scored {
-            score,
+    match long_of(score.score) {
+        Some(number) => Scored {
+            score: number,
             doc,
             exact: 1,
         },
-        Err(_) => Scored {
-            score: if score.score < 0 { i64::MIN } else { i64::MAX },
+        None => Scored {
+            score: nearest_end(score.score),
             doc,
             exact: 0,
         },
     }
 }
 
-fn copy_scored(scores: &[Score], into: &mut [Scored]) -> usize {
+fn copy_scored(scores: &[Score], into: &mut [Scored]) -> usize
+    ensures { Copies (map score_told scores.now) 0 into.old into.new result }
+{
     let count = into.len().min(scores.len());
     for i in 0..count {
-        into[i] = scored(&scores[i]);
+        into[i] = told_score(&scores[i]);
     }
     count
 }
 
-/// Copies documents with their scores from index `first` on, and returns how many.
-pub fn copy_scores(answer: &Answer, first: usize, into: &mut [Scored]) -> usize {
+/// Copies documents with their scores from the one at this place on, and says how many.
+pub fn copy_scores(answer: &Answer, first: usize, into: &mut [Scored]) -> usize
+    ensures { Copies (scores_told answer.now) first into.old into.new result }
+{
     match answer {
         Answer::Hits(_) => 0,
         Answer::Scores(scores) => {

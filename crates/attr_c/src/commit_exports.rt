@@ -1,7 +1,8 @@
 //! The calls from C with the writer's handle.
 ghost use Rattle.std.specs.Prelude.{◌≡◌, ◌≢◌, ◌+◌, pos, drop, IsOk, IsErr};
-ghost use Rattle.attr_c.specs.Engines.{committed_of, committed_operations_of, fields_of, operations_of, table_of};
-ghost use Rattle.attr_c.specs.Feeding.{FedTo, Feeds};
+ghost use Rattle.attr_c.specs.Engines.{committed_of, committed_operations_of, fields_of, operations_of, table_of, KeepsTables};
+ghost use Rattle.attr_c.specs.Feeding.{FedTo, Feeds, Stays};
+ghost use Rattle.attr_c.specs.Loading.{LoadsFront, LoadsSave};
 
 use crate::codes::OK;
 use crate::feeding::feed;
@@ -60,6 +61,8 @@ fn feed_told<const OFFSET_BITS: u32, S: Store<OFFSET_BITS, Layout = AttrLayout>>
     ensures front { result ≢ pos 0 → FedTo open.old.fields bytes.now told.new.line (drop told.new.place bytes.now)
         open.old.attribute.table open.new.attribute.table open.old.attribute.operations open.new.attribute.operations }
     ensures count { open.new.attribute.operations ≡ open.old.attribute.operations + told.new.operations }
+    ensures commit { Stays open.old.attribute.committed open.new.attribute.committed
+        open.old.attribute.committed_operations open.new.attribute.committed_operations }
     ensures fields { open.new.fields ≡ open.old.fields }
 {
     let before = open.attribute.operations();
@@ -82,6 +85,8 @@ pub extern "C" fn attr_feed(
     ensures front { result ≢ pos 0 → FedTo (fields_of at.old.value) bytes.now told.new.line (drop told.new.place bytes.now)
         (table_of at.old.value) (table_of at.new.value) (operations_of at.old.value) (operations_of at.new.value) }
     ensures count { operations_of at.new.value ≡ operations_of at.old.value + told.new.operations }
+    ensures commit { Stays (committed_of at.old.value) (committed_of at.new.value)
+        (committed_operations_of at.old.value) (committed_operations_of at.new.value) }
     ensures fields { fields_of at.new.value ≡ fields_of at.old.value }
 {
     *told = no_told();
@@ -99,6 +104,8 @@ fn commit_told<const OFFSET_BITS: u32, S: Store<OFFSET_BITS, Layout = AttrLayout
     ensures committed { result ≡ pos 0 → open.new.attribute.committed ≡ open.old.attribute.table }
     ensures published { result ≡ pos 0 → open.new.attribute.committed_operations ≡ open.old.attribute.operations }
     ensures told { result ≡ pos 0 → told.new.operations ≡ open.old.attribute.operations }
+    ensures left { result ≢ pos 0 → (open.new.attribute.committed ≡ open.old.attribute.committed)
+        × (open.new.attribute.committed_operations ≡ open.old.attribute.committed_operations) }
     ensures table { open.new.attribute.table ≡ open.old.attribute.table }
     ensures operations { open.new.attribute.operations ≡ open.old.attribute.operations }
     ensures fields { open.new.fields ≡ open.old.fields }
@@ -113,6 +120,7 @@ pub extern "C" fn attr_commit(at: &mut HeldEngine, told: &mut Told) -> i32
     ensures committed { result ≡ pos 0 → committed_of at.new.value ≡ table_of at.old.value }
     ensures published { result ≡ pos 0 → committed_operations_of at.new.value ≡ operations_of at.old.value }
     ensures told { result ≡ pos 0 → told.new.operations ≡ operations_of at.old.value }
+    ensures left { result ≢ pos 0 → KeepsTables at.old.value.open at.new.value.open }
     ensures table { table_of at.new.value ≡ table_of at.old.value }
     ensures operations { operations_of at.new.value ≡ operations_of at.old.value }
     ensures fields { fields_of at.new.value ≡ fields_of at.old.value }
@@ -134,6 +142,7 @@ fn compact_told<const OFFSET_BITS: u32, S: Store<OFFSET_BITS, Layout = AttrLayou
     ensures table { open.new.attribute.table ≡ open.old.attribute.table }
     ensures operations { open.new.attribute.operations ≡ open.old.attribute.operations }
     ensures committed { open.new.attribute.committed ≡ open.old.attribute.committed }
+    ensures published { open.new.attribute.committed_operations ≡ open.old.attribute.committed_operations }
     ensures fields { open.new.fields ≡ open.old.fields }
 {
     let came = compact(alloc, open, keys, told);
@@ -148,10 +157,7 @@ pub extern "C" fn attr_compact(
     keys: u32,
     told: &mut Told,
 ) -> i32
-    ensures table { table_of at.new.value ≡ table_of at.old.value }
-    ensures operations { operations_of at.new.value ≡ operations_of at.old.value }
-    ensures committed { committed_of at.new.value ≡ committed_of at.old.value }
-    ensures fields { fields_of at.new.value ≡ fields_of at.old.value }
+    ensures { KeepsTables at.old.value.open at.new.value.open }
 {
     *told = no_told();
     let engine = at.get_mut();
@@ -167,11 +173,18 @@ fn load_told<const OFFSET_BITS: u32, S: Store<OFFSET_BITS, Layout = AttrLayout>>
     bytes: &[u8],
     told: &mut Told,
 ) -> i32
-    ensures { open.new.fields ≡ open.old.fields }
+    ensures whole { result ≡ pos 0 → LoadsSave open.old.fields bytes.now open.old.attribute.table open.new.attribute.table
+        open.old.attribute.operations open.new.attribute.operations }
+    ensures front { result ≢ pos 0 → LoadsFront open.old.fields bytes.now open.old.attribute.table open.new.attribute.table
+        open.old.attribute.operations open.new.attribute.operations }
+    ensures count { open.new.attribute.operations ≡ open.old.attribute.operations + told.new.operations }
+    ensures commit { Stays open.old.attribute.committed open.new.attribute.committed
+        open.old.attribute.committed_operations open.new.attribute.committed_operations }
+    ensures fields { open.new.fields ≡ open.old.fields }
 {
     let before = open.attribute.operations();
     let came = load(alloc, open, bytes, told);
-    told.operations = open.attribute.operations().saturating_sub(before);
+    told.operations = open.attribute.operations() - before;
     ended(&mut open.counts, came, told)
 }
 
@@ -183,7 +196,14 @@ pub extern "C" fn attr_load(
     bytes: &[u8],
     told: &mut Told,
 ) -> i32
-    ensures { fields_of at.new.value ≡ fields_of at.old.value }
+    ensures whole { result ≡ pos 0 → LoadsSave (fields_of at.old.value) bytes.now (table_of at.old.value) (table_of at.new.value)
+        (operations_of at.old.value) (operations_of at.new.value) }
+    ensures front { result ≢ pos 0 → LoadsFront (fields_of at.old.value) bytes.now (table_of at.old.value) (table_of at.new.value)
+        (operations_of at.old.value) (operations_of at.new.value) }
+    ensures count { operations_of at.new.value ≡ operations_of at.old.value + told.new.operations }
+    ensures commit { Stays (committed_of at.old.value) (committed_of at.new.value)
+        (committed_operations_of at.old.value) (committed_operations_of at.new.value) }
+    ensures fields { fields_of at.new.value ≡ fields_of at.old.value }
 {
     *told = no_told();
     let engine = at.get_mut();
@@ -195,7 +215,9 @@ pub extern "C" fn attr_load(
 
 fn counts_of<const OFFSET_BITS: u32, S: Store<OFFSET_BITS, Layout = AttrLayout>>(
     open: &Open<OFFSET_BITS, S>,
-) -> CountsTold {
+) -> CountsTold
+    ensures { result.operations ≡ open.now.attribute.operations }
+{
     let counts = &open.counts;
     CountsTold {
         skipped: counts.skipped,
@@ -214,7 +236,10 @@ fn counts_of<const OFFSET_BITS: u32, S: Store<OFFSET_BITS, Layout = AttrLayout>>
 
 /// Writes numbers for a monitor.
 #[unsafe(no_mangle)]
-pub extern "C" fn attr_counts(at: &mut HeldEngine, told: &mut CountsTold) {
+pub extern "C" fn attr_counts(at: &mut HeldEngine, told: &mut CountsTold)
+    ensures same { at.new.value ≡ at.old.value }
+    ensures operations { told.new.operations ≡ operations_of at.old.value }
+{
     *told = match &at.get_mut().open {
         AnyOpen::Narrow(open) => counts_of(open),
         AnyOpen::Wide(open) => counts_of(open),

@@ -1,22 +1,30 @@
-//! Copies of answers.
+//! What was answered, copied out.
+ghost use Rattle.std.specs.Prelude.{◌≡◌, ◌≢◌, pos, Some, None, option_map, slice_get};
+ghost use Rattle.attr_c.specs.Copies.{item_told, text_in, Copies};
 
 use crate::codes::{BOUNDS, OK};
 use crate::told::ItemTold;
 use attr_types::{Item, Value};
 
-/// Copies the front of a list of bytes, as far as it fits, and returns the number of bytes.
-pub fn copy_bytes(from: &[u8], into: &mut [u8]) -> usize {
+/// Copies the front of a list of bytes, as far as there is room, and says how many that were.
+pub fn copy_bytes(from: &[u8], into: &mut [u8]) -> usize
+    ensures { Copies from.now 0 into.old into.new result }
+{
     let count = into.len().min(from.len());
     into[..count].copy_from_slice(&from[..count]);
     count
 }
 
-/// The same from byte `first` on.
-pub fn copy_from(from: &[u8], first: usize, into: &mut [u8]) -> usize {
+/// The same from the byte at this place on.
+pub fn copy_from(from: &[u8], first: usize, into: &mut [u8]) -> usize
+    ensures { Copies from.now first into.old into.new result }
+{
     copy_bytes(&from[first.min(from.len())..], into)
 }
 
-fn told_item(item: &Item) -> ItemTold {
+fn told_item(item: &Item) -> ItemTold
+    ensures { result ≡ item_told item.now }
+{
     match &item.value {
         Value::Long(number) => ItemTold {
             number: *number,
@@ -33,8 +41,11 @@ fn told_item(item: &Item) -> ItemTold {
     }
 }
 
-/// Writes the item with this number, from 0.
-pub fn item_at(items: &[Item], number: usize, told: &mut ItemTold) -> i32 {
+/// Tells the item of a number, from 0.
+pub fn item_at(items: &[Item], number: usize, told: &mut ItemTold) -> i32
+    ensures there { result ≡ pos 0 → option_map item_told (slice_get items.now number) ≡ Some told.new }
+    ensures none { result ≢ pos 0 → slice_get items.now number ≡ None }
+{
     match items.get(number) {
         Some(item) => {
             *told = told_item(item);
@@ -44,8 +55,10 @@ pub fn item_at(items: &[Item], number: usize, told: &mut ItemTold) -> i32 {
     }
 }
 
-/// Returns the bytes of an item's text, or none if there is no such text.
-pub fn text_at(items: &[Item], number: usize) -> &[u8] {
+/// The bytes of the text of an item; none where there is no such text.
+pub fn text_at(items: &[Item], number: usize) -> &[u8]
+    ensures { result.now ≡ text_in (slice_get items.now number) }
+{
     match items.get(number) {
         Some(item) => match &item.value {
             Value::Long(_) => &[],

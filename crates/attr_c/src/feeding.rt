@@ -3,7 +3,7 @@ ghost use Rattle.std.specs.Prelude.{◌≡◌, ◌+◌, ◌<◌, ◌∷◌, [], 
 ghost use Rattle.attr_types.specs.Lawful.{OpFits};
 ghost use Rattle.attr_types.specs.Table.{after_op};
 ghost use Rattle.feed_reader.specs.Lines.{lines_of};
-ghost use Rattle.attr_c.specs.Feeding.{FedLine, FedTo, Feeds, IsOfNoLine, RefusesLine};
+ghost use Rattle.attr_c.specs.Feeding.{FedLine, FedTo, Feeds, IsOfNoLine, RefusesLine, Stays};
 
 use crate::line::operation_in;
 use crate::split::split_line;
@@ -27,6 +27,8 @@ pub fn apply<const OFFSET_BITS: u32, S: Store<OFFSET_BITS, Layout = AttrLayout>>
     ensures left { OnErr result ((open.new.attribute.table ≡ open.old.attribute.table)
         × (open.new.attribute.operations ≡ open.old.attribute.operations)) }
     ensures kind { IfErr result IsOfNoLine }
+    ensures commit { Stays open.old.attribute.committed open.new.attribute.committed
+        open.old.attribute.committed_operations open.new.attribute.committed_operations }
     ensures fields { open.new.fields ≡ open.old.fields }
 {
     if open.attribute.operations() == u32::MAX {
@@ -47,6 +49,8 @@ fn feed_line<const OFFSET_BITS: u32, S: Store<OFFSET_BITS, Layout = AttrLayout>>
     requires { 0 < length line.now → lines_of line.now ≡ line.now ∷ [] }
     ensures fed { FedLine open.old.fields line.now open.old.attribute.table open.new.attribute.table
         open.old.attribute.operations open.new.attribute.operations result }
+    ensures commit { Stays open.old.attribute.committed open.new.attribute.committed
+        open.old.attribute.committed_operations open.new.attribute.committed_operations }
     ensures fields { open.new.fields ≡ open.old.fields }
 {
     match operation_in(alloc, &open.fields, line) {
@@ -80,6 +84,8 @@ pub fn feed<const OFFSET_BITS: u32, S: Store<OFFSET_BITS, Layout = AttrLayout>>(
     ensures front { OnErr result (FedTo open.old.fields bytes.now told.new.line (drop told.new.place bytes.now)
         open.old.attribute.table open.new.attribute.table open.old.attribute.operations open.new.attribute.operations) }
     ensures refused { IfErr result (RefusesLine open.old.fields bytes.now told.new.line) }
+    ensures commit { Stays open.old.attribute.committed open.new.attribute.committed
+        open.old.attribute.committed_operations open.new.attribute.committed_operations }
     ensures fields { open.new.fields ≡ open.old.fields }
 {
     let mut rest = bytes;

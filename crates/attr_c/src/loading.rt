@@ -1,5 +1,9 @@
-//! The documents of a save, put one after another.
-ghost use Rattle.std.specs.Prelude.{◌≡◌};
+//! The documents of a save, put in one after another.
+ghost use Rattle.std.specs.Prelude.{◌≡◌, ◌+◌, true, length, IfOk, OnOk, OnErr, Ok};
+ghost use Rattle.attr_saver.specs.Fields.{read_of};
+ghost use Rattle.attr_types.specs.Table.{after_op};
+ghost use Rattle.attr_c.specs.Feeding.{Stays};
+ghost use Rattle.attr_c.specs.Loading.{put_of, IsSaveOf, LoadsFront, LoadsSave, PutsFront, PutsIn};
 
 use crate::feeding::apply;
 use crate::state::Open;
@@ -12,33 +16,46 @@ use attr_types::{Field, FieldItems, Fields, Op, fits};
 use std::alloc::{AllocError, Global};
 use store_api::Store;
 
-/// Returns whether a save is of an attribute.
-fn is_of(field: &Field, saved: &Saved) -> bool {
+/// Whether a save is of an attribute.
+fn is_of(field: &Field, saved: &Saved) -> bool
+    ensures kind { result ≡ true → saved.now.kind ≡ field.now.kind }
+    ensures value { result ≡ true → saved.now.value ≡ field.now.value }
+{
     field.kind == saved.kind && field.value == saved.value
 }
 
-fn is_of_fields(fields: &Fields, saved: &Saved) -> bool {
+fn is_of_fields(fields: &Fields, saved: &Saved) -> bool
+    ensures { result ≡ true → IsSaveOf fields.now saved.now }
+{
     match fields.as_slice() {
         [field] => is_of(field, saved),
         _ => false,
     }
 }
 
-fn put_of(alloc: Global, document: SavedDocument) -> Result<Op, AllocError> {
+fn op_of(alloc: Global, document: SavedDocument) -> Result<Op, AllocError>
+    ensures { IfOk result (λ op. op ≡ put_of document) }
+{
     let SavedDocument { doc, items } = document;
     let items = FieldItems::of_one(alloc, items)?;
     Ok(Op::Put { doc, items })
 }
 
-/// Adds a document.
+/// Puts a document in.
 fn put_document<const OFFSET_BITS: u32, S: Store<OFFSET_BITS, Layout = AttrLayout>>(
     alloc: Global,
     open: &mut Open<OFFSET_BITS, S>,
     document: SavedDocument,
 ) -> Result<(), Stop>
-    ensures { open.new.fields ≡ open.old.fields }
+    ensures table { OnOk result (open.new.attribute.table ≡ after_op open.old.fields open.old.attribute.table (put_of document)) }
+    ensures operations { OnOk result (open.new.attribute.operations ≡ open.old.attribute.operations + 1) }
+    ensures left { OnErr result (Stays open.old.attribute.table open.new.attribute.table
+        open.old.attribute.operations open.new.attribute.operations) }
+    ensures commit { Stays open.old.attribute.committed open.new.attribute.committed
+        open.old.attribute.committed_operations open.new.attribute.committed_operations }
+    ensures fields { open.new.fields ≡ open.old.fields }
 {
-    let Ok(op) = put_of(alloc, document) else {
+    let Ok(op) = op_of(alloc, document) else {
         return Err(Stop::Memory);
     };
     if !fits(&open.fields, &op) {
@@ -50,13 +67,19 @@ fn put_document<const OFFSET_BITS: u32, S: Store<OFFSET_BITS, Layout = AttrLayou
     }
 }
 
-/// Puts the documents of a save, up to one that is refused.
+/// Puts the documents of a save in, up to one that is refused.
 fn put_all<const OFFSET_BITS: u32, S: Store<OFFSET_BITS, Layout = AttrLayout>>(
     alloc: Global,
     open: &mut Open<OFFSET_BITS, S>,
     documents: Vec<SavedDocument>,
 ) -> Result<(), Stop>
-    ensures { open.new.fields ≡ open.old.fields }
+    ensures whole { OnOk result (PutsIn open.old.fields documents.items open.old.attribute.table open.new.attribute.table
+        open.old.attribute.operations open.new.attribute.operations) }
+    ensures front { OnErr result (PutsFront open.old.fields documents.items open.old.attribute.table open.new.attribute.table
+        open.old.attribute.operations open.new.attribute.operations) }
+    ensures commit { Stays open.old.attribute.committed open.new.attribute.committed
+        open.old.attribute.committed_operations open.new.attribute.committed_operations }
+    ensures fields { open.new.fields ≡ open.old.fields }
 {
     for document in documents {
         put_document(alloc, open, document)?;
@@ -64,8 +87,10 @@ fn put_all<const OFFSET_BITS: u32, S: Store<OFFSET_BITS, Layout = AttrLayout>>(
     Ok(())
 }
 
-/// Returns the save in bytes.
-fn saved_in(alloc: Global, bytes: &[u8], told: &mut Told) -> Result<Saved, Stop> {
+/// What bytes tell as a save.
+fn saved_in(alloc: Global, bytes: &[u8], told: &mut Told) -> Result<Saved, Stop>
+    ensures { IfOk result (λ saved. read_of bytes.now ≡ Ok saved) }
+{
     match read_saved(alloc, &mut SliceSource::new(bytes)) {
         Ok(saved) => Ok(saved),
         Err(LoadError::BadForm { place }) => {
@@ -77,14 +102,20 @@ fn saved_in(alloc: Global, bytes: &[u8], told: &mut Told) -> Result<Saved, Stop>
     }
 }
 
-/// Puts the documents of a save. There must be a single attribute, that of the save.
+/// Puts the documents of a save in. The save is of the one attribute that there is.
 pub fn load<const OFFSET_BITS: u32, S: Store<OFFSET_BITS, Layout = AttrLayout>>(
     alloc: Global,
     open: &mut Open<OFFSET_BITS, S>,
     bytes: &[u8],
     told: &mut Told,
 ) -> Result<(), Stop>
-    ensures { open.new.fields ≡ open.old.fields }
+    ensures whole { OnOk result (LoadsSave open.old.fields bytes.now open.old.attribute.table open.new.attribute.table
+        open.old.attribute.operations open.new.attribute.operations) }
+    ensures front { OnErr result (LoadsFront open.old.fields bytes.now open.old.attribute.table open.new.attribute.table
+        open.old.attribute.operations open.new.attribute.operations) }
+    ensures commit { Stays open.old.attribute.committed open.new.attribute.committed
+        open.old.attribute.committed_operations open.new.attribute.committed_operations }
+    ensures fields { open.new.fields ≡ open.old.fields }
 {
     let saved = saved_in(alloc, bytes, told)?;
     if !is_of_fields(&open.fields, &saved) {

@@ -1,21 +1,29 @@
-//! The calls from C that open, close, and hand out readers.
+//! What C calls to open, to close, and to hand readers out.
+ghost use Rattle.std.specs.Prelude.{◌≡◌, IfOk};
+ghost use Rattle.attr_c.specs.Engines.{IsNewEngine, KeepsTables};
 
 use crate::attributes::fields_in;
 use crate::codes::{BOUNDS, LOST, MEMORY, NO_READER, NO_TEXT, OK};
 use crate::handles::{HeldEngine, HeldSeat};
 use crate::opening::{may_cross, opened_in_bounds};
-use crate::seat::{Seat, reader_of};
+use crate::seat::{Place, Seat, reader_of};
 use crate::state::{AnyOpen, AnyReader, Engine};
 use crate::told::Sizes;
 use std::alloc::Global;
 
-/// Returns an engine over a new memory, without documents, or the code of a refusal.
-fn new_engine(
-    alloc: Global,
-    text: &str,
-    sizes: &Sizes,
-    place: &mut u64,
-) -> Result<Box<Engine>, i32> {
+fn engine_of(alloc: Global, opened: AnyOpen) -> Result<Box<Engine>, i32>
+    ensures { IfOk result (λ engine. engine.value.open ≡ opened) }
+{
+    match Box::new(alloc, Engine { open: opened }) {
+        Ok(engine) => Ok(engine),
+        Err(_) => Err(MEMORY),
+    }
+}
+
+/// An engine over a new memory, which has no document; or the code of a refusal.
+fn new_engine(alloc: Global, text: &str, sizes: &Sizes, place: &mut u64) -> Result<Box<Engine>, i32>
+    ensures { IfOk result (λ engine. IsNewEngine engine.value) }
+{
     let fields = match fields_in(alloc, text) {
         Ok(fields) => fields,
         Err(error) => {
@@ -28,13 +36,10 @@ fn new_engine(
         Ok(None) => return Err(BOUNDS),
         Err(_) => return Err(MEMORY),
     };
-    match Box::new(alloc, Engine { open }) {
-        Ok(engine) => Ok(engine),
-        Err(_) => Err(MEMORY),
-    }
+    engine_of(alloc, open)
 }
 
-/// Opens an engine for the attributes that a text names.
+/// Opens an engine of the attributes that a text names.
 #[unsafe(no_mangle)]
 pub extern "C" fn attr_open(
     alloc: Global,
@@ -56,14 +61,16 @@ pub extern "C" fn attr_open(
     }
 }
 
-/// Frees the attributes and their writer. The memory of the words stays, and readers continue.
+/// Gives up the attributes and their writer. The memory of the words stays, and readers go on.
 #[unsafe(no_mangle)]
 pub extern "C" fn attr_close(alloc: Global, at: HeldEngine) {
     drop(at.into_box(alloc));
 }
 
-/// Returns a reader that was not handed out.
-fn next_reader(open: &mut AnyOpen) -> Option<AnyReader> {
+/// A reader that was not given away yet.
+fn next_reader(open: &mut AnyOpen) -> Option<AnyReader>
+    ensures { KeepsTables open.old open.new }
+{
     match open {
         AnyOpen::Narrow(open) => match open.pool.pop() {
             Some(waiting) => Some(AnyReader::Narrow(waiting)),
@@ -76,8 +83,10 @@ fn next_reader(open: &mut AnyOpen) -> Option<AnyReader> {
     }
 }
 
-/// Puts a reader back among those to be handed out.
-fn put_back(open: &mut AnyOpen, reader: AnyReader) -> i32 {
+/// Puts a reader back to those that are to be given away.
+fn put_back(open: &mut AnyOpen, reader: AnyReader) -> i32
+    ensures { KeepsTables open.old open.new }
+{
     match (open, reader) {
         (AnyOpen::Narrow(open), AnyReader::Narrow(waiting)) => match open.pool.push(waiting) {
             Ok(()) => OK,
@@ -93,21 +102,22 @@ fn put_back(open: &mut AnyOpen, reader: AnyReader) -> i32 {
 
 /// Hands out a reader.
 #[unsafe(no_mangle)]
-pub extern "C" fn attr_reader_open(alloc: Global, at: &mut HeldEngine, out: &mut *mut u8) -> i32 {
+pub extern "C" fn attr_reader_open(alloc: Global, at: &mut HeldEngine, out: &mut *mut u8) -> i32
+    ensures { KeepsTables at.old.value.open at.new.value.open }
+{
+    let Ok(mut seat) = Box::new(alloc, may_cross(Seat::new(alloc))) else {
+        return MEMORY;
+    };
     let engine = at.get_mut();
     let Some(reader) = next_reader(&mut engine.open) else {
         return NO_READER;
     };
-    match Box::new(alloc, may_cross(Seat::new(alloc, reader))) {
-        Ok(seat) => {
-            *out = Box::into_raw(seat).cast::<u8>();
-            OK
-        }
-        Err(_) => MEMORY,
-    }
+    seat.place = Some(Place::Free(reader));
+    *out = Box::into_raw(seat).cast::<u8>();
+    OK
 }
 
-/// Returns the reader of a handle, without a guard.
+/// The reader of a handle, without a guard.
 fn reader_in(alloc: Global, at: HeldSeat) -> Option<AnyReader> {
     let Seat { place, .. } = Box::into_inner(at.into_box(alloc));
     match place {
@@ -116,9 +126,11 @@ fn reader_in(alloc: Global, at: HeldSeat) -> Option<AnyReader> {
     }
 }
 
-/// Takes a reader back, so that it can be handed out again.
+/// Takes a reader back, to be handed out again.
 #[unsafe(no_mangle)]
-pub extern "C" fn attr_reader_return(alloc: Global, at: &mut HeldEngine, seat: HeldSeat) -> i32 {
+pub extern "C" fn attr_reader_return(alloc: Global, at: &mut HeldEngine, seat: HeldSeat) -> i32
+    ensures { KeepsTables at.old.value.open at.new.value.open }
+{
     let reader = reader_in(alloc, seat);
     let engine = at.get_mut();
     match reader {
@@ -127,7 +139,7 @@ pub extern "C" fn attr_reader_return(alloc: Global, at: &mut HeldEngine, seat: H
     }
 }
 
-/// Frees a reader.
+/// Gives up a reader for good.
 #[unsafe(no_mangle)]
 pub extern "C" fn attr_reader_close(alloc: Global, at: HeldSeat) {
     drop(reader_in(alloc, at));

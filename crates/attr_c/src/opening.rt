@@ -1,10 +1,11 @@
 //! A new memory, which is never freed, with its attributes and readers.
-ghost use Rattle.std.specs.Prelude.{◌≡◌, ◌≤◌, ◌<◌, ◌*◌, ◌^◌, length, IfOk};
+ghost use Rattle.std.specs.Prelude.{◌≡◌, ◌≤◌, ◌<◌, ◌*◌, ◌^◌, length, IfOk, IfSome};
 ghost use Rattle.attr_images.specs.Shapes.{shape_of, types_of};
 ghost use Rattle.attr_types.specs.declared.field.TheConstants.{MOST_FIELDS};
 ghost use Rattle.arena_api.specs.Calls.{IsFresh};
 ghost use Rattle.word_arena.specs.Knows.{view_of};
 ghost use Rattle.word_arena.specs.Ruled.{writer_of};
+ghost use Rattle.attr_c.specs.Engines.{HasNothing, IsOpened};
 
 use crate::state::{AnyOpen, Counts, Narrow, Open, Waiting, Wide};
 use crate::told::Sizes;
@@ -59,10 +60,14 @@ fn running<const OFFSET_BITS: u32>(
     requires few { length fields.now ≤ MOST_FIELDS }
     requires shape { (writer_of writer.place.me.0).sizes.shape ≡ shape_of (types_of fields.now) }
     requires fresh { IsFresh (view_of writer.place.table_id (writer_of writer.place.me.0)) }
-    ensures { IfOk result (λ a. a.fields ≡ fields.now) }
+    ensures fields { IfOk result (λ a. a.fields ≡ fields.now) }
+    ensures nothing { IfOk result (λ a. HasNothing a.table a.committed a.operations a.committed_operations) }
 {
     match Attribute::create(alloc, writer, fields, false) {
-        Ok(attribute) => Ok(attribute),
+        Ok(attribute) => {
+            let _ = attribute.operations();
+            Ok(attribute)
+        }
         Err(_) => Err(AllocError),
     }
 }
@@ -150,7 +155,9 @@ fn narrow_open(
     requires product { config.buffers * config.words ≤ 67108864 }
     requires generations { config.limits.generations < 2 ^ 48 }
     requires shape { config.shape ≡ shape_of (types_of fields) }
-    ensures { IfOk result (λ o. o.fields ≡ fields) }
+    ensures fields { IfOk result (λ o. o.fields ≡ fields) }
+    ensures nothing { IfOk result (λ o. HasNothing o.attribute.table o.attribute.committed o.attribute.operations
+        o.attribute.committed_operations) }
 {
     let mut writer = narrow_writer(alloc, config)?;
     let pool = waiting(alloc, &mut writer, &fields, sizes.readers)?;
@@ -179,7 +186,9 @@ fn wide_open(
     requires product { config.buffers * config.words ≤ 67108864 }
     requires generations { config.limits.generations < 2 ^ 48 }
     requires shape { config.shape ≡ shape_of (types_of fields) }
-    ensures { IfOk result (λ o. o.fields ≡ fields) }
+    ensures fields { IfOk result (λ o. o.fields ≡ fields) }
+    ensures nothing { IfOk result (λ o. HasNothing o.attribute.table o.attribute.committed o.attribute.operations
+        o.attribute.committed_operations) }
 {
     let mut writer = wide_writer(alloc, config)?;
     let pool = waiting(alloc, &mut writer, &fields, sizes.readers)?;
@@ -201,6 +210,7 @@ pub fn opened_in_bounds(
 ) -> Result<Option<AnyOpen>, AllocError>
     requires some { 0 < length fields }
     requires few { length fields ≤ MOST_FIELDS }
+    ensures { IfOk result (λ found. IfSome found (IsOpened fields)) }
 {
     if sizes.buffers < 1 || sizes.words < 8192 || sizes.words > 65536 || sizes.readers > 64 {
         return Ok(None);

@@ -1,6 +1,7 @@
-//! The calls from C with a reader's handle.
-ghost use Rattle.std.specs.Prelude.{◌≡◌, ◌≢◌, pos, IfOk};
-ghost use Rattle.attr_c.specs.Seats.{AnswersText, ByGuardOf, ReadsItems, SavesTable};
+//! What C calls with a reader's handle.
+ghost use Rattle.std.specs.Prelude.{◌≡◌, ◌≢◌, pos, Some, None, option_map, slice_get, IfOk};
+ghost use Rattle.attr_c.specs.Copies.{documents_of, item_told, scores_told, text_in, Copies};
+ghost use Rattle.attr_c.specs.Seats.{AnswersText, ByGuardOf, CountsText, HoldsGuard, ReadsItems, ReleasesGuard, SavesTable};
 
 use crate::answer::{Answer, copy_hits, copy_scores};
 use crate::asking::{answer_any, items_any, save_any, tell_any};
@@ -20,16 +21,18 @@ fn no_answer() -> Answered {
     }
 }
 
-/// Returns the code of a refusal, which is not that of success.
+/// The code of a refusal, which is none of success.
 fn refused(code: i32) -> i32
     ensures { result ≢ pos 0 }
 {
     if code == OK { LOST } else { code }
 }
 
-/// Takes a guard of the last commit, and keeps it until it is released. An existing guard is kept.
+/// Takes a guard of the last commit, and keeps it until it is released. Where there is one it stays.
 #[unsafe(no_mangle)]
-pub extern "C" fn attr_hold(at: &mut HeldSeat, told: &mut Answered) -> i32 {
+pub extern "C" fn attr_hold(at: &mut HeldSeat, told: &mut Answered) -> i32
+    ensures { result ≡ pos 0 → HoldsGuard at.old.value.place at.new.value.place told.new }
+{
     *told = no_answer();
     let seat = at.get_mut();
     let Some(place) = seat.place.take() else {
@@ -41,9 +44,11 @@ pub extern "C" fn attr_hold(at: &mut HeldSeat, told: &mut Answered) -> i32 {
     OK
 }
 
-/// Releases the guard.
+/// Gives the guard back.
 #[unsafe(no_mangle)]
-pub extern "C" fn attr_release(at: &mut HeldSeat) -> i32 {
+pub extern "C" fn attr_release(at: &mut HeldSeat) -> i32
+    ensures { result ≡ pos 0 → ReleasesGuard at.old.value.place at.new.value.place }
+{
     let seat = at.get_mut();
     let Some(place) = seat.place.take() else {
         return LOST;
@@ -52,14 +57,15 @@ pub extern "C" fn attr_release(at: &mut HeldSeat) -> i32 {
     OK
 }
 
-/// Returns the answer to a text at the guarded commit, or under a guard that this call takes and releases.
+/// The answer to a text at the guard's commit, or at that of a guard that this call takes and gives back.
 fn answer_in(
     alloc: Global,
     seat: &mut Seat,
     text: &[u8],
     told: &mut Answered,
 ) -> Result<Answer, i32>
-    ensures { IfOk result (λ answer. ByGuardOf seat.old.place seat.new.place (λ guard. AnswersText guard text.now told.new answer)) }
+    ensures answers { IfOk result (λ answer. ByGuardOf seat.old.place seat.new.place (λ guard. AnswersText guard text.now told.new answer)) }
+    ensures keeps { seat.new.answer ≡ seat.old.answer }
 {
     let Ok(text) = str::from_utf8(text) else {
         return Err(NO_TEXT);
@@ -73,7 +79,7 @@ fn answer_in(
     answer
 }
 
-/// Answers what a text asks for. The reader keeps the answer until the next ask.
+/// Answers what a text asks for. The reader keeps the answer until it is asked again.
 #[unsafe(no_mangle)]
 pub extern "C" fn attr_ask(
     alloc: Global,
@@ -95,14 +101,17 @@ pub extern "C" fn attr_ask(
     }
 }
 
-/// Writes how many documents answer what a text asks for. The reader keeps its previous answer.
+/// Tells how many documents answer what a text asks for. The reader keeps the answer that it had.
 #[unsafe(no_mangle)]
 pub extern "C" fn attr_count(
     alloc: Global,
     at: &mut HeldSeat,
     text: &[u8],
     told: &mut Answered,
-) -> i32 {
+) -> i32
+    ensures counts { result ≡ pos 0 → ByGuardOf at.old.value.place at.new.value.place (λ guard. CountsText guard text.now told.new) }
+    ensures answer { at.new.value.answer ≡ at.old.value.answer }
+{
     *told = no_answer();
     match answer_in(alloc, at.get_mut(), text, told) {
         Ok(_) => OK,
@@ -110,19 +119,25 @@ pub extern "C" fn attr_count(
     }
 }
 
-/// Copies the documents of the last answer from index `first` on, and returns how many.
+/// Copies the documents of the last answer, from the one at this place on, and says how many.
 #[unsafe(no_mangle)]
-pub extern "C" fn attr_hits(at: &mut HeldSeat, first: usize, into: &mut [u32]) -> usize {
+pub extern "C" fn attr_hits(at: &mut HeldSeat, first: usize, into: &mut [u32]) -> usize
+    ensures copies { Copies (documents_of at.old.value.answer) first into.old into.new result }
+    ensures same { at.new.value ≡ at.old.value }
+{
     copy_hits(&at.get_mut().answer, first, into)
 }
 
 /// The same with their scores. The answer to a query has none.
 #[unsafe(no_mangle)]
-pub extern "C" fn attr_scores(at: &mut HeldSeat, first: usize, into: &mut [Scored]) -> usize {
+pub extern "C" fn attr_scores(at: &mut HeldSeat, first: usize, into: &mut [Scored]) -> usize
+    ensures copies { Copies (scores_told at.old.value.answer) first into.old into.new result }
+    ensures same { at.new.value ≡ at.old.value }
+{
     copy_scores(&at.get_mut().answer, first, into)
 }
 
-/// Reads the items of a document in the attribute with a number. The reader keeps them until it reads others.
+/// Reads the items of a document in the attribute of a number. The reader keeps them until it reads others.
 #[unsafe(no_mangle)]
 pub extern "C" fn attr_items(
     alloc: Global,
@@ -151,19 +166,26 @@ pub extern "C" fn attr_items(
     }
 }
 
-/// Writes one of the items that were read last.
+/// Tells an item of those that were read last.
 #[unsafe(no_mangle)]
-pub extern "C" fn attr_item(at: &mut HeldSeat, number: usize, told: &mut ItemTold) -> i32 {
+pub extern "C" fn attr_item(at: &mut HeldSeat, number: usize, told: &mut ItemTold) -> i32
+    ensures there { result ≡ pos 0 → option_map item_told (slice_get at.old.value.items number) ≡ Some told.new }
+    ensures none { result ≢ pos 0 → slice_get at.old.value.items number ≡ None }
+    ensures same { at.new.value ≡ at.old.value }
+{
     item_at(at.get_mut().items.as_slice(), number, told)
 }
 
-/// Copies the text of one of these items, and returns the number of bytes.
+/// Copies the text of such an item, and says how many bytes were copied.
 #[unsafe(no_mangle)]
-pub extern "C" fn attr_item_text(at: &mut HeldSeat, number: usize, into: &mut [u8]) -> usize {
+pub extern "C" fn attr_item_text(at: &mut HeldSeat, number: usize, into: &mut [u8]) -> usize
+    ensures copies { Copies (text_in (slice_get at.old.value.items number)) 0 into.old into.new result }
+    ensures same { at.new.value ≡ at.old.value }
+{
     copy_bytes(text_at(at.get_mut().items.as_slice(), number), into)
 }
 
-/// Saves the first attribute. The reader keeps the bytes until the next save.
+/// Saves the first attribute. The reader keeps the bytes until it saves again.
 #[unsafe(no_mangle)]
 pub extern "C" fn attr_save(alloc: Global, at: &mut HeldSeat, told: &mut Answered) -> i32
     ensures { result ≡ pos 0 → ByGuardOf at.old.value.place at.new.value.place
@@ -186,8 +208,11 @@ pub extern "C" fn attr_save(alloc: Global, at: &mut HeldSeat, told: &mut Answere
     }
 }
 
-/// Copies bytes of the last save from index `first` on, and returns how many.
+/// Copies bytes of the last save, from the one at this place on, and says how many.
 #[unsafe(no_mangle)]
-pub extern "C" fn attr_saved(at: &mut HeldSeat, first: usize, into: &mut [u8]) -> usize {
+pub extern "C" fn attr_saved(at: &mut HeldSeat, first: usize, into: &mut [u8]) -> usize
+    ensures copies { Copies at.old.value.saved.items first into.old into.new result }
+    ensures same { at.new.value ≡ at.old.value }
+{
     copy_from(at.get_mut().saved.as_slice(), first, into)
 }

@@ -1,6 +1,6 @@
 //! What a reader's handle holds.
 ghost use Rattle.std.specs.Prelude.{◌≡◌, false};
-ghost use Rattle.attr_c.specs.Seats.{is_kept, kept_view, reader_view, IsTaken, LeavesGuard, TakesGuard};
+ghost use Rattle.attr_c.specs.Seats.{is_kept, kept_view, reader_view, IsTaken, LeavesGuard, Releases, TakesGuard};
 
 use crate::answer::Answer;
 use crate::kept::Kept;
@@ -15,7 +15,7 @@ pub enum AnyKept {
     Wide(Kept<19>),
 }
 
-/// A reader, with or without a guard of its own.
+/// A reader, under a guard of its own or not.
 #[derive(Drop)]
 pub enum Place {
     Free(AnyReader),
@@ -25,7 +25,7 @@ pub enum Place {
 /// A reader, and the answers that it keeps.
 #[derive(Drop)]
 pub struct Seat {
-    /// `None` only during a call.
+    /// None only while a call runs.
     pub place: Option<Place>,
     pub answer: Answer,
     pub items: Items,
@@ -33,9 +33,10 @@ pub struct Seat {
 }
 
 impl Seat {
-    pub fn new(alloc: Global, reader: AnyReader) -> Seat {
+    /// Returns a seat without a reader.
+    pub fn new(alloc: Global) -> Seat {
         Seat {
-            place: Some(Place::Free(reader)),
+            place: None,
             answer: Answer::new(alloc),
             items: Items::new(alloc),
             saved: Vec::new(alloc),
@@ -61,7 +62,7 @@ fn released(kept: AnyKept) -> AnyReader
     }
 }
 
-/// Returns a reader under a guard, and whether it had the guard before.
+/// A reader under a guard, and whether it was so before.
 pub fn kept_of(place: Place) -> (AnyKept, bool)
     ensures guard { TakesGuard place (kept_view result.0) }
     ensures stays { result.1 ≡ is_kept place }
@@ -72,7 +73,7 @@ pub fn kept_of(place: Place) -> (AnyKept, bool)
     }
 }
 
-/// Returns the reader, with or without the guard.
+/// The reader, under the guard still or not.
 pub fn left(kept: AnyKept, stays: bool) -> Place
     ensures { LeavesGuard stays (kept_view kept) result }
 {
@@ -83,8 +84,10 @@ pub fn left(kept: AnyKept, stays: bool) -> Place
     }
 }
 
-/// Returns the reader without a guard.
-pub fn reader_of(place: Place) -> AnyReader {
+/// The reader without a guard.
+pub fn reader_of(place: Place) -> AnyReader
+    ensures { Releases place result }
+{
     match place {
         Place::Free(reader) => reader,
         Place::Kept(kept) => released(kept),

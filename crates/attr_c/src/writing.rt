@@ -1,5 +1,5 @@
 //! Commits, and steps of a compaction.
-ghost use Rattle.std.specs.Prelude.{◌≡◌, OnOk, IfOk};
+ghost use Rattle.std.specs.Prelude.{◌≡◌, OnOk, OnErr};
 
 use crate::state::Open;
 use crate::stop::{Stop, note_advance, note_oldest};
@@ -17,6 +17,8 @@ pub fn commit<const OFFSET_BITS: u32, S: Store<OFFSET_BITS, Layout = AttrLayout>
     ensures committed { OnOk result (open.new.attribute.committed ≡ open.old.attribute.table) }
     ensures published { OnOk result (open.new.attribute.committed_operations ≡ open.old.attribute.operations) }
     ensures counts { OnOk result (told.new.operations ≡ open.old.attribute.operations) }
+    ensures left { OnErr result ((open.new.attribute.committed ≡ open.old.attribute.committed)
+        × (open.new.attribute.committed_operations ≡ open.old.attribute.committed_operations)) }
     ensures table { open.new.attribute.table ≡ open.old.attribute.table }
     ensures operations { open.new.attribute.operations ≡ open.old.attribute.operations }
     ensures fields { open.new.fields ≡ open.old.fields }
@@ -47,6 +49,7 @@ pub fn compact<const OFFSET_BITS: u32, S: Store<OFFSET_BITS, Layout = AttrLayout
     ensures table { open.new.attribute.table ≡ open.old.attribute.table }
     ensures operations { open.new.attribute.operations ≡ open.old.attribute.operations }
     ensures committed { open.new.attribute.committed ≡ open.old.attribute.committed }
+    ensures published { open.new.attribute.committed_operations ≡ open.old.attribute.committed_operations }
     ensures fields { open.new.fields ≡ open.old.fields }
 {
     match open.attribute.compact_step(alloc, keys) {

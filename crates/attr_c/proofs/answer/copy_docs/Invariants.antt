@@ -1,5 +1,5 @@
-use Rattle.std.proofs.Common.{◌≡◌, length, take}
+use Rattle.std.proofs.Common.{◌≡◌, length, take, drop}
 use Rattle.attr_c.proofs.answer.copy_docs.Given as goal
 
 abbrev pub invariant-loop-i : goal.invariant-loop-i
-invariant-loop-i l = record { front : take l.i l.into ≡ take l.i l.docs; long : length l.into ≡ length l.fn.into }
+invariant-loop-i l = record { front : take l.i l.into ≡ take l.i l.docs; rest : drop l.i l.into ≡ drop l.i l.fn.into; long : length l.into ≡ length l.fn.into }

@@ -1,4 +1,4 @@
-use Rattle.std.proofs.Common.{◌≡◌, ◌+◌, ◌≤◌, List, length, refl, subst, rules, ◌∙◌, arith, Ok, Err}
+use Rattle.std.proofs.Common.{◌+◌, List, refl, subst, rules, ◌∙◌, arith, Ok, Err}
 use Rattle.attr_types.specs.declared.field.Field.{Field}
 use Rattle.attr_c.specs.Feeding.{FedLine}
 use Rattle.attr_c.proofs.FeedLemmas.{drop_none, drop_on, fed_none, fed_on, fed_refused, fed_whole}
@@ -8,6 +8,7 @@ pub loop-rest-init : goal.loop-rest-init
 loop-rest-init g c = record {
   fed = fed_none c.args.open.now.fields c.args.bytes.now c.args.open.now.attribute.table c.args.open.now.attribute.operations;
   fields = refl;
+  commit = record { table = refl; operations = refl };
   at = drop_none c.args.bytes.now;
   few = omega arith;
 }
@@ -28,6 +29,7 @@ loop-rest-preserved g c =
       fed = fed_on was.fields c.args.bytes.now was.attribute.table mid.table now.table was.attribute.operations mid.operations now.operations (c.loop-rest.passed + 1) rest line after
           c.split_line.ensures.lines i.fed c.in-Ok.applied fed;
       fields = c.in-Ok.ensures.fields ∙ i.fields;
+      commit = record { table = c.in-Ok.ensures.commit.table ∙ i.commit.table; operations = c.in-Ok.ensures.commit.operations ∙ i.commit.operations };
       at = drop_on c.args.bytes.now rest after i.at c.split_line.ensures.rest (omega (arith, shorter)) (omega (arith, few));
       few = omega (arith, few, shorter);
     }

@@ -1,5 +1,5 @@
 use Rattle.std.proofs.Common.{◌≡◌, ◌+◌, ◌-◌, ◌≤◌, length, drop}
-use Rattle.attr_c.specs.Feeding.{FedTo}
+use Rattle.attr_c.specs.Feeding.{FedTo, Stays}
 use Rattle.attr_c.proofs.feeding.feed.Given as goal
 
 -- what was applied is what the feed says before the lines that are left
@@ -8,6 +8,7 @@ invariant-loop-rest g l = record {
   fed : FedTo l.fn.open.fields l.fn.bytes (l.passed + 1) l.rest l.fn.open.attribute.table l.open.attribute.table l.fn.open.attribute.operations l.open.attribute.operations;
   fields : l.open.fields ≡ l.fn.open.fields;
   at : l.rest ≡ drop (length l.fn.bytes - length l.rest) l.fn.bytes;
+  commit : Stays l.fn.open.attribute.committed l.open.attribute.committed l.fn.open.attribute.committed_operations l.open.attribute.committed_operations;
   few : l.passed + length l.rest ≤ length l.fn.bytes;
 }
 

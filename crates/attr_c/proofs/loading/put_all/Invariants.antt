@@ -1,5 +1,14 @@
-use Rattle.std.proofs.Common.{◌≡◌}
+use Rattle.std.proofs.Common.{◌≡◌, ◌++◌}
+use Rattle.std.specs.Vec.Iter.{into_iter_items}
+use Rattle.attr_c.specs.Feeding.{Stays}
+use Rattle.attr_c.specs.Loading.{PutsIn}
 use Rattle.attr_c.proofs.loading.put_all.Given as goal
 
+-- the documents so far were put in
 abbrev pub invariant-loop-document : goal.invariant-loop-document
-invariant-loop-document g l = record { fields : l.open.fields ≡ l.fn.open.fields }
+invariant-loop-document g l = record {
+  puts : PutsIn l.fn.open.fields l.yielded l.fn.open.attribute.table l.open.attribute.table l.fn.open.attribute.operations l.open.attribute.operations;
+  fields : l.open.fields ≡ l.fn.open.fields;
+  commit : Stays l.fn.open.attribute.committed l.open.attribute.committed l.fn.open.attribute.committed_operations l.open.attribute.committed_operations;
+  all : l.yielded ++ into_iter_items l.document-iterator ≡ l.fn.documents.items;
+}

@@ -1,0 +1,60 @@
+-- Documents of a save, put in one after another.
+use Rattle.std.proofs.Common.{◌≡◌, ℕ, ◌+◌, List, [], ◌∷◌, ◌++◌, length, take, Result, Ok, Err, refl, sym, ◌∙◌, ap, arith, length-append}
+use Rattle.std.specs.Prelude.{OnErr}
+use Rattle.attr_saver.specs.Fields.{read_of}
+use Rattle.attr_saver.specs.declared.saved.Saved.{Saved}
+use Rattle.attr_saver.specs.declared.saved.SavedDocument.{SavedDocument}
+use Rattle.attr_types.specs.Table.{Table, after_op, after_ops}
+use Rattle.attr_types.specs.declared.field.Field.{Field}
+use Rattle.attr_c.specs.Feeding.{Stays}
+use Rattle.attr_c.specs.Loading.{put_of, puts_of, PutsIn, PutsFront, IsSaveOf, LoadsSave, LoadsFront}
+
+after_puts : (fields : List Field) (documents : List SavedDocument) (one : SavedDocument) (table : Table)
+    → after_ops fields table (puts_of (documents ++ one ∷ [])) ≡ after_op fields (after_ops fields table (puts_of documents)) (put_of one)
+after_puts fields [] one table = refl
+after_puts fields (first ∷ documents) one table = after_puts fields documents one (after_op fields table (put_of first))
+
+take_front : (front rest : List SavedDocument) → front ≡ take (length front) (front ++ rest)
+take_front [] rest = refl
+take_front (first ∷ front) rest = ap (λ (xs : List SavedDocument). first ∷ xs) (take_front front rest)
+
+module _ (fields : List Field) (old : Table) (before : ℕ) where
+  pub puts_none : PutsIn fields [] old old before before
+  puts_none = record { table = refl; operations = omega arith }
+
+  pub puts_more : (documents : List SavedDocument) (one : SavedDocument) (mid new : Table) (between after : ℕ) → PutsIn fields documents old mid before between → new ≡ after_op fields mid (put_of one)
+      → after ≡ between + 1 → PutsIn fields (documents ++ one ∷ []) old new before after
+  puts_more documents one mid new between after puts table operations =
+      let was = puts.operations in
+      let long = length-append documents (one ∷ []) in
+      record {
+        table = table ∙ ap (λ (t : Table). after_op fields t (put_of one)) puts.table ∙ sym (after_puts fields documents one old);
+        operations = omega (arith, operations, was, long);
+      }
+
+  pub puts_front : (documents rest all : List SavedDocument) (mid new : Table) (between after : ℕ) → documents ++ rest ≡ all → PutsIn fields documents old mid before between → Stays mid new between after
+      → PutsFront fields all old new before after
+  puts_front documents rest all mid new between after whole puts stays = record {
+    documents = documents;
+    puts = record { table = stays.table ∙ puts.table; operations = stays.operations ∙ puts.operations };
+    front = take_front documents rest ∙ ap (take (length documents)) whole;
+  }
+
+  module _ (bytes : List ℕ) (new : Table) (after : ℕ) where
+    pub loads_whole : (saved : Saved) → read_of bytes ≡ Ok saved → IsSaveOf fields saved → PutsIn fields saved.table old new before after → LoadsSave fields bytes old new before after
+    loads_whole saved reads is_of puts = record { saved = saved; reads = reads; is_of = is_of; puts = puts }
+
+    pub loads_front : (saved : Saved) → read_of bytes ≡ Ok saved → PutsFront fields saved.table old new before after → LoadsFront fields bytes old new before after
+    loads_front saved reads front = record {
+      documents = front.documents;
+      puts = front.puts;
+      front = λ other says. let same : saved ≡ other = cc in front.front ∙ ap (λ (s : Saved). take (length front.documents) s.table) same;
+    }
+
+    pub loads_none : Stays old new before after → LoadsFront fields bytes old new before after
+    loads_none stays = record { documents = []; puts = record { table = stays.table; operations = let same = stays.operations in omega (arith, same) }; front = λ saved says. refl }
+
+-- what holds of a refusal that is handed on
+pub on_err : {A E : Type 0} {P : Type 0} (result : Result A E) → P → OnErr result P
+on_err (Ok x) p = tt
+on_err (Err e) p = p

@@ -1,0 +1,25 @@
+-- What a new engine has.
+use Rattle.std.proofs.Common.{◌≡◌, ℕ, List, [], sym, ◌∙◌, ap}
+use Rattle.arena_api.specs.Works.{last_image}
+use Rattle.entry_ref.specs.Images.{words_at}
+use Rattle.store_api.specs.Ledgers.{Ledger}
+use Rattle.attr_images.specs.Images.{operations_at, table_of}
+use Rattle.attr_images.specs.Shapes.{shape_of, types_of}
+use Rattle.attr_images.proofs.ImageLemmas.{table_empty}
+use Rattle.attribute_kinds.specs.Calls.{HasCommit}
+use Rattle.attr_types.specs.Table.{Table}
+use Rattle.attr_types.specs.declared.field.Field.{Field}
+use Rattle.attr_c.specs.Engines.{HasNothing}
+
+-- without a root nothing is committed
+pub nothing_yet : {H : Type 0} (ledger : Ledger H) (fields : List Field) (root : ℕ) (table committed : Table) (operations published : ℕ) → HasCommit ledger fields root committed published → root ≡ 0
+    → table ≡ [] → operations ≡ 0 → HasNothing table committed operations published
+nothing_yet ledger fields root table committed operations published has no_root no_table none =
+    let shape = shape_of (types_of fields) in
+    let m = words_at (last_image ledger.work.commits) in
+    record {
+      table_is = no_table;
+      committed_is = sym has.table_is ∙ ap (table_of shape m) no_root ∙ table_empty shape m;
+      operations_are = none;
+      published_are = sym has.operations_are ∙ ap (operations_at m) no_root;
+    }

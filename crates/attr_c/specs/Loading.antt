@@ -1,0 +1,47 @@
+-- What a save makes of attributes.
+use Rattle.std.specs.Prelude.{◌≡◌, ℕ, ◌+◌, List, [], ◌∷◌, length, map, take, Result, Ok}
+use Rattle.attr_saver.specs.Fields.{read_of}
+use Rattle.attr_saver.specs.declared.saved.Saved.{Saved}
+use Rattle.attr_saver.specs.declared.saved.SavedDocument.{SavedDocument}
+use Rattle.attr_types.specs.Table.{Table, after_ops}
+use Rattle.attr_types.specs.declared.field.Field.{Field}
+use Rattle.attr_types.specs.declared.op.Op.{Op}
+use Rattle.attr_types.specs.declared.op.Op.TheVariants.{Put}
+
+-- the operations that put documents in
+abbrev pub put_of : SavedDocument → Op
+put_of document = Put document.doc (document.items ∷ [])
+
+abbrev pub puts_of : List SavedDocument → List Op
+puts_of documents = map put_of documents
+
+-- documents were put in, one after another
+pub record PutsIn (fields : List Field) (documents : List SavedDocument) (old new : Table) (before after : ℕ) : Type 0 where
+  pub table : new ≡ after_ops fields old (puts_of documents)
+  pub operations : after ≡ before + length documents
+
+-- a save is of the one attribute that there is
+pub record IsSaveOf (fields : List Field) (saved : Saved) : Type 0 where
+  pub field : Field
+  pub sole : fields ≡ field ∷ []
+  pub kind : saved.kind ≡ field.kind
+  pub value : saved.value ≡ field.value
+
+-- all documents of a save were put in
+pub record LoadsSave (fields : List Field) (bytes : List ℕ) (old new : Table) (before after : ℕ) : Type 0 where
+  pub saved : Saved
+  pub reads : read_of bytes ≡ Ok saved
+  pub is_of : IsSaveOf fields saved
+  pub puts : PutsIn fields saved.table old new before after
+
+-- some of these documents were put in, the first ones
+pub record PutsFront (fields : List Field) (all : List SavedDocument) (old new : Table) (before after : ℕ) : Type 0 where
+  pub documents : List SavedDocument
+  pub puts : PutsIn fields documents old new before after
+  pub front : documents ≡ take (length documents) all
+
+-- some documents of a save were put in, the first ones; none where the bytes are no save
+pub record LoadsFront (fields : List Field) (bytes : List ℕ) (old new : Table) (before after : ℕ) : Type 0 where
+  pub documents : List SavedDocument
+  pub puts : PutsIn fields documents old new before after
+  pub front : (saved : Saved) → read_of bytes ≡ Ok saved → documents ≡ take (length documents) saved.table
