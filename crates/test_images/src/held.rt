@@ -23,7 +23,7 @@ impl Frozen<22> for Held {
 
     fn word(&mut self, entry: EntryRef<22>, i: u32) -> u64
         requires { HasWord (seen self.old.records) entry i }
-        ensures value { result ≡ word_at (seen self.old.records) entry.entry i }
+        ensures value { result ≡ word_at (seen self.old.records) entry i }
         ensures same { self.new ≡ self.old }
     {
         word_in(words_at(&self.records, u64::from(entry.raw())), i as usize)
@@ -32,7 +32,7 @@ impl Frozen<22> for Held {
     fn read(&mut self, entry: EntryRef<22>, first: u32, into: &mut [u64])
         requires there { first + length into.old ≤ length (seen self.old.records entry) }
         requires few { first + length into.old < 2 ^ 32 }
-        ensures words { into.new ≡ take (length into.old) (drop first (seen self.old.records entry.entry)) }
+        ensures words { into.new ≡ take (length into.old) (drop first (seen self.old.records entry)) }
         ensures same { self.new ≡ self.old }
     {
         let words = words_at(&self.records, u64::from(entry.raw()));
