@@ -1,0 +1,6 @@
+use Rattle.std.specs.Prelude.{◌≡◌}
+use Rattle.test_images.proofs.of_queries.first_wrong.Given as goal
+
+-- the memory stays as it was
+abbrev pub invariant-loop-row : goal.invariant-loop-row
+invariant-loop-row l = record { same : l.held ≡ l.fn.held }
