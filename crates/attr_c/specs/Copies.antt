@@ -1,6 +1,5 @@
 -- What is copied out of what a reader keeps.
-use Rattle.std.specs.Prelude.{◌≡◌, ℕ, ◌-◌, ◌^◌, ℤ, pos, neg_ℤ, int_lt, if◌then◌else◌}
-use Rattle.std.specs.Prelude.{List, [], length, map, min, take, drop, Option, Some, None}
+use Rattle.std.specs.Prelude.{◌≡◌, ℕ, ◌-◌, ◌^◌, ℤ, pos, neg_ℤ, int_lt, if◌then◌else◌, List, [], length, map, min, take, drop, Option, Some, None}
 use Rattle.attr_types.specs.Change.{if_signed}
 use Rattle.attr_types.specs.declared.items.Item.{Item}
 use Rattle.attr_types.specs.declared.score.Score.{Score}
