@@ -10,7 +10,8 @@
 //! the loading. Each round has the lines of one of the commit points given before by `point LINE`, and they never
 //! fall.
 //!
-//! - `torture RUNS COMMITS`: RUNS runs of COMMITS commits each, with a save beside the loading. Each save must be that of its operations.
+//! - `torture RUNS COMMITS`: RUNS runs of COMMITS commits each, with a save beside the loading. Each save must be that of
+//! its operations. A third number above 0 asks how many of them were older than the last commit.
 //!
 //! Other lines are comments.
 use crate::run::{room, saved, told, words_in};
@@ -288,7 +289,13 @@ fn compare_row<R: Threads + Sync>(
         "beside" => compare_beside(rt, threads, &mut tallies.beside, row, wanted),
         "room" => compare_room(rt, threads, &mut tallies.full, row, wanted),
         "saved" => compare_saved(rt, threads, &mut tallies.saves, row, wanted),
-        "torture" => saver::torture(rt, threads, number_in(wanted, 0), number_in(wanted, 1)),
+        "torture" => saver::torture(
+            rt,
+            threads,
+            number_in(wanted, 0),
+            number_in(wanted, 1),
+            number_in(wanted, 2) > 0,
+        ),
         _ => Ok(()),
     }
 }
