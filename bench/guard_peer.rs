@@ -1,5 +1,6 @@
 //! What `bench/guard` compares with, in plain Rust. Each run prints the nanoseconds that it took.
-//! Usage: guard_peer add LOOPS | copy LOOPS | KIND READERS LOOPS COMMITS, where KIND is rwlock, arc, or one of six that do what the running
+//! Usage: guard_peer add LOOPS | copy LOOPS | own READERS LOOPS | KIND READERS LOOPS COMMITS. By `own` each thread loads a word that no other
+//! thread has, so it shows what the processors give to so many threads. KIND is rwlock, arc, or one of six that do what the running
 //! memory does: packed and padded make guards, packed-again and padded-again load the root under a hold that is kept, and packed-again-64 and
 //! padded-again-64 take a new hold after 64 loads. Packed words stand side by side, as the formats have them, so that the root, the newest
 //! hold's name and eight holds share what a processor takes in at once. Padded words do not.
@@ -57,6 +58,21 @@ fn beside(readers: u64, loops: u64, commits: u64, look: impl Fn() -> u64 + Sync,
         }
     });
     looks.load(SeqCst)
+}
+
+/// Threads that each load a word of their own so often.
+fn owns(readers: u64, loops: u64) -> u64 {
+    thread::scope(|scope| {
+        for _ in 0..readers {
+            scope.spawn(|| {
+                let word = AtomicU64::new(0);
+                for _ in 0..loops {
+                    black_box(black_box(&word).load(SeqCst));
+                }
+            });
+        }
+    });
+    readers * loops
 }
 
 /// The named words of the running memory: the root, the newest hold, and the counts of 16 holds.
@@ -147,6 +163,7 @@ fn main() {
             copies(number(1));
             number(1)
         }
+        Some("own") => owns(number(1), number(2)),
         Some("rwlock") => {
             let root = RwLock::new(0u64);
             beside(number(1), number(2), number(3), || *root.read().unwrap(), |n| *root.write().unwrap() = n)
