@@ -7,13 +7,6 @@ use Rattle.entry_ref.specs.Records.{Among}
 use Rattle.attr_images.specs.Words.{classes, class_of}
 use Rattle.store_api.specs.Ledgers.{is_width}
 
-pub too_many : (n most : ℕ) → most < n → nat_le n most ≡ false
-too_many n most more = told (nat_le n most) refl
-  where
-    told : (b : Bool) → nat_le n most ≡ b → b ≡ false
-    told true is = absurd (let few = leb-true n most is in omega arith)
-    told false is = refl
-
 abbrev found : ℕ → List ℕ → ℕ
 found n ws = unwrap_or (find (nat_le n) ws) 1024
 

@@ -14,16 +14,14 @@ use Rattle.gen_core.specs.declared.views.WriterView.{WriterView}
 use Rattle.gen_core.specs.Events.{joined}
 use Rattle.gen_core.specs.Views.{last_number}
 use Rattle.word_arena.specs.Ruled.{reader_of}
-use Rattle.attr_images.proofs.ShapeLemmas.{shape_tells}
 use Rattle.attr_images.specs.Images.{table_of, IsLawfulImage}
-use Rattle.attr_images.specs.Shapes.{shape_of, types_of_shape, types_of}
+use Rattle.attr_images.specs.Shapes.{shape_of, types_of}
 use Rattle.attr_images.specs.declared.layout.AttrLayout.{AttrLayout}
 use Rattle.attr_types.specs.Table.{Table, after, IsCommitPoint}
 use Rattle.attr_types.specs.declared.field.Field.{Field}
 use Rattle.attr_types.specs.declared.field.TheConstants.{MOST_FIELDS}
-use Rattle.attr_types.specs.declared.kind.Kind.{Kind}
-use Rattle.attr_types.specs.declared.kind.ValueType.{ValueType}
 use Rattle.attr_types.specs.declared.op.Op.{Op}
+use Rattle.attr_saver.proofs.FirstLemmas.{first_is as first_of_shape}
 use Rattle.attr_saver.specs.Bytes.{saved_bytes}
 use Rattle.attr_saver.specs.Images.{IsFirst}
 use Rattle.attr_saver.specs.Lawful.{save_of}
@@ -44,20 +42,9 @@ use Rattle.attr_engine.proofs.ReaderLemmas.{all_first}
 
 -- ---- the first attribute
 
-types_length : (fields : List Field) → length (types_of fields) ≡ length fields
-types_length [] = refl
-types_length (field ∷ fields) = ap (λ n. suc n) (types_length fields)
-
-first_type : (fields : List Field) (field : Field) → slice_get fields 0 ≡ Some field → slice_get (types_of fields) 0 ≡ Some (field.kind, field.value)
-first_type [] field at = cc
-first_type (f ∷ fields) field at = ap (λ (x : Field). Some (x.kind, x.value)) (same_Some f field at)
-
 pub first_is : (fields : List Field) (field : Field) (shape : ℕ) → length fields ≤ MOST_FIELDS → shape ≡ shape_of (types_of fields) → slice_get fields 0 ≡ Some field
     → IsFirst field.kind field.value shape
-first_is fields field shape few is at =
-    ap (λ s. slice_get (types_of_shape s) 0) is
-    ∙ ap (λ (ts : List (Kind × ValueType)). slice_get ts 0) (shape_tells (types_of fields) (omega (arith, few, types_length fields)))
-    ∙ first_type fields field at
+first_is fields field shape few is at = subst (λ s. IsFirst field.kind field.value s) (sym is) (first_of_shape fields field few at)
 
 -- ---- a task aside
 

@@ -128,7 +128,8 @@ loads_from fields batch ops w v x loaded keeps is =
     }
 
 -- and one into a writer that then took readers in
-pub loads_kept : (fields : List Field) (batch : ℕ) (ops : List Op) (w v x : WriterView) (loaded : Loaded) → KeepsWriter v x → x.made ≡ v.made → LoadsInto fields batch ops w v loaded → LoadsInto fields batch ops w x loaded
+pub loads_kept : (fields : List Field) (batch : ℕ) (ops : List Op) (w v x : WriterView) (loaded : Loaded) → KeepsWriter v x → x.made ≡ v.made
+    → LoadsInto fields batch ops w v loaded → LoadsInto fields batch ops w x loaded
 loads_kept fields batch ops w v x loaded keeps made is =
     subst (λ (y : WriterView). LoadsInto fields batch ops w y loaded) (sym keeps)
     (record {

@@ -165,7 +165,7 @@ fn load_at<
     Ok((writer, loaded, gives, side))
 }
 
-/// Loads operations into attributes over a writer, beside so many readers, and beside a saver where the table is saved.
+/// Loads operations into attributes over a writer, beside readers, and beside a saver where the table is saved.
 pub fn load_beside<'a, const OFFSET_BITS: u32, R: Threads + Sync, G: Gate + Sync + 'static>(
     rt: &R,
     alloc: Global,

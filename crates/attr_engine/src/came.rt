@@ -1,7 +1,7 @@
 use attr_loader::Loaded;
 use attr_rounds::{Round, Told};
 
-/// A save: of the table after so many operations.
+/// A save of the table after a number of operations.
 #[derive(Drop)]
 pub struct Save {
     pub operations: u32,

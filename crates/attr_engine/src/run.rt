@@ -71,7 +71,7 @@ pub struct LoadedFirst<'a, const OFFSET_BITS: u32> {
     pub saved: Option<Save>,
 }
 
-/// Loads operations beside so many readers, and beside a saver where the table is saved, and takes these in.
+/// Loads operations beside readers, and beside a saver where the table is saved, and then joins them.
 fn load_first<'a, const OFFSET_BITS: u32, R: Threads + Sync, G: Gate + Sync + 'static>(
     rt: &R,
     alloc: Global,

@@ -11,9 +11,9 @@ ghost use Rattle.attr_types.specs.declared.items.Item.{Item};
 ghost use Rattle.attr_field.specs.Documents.{IsDocuments};
 ghost use Rattle.attr_field.specs.Items.{item_of, word_entry};
 
-use crate::attr_documents::WEIGHT_BASE;
 use arena_api::Frozen;
 use array_store::{count, get as array_item};
+use attr_images::WEIGHT_BASE;
 use attr_types::{Doc, Item, Items, Kind, Value, ValueType};
 use doc_vector::get;
 use entry_ref::EntryRef;

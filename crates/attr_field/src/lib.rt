@@ -1,7 +1,6 @@
 //! One attribute of a collection in a store: the items of its documents, and the index of their values.
 #![tactic(auto)]
 
-mod attr_documents;
 mod changing;
 mod comparing;
 mod documents_changing;
@@ -14,7 +13,6 @@ mod reading;
 mod roots;
 mod steps;
 
-pub use attr_documents::WEIGHT_BASE;
 pub use changing::{put, remove};
 pub use documents_changing::{remove_document, set_document};
 pub use documents_laws::documents_law;

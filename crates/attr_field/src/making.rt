@@ -10,8 +10,8 @@ ghost use Rattle.posting_store.specs.Changes.{MakesWithin};
 ghost use Rattle.attr_field.specs.Documents.{items_own};
 ghost use Rattle.attr_field.specs.Items.{entries_by_key, has_list, items_record, word_entry, IsItemsWidth, IsWeightOf, MakesItems};
 
-use crate::attr_documents::WEIGHT_BASE;
 use array_store::add;
+use attr_images::WEIGHT_BASE;
 use attr_types::{Item, Kind};
 use entry_ref::EntryRef;
 use std::alloc::{AllocError, Global};

@@ -3,7 +3,7 @@ ghost use Rattle.attr_images.specs.Postings.{is_dense};
 
 use crate::{LEAST_DENSE, MOST_SPREAD};
 
-/// Returns whether a list of so many of all documents, as a change leaves it, is to be a bit vector.
+/// Returns whether a list is to be a bit vector: `count` documents of `documents` in all, once a change is made.
 pub fn is_dense(dense: bool, count: u32, documents: u32) -> bool
     ensures { result ≡ is_dense dense count documents }
 {

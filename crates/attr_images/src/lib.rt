@@ -14,6 +14,10 @@ pub use laws::{
 pub use layout::AttrLayout;
 pub use shape::shape_of;
 
+/// The factor for what stands before the weight in a word: the document in an item of a short list, the value's
+/// reference in an item of a weighted set. The low part of the word is the weight.
+pub const WEIGHT_BASE: u64 = 4_294_967_296;
+
 /// The greatest number of documents of a short posting list. A longer list is a tree or a bit vector.
 pub const MOST_SHORT: usize = 8;
 

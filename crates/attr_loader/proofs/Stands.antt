@@ -208,7 +208,8 @@ module _ {S H : Type 0} (ledger : S → Ledger H) (batch : ℕ) (ops : List Op) 
         → (length start.fields ≡ 1 → HasMadeNothing (ledger start.store) → IsOwed (load_of (ledger start.store).work.sizes.buffers (ledger start.store).work.sizes.words start.fields batch ops) (count + before) count)
         → (length start.fields ≡ 1 → HasMadeNothing (ledger start.store) → start.plan ≡ None → 8 ≤ (ledger start.store).work.sizes.buffers
         → ¬ IsSmall (load_of (ledger start.store).work.sizes.buffers (ledger start.store).work.sizes.words start.fields batch ops))
-        → current (ledger c.store).work ≤ (ledger c.store).work.commits.last → Loads ledger batch ops start c (record { operations = count; skipped = skips; full = Some (record { operation = count + before; active = active; held = held }) })
+        → current (ledger c.store).work ≤ (ledger c.store).work.commits.last
+        → Loads ledger batch ops start c (record { operations = count; skipped = skips; full = Some (record { operation = count + before; active = active; held = held }) })
     finds_no_room c before active held some full owed small timely = record {
       stays = stays_on ledger start b c stands.stays full.keeps.stays;
       last = stands.last;

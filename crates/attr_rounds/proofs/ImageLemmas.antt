@@ -1,5 +1,5 @@
 -- The first attribute of a lawful image.
-use Rattle.std.proofs.Common.{◌≡◌, ◌<◌, ◌≤◌, ◌^◌, ℕ, zero, suc, List, [], ◌∷◌, length, sym, subst, arith, Some}
+use Rattle.std.proofs.Common.{◌≡◌, ◌<◌, ◌≤◌, ◌^◌, ℕ, zero, suc, List, [], ◌∷◌, length, arith, Some}
 use Rattle.std.specs.Prelude.{slice_get}
 use Rattle.std.specs.List.{AllByRecursion}
 use Rattle.std.specs.Map.{keys_of}
@@ -11,8 +11,7 @@ use Rattle.attr_images.specs.Attributes.{IsLawfulAttribute}
 use Rattle.attr_images.specs.Documents.{AreItemRecords}
 use Rattle.attr_images.specs.Images.{documents_at, IsLawfulImage}
 use Rattle.attr_images.specs.Shapes.{shape_of, types_of}
-use Rattle.attr_images.specs.Values.{value_of, value_words, IsValueRecord}
-use Rattle.attr_images.specs.Words.{filled, stored_items, IsStoredList}
+use Rattle.attr_images.proofs.FilledLemmas.{some_list, some_value}
 use Rattle.attr_images.proofs.ImageLemmas.{field_is_there}
 use Rattle.attr_types.specs.Change.{most_items}
 use Rattle.attr_types.specs.Lawful.{IsDocNumber, IsLawfulItems}
@@ -21,22 +20,7 @@ use Rattle.attr_types.specs.declared.field.TheConstants.{MOST_FIELDS}
 use Rattle.attr_types.specs.declared.kind.Kind.{Kind}
 use Rattle.attr_types.specs.declared.kind.Kind.TheVariants.{Single, Array, WeightedSet}
 use Rattle.attr_types.specs.declared.kind.ValueType.{ValueType}
-use Rattle.attr_types.specs.declared.value.Value.{Value}
-use Rattle.attr_types.specs.declared.value.Value.TheVariants as values
 use Rattle.attr_rounds.proofs.ColumnLemmas.{read_pairs}
-
-value_filled : (v : Value) → 0 < length (filled (value_words v))
-value_filled (values.Long number) = omega arith
-value_filled (values.Text bytes) = omega arith
-
-some_value : (type : ValueType) (ws : List ℕ) → IsValueRecord type ws → 0 < length ws
-some_value type ws is = subst (λ (x : List ℕ). 0 < length x) (sym is.words) (value_filled (value_of type ws))
-
-list_filled : (k : ℕ) (xs : List ℕ) → 0 < length (filled (k ∷ xs))
-list_filled k xs = omega arith
-
-some_list : (most : ℕ) (ws : List ℕ) → IsStoredList most ws → 0 < length ws
-some_list most ws is = subst (λ (x : List ℕ). 0 < length x) (sym is.words) (list_filled (length (stored_items ws)) (stored_items ws))
 
 module _ (kind : Kind) (type : ValueType) (m : Records) (references : (r : ℕ) → 0 < length (m r) → r < 2 ^ 32) where
   small_by : (k : Kind) (r : ℕ) → AreItemRecords k type m r → r < 2 ^ 32
@@ -54,7 +38,7 @@ module _ (kind : Kind) (type : ValueType) (m : Records) (references : (r : ℕ) 
   are_items [] records lawful = tt
   are_items (p ∷ ps) records lawful = (record { records = records.0; lawful = lawful.0 }, are_items ps records.1 lawful.1)
 
-  are_documents : (documents dictionary : ℕ) → IsLawfulAttribute kind type m documents dictionary → IsDocuments kind type m documents
+  pub are_documents : (documents dictionary : ℕ) → IsLawfulAttribute kind type m documents dictionary → IsDocuments kind type m documents
   are_documents documents dictionary own = record {
     map_is = record { tree_is = own.forms.documents_tree; pairs = are_pairs (tree_pairs m documents) own.column.numbers own.forms.items };
     items = are_items (tree_pairs m documents) own.forms.items own.column.items;

@@ -10,6 +10,7 @@ use Rattle.list_facts.proofs.Options.{same_Some}
 use Rattle.entry_ref.specs.Records.{Records}
 use Rattle.tree_read.specs.Trees.{tree_pairs}
 use Rattle.array_store.proofs.ClassLemmas.{class_two}
+use Rattle.attr_images.proofs.FilledLemmas.{some_list, some_value}
 use Rattle.attr_images.proofs.ImageLemmas.{attributes_lawful, operations_few, items_typed, roots_there}
 use Rattle.attr_images.proofs.TableLemmas.{table_has_columns}
 use Rattle.attr_images.specs.Attributes.{IsLawfulAttribute}
@@ -38,21 +39,6 @@ use Rattle.attr_saver.specs.Bytes.{document_bytes, head_bytes, saved_bytes}
 use Rattle.attr_saver.specs.Lawful.{first_column, save_of, docs_of, AreLawfulDocuments, IsLawfulSaved, IsStorable, IsStorableValue}
 use Rattle.attr_saver.specs.Stored.{document_of, documents_of, AreStored, IsStoredPair}
 use Rattle.attr_saver.specs.declared.saved.SavedDocument.{SavedDocument}
-
--- ---- a record is there
-
-value_filled : (v : Value) → 0 < length (filled (value_words v))
-value_filled (values.Long number) = omega arith
-value_filled (values.Text bytes) = omega arith
-
-some_value : (type : ValueType) (ws : List ℕ) → IsValueRecord type ws → 0 < length ws
-some_value type ws is = subst (λ (x : List ℕ). 0 < length x) (sym is.words) (value_filled (value_of type ws))
-
-list_filled : (k : ℕ) (xs : List ℕ) → 0 < length (filled (k ∷ xs))
-list_filled k xs = omega arith
-
-some_list : (most : ℕ) (ws : List ℕ) → IsStoredList most ws → 0 < length ws
-some_list most ws is = subst (λ (x : List ℕ). 0 < length x) (sym is.words) (list_filled (length (stored_items ws)) (stored_items ws))
 
 -- ---- the pairs of a document tree
 

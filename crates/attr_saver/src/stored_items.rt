@@ -13,13 +13,11 @@ ghost use Rattle.attr_saver.specs.Stored.{entry_in, item_in, Writes};
 use crate::stored_values::{put, value_size, write_value};
 use arena_api::Frozen;
 use array_store::{count, get};
+use attr_images::WEIGHT_BASE;
 use attr_io::{Failed, Sink};
 use attr_types::{Kind, ValueType};
 use entry_ref::EntryRef;
 use unique_store::value_law;
-
-/// The factor for a value's reference in a word of a weighted set.
-const WEIGHT_BASE: u64 = 4_294_967_296;
 
 /// Writes the value of a record, given its reference as a number.
 fn write_key<const OFFSET_BITS: u32, F: Frozen<OFFSET_BITS>, K: Sink>(

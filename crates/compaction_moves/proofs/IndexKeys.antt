@@ -4,7 +4,7 @@ use Rattle.std.proofs.lemmas.Bool.{le-leb}
 use Rattle.std.proofs.lemmas.List.{length-map}
 use Rattle.std.specs.List.{flat_map, AllByRecursion}
 use Rattle.entry_ref.specs.Records.{Records}
-use Rattle.array_store.proofs.ClassLemmas.{too_many}
+use Rattle.list_facts.proofs.Tests.{too_many}
 use Rattle.tree_read.specs.Trees.{tree_pairs}
 use Rattle.attr_images.specs.Documents.{items_at}
 use Rattle.attr_images.specs.Postings.{list_form, postings_at}

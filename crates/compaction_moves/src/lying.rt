@@ -14,7 +14,7 @@ ghost use Rattle.frozen_btree.specs.Paths.{NoneIn};
 
 use arena_api::Frozen;
 use array_store::{count, get as array_item};
-use attr_field::WEIGHT_BASE;
+use attr_images::WEIGHT_BASE;
 use attr_types::{Doc, Kind, ValueType};
 use doc_vector::get;
 use entry_ref::EntryRef;

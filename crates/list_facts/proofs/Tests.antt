@@ -1,5 +1,5 @@
 -- What the answer of a test says, of one number and of each in a list, and a choice of three.
-use Rattle.std.proofs.Common.{◌≡◌, ◌<◌, ℕ, zero, suc, Bool, true, false, cond, List, [], ◌∷◌, eqb, refl, sym, ap, ◌∙◌, ⊎_elim, arith, true≢false, ne_eqb}
+use Rattle.std.proofs.Common.{◌≡◌, ◌<◌, ℕ, zero, suc, Bool, true, false, cond, List, [], ◌∷◌, eqb, refl, sym, ap, ◌∙◌, ⊎_elim, arith, true≢false, ne_eqb, nat_le, leb-true}
 use Rattle.std.proofs.lemmas.Bool.{or_cases, and_parts, eqb-true}
 use Rattle.std.specs.Prelude.{◌==◌}
 use Rattle.std.specs.List.{list_any, list_all}
@@ -23,3 +23,11 @@ pub cond-cond : {A : Type 0} (P : A → Type 0) (s t : Bool) (x y z : A) → P x
 cond-cond P true t x y z a b c = a
 cond-cond P false true x y z a b c = b
 cond-cond P false false x y z a b c = c
+
+-- a number above a bound is not at most it
+pub too_many : (n most : ℕ) → most < n → nat_le n most ≡ false
+too_many n most more = told (nat_le n most) refl
+  where
+    told : (b : Bool) → nat_le n most ≡ b → b ≡ false
+    told true is = absurd (let few = leb-true n most is in omega arith)
+    told false is = refl

@@ -5,7 +5,7 @@ use Rattle.std.specs.List.{AllByRecursion}
 use Rattle.std.specs.List.Sorted.{IsStrictlySortedBy}
 use Rattle.std.specs.Map.{keys_of}
 use Rattle.std.specs.Ordering.{nat_cmp}
-use Rattle.array_store.proofs.ClassLemmas.{too_many}
+use Rattle.list_facts.proofs.Tests.{too_many}
 use Rattle.array_store.specs.Adding.{AddsRecord, MakesOneOf}
 use Rattle.attr_images.specs.Postings.{tree, list_form, IsPostingList}
 use Rattle.attr_images.specs.Words.{class_of, filled, stored_items, unpacked, IsStoredList}

@@ -5,6 +5,7 @@ ghost use Rattle.posting_store.specs.Walks.{postings_from, first_doc, first_weig
 
 use crate::posting::Posting;
 use arena_api::Frozen;
+use attr_images::WEIGHT_BASE;
 use attr_types::Doc;
 use entry_ref::EntryRef;
 use frozen_btree::{Cursor, total};
@@ -88,7 +89,7 @@ impl<const OFFSET_BITS: u32> PostingCursor<OFFSET_BITS> {
     {
         match self {
             PostingCursor::Short { list, at, .. } => {
-                Doc::new((frozen.word(*list, 1 + *at) / 4_294_967_296) as u32)
+                Doc::new((frozen.word(*list, 1 + *at) / WEIGHT_BASE) as u32)
             }
             PostingCursor::Tree(cursor) => Doc::new(cursor.key() as u32),
         }
@@ -103,7 +104,7 @@ impl<const OFFSET_BITS: u32> PostingCursor<OFFSET_BITS> {
     {
         match self {
             PostingCursor::Short { list, at, .. } => {
-                ((frozen.word(*list, 1 + *at) % 4_294_967_296) as u32).cast_signed()
+                ((frozen.word(*list, 1 + *at) % WEIGHT_BASE) as u32).cast_signed()
             }
             PostingCursor::Tree(cursor) => (cursor.value() as u32).cast_signed(),
         }

@@ -5,11 +5,11 @@ ghost use Rattle.std.specs.Ordering.{nat_cmp};
 ghost use Rattle.attr_images.specs.Words.{unpacked};
 ghost use Rattle.posting_store.specs.Lists.{list_at, IsList, IsPlain};
 
-use crate::ITEM_BASE;
 use crate::cursor::walk;
 use crate::posting::Posting;
 use arena_api::Frozen;
 use arrayvec::ArrayVec;
+use attr_images::WEIGHT_BASE;
 use attr_types::Doc;
 
 /// The items of a short list, or of one with an additional document.
@@ -19,7 +19,7 @@ pub type Items = ArrayVec<u64, 9>;
 fn item_of(doc: Doc, weight: i32) -> u64
     ensures { unpacked result ≡ (doc, weight) }
 {
-    doc.number() as u64 * ITEM_BASE + weight.cast_unsigned() as u64
+    doc.number() as u64 * WEIGHT_BASE + weight.cast_unsigned() as u64
 }
 
 /// The number of a document is valid. The function does nothing; its contract is the law.
@@ -60,7 +60,7 @@ pub fn put_item(items: &mut Items, doc: Doc, weight: i32)
     let number = doc.number() as u64;
     let item = item_of(doc, weight);
     for i in 0..items.len() {
-        let here = items[i] / ITEM_BASE;
+        let here = items[i] / WEIGHT_BASE;
         if here == number {
             items.remove(i);
             items.insert(i, item);
@@ -80,7 +80,7 @@ pub fn take_item(items: &mut Items, doc: Doc)
 {
     let number = doc.number() as u64;
     for i in 0..items.len() {
-        if items[i] / ITEM_BASE == number {
+        if items[i] / WEIGHT_BASE == number {
             items.remove(i);
             return;
         }

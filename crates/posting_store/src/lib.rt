@@ -17,6 +17,3 @@ pub use cursor::{PostingCursor, count, walk};
 pub use laws::list_law;
 pub use posting::Posting;
 pub use removing::remove;
-
-/// The factor for the document in an item of a short list: an item is `document * ITEM_BASE + weight`.
-const ITEM_BASE: u64 = 4_294_967_296;

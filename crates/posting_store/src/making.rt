@@ -10,10 +10,9 @@ ghost use Rattle.attr_types.specs.Lawful.{IsDocNumber};
 ghost use Rattle.posting_store.specs.Changes.{list_most, IsListWidth, MakesList, MakesWithin};
 ghost use Rattle.posting_store.specs.Lists.{AreDocuments};
 
-use crate::ITEM_BASE;
 use crate::posting::Posting;
 use array_store::add as add_array;
-use attr_images::MOST_SHORT;
+use attr_images::{MOST_SHORT, WEIGHT_BASE};
 use frozen_btree::{NumberKey, build_leaf};
 use store_api::{Store, StoreError};
 
@@ -53,8 +52,8 @@ fn make_leaf<const OFFSET_BITS: u32, S: Store<OFFSET_BITS>>(
     let mut keys = [0; 9];
     let mut values = [0; 9];
     for i in 0..9 {
-        keys[i] = items[i] / ITEM_BASE;
-        values[i] = items[i] % ITEM_BASE;
+        keys[i] = items[i] / WEIGHT_BASE;
+        values[i] = items[i] % WEIGHT_BASE;
     }
     let root = build_leaf::<OFFSET_BITS, S, NumberKey>(store, &keys, &values)?;
     Ok(Posting::tree(root))

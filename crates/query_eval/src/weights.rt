@@ -8,19 +8,16 @@ ghost use Rattle.query_eval.specs.Weights.{weight_in_list};
 use crate::blocks::BLOCK_SIZE;
 use arena_api::Frozen;
 use array_store::count;
-use attr_images::{FIRST_VECTOR, MOST_SHORT};
+use attr_images::{FIRST_VECTOR, MOST_SHORT, WEIGHT_BASE};
 use entry_ref::EntryRef;
 use frozen_btree::{NumberKey, find};
-
-/// The factor for the document in an item of a short list: an item is `document * ITEM_BASE + weight`.
-const ITEM_BASE: u64 = 4_294_967_296;
 
 fn weight_among(words: &[u64], doc: u32) -> i32
     ensures { result ≡ weight_in_list doc (map unpacked words.now) }
 {
     for word in words {
         if *word >> 32 == u64::from(doc) {
-            return ((*word % ITEM_BASE) as u32).cast_signed();
+            return ((*word % WEIGHT_BASE) as u32).cast_signed();
         }
     }
     0

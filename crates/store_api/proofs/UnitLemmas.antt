@@ -1,5 +1,5 @@
 -- What the calls of a store turn, and the ends of a unit.
-use Rattle.std.proofs.Common.{◌≡◌, ◌≢◌, ℕ, List, [], ◌∷◌, true, cond, refl, sym, ap, subst, ◌∙◌, arith, inl, inr, ne_eqb, Result, Ok, Err}
+use Rattle.std.proofs.Common.{◌≡◌, ◌≢◌, ℕ, Bool, List, [], ◌∷◌, true, false, true≢false, Option, Some, None, cond, refl, sym, ap, subst, ◌∙◌, arith, inl, inr, ne_eqb, Result, Ok, Err}
 use Rattle.std.specs.Prelude.{IfOk, OnErr}
 use Rattle.std.proofs.lemmas.Bool.{cases_eq, eq-eqb}
 use Rattle.entry_ref.specs.References.{buffer_of}
@@ -7,7 +7,7 @@ use Rattle.entry_ref.specs.Records.{Records}
 use Rattle.arena_api.specs.Calls.{padded}
 use Rattle.arena_api.specs.Works.{Sizes}
 use Rattle.store_api.specs.Statuses.{Status, in_use, is_free_status, after_drop, with_status}
-use Rattle.store_api.specs.Ledgers.{Ledger, OfWidth, IsSettled, capacity, with_counts}
+use Rattle.store_api.specs.Ledgers.{Ledger, OfWidth, IsSettled, capacity, is_this, with_counts}
 use Rattle.store_api.specs.Units.{MayDo, MakesAtMost}
 use Rattle.store_api.specs.Calls.{MayGiveBack, Makes, DropsEntry, Accepts, Undoes, took_buffer}
 use Rattle.store_api.specs.Parts.{Part, uses, entry, AllStay, Owns, Turns, After}
@@ -184,3 +184,8 @@ module _ {H : Type 0} (old begun mid new : Ledger H) (m k n o : Records) (u v : 
 
   pub accept-stays : AllStay v n o
   accept-stays = last.stay
+
+-- what is not in a sealed buffer is not in the finished one
+pub apart-from : (finished : Option ℕ) (sealed : ℕ → Bool) (b : ℕ) → ((a : ℕ) → finished ≡ Some a → sealed a ≡ true) → sealed b ≡ false → is_this finished b ≡ false
+apart-from None sealed b all out = refl
+apart-from (Some a) sealed b all out = ne_eqb a b (λ same. true≢false (sym (all a refl) ∙ ap sealed same ∙ out))

@@ -14,7 +14,7 @@ use Rattle.store_api.specs.Parts.{Owns, OwnsAll, Turns, entry, entries, times, u
 use Rattle.store_api.proofs.CommitLemmas.{whole-from, commit-owns, commit-same}
 use Rattle.store_api.proofs.Times.{times-same}
 use Rattle.store_api.proofs.Uses.{uses-out, uses-same, uses-few}
-use Rattle.store_api.proofs.UnitLemmas.{turns-accept, turns-undone}
+use Rattle.store_api.proofs.UnitLemmas.{apart-from, turns-accept, turns-undone}
 use Rattle.arena_api.specs.Calls.{IsFresh, padded}
 use Rattle.arena_api.proofs.Padded.{length-padded}
 use Rattle.gen_core.specs.declared.views.WriterView.{WriterView}
@@ -71,11 +71,6 @@ keeps-same a b m n k kept turns unit sealed finished = record {
   finished = finished ∙ kept.finished;
   apart = kept.apart;
 }
-
--- what is not in a sealed buffer is not in the finished one
-apart-from : (finished : Option ℕ) (sealed : ℕ → Bool) (b : ℕ) → ((a : ℕ) → finished ≡ Some a → sealed a ≡ true) → sealed b ≡ false → is_this finished b ≡ false
-apart-from None sealed b all out = refl
-apart-from (Some a) sealed b all out = ne_eqb a b (λ same. true≢false (sym (all a refl) ∙ ap sealed same ∙ out))
 
 -- a node in place of the root: a unit is begun, the node made, the root dropped, the unit accepted
 module _ {H : Type 0} (a b c : Ledger H) (m n o : Records) (k : Keeping) (q : ℕ)

@@ -77,7 +77,7 @@ impl Gate for Held {
     }
 }
 
-/// A feed of so many documents.
+/// Returns a feed that puts this number of documents.
 fn feed_of(alloc: Global, documents: u64) -> Result<String, AllocError> {
     let mut feed = String::new(alloc);
     for doc in 1..documents.saturating_add(1) {
@@ -104,7 +104,7 @@ fn run<R: Threads + Sync, G: Gate + Sync + 'static>(
     Ok(outcome_at(threads, alloc, &words, &mut source, sink, gate))
 }
 
-/// The bytes of a save of so many documents.
+/// Returns the bytes of a save of this number of documents.
 fn wanted<R: Threads + Sync>(
     threads: &R,
     alloc: Global,
@@ -115,7 +115,7 @@ fn wanted<R: Threads + Sync>(
     Ok(sink)
 }
 
-/// At how many operations a save beside the loading of so many was made, if its bytes are the save of just these.
+/// Returns the number of operations in a save that was made beside the loading, if its bytes are the save of these.
 fn saved_at<R: Threads + Sync>(
     threads: &R,
     alloc: Global,

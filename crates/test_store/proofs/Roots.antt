@@ -40,11 +40,6 @@ module _ {H : Type 0} (a b c : Ledger H) (m n o : Records) (root q : ℕ) where
 pub same-all : {H : Type 0} (a b : Ledger H) (m n : Records) (q : ℕ) → OwnsAll a m (entry q ∷ []) → Turns a b m n [] [] → OwnsAll b n (entry q ∷ [])
 same-all a b m n q all turns = record { each = λ r. let h = all.each r in let t = turns.balance r in omega arith }
 
--- what is not in a sealed buffer is not in the finished one
-pub apart-from : (finished : Option ℕ) (sealed : ℕ → Bool) (b : ℕ) → ((a : ℕ) → finished ≡ Some a → sealed a ≡ true) → sealed b ≡ false → is_this finished b ≡ false
-apart-from None sealed b all out = refl
-apart-from (Some a) sealed b all out = ne_eqb a b (λ same. true≢false (sym (all a refl) ∙ ap sealed same ∙ out))
-
 reaches-one : (shape : ℕ) (m : Records) (r : ℕ) → 0 < r → one_reaches shape m r ≡ r ∷ []
 reaches-one shape m zero some = absurd (omega arith)
 reaches-one shape m (suc r) some = refl

@@ -1,4 +1,4 @@
-use Rattle.test_refusals.proofs.FirstLemmas.{first_is}
+use Rattle.attr_saver.proofs.FirstLemmas.{first_is}
 use Rattle.test_refusals.proofs.saves.first_law.Goals as goal
 
 pub returns : goal.returns

@@ -2,7 +2,8 @@ use Rattle.std.proofs.Common.{◌≡◌, ◌∙◌, [], ◌∷◌, ap, arith}
 use Rattle.entry_ref.specs.References.{buffer_of}
 use Rattle.store_api.specs.Parts.{entry}
 use Rattle.store_api.proofs.UnitLemmas.{turns-accept}
-use Rattle.test_store.proofs.Roots.{begun-all, more-all, rest-owns, less-all, same-all, apart-from}
+use Rattle.store_api.proofs.UnitLemmas.{apart-from}
+use Rattle.test_store.proofs.Roots.{begun-all, more-all, rest-owns, less-all, same-all}
 use Rattle.test_store.proofs.of_commits.next_root.Goals as goal
 
 pub drop_one-requires : goal.drop_one-requires
