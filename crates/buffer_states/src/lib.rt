@@ -348,10 +348,10 @@ impl Buffers {
             dead: 0,
             held: 0,
         };
-        for buffer in self.buffers.iter() {
-            words.used += u64::from(buffer.used);
-            words.dead += u64::from(buffer.dead);
-            words.held += u64::from(buffer.held);
+        for number in 0..self.buffers.len() {
+            words.used += u64::from(self.used(number as u32));
+            words.dead += u64::from(self.dead(number as u32));
+            words.held += u64::from(self.held(number as u32));
         }
         words
     }
