@@ -14,7 +14,6 @@ use Rattle.arena_api.specs.Works.{WorkView, Buffer, Tag, active_width, last_imag
 use Rattle.store_api.specs.Statuses.{Status, is_taken, is_dead, is_held_status}
 use Rattle.store_api.specs.Ledgers.{Ledger, IsUnfilled, is_this, is_in, capacity}
 use Rattle.store_api.specs.Ledgers.{is_active as is_active_buffer}
-use Rattle.store_api.specs.declared.store.Usage.{Usage}
 use Rattle.store_api.specs.Usages.{IsUsage, over_buffers, held_words}
 use Rattle.store_api.specs.Victims.{IsCandidate, IsVictim, HasNoVictim, count_entries, used_words, dead_words}
 use Rattle.entry_ledger.specs.Entries.{EntriesView, IsGood, width_of, is_settled_entry, is_taken_entry, is_dead_entry, is_held_entry, count_marks}
