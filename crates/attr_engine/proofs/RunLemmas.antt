@@ -25,7 +25,7 @@ use Rattle.attr_rounds.specs.declared.asked.Told.{Told}
 use Rattle.attr_rounds.specs.Lines.{TellsTable}
 use Rattle.attr_report.specs.Run.{Run, table_after}
 use Rattle.attr_report.specs.History.{IsLoaded}
-use Rattle.attr_room.specs.Runs.{IsOwed, IsQuiet, IsSmall}
+use Rattle.attr_loader.specs.Runs.{IsOwed, IsQuiet, IsSmall}
 use Rattle.attr_engine.specs.FullStore.{load_in, readers_of, IsJustified}
 use Rattle.attr_engine.specs.Run.{full_of}
 use Rattle.attr_engine.specs.Rounds.{IsRoundAt, AreRoundsAt, IsCame, IsSaveOf, seen_before}

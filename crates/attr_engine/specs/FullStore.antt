@@ -2,10 +2,10 @@
 use Rattle.std.specs.Prelude.{◌≡◌, ◌≤◌, ℕ, List, length}
 use Rattle.attr_loader.specs.Room.{load_of}
 use Rattle.attr_report.specs.Run.{Run}
-use Rattle.attr_room.specs.Runs.{Load, Readers}
+use Rattle.attr_loader.specs.Runs.{Load, Readers}
 use Rattle.attr_types.specs.declared.op.Op.{Op}
 pub use Rattle.attr_loader.specs.declared.loaded.NoRoom.{NoRoom}
-pub use Rattle.attr_room.specs.Runs.{IsOwed, IsQuiet, IsSmall}
+pub use Rattle.attr_loader.specs.Runs.{IsOwed, IsQuiet, IsSmall}
 
 -- what a run loads, and its readers
 abbrev pub load_in : Run → List Op → Load

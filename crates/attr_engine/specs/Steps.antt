@@ -21,7 +21,7 @@ use Rattle.attr_types.specs.declared.field.TheConstants.{MOST_FIELDS}
 use Rattle.attr_types.specs.declared.op.Op.{Op}
 use Rattle.attr_loader.specs.Loading.{AreCommits, EndsAt, commit_point}
 use Rattle.attr_loader.specs.Room.{load_of}
-use Rattle.attr_room.specs.Runs.{IsOwed, IsSmall}
+use Rattle.attr_loader.specs.Runs.{IsOwed, IsSmall}
 use Rattle.attr_loader.specs.declared.loaded.Loaded.{Loaded}
 use Rattle.attr_loader.specs.declared.loaded.NoRoom.{NoRoom}
 use Rattle.attr_rounds.specs.Rounds.{AreSeen, IsOfCommit, MakesRounds}

@@ -6,3 +6,8 @@ pub mod RoomRuns
 pub mod Applying
 pub mod Points
 pub mod Stands
+pub mod Steps
+pub mod Levels
+pub mod Owed
+pub mod Small
+pub mod Examples

@@ -5,12 +5,12 @@ use Rattle.std.specs.List.Sorted.{IsStrictlySortedBy}
 use Rattle.std.proofs.lemmas.List.Sums.{sum_by-append, sum_by-cons}
 use Rattle.arena_api.specs.Works.{Sizes, free_count}
 use Rattle.store_api.specs.Ledgers.{Ledger, buffers_in, capacity, is_width, widths}
-use Rattle.attr_room.proofs.Levels.{commits_batches}
-use Rattle.attr_room.proofs.Owed.{full_owed}
-use Rattle.attr_room.proofs.Steps.{start_long, start_made, within_filled}
-use Rattle.attr_room.specs.Laws.{no_steps}
-use Rattle.attr_room.specs.Made.{Steps, after_keys, after_operation, after_root, pairs_of}
-use Rattle.attr_room.specs.Runs.{commits_to, step_keys, weight, IsOwed}
+use Rattle.attr_loader.proofs.Levels.{commits_batches}
+use Rattle.attr_loader.proofs.Owed.{full_owed}
+use Rattle.attr_loader.proofs.Steps.{start_long, start_made, within_filled}
+use Rattle.attr_loader.specs.Laws.{no_steps}
+use Rattle.attr_loader.specs.Made.{Steps, after_keys, after_operation, after_root, pairs_of}
+use Rattle.attr_loader.specs.Runs.{commits_to, step_keys, weight, IsOwed}
 use Rattle.attr_types.specs.Table.{Table, after_op, after_ops}
 use Rattle.attr_types.specs.declared.field.Field.{Field}
 use Rattle.attr_types.specs.declared.op.Op.{Op}

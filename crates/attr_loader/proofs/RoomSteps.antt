@@ -19,12 +19,12 @@ use Rattle.attr_images.specs.Words.{class_of}
 use Rattle.attr_index.proofs.ColumnLemmas.{operation_changes}
 use Rattle.attr_index.specs.Changes.{first_weights}
 use Rattle.attr_index.specs.Columns.{Column, column_of, documents_with, with_change}
-use Rattle.attr_room.proofs.Levels.{levels_there}
-use Rattle.attr_room.proofs.Steps.{counts_rise, keys_long, keys_made, operation_few, operation_long, operation_made, root_long, root_made}
-use Rattle.attr_room.specs.Laws.{HasLevels}
-use Rattle.attr_room.specs.Made as room
-use Rattle.attr_room.specs.Made.{Steps, HasMade, MakesRoot, RiseBy, after_keys, after_operation, after_root, both, broad_sum, pairs_of}
-use Rattle.attr_room.specs.Runs.{AreLevels}
+use Rattle.attr_loader.proofs.Levels.{levels_there}
+use Rattle.attr_loader.proofs.Steps.{counts_rise, keys_long, keys_made, operation_few, operation_long, operation_made, root_long, root_made}
+use Rattle.attr_loader.specs.Laws.{HasLevels}
+use Rattle.attr_loader.specs.Made as room
+use Rattle.attr_loader.specs.Made.{Steps, HasMade, MakesRoot, RiseBy, after_keys, after_operation, after_root, both, broad_sum, pairs_of}
+use Rattle.attr_loader.specs.Runs.{AreLevels}
 use Rattle.attr_steps.specs.Widths.{IsOperationWidth}
 use Rattle.attr_steps.specs.Counts.{document_after, document_before, document_records, items_if_there, kind_at, low_document, weights_at, MakesOperation}
 use Rattle.attr_types.proofs.EntryLemmas.{all-lookup}

@@ -7,11 +7,11 @@ use Rattle.entry_ref.specs.Records.{Records}
 use Rattle.store_api.specs.Ledgers.{Ledger, IsUnfilled, buffers_in, capacity, is_width, widths}
 use Rattle.store_api.specs.Statuses.{is_dead}
 use Rattle.store_api.specs.Victims.{HasNoVictim, IsCandidate, count_entries, dead_words}
-use Rattle.attr_room.proofs.Small.{small_full, small_room}
-use Rattle.attr_room.proofs.Steps.{start_long, start_made, within_filled}
-use Rattle.attr_room.specs.Laws.{no_steps}
-use Rattle.attr_room.specs.Made.{Steps, HasFewLong, HasMade, after_root, pairs_of}
-use Rattle.attr_room.specs.Runs.{weight, IsSmall}
+use Rattle.attr_loader.proofs.Small.{small_full, small_room}
+use Rattle.attr_loader.proofs.Steps.{start_long, start_made, within_filled}
+use Rattle.attr_loader.specs.Laws.{no_steps}
+use Rattle.attr_loader.specs.Made.{Steps, HasFewLong, HasMade, after_root, pairs_of}
+use Rattle.attr_loader.specs.Runs.{weight, IsSmall}
 use Rattle.attr_types.specs.Table.{Table, after_ops}
 use Rattle.attr_types.specs.declared.field.Field.{Field}
 use Rattle.attr_types.specs.declared.op.Op.{Op}
@@ -69,7 +69,7 @@ by_kind false = inr refl
 
 after_count : (steps : Steps) (ts : List ℕ) → (after_values steps ts).operations ≡ steps.operations + length ts
 after_count steps [] = omega arith
-after_count steps (t ∷ ts) = let rest = after_count (Rattle.attr_room.specs.Made.after_operation steps t) ts in omega (arith, rest)
+after_count steps (t ∷ ts) = let rest = after_count (Rattle.attr_loader.specs.Made.after_operation steps t) ts in omega (arith, rest)
 
 weight_take : (values : List ℕ) (n : ℕ) → weight (take n values) ≤ weight values
 weight_take values n = sum_by-take-le (λ (t : ℕ). t + 1) values n
@@ -127,7 +127,7 @@ module _ {S H : Type 0} (ledger : S → Ledger H) (batch : ℕ) (ops : List Op) 
     keys_now : after.keys ≡ 0
     keys_now = let same = after_key runs.steps (values_of b.fields b.table (take n part)) in let was = runs.keys in omega (arith, same, was)
 
-    part_of : (buffers words : ℕ) → Rattle.attr_room.specs.Laws.IsPartOf (load_of buffers words start.fields batch ops) after
+    part_of : (buffers words : ℕ) → Rattle.attr_loader.specs.Laws.IsPartOf (load_of buffers words start.fields batch ops) after
     part_of buffers words =
         let total = values_length start.fields [] ops in
         let operations = operations_now in

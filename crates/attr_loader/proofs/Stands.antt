@@ -11,7 +11,7 @@ use Rattle.entry_ref.specs.Images.{no_image, words_at}
 use Rattle.arena_api.specs.Calls.{told_after}
 use Rattle.arena_api.specs.Generations.{current}
 use Rattle.arena_api.specs.Works.{Sizes}
-use Rattle.attr_room.specs.Runs.{IsOwed, IsSmall}
+use Rattle.attr_loader.specs.Runs.{IsOwed, IsSmall}
 use Rattle.attr_loader.specs.Room.{load_of, HasMadeNothing}
 use Rattle.store_api.specs.Ledgers.{Ledger}
 use Rattle.attr_images.specs.Images.{IsLawfulImage, table_of}

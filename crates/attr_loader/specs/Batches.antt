@@ -13,8 +13,8 @@ use Rattle.attr_images.specs.Shapes.{shape_of, types_of}
 use Rattle.attr_types.specs.Table.{after_ops, skipped_ops}
 use Rattle.attr_types.specs.declared.op.Op.{Op}
 use Rattle.attribute_kinds.specs.Views.{AttributeView}
-use Rattle.attr_room.specs.Made.{Steps, after_keys, after_root}
-use Rattle.attr_room.specs.Runs.{step_keys}
+use Rattle.attr_loader.specs.Made.{Steps, after_keys, after_root}
+use Rattle.attr_loader.specs.Runs.{step_keys}
 use Rattle.attr_loader.specs.Loading.{told_of, StaysIn}
 use Rattle.attr_loader.specs.Room.{after_values, is_single_long, values_of, IsMade, IsRefusedBy, LeavesRoom}
 use Rattle.attr_loader.specs.declared.error.LoadError.{LoadError}

@@ -2,3 +2,6 @@ pub mod Room
 pub mod Attributes
 pub mod Loading
 pub mod Batches
+pub mod Runs
+pub mod Made
+pub mod Laws

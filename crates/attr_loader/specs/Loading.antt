@@ -13,7 +13,7 @@ use Rattle.attr_types.specs.Table.{after, skipped}
 use Rattle.attr_types.specs.declared.field.Field.{Field}
 use Rattle.attr_types.specs.declared.op.Op.{Op}
 use Rattle.attribute_kinds.specs.Views.{AttributeView}
-use Rattle.attr_room.specs.Runs.{IsOwed, IsSmall}
+use Rattle.attr_loader.specs.Runs.{IsOwed, IsSmall}
 use Rattle.attr_loader.specs.Room.{load_of, HasMadeNothing}
 use Rattle.attr_loader.specs.declared.error.LoadError.{LoadError}
 use Rattle.attr_loader.specs.declared.error.LoadError.TheVariants.{CommitsSpent, Memory}

@@ -4,8 +4,8 @@ use Rattle.std.specs.List.{sum_by}
 use Rattle.store_api.specs.Ledgers.{Ledger, no_counts}
 use Rattle.attr_index.specs.Changes.{first_weights}
 use Rattle.attr_index.specs.Columns.{Column, column_of}
-use Rattle.attr_room.specs.Made.{Steps, HasFewLong, HasMade, IsWithin, after_operation, is_width}
-use Rattle.attr_room.specs.Runs.{Load, capacity}
+use Rattle.attr_loader.specs.Made.{Steps, HasFewLong, HasMade, IsWithin, after_operation, is_width}
+use Rattle.attr_loader.specs.Runs.{Load, capacity}
 use Rattle.attr_types.specs.Lawful.{DocumentsHaveType, IsLawfulTable}
 use Rattle.attr_types.specs.Table.{Table, after_op}
 use Rattle.attr_types.specs.declared.field.Field.{Field}

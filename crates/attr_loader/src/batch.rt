@@ -4,8 +4,8 @@ ghost use Rattle.std.specs.List.{AllByRecursion};
 ghost use Rattle.attr_types.specs.Lawful.{OpFits};
 ghost use Rattle.attr_loader.specs.Batches.{skips_of, AddsQuietly, AddsSteps, AppliesBatch, AppliesRoom, CommitsBatch, CommitsRoom, CommitsRoot};
 ghost use Rattle.attr_loader.specs.Batches.{HasNoCommit, KeepsTable, LoadsBatch, LoadsRoom};
-ghost use Rattle.attr_room.specs.Made.{after_keys};
-ghost use Rattle.attr_room.specs.Runs.{step_keys};
+ghost use Rattle.attr_loader.specs.Made.{after_keys};
+ghost use Rattle.attr_loader.specs.Runs.{step_keys};
 
 use crate::error::LoadError;
 use arena_api::Work;

@@ -2,7 +2,7 @@ use Rattle.std.proofs.Common.{subst}
 use Rattle.attr_loader.specs.Batches.{CommitsBatch, CommitsRoot}
 use Rattle.attr_loader.proofs.Applying.{commits_on}
 use Rattle.attr_loader.proofs.RoomRuns.{quiet_then}
-use Rattle.attr_room.specs.Made.{after_root}
+use Rattle.attr_loader.specs.Made.{after_root}
 use Rattle.attr_loader.proofs.batch.commit_all.Goals as goal
 
 pub returns-in_ok-compact_after-in-Done-clause-commits : goal.returns-in_ok-compact_after-in-Done-clause-commits

@@ -5,7 +5,7 @@ use Rattle.std.proofs.lemmas.List.{length-drop, drop-drop}
 use Rattle.std.proofs.lemmas.Bool.{eqb-true, eqb-false}
 use Rattle.attr_types.specs.declared.op.Op.{Op}
 use Rattle.attr_loader.specs.Batches.{LoadsBatch, LoadsRoom}
-use Rattle.attr_room.specs.Runs.{IsSmall}
+use Rattle.attr_loader.specs.Runs.{IsSmall}
 use Rattle.attr_loader.specs.Room.{load_of, HasMadeNothing}
 use Rattle.attr_loader.proofs.Points.{next_point}
 use Rattle.attr_loader.proofs.RoomRuns.{owed_at, runs_begin, runs_on, take_all}

@@ -1,6 +1,6 @@
 use Rattle.std.proofs.Common.{◌≡◌, ◌<◌, ◌≤◌, length, None}
 use Rattle.std.specs.Prelude.{drop}
-use Rattle.attr_room.specs.Runs.{IsSmall}
+use Rattle.attr_loader.specs.Runs.{IsSmall}
 use Rattle.attr_loader.specs.Room.{load_of, HasMadeNothing}
 use Rattle.attr_loader.proofs.RoomRuns.{Runs}
 use Rattle.attr_loader.proofs.SmallRuns.{QuietRuns}
