@@ -5,3 +5,5 @@ pub mod Blocks
 pub mod Fillings
 pub mod Walks
 pub mod Laws
+pub mod Keeps
+pub mod Moves

@@ -11,6 +11,7 @@ mod cursor;
 mod dropping;
 mod filling;
 mod laws;
+mod moving;
 mod reading;
 
 pub use changing::{insert, remove};
@@ -19,6 +20,7 @@ pub use counting::count;
 pub use cursor::VectorCursor;
 pub use dropping::drop_vector;
 pub use laws::vector_law;
+pub use moving::move_block;
 pub use reading::contains;
 
 /// The greatest number of blocks of a bit vector.

@@ -1,6 +1,6 @@
 use Rattle.std.proofs.Common.{◌∙◌, arith}
 use Rattle.attr_compaction.proofs.ListLemmas.{past_tree, short_past, tree_form_is, tree_numbers}
-use Rattle.attr_compaction.proofs.lists.past_in_list.Goals as goal
+use Rattle.attr_compaction.proofs.lists.past_plain.Goals as goal
 
 pub returns-then-is_short-clause-next : goal.returns-then-is_short-clause-next
 returns-then-is_short-clause-next g c =

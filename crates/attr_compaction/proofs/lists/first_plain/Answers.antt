@@ -1,7 +1,7 @@
 use Rattle.std.proofs.Common.{sym, ap, ◌∙◌, arith}
 use Rattle.attr_compaction.specs.PhaseKeys.{first_item}
 use Rattle.attr_compaction.proofs.ListLemmas.{first_tree, short_docs, tree_form_is, tree_numbers}
-use Rattle.attr_compaction.proofs.lists.first_in_list.Goals as goal
+use Rattle.attr_compaction.proofs.lists.first_plain.Goals as goal
 
 pub returns-then-is_short-clause-first : goal.returns-then-is_short-clause-first
 returns-then-is_short-clause-first g c =
