@@ -10,14 +10,15 @@ use Rattle.attr_images.specs.Postings.{dictionary_reach}
 use Rattle.attr_types.specs.declared.kind.ValueType.{ValueType}
 use Rattle.attr_types.specs.declared.value.Value.{Value}
 use Rattle.enum_dictionary.specs.Dictionaries.{IsDictionary, beside_value}
-use Rattle.posting_store.specs.Lists.{IsList}
+use Rattle.posting_store.specs.Lists.{IsList, IsPlain}
 use Rattle.value_index.specs.ProofsForIndexes.{index_reach-same}
 
--- a key with its list, which is not empty
+-- a key with its list, which is neither empty nor a bit vector
 pub record IsValuePair (m : Records) (p : ℕ × ℕ) : Type 0 where
   pub key : 0 < p.0
   pub some : 0 < p.1
   pub list_is : IsList m p.1
+  pub plain : IsPlain p.1
 
 -- the root of an index whose values have this type; its contents are `index_of` of attr_images
 pub record IsIndex (type : ValueType) (m : Records) (root : ℕ) : Type 0 where
