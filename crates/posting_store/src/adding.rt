@@ -119,6 +119,7 @@ fn add_to_vector<const OFFSET_BITS: u32, S: Store<OFFSET_BITS>>(
         (S.ledger store.old) (S.ledger store.new)) }
     ensures may { MayDo (S.ledger store.old) (S.ledger store.new) }
 {
+    number_law(doc);
     let vector = root_of(store, list);
     let root = insert_document(store, vector, doc)?;
     Ok(Posting::vector(root))
