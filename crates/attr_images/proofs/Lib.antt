@@ -1,3 +1,4 @@
+pub mod FilledLemmas
 pub mod TextLemmas
 pub mod ShapeLemmas
 pub mod ListLemmas

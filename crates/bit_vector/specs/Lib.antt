@@ -1,0 +1,7 @@
+pub mod ProofsForVectors
+pub mod Vectors
+pub mod Changes
+pub mod Blocks
+pub mod Fillings
+pub mod Walks
+pub mod Laws
