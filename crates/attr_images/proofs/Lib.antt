@@ -7,4 +7,3 @@ pub mod TableLemmas
 pub mod ImageLemmas
 pub mod RootLemmas
 pub mod ExampleLemmas
-pub mod FilledLemmas
