@@ -58,11 +58,11 @@ module _ (column : Column) (start : Index) (doc : ℕ) (of : IsIndexOf column st
       walk_same (is_added old) (put_records (λ v. list_of v start) doc) (put_records (λ v. documents_with v column) doc) w
       (λ e changed. ap (λ (docs : Docs). put_records (λ v. docs) doc e w) (of.lists e.0)) es
 
-  pub added_forms_same : (dense : Bool) (documents : ℕ) (old : Value → Option ℤ) (es : List (Value × ℤ)) (w : ℕ)
-      → added_forms dense documents (λ v. list_of v start) doc old es w ≡ added_forms dense documents (λ v. documents_with v column) doc old es w
-  added_forms_same dense documents old es w =
-      walk_same (is_added old) (put_forms dense documents (λ v. list_of v start) doc) (put_forms dense documents (λ v. documents_with v column) doc) w
-      (λ e changed. ap (λ (docs : Docs). put_forms dense documents (λ v. docs) doc e w) (of.lists e.0)) es
+  pub added_forms_same : (dense : Bool) (old : Value → Option ℤ) (es : List (Value × ℤ)) (w : ℕ)
+      → added_forms dense (λ v. list_of v start) doc old es w ≡ added_forms dense (λ v. documents_with v column) doc old es w
+  added_forms_same dense old es w =
+      walk_same (is_added old) (put_forms dense (λ v. list_of v start) doc) (put_forms dense (λ v. documents_with v column) doc) w
+      (λ e changed. ap (λ (docs : Docs). put_forms dense (λ v. docs) doc e w) (of.lists e.0)) es
 
   -- after the walk over the new values
   module _ (new : Value → Option ℤ) (middle : Index) (added : IsBetween start doc new (λ v. None) middle) where
@@ -74,11 +74,11 @@ module _ (column : Column) (start : Index) (doc : ℕ) (of : IsIndexOf column st
         walk_same (is_gone new) (taken_records (λ v. list_of v middle) doc) (taken_records (λ v. documents_with v column) doc) w
         (λ e changed. ap (λ (docs : Docs). taken_records (λ v. docs) doc e w) (gone_list e.0 (gone_none (new e.0) changed))) es
 
-    pub gone_forms_same : (dense : Bool) (documents : ℕ) (es : List (Value × ℤ)) (w : ℕ)
-        → gone_forms dense documents (λ v. list_of v middle) doc new es w ≡ gone_forms dense documents (λ v. documents_with v column) doc new es w
-    gone_forms_same dense documents es w =
-        walk_same (is_gone new) (taken_forms dense documents (λ v. list_of v middle) doc) (taken_forms dense documents (λ v. documents_with v column) doc) w
-        (λ e changed. ap (λ (docs : Docs). taken_forms dense documents (λ v. docs) doc e w) (gone_list e.0 (gone_none (new e.0) changed))) es
+    pub gone_forms_same : (dense : Bool) (es : List (Value × ℤ)) (w : ℕ)
+        → gone_forms dense (λ v. list_of v middle) doc new es w ≡ gone_forms dense (λ v. documents_with v column) doc new es w
+    gone_forms_same dense es w =
+        walk_same (is_gone new) (taken_forms dense (λ v. list_of v middle) doc) (taken_forms dense (λ v. documents_with v column) doc) w
+        (λ e changed. ap (λ (docs : Docs). taken_forms dense (λ v. docs) doc e w) (gone_list e.0 (gone_none (new e.0) changed))) es
 
 pub same_within : {H : Type 0} (a b : Ledger H) (nodes : ℕ) (f h p q : ℕ → ℕ) → ((w : ℕ) → f w ≡ h w) → ((w : ℕ) → p w ≡ q w) → MakesWithin a b (besides (by_width nodes f) p)
     → MakesWithin a b (besides (by_width nodes h) q)
@@ -174,7 +174,7 @@ module _ {H : Type 0} (x e y : ℕ) (f h k p q : ℕ → ℕ) (b c d : Ledger H)
       (besides_then b c d e y (λ w. 0) k (λ w. 0) q may (besides_none b c (by_width e (λ w. 0)) (λ w. 0) second) third)
 
 -- ---- what a document's change makes
-module _ {H : Type 0} (kind : Kind) (column : Column) (start : Index) (doc count : ℕ) (of : IsIndexOf column start) (old new : List (Value × ℤ)) (dense : Bool) (documents x e y : ℕ)
+module _ {H : Type 0} (kind : Kind) (column : Column) (start : Index) (doc count : ℕ) (of : IsIndexOf column start) (old new : List (Value × ℤ)) (dense : Bool) (x e y : ℕ)
     (a b c d : Ledger H) where
   abbrev made_added : ℕ → ℕ
   made_added = added_records (λ v. documents_with v column) doc (entry_weight old) new
@@ -183,21 +183,21 @@ module _ {H : Type 0} (kind : Kind) (column : Column) (start : Index) (doc count
   made_gone = gone_records (λ v. documents_with v column) doc (entry_weight new) old
 
   abbrev formed_added : ℕ → ℕ
-  formed_added = added_forms dense documents (λ v. documents_with v column) doc (entry_weight old) new
+  formed_added = added_forms dense (λ v. documents_with v column) doc (entry_weight old) new
 
   abbrev formed_gone : ℕ → ℕ
-  formed_gone = gone_forms dense documents (λ v. documents_with v column) doc (entry_weight new) old
+  formed_gone = gone_forms dense (λ v. documents_with v column) doc (entry_weight new) old
 
   abbrev start_added : ℕ → ℕ
-  start_added = besides (by_width x (added_records (λ v. list_of v start) doc (entry_weight old) new)) (added_forms dense documents (λ v. list_of v start) doc (entry_weight old) new)
+  start_added = besides (by_width x (added_records (λ v. list_of v start) doc (entry_weight old) new)) (added_forms dense (λ v. list_of v start) doc (entry_weight old) new)
 
   abbrev field_most : ℕ → ℕ
-  field_most = besides (by_width (x + e + y) (field_records kind column doc count old new)) (field_forms dense documents column doc old new)
+  field_most = besides (by_width (x + e + y) (field_records kind column doc count old new)) (field_forms dense column doc old new)
 
   adds_within : MakesWithin a b start_added → MakesWithin a b (besides (by_width x made_added) formed_added)
   adds_within made =
-      same_within a b x (added_records (λ v. list_of v start) doc (entry_weight old) new) made_added (added_forms dense documents (λ v. list_of v start) doc (entry_weight old) new) formed_added
-      (added_same column start doc of (entry_weight old) new) (added_forms_same column start doc of dense documents (entry_weight old) new) made
+      same_within a b x (added_records (λ v. list_of v start) doc (entry_weight old) new) made_added (added_forms dense (λ v. list_of v start) doc (entry_weight old) new) formed_added
+      (added_same column start doc of (entry_weight old) new) (added_forms_same column start doc of dense (entry_weight old) new) made
 
   pub put_one : MakesWithin a b start_added → MakesWithin a b field_most
   put_one added = one_step x e y made_added (items_record kind count) made_gone formed_added formed_gone a b c d (adds_within added)
@@ -207,12 +207,12 @@ module _ {H : Type 0} (kind : Kind) (column : Column) (start : Index) (doc count
 
   module _ (middle : Index) (between : IsBetween start doc (entry_weight new) (λ v. None) middle) where
     abbrev middle_gone : ℕ → ℕ
-    middle_gone = besides (by_width y (gone_records (λ v. list_of v middle) doc (entry_weight new) old)) (gone_forms dense documents (λ v. list_of v middle) doc (entry_weight new) old)
+    middle_gone = besides (by_width y (gone_records (λ v. list_of v middle) doc (entry_weight new) old)) (gone_forms dense (λ v. list_of v middle) doc (entry_weight new) old)
 
     gone_within : MakesWithin c d middle_gone → MakesWithin c d (besides (by_width y made_gone) formed_gone)
     gone_within made =
-        same_within c d y (gone_records (λ v. list_of v middle) doc (entry_weight new) old) made_gone (gone_forms dense documents (λ v. list_of v middle) doc (entry_weight new) old) formed_gone
-        (gone_same column start doc of (entry_weight new) middle between old) (gone_forms_same column start doc of (entry_weight new) middle between dense documents old) made
+        same_within c d y (gone_records (λ v. list_of v middle) doc (entry_weight new) old) made_gone (gone_forms dense (λ v. list_of v middle) doc (entry_weight new) old) formed_gone
+        (gone_same column start doc of (entry_weight new) middle between old) (gone_forms_same column start doc of (entry_weight new) middle between dense old) made
 
     pub put_three : MayDo a b → MayDo b c → MakesWithin a b start_added → MakesWithin b c (documents_most kind count e) → MakesWithin c d middle_gone → MakesWithin a d field_most
     put_three may goes added entry gone =
@@ -226,20 +226,20 @@ module _ {H : Type 0} (kind : Kind) (column : Column) (start : Index) (doc count
   out_one entry = entry_step x e y made_added (items_record kind count) made_gone formed_added formed_gone b c d entry
 
 -- no weights were given
-module _ {H : Type 0} (kind : Kind) (column : Column) (start : Index) (doc : ℕ) (of : IsIndexOf column start) (old none : List (Value × ℤ)) (empty : none ≡ []) (dense : Bool) (documents : ℕ) where
+module _ {H : Type 0} (kind : Kind) (column : Column) (start : Index) (doc : ℕ) (of : IsIndexOf column start) (old none : List (Value × ℤ)) (empty : none ≡ []) (dense : Bool) where
   abbrev gone_from : ℕ → Index → ℕ → ℕ
   gone_from per middle = besides (by_width (per * gone_count (entry_weight none) old) (gone_records (λ v. list_of v middle) doc (entry_weight none) old))
-      (gone_forms dense documents (λ v. list_of v middle) doc (entry_weight none) old)
+      (gone_forms dense (λ v. list_of v middle) doc (entry_weight none) old)
 
   abbrev out_most : ℕ → ℕ → ℕ
-  out_most nodes = besides (by_width nodes (field_records kind column doc 0 old [])) (field_forms dense documents column doc old [])
+  out_most nodes = besides (by_width nodes (field_records kind column doc 0 old [])) (field_forms dense column doc old [])
 
   out_empty : (per e : ℕ) (b c d : Ledger H) (middle : Index) → IsBetween start doc (entry_weight none) (λ v. None) middle → MayDo b c → MakesWithin b c (by_width e (λ w. 0))
       → MakesWithin c d (gone_from per middle) → MakesWithin b d (out_most (per * new_values old [] + e + per * lost_values old []))
   out_empty per e b c d middle between may entry gone =
       subst (λ (es : List (Value × ℤ)). MakesWithin b d (besides (by_width (per * new_values old es + e + per * lost_values old es) (field_records kind column doc 0 old es))
-      (field_forms dense documents column doc old es))) empty
-      (out_two kind column start doc 0 of old none dense documents (per * new_values old none) e (per * lost_values old none) b b c d middle between may entry gone)
+      (field_forms dense column doc old es))) empty
+      (out_two kind column start doc 0 of old none dense (per * new_values old none) e (per * lost_values old none) b b c d middle between may entry gone)
 
   module _ (b c d : Ledger H) (middle : Index) (between : IsBetween start doc (entry_weight none) (λ v. None) middle) (may : MayDo b c) where
     pub out_counts : MakesWithin b c (by_width 17 (λ w. 0)) → MakesWithin c d (gone_from 34 middle) → MakesWithin b d (out_most (field_nodes old []))

@@ -39,14 +39,12 @@ change_records kind column doc before after =
     field_records kind column doc (length after) (first_weights [] before) (first_weights [] after)
 
 -- bounds on what lists need besides that may be bit vectors
-abbrev pub field_forms : Bool → ℕ → Column → ℕ → List (Value × ℤ) → List (Value × ℤ) → ℕ → ℕ
-field_forms dense documents column doc old new width =
-    added_forms dense documents (λ value. documents_with value column) doc (entry_weight old) new width
-    + gone_forms dense documents (λ value. documents_with value column) doc (entry_weight new) old width
+abbrev pub field_forms : Bool → Column → ℕ → List (Value × ℤ) → List (Value × ℤ) → ℕ → ℕ
+field_forms dense column doc old new width = added_forms dense (λ value. documents_with value column) doc (entry_weight old) new width
+    + gone_forms dense (λ value. documents_with value column) doc (entry_weight new) old width
 
-abbrev pub change_forms : Bool → ℕ → Column → ℕ → List Item → List Item → ℕ → ℕ
-change_forms dense documents column doc before after =
-    field_forms dense documents column doc (first_weights [] before) (first_weights [] after)
+abbrev pub change_forms : Bool → Column → ℕ → List Item → List Item → ℕ → ℕ
+change_forms dense column doc before after = field_forms dense column doc (first_weights [] before) (first_weights [] after)
 
 -- no tree of an attribute gets more levels while a document gets these values, by the number of its values and of its
 -- documents

@@ -63,14 +63,14 @@ fn put_weighed<const OFFSET_BITS: u32, S: Store<OFFSET_BITS>>(
         (by_width (field_nodes old.now.entries new.now.entries)
         (field_records kind (column_at kind value_type (S.records store.old) roots.entry.documents) doc (length items.now)
         old.now.entries new.now.entries))
-        (field_forms dense total (column_at kind value_type (S.records store.old) roots.entry.documents) doc
+        (field_forms dense (column_at kind value_type (S.records store.old) roots.entry.documents) doc
         old.now.entries new.now.entries)) }
     ensures low { (levels : ℕ) → StaysLow levels (column_at kind value_type (S.records store.old) roots.entry.documents) new.now.entries
         → MakesWithin (S.ledger store.old) (S.ledger store.new) (besides
         (by_width (low_nodes levels old.now.entries new.now.entries)
         (field_records kind (column_at kind value_type (S.records store.old) roots.entry.documents) doc (length items.now)
         old.now.entries new.now.entries))
-        (field_forms dense total (column_at kind value_type (S.records store.old) roots.entry.documents) doc
+        (field_forms dense (column_at kind value_type (S.records store.old) roots.entry.documents) doc
         old.now.entries new.now.entries)) }
     ensures refuses { IfErr result (RefusesOf (IsFieldWidth dense kind
         (with_change (column_at kind value_type (S.records store.old) roots.entry.documents) doc (Some items.now))
@@ -166,14 +166,14 @@ pub fn put<const OFFSET_BITS: u32, S: Store<OFFSET_BITS>>(
     ensures counts { MakesWithin (S.ledger store.old) (S.ledger store.new) (besides
         (by_width (field_nodes (first_weights [] old.now) (first_weights [] new.now))
         (change_records kind (column_at kind value_type (S.records store.old) roots.entry.documents) doc old.now new.now))
-        (change_forms (wants dense kind) documents (column_at kind value_type (S.records store.old) roots.entry.documents) doc
+        (change_forms (wants dense kind) (column_at kind value_type (S.records store.old) roots.entry.documents) doc
         old.now new.now)) }
     ensures low { (levels : ℕ) → StaysLow levels (column_at kind value_type (S.records store.old) roots.entry.documents)
         (first_weights [] new.now)
         → MakesWithin (S.ledger store.old) (S.ledger store.new) (besides
         (by_width (low_nodes levels (first_weights [] old.now) (first_weights [] new.now))
         (change_records kind (column_at kind value_type (S.records store.old) roots.entry.documents) doc old.now new.now))
-        (change_forms (wants dense kind) documents (column_at kind value_type (S.records store.old) roots.entry.documents) doc
+        (change_forms (wants dense kind) (column_at kind value_type (S.records store.old) roots.entry.documents) doc
         old.now new.now)) }
     ensures refuses { IfErr result (RefusesOf (IsFieldWidth (wants dense kind) kind
         (with_change (column_at kind value_type (S.records store.old) roots.entry.documents) doc (Some new.now)) old.now new.now)
@@ -243,11 +243,11 @@ fn remove_weighed<const OFFSET_BITS: u32, S: Store<OFFSET_BITS>>(
     ensures form { IfOk result (λ next. IsOfForm dense value_type (S.records store.new) next.dictionary) }
     ensures counts { MakesWithin (S.ledger store.old) (S.ledger store.new) (besides (by_width (field_nodes old.now.entries [])
         (field_records kind (column_at kind value_type (S.records store.old) roots.entry.documents) doc 0 old.now.entries []))
-        (field_forms dense total (column_at kind value_type (S.records store.old) roots.entry.documents) doc old.now.entries [])) }
+        (field_forms dense (column_at kind value_type (S.records store.old) roots.entry.documents) doc old.now.entries [])) }
     ensures low { (levels : ℕ) → StaysLow levels (column_at kind value_type (S.records store.old) roots.entry.documents) []
         → MakesWithin (S.ledger store.old) (S.ledger store.new) (besides (by_width (low_nodes levels old.now.entries [])
         (field_records kind (column_at kind value_type (S.records store.old) roots.entry.documents) doc 0 old.now.entries []))
-        (field_forms dense total (column_at kind value_type (S.records store.old) roots.entry.documents) doc old.now.entries [])) }
+        (field_forms dense (column_at kind value_type (S.records store.old) roots.entry.documents) doc old.now.entries [])) }
     ensures refuses { IfErr result (RefusesOf (IsFieldWidth dense kind
         (with_change (column_at kind value_type (S.records store.old) roots.entry.documents) doc None)
         (items_of (column_at kind value_type (S.records store.old) roots.entry.documents) doc) [])
@@ -314,12 +314,12 @@ pub fn remove<const OFFSET_BITS: u32, S: Store<OFFSET_BITS>>(
     ensures counts { MakesWithin (S.ledger store.old) (S.ledger store.new) (besides
         (by_width (field_nodes (first_weights [] old.now) [])
         (change_records kind (column_at kind value_type (S.records store.old) roots.entry.documents) doc old.now []))
-        (change_forms (wants dense kind) documents (column_at kind value_type (S.records store.old) roots.entry.documents) doc old.now [])) }
+        (change_forms (wants dense kind) (column_at kind value_type (S.records store.old) roots.entry.documents) doc old.now [])) }
     ensures low { (levels : ℕ) → StaysLow levels (column_at kind value_type (S.records store.old) roots.entry.documents) []
         → MakesWithin (S.ledger store.old) (S.ledger store.new) (besides
         (by_width (low_nodes levels (first_weights [] old.now) [])
         (change_records kind (column_at kind value_type (S.records store.old) roots.entry.documents) doc old.now []))
-        (change_forms (wants dense kind) documents (column_at kind value_type (S.records store.old) roots.entry.documents) doc old.now [])) }
+        (change_forms (wants dense kind) (column_at kind value_type (S.records store.old) roots.entry.documents) doc old.now [])) }
     ensures refuses { IfErr result (RefusesOf (IsFieldWidth (wants dense kind) kind
         (with_change (column_at kind value_type (S.records store.old) roots.entry.documents) doc None) old.now [])
         (S.ledger store.old) (S.ledger store.new)) }

@@ -68,14 +68,14 @@ pub fn add_values<const OFFSET_BITS: u32, S: Store<OFFSET_BITS>>(
         (by_width (34 * added_count (get value_cmp old.now) new.now.entries)
         (added_records (λ value. list_of value (index_of value_type (S.records store.old) dictionary.entry)) doc (get value_cmp old.now)
         new.now.entries))
-        (added_forms dense total (λ value. list_of value (index_of value_type (S.records store.old) dictionary.entry)) doc (get value_cmp old.now)
+        (added_forms dense (λ value. list_of value (index_of value_type (S.records store.old) dictionary.entry)) doc (get value_cmp old.now)
         new.now.entries)) }
     ensures low { (levels : ℕ) → AddsLow levels (index_of value_type (S.records store.old) dictionary.entry) doc new.now.entries
         → MakesWithin (S.ledger store.old) (S.ledger store.new) (besides
         (by_width (value_nodes levels * added_count (get value_cmp old.now) new.now.entries)
         (added_records (λ value. list_of value (index_of value_type (S.records store.old) dictionary.entry)) doc (get value_cmp old.now)
         new.now.entries))
-        (added_forms dense total (λ value. list_of value (index_of value_type (S.records store.old) dictionary.entry)) doc (get value_cmp old.now)
+        (added_forms dense (λ value. list_of value (index_of value_type (S.records store.old) dictionary.entry)) doc (get value_cmp old.now)
         new.now.entries)) }
     ensures refuses { IfErr result (RefusesOf
         (IsWalkWidth dense (index_of value_type (S.records store.old) dictionary.entry) doc (get value_cmp new.now) (λ value. None))
@@ -204,7 +204,7 @@ pub fn remove_values<const OFFSET_BITS: u32, S: Store<OFFSET_BITS>>(
         (by_width (34 * gone_count (get value_cmp new.now) old.now.entries)
         (gone_records (λ value. list_of value (index_of value_type (S.records store.old) dictionary.entry)) doc (get value_cmp new.now)
         old.now.entries))
-        (gone_forms dense total (λ value. list_of value (index_of value_type (S.records store.old) dictionary.entry)) doc (get value_cmp new.now)
+        (gone_forms dense (λ value. list_of value (index_of value_type (S.records store.old) dictionary.entry)) doc (get value_cmp new.now)
         old.now.entries)) }
     ensures low { (levels : ℕ)
         → RemovesLow levels (index_of value_type (S.records store.old) dictionary.entry) doc (get value_cmp new.now) old.now.entries
@@ -212,7 +212,7 @@ pub fn remove_values<const OFFSET_BITS: u32, S: Store<OFFSET_BITS>>(
         (by_width (value_nodes levels * gone_count (get value_cmp new.now) old.now.entries)
         (gone_records (λ value. list_of value (index_of value_type (S.records store.old) dictionary.entry)) doc (get value_cmp new.now)
         old.now.entries))
-        (gone_forms dense total (λ value. list_of value (index_of value_type (S.records store.old) dictionary.entry)) doc (get value_cmp new.now)
+        (gone_forms dense (λ value. list_of value (index_of value_type (S.records store.old) dictionary.entry)) doc (get value_cmp new.now)
         old.now.entries)) }
     ensures refuses { IfErr result (RefusesOf
         (IsWalkWidth dense (index_of value_type (S.records store.old) dictionary.entry) doc (get value_cmp new.now) (get value_cmp old.now))

@@ -214,32 +214,32 @@ module _ (value : Value) (weight : ℤ) (m : Records) (root doc most : ℕ) (is 
     taken_docs docs = remove_entry (is_at (nat_cmp doc)) docs
 
     put_forms : (w : ℕ) → add_most value m root dense documents (put_docs had) w
-        ≤ besides (by_width (value_nodes most) (put_records lists doc (value, weight))) (form_records dense documents (lists value) (put_docs (lists value))) w
+        ≤ besides (by_width (value_nodes most) (put_records lists doc (value, weight))) (form_records dense (lists value) (put_docs (lists value))) w
     put_forms w =
         let few = add_by lists reads w in
         let form = change_forms documents (value_levels value m root) had (put_docs had) w dense (insert_few had doc weight) (insert_more had doc weight) (is_vector (list_word value m root))
         (is_dense dense (length (put_docs had)) documents) refl (was_vector value m root dense is plain) in
-        subst (λ (ds : Docs). add_most value m root dense documents (put_docs had) w ≤ by_width (value_nodes most) (put_records lists doc (value, weight)) w + form_records dense documents ds (put_docs ds) w)
+        subst (λ (ds : Docs). add_most value m root dense documents (put_docs had) w ≤ by_width (value_nodes most) (put_records lists doc (value, weight)) w + form_records dense ds (put_docs ds) w)
         (sym reads) (omega (arith, few, form))
 
     taken_forms : (w : ℕ) → change_most value m root dense documents (taken_docs had) w
-        ≤ besides (by_width (value_nodes most) (taken_records lists doc (value, weight))) (form_records dense documents (lists value) (taken_docs (lists value))) w
+        ≤ besides (by_width (value_nodes most) (taken_records lists doc (value, weight))) (form_records dense (lists value) (taken_docs (lists value))) w
     taken_forms w =
         let few = change_by lists reads w in
         let form = change_forms documents (value_levels value m root) had (taken_docs had) w dense (remove_few (is_at (nat_cmp doc)) had) (remove_more (is_at (nat_cmp doc)) had) (is_vector (list_word value m root))
         (is_dense dense (length (taken_docs had)) documents) refl (was_vector value m root dense is plain) in
-        subst (λ (ds : Docs). change_most value m root dense documents (taken_docs had) w ≤ by_width (value_nodes most) (taken_records lists doc (value, weight)) w + form_records dense documents ds (taken_docs ds) w)
+        subst (λ (ds : Docs). change_most value m root dense documents (taken_docs had) w ≤ by_width (value_nodes most) (taken_records lists doc (value, weight)) w + form_records dense ds (taken_docs ds) w)
         (sym reads) (omega (arith, few, form))
 
     pub low_added : MakesWithin a b (add_most value m root dense documents (put_docs had))
-        → MakesWithin a b (besides (by_width (value_nodes most) (put_records lists doc (value, weight))) (form_records dense documents (lists value) (put_docs (lists value))))
+        → MakesWithin a b (besides (by_width (value_nodes most) (put_records lists doc (value, weight))) (form_records dense (lists value) (put_docs (lists value))))
     low_added made = within_more a b (add_most value m root dense documents (put_docs had))
-        (besides (by_width (value_nodes most) (put_records lists doc (value, weight))) (form_records dense documents (lists value) (put_docs (lists value)))) put_forms made
+        (besides (by_width (value_nodes most) (put_records lists doc (value, weight))) (form_records dense (lists value) (put_docs (lists value)))) put_forms made
 
     pub low_gone : MakesWithin a b (change_most value m root dense documents (taken_docs had))
-        → MakesWithin a b (besides (by_width (value_nodes most) (taken_records lists doc (value, weight))) (form_records dense documents (lists value) (taken_docs (lists value))))
+        → MakesWithin a b (besides (by_width (value_nodes most) (taken_records lists doc (value, weight))) (form_records dense (lists value) (taken_docs (lists value))))
     low_gone made = within_more a b (change_most value m root dense documents (taken_docs had))
-        (besides (by_width (value_nodes most) (taken_records lists doc (value, weight))) (form_records dense documents (lists value) (taken_docs (lists value)))) taken_forms made
+        (besides (by_width (value_nodes most) (taken_records lists doc (value, weight))) (form_records dense (lists value) (taken_docs (lists value)))) taken_forms made
 
 -- no tree has more than eight levels
 module _ (value : Value) (weight : ℤ) (m : Records) (root doc : ℕ) (is : IsIndex (type_of value) m root) {H : Type 0} (a b : Ledger H) (dense : Bool) (documents : ℕ)
@@ -248,11 +248,11 @@ module _ (value : Value) (weight : ℤ) (m : Records) (root doc : ℕ) (is : IsI
   few_levels = form_few m (list_form (list_word value m root))
 
   pub few_added : MakesWithin a b (add_most value m root dense documents (insert_entry nat_cmp (list_of value (index_of (type_of value) m root)) doc weight))
-      → MakesWithin a b (besides (by_width 34 (put_records lists doc (value, weight))) (form_records dense documents (lists value) (insert_entry nat_cmp (lists value) doc weight)))
+      → MakesWithin a b (besides (by_width 34 (put_records lists doc (value, weight))) (form_records dense (lists value) (insert_entry nat_cmp (lists value) doc weight)))
   few_added made = low_added value weight m root doc 8 is (levels_few m root) few_levels a b dense documents plain lists reads made
 
   pub few_gone : MakesWithin a b (change_most value m root dense documents (remove_entry (is_at (nat_cmp doc)) (list_of value (index_of (type_of value) m root))))
-      → MakesWithin a b (besides (by_width 34 (taken_records lists doc (value, weight))) (form_records dense documents (lists value) (remove_entry (is_at (nat_cmp doc)) (lists value))))
+      → MakesWithin a b (besides (by_width 34 (taken_records lists doc (value, weight))) (form_records dense (lists value) (remove_entry (is_at (nat_cmp doc)) (lists value))))
   few_gone made = low_gone value weight m root doc 8 is (levels_few m root) few_levels a b dense documents plain lists reads made
 
 -- ---- the values of a walk

@@ -52,7 +52,7 @@ pub fn remove_all<const OFFSET_BITS: u32, S: Store<OFFSET_BITS>>(
         (by_width (34 * gone_count (get value_cmp new.now) old.now.entries)
         (gone_records (λ value. list_of value (index_of value_type (S.records store.old) root.entry)) doc (get value_cmp new.now)
         old.now.entries))
-        (gone_forms dense documents (λ value. list_of value (index_of value_type (S.records store.old) root.entry)) doc (get value_cmp new.now)
+        (gone_forms dense (λ value. list_of value (index_of value_type (S.records store.old) root.entry)) doc (get value_cmp new.now)
         old.now.entries)) }
     ensures low { (levels : ℕ)
         → RemovesLow levels (index_of value_type (S.records store.old) root.entry) doc (get value_cmp new.now) old.now.entries
@@ -60,7 +60,7 @@ pub fn remove_all<const OFFSET_BITS: u32, S: Store<OFFSET_BITS>>(
         (by_width (value_nodes levels * gone_count (get value_cmp new.now) old.now.entries)
         (gone_records (λ value. list_of value (index_of value_type (S.records store.old) root.entry)) doc (get value_cmp new.now)
         old.now.entries))
-        (gone_forms dense documents (λ value. list_of value (index_of value_type (S.records store.old) root.entry)) doc (get value_cmp new.now)
+        (gone_forms dense (λ value. list_of value (index_of value_type (S.records store.old) root.entry)) doc (get value_cmp new.now)
         old.now.entries)) }
     ensures refuses { IfErr result (RefusesOf
         (IsWalkWidth dense (index_of value_type (S.records store.old) root.entry) doc (get value_cmp new.now) (get value_cmp old.now))

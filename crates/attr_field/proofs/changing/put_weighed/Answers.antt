@@ -249,7 +249,7 @@ returns-in_err-added-clause-counts g c =
     let start = index_of type k I in
     let of = c.requires.field.index_of_documents in
     let last = ledger c.add_values.new.store in
-    put_one kind column start doc count of old new c.args.dense c.args.total (34 * new_values old new) 17 (34 * lost_values old new) (ledger c.args.store.now) last last last c.add_values.ensures.counts
+    put_one kind column start doc count of old new c.args.dense (34 * new_values old new) 17 (34 * lost_values old new) (ledger c.args.store.now) last last last c.add_values.ensures.counts
 
 pub returns-in_err-documents-clause-counts : goal.returns-in_err-documents-clause-counts
 returns-in_err-documents-clause-counts g c =
@@ -268,7 +268,7 @@ returns-in_err-documents-clause-counts g c =
     let start = index_of type k I in
     let of = c.requires.field.index_of_documents in
     let last = ledger c.set_items.new.store in
-    put_two kind column start doc count of old new c.args.dense c.args.total (34 * new_values old new) 17 (34 * lost_values old new) (ledger c.args.store.now) (ledger c.add_values.new.store) last last
+    put_two kind column start doc count of old new c.args.dense (34 * new_values old new) 17 (34 * lost_values old new) (ledger c.args.store.now) (ledger c.add_values.new.store) last last
     c.add_values.ensures.may c.add_values.ensures.counts c.set_items.ensures.counts
 
 pub returns-in_err-dictionary-clause-counts : goal.returns-in_err-dictionary-clause-counts
@@ -289,7 +289,7 @@ returns-in_err-dictionary-clause-counts g c =
     let of = c.requires.field.index_of_documents in
     let middle = index_of type (records c.set_items.new.store) c.in_ok-added.added in
     let between = subst (λ (i : Index). IsBetween start doc (weights new) (λ v. None) i) (sym c.in_ok-documents.ensures.index) c.in_ok-added.ensures.between in
-    put_three kind column start doc count of old new c.args.dense c.args.total (34 * new_values old new) 17 (34 * lost_values old new)
+    put_three kind column start doc count of old new c.args.dense (34 * new_values old new) 17 (34 * lost_values old new)
     (ledger c.args.store.now) (ledger c.add_values.new.store) (ledger c.set_items.new.store) (ledger c.remove_values.new.store) middle between
     c.add_values.ensures.may c.set_items.ensures.may c.add_values.ensures.counts c.set_items.ensures.counts c.remove_values.ensures.counts
 
@@ -311,7 +311,7 @@ returns-clause-counts g c =
     let of = c.requires.field.index_of_documents in
     let middle = index_of type (records c.set_items.new.store) c.in_ok-added.added in
     let between = subst (λ (i : Index). IsBetween start doc (weights new) (λ v. None) i) (sym c.in_ok-documents.ensures.index) c.in_ok-added.ensures.between in
-    put_three kind column start doc count of old new c.args.dense c.args.total (34 * new_values old new) 17 (34 * lost_values old new)
+    put_three kind column start doc count of old new c.args.dense (34 * new_values old new) 17 (34 * lost_values old new)
     (ledger c.args.store.now) (ledger c.add_values.new.store) (ledger c.set_items.new.store) (ledger c.remove_values.new.store) middle between
     c.add_values.ensures.may c.set_items.ensures.may c.add_values.ensures.counts c.set_items.ensures.counts c.remove_values.ensures.counts
 
@@ -340,7 +340,7 @@ returns-in_err-added-clause-low g c =
     λ levels stays.
     let added = c.add_values.ensures.low levels (adds_low column start doc levels new of stays) in
     let last = ledger c.add_values.new.store in
-    put_one kind column start doc count of old new c.args.dense c.args.total (value_nodes levels * new_values old new) (2 * levels + 1) (value_nodes levels * lost_values old new) (ledger c.args.store.now) last last last added
+    put_one kind column start doc count of old new c.args.dense (value_nodes levels * new_values old new) (2 * levels + 1) (value_nodes levels * lost_values old new) (ledger c.args.store.now) last last last added
 
 pub returns-in_err-documents-clause-low : goal.returns-in_err-documents-clause-low
 returns-in_err-documents-clause-low g c =
@@ -363,7 +363,7 @@ returns-in_err-documents-clause-low g c =
     let few = subst (λ (cl : Column). length cl < 2 * 8 ^ levels) (sym c.in_ok-added.ensures.steps.column_is) (let low = stays.documents in let less : length column < 2 * 8 ^ levels = omega arith in less) in
     let entry = c.set_items.ensures.low levels stays.some few in
     let last = ledger c.set_items.new.store in
-    put_two kind column start doc count of old new c.args.dense c.args.total (value_nodes levels * new_values old new) (2 * levels + 1) (value_nodes levels * lost_values old new) (ledger c.args.store.now) (ledger c.add_values.new.store) last last c.add_values.ensures.may added entry
+    put_two kind column start doc count of old new c.args.dense (value_nodes levels * new_values old new) (2 * levels + 1) (value_nodes levels * lost_values old new) (ledger c.args.store.now) (ledger c.add_values.new.store) last last c.add_values.ensures.may added entry
 
 pub returns-in_err-dictionary-clause-low : goal.returns-in_err-dictionary-clause-low
 returns-in_err-dictionary-clause-low g c =
@@ -388,7 +388,7 @@ returns-in_err-dictionary-clause-low g c =
     let few = subst (λ (cl : Column). length cl < 2 * 8 ^ levels) (sym c.in_ok-added.ensures.steps.column_is) (let low = stays.documents in let less : length column < 2 * 8 ^ levels = omega arith in less) in
     let entry = c.set_items.ensures.low levels stays.some few in
     let gone = c.remove_values.ensures.low levels (removes_low column start doc levels new of stays middle old between) in
-    put_three kind column start doc count of old new c.args.dense c.args.total (value_nodes levels * new_values old new) (2 * levels + 1) (value_nodes levels * lost_values old new)
+    put_three kind column start doc count of old new c.args.dense (value_nodes levels * new_values old new) (2 * levels + 1) (value_nodes levels * lost_values old new)
     (ledger c.args.store.now) (ledger c.add_values.new.store) (ledger c.set_items.new.store) (ledger c.remove_values.new.store) middle between
     c.add_values.ensures.may c.set_items.ensures.may added entry gone
 
@@ -415,7 +415,7 @@ returns-clause-low g c =
     let few = subst (λ (cl : Column). length cl < 2 * 8 ^ levels) (sym c.in_ok-added.ensures.steps.column_is) (let low = stays.documents in let less : length column < 2 * 8 ^ levels = omega arith in less) in
     let entry = c.set_items.ensures.low levels stays.some few in
     let gone = c.remove_values.ensures.low levels (removes_low column start doc levels new of stays middle old between) in
-    put_three kind column start doc count of old new c.args.dense c.args.total (value_nodes levels * new_values old new) (2 * levels + 1) (value_nodes levels * lost_values old new)
+    put_three kind column start doc count of old new c.args.dense (value_nodes levels * new_values old new) (2 * levels + 1) (value_nodes levels * lost_values old new)
     (ledger c.args.store.now) (ledger c.add_values.new.store) (ledger c.set_items.new.store) (ledger c.remove_values.new.store) middle between
     c.add_values.ensures.may c.set_items.ensures.may added entry gone
 

@@ -64,7 +64,7 @@ pub returns-in_default-clause-counts : goal.returns-in_default-clause-counts
 returns-in_default-clause-counts g c =
     let column = column_at c.args.kind c.args.value_type (g.S.Frozen.records c.args.store.now) c.args.roots.documents in
     within_none (g.S.Store.ledger c.args.store.now) (besides (by_width (field_nodes (first_weights [] c.args.old.now) []) (change_records c.args.kind column c.args.doc c.args.old.now []))
-    (change_forms (wants c.args.dense c.args.kind) c.args.documents column c.args.doc c.args.old.now []))
+    (change_forms (wants c.args.dense c.args.kind) column c.args.doc c.args.old.now []))
 
 pub returns-clause-counts : goal.returns-clause-counts
 returns-clause-counts g c =
@@ -72,9 +72,9 @@ returns-clause-counts g c =
     let column = column_at c.args.kind c.args.value_type (g.S.Frozen.records c.args.store.now) c.args.roots.documents in
     let first = first_weights [] c.args.old.now in
     subst (λ (b : Bool). MakesWithin (ledger c.args.store.now) (ledger c.remove_weighed.new.store) (besides (by_width (field_nodes first []) (field_records c.args.kind column c.args.doc 0 first []))
-    (field_forms b c.args.documents column c.args.doc first []))) c.wants-wanted.ensures
+    (field_forms b column c.args.doc first []))) c.wants-wanted.ensures
     (subst (λ (es : List (Value × ℤ)). MakesWithin (ledger c.args.store.now) (ledger c.remove_weighed.new.store) (besides (by_width (field_nodes es []) (field_records c.args.kind column c.args.doc 0 es []))
-    (field_forms c.wants-wanted.result c.args.documents column c.args.doc es [])))
+    (field_forms c.wants-wanted.result column c.args.doc es [])))
     c.in-Ok.ensures.weights c.remove_weighed.ensures.counts)
 
 pub returns-clause-may : goal.returns-clause-may
@@ -85,7 +85,7 @@ returns-in_default-clause-low g c =
     let column = column_at c.args.kind c.args.value_type (g.S.Frozen.records c.args.store.now) c.args.roots.documents in
     λ levels stays.
     within_none (g.S.Store.ledger c.args.store.now) (besides (by_width (low_nodes levels (first_weights [] c.args.old.now) []) (change_records c.args.kind column c.args.doc c.args.old.now []))
-    (change_forms (wants c.args.dense c.args.kind) c.args.documents column c.args.doc c.args.old.now []))
+    (change_forms (wants c.args.dense c.args.kind) column c.args.doc c.args.old.now []))
 
 pub returns-clause-low : goal.returns-clause-low
 returns-clause-low g c =
@@ -94,9 +94,9 @@ returns-clause-low g c =
     λ levels stays.
     let first = first_weights [] c.args.old.now in
     subst (λ (b : Bool). MakesWithin (ledger c.args.store.now) (ledger c.remove_weighed.new.store) (besides (by_width (low_nodes levels first []) (field_records c.args.kind column c.args.doc 0 first []))
-    (field_forms b c.args.documents column c.args.doc first []))) c.wants-wanted.ensures
+    (field_forms b column c.args.doc first []))) c.wants-wanted.ensures
     (subst (λ (es : List (Value × ℤ)). MakesWithin (ledger c.args.store.now) (ledger c.remove_weighed.new.store) (besides (by_width (low_nodes levels es []) (field_records c.args.kind column c.args.doc 0 es []))
-    (field_forms c.wants-wanted.result c.args.documents column c.args.doc es [])))
+    (field_forms c.wants-wanted.result column c.args.doc es [])))
     c.in-Ok.ensures.weights (c.remove_weighed.ensures.low levels stays))
 
 pub returns-clause-form : goal.returns-clause-form

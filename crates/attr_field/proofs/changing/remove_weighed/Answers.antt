@@ -156,7 +156,7 @@ returns-in_err-documents-clause-counts g c =
     let start = index_of type k I in
     let of = c.requires.field.index_of_documents in
     let last = ledger c.take_out.new.store in
-    out_one kind column start doc 0 of old [] c.args.dense c.args.total (34 * new_values old []) 17 (34 * lost_values old []) begun begun last last c.take_out.ensures.counts
+    out_one kind column start doc 0 of old [] c.args.dense (34 * new_values old []) 17 (34 * lost_values old []) begun begun last last c.take_out.ensures.counts
 
 pub returns-in_err-dictionary-clause-counts : goal.returns-in_err-dictionary-clause-counts
 returns-in_err-dictionary-clause-counts g c =
@@ -177,7 +177,7 @@ returns-in_err-dictionary-clause-counts g c =
     let middle = index_of type (records c.take_out.new.store) I in
     let between = subst (λ (i : Index). IsBetween start doc (weights none) (λ v. None) i) (sym c.in_ok-documents.ensures.index)
     (subst (λ (es : List (Value × ℤ)). IsBetween start doc (weights es) (λ v. None) start) (sym c.no_weights-none.ensures) (none_added kind type begun k D I doc c.requires.field)) in
-    out_counts kind column start doc of old none c.no_weights-none.ensures c.args.dense c.args.total begun (ledger c.take_out.new.store) (ledger c.remove_values.new.store) middle between c.take_out.ensures.may
+    out_counts kind column start doc of old none c.no_weights-none.ensures c.args.dense begun (ledger c.take_out.new.store) (ledger c.remove_values.new.store) middle between c.take_out.ensures.may
     c.take_out.ensures.counts c.remove_values.ensures.counts
 
 pub returns-clause-counts : goal.returns-clause-counts
@@ -199,7 +199,7 @@ returns-clause-counts g c =
     let middle = index_of type (records c.take_out.new.store) I in
     let between = subst (λ (i : Index). IsBetween start doc (weights none) (λ v. None) i) (sym c.in_ok-documents.ensures.index)
     (subst (λ (es : List (Value × ℤ)). IsBetween start doc (weights es) (λ v. None) start) (sym c.no_weights-none.ensures) (none_added kind type begun k D I doc c.requires.field)) in
-    out_counts kind column start doc of old none c.no_weights-none.ensures c.args.dense c.args.total begun (ledger c.take_out.new.store) (ledger c.remove_values.new.store) middle between c.take_out.ensures.may
+    out_counts kind column start doc of old none c.no_weights-none.ensures c.args.dense begun (ledger c.take_out.new.store) (ledger c.remove_values.new.store) middle between c.take_out.ensures.may
     c.take_out.ensures.counts c.remove_values.ensures.counts
 
 pub returns-clause-may : goal.returns-clause-may
@@ -225,7 +225,7 @@ returns-in_err-documents-clause-low g c =
     λ levels stays.
     let entry = c.take_out.ensures.low levels stays.some (let low = stays.documents in let less : length column < 2 * 8 ^ levels = omega arith in less) in
     let last = ledger c.take_out.new.store in
-    out_one kind column start doc 0 of old [] c.args.dense c.args.total (value_nodes levels * new_values old []) (2 * levels + 1) (value_nodes levels * lost_values old []) begun begun last last entry
+    out_one kind column start doc 0 of old [] c.args.dense (value_nodes levels * new_values old []) (2 * levels + 1) (value_nodes levels * lost_values old []) begun begun last last entry
 
 pub returns-in_err-dictionary-clause-low : goal.returns-in_err-dictionary-clause-low
 returns-in_err-dictionary-clause-low g c =
@@ -250,7 +250,7 @@ returns-in_err-dictionary-clause-low g c =
     let entry = c.take_out.ensures.low levels stays.some (let low = stays.documents in let less : length column < 2 * 8 ^ levels = omega arith in less) in
     let stays_none = subst (λ (es : List (Value × ℤ)). StaysLow levels column es) (sym c.no_weights-none.ensures) stays in
     let gone = c.remove_values.ensures.low levels (removes_low column start doc levels none of stays_none middle old between) in
-    out_low kind column start doc of old none c.no_weights-none.ensures c.args.dense c.args.total levels begun (ledger c.take_out.new.store) (ledger c.remove_values.new.store) middle between c.take_out.ensures.may entry gone
+    out_low kind column start doc of old none c.no_weights-none.ensures c.args.dense levels begun (ledger c.take_out.new.store) (ledger c.remove_values.new.store) middle between c.take_out.ensures.may entry gone
 
 pub returns-clause-low : goal.returns-clause-low
 returns-clause-low g c =
@@ -275,7 +275,7 @@ returns-clause-low g c =
     let entry = c.take_out.ensures.low levels stays.some (let low = stays.documents in let less : length column < 2 * 8 ^ levels = omega arith in less) in
     let stays_none = subst (λ (es : List (Value × ℤ)). StaysLow levels column es) (sym c.no_weights-none.ensures) stays in
     let gone = c.remove_values.ensures.low levels (removes_low column start doc levels none of stays_none middle old between) in
-    out_low kind column start doc of old none c.no_weights-none.ensures c.args.dense c.args.total levels begun (ledger c.take_out.new.store) (ledger c.remove_values.new.store) middle between c.take_out.ensures.may entry gone
+    out_low kind column start doc of old none c.no_weights-none.ensures c.args.dense levels begun (ledger c.take_out.new.store) (ledger c.remove_values.new.store) middle between c.take_out.ensures.may entry gone
 
 pub returns-in_err-documents-clause-form : goal.returns-in_err-documents-clause-form
 returns-in_err-documents-clause-form g c = let p = err_from_is_err_and c.from_residual.result c.from_residual.ensures.1 in rw p.1 tt

@@ -33,7 +33,7 @@ loop-value-init g c =
     let m = g.S.Frozen.records c.args.store.now in
     let lists = λ (v : Value). list_of v (index_of c.args.value_type m c.args.root) in
     let each = put_records lists c.args.doc in
-    let form = put_forms c.args.dense c.args.documents lists c.args.doc in
+    let form = put_forms c.args.dense lists c.args.doc in
     let rest = c.into_iter-value-iterator.ensures.into_iter_gives ∙ c.iter-value-items.ensures.rest in
     record {
       adds = adds_begin c.args.value_type ledger m c.args.root c.args.doc c.args.new.now.entries c.into_iter-value-iterator.result
@@ -101,7 +101,7 @@ returns-in_err-next-clause-counts g c =
     let entries = c.args.new.now.entries in
     let lists = λ (v : Value). list_of v (index_of type (records c.args.store.now) c.args.root) in
     let each = put_records lists doc in
-    let form = put_forms c.args.dense c.args.documents lists doc in
+    let form = put_forms c.args.dense lists doc in
     let fits : SFits w32 c.in-Some.weight.now = search rules in
     let test = is_added (get value_cmp c.args.old.now) in
     let p = c.loop-value.invariant.adds in
@@ -138,7 +138,7 @@ returns-in_err-next-clause-low g c =
     let up = c.iter-value-items.ensures.ordered in
     let lists = λ (v : Value). list_of v (index_of type (records c.args.store.now) c.args.root) in
     let each = put_records lists doc in
-    let form = put_forms c.args.dense c.args.documents lists doc in
+    let form = put_forms c.args.dense lists doc in
     let typed = adds_typed type begun (records c.args.store.now) c.args.root doc entries now m root c.loop-value.value-iterator c.next.new.self
     value weight up p c.in-Some.ensures.steps c.requires.typed in
     let listed = put_list (index_of type (records c.args.store.now) c.args.root) doc entries c.loop-value.value-iterator c.next.new.self value weight (index_of type m root) up c.in-Some.ensures.steps p.walk in
@@ -206,7 +206,7 @@ loop-value-preserved-then-not-has_weight g c =
     let type = c.args.value_type in
     let lists = λ (v : Value). list_of v (index_of type (records c.args.store.now) c.args.root) in
     let each = put_records lists doc in
-    let form = put_forms c.args.dense c.args.documents lists doc in
+    let form = put_forms c.args.dense lists doc in
     let listed = put_list (index_of type (records c.args.store.now) c.args.root) doc c.args.new.now.entries c.loop-value.value-iterator c.next.new.self value weight (index_of type m root) up c.in-Some.ensures.steps p.walk in
     let reads = subst (λ (t : ValueType). list_of value (index_of type (records c.args.store.now) c.args.root) ≡ list_of value (index_of t m root)) (sym typed) listed in
     let made = subst (λ (z : ℤ). MakesWithin now new (add_most value m root c.args.dense c.args.documents (insert_entry nat_cmp (list_of value (index_of (type_of value) m root)) doc z))) (to_z-of_z w32 weight fits) c.add.ensures.counts in
@@ -242,7 +242,7 @@ loop-value-preserved g c =
     let weight = c.in-Some.weight.now in
     let lists = λ (v : Value). list_of v (index_of c.args.value_type (records c.args.store.now) c.args.root) in
     let each = put_records lists c.args.doc in
-    let form = put_forms c.args.dense c.args.documents lists c.args.doc in
+    let form = put_forms c.args.dense lists c.args.doc in
     let fits : SFits w32 c.in-Some.weight.now = search rules in
     let same = ap (λ (w : ℤ). is_weight w (get value_cmp c.args.old.now value)) (sym (to_z-of_z w32 weight fits))
     ∙ sym c.has_weight.ensures ∙ c.if-not-has_weight.false in
@@ -288,7 +288,7 @@ returns-clause-counts g c =
     let ledger = g.S.Store.ledger in
     let lists = λ (v : Value). list_of v (index_of c.args.value_type (g.S.Frozen.records c.args.store.now) c.args.root) in
     let each = put_records lists c.args.doc in
-    let form = put_forms c.args.dense c.args.documents lists c.args.doc in
+    let form = put_forms c.args.dense lists c.args.doc in
     counts_end 34 each form (ledger c.args.store.now) (is_added (get value_cmp c.args.old.now)) c.args.new.now.entries
     (ledger c.loop-value.store) c.loop-value.value-iterator c.loop-value.invariant.counts
 
@@ -297,7 +297,7 @@ returns-clause-low g c =
     let ledger = g.S.Store.ledger in
     let lists = λ (v : Value). list_of v (index_of c.args.value_type (g.S.Frozen.records c.args.store.now) c.args.root) in
     let each = put_records lists c.args.doc in
-    let form = put_forms c.args.dense c.args.documents lists c.args.doc in
+    let form = put_forms c.args.dense lists c.args.doc in
     λ levels low.
     counts_end (value_nodes levels) each form (ledger c.args.store.now) (is_added (get value_cmp c.args.old.now)) c.args.new.now.entries
     (ledger c.loop-value.store) c.loop-value.value-iterator (c.loop-value.invariant.low levels low)

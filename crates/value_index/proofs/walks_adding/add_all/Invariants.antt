@@ -16,7 +16,7 @@ invariant-loop-value g l =
     let records = g.S.Frozen.records in
     let lists = λ value. list_of value (index_of l.fn.value_type (records l.fn.store) l.fn.root) in
     let each = put_records lists l.doc in
-    let form = put_forms l.dense l.documents lists l.doc in
+    let form = put_forms l.dense lists l.doc in
     record {
       adds : AddsSoFar l.fn.value_type (ledger l.fn.store) (ledger l.store) (records l.fn.store) (records l.store) l.fn.root l.next l.doc l.new.entries l.value-iterator;
       plain : l.dense ≡ false → IsPlainIndex (records l.store) l.next;

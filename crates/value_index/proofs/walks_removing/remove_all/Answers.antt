@@ -29,7 +29,7 @@ loop-value-init g c =
     let m = g.S.Frozen.records c.args.store.now in
     let lists = λ (v : Value). list_of v (index_of c.args.value_type m c.args.root) in
     let each = taken_records lists c.args.doc in
-    let form = taken_forms c.args.dense c.args.documents lists c.args.doc in
+    let form = taken_forms c.args.dense lists c.args.doc in
     let rest = c.into_iter-value-iterator.ensures.into_iter_gives ∙ c.iter-value-items.ensures.rest in
     record {
       removes = removes_begin c.args.value_type ledger m c.args.root c.args.doc (get value_cmp c.args.new.now) c.args.old.now.entries c.into_iter-value-iterator.result
@@ -101,7 +101,7 @@ returns-in_err-next-clause-counts g c =
     let test = is_gone added in
     let lists = λ (v : Value). list_of v (index_of type (records c.args.store.now) c.args.root) in
     let each = taken_records lists doc in
-    let form = taken_forms c.args.dense c.args.documents lists doc in
+    let form = taken_forms c.args.dense lists doc in
     let p = c.loop-value.invariant.removes in
     let up = c.iter-value-items.ensures.ordered in
     let gone = sym c.contains_key.ensures ∙ c.if-not-contains_key.true in
@@ -135,7 +135,7 @@ returns-in_err-next-clause-low g c =
     let up = c.iter-value-items.ensures.ordered in
     let lists = λ (v : Value). list_of v (index_of type (records c.args.store.now) c.args.root) in
     let each = taken_records lists doc in
-    let form = taken_forms c.args.dense c.args.documents lists doc in
+    let form = taken_forms c.args.dense lists doc in
     let gone = sym c.contains_key.ensures ∙ c.if-not-contains_key.true in
     let typed = removes_typed type begun (records c.args.store.now) c.args.root doc added entries now m root c.loop-value.value-iterator c.next.new.self
     value weight up p c.in-Some.ensures.steps c.requires.typed in
@@ -204,7 +204,7 @@ loop-value-preserved-then-not-contains_key g c =
     let type = c.args.value_type in
     let lists = λ (v : Value). list_of v (index_of type (records c.args.store.now) c.args.root) in
     let each = taken_records lists doc in
-    let form = taken_forms c.args.dense c.args.documents lists doc in
+    let form = taken_forms c.args.dense lists doc in
     let listed = take_list (index_of type (records c.args.store.now) c.args.root) doc c.args.old.now.entries c.loop-value.value-iterator c.next.new.self value weight (index_of type m root) up c.in-Some.ensures.steps
     added p.walk (none_then (added value) gone) in
     let reads = subst (λ (t : ValueType). list_of value (index_of type (records c.args.store.now) c.args.root) ≡ list_of value (index_of t m root)) (sym typed) listed in
@@ -235,7 +235,7 @@ loop-value-preserved g c =
     let value = c.in-Some.value.now in
     let lists = λ (v : Value). list_of v (index_of c.args.value_type (records c.args.store.now) c.args.root) in
     let each = taken_records lists c.args.doc in
-    let form = taken_forms c.args.dense c.args.documents lists c.args.doc in
+    let form = taken_forms c.args.dense lists c.args.doc in
     let added = get value_cmp c.args.new.now in
     let there = sym c.contains_key.ensures ∙ c.if-not-contains_key.false in
     let other = some_then (added value) there in
@@ -283,7 +283,7 @@ returns-clause-counts g c =
     let ledger = g.S.Store.ledger in
     let lists = λ (v : Value). list_of v (index_of c.args.value_type (g.S.Frozen.records c.args.store.now) c.args.root) in
     let each = taken_records lists c.args.doc in
-    let form = taken_forms c.args.dense c.args.documents lists c.args.doc in
+    let form = taken_forms c.args.dense lists c.args.doc in
     counts_end 34 each form (ledger c.args.store.now) (is_gone (get value_cmp c.args.new.now)) c.args.old.now.entries
     (ledger c.loop-value.store) c.loop-value.value-iterator c.loop-value.invariant.counts
 
@@ -292,7 +292,7 @@ returns-clause-low g c =
     let ledger = g.S.Store.ledger in
     let lists = λ (v : Value). list_of v (index_of c.args.value_type (g.S.Frozen.records c.args.store.now) c.args.root) in
     let each = taken_records lists c.args.doc in
-    let form = taken_forms c.args.dense c.args.documents lists c.args.doc in
+    let form = taken_forms c.args.dense lists c.args.doc in
     λ levels low.
     counts_end (value_nodes levels) each form (ledger c.args.store.now) (is_gone (get value_cmp c.args.new.now)) c.args.old.now.entries
     (ledger c.loop-value.store) c.loop-value.value-iterator (c.loop-value.invariant.low levels low)
