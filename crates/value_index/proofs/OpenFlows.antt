@@ -1,5 +1,5 @@
 -- What the key and the list of an index that is open at one value have taken over: a key that was there, or a record that was made.
-use Rattle.std.proofs.Common.{◌≡◌, ℕ, ℤ, List, [], ◌∷◌, Option, Some, option_map, inl, inr, sym, ap, subst, ◌∙◌}
+use Rattle.std.proofs.Common.{◌≡◌, ℕ, ℤ, Bool, List, [], ◌∷◌, Option, Some, option_map, inl, inr, sym, ap, subst, ◌∙◌}
 use Rattle.std.specs.Option.{unwrap_or}
 use Rattle.entry_ref.specs.Records.{Records, Among}
 use Rattle.tree_read.specs.Pairs.{lookup_pair}
@@ -26,7 +26,7 @@ pub record FlowsOpen {H : Type 0} (value : Value) (a b : Ledger H) (m n : Record
 
 -- the list of a value that is there was changed
 module _ {H : Type 0} (value : Value) (a b : Ledger H) (m n : Records) (root key was next : ℕ) (docs : List (ℕ × ℤ))
-    (found : lookup_pair (beside_value value m) (tree_pairs m root) ≡ Some (key, was)) (may : MayDo a b) (makes : MakesList a b m n was docs next) where
+    (dense : Bool) (found : lookup_pair (beside_value value m) (tree_pairs m root) ≡ Some (key, was)) (may : MayDo a b) (makes : MakesList a b m n was docs dense next) where
   word_is : list_word value m root ≡ was
   word_is =
       ap (λ (x : Option ℕ). unwrap_or x 0)
@@ -45,7 +45,7 @@ module _ {H : Type 0} (value : Value) (a b : Ledger H) (m n : Records) (root key
 
 -- a new value's record and list were made
 module _ {H : Type 0} (value : Value) (bits : ℕ) (a b c : Ledger H) (m n o : Records) (root key next : ℕ) (words : List ℕ) (docs : List (ℕ × ℤ))
-    (first : MayDo a b) (adds : AddsRecord bits a b m n words key) (then : MayDo b c) (makes : MakesList b c n o 0 docs next) where
+    (dense : Bool) (first : MayDo a b) (adds : AddsRecord bits a b m n words key) (then : MayDo b c) (makes : MakesList b c n o 0 docs dense next) where
   made : Turns a b m n [] (entry key ∷ [])
   made = adds.turns
 

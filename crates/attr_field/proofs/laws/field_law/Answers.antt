@@ -5,7 +5,7 @@ pub returns-clause-nothing : goal.returns-clause-nothing
 returns-clause-nothing c = field_nothing c.documents_law.ensures.nothing c.index_law.ensures.nothing
 
 pub returns-clause-stays : goal.returns-clause-stays
-returns-clause-stays c = field_stays c.documents_law.ensures.stays c.index_law.ensures.stays
+returns-clause-stays c = field_stays c.documents_law.ensures.stays c.index_law.ensures.stays c.index_law.ensures.form
 
 pub returns-clause-lawful : goal.returns-clause-lawful
 returns-clause-lawful c = field_lawful c.documents_law.ensures.lawful c.index_law.ensures.lawful
