@@ -1,8 +1,7 @@
 -- The keys of a list that is a bit vector: the numbers with which its blocks begin.
-use Rattle.std.proofs.Common.{◌≡◌, ℕ, zero, suc, ◌+◌, ◌-◌, ◌*◌, ◌/◌, ◌%◌, ◌<◌, ◌≤◌, ◌^◌, Bool, true, false, cond, nat_eq, nat_le, nat_lt, not, List, [], ◌∷◌, map, length, None, Some, Option, option_map}
-use Rattle.std.proofs.Common.{Less, is_lt, nat_cmp, refl, sym, ap, subst, ◌∙◌, arith, leb-true}
-use Rattle.std.proofs.lemmas.Bool.{le-leb, le-ltb, lt-ltb, ltb-true, ltb-false}
-use Rattle.std.proofs.lemmas.List.{length-map}
+use Rattle.std.proofs.Common.{◌≡◌, ℕ, ◌+◌, ◌*◌, ◌/◌, ◌<◌, ◌^◌, Bool, true, false, cond, nat_lt, not, List, [], ◌∷◌, map, length, None, Some, Option, option_map}
+use Rattle.std.proofs.Common.{Less, is_lt, nat_cmp, refl, sym, ap, subst, ◌∙◌, arith}
+use Rattle.std.proofs.lemmas.Bool.{le-ltb, lt-ltb, ltb-true, ltb-false}
 use Rattle.std.specs.Cmp.{ranks}
 use Rattle.std.specs.List.{find, flat_map, AllByRecursion}
 use Rattle.std.specs.List.Sorted.{IsStrictlySortedBy}
@@ -12,24 +11,13 @@ use Rattle.std.specs.declared.cmp.Ordering.{Ordering}
 use Rattle.std.specs.declared.cmp.Ordering.TheVariants.{Equal, Greater}
 use Rattle.entry_ref.specs.Records.{Records}
 use Rattle.tree_read.specs.Pairs.{choose, seek}
-use Rattle.tree_read.specs.Trees.{root_least, root_level, tree_pairs}
-use Rattle.tree_read.proofs.ChildLemmas.{IsNode-form}
-use Rattle.attr_images.specs.Postings.{ListForm, short, tree, vector, list_form, block_documents, IsBlock, IsPostingList}
-use Rattle.posting_store.specs.Lists.{is_vector, IsList}
+use Rattle.tree_read.specs.Trees.{tree_pairs}
+use Rattle.attr_images.specs.Postings.{vector, list_form, block_documents, IsBlock, IsPostingList}
+use Rattle.posting_store.specs.Lists.{IsList}
+use Rattle.posting_store.proofs.FormLemmas.{form_vector}
+use Rattle.posting_store.proofs.VectorLemmas.{vector_form}
 use Rattle.attr_compaction.specs.PhaseKeys.{first_item, form_docs}
-use Rattle.attr_compaction.proofs.NextLemmas.{find_first, find_seek, lt_cmp, past_number}
-
-form_by : Bool → Bool → ℕ → ListForm
-form_by dense even word = cond dense (vector (word - 8589934592)) (cond even (short (word / 2)) (tree (word / 2)))
-
-pub form_vector : (word root : ℕ) → word ≡ 8589934592 + root → list_form word ≡ vector root
-unfolding form_by
-form_vector word root is =
-    ap (λ b. form_by b (nat_eq (word % 2) 0) word) (le-leb 8589934592 word (omega (arith, is)))
-    ∙ ap vector (let e : word - 8589934592 ≡ root = omega (arith, is) in e)
-
-pub vector_word : (word : ℕ) → is_vector word ≡ true → word ≡ 8589934592 + (word - 8589934592)
-vector_word word is = let high = leb-true 8589934592 word is in omega (arith, high)
+use Rattle.attr_compaction.proofs.NextLemmas.{lt_cmp, past_number}
 
 -- ---- numbers and the blocks that they lie in
 past_block : (doc k : ℕ) → nat_lt doc (4096 * k) ≡ not (is_lt (nat_cmp k (doc / 4096 + 1)))
@@ -95,15 +83,15 @@ module _ (m : Records) (word root : ℕ) (list : IsList m word) (at : word ≡ 8
   pub vector_docs : form_docs m (list_form word) ≡ map (λ p. 4096 * p.0) (tree_pairs m root)
   vector_docs = ap (form_docs m) (form_vector word root at)
 
-  pub vector_form : IsPostingList m (vector root)
-  vector_form = subst (IsPostingList m) (form_vector word root at) (list.form (omega (arith, at)))
+  blocks : IsPostingList m (vector root)
+  blocks = vector_form m word root at list
 
   small : (ps : List (ℕ × ℕ)) → AllByRecursion (λ p. IsBlock p.0 (m p.1)) ps → AllByRecursion (λ p. p.0 < 2 ^ 32) ps
   small [] all = tt
   small (p ∷ ps) all = ((let few = all.0.few in omega (arith, few)), small ps all.1)
 
   pub vector_small : AllByRecursion (λ p. p.0 < 2 ^ 32) (tree_pairs m root)
-  vector_small = small (tree_pairs m root) vector_form.2
+  vector_small = small (tree_pairs m root) blocks.2
 
   few_first : (ps : List (ℕ × ℕ)) → AllByRecursion (λ p. IsBlock p.0 (m p.1)) ps → IfSome (option_map (λ (p : ℕ × ℕ). p.0) (first_item ps)) (λ k. k < 2 ^ 20)
   few_first [] all = tt
@@ -120,12 +108,12 @@ module _ (m : Records) (word root : ℕ) (list : IsList m word) (at : word ≡ 8
       ]
 
   pub first_few : (number : Option ℕ) → number ≡ option_map (λ (p : ℕ × ℕ). p.0) (first_item (tree_pairs m root)) → IfSome number (λ k. k < 2 ^ 20)
-  first_few number is = subst {A = Option ℕ} (λ o. IfSome o (λ k. k < 2 ^ 20)) (sym is) (few_first (tree_pairs m root) vector_form.2)
+  first_few number is = subst {A = Option ℕ} (λ o. IfSome o (λ k. k < 2 ^ 20)) (sym is) (few_first (tree_pairs m root) blocks.2)
 
   pub past_few : (doc : ℕ) (number : Option ℕ) → number ≡ option_map (λ (p : ℕ × ℕ). p.0) (first_item (seek (λ key. nat_cmp key (doc / 4096 + 1)) (tree_pairs m root)))
       → IfSome number (λ k. k < 2 ^ 20)
   past_few doc number is =
-      subst {A = Option ℕ} (λ o. IfSome o (λ k. k < 2 ^ 20)) (sym is) (few_past (λ key. nat_cmp key (doc / 4096 + 1)) (tree_pairs m root) vector_form.2)
+      subst {A = Option ℕ} (λ o. IfSome o (λ k. k < 2 ^ 20)) (sym is) (few_past (λ key. nat_cmp key (doc / 4096 + 1)) (tree_pairs m root) blocks.2)
 
   pub first_vector : (number : Option ℕ) → number ≡ option_map (λ (p : ℕ × ℕ). p.0) (first_item (tree_pairs m root))
       → option_map (λ (k : ℕ). 4096 * k) number ≡ first_item (form_docs m (list_form word))
@@ -140,21 +128,13 @@ module _ (m : Records) (word root : ℕ) (list : IsList m word) (at : word ≡ 8
       ∙ starts_past doc (tree_pairs m root) ∙ sym (ap (find (nat_lt doc)) vector_docs)
 
   pub vector_ascends : IsStrictlySortedBy nat_cmp (form_docs m (list_form word))
-  vector_ascends = subst (λ (ds : List ℕ). IsStrictlySortedBy nat_cmp ds) (sym vector_docs) (starts_ascend (tree_pairs m root) vector_form.0.ascends)
+  vector_ascends = subst (λ (ds : List ℕ). IsStrictlySortedBy nat_cmp ds) (sym vector_docs) (starts_ascend (tree_pairs m root) blocks.0.ascends)
 
   some_pair : (ps : List (ℕ × ℕ)) → ps ≡ tree_pairs m root → 0 < length (map start ps)
   some_pair [] is =
-      let many = subst {A = List (ℕ × ℕ)} (λ qs. 8 < length (flat_map (λ (p : ℕ × ℕ). block_documents p.0 (m p.1)) qs)) (sym is) vector_form.1 in
+      let many = subst {A = List (ℕ × ℕ)} (λ qs. 8 < length (flat_map (λ (p : ℕ × ℕ). block_documents p.0 (m p.1)) qs)) (sym is) blocks.1 in
       absurd (omega (arith, many))
   some_pair (p ∷ ps) is = omega arith
 
   pub vector_filled : 0 < length (form_docs m (list_form word))
   vector_filled = subst {A = List ℕ} (λ docs. 0 < length docs) (sym vector_docs) (some_pair (tree_pairs m root) refl)
-
--- the root's reference fits in 32 bits, since its record exists
-pub root_small : (m : Records) (word root : ℕ) → IsList m word → word ≡ 8589934592 + root → ((r : ℕ) → 0 < length (m r) → r < 2 ^ 32) → root < 2 ^ 32
-root_small m word zero list at references = omega arith
-root_small m word (suc ref) list at references =
-    let node = (vector_form m word (suc ref) list at).0.node (omega arith) in
-    let size = (IsNode-form m (root_least (root_level m (suc ref))) (root_level m (suc ref)) (suc ref) node).size in
-    references (suc ref) (omega (arith, size))

@@ -1,7 +1,7 @@
 -- The next key in lists.
 use Rattle.std.proofs.Common.{◌≡◌, ◌≢◌, ℕ, ℤ, zero, suc, ◌+◌, ◌-◌, ◌*◌, ◌/◌, ◌%◌, ◌<◌, ◌^◌, Bool, true, false, cond, not, nat_lt, List, [], ◌∷◌, ◌++◌, map, length, None, Some, Option, option_map, Less, Equal, Greater, is_lt}
 use Rattle.std.proofs.Common.{nat_cmp, refl, sym, ap, subst, ◌∙◌, arith}
-use Rattle.std.proofs.lemmas.Bool.{le-ltb, leb-false}
+use Rattle.std.proofs.lemmas.Bool.{le-ltb}
 use Rattle.std.proofs.lemmas.List.{length-map}
 use Rattle.std.specs.declared.cmp.Ordering.{Ordering}
 use Rattle.std.specs.List.{find, AllByRecursion}
@@ -25,10 +25,11 @@ use Rattle.attr_compaction.specs.declared.plan.PlanKey.{PlanKey}
 use Rattle.attr_compaction.specs.declared.plan.PlanKey.TheVariants.{Pair}
 use Rattle.enum_dictionary.specs.Dictionaries.{behind, beside_value}
 use Rattle.posting_store.specs.Lists.{is_vector, IsList, IsPlain}
-use Rattle.posting_store.proofs.FormLemmas.{form_even, form_odd, tree_at, tree_form}
+use Rattle.posting_store.proofs.FormLemmas.{form_even, form_odd, plain_of, tree_at, tree_form}
 use Rattle.value_index.specs.Indexes.{IsIndex, IsValuePair}
 use Rattle.attr_compaction.specs.PhaseKeys.{first_item, form_docs, key_past, keys_of_pairs, next_in_list, IsListPair}
-use Rattle.attr_compaction.proofs.BlockLemmas.{vector_filled, vector_word}
+use Rattle.posting_store.proofs.VectorLemmas.{counted_from}
+use Rattle.attr_compaction.proofs.BlockLemmas.{vector_filled}
 use Rattle.attr_compaction.proofs.NextLemmas.{lt_cmp, past_number}
 
 -- ---- a list that is a tree, and one that is a record
@@ -96,8 +97,8 @@ pub docs_filled : (m : Records) (word : ℕ) → IsList m word → 0 < length (f
 docs_filled m word list = told (is_vector word) refl
   where
     told : (t : Bool) → is_vector word ≡ t → 0 < length (form_docs m (list_form word))
-    told true is = vector_filled m word (word - 8589934592) list (vector_word word is)
-    told false is = plain_filled m word list (leb-false 8589934592 word is)
+    told true is = vector_filled m word (word - 8589934592) list (counted_from word is)
+    told false is = plain_filled m word list (plain_of word is)
 
 -- ---- the first key of pairs
 module _ (type : ValueType) (m : Records) where

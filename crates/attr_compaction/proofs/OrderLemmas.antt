@@ -1,6 +1,5 @@
 -- The keys of a phase ascend.
 use Rattle.std.proofs.Common.{◌≡◌, ℕ, ℤ, zero, suc, ◌+◌, ◌-◌, ◌*◌, ◌/◌, ◌%◌, Bool, true, false, cond, nat_eq, List, [], ◌∷◌, ◌++◌, map, Less, nat_cmp, refl, sym, ap, subst, ◌∙◌, arith}
-use Rattle.std.proofs.lemmas.Bool.{leb-false}
 use Rattle.std.proofs.lemmas.Cmp.{tied_itself}
 use Rattle.std.specs.declared.cmp.Ordering.{Ordering}
 use Rattle.std.specs.List.{AllByRecursion}
@@ -21,11 +20,12 @@ use Rattle.attr_compaction.specs.Places.{key_cmp}
 use Rattle.attr_compaction.specs.declared.plan.PlanKey.{PlanKey}
 use Rattle.attr_compaction.specs.declared.plan.PlanKey.TheVariants.{Value, Doc, Pair}
 use Rattle.posting_store.specs.Lists.{is_vector, IsList, IsPlain}
-use Rattle.posting_store.proofs.FormLemmas.{tree_at}
+use Rattle.posting_store.proofs.FormLemmas.{plain_of, tree_at}
 use Rattle.value_index.specs.Indexes.{IsValuePair}
 use Rattle.attr_compaction.specs.KeysLaws.{PhaseKeysAscend}
 use Rattle.attr_compaction.specs.PhaseKeys.{document_keys, form_docs, keys_of_pairs, node_phase_keys, pair_keys, value_keys}
-use Rattle.attr_compaction.proofs.BlockLemmas.{vector_ascends, vector_word}
+use Rattle.posting_store.proofs.VectorLemmas.{counted_from}
+use Rattle.attr_compaction.proofs.BlockLemmas.{vector_ascends}
 use Rattle.attr_compaction.proofs.ListLemmas.{short_docs, tree_docs}
 
 abbrev Up : List PlanKey → Type 0
@@ -122,8 +122,8 @@ module _ (type : ValueType) (m : Records) where
   docs_ascend word list = told (is_vector word) refl
     where
       told : (t : Bool) → is_vector word ≡ t → IsStrictlySortedBy nat_cmp (form_docs m (list_form word))
-      told true is = vector_ascends m word (word - 8589934592) list (vector_word word is)
-      told false is = plain_ascend word list (leb-false 8589934592 word is)
+      told true is = vector_ascends m word (word - 8589934592) list (counted_from word is)
+      told false is = plain_ascend word list (plain_of word is)
 
   pub lists_ascend : (ps : List (ℕ × ℕ)) → IsStrictlySortedBy value_cmp (map read ps) → AllByRecursion (IsValuePair m) ps → Up (keys_of_pairs type m ps)
   unfolding IsStrictlySortedBy

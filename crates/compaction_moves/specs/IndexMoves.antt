@@ -83,6 +83,7 @@ pub record MovesList {H : Type 0} (bits buffer doc : ℕ) (value : Value) (old n
   pub keys : (ref : ℕ) → IsKey m root ref → IsKey n next ref × (n ref ≡ m ref)
   pub came : (r : ℕ) → in_use (old.status r) ≡ true → Among r (list_reach n (list_word value n next))
       → Among r (list_reach m (list_word value m root))
+  pub form : is_vector (list_word value n next) ≡ is_vector (list_word value m root)
   pub blocks : KeepsListBlocks old m n (list_word value m root) (list_word value n next)
   pub owns : Owns new n (index_part next ∷ [])
   pub turns : Turns old new m n (index_part root ∷ []) (index_part next ∷ [])

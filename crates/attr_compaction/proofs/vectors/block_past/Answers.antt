@@ -1,5 +1,6 @@
 use Rattle.std.proofs.Common.{◌∙◌, arith}
-use Rattle.attr_compaction.proofs.BlockLemmas.{past_few, past_vector, vector_form, vector_small}
+use Rattle.posting_store.proofs.VectorLemmas.{vector_form}
+use Rattle.attr_compaction.proofs.BlockLemmas.{past_few, past_vector, vector_small}
 use Rattle.attr_compaction.proofs.vectors.block_past.Goals as goal
 
 pub number_past-block-requires : goal.number_past-block-requires
@@ -7,7 +8,7 @@ number_past-block-requires g c =
     let m = g.F.Frozen.records c.args.frozen.now in (
       omega arith,
       (
-        (vector_form m c.args.list c.vector_root-root.result c.requires.list c.vector_root-root.ensures).0,
+        (vector_form m c.args.list c.vector_root-root.result c.vector_root-root.ensures c.requires.list).0,
         vector_small m c.args.list c.vector_root-root.result c.requires.list c.vector_root-root.ensures,
       ),
     )

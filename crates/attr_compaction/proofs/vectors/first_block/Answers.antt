@@ -1,5 +1,6 @@
 use Rattle.std.proofs.Common.{◌∙◌, arith}
-use Rattle.attr_compaction.proofs.BlockLemmas.{first_few, first_vector, vector_form, vector_small}
+use Rattle.posting_store.proofs.VectorLemmas.{vector_form}
+use Rattle.attr_compaction.proofs.BlockLemmas.{first_few, first_vector, vector_small}
 use Rattle.attr_compaction.proofs.vectors.first_block.Goals as goal
 
 pub first_number-block-requires : goal.first_number-block-requires
@@ -7,7 +8,7 @@ first_number-block-requires g c =
     let m = g.F.Frozen.records c.args.frozen.now in (
       omega arith,
       (
-        (vector_form m c.args.list c.vector_root-root.result c.requires.list c.vector_root-root.ensures).0,
+        (vector_form m c.args.list c.vector_root-root.result c.vector_root-root.ensures c.requires.list).0,
         vector_small m c.args.list c.vector_root-root.result c.requires.list c.vector_root-root.ensures,
       ),
     )
