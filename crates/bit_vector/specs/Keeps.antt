@@ -1,9 +1,7 @@
 -- The blocks of a bit vector by their numbers.
-use Rattle.std.specs.Prelude.{◌≡◌, ℕ, true, Option, Some}
-use Rattle.entry_ref.specs.Records.{Records}
-use Rattle.store_api.specs.Ledgers.{Ledger}
-use Rattle.store_api.specs.Statuses.{in_use}
+use Rattle.std.specs.Prelude.{◌≡◌, ℕ, Option, Some}
 use Rattle.std.specs.Ordering.{nat_cmp}
+use Rattle.entry_ref.specs.Records.{Records}
 use Rattle.tree_read.specs.Pairs.{lookup}
 use Rattle.tree_read.specs.Trees.{tree_pairs}
 
@@ -11,6 +9,6 @@ use Rattle.tree_read.specs.Trees.{tree_pairs}
 abbrev pub block_at : Records → ℕ → ℕ → Option ℕ
 block_at m root k = lookup (λ stored. nat_cmp stored k) (tree_pairs m root)
 
--- a block whose record was in use before was this block before
-pub record KeepsBlocks {H : Type 0} (old : Ledger H) (m n : Records) (root next : ℕ) : Type 0 where
-  pub each : (k r : ℕ) → block_at n next k ≡ Some r → in_use (old.status r) ≡ true → block_at m root k ≡ Some r
+-- a block whose record is old was this block before
+pub record KeepsBlocks (IsOld : ℕ → Type 0) (m n : Records) (root next : ℕ) : Type 0 where
+  pub each : (k r : ℕ) → block_at n next k ≡ Some r → IsOld r → block_at m root k ≡ Some r

@@ -1,9 +1,10 @@
 -- A block of a bit vector that was moved out of a buffer, with the nodes on the way to it.
-use Rattle.std.specs.Prelude.{◌≡◌, ◌≢◌, ℕ, false, [], ◌∷◌, Some, map}
+use Rattle.std.specs.Prelude.{◌≡◌, ◌≢◌, ℕ, true, false, [], ◌∷◌, Some, map}
 use Rattle.entry_ref.specs.References.{buffer_of}
 use Rattle.entry_ref.specs.Records.{Records}
 use Rattle.store_api.specs.Ledgers.{Ledger}
 use Rattle.store_api.specs.Parts.{Owns, Turns, entry}
+use Rattle.store_api.specs.Statuses.{in_use}
 use Rattle.tree_read.specs.Pairs.{put}
 use Rattle.tree_read.specs.Trees.{tree_pairs}
 use Rattle.frozen_btree.specs.Paths.{path_nodes, NoneIn}
@@ -25,7 +26,7 @@ pub record MovesBlock {H : Type 0} (bits buffer k : ℕ) (old new : Ledger H) (m
   pub documents : vector_documents n next ≡ vector_documents m root
   pub numbers : map (λ p. p.0) (tree_pairs n next) ≡ map (λ p. p.0) (tree_pairs m root)
   pub apart : IsBlockApart bits buffer k n next
-  pub blocks : KeepsBlocks old m n root next
+  pub blocks : KeepsBlocks (λ r. in_use (old.status r) ≡ true) m n root next
   pub owns : Owns new n (vector_part next ∷ [])
   pub turns : Turns old new m n (vector_part root ∷ []) (vector_part next ∷ [])
 

@@ -31,7 +31,7 @@ use Rattle.value_index.proofs.PairLemmas.{keys, among_put, found_among}
 use Rattle.compaction_moves.specs.IndexMoves.{MovesKey}
 use Rattle.compaction_moves.proofs.BlockLemmas.{docs_same}
 use Rattle.compaction_moves.proofs.PairLemmas.{same_found}
-use Rattle.compaction_moves.proofs.IndexSetLemmas.{IsReady, parts_with, extra_stays, list_stays, rest_stays, set_docs, set_index, set_is, set_key, set_list, set_owns, set_pairs, set_rest, set_turns}
+use Rattle.compaction_moves.proofs.IndexSetLemmas.{IsReady, parts_with, extra_stays, list_stays, rest_stays, set_docs, set_index, set_is, set_key, set_list, set_owns, set_pairs, set_plain, set_rest, set_turns}
 
 -- nothing is done where the key lies elsewhere, or is not there
 pub key_unmoved : {H : Type 0} (bits buffer : ℕ) (value : Value) (a : Ledger H) (m : Records) (root : ℕ) → IsIndex (type_of value) m root
@@ -44,6 +44,7 @@ key_unmoved bits buffer value a m root is owns apart = record {
   index_is = is;
   reads_as = refl;
   docs = refl;
+  plain = λ plain. plain;
   apart = apart;
   others = refl;
   list = refl;
@@ -126,6 +127,7 @@ module _ {H : Type 0} (bits buffer : ℕ) (value : Value) (a b : Ledger H) (m n 
           reads_as = set_index value b m n root key word copy word (entry key ∷ []) start found opened.reads key_ready c o next makes;
           docs = set_docs value b m n root key word copy word (entry key ∷ []) start found opened.reads key_ready c o next makes
               (docs_same m n (list_form word) (subst (λ rs. SameAt rs m n) (reach_form m word pair.some) made.stay.1.1.0));
+          plain = set_plain value b m n root key word copy word (entry key ∷ []) start found opened.reads key_ready c o next makes (λ plain. plain);
           apart = λ k is there. elsewhere k (same_Some copy k (sym (set_key value b m n root key word copy word (entry key ∷ []) start found opened.reads key_ready c o next makes) ∙ is)) there;
           others = set_rest value b m n root key word copy word (entry key ∷ []) start found opened.reads key_ready c o next makes;
           list = set_list value b m n root key word copy word (entry key ∷ []) start found opened.reads key_ready c o next makes

@@ -21,6 +21,7 @@ use Rattle.attr_types.specs.declared.kind.ValueType.{ValueType}
 use Rattle.attr_types.specs.declared.value.Value.{Value}
 use Rattle.enum_dictionary.specs.Dictionaries.{beside_value, IsDictionary}
 use Rattle.enum_dictionary.proofs.DictionaryLemmas.{seen_same, IsValueTree}
+use Rattle.posting_store.specs.Lists.{IsPlain}
 use Rattle.value_index.specs.Indexes.{index_part, IsIndex, IsValuePair}
 use Rattle.value_index.proofs.ChangeLemmas.{shown_stay}
 use Rattle.value_index.proofs.IndexLemmas.{docs_at, pair_reach, pair_same}
@@ -36,6 +37,7 @@ nodes_unmoved bits buffer value a m root is owns none = record {
   index_is = is;
   reads_as = refl;
   docs = refl;
+  plain = λ plain. plain;
   apart = none-apart bits buffer m (beside_value value m) root none;
   pairs = refl;
   stay = same_self m (dictionary_reach m root);
@@ -70,6 +72,7 @@ module _ {H : Type 0} (bits buffer : ℕ) (type : ValueType) (value key : Value)
         reads_as = ap (map (shown (stored_value (type_of value) n) (docs_at n))) pairs
             ∙ shown_same (stored_value (type_of value) m) (stored_value (type_of value) n) (docs_at m) (docs_at n) ps (shown_stay (type_of value) m n ps stay);
         docs = ap (map (λ p. form_docs n (list_form p.1))) pairs ∙ lists_same m n ps stay;
+        plain = λ plain. subst (AllByRecursion (λ p. IsPlain p.1)) (sym pairs) plain;
         apart = subst (λ (c : ℕ → Ordering). NoneIn bits buffer (path_nodes n c next)) (seen_same type m value key is same) apart;
         pairs = pairs;
         stay = stay;

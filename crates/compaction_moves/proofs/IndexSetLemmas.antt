@@ -22,7 +22,7 @@ use Rattle.enum_dictionary.specs.Dictionaries.{beside_value, IsDictionary, Makes
 use Rattle.enum_dictionary.proofs.DictionaryLemmas.{dictionary_stays, value_same}
 use Rattle.posting_store.specs.Changes.{list_part}
 use Rattle.attr_images.specs.declared.TheConstants.{LEAST_DENSE}
-use Rattle.posting_store.specs.Lists.{list_at, list_reach, is_vector, IsList}
+use Rattle.posting_store.specs.Lists.{list_at, list_reach, is_vector, IsList, IsPlain}
 use Rattle.posting_store.specs.ProofsForLists.{IsList-same, list_at-same}
 use Rattle.posting_store.proofs.FormLemmas.{at_form, reach_form}
 use Rattle.value_index.specs.Indexes.{index_part, key_at, IsIndex, IsKey, IsValuePair}
@@ -31,7 +31,9 @@ use Rattle.value_index.proofs.IndexLemmas.{docs_at, keys_same, pair_reach, pair_
 use Rattle.value_index.proofs.OpenLemmas.{others, pair_count, index_count, pairs_part, pairs_reach-same}
 use Rattle.value_index.proofs.PairLemmas.{keys, all_by_keys, all_put, all_taken, put_as, put_times}
 use Rattle.value_index.proofs.ShownLemmas.{Docs, shown}
+use Rattle.value_index.specs.Forms.{IsPlainIndex}
 use Rattle.compaction_moves.specs.IndexMoves.{lists_docs}
+use Rattle.compaction_moves.proofs.IndexPairs.{at_pair, found_pair}
 use Rattle.compaction_moves.proofs.BlockLemmas.{docs_same, docs_stay}
 use Rattle.compaction_moves.proofs.PairLemmas.{set_found, set_others, set_reads, set_value}
 
@@ -133,6 +135,13 @@ module _ {H : Type 0} (value : Value) (b : Ledger H) (m n : Records) (root was_k
         ∙ set_reads (λ p. form_docs o (list_form p.1)) (λ p. form_docs m (list_form p.1)) (beside_value value m) (key, word) (was_key, was)
         (docs_same n o (list_form word) (subst (λ rs. SameAt rs n o) (reach_form n word is.filled) list_stays) ∙ same) (tree_pairs m root) found
         (docs_stay m o rest rest_stays)
+
+    -- no list is a bit vector, if none was
+    pub set_plain : (IsPlain was → IsPlain word) → IsPlainIndex m root → IsPlainIndex o next
+    set_plain same plain = subst (AllByRecursion (λ p. IsPlain p.1)) (sym set_pairs)
+        (all_put (beside_value value m) (λ p. IsPlain p.1) (key, word) (tree_pairs m root)
+        (same (at_pair (λ p. IsPlain p.1) (tree_pairs m root) plain (was_key, was) (found_pair (beside_value value m) (was_key, was) (tree_pairs m root) found)))
+        (all_taken (beside_value value m) (λ p. IsPlain p.1) (tree_pairs m root) plain))
 
     equal : beside_value value o key ≡ Equal
     equal = ap (λ (v : Value). value_cmp v value) new_reads ∙ value_same value

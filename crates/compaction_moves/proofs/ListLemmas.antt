@@ -31,7 +31,7 @@ use Rattle.posting_store.specs.Changes.{MakesList}
 use Rattle.posting_store.specs.Keeps.{list_block}
 use Rattle.posting_store.specs.Lists.{list_at, list_levels, list_reach, is_vector}
 use Rattle.posting_store.specs.ProofsForLists.{list_reach-same}
-use Rattle.posting_store.proofs.FormLemmas.{at_form, reach_form}
+use Rattle.posting_store.proofs.FormLemmas.{at_form, no_vector, plain_of, reach_form}
 use Rattle.posting_store.proofs.ListLemmas.{list_filled}
 use Rattle.value_index.specs.Flows.{list_word}
 use Rattle.value_index.specs.Indexes.{index_part, IsIndex, IsKey, IsValuePair}
@@ -43,7 +43,7 @@ use Rattle.value_index.proofs.StepLemmas.{open_next, word_some}
 use Rattle.compaction_moves.specs.IndexMoves.{move_most, word_most, FormIsApart, MovesList, MovesWord}
 use Rattle.compaction_moves.proofs.BlockLemmas.{form_block_same}
 use Rattle.compaction_moves.proofs.IndexKeyLemmas.{key_of}
-use Rattle.compaction_moves.proofs.IndexSetLemmas.{IsReady, key_stays, list_stays, ready_dictionary, ready_owns, rest_stays, set_docs, set_index, set_is, set_key, set_list, set_owns, set_pairs, set_rest, set_turns}
+use Rattle.compaction_moves.proofs.IndexSetLemmas.{IsReady, key_stays, list_stays, ready_dictionary, ready_owns, rest_stays, set_docs, set_index, set_is, set_key, set_list, set_owns, set_pairs, set_plain, set_rest, set_turns}
 use Rattle.compaction_moves.proofs.WordLemmas.{form_same}
 
 -- a pair put in its own place
@@ -75,6 +75,7 @@ list_unmoved bits buffer doc value a m root is owns none = record {
   index_is = is;
   reads_as = refl;
   docs = refl;
+  plain = λ plain. plain;
   apart = λ word there. absurd (no_some word (sym (lookup-of_pair (beside_value value m) (tree_pairs m root)
       ∙ ap (λ (f : Option (ℕ × ℕ)). option_map (λ (p : ℕ × ℕ). p.1) f) none) ∙ there));
   key = refl;
@@ -156,6 +157,7 @@ module _ {H : Type 0} (bits buffer doc : ℕ) (value : Value) (a b : Ledger H) (
           index_is = set_is value b m n root key word key next [] start found was_reads list_ready c o top set;
           reads_as = set_index value b m n root key word key next [] start found was_reads list_ready c o top set;
           docs = set_docs value b m n root key word key next [] start found was_reads list_ready c o top set moves.docs;
+          plain = set_plain value b m n root key word key next [] start found was_reads list_ready c o top set (λ plain. plain_of next (makes.form ∙ no_vector word plain));
           apart = λ w there. subst (λ x. FormIsApart bits buffer doc o (list_form x))
               (same_Some next w (sym (set_list value b m n root key word key next [] start found was_reads list_ready c o top set) ∙ there))
               (form_same bits buffer doc n o (list_form next) here form moves.apart);

@@ -130,7 +130,7 @@ module _ {H : Type 0} (bits : ℕ) (plan : PlanView) (a : AttributeTrees) (old :
           record {
             moves = index_moved bits plan.victim a.kind a.type old new m n a.documents a.dictionary can.field can.owns can.refers
                 stay next moves.left moves.left_in index reads moves.keys stays moves.turns
-                (λ phase. same a.kind a.type m n a.documents a.dictionary a.documents next phase reads moves.docs column);
+                (λ phase. same a.kind a.type m n a.documents a.dictionary a.documents next phase reads moves.docs column) moves.plain;
             cleared = clears bits plan.victim plan.place.stage.field next plan.place value old new m n a typed (turn 0 (Value value) can) moves can.cleared;
           }
 
@@ -148,7 +148,7 @@ module _ {H : Type 0} (bits : ℕ) (plan : PlanView) (a : AttributeTrees) (old :
           let column = column_same bits plan.victim a.kind a.type old new m n a.documents a.dictionary can.field can.owns can.refers stay next [] tt index reads kept stays turns in
           record {
             moves = index_moved bits plan.victim a.kind a.type old new m n a.documents a.dictionary can.field can.owns can.refers stay next [] tt index reads kept stays turns
-                (λ phase. same a.kind a.type m n a.documents a.dictionary a.documents next phase reads moves.docs column);
+                (λ phase. same a.kind a.type m n a.documents a.dictionary a.documents next phase reads moves.docs column) moves.plain;
             cleared = clears bits plan.victim plan.place.stage.field doc next plan.place value old new m n a typed (turn 2 (Pair value doc) can) moves
                 leaves (owned_index 2 (Pair value doc) can)
                 (documents_same bits plan.victim a.kind a.type old new m n a.documents a.dictionary can.field can.owns can.refers stay next [] tt index reads kept stays turns)
@@ -167,7 +167,7 @@ module _ {H : Type 0} (bits : ℕ) (plan : PlanView) (a : AttributeTrees) (old :
           let column = column_same bits plan.victim a.kind a.type old new m n a.documents a.dictionary can.field can.owns can.refers stay next [] tt index reads kept stays turns in
           record {
             moves = index_moved bits plan.victim a.kind a.type old new m n a.documents a.dictionary can.field can.owns can.refers stay next [] tt index reads kept stays turns
-                (λ phase. same a.kind a.type m n a.documents a.dictionary a.documents next phase reads moves.docs column);
+                (λ phase. same a.kind a.type m n a.documents a.dictionary a.documents next phase reads moves.docs column) moves.plain;
             cleared = clears bits plan.victim plan.place.stage.field next plan.place value old new m n a typed (turn 3 (Value value) can) moves
                 leaves (owned_index 3 (Value value) can)
                 (documents_same bits plan.victim a.kind a.type old new m n a.documents a.dictionary can.field can.owns can.refers stay next [] tt index reads kept stays turns)

@@ -64,8 +64,8 @@ plain_block m word k r plain there = told (word % 2) refl
     no_some : (x : ℕ) → None ≡ Some x → ⊥
     no_some x e = grind (arith, e)
 
-pub plain_keeps : {H : Type 0} (a : Ledger H) (m n : Records) (word next : ℕ) → IsPlain next → KeepsListBlocks a m n word next
-plain_keeps a m n word next plain = record { each = λ k r there used. absurd (plain_block n next k r plain there) }
+pub plain_keeps : (IsOld : ℕ → Type 0) (m n : Records) (word next : ℕ) → IsPlain next → KeepsListBlocks IsOld m n word next
+plain_keeps IsOld m n word next plain = record { each = λ k r there used. absurd (plain_block n next k r plain there) }
 
 -- the form in a plain word
 plain_form : {H : Type 0} (a b : Ledger H) (m n : Records) (word next : ℕ) → IsPlain word → MakesList a b m n word (list_at m word) false next
@@ -163,7 +163,7 @@ module _ (m : Records) (word ref : ℕ) (list : IsList m word) (plain : IsPlain 
         makes = plain_form a c m o word next plain (short_made next next_is next_plain);
         apart = copy_apart buffer doc next next_is next_plain may sealed;
         docs = ap (form_docs o) (form_short next copy next_plain next_is) ∙ sym (ap (form_docs m) (form_short word ref plain word_is));
-        blocks = plain_keeps a m o word next next_plain;
+        blocks = plain_keeps (λ r. in_use (a.status r) ≡ true) m o word next next_plain;
       }
 
   pub short_counts : {H : Type 0} (a b : Ledger H) → MakesOneOf (class_of (1 + length (stored_items (m ref)))) a b
@@ -206,7 +206,7 @@ module _ {H : Type 0} (a b : Ledger H) (m n : Records) (word root : ℕ) (list :
     makes = plain_form a b m n word next plain (tree_made next top made next_plain tree_is pairs owns turns);
     apart = tree_apart bits buffer doc n next top made next_plain apart;
     docs = ap (form_docs n) (form_tree next top next_plain made) ∙ ap (map (λ p. p.0)) pairs ∙ sym (ap (form_docs m) (form_tree word root plain tree_is_word));
-    blocks = plain_keeps a m n word next next_plain;
+    blocks = plain_keeps (λ r. in_use (a.status r) ≡ true) m n word next next_plain;
   }
 
   pub tree_counts : CountsNodes a b (levels m root) → MakesWithin a b (word_most (is_vector word) (list_levels m word) (length (list_at m word)))

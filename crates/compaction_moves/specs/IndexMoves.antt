@@ -26,6 +26,7 @@ use Rattle.posting_store.specs.Keeps.{KeepsListBlocks}
 use Rattle.posting_store.specs.Lists.{is_vector, list_at, list_reach}
 use Rattle.value_index.specs.Changes.{nodes_most, record_most, value_levels}
 use Rattle.value_index.specs.Flows.{list_word}
+use Rattle.value_index.specs.Forms.{IsPlainIndex}
 use Rattle.value_index.specs.Indexes.{index_part, key_at, IsIndex, IsKey}
 
 -- the documents in the form of keys of each list
@@ -47,6 +48,7 @@ pub record MovesKey {H : Type 0} (bits buffer : ℕ) (value : Value) (old new : 
   pub index_is : IsIndex (type_of value) n next
   pub reads_as : index_of (type_of value) n next ≡ index_of (type_of value) m root
   pub docs : lists_docs n next ≡ lists_docs m root
+  pub plain : IsPlainIndex m root → IsPlainIndex n next
   pub apart : (key : ℕ) → key_at value n next ≡ Some key → buffer_of bits key ≢ buffer
   pub others : take_out (beside_value value n) (tree_pairs n next) ≡ take_out (beside_value value m) (tree_pairs m root)
   pub list : lookup (beside_value value n) (tree_pairs n next) ≡ lookup (beside_value value m) (tree_pairs m root)
@@ -67,7 +69,7 @@ pub record MovesWord {H : Type 0} (bits buffer doc : ℕ) (old new : Ledger H) (
   pub makes : MakesList old new m n word (list_at m word) (is_vector word) next
   pub apart : FormIsApart bits buffer doc n (list_form next)
   pub docs : form_docs n (list_form next) ≡ form_docs m (list_form word)
-  pub blocks : KeepsListBlocks old m n word next
+  pub blocks : KeepsListBlocks (λ r. in_use (old.status r) ≡ true) m n word next
 
 -- the list of a value was moved out of the buffer, as far as the way to a document. The value's key and all other
 -- pairs, with all that they reach, are unchanged, and each old key is still a key, with its record. What of the list
@@ -76,6 +78,7 @@ pub record MovesList {H : Type 0} (bits buffer doc : ℕ) (value : Value) (old n
   pub index_is : IsIndex (type_of value) n next
   pub reads_as : index_of (type_of value) n next ≡ index_of (type_of value) m root
   pub docs : lists_docs n next ≡ lists_docs m root
+  pub plain : IsPlainIndex m root → IsPlainIndex n next
   pub apart : (list : ℕ) → lookup (beside_value value n) (tree_pairs n next) ≡ Some list → FormIsApart bits buffer doc n (list_form list)
   pub key : key_at value n next ≡ key_at value m root
   pub others : take_out (beside_value value n) (tree_pairs n next) ≡ take_out (beside_value value m) (tree_pairs m root)
@@ -84,7 +87,7 @@ pub record MovesList {H : Type 0} (bits buffer doc : ℕ) (value : Value) (old n
   pub came : (r : ℕ) → in_use (old.status r) ≡ true → Among r (list_reach n (list_word value n next))
       → Among r (list_reach m (list_word value m root))
   pub form : is_vector (list_word value n next) ≡ is_vector (list_word value m root)
-  pub blocks : KeepsListBlocks old m n (list_word value m root) (list_word value n next)
+  pub blocks : KeepsListBlocks (λ r. in_use (old.status r) ≡ true) m n (list_word value m root) (list_word value n next)
   pub owns : Owns new n (index_part next ∷ [])
   pub turns : Turns old new m n (index_part root ∷ []) (index_part next ∷ [])
 
@@ -94,6 +97,7 @@ pub record MovesNodes {H : Type 0} (bits buffer : ℕ) (value : Value) (old new 
   pub index_is : IsIndex (type_of value) n next
   pub reads_as : index_of (type_of value) n next ≡ index_of (type_of value) m root
   pub docs : lists_docs n next ≡ lists_docs m root
+  pub plain : IsPlainIndex m root → IsPlainIndex n next
   pub apart : NoneIn bits buffer (path_nodes n (beside_value value m) next)
   pub pairs : tree_pairs n next ≡ tree_pairs m root
   pub stay : SameAt (dictionary_reach m root) m n
