@@ -1,5 +1,5 @@
 -- What the documents of attributes refer to, keys and old copies: where the attributes stay, and where one is changed.
-use Rattle.std.proofs.Common.{◌≡◌, ◌≢◌, ℕ, ◌<◌, List, [], ◌∷◌, set, Some, sym, ap, subst, ◌∙◌, arith, inl, inr}
+use Rattle.std.proofs.Common.{◌≡◌, ◌≢◌, Bool, ℕ, ◌<◌, List, [], ◌∷◌, set, Some, sym, ap, subst, ◌∙◌, arith, inl, inr}
 use Rattle.std.proofs.lemmas.Bool.{cases_eq}
 use Rattle.std.specs.Prelude.{slice_get}
 use Rattle.std.specs.List.{AllByRecursion}
@@ -19,7 +19,8 @@ use Rattle.attr_field.specs.Fields.{RefersBeside}
 use Rattle.attr_field.specs.Laws.{FieldIsSame}
 use Rattle.attr_images.specs.Tables.{AttributeTrees}
 use Rattle.value_index.specs.Indexes.{IsKey}
-use Rattle.attr_steps.specs.Fields.{AllReferBeside, IsFieldAt, part_of, parts_of}
+use Rattle.attr_field.specs.Forms.{wants}
+use Rattle.attr_steps.specs.Fields.{AllReferBeside, HaveForms, IsFieldAt, part_of, parts_of}
 use Rattle.attr_steps.proofs.Columns.{FieldLaws}
 use Rattle.attr_steps.proofs.TreeLists.{all_from, get_set-same}
 
@@ -29,6 +30,11 @@ IsSameAt m n a = FieldIsSame a.kind a.type m n a.documents a.dictionary
 
 abbrev pub AreSame : Records → Records → List AttributeTrees → Type 0
 AreSame m n trees = AllByRecursion (IsSameAt m n) trees
+
+-- so they are of the same form
+pub forms_same : (dense : Bool) (m n : Records) (trees : List AttributeTrees) → AreSame m n trees → HaveForms dense m trees → HaveForms dense n trees
+forms_same dense m n [] same forms = tt
+forms_same dense m n (a ∷ trees) same forms = (same.0.form (wants dense a.kind) forms.0, forms_same dense m n trees same.1 forms.1)
 
 -- what one refers to beside some parts
 abbrev pub RefersAt : {H : Type 0} → Ledger H → Records → List Part → AttributeTrees → Type 0
