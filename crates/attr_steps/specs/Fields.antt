@@ -54,6 +54,10 @@ IsOfFormAt dense m a = IsOfForm (wants dense a.kind) a.type m a.dictionary
 abbrev pub HaveForms : Bool → Records → List AttributeTrees → Type 0
 HaveForms dense m trees = AllByRecursion (IsOfFormAt dense m) trees
 
+-- they have the same forms in other records, with other trees
+abbrev pub KeepForms : Records → Records → List AttributeTrees → List AttributeTrees → Type 0
+KeepForms m n trees next = (dense : Bool) → HaveForms dense m trees → HaveForms dense n next
+
 -- one or more attributes with the same documents, in the records
 pub record AreFields (m : Records) (fields : List Field) (trees : List AttributeTrees) : Type 0 where
   pub some : 0 < length fields
