@@ -11,7 +11,7 @@ use Rattle.store_api.specs.Parts.{Owns}
 use Rattle.store_api.specs.Units.{MayDo}
 use Rattle.store_api.proofs.May.{may_do-same, may_do-then}
 use Rattle.posting_store.specs.Lists.{list_at, list_levels, is_vector, AreOnes, IsList}
-use Rattle.posting_store.specs.Changes.{list_part, list_most, change_most, IsListWidth, IsChangedWidth, MakesByRule, MakesList}
+use Rattle.posting_store.specs.Changes.{list_part, list_most, list_change_most, IsListWidth, IsListChangeWidth, MakesByRule, MakesList}
 use Rattle.posting_store.proofs.PairLemmas.{length_out_some}
 use Rattle.posting_store.proofs.RefusalLemmas.{if_more}
 use Rattle.posting_store.proofs.RuleLemmas.{changed_list, short_counts, short_sparse}
@@ -48,7 +48,7 @@ returns-then-count-gt9-clause-counts g c =
     let s = c.args.store.now in
     let t = c.remove_from_long.new.store in
     let docs = remove_entry (is_at (nat_cmp c.args.doc)) (list_at (records s) c.args.list) in
-    subst (λ s. MakesWithin (ledger s) (ledger t) (change_most (is_vector c.args.list) (is_dense c.args.dense (length (remove_entry (is_at (nat_cmp c.args.doc)) (list_at (records s) c.args.list))) c.args.documents) (list_levels (records s) c.args.list) (remove_entry (is_at (nat_cmp c.args.doc)) (list_at (records s) c.args.list)))) c.count.ensures.same c.remove_from_long.ensures.counts
+    subst (λ s. MakesWithin (ledger s) (ledger t) (list_change_most (is_vector c.args.list) (is_dense c.args.dense (length (remove_entry (is_at (nat_cmp c.args.doc)) (list_at (records s) c.args.list))) c.args.documents) (list_levels (records s) c.args.list) (remove_entry (is_at (nat_cmp c.args.doc)) (list_at (records s) c.args.list)))) c.count.ensures.same c.remove_from_long.ensures.counts
 
 pub returns-then-count-gt9-clause-refuses : goal.returns-then-count-gt9-clause-refuses
 returns-then-count-gt9-clause-refuses g c =
@@ -57,7 +57,7 @@ returns-then-count-gt9-clause-refuses g c =
     let s = c.args.store.now in
     let t = c.remove_from_long.new.store in
     let docs = remove_entry (is_at (nat_cmp c.args.doc)) (list_at (records s) c.args.list) in
-    subst (λ s. IfErr c.remove_from_long.result (RefusesOf (IsChangedWidth (is_vector c.args.list || is_dense c.args.dense (length (remove_entry (is_at (nat_cmp c.args.doc)) (list_at (records s) c.args.list))) c.args.documents) (length (remove_entry (is_at (nat_cmp c.args.doc)) (list_at (records s) c.args.list)))) (ledger s) (ledger t))) c.count.ensures.same c.remove_from_long.ensures.refuses
+    subst (λ s. IfErr c.remove_from_long.result (RefusesOf (IsListChangeWidth (is_vector c.args.list || is_dense c.args.dense (length (remove_entry (is_at (nat_cmp c.args.doc)) (list_at (records s) c.args.list))) c.args.documents) (length (remove_entry (is_at (nat_cmp c.args.doc)) (list_at (records s) c.args.list)))) (ledger s) (ledger t))) c.count.ensures.same c.remove_from_long.ensures.refuses
 
 pub returns-then-count-gt9-clause-may : goal.returns-then-count-gt9-clause-may
 returns-then-count-gt9-clause-may g c =
@@ -99,7 +99,7 @@ returns-else-count-gt9-clause-refuses g c =
     let docs = remove_entry (is_at (nat_cmp c.args.doc)) (list_at (records s) c.args.list) in
     let few : length docs ≤ 8 = let less = length_out_some (is_at (nat_cmp c.args.doc)) (list_at (records s) c.args.list) c.requires.there in omega arith in
     let either = is_vector c.args.list || is_dense c.args.dense (length docs) c.args.documents in
-    if_more (IsListWidth (length docs)) (IsChangedWidth either (length docs)) (ledger s) (ledger s) (ledger t) c.remove_from_short.result (may_do-same (ledger s)) (λ w one. changed_list either (length docs) w one)
+    if_more (IsListWidth (length docs)) (IsListChangeWidth either (length docs)) (ledger s) (ledger s) (ledger t) c.remove_from_short.result (may_do-same (ledger s)) (λ w one. changed_list either (length docs) w one)
     (subst (λ s. IfErr c.remove_from_short.result (RefusesOf (IsListWidth (length (remove_entry (is_at (nat_cmp c.args.doc)) (list_at (records s) c.args.list)))) (ledger s) (ledger t))) c.count.ensures.same c.remove_from_short.ensures.refuses)
 
 pub returns-else-count-gt9-clause-may : goal.returns-else-count-gt9-clause-may

@@ -11,7 +11,7 @@ use Rattle.store_api.specs.Parts.{Owns}
 use Rattle.store_api.specs.Units.{MayDo}
 use Rattle.store_api.proofs.May.{may_do-same, may_do-then}
 use Rattle.posting_store.specs.Lists.{list_at, list_levels, is_vector, AreOnes}
-use Rattle.posting_store.specs.Changes.{change_most, IsChangedWidth, MakesList}
+use Rattle.posting_store.specs.Changes.{list_change_most, IsListChangeWidth, MakesList}
 use Rattle.posting_store.proofs.PairLemmas.{length_out_some, ones_out}
 use Rattle.posting_store.proofs.RuleLemmas.{dense_many, first_counts, first_refuses, rule_counts, rule_makes, rule_plain, rule_refuses}
 use Rattle.posting_store.proofs.removing.remove_from_long.Goals as goal
