@@ -8,7 +8,8 @@ ghost use Rattle.store_api.specs.Units.{MayDo};
 ghost use Rattle.attr_images.specs.Postings.{is_dense};
 ghost use Rattle.bit_vector.specs.Changes.{MakesWithin};
 ghost use Rattle.posting_store.specs.Lists.{list_at, list_levels, is_vector, AreOnes, IsList, IsPlain};
-ghost use Rattle.posting_store.specs.Changes.{list_part, list_most, list_change_most, IsListWidth, IsListChangeWidth, MakesByRule, MakesList};
+ghost use Rattle.posting_store.specs.Changes.{list_part, list_most, list_change_most, IsListWidth, IsListChangeWidth};
+ghost use Rattle.posting_store.specs.Changes.{MakesByRule, MakesList};
 
 use crate::cursor::count;
 use crate::forming::by_rule;
@@ -60,7 +61,8 @@ fn remove_from_vector<const OFFSET_BITS: u32, S: Store<OFFSET_BITS>>(
     requires owns { Owns (S.ledger store.old) (S.records store.old) (list_part list ∷ []) }
     ensures makes { IfOk result (MakesList (S.ledger store.old) (S.ledger store.new) (S.records store.old) (S.records store.new)
         list (remove_entry (is_at (nat_cmp doc)) (list_at (S.records store.old) list)) true) }
-    ensures counts { MakesWithin (S.ledger store.old) (S.ledger store.new) (list_change_most true true (list_levels (S.records store.old) list)
+    ensures counts { MakesWithin (S.ledger store.old) (S.ledger store.new)
+        (list_change_most true true (list_levels (S.records store.old) list)
         (remove_entry (is_at (nat_cmp doc)) (list_at (S.records store.old) list))) }
     ensures refuses { IfErr result (RefusesOf
         (IsListChangeWidth true (length (remove_entry (is_at (nat_cmp doc)) (list_at (S.records store.old) list))))

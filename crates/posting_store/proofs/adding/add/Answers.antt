@@ -111,7 +111,8 @@ returns-clause-counts g c =
     let u = c.by_rule.new.store in
     let makes = subst (λ (w : ℤ). MakesList (ledger s) (ledger t) (records s) (records t) c.args.list (insert_entry nat_cmp es c.args.doc w) was c.in_ok-next.next) again c.in_ok-next.ensures.makes in
     let made = subst (λ (w : ℤ). MakesWithin (ledger s) (ledger t) (list_change_most was was (list_levels (records s) c.args.list) (insert_entry nat_cmp es c.args.doc w))) again c.add_in_form.ensures.counts in
-    rule_counts (ledger s) (ledger t) (ledger u) (records s) (records t) (records u) c.args.list c.in_ok-next.next docs was makes c.args.dense c.args.documents (list_levels (records s) c.args.list) c.add_in_form.ensures.may made c.by_rule.ensures.counts
+    rule_counts (ledger s) (ledger t) (ledger u) (records s) (records t) (records u) c.args.list c.in_ok-next.next docs was makes c.args.dense c.args.documents (list_levels (records s) c.args.list)
+    c.add_in_form.ensures.may made c.by_rule.ensures.counts
 
 pub returns-clause-refuses : goal.returns-clause-refuses
 returns-clause-refuses g c =
@@ -125,7 +126,8 @@ returns-clause-refuses g c =
     let again = to_z-of_z w32 c.args.weight c.ranges.weight in
     let u = c.by_rule.new.store in
     let makes = subst (λ (w : ℤ). MakesList (ledger s) (ledger t) (records s) (records t) c.args.list (insert_entry nat_cmp es c.args.doc w) was c.in_ok-next.next) again c.in_ok-next.ensures.makes in
-    rule_refuses (ledger s) (ledger t) (ledger u) (records s) (records t) (records u) c.args.list c.in_ok-next.next docs was makes c.by_rule.result c.args.dense c.args.documents c.add_in_form.ensures.may c.by_rule.ensures.refuses
+    rule_refuses (ledger s) (ledger t) (ledger u) (records s) (records t) (records u) c.args.list c.in_ok-next.next docs was makes c.by_rule.result c.args.dense c.args.documents
+    c.add_in_form.ensures.may c.by_rule.ensures.refuses
 
 pub returns-clause-may : goal.returns-clause-may
 returns-clause-may g c = may_do-then _ _ _ c.add_in_form.ensures.may c.by_rule.ensures.may

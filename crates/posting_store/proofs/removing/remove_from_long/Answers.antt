@@ -94,7 +94,8 @@ returns-clause-counts g c =
     let docs = remove_entry (is_at (nat_cmp c.args.doc)) es in
     let was = is_vector c.args.list in
     let u = c.by_rule.new.store in
-    rule_counts (ledger s) (ledger t) (ledger u) (records s) (records t) (records u) c.args.list c.in_ok-next.next docs was c.in_ok-next.ensures.makes c.args.dense c.args.documents (list_levels (records s) c.args.list) c.remove_in_form.ensures.may c.remove_in_form.ensures.counts c.by_rule.ensures.counts
+    rule_counts (ledger s) (ledger t) (ledger u) (records s) (records t) (records u) c.args.list c.in_ok-next.next docs was c.in_ok-next.ensures.makes c.args.dense c.args.documents (list_levels
+    (records s) c.args.list) c.remove_in_form.ensures.may c.remove_in_form.ensures.counts c.by_rule.ensures.counts
 
 pub returns-clause-refuses : goal.returns-clause-refuses
 returns-clause-refuses g c =
@@ -106,7 +107,8 @@ returns-clause-refuses g c =
     let docs = remove_entry (is_at (nat_cmp c.args.doc)) es in
     let was = is_vector c.args.list in
     let u = c.by_rule.new.store in
-    rule_refuses (ledger s) (ledger t) (ledger u) (records s) (records t) (records u) c.args.list c.in_ok-next.next docs was c.in_ok-next.ensures.makes c.by_rule.result c.args.dense c.args.documents c.remove_in_form.ensures.may c.by_rule.ensures.refuses
+    rule_refuses (ledger s) (ledger t) (ledger u) (records s) (records t) (records u) c.args.list c.in_ok-next.next docs was c.in_ok-next.ensures.makes c.by_rule.result c.args.dense c.args.documents
+    c.remove_in_form.ensures.may c.by_rule.ensures.refuses
 
 pub returns-clause-may : goal.returns-clause-may
 returns-clause-may g c = may_do-then _ _ _ c.remove_in_form.ensures.may c.by_rule.ensures.may
