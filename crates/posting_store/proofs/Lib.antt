@@ -6,3 +6,5 @@ pub mod PairLemmas
 pub mod ChangeLemmas
 pub mod LeafLemmas
 pub mod RefusalLemmas
+pub mod VectorLemmas
+pub mod RuleLemmas

@@ -35,8 +35,9 @@ fn tree_to_vector<const OFFSET_BITS: u32, S: Store<OFFSET_BITS>>(
     ensures may { MayDo (S.ledger store.old) (S.ledger store.new) }
 {
     let root = from_tree(alloc, store, list.entry())?;
+    let next = Posting::vector(root);
     drop_list(store, list);
-    Ok(Posting::vector(root))
+    Ok(next)
 }
 
 /// Makes a tree in place of a bit vector.
@@ -57,8 +58,9 @@ fn vector_to_tree<const OFFSET_BITS: u32, S: Store<OFFSET_BITS>>(
 {
     let vector = root_of(store, list);
     let root = to_tree(alloc, store, vector)?;
+    let made = Posting::tree(root);
     drop_list(store, list);
-    Ok(Posting::tree(root))
+    Ok(made)
 }
 
 /// Returns the list as a bit vector.
