@@ -138,10 +138,10 @@ items_other kind zero is = refl
 items_other kind (suc count) is = subst (λ k. cond {A = ℕ} (has_list kind) (cond (nat_eq 1024 k) 1 0) 0 ≡ 0) is (cond_none (has_list kind))
 
 -- a document that was refused a record of 512 words needs none of 1024
-pub items_refused : (kind : Kind) (column : Column) (before after : List Item) → IsFieldWidth kind column before after 512 → items_record kind (length after) 1024 ≡ 0
-items_refused kind column before after (inl (inl node)) = absurd (omega (arith, node))
-items_refused kind column before after (inl (inr items)) = items_other kind (length after) items.width_is
-items_refused kind column before after (inr value) = absurd (let few = value.is.few in omega (arith, few))
+pub items_refused : (dense : Bool) (kind : Kind) (column : Column) (before after : List Item) → IsFieldWidth dense kind column before after 512 → items_record kind (length after) 1024 ≡ 0
+items_refused dense kind column before after (inl (inl node)) = absurd (omega (arith, node))
+items_refused dense kind column before after (inl (inr items)) = items_other kind (length after) items.width_is
+items_refused dense kind column before after (inr value) = absurd (let few = value.is.few in omega (arith, few))
 
 -- ---- other widths than those of the store
 module _ (w : ℕ) (off : is_width w ≡ false) where

@@ -1,5 +1,6 @@
 -- Places in a list.
-use Rattle.std.proofs.Common.{◌≡◌, ℕ, zero, suc, ◌+◌, ◌<◌, ◌≤◌, ◌/◌, ◌%◌, ◌^◌, ℤ, pos, Bool, true, false, cond, nat_eq, nat_le, ◌&&◌, ◌||◌, true≢false, List, [], ◌∷◌, ◌++◌, map, filter, take, drop, length, refl, sym, ap, subst, ◌∙◌, arith}
+use Rattle.std.proofs.Common.{◌≡◌, ℕ, zero, suc, ◌+◌, ◌<◌, ◌≤◌, ◌/◌, ◌%◌, ◌^◌, ℤ, pos, Bool, true, false, cond, nat_eq, nat_le, ◌&&◌, ◌||◌, true≢false, List, [], ◌∷◌}
+use Rattle.std.proofs.Common.{◌++◌, map, filter, take, drop, length, refl, sym, ap, subst, ◌∙◌, arith}
 use Rattle.std.proofs.lemmas.Bool.{eq-eqb, eqb-true, le-leb}
 use Rattle.std.specs.Prelude.{slice_index}
 use Rattle.std.proofs.lemmas.List.{drop-map}
@@ -24,7 +25,7 @@ use Rattle.posting_store.specs.Lists.{list_at, IsList}
 use Rattle.posting_store.specs.declared.cursor.PostingCursor.{PostingCursor}
 use Rattle.posting_store.specs.declared.cursor.PostingCursor.TheVariants.{Short, Tree, Vector}
 use Rattle.posting_store.specs.Walks.{postings_from, first_doc, first_weight, HasPosting, StandsInList, IsListPlace}
-use Rattle.posting_store.proofs.VectorLemmas.{ones, vector_list_at}
+use Rattle.posting_store.proofs.VectorLemmas.{with_ones, vector_list_at}
 
 -- the first document of some is one
 pub first_is_doc : (es rest : List (ℕ × ℤ)) (e : ℕ × ℤ) → es ≡ e ∷ rest → AllByRecursion IsDocNumber (keys_of es) → IsDocNumber (first_doc es)
@@ -111,14 +112,14 @@ pub vector_place : {bits : ℕ} (m : Records) (word root : ℕ) (at : VectorCurs
     → documents_from m at ≡ vector_documents m root → IsListPlace m (Vector at)
 vector_place m word root at is list place documents = record {
   stands = place;
-  numbers = subst (λ (es : List (ℕ × ℤ)). AllByRecursion IsDocNumber (keys_of es)) (vector_list_at m word root is ∙ sym (ap ones documents)) list.numbers;
+  numbers = subst (λ (es : List (ℕ × ℤ)). AllByRecursion IsDocNumber (keys_of es)) (vector_list_at m word root is ∙ sym (ap with_ones documents)) list.numbers;
 }
 
 pub vector_postings : {bits : ℕ} (m : Records) (word root : ℕ) (at : VectorCursor bits) → word ≡ 8589934592 + root → documents_from m at ≡ vector_documents m root
-    → ones (documents_from m at) ≡ list_at m word
-vector_postings m word root at is documents = ap ones documents ∙ sym (vector_list_at m word root is)
+    → with_ones (documents_from m at) ≡ list_at m word
+vector_postings m word root at is documents = ap with_ones documents ∙ sym (vector_list_at m word root is)
 
-first_one : (docs : List ℕ) → first_document docs ≡ first_doc (ones docs)
+first_one : (docs : List ℕ) → first_document docs ≡ first_doc (with_ones docs)
 first_one [] = refl
 first_one (doc ∷ docs) = refl
 
@@ -154,7 +155,7 @@ document_follows m at place some = by (pairs_from m at.blocks) _ _ (pair-first m
         (some_left (nat_le at.doc) at.doc (le-leb at.doc at.doc (omega arith)) (block_documents p.0 (m p.1) ++ flat_map (λ q. block_documents q.0 (m q.1)) rest)
         (has_in_first (block_documents p.0 (m p.1)) (flat_map (λ q. block_documents q.0 (m q.1)) rest) at.doc has_it))
 
-first_is_one : (docs : List ℕ) → 0 < length docs → pos 1 ≡ first_weight (ones docs)
+first_is_one : (docs : List ℕ) → 0 < length docs → pos 1 ≡ first_weight (with_ones docs)
 first_is_one [] some = absurd (omega (arith, some))
 first_is_one (doc ∷ docs) some = refl
 
@@ -177,14 +178,14 @@ module _ {bits : ℕ} (m : Records) (self : PostingCursor bits) (at : VectorCurs
       first_is_one (documents_from m at) (document_follows m at vector_stands (vector_has some))
       ∙ ap (λ (s : PostingCursor bits). first_weight (postings_from m s)) (sym is)
 
-  pub vector_next_postings : (next : VectorCursor bits) → documents_from m next ≡ drop 1 (documents_from m at) → ones (documents_from m next) ≡ drop 1 (postings_from m self)
+  pub vector_next_postings : (next : VectorCursor bits) → documents_from m next ≡ drop 1 (documents_from m at) → with_ones (documents_from m next) ≡ drop 1 (postings_from m self)
   vector_next_postings next behind =
-      ap ones behind ∙ sym (drop-map (λ doc. (doc, pos 1)) 1 (documents_from m at)) ∙ ap (λ (s : PostingCursor bits). drop 1 (postings_from m s)) (sym is)
+      ap with_ones behind ∙ sym (drop-map (λ doc. (doc, pos 1)) 1 (documents_from m at)) ∙ ap (λ (s : PostingCursor bits). drop 1 (postings_from m s)) (sym is)
 
   pub vector_next : (next : VectorCursor bits) → IsVectorPlace m next → documents_from m next ≡ drop 1 (documents_from m at) → IsListPlace m (Vector next)
   vector_next next stands behind = record {
     stands = stands;
-    numbers = numbers_next (postings_from m self) (ones (documents_from m next)) (vector_next_postings next behind) place.numbers;
+    numbers = numbers_next (postings_from m self) (with_ones (documents_from m next)) (vector_next_postings next behind) place.numbers;
   }
 
 -- 32 bits read as a weight, written and read again

@@ -16,7 +16,7 @@ use Rattle.attr_images.specs.Postings.{is_dense}
 use Rattle.bit_vector.specs.Changes.{vector_most, IsVectorWidth, MakesWithin}
 use Rattle.bit_vector.specs.Vectors.{count_blocks}
 use Rattle.posting_store.specs.Lists.{list_at, is_vector, IsList, IsPlain}
-use Rattle.posting_store.specs.Changes.{list_part, list_most, change_most, form_most, IsListWidth, IsFormWidth, IsChangedWidth, MakesByRule, MakesList}
+use Rattle.posting_store.specs.Changes.{list_part, list_most, list_change_most, form_most, IsListWidth, IsFormWidth, IsListChangeWidth, MakesByRule, MakesList}
 use Rattle.posting_store.proofs.ChangeLemmas.{counts_both, counts_weaker, tree_most}
 use Rattle.posting_store.proofs.FormLemmas.{no_vector, plain_of}
 use Rattle.posting_store.proofs.RefusalLemmas.{if_more, of_more}
@@ -67,7 +67,7 @@ block_then w path nodes =
     ]
 
 pub most_then : (was is : Bool) (levels : ℕ) (docs : List (ℕ × ℤ)) (w : ℕ) → (was ≡ true → 8 < length docs) → (is ≡ true → 8 < length docs)
-    → change_most was was levels docs w + form_most was is docs w ≤ change_most was is levels docs w
+    → list_change_most was was levels docs w + form_most was is docs w ≤ list_change_most was is levels docs w
 most_then false false levels docs w was is = let e : list_most levels (length docs) w + 0 ≤ list_most levels (length docs) w = omega arith in e
 most_then true true levels docs w was is = let e : vector_most 1 (2 * levels + 1) w + 0 ≤ vector_most 1 (2 * levels + 1) w = omega arith in e
 most_then false true levels docs w was is =
@@ -81,34 +81,34 @@ most_then true false levels docs w was is =
 
 -- a list that is short in the end
 pub short_counts : {H : Type 0} (a b : Ledger H) (was dense : Bool) (documents levels : ℕ) (docs : List (ℕ × ℤ)) → length docs ≤ 8
-    → MakesWithin a b (list_most levels (length docs)) → MakesWithin a b (change_most was (is_dense dense (length docs) documents) levels docs)
+    → MakesWithin a b (list_most levels (length docs)) → MakesWithin a b (list_change_most was (is_dense dense (length docs) documents) levels docs)
 short_counts a b was dense documents levels docs few made =
-    subst (λ is. MakesWithin a b (change_most was is levels docs)) (sym (short_sparse dense (length docs) documents few))
-    (counts_weaker a b (list_most levels (length docs)) (change_most was false levels docs) (most was) made)
+    subst (λ is. MakesWithin a b (list_change_most was is levels docs)) (sym (short_sparse dense (length docs) documents few))
+    (counts_weaker a b (list_most levels (length docs)) (list_change_most was false levels docs) (most was) made)
   where
-    most : (was : Bool) (w : ℕ) → list_most levels (length docs) w ≤ change_most was false levels docs w
+    most : (was : Bool) (w : ℕ) → list_most levels (length docs) w ≤ list_change_most was false levels docs w
     most false w = omega arith
     most true w =
         subst (λ t. list_most levels (length docs) w ≤ cond t (list_most levels (length docs) w) (vector_most 1 (2 * levels + 1 + nodes_of (length docs)) w))
         (sym (le-leb (length docs) 8 few)) (omega arith)
 
 -- ---- widths
-pub changed_more : (was is : Bool) (count w : ℕ) → IsChangedWidth was count w → IsChangedWidth (was || is) count w
+pub changed_more : (was is : Bool) (count w : ℕ) → IsListChangeWidth was count w → IsListChangeWidth (was || is) count w
 changed_more false false count w one = one
 changed_more false true count w one = inl one
 changed_more true is count w one = one
 
-pub changed_list : (was : Bool) (count w : ℕ) → IsListWidth count w → IsChangedWidth was count w
+pub changed_list : (was : Bool) (count w : ℕ) → IsListWidth count w → IsListChangeWidth was count w
 changed_list false count w one = one
 changed_list true count w one = inl one
 
-pub changed_form : (was is : Bool) (count w : ℕ) → (was ≡ true → 8 < count) → (is ≡ true → 8 < count) → IsFormWidth was is w → IsChangedWidth (was || is) count w
+pub changed_form : (was is : Bool) (count w : ℕ) → (was ≡ true → 8 < count) → (is ≡ true → 8 < count) → IsFormWidth was is w → IsListChangeWidth (was || is) count w
 changed_form false false count w was is one = absurd one
 changed_form true true count w was is one = absurd one
 changed_form false true count w was is one = inr (record { many = is refl; width_is = one })
 changed_form true false count w was is one = inr (record { many = was refl; width_is = one })
 
-pub changed_vector : (count w : ℕ) → 8 < count → IsVectorWidth w → IsChangedWidth true count w
+pub changed_vector : (count w : ℕ) → 8 < count → IsVectorWidth w → IsListChangeWidth true count w
 changed_vector count w many one = inr (record { many = many; width_is = one })
 
 -- ---- a list that stays
@@ -143,27 +143,27 @@ module _ {H : Type 0} (a b c : Ledger H) (m n o : Records) (word mid : ℕ) (doc
       (makes_then next (is_dense dense (length (list_at n mid)) documents) second)
   rule_makes (Err e) dense documents second = tt
 
-  pub rule_counts : (dense : Bool) (documents levels : ℕ) → MayDo a b → MakesWithin a b (change_most was was levels docs)
+  pub rule_counts : (dense : Bool) (documents levels : ℕ) → MayDo a b → MakesWithin a b (list_change_most was was levels docs)
       → MakesWithin b c (form_most (is_vector mid) (is_dense dense (length (list_at n mid)) documents) (list_at n mid))
-      → MakesWithin a c (change_most was (is_dense dense (length docs) documents) levels docs)
+      → MakesWithin a c (list_change_most was (is_dense dense (length docs) documents) levels docs)
   rule_counts dense documents levels may first second =
       let is = is_dense dense (length docs) documents in
       let moved : MakesWithin b c (form_most was is docs)
       = subst (λ v. MakesWithin b c (form_most v is docs)) makes.form
       (subst (λ (es : List (ℕ × ℤ)). MakesWithin b c (form_most (is_vector mid) (is_dense dense (length es) documents) es)) makes.docs_are second) in
-      counts_weaker a c (λ w. change_most was was levels docs w + form_most was is docs w) (change_most was is levels docs)
+      counts_weaker a c (λ w. list_change_most was was levels docs w + form_most was is docs w) (list_change_most was is levels docs)
       (λ w. most_then was is levels docs w long (dense_many dense (length docs) documents))
-      (counts_both a b c (change_most was was levels docs) (form_most was is docs) may first moved)
+      (counts_both a b c (list_change_most was was levels docs) (form_most was is docs) may first moved)
 
   pub rule_refuses : (result : Result ℕ StoreError) (dense : Bool) (documents : ℕ) → MayDo a b
       → IfErr result (RefusesOf (IsFormWidth (is_vector mid) (is_dense dense (length (list_at n mid)) documents)) b c)
-      → IfErr result (RefusesOf (IsChangedWidth (was || is_dense dense (length docs) documents) (length docs)) a c)
+      → IfErr result (RefusesOf (IsListChangeWidth (was || is_dense dense (length docs) documents) (length docs)) a c)
   rule_refuses result dense documents may second =
       let is = is_dense dense (length docs) documents in
       let moved : IfErr result (RefusesOf (IsFormWidth was is) b c)
       = subst (λ v. IfErr result (RefusesOf (IsFormWidth v is) b c)) makes.form
       (subst (λ (es : List (ℕ × ℤ)). IfErr result (RefusesOf (IsFormWidth (is_vector mid) (is_dense dense (length es) documents)) b c)) makes.docs_are second) in
-      if_more (IsFormWidth was is) (IsChangedWidth (was || is) (length docs)) a b c result may
+      if_more (IsFormWidth was is) (IsListChangeWidth (was || is) (length docs)) a b c result may
       (λ w one. changed_form was is (length docs) w long (dense_many dense (length docs) documents) one) moved
 
   pub rule_plain : (dense : Bool) → (dense ≡ false → IsPlain word) → was ≡ is_vector word → dense ≡ false → IsPlain mid
@@ -176,10 +176,10 @@ one_weight false word weight plain one is = absurd (true≢false (sym is ∙ no_
 
 -- the first step alone
 pub first_counts : {H : Type 0} (a b : Ledger H) (was is : Bool) (levels : ℕ) (docs : List (ℕ × ℤ)) → (was ≡ true → 8 < length docs) → (is ≡ true → 8 < length docs)
-    → MakesWithin a b (change_most was was levels docs) → MakesWithin a b (change_most was is levels docs)
+    → MakesWithin a b (list_change_most was was levels docs) → MakesWithin a b (list_change_most was is levels docs)
 first_counts a b was is levels docs long dense made =
-    counts_weaker a b (change_most was was levels docs) (change_most was is levels docs) (λ w. let e = most_then was is levels docs w long dense in omega (arith, e)) made
+    counts_weaker a b (list_change_most was was levels docs) (list_change_most was is levels docs) (λ w. let e = most_then was is levels docs w long dense in omega (arith, e)) made
 
-pub first_refuses : {H : Type 0} (a b : Ledger H) (was is : Bool) (count : ℕ) (e : StoreError) → MayDo a a → RefusesOf (IsChangedWidth was count) a b e
-    → RefusesOf (IsChangedWidth (was || is) count) a b e
-first_refuses a b was is count e may refuses = of_more (IsChangedWidth was count) (IsChangedWidth (was || is) count) a a b e may (λ w one. changed_more was is count w one) refuses
+pub first_refuses : {H : Type 0} (a b : Ledger H) (was is : Bool) (count : ℕ) (e : StoreError) → MayDo a a → RefusesOf (IsListChangeWidth was count) a b e
+    → RefusesOf (IsListChangeWidth (was || is) count) a b e
+first_refuses a b was is count e may refuses = of_more (IsListChangeWidth was count) (IsListChangeWidth (was || is) count) a a b e may (λ w one. changed_more was is count w one) refuses

@@ -24,21 +24,21 @@ use Rattle.attr_types.specs.Lawful.{IsDocNumber}
 use Rattle.bit_vector.specs.Changes.{vector_most, vector_part, MakesTree, MakesVector, MakesWithin}
 use Rattle.bit_vector.specs.Vectors.{count_blocks, vector_at, vector_reach, IsVector}
 use Rattle.posting_store.specs.Lists.{list_at, list_levels, list_reach, form_levels, is_vector, AreDocuments, AreOnes, IsList, IsPlain}
-use Rattle.posting_store.specs.Changes.{list_part, change_most, form_most, IsLongWidth, MakesList}
+use Rattle.posting_store.specs.Changes.{list_part, list_change_most, form_most, IsLongWidth, MakesList}
 use Rattle.posting_store.proofs.ChangeLemmas.{is_list, makes_tree}
 use Rattle.posting_store.proofs.FormLemmas.{at_form, reach_form, form_vector, tree_at, vector_high}
 use Rattle.posting_store.proofs.LeafLemmas.{length_in_least}
 use Rattle.posting_store.proofs.PairLemmas.{weighed, weighed-keys, documents_in, documents_out, length_out_some}
 
 -- documents as a bit vector has them, each with weight 1
-abbrev pub ones : List ℕ → List (ℕ × ℤ)
-ones docs = map (λ doc. (doc, pos 1)) docs
+abbrev pub with_ones : List ℕ → List (ℕ × ℤ)
+with_ones docs = map (λ doc. (doc, pos 1)) docs
 
-pub ones-keys : (docs : List ℕ) → keys_of (ones docs) ≡ docs
+pub ones-keys : (docs : List ℕ) → keys_of (with_ones docs) ≡ docs
 ones-keys [] = refl
 ones-keys (doc ∷ docs) = ap (λ ks. doc ∷ ks) (ones-keys docs)
 
-pub ones-length : (docs : List ℕ) → length (ones docs) ≡ length docs
+pub ones-length : (docs : List ℕ) → length (with_ones docs) ≡ length docs
 ones-length [] = refl
 ones-length (doc ∷ docs) = ap suc (ones-length docs)
 
@@ -52,7 +52,7 @@ ones_of_pairs (p ∷ ps) all =
 abbrev pub paired : List ℕ → List (ℕ × ℕ)
 paired docs = map (λ doc. (doc, 1)) docs
 
-pub pairs_of_ones : (docs : List ℕ) → weighed (paired docs) ≡ ones docs
+pub pairs_of_ones : (docs : List ℕ) → weighed (paired docs) ≡ with_ones docs
 pairs_of_ones [] = refl
 pairs_of_ones (doc ∷ docs) = ap (λ es. (doc, pos 1) ∷ es) (pairs_of_ones docs)
 
@@ -71,7 +71,7 @@ some_blocks m [] some = absurd (omega (arith, some))
 some_blocks m (p ∷ ps) some = omega arith
 
 module _ (m : Records) (word root : ℕ) (is : word ≡ 8589934592 + root) where
-  pub vector_list_at : list_at m word ≡ ones (vector_documents m root)
+  pub vector_list_at : list_at m word ≡ with_ones (vector_documents m root)
   vector_list_at = at_form m word (omega arith) ∙ ap (postings_at m) (form_vector word root is)
 
   pub vector_list_reach : list_reach m word ≡ vector_reach m root
@@ -124,7 +124,7 @@ module _ {H : Type 0} (old new : Ledger H) (m n : Records) where
   makes_vector word next was root docs is dense makes many are before =
       let at = vector_list_at n next root is ∙ makes.docs_are in
       let counted = vector_counted n next root is in
-      let size : length (ones (vector_documents n root)) ≡ length docs = ap length makes.docs_are in
+      let size : length (with_ones (vector_documents n root)) ≡ length docs = ap length makes.docs_are in
       let each = ones-length (vector_documents n root) in
       let posting : IsPostingList n (vector root) = (makes.vector_is.tree_is, omega (arith, many, size, each), makes.vector_is.blocks) in
       record {
@@ -181,7 +181,7 @@ module _ {H : Type 0} (old new : Ledger H) (m n : Records) (word root : ℕ) (is
         (subst (λ (es : List (ℕ × ℤ)). MakesVector old new m n root (remove_entry (is_at (nat_cmp doc)) es) top) (sym (vector_list_at m word root is)) makes)
         vector_left (documents_out (is_at (nat_cmp doc)) (list_at m word) vector_documents_are) (vector_counted m word root is)
 
-  pub vector_counts : (docs : List (ℕ × ℤ)) → MakesWithin old new (vector_most 1 (2 * levels m root + 1)) → MakesWithin old new (change_most true true (list_levels m word) docs)
+  pub vector_counts : (docs : List (ℕ × ℤ)) → MakesWithin old new (vector_most 1 (2 * levels m root + 1)) → MakesWithin old new (list_change_most true true (list_levels m word) docs)
   vector_counts docs made = subst (λ h. MakesWithin old new (vector_most 1 (2 * h + 1))) (sym (vector_levels m word root is)) made
 
   -- a tree of the same documents

@@ -43,12 +43,12 @@ list_most levels count width =
 
 -- for any list that then has these documents: whether it was a bit vector, and whether it is one now. A bit vector gets
 -- one block and nodes; a change of form makes besides at most one record for each block, and one tree
-abbrev pub change_most : Bool → Bool → ℕ → List (ℕ × ℤ) → ℕ → ℕ
-change_most false false levels docs width = list_most levels (length docs) width
-change_most true true levels docs width = vector_most 1 (2 * levels + 1) width
-change_most false true levels docs width =
+abbrev pub list_change_most : Bool → Bool → ℕ → List (ℕ × ℤ) → ℕ → ℕ
+list_change_most false false levels docs width = list_most levels (length docs) width
+list_change_most true true levels docs width = vector_most 1 (2 * levels + 1) width
+list_change_most false true levels docs width =
     vector_most (count_blocks (keys_of docs)) (2 * levels + 1 + nodes_of (count_blocks (keys_of docs))) width
-change_most true false levels docs width =
+list_change_most true false levels docs width =
     if nat_le (length docs) MOST_SHORT then list_most levels (length docs) width
     else vector_most 1 (2 * levels + 1 + nodes_of (length docs)) width
 
@@ -84,6 +84,6 @@ IsFormWidth true true width = ⊥
 
 -- a width for which the change of a list may be refused, by the documents that it has then; whether it was or is a bit
 -- vector
-abbrev pub IsChangedWidth : Bool → ℕ → ℕ → Type 0
-IsChangedWidth false count width = IsListWidth count width
-IsChangedWidth true count width = IsListWidth count width ⊎ IsLongWidth count width
+abbrev pub IsListChangeWidth : Bool → ℕ → ℕ → Type 0
+IsListChangeWidth false count width = IsListWidth count width
+IsListChangeWidth true count width = IsListWidth count width ⊎ IsLongWidth count width

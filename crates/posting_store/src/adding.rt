@@ -7,7 +7,8 @@ ghost use Rattle.store_api.specs.Units.{MayDo};
 ghost use Rattle.attr_images.specs.Postings.{is_dense};
 ghost use Rattle.bit_vector.specs.Changes.{MakesWithin};
 ghost use Rattle.posting_store.specs.Lists.{list_at, list_levels, is_vector, AreOnes, IsList, IsPlain};
-ghost use Rattle.posting_store.specs.Changes.{list_part, list_most, change_most, IsListWidth, IsChangedWidth, MakesByRule, MakesList};
+ghost use Rattle.posting_store.specs.Changes.{list_part, list_most, list_change_most, IsListWidth, IsListChangeWidth};
+ghost use Rattle.posting_store.specs.Changes.{MakesByRule, MakesList};
 
 use crate::forming::by_rule;
 use crate::items::{items_of, number_law, put_item};
@@ -112,10 +113,11 @@ fn add_to_vector<const OFFSET_BITS: u32, S: Store<OFFSET_BITS>>(
     requires owns { Owns (S.ledger store.old) (S.records store.old) (list_part list ∷ []) }
     ensures makes { IfOk result (MakesList (S.ledger store.old) (S.ledger store.new) (S.records store.old) (S.records store.new)
         list (insert_entry nat_cmp (list_at (S.records store.old) list) doc (pos 1)) true) }
-    ensures counts { MakesWithin (S.ledger store.old) (S.ledger store.new) (change_most true true (list_levels (S.records store.old) list)
+    ensures counts { MakesWithin (S.ledger store.old) (S.ledger store.new)
+        (list_change_most true true (list_levels (S.records store.old) list)
         (insert_entry nat_cmp (list_at (S.records store.old) list) doc (pos 1))) }
     ensures refuses { IfErr result (RefusesOf
-        (IsChangedWidth true (length (insert_entry nat_cmp (list_at (S.records store.old) list) doc (pos 1))))
+        (IsListChangeWidth true (length (insert_entry nat_cmp (list_at (S.records store.old) list) doc (pos 1))))
         (S.ledger store.old) (S.ledger store.new)) }
     ensures may { MayDo (S.ledger store.old) (S.ledger store.new) }
 {
@@ -140,10 +142,10 @@ fn add_in_form<const OFFSET_BITS: u32, S: Store<OFFSET_BITS>>(
     ensures makes { IfOk result (MakesList (S.ledger store.old) (S.ledger store.new) (S.records store.old) (S.records store.new)
         list (insert_entry nat_cmp (list_at (S.records store.old) list) doc weight) (is_vector list)) }
     ensures counts { MakesWithin (S.ledger store.old) (S.ledger store.new)
-        (change_most (is_vector list) (is_vector list) (list_levels (S.records store.old) list)
+        (list_change_most (is_vector list) (is_vector list) (list_levels (S.records store.old) list)
         (insert_entry nat_cmp (list_at (S.records store.old) list) doc weight)) }
     ensures refuses { IfErr result (RefusesOf
-        (IsChangedWidth (is_vector list) (length (insert_entry nat_cmp (list_at (S.records store.old) list) doc weight)))
+        (IsListChangeWidth (is_vector list) (length (insert_entry nat_cmp (list_at (S.records store.old) list) doc weight)))
         (S.ledger store.old) (S.ledger store.new)) }
     ensures may { MayDo (S.ledger store.old) (S.ledger store.new) }
 {
@@ -172,10 +174,10 @@ pub fn add<const OFFSET_BITS: u32, S: Store<OFFSET_BITS>>(
     requires owns { Owns (S.ledger store.old) (S.records store.old) (list_part list ∷ []) }
     ensures makes { IfOk result (MakesByRule dense documents (S.ledger store.old) (S.ledger store.new) (S.records store.old)
         (S.records store.new) list (insert_entry nat_cmp (list_at (S.records store.old) list) doc weight)) }
-    ensures counts { MakesWithin (S.ledger store.old) (S.ledger store.new) (change_most (is_vector list)
+    ensures counts { MakesWithin (S.ledger store.old) (S.ledger store.new) (list_change_most (is_vector list)
         (is_dense dense (length (insert_entry nat_cmp (list_at (S.records store.old) list) doc weight)) documents)
         (list_levels (S.records store.old) list) (insert_entry nat_cmp (list_at (S.records store.old) list) doc weight)) }
-    ensures refuses { IfErr result (RefusesOf (IsChangedWidth (is_vector list
+    ensures refuses { IfErr result (RefusesOf (IsListChangeWidth (is_vector list
         || is_dense dense (length (insert_entry nat_cmp (list_at (S.records store.old) list) doc weight)) documents)
         (length (insert_entry nat_cmp (list_at (S.records store.old) list) doc weight))) (S.ledger store.old) (S.ledger store.new)) }
     ensures may { MayDo (S.ledger store.old) (S.ledger store.new) }

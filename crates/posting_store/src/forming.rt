@@ -58,9 +58,9 @@ fn vector_to_tree<const OFFSET_BITS: u32, S: Store<OFFSET_BITS>>(
 {
     let vector = root_of(store, list);
     let root = to_tree(alloc, store, vector)?;
-    let next = Posting::tree(root);
+    let made = Posting::tree(root);
     drop_list(store, list);
-    Ok(next)
+    Ok(made)
 }
 
 /// Returns the list as a bit vector.

@@ -8,7 +8,8 @@ ghost use Rattle.store_api.specs.Units.{MayDo};
 ghost use Rattle.attr_images.specs.Postings.{is_dense};
 ghost use Rattle.bit_vector.specs.Changes.{MakesWithin};
 ghost use Rattle.posting_store.specs.Lists.{list_at, list_levels, is_vector, AreOnes, IsList, IsPlain};
-ghost use Rattle.posting_store.specs.Changes.{list_part, list_most, change_most, IsListWidth, IsChangedWidth, MakesByRule, MakesList};
+ghost use Rattle.posting_store.specs.Changes.{list_part, list_most, list_change_most, IsListWidth, IsListChangeWidth};
+ghost use Rattle.posting_store.specs.Changes.{MakesByRule, MakesList};
 
 use crate::cursor::count;
 use crate::forming::by_rule;
@@ -60,10 +61,11 @@ fn remove_from_vector<const OFFSET_BITS: u32, S: Store<OFFSET_BITS>>(
     requires owns { Owns (S.ledger store.old) (S.records store.old) (list_part list ∷ []) }
     ensures makes { IfOk result (MakesList (S.ledger store.old) (S.ledger store.new) (S.records store.old) (S.records store.new)
         list (remove_entry (is_at (nat_cmp doc)) (list_at (S.records store.old) list)) true) }
-    ensures counts { MakesWithin (S.ledger store.old) (S.ledger store.new) (change_most true true (list_levels (S.records store.old) list)
+    ensures counts { MakesWithin (S.ledger store.old) (S.ledger store.new)
+        (list_change_most true true (list_levels (S.records store.old) list)
         (remove_entry (is_at (nat_cmp doc)) (list_at (S.records store.old) list))) }
     ensures refuses { IfErr result (RefusesOf
-        (IsChangedWidth true (length (remove_entry (is_at (nat_cmp doc)) (list_at (S.records store.old) list))))
+        (IsListChangeWidth true (length (remove_entry (is_at (nat_cmp doc)) (list_at (S.records store.old) list))))
         (S.ledger store.old) (S.ledger store.new)) }
     ensures may { MayDo (S.ledger store.old) (S.ledger store.new) }
 {
@@ -86,10 +88,10 @@ fn remove_in_form<const OFFSET_BITS: u32, S: Store<OFFSET_BITS>>(
     ensures makes { IfOk result (MakesList (S.ledger store.old) (S.ledger store.new) (S.records store.old) (S.records store.new)
         list (remove_entry (is_at (nat_cmp doc)) (list_at (S.records store.old) list)) (is_vector list)) }
     ensures counts { MakesWithin (S.ledger store.old) (S.ledger store.new)
-        (change_most (is_vector list) (is_vector list) (list_levels (S.records store.old) list)
+        (list_change_most (is_vector list) (is_vector list) (list_levels (S.records store.old) list)
         (remove_entry (is_at (nat_cmp doc)) (list_at (S.records store.old) list))) }
     ensures refuses { IfErr result (RefusesOf
-        (IsChangedWidth (is_vector list) (length (remove_entry (is_at (nat_cmp doc)) (list_at (S.records store.old) list))))
+        (IsListChangeWidth (is_vector list) (length (remove_entry (is_at (nat_cmp doc)) (list_at (S.records store.old) list))))
         (S.ledger store.old) (S.ledger store.new)) }
     ensures may { MayDo (S.ledger store.old) (S.ledger store.new) }
 {
@@ -118,10 +120,10 @@ fn remove_from_long<const OFFSET_BITS: u32, S: Store<OFFSET_BITS>>(
     requires owns { Owns (S.ledger store.old) (S.records store.old) (list_part list ∷ []) }
     ensures makes { IfOk result (MakesByRule dense documents (S.ledger store.old) (S.ledger store.new) (S.records store.old)
         (S.records store.new) list (remove_entry (is_at (nat_cmp doc)) (list_at (S.records store.old) list))) }
-    ensures counts { MakesWithin (S.ledger store.old) (S.ledger store.new) (change_most (is_vector list)
+    ensures counts { MakesWithin (S.ledger store.old) (S.ledger store.new) (list_change_most (is_vector list)
         (is_dense dense (length (remove_entry (is_at (nat_cmp doc)) (list_at (S.records store.old) list))) documents)
         (list_levels (S.records store.old) list) (remove_entry (is_at (nat_cmp doc)) (list_at (S.records store.old) list))) }
-    ensures refuses { IfErr result (RefusesOf (IsChangedWidth (is_vector list
+    ensures refuses { IfErr result (RefusesOf (IsListChangeWidth (is_vector list
         || is_dense dense (length (remove_entry (is_at (nat_cmp doc)) (list_at (S.records store.old) list))) documents)
         (length (remove_entry (is_at (nat_cmp doc)) (list_at (S.records store.old) list)))) (S.ledger store.old) (S.ledger store.new)) }
     ensures may { MayDo (S.ledger store.old) (S.ledger store.new) }
@@ -172,10 +174,10 @@ pub fn remove<const OFFSET_BITS: u32, S: Store<OFFSET_BITS>>(
     requires owns { Owns (S.ledger store.old) (S.records store.old) (list_part list ∷ []) }
     ensures makes { IfOk result (MakesByRule dense documents (S.ledger store.old) (S.ledger store.new) (S.records store.old)
         (S.records store.new) list (remove_entry (is_at (nat_cmp doc)) (list_at (S.records store.old) list))) }
-    ensures counts { MakesWithin (S.ledger store.old) (S.ledger store.new) (change_most (is_vector list)
+    ensures counts { MakesWithin (S.ledger store.old) (S.ledger store.new) (list_change_most (is_vector list)
         (is_dense dense (length (remove_entry (is_at (nat_cmp doc)) (list_at (S.records store.old) list))) documents)
         (list_levels (S.records store.old) list) (remove_entry (is_at (nat_cmp doc)) (list_at (S.records store.old) list))) }
-    ensures refuses { IfErr result (RefusesOf (IsChangedWidth (is_vector list
+    ensures refuses { IfErr result (RefusesOf (IsListChangeWidth (is_vector list
         || is_dense dense (length (remove_entry (is_at (nat_cmp doc)) (list_at (S.records store.old) list))) documents)
         (length (remove_entry (is_at (nat_cmp doc)) (list_at (S.records store.old) list)))) (S.ledger store.old) (S.ledger store.new)) }
     ensures may { MayDo (S.ledger store.old) (S.ledger store.new) }

@@ -11,6 +11,7 @@ use store_api::Store;
 
 /// Returns what the list of these documents is in a new store, and how many records of width 16 were made.
 fn made_in<const OFFSET_BITS: u32, W: Work<OFFSET_BITS>>(
+    alloc: Global,
     store: &mut EntryStore<OFFSET_BITS, W>,
     first: u32,
     last: u32,
@@ -21,7 +22,7 @@ fn made_in<const OFFSET_BITS: u32, W: Work<OFFSET_BITS>>(
     requires first { 1 ≤ first }
     requires last { last ≤ 1000 }
 {
-    let form = form_of(store, first, last, weight, again)?;
+    let form = form_of(alloc, store, first, last, weight, again)?;
     Ok((form, store.made(16)))
 }
 
@@ -37,7 +38,7 @@ fn made(
     requires last { last ≤ 1000 }
 {
     let mut store = new_store(alloc)?;
-    made_in::<22, _>(&mut store, first, last, weight, again)
+    made_in::<22, _>(alloc, &mut store, first, last, weight, again)
 }
 
 /// Returns whether the list of these documents is as expected; with `again`, the list after one more document was

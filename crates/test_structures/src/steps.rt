@@ -12,6 +12,7 @@ use store_api::Store;
 
 /// Adds a document.
 fn put<const OFFSET_BITS: u32, S: Store<OFFSET_BITS>>(
+    alloc: Global,
     store: &mut S,
     list: Posting,
     doc: Doc,
@@ -20,7 +21,7 @@ fn put<const OFFSET_BITS: u32, S: Store<OFFSET_BITS>>(
     requires { HoldsList (S.ledger store.old) (S.records store.old) list }
     ensures { IfOk result (HoldsList (S.ledger store.new) (S.records store.new)) }
 {
-    match add(store, list, doc, weight, false, 1000) {
+    match add(alloc, store, list, doc, weight, false, 1000) {
         Ok(next) => Ok(next),
         Err(_) => Err(AllocError),
     }
@@ -28,6 +29,7 @@ fn put<const OFFSET_BITS: u32, S: Store<OFFSET_BITS>>(
 
 /// Adds a document and removes it.
 fn put_and_take<const OFFSET_BITS: u32, S: Store<OFFSET_BITS>>(
+    alloc: Global,
     store: &mut S,
     list: Posting,
     doc: Doc,
@@ -36,10 +38,10 @@ fn put_and_take<const OFFSET_BITS: u32, S: Store<OFFSET_BITS>>(
     requires { HoldsList (S.ledger store.old) (S.records store.old) list }
     ensures { IfOk result (HoldsList (S.ledger store.new) (S.records store.new)) }
 {
-    let Ok(more) = add(store, list, doc, weight, false, 1000) else {
+    let Ok(more) = add(alloc, store, list, doc, weight, false, 1000) else {
         return Err(AllocError);
     };
-    match remove(store, more, doc, false, 1000) {
+    match remove(alloc, store, more, doc, false, 1000) {
         Ok(next) => Ok(next),
         Err(_) => Err(AllocError),
     }
@@ -47,6 +49,7 @@ fn put_and_take<const OFFSET_BITS: u32, S: Store<OFFSET_BITS>>(
 
 /// Makes the list of the documents from one to another, each with this weight.
 fn listed<const OFFSET_BITS: u32, S: Store<OFFSET_BITS>>(
+    alloc: Global,
     store: &mut S,
     first: u32,
     last: u32,
@@ -60,7 +63,7 @@ fn listed<const OFFSET_BITS: u32, S: Store<OFFSET_BITS>>(
     list_law();
     let mut list = Posting::EMPTY;
     for number in first..last + 1 {
-        list = put(store, list, Doc::new(number), weight)?;
+        list = put(alloc, store, list, Doc::new(number), weight)?;
     }
     Ok(list)
 }
@@ -104,6 +107,7 @@ fn walked<const OFFSET_BITS: u32, F: Frozen<OFFSET_BITS>>(
 /// Returns what the list of the documents from one to another is in a new store, as `words_of` describes it; with
 /// `again`, the list after one more document was added and removed.
 pub fn form_of<const OFFSET_BITS: u32, S: Store<OFFSET_BITS>>(
+    alloc: Global,
     store: &mut S,
     first: u32,
     last: u32,
@@ -115,11 +119,11 @@ pub fn form_of<const OFFSET_BITS: u32, S: Store<OFFSET_BITS>>(
     requires last { last ≤ 1000 }
 {
     store.begin();
-    let list = listed(store, first, last, weight)?;
+    let list = listed(alloc, store, first, last, weight)?;
     if !again {
         return Ok(words_of(store, list));
     }
-    let list = put_and_take(store, list, Doc::new(last + 1), weight)?;
+    let list = put_and_take(alloc, store, list, Doc::new(last + 1), weight)?;
     Ok(words_of(store, list))
 }
 
@@ -136,6 +140,6 @@ pub fn walk_of<const OFFSET_BITS: u32, S: Store<OFFSET_BITS>>(
     requires last { last ≤ 1000 }
 {
     store.begin();
-    let list = listed(store, first, last, weight)?;
+    let list = listed(alloc, store, first, last, weight)?;
     walked(alloc, store, list)
 }

@@ -18,7 +18,7 @@ use Rattle.attr_images.specs.Words.{class_of}
 use Rattle.attr_types.specs.declared.value.Value.{Value}
 use Rattle.enum_dictionary.specs.Dictionaries.{beside_value}
 use Rattle.attr_images.specs.Postings.{is_dense}
-use Rattle.posting_store.specs.Changes.{change_most as list_change_most, MakesWithin}
+use Rattle.posting_store.specs.Changes.{list_change_most, MakesWithin}
 use Rattle.posting_store.specs.Lists.{is_vector, list_levels}
 use Rattle.value_index.specs.Flows.{list_word}
 use Rattle.value_index.proofs.FormLemmas.{word_found, word_none}

@@ -13,7 +13,7 @@ use Rattle.attr_images.specs.declared.TheConstants.{BLOCK_DOCUMENTS, LEAST_DENSE
 use Rattle.bit_vector.specs.Changes.{vector_most}
 use Rattle.bit_vector.specs.Vectors.{count_blocks, is_block_of}
 use Rattle.bit_vector.specs.declared.TheConstants.{MOST_BLOCKS}
-use Rattle.posting_store.specs.Changes.{change_most as list_change_most, list_most}
+use Rattle.posting_store.specs.Changes.{list_change_most, list_most}
 use Rattle.value_index.specs.Counts.{form_records}
 use Rattle.value_index.proofs.FormLemmas.{dense_long, dense_wanted}
 

@@ -26,7 +26,7 @@ use Rattle.attr_types.specs.Value.{type_of, value_cmp}
 use Rattle.attr_types.specs.declared.value.Value.{Value}
 use Rattle.enum_dictionary.specs.Dictionaries.{beside_value, entry_of, MakesDictionary}
 use Rattle.enum_dictionary.specs.declared.finding.DictEntry.{DictEntry}
-use Rattle.posting_store.specs.Changes.{list_part, IsChangedWidth, IsListWidth, MakesList}
+use Rattle.posting_store.specs.Changes.{list_part, IsListChangeWidth, IsListWidth, MakesList}
 use Rattle.posting_store.specs.Lists.{list_at, is_vector, IsList, IsPlain}
 use Rattle.posting_store.proofs.FormLemmas.{at_form}
 use Rattle.posting_store.proofs.ListLemmas.{list_filled}
@@ -51,7 +51,7 @@ plain_change dense value count width is = inr (record { some = is.some; one = in
     told false long = omega arith
 
 -- whether it was or is a bit vector: then bit vectors are wanted
-pub list_change : (dense vector : Bool) (value : Value) (count width : ℕ) → (vector ≡ true → dense ≡ true) → IsChangedWidth vector count width
+pub list_change : (dense vector : Bool) (value : Value) (count width : ℕ) → (vector ≡ true → dense ≡ true) → IsListChangeWidth vector count width
     → IsChangeWidth dense value count width
 list_change dense false value count width wanted is = plain_change dense value count width is
 list_change dense true value count width wanted (inl is) = plain_change dense value count width is

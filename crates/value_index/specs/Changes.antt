@@ -13,7 +13,7 @@ use Rattle.attr_images.specs.declared.TheConstants.{BLOCK_WORDS, MOST_SHORT}
 use Rattle.attr_index.specs.Index.{Index, list_of}
 use Rattle.attr_types.specs.declared.kind.ValueType.{ValueType}
 use Rattle.attr_types.specs.declared.value.Value.{Value}
-use Rattle.posting_store.specs.Changes.{change_most as list_change_most, list_width}
+use Rattle.posting_store.specs.Changes.{list_change_most, list_width}
 use Rattle.posting_store.specs.Lists.{is_vector, list_levels}
 use Rattle.value_index.specs.Flows.{list_word, FlowsIndex}
 use Rattle.value_index.specs.Indexes.{index_part, key_at, IsIndex, IsKey}

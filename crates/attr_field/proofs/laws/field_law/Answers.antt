@@ -18,3 +18,9 @@ returns-clause-keys c = field_owns_keys c.key_law.ensures.read
 
 pub returns-clause-own : goal.returns-clause-own
 returns-clause-own c = field_reaches_own c.documents_law.ensures.reaches c.key_law.ensures.read
+
+pub returns-clause-plain : goal.returns-clause-plain
+returns-clause-plain c = c.index_law.ensures.plain
+
+pub returns-clause-form : goal.returns-clause-form
+returns-clause-form c = c.index_law.ensures.form

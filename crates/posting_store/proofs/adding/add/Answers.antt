@@ -9,7 +9,7 @@ use Rattle.bit_vector.specs.Changes.{MakesWithin}
 use Rattle.store_api.specs.Calls.{RefusesOf}
 use Rattle.store_api.proofs.May.{may_do-same, may_do-then}
 use Rattle.posting_store.specs.Lists.{list_at, list_levels, is_vector, AreOnes}
-use Rattle.posting_store.specs.Changes.{change_most, IsChangedWidth, MakesList}
+use Rattle.posting_store.specs.Changes.{list_change_most, IsListChangeWidth, MakesList}
 use Rattle.posting_store.proofs.LeafLemmas.{length_in_least}
 use Rattle.posting_store.proofs.PairLemmas.{ones_in}
 use Rattle.posting_store.proofs.RuleLemmas.{dense_many, first_counts, first_refuses, one_weight, rule_counts, rule_makes, rule_plain, rule_refuses}
@@ -65,7 +65,7 @@ returns-in_err-next-clause-counts g c =
     let docs = insert_entry nat_cmp es c.args.doc c.args.weight in
     let was = is_vector c.args.list in
     let again = to_z-of_z w32 c.args.weight c.ranges.weight in
-    let made = subst (λ (w : ℤ). MakesWithin (ledger s) (ledger t) (change_most was was (list_levels (records s) c.args.list) (insert_entry nat_cmp es c.args.doc w))) again c.add_in_form.ensures.counts in
+    let made = subst (λ (w : ℤ). MakesWithin (ledger s) (ledger t) (list_change_most was was (list_levels (records s) c.args.list) (insert_entry nat_cmp es c.args.doc w))) again c.add_in_form.ensures.counts in
     first_counts (ledger s) (ledger t) was (is_dense c.args.dense (length docs) c.args.documents) (list_levels (records s) c.args.list) docs
     (λ is. let least = length_in_least c.args.doc c.args.weight es in let many = vector_many (records s) c.args.list is c.requires.list in omega (arith, least, many))
     (dense_many c.args.dense (length docs) c.args.documents) made
@@ -82,7 +82,7 @@ returns-in_err-next-clause-refuses g c =
     let again = to_z-of_z w32 c.args.weight c.ranges.weight in
     let p = err_from_is_err_and c.from_residual.result c.from_residual.ensures.1 in
     rw (p.1, p.2) (first_refuses (ledger s) (ledger t) was (is_dense c.args.dense (length docs) c.args.documents) (length docs) _ (may_do-same (ledger s))
-    (subst (λ (w : ℤ). RefusesOf (IsChangedWidth was (length (insert_entry nat_cmp es c.args.doc w))) (ledger s) (ledger t) _) again c.in_err-next.ensures.refuses))
+    (subst (λ (w : ℤ). RefusesOf (IsListChangeWidth was (length (insert_entry nat_cmp es c.args.doc w))) (ledger s) (ledger t) _) again c.in_err-next.ensures.refuses))
 
 pub returns-clause-makes : goal.returns-clause-makes
 returns-clause-makes g c =
@@ -110,8 +110,9 @@ returns-clause-counts g c =
     let again = to_z-of_z w32 c.args.weight c.ranges.weight in
     let u = c.by_rule.new.store in
     let makes = subst (λ (w : ℤ). MakesList (ledger s) (ledger t) (records s) (records t) c.args.list (insert_entry nat_cmp es c.args.doc w) was c.in_ok-next.next) again c.in_ok-next.ensures.makes in
-    let made = subst (λ (w : ℤ). MakesWithin (ledger s) (ledger t) (change_most was was (list_levels (records s) c.args.list) (insert_entry nat_cmp es c.args.doc w))) again c.add_in_form.ensures.counts in
-    rule_counts (ledger s) (ledger t) (ledger u) (records s) (records t) (records u) c.args.list c.in_ok-next.next docs was makes c.args.dense c.args.documents (list_levels (records s) c.args.list) c.add_in_form.ensures.may made c.by_rule.ensures.counts
+    let made = subst (λ (w : ℤ). MakesWithin (ledger s) (ledger t) (list_change_most was was (list_levels (records s) c.args.list) (insert_entry nat_cmp es c.args.doc w))) again c.add_in_form.ensures.counts in
+    rule_counts (ledger s) (ledger t) (ledger u) (records s) (records t) (records u) c.args.list c.in_ok-next.next docs was makes c.args.dense c.args.documents (list_levels (records s) c.args.list)
+    c.add_in_form.ensures.may made c.by_rule.ensures.counts
 
 pub returns-clause-refuses : goal.returns-clause-refuses
 returns-clause-refuses g c =
@@ -125,7 +126,8 @@ returns-clause-refuses g c =
     let again = to_z-of_z w32 c.args.weight c.ranges.weight in
     let u = c.by_rule.new.store in
     let makes = subst (λ (w : ℤ). MakesList (ledger s) (ledger t) (records s) (records t) c.args.list (insert_entry nat_cmp es c.args.doc w) was c.in_ok-next.next) again c.in_ok-next.ensures.makes in
-    rule_refuses (ledger s) (ledger t) (ledger u) (records s) (records t) (records u) c.args.list c.in_ok-next.next docs was makes c.by_rule.result c.args.dense c.args.documents c.add_in_form.ensures.may c.by_rule.ensures.refuses
+    rule_refuses (ledger s) (ledger t) (ledger u) (records s) (records t) (records u) c.args.list c.in_ok-next.next docs was makes c.by_rule.result c.args.dense c.args.documents
+    c.add_in_form.ensures.may c.by_rule.ensures.refuses
 
 pub returns-clause-may : goal.returns-clause-may
 returns-clause-may g c = may_do-then _ _ _ c.add_in_form.ensures.may c.by_rule.ensures.may

@@ -11,7 +11,7 @@ use Rattle.store_api.proofs.May.{may_do-same, may_do-then}
 use Rattle.attr_types.specs.Lawful.{IsDocNumber}
 use Rattle.posting_store.specs.Lists.{list_at}
 use Rattle.bit_vector.specs.Changes.{IsVectorWidth}
-use Rattle.posting_store.specs.Changes.{IsChangedWidth}
+use Rattle.posting_store.specs.Changes.{IsListChangeWidth}
 use Rattle.posting_store.proofs.RefusalLemmas.{of_more}
 use Rattle.posting_store.proofs.RuleLemmas.{changed_vector}
 use Rattle.posting_store.proofs.VectorLemmas.{vector_added, vector_counts, vector_is, vector_more, vector_owned}
@@ -61,7 +61,8 @@ returns-in_err-root-clause-refuses g c =
     let number : IsDocNumber c.args.doc = (c.number_law.ensures.first, c.number_law.ensures.last) in
     let p = err_from_is_err_and c.from_residual.result c.from_residual.ensures.1 in
     let many = vector_more (ledger s) (ledger t) (records s) (records t) c.args.list root is c.requires.list c.args.doc number in
-    rw (p.1, p.2) (of_more IsVectorWidth (IsChangedWidth true (length docs)) (ledger s) (ledger s) (ledger t) _ (may_do-same (ledger s)) (λ w one. changed_vector (length docs) w many one) c.in_err-root.ensures.refuses)
+    rw (p.1, p.2) (of_more IsVectorWidth (IsListChangeWidth true (length docs)) (ledger s) (ledger s) (ledger t) _ (may_do-same (ledger s)) (λ w one. changed_vector (length docs) w many one)
+    c.in_err-root.ensures.refuses)
 
 pub returns-clause-makes : goal.returns-clause-makes
 returns-clause-makes g c =
@@ -73,4 +74,5 @@ returns-clause-makes g c =
     let root = c.root_of-vector.result in
     let is = c.root_of-vector.ensures in
     let number : IsDocNumber c.args.doc = (c.number_law.ensures.first, c.number_law.ensures.last) in
-    vector_added (ledger s) (ledger t) (records s) (records t) c.args.list root is c.requires.list c.args.doc number c.vector.result c.in_ok-root.root c.vector.ensures.word c.vector.ensures.vector c.in_ok-root.ensures.makes
+    vector_added (ledger s) (ledger t) (records s) (records t) c.args.list root is c.requires.list c.args.doc number c.vector.result c.in_ok-root.root c.vector.ensures.word c.vector.ensures.vector
+    c.in_ok-root.ensures.makes

@@ -19,9 +19,9 @@ drop_list-requires-clause-list g c =
     let b = g.S.Store.ledger c.to_tree.new.store in
     let m = g.S.Frozen.records c.args.store.now in
     let n = g.S.Frozen.records c.to_tree.new.store in
-    let makes = vector_as_tree a b m n c.args.list c.root_of-vector.result c.root_of-vector.ensures c.requires.list c.tree-next.result c.in_ok-root.root c.tree-next.ensures.word c.tree-next.ensures.plain
+    let makes = vector_as_tree a b m n c.args.list c.root_of-vector.result c.root_of-vector.ensures c.requires.list c.tree-made.result c.in_ok-root.root c.tree-made.ensures.word c.tree-made.ensures.plain
     c.in_ok-root.ensures.makes in
-    old_stays a b b m n n c.args.list c.tree-next.result (list_at m c.args.list) c.requires.owns makes c.requires.list
+    old_stays a b b m n n c.args.list c.tree-made.result (list_at m c.args.list) c.requires.owns makes c.requires.list
 
 pub drop_list-requires-clause-owns : goal.drop_list-requires-clause-owns
 drop_list-requires-clause-owns g c =
@@ -29,9 +29,9 @@ drop_list-requires-clause-owns g c =
     let b = g.S.Store.ledger c.to_tree.new.store in
     let m = g.S.Frozen.records c.args.store.now in
     let n = g.S.Frozen.records c.to_tree.new.store in
-    let makes = vector_as_tree a b m n c.args.list c.root_of-vector.result c.root_of-vector.ensures c.requires.list c.tree-next.result c.in_ok-root.root c.tree-next.ensures.word c.tree-next.ensures.plain
+    let makes = vector_as_tree a b m n c.args.list c.root_of-vector.result c.root_of-vector.ensures c.requires.list c.tree-made.result c.in_ok-root.root c.tree-made.ensures.word c.tree-made.ensures.plain
     c.in_ok-root.ensures.makes in
-    old_owned a b b m n n c.args.list c.tree-next.result (list_at m c.args.list) c.requires.owns makes
+    old_owned a b b m n n c.args.list c.tree-made.result (list_at m c.args.list) c.requires.owns makes
 
 pub returns-in_err-root-clause-counts : goal.returns-in_err-root-clause-counts
 returns-in_err-root-clause-counts g c =
@@ -55,9 +55,9 @@ returns-clause-makes g c =
     let m = g.S.Frozen.records c.args.store.now in
     let n = g.S.Frozen.records c.to_tree.new.store in
     let o = g.S.Frozen.records c.drop_list.new.store in
-    let makes = vector_as_tree a b m n c.args.list c.root_of-vector.result c.root_of-vector.ensures c.requires.list c.tree-next.result c.in_ok-root.root c.tree-next.ensures.word c.tree-next.ensures.plain
+    let makes = vector_as_tree a b m n c.args.list c.root_of-vector.result c.root_of-vector.ensures c.requires.list c.tree-made.result c.in_ok-root.root c.tree-made.ensures.word c.tree-made.ensures.plain
     c.in_ok-root.ensures.makes in
-    replaces a b u m n o c.args.list c.tree-next.result (list_at m c.args.list) c.requires.owns makes c.drop_list.ensures.turns
+    replaces a b u m n o c.args.list c.tree-made.result (list_at m c.args.list) c.requires.owns makes c.drop_list.ensures.turns
 
 pub returns-clause-counts : goal.returns-clause-counts
 returns-clause-counts g c =

@@ -11,7 +11,7 @@ use Rattle.store_api.specs.Parts.{Owns}
 use Rattle.store_api.specs.Units.{MayDo}
 use Rattle.store_api.proofs.May.{may_do-same, may_do-then}
 use Rattle.posting_store.specs.Lists.{list_at, list_levels, is_vector, AreOnes, IsList}
-use Rattle.posting_store.specs.Changes.{list_part, list_most, change_most, IsListWidth, IsChangedWidth, MakesByRule, MakesList}
+use Rattle.posting_store.specs.Changes.{list_part, list_most, list_change_most, IsListWidth, IsListChangeWidth, MakesByRule, MakesList}
 use Rattle.posting_store.proofs.PairLemmas.{length_out_some}
 use Rattle.posting_store.proofs.RefusalLemmas.{if_more}
 use Rattle.posting_store.proofs.RuleLemmas.{changed_list, short_counts, short_sparse}
@@ -39,7 +39,8 @@ returns-then-count-gt9-clause-makes g c =
     let s = c.args.store.now in
     let t = c.remove_from_long.new.store in
     let docs = remove_entry (is_at (nat_cmp c.args.doc)) (list_at (records s) c.args.list) in
-    subst (λ s. IfOk c.remove_from_long.result (MakesByRule c.args.dense c.args.documents (ledger s) (ledger t) (records s) (records t) c.args.list (remove_entry (is_at (nat_cmp c.args.doc)) (list_at (records s) c.args.list)))) c.count.ensures.same c.remove_from_long.ensures.makes
+    subst (λ s. IfOk c.remove_from_long.result (MakesByRule c.args.dense c.args.documents (ledger s) (ledger t) (records s) (records t) c.args.list (remove_entry (is_at (nat_cmp c.args.doc)) (list_at
+    (records s) c.args.list)))) c.count.ensures.same c.remove_from_long.ensures.makes
 
 pub returns-then-count-gt9-clause-counts : goal.returns-then-count-gt9-clause-counts
 returns-then-count-gt9-clause-counts g c =
@@ -48,7 +49,9 @@ returns-then-count-gt9-clause-counts g c =
     let s = c.args.store.now in
     let t = c.remove_from_long.new.store in
     let docs = remove_entry (is_at (nat_cmp c.args.doc)) (list_at (records s) c.args.list) in
-    subst (λ s. MakesWithin (ledger s) (ledger t) (change_most (is_vector c.args.list) (is_dense c.args.dense (length (remove_entry (is_at (nat_cmp c.args.doc)) (list_at (records s) c.args.list))) c.args.documents) (list_levels (records s) c.args.list) (remove_entry (is_at (nat_cmp c.args.doc)) (list_at (records s) c.args.list)))) c.count.ensures.same c.remove_from_long.ensures.counts
+    subst (λ s. MakesWithin (ledger s) (ledger t) (list_change_most (is_vector c.args.list) (is_dense c.args.dense (length (remove_entry (is_at (nat_cmp c.args.doc)) (list_at (records s)
+    c.args.list))) c.args.documents) (list_levels (records s) c.args.list) (remove_entry (is_at (nat_cmp c.args.doc)) (list_at (records s) c.args.list)))) c.count.ensures.same
+    c.remove_from_long.ensures.counts
 
 pub returns-then-count-gt9-clause-refuses : goal.returns-then-count-gt9-clause-refuses
 returns-then-count-gt9-clause-refuses g c =
@@ -57,7 +60,9 @@ returns-then-count-gt9-clause-refuses g c =
     let s = c.args.store.now in
     let t = c.remove_from_long.new.store in
     let docs = remove_entry (is_at (nat_cmp c.args.doc)) (list_at (records s) c.args.list) in
-    subst (λ s. IfErr c.remove_from_long.result (RefusesOf (IsChangedWidth (is_vector c.args.list || is_dense c.args.dense (length (remove_entry (is_at (nat_cmp c.args.doc)) (list_at (records s) c.args.list))) c.args.documents) (length (remove_entry (is_at (nat_cmp c.args.doc)) (list_at (records s) c.args.list)))) (ledger s) (ledger t))) c.count.ensures.same c.remove_from_long.ensures.refuses
+    subst (λ s. IfErr c.remove_from_long.result (RefusesOf (IsListChangeWidth (is_vector c.args.list || is_dense c.args.dense (length (remove_entry (is_at (nat_cmp c.args.doc)) (list_at (records s)
+    c.args.list))) c.args.documents) (length (remove_entry (is_at (nat_cmp c.args.doc)) (list_at (records s) c.args.list)))) (ledger s) (ledger t))) c.count.ensures.same
+    c.remove_from_long.ensures.refuses
 
 pub returns-then-count-gt9-clause-may : goal.returns-then-count-gt9-clause-may
 returns-then-count-gt9-clause-may g c =
@@ -77,7 +82,8 @@ returns-else-count-gt9-clause-makes g c =
     let docs = remove_entry (is_at (nat_cmp c.args.doc)) (list_at (records s) c.args.list) in
     let few : length docs ≤ 8 = let less = length_out_some (is_at (nat_cmp c.args.doc)) (list_at (records s) c.args.list) c.requires.there in omega arith in
     subst (λ d. IfOk c.remove_from_short.result (MakesList (ledger s) (ledger t) (records s) (records t) c.args.list docs d)) (sym (short_sparse c.args.dense (length docs) c.args.documents few))
-    (subst (λ s. IfOk c.remove_from_short.result (MakesList (ledger s) (ledger t) (records s) (records t) c.args.list (remove_entry (is_at (nat_cmp c.args.doc)) (list_at (records s) c.args.list)) false)) c.count.ensures.same c.remove_from_short.ensures.makes)
+    (subst (λ s. IfOk c.remove_from_short.result (MakesList (ledger s) (ledger t) (records s) (records t) c.args.list (remove_entry (is_at (nat_cmp c.args.doc)) (list_at (records s) c.args.list))
+    false)) c.count.ensures.same c.remove_from_short.ensures.makes)
 
 pub returns-else-count-gt9-clause-counts : goal.returns-else-count-gt9-clause-counts
 returns-else-count-gt9-clause-counts g c =
@@ -88,7 +94,8 @@ returns-else-count-gt9-clause-counts g c =
     let docs = remove_entry (is_at (nat_cmp c.args.doc)) (list_at (records s) c.args.list) in
     let few : length docs ≤ 8 = let less = length_out_some (is_at (nat_cmp c.args.doc)) (list_at (records s) c.args.list) c.requires.there in omega arith in
     short_counts (ledger s) (ledger t) (is_vector c.args.list) c.args.dense c.args.documents (list_levels (records s) c.args.list) docs few
-    (subst (λ s. MakesWithin (ledger s) (ledger t) (list_most (list_levels (records s) c.args.list) (length (remove_entry (is_at (nat_cmp c.args.doc)) (list_at (records s) c.args.list))))) c.count.ensures.same c.remove_from_short.ensures.counts)
+    (subst (λ s. MakesWithin (ledger s) (ledger t) (list_most (list_levels (records s) c.args.list) (length (remove_entry (is_at (nat_cmp c.args.doc)) (list_at (records s) c.args.list)))))
+    c.count.ensures.same c.remove_from_short.ensures.counts)
 
 pub returns-else-count-gt9-clause-refuses : goal.returns-else-count-gt9-clause-refuses
 returns-else-count-gt9-clause-refuses g c =
@@ -99,8 +106,9 @@ returns-else-count-gt9-clause-refuses g c =
     let docs = remove_entry (is_at (nat_cmp c.args.doc)) (list_at (records s) c.args.list) in
     let few : length docs ≤ 8 = let less = length_out_some (is_at (nat_cmp c.args.doc)) (list_at (records s) c.args.list) c.requires.there in omega arith in
     let either = is_vector c.args.list || is_dense c.args.dense (length docs) c.args.documents in
-    if_more (IsListWidth (length docs)) (IsChangedWidth either (length docs)) (ledger s) (ledger s) (ledger t) c.remove_from_short.result (may_do-same (ledger s)) (λ w one. changed_list either (length docs) w one)
-    (subst (λ s. IfErr c.remove_from_short.result (RefusesOf (IsListWidth (length (remove_entry (is_at (nat_cmp c.args.doc)) (list_at (records s) c.args.list)))) (ledger s) (ledger t))) c.count.ensures.same c.remove_from_short.ensures.refuses)
+    if_more (IsListWidth (length docs)) (IsListChangeWidth either (length docs)) (ledger s) (ledger s) (ledger t) c.remove_from_short.result (may_do-same (ledger s)) (λ w one. changed_list either (length docs) w one)
+    (subst (λ s. IfErr c.remove_from_short.result (RefusesOf (IsListWidth (length (remove_entry (is_at (nat_cmp c.args.doc)) (list_at (records s) c.args.list)))) (ledger s) (ledger t)))
+    c.count.ensures.same c.remove_from_short.ensures.refuses)
 
 pub returns-else-count-gt9-clause-may : goal.returns-else-count-gt9-clause-may
 returns-else-count-gt9-clause-may g c = subst (λ s. MayDo (g.S.Store.ledger s) (g.S.Store.ledger c.remove_from_short.new.store)) c.count.ensures.same c.remove_from_short.ensures.may

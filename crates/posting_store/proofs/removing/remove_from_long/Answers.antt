@@ -11,7 +11,7 @@ use Rattle.store_api.specs.Parts.{Owns}
 use Rattle.store_api.specs.Units.{MayDo}
 use Rattle.store_api.proofs.May.{may_do-same, may_do-then}
 use Rattle.posting_store.specs.Lists.{list_at, list_levels, is_vector, AreOnes}
-use Rattle.posting_store.specs.Changes.{change_most, IsChangedWidth, MakesList}
+use Rattle.posting_store.specs.Changes.{list_change_most, IsListChangeWidth, MakesList}
 use Rattle.posting_store.proofs.PairLemmas.{length_out_some, ones_out}
 use Rattle.posting_store.proofs.RuleLemmas.{dense_many, first_counts, first_refuses, rule_counts, rule_makes, rule_plain, rule_refuses}
 use Rattle.posting_store.proofs.removing.remove_from_long.Goals as goal
@@ -94,7 +94,8 @@ returns-clause-counts g c =
     let docs = remove_entry (is_at (nat_cmp c.args.doc)) es in
     let was = is_vector c.args.list in
     let u = c.by_rule.new.store in
-    rule_counts (ledger s) (ledger t) (ledger u) (records s) (records t) (records u) c.args.list c.in_ok-next.next docs was c.in_ok-next.ensures.makes c.args.dense c.args.documents (list_levels (records s) c.args.list) c.remove_in_form.ensures.may c.remove_in_form.ensures.counts c.by_rule.ensures.counts
+    rule_counts (ledger s) (ledger t) (ledger u) (records s) (records t) (records u) c.args.list c.in_ok-next.next docs was c.in_ok-next.ensures.makes c.args.dense c.args.documents (list_levels
+    (records s) c.args.list) c.remove_in_form.ensures.may c.remove_in_form.ensures.counts c.by_rule.ensures.counts
 
 pub returns-clause-refuses : goal.returns-clause-refuses
 returns-clause-refuses g c =
@@ -106,7 +107,8 @@ returns-clause-refuses g c =
     let docs = remove_entry (is_at (nat_cmp c.args.doc)) es in
     let was = is_vector c.args.list in
     let u = c.by_rule.new.store in
-    rule_refuses (ledger s) (ledger t) (ledger u) (records s) (records t) (records u) c.args.list c.in_ok-next.next docs was c.in_ok-next.ensures.makes c.by_rule.result c.args.dense c.args.documents c.remove_in_form.ensures.may c.by_rule.ensures.refuses
+    rule_refuses (ledger s) (ledger t) (ledger u) (records s) (records t) (records u) c.args.list c.in_ok-next.next docs was c.in_ok-next.ensures.makes c.by_rule.result c.args.dense c.args.documents
+    c.remove_in_form.ensures.may c.by_rule.ensures.refuses
 
 pub returns-clause-may : goal.returns-clause-may
 returns-clause-may g c = may_do-then _ _ _ c.remove_in_form.ensures.may c.by_rule.ensures.may

@@ -11,7 +11,7 @@ use Rattle.store_api.specs.Parts.{Owns}
 use Rattle.store_api.specs.Units.{MayDo}
 use Rattle.store_api.proofs.May.{may_do-same, may_do-then}
 use Rattle.posting_store.specs.Lists.{list_at, list_levels, is_vector}
-use Rattle.posting_store.specs.Changes.{change_most, IsChangedWidth, MakesList}
+use Rattle.posting_store.specs.Changes.{list_change_most, IsListChangeWidth, MakesList}
 use Rattle.posting_store.proofs.removing.remove_in_form.Goals as goal
 
 pub returns-then-is_vector-clause-makes : goal.returns-then-is_vector-clause-makes
@@ -32,7 +32,7 @@ returns-then-is_vector-clause-counts g c =
     let t = c.remove_from_vector.new.store in
     let docs = remove_entry (is_at (nat_cmp c.args.doc)) (list_at (records s) c.args.list) in
     let is : is_vector c.args.list ≡ true = sym c.is_vector.ensures.vector ∙ c.if-is_vector.true in
-    subst (λ v. MakesWithin (ledger s) (ledger t) (change_most v v (list_levels (records s) c.args.list) docs)) (sym is) c.remove_from_vector.ensures.counts
+    subst (λ v. MakesWithin (ledger s) (ledger t) (list_change_most v v (list_levels (records s) c.args.list) docs)) (sym is) c.remove_from_vector.ensures.counts
 
 pub returns-then-is_vector-clause-refuses : goal.returns-then-is_vector-clause-refuses
 returns-then-is_vector-clause-refuses g c =
@@ -42,7 +42,7 @@ returns-then-is_vector-clause-refuses g c =
     let t = c.remove_from_vector.new.store in
     let docs = remove_entry (is_at (nat_cmp c.args.doc)) (list_at (records s) c.args.list) in
     let is : is_vector c.args.list ≡ true = sym c.is_vector.ensures.vector ∙ c.if-is_vector.true in
-    subst (λ v. IfErr c.remove_from_vector.result (RefusesOf (IsChangedWidth v (length docs)) (ledger s) (ledger t))) (sym is) c.remove_from_vector.ensures.refuses
+    subst (λ v. IfErr c.remove_from_vector.result (RefusesOf (IsListChangeWidth v (length docs)) (ledger s) (ledger t))) (sym is) c.remove_from_vector.ensures.refuses
 
 pub returns-else-is_vector-clause-makes : goal.returns-else-is_vector-clause-makes
 returns-else-is_vector-clause-makes g c =
@@ -62,7 +62,7 @@ returns-else-is_vector-clause-counts g c =
     let t = c.remove_from_tree.new.store in
     let docs = remove_entry (is_at (nat_cmp c.args.doc)) (list_at (records s) c.args.list) in
     let is : is_vector c.args.list ≡ false = sym c.is_vector.ensures.vector ∙ c.if-is_vector.false in
-    subst (λ v. MakesWithin (ledger s) (ledger t) (change_most v v (list_levels (records s) c.args.list) docs)) (sym is) c.remove_from_tree.ensures.counts
+    subst (λ v. MakesWithin (ledger s) (ledger t) (list_change_most v v (list_levels (records s) c.args.list) docs)) (sym is) c.remove_from_tree.ensures.counts
 
 pub returns-else-is_vector-clause-refuses : goal.returns-else-is_vector-clause-refuses
 returns-else-is_vector-clause-refuses g c =
@@ -72,7 +72,7 @@ returns-else-is_vector-clause-refuses g c =
     let t = c.remove_from_tree.new.store in
     let docs = remove_entry (is_at (nat_cmp c.args.doc)) (list_at (records s) c.args.list) in
     let is : is_vector c.args.list ≡ false = sym c.is_vector.ensures.vector ∙ c.if-is_vector.false in
-    subst (λ v. IfErr c.remove_from_tree.result (RefusesOf (IsChangedWidth v (length docs)) (ledger s) (ledger t))) (sym is) c.remove_from_tree.ensures.refuses
+    subst (λ v. IfErr c.remove_from_tree.result (RefusesOf (IsListChangeWidth v (length docs)) (ledger s) (ledger t))) (sym is) c.remove_from_tree.ensures.refuses
 
 pub remove_from_vector-requires-clause-vector : goal.remove_from_vector-requires-clause-vector
 remove_from_vector-requires-clause-vector g c = sym c.is_vector.ensures.vector ∙ c.if-is_vector.true

@@ -8,7 +8,7 @@ use Rattle.attr_index.specs.Index.{list_of}
 use Rattle.attr_types.specs.Value.{type_of}
 use Rattle.frozen_btree.specs.Changes.{levels}
 use Rattle.attr_images.specs.Postings.{is_dense}
-use Rattle.posting_store.specs.Changes.{IsChangedWidth, MakesByRule, MakesWithin}
+use Rattle.posting_store.specs.Changes.{IsListChangeWidth, MakesByRule, MakesWithin}
 use Rattle.posting_store.specs.Lists.{list_at, is_vector, AreOnes}
 use Rattle.posting_store.proofs.RefusalLemmas.{if_one, of_more}
 use Rattle.store_api.proofs.May.{may_do-same, may_do-then}
@@ -66,8 +66,8 @@ returns-in_err-next-clause-refuses g c =
     let made : ℕ = length (insert_entry nat_cmp (list_at m list) c.args.doc (to_z w32 (of_z w32 c.args.weight))) in
     let plain = λ off. plain_found value m root (c.args.key, list) c.requires.found (c.requires.plain off) in
     let vector = is_vector list || is_dense c.args.dense made c.args.documents in
-    rw (p.1, p.2) (of_more (IsChangedWidth vector made) (IsChangeWidth c.args.dense value count) a a (ledger c.add.new.store) _ (may_do-same a)
-    (λ w is. list_change c.args.dense vector value count w (form_wanted c.args.dense list made c.args.documents plain) (subst (λ k. IsChangedWidth vector k w) size is)) c.in_err-next.ensures.refuses)
+    rw (p.1, p.2) (of_more (IsListChangeWidth vector made) (IsChangeWidth c.args.dense value count) a a (ledger c.add.new.store) _ (may_do-same a)
+    (λ w is. list_change c.args.dense vector value count w (form_wanted c.args.dense list made c.args.documents plain) (subst (λ k. IsListChangeWidth vector k w) size is)) c.in_err-next.ensures.refuses)
 
 pub returns-in_err-next-clause-may : goal.returns-in_err-next-clause-may
 returns-in_err-next-clause-may g c = c.add.ensures.may

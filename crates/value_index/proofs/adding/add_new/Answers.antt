@@ -12,7 +12,7 @@ use Rattle.attr_index.specs.Index.{list_of}
 use Rattle.attr_types.specs.Value.{type_of}
 use Rattle.frozen_btree.specs.Changes.{levels}
 use Rattle.attr_images.specs.Postings.{is_dense}
-use Rattle.posting_store.specs.Changes.{IsChangedWidth, MakesByRule, MakesWithin}
+use Rattle.posting_store.specs.Changes.{IsListChangeWidth, MakesByRule, MakesWithin}
 use Rattle.posting_store.specs.Lists.{is_vector}
 use Rattle.posting_store.proofs.ListLemmas.{nothing_is}
 use Rattle.posting_store.proofs.RefusalLemmas.{if_one, of_more, of_one}
@@ -76,7 +76,7 @@ returns-in_err-list-clause-refuses g c =
     let size : count ≡ 1 = ap (λ (ds : Docs). length (insert_entry nat_cmp ds c.args.doc c.args.weight)) (list_none value m root c.requires.index c.requires.new) in
     let p = err_from_is_err_and c.from_residual-in_err-list.result c.from_residual-in_err-list.ensures.1 in
     let vector = is_vector 0 || is_dense c.args.dense 1 c.args.documents in
-    rw (p.1, p.2) (of_more (IsChangedWidth vector 1) (IsChangeWidth c.args.dense value count) (ledger c.args.store.now) (ledger c.add.new.store) (ledger c.add-2.new.store) _ c.add.ensures.may
+    rw (p.1, p.2) (of_more (IsListChangeWidth vector 1) (IsChangeWidth c.args.dense value count) (ledger c.args.store.now) (ledger c.add.new.store) (ledger c.add-2.new.store) _ c.add.ensures.may
     (λ w is. subst (λ k. IsChangeWidth c.args.dense value k w) (sym size)
     (list_change c.args.dense vector value 1 w (form_wanted c.args.dense 0 1 c.args.documents (λ off. omega arith)) is)) c.in_err-list.ensures.refuses)
 
