@@ -23,7 +23,7 @@ use Rattle.compaction_moves.specs.IndexMoves.{IsKeyIn}
 use Rattle.attr_field.specs.Documents.{documents_refer}
 use Rattle.attr_images.specs.Documents.{column_at}
 use Rattle.attr_index.specs.Columns.{Column}
-use Rattle.compaction_moves.specs.Counts.{key_nodes, one_record, MakesKey}
+use Rattle.compaction_moves.specs.Counts.{most_nodes, one_record, MakesKey}
 use Rattle.value_index.specs.Counts.{by_width}
 use Rattle.attr_field.specs.Fields.{field_part, IsField}
 use Rattle.compaction_moves.specs.Cleared.{IsCleared, IsClearedField}
@@ -45,8 +45,8 @@ use Rattle.attr_steps.proofs.PartLists.{count_at}
 use Rattle.attr_steps.proofs.Referring.{RefersAt, all_weaker}
 use Rattle.attr_steps.proofs.TreeLists.{get_set-same, set_length}
 use Rattle.compaction_moves.specs.FieldMoves.{HasBegun, MovesField}
-use Rattle.compact_steps.specs.Units.{keys_at, CompactsTo, HasActive, IsUnderWay, SparesBelow}
-use Rattle.compact_steps.proofs.KeyLemmas.{all_keep, keys_stay, next_fits}
+use Rattle.compact_steps.specs.Units.{keys_at, CompactsTo, HasActive, IsUnderWay, KeepsKeys, SparesBelow}
+use Rattle.compact_steps.proofs.KeyLemmas.{all_keep, keeps_stay, keeps_then, next_fits}
 use Rattle.compact_steps.proofs.Moving.{MovesPart, all_stay, mid_are, new_holds, new_table, other_stays}
 
 -- what the move of one key asks for
@@ -138,13 +138,12 @@ module _ {H : Type 0} (bits : ℕ) (old : Ledger H) (m : Records) (fields : List
     new_cleared : IsCleared bits plan.victim place o after
     new_cleared j c there = stays bits plan.victim j place n o c (AllByRecursion-slice_get (IsFieldAt n) after j c mid_each there) (one_stays after parts_stay j c there) (mid_cleared j c there)
 
-    mid_keys : (j : ℕ) (c d : AttributeTrees) → slice_get trees j ≡ Some c → slice_get after j ≡ Some d → (phase : ℕ) → keys_at n d phase ≡ keys_at m c phase
-    mid_keys j c d here there phase = elim (cases_eq j i) [
+    mid_keys : (j : ℕ) (c d : AttributeTrees) → slice_get trees j ≡ Some c → slice_get after j ≡ Some d → KeepsKeys m n c d
+    mid_keys j c d here there = elim (cases_eq j i) [
       | inl e ↦ (let first : a ≡ c = same_Some a c (sym at ∙ ap (slice_get trees) (sym e) ∙ here) in
-          subst (λ (x : AttributeTrees). keys_at n d phase ≡ keys_at m x phase) first
-          (subst (λ (y : AttributeTrees). keys_at n y phase ≡ keys_at m a phase) (is_b j d e there) (part.keys phase)))
+          subst (λ (x : AttributeTrees). KeepsKeys m n x d) first (subst (λ (y : AttributeTrees). KeepsKeys m n a y) (is_b j d e there) part.keys))
       | inr apart ↦ (let same : c ≡ d = same_Some c d (sym here ∙ was j d apart there) in
-          subst (λ (y : AttributeTrees). keys_at n y phase ≡ keys_at m c phase) same (keys_stay m n c (apart_stays j c apart here) phase))
+          subst (λ (y : AttributeTrees). KeepsKeys m n c y) same (keeps_stay m n c (apart_stays j c apart here)))
     ]
 
     typed : IfSome (slice_get after i) (λ c. HasType c.type key)
@@ -163,7 +162,7 @@ module _ {H : Type 0} (bits : ℕ) (old : Ledger H) (m : Records) (fields : List
         cleared = new_cleared;
       };
       table = new_table laws bits plan.victim (record old { unit = true }) mid m n fields trees root i a b at holds.are_fields begun_owns begun_refer part new o accepts;
-      keys = all_keep m o trees after (set_length trees i b) (λ j c d here there phase. keys_stay n o d (one_stays after parts_stay j d there) phase ∙ mid_keys j c d here there phase);
+      keys = all_keep m o trees after (set_length trees i b) (λ j c d here there. keeps_then m n o c d d (mid_keys j c d here there) (keeps_stay n o d (one_stays after parts_stay j d there)));
     }
 
 -- ---- what the move says, as of the state before the unit
@@ -181,7 +180,10 @@ part_moved bits victim old mid m n a b kind type moves = record {
       (subst (λ (t : ValueType). IsField a.kind t n b.documents b.dictionary) (sym type) moves.field_is);
   column_is = ap (λ (k : Kind). column_at k b.type n b.documents) kind ∙ ap (λ (t : ValueType). column_at a.kind t n b.documents) type ∙ moves.column_is;
   refers = λ r among. moves.refers r (subst (λ (k : Kind). Among r (documents_refer k n b.documents)) kind among);
-  keys = λ phase. ap (λ (t : ValueType). phase_keys t n b.documents b.dictionary phase) type ∙ moves.keys_are phase;
+  keys = record {
+    keys = λ phase. ap (λ (t : ValueType). phase_keys t n b.documents b.dictionary phase) type ∙ moves.keys_are phase;
+    plain = moves.plain;
+  };
   turns = subst (λ (k : Kind). Turns old mid m n (part_of a ∷ []) (field_part k b.documents b.dictionary ∷ entries moves.left ∷ [])) (sym kind) moves.turns;
 }
 
@@ -209,18 +211,18 @@ active_begun bits old begun mid new m k o (Full width active held oldest) begins
 active_begun bits old begun mid new m k o Memory begins records recorded left placed refuses = tt
 
 -- ---- what a full store has to spare
-few_below : (width w : ℕ) → by_width (key_nodes 8) (one_record width) w < 34
+few_below : (width w : ℕ) → by_width most_nodes (one_record width) w < 34
 few_below width w = told (nat_eq w 34) (nat_eq w width)
   where
-    told : (t u : Bool) → cond t 25 (cond u 1 0) < 34
+    told : (t u : Bool) → cond t 27 (cond u 1 0) < 34
     told true u = omega arith
     told false true = omega arith
     told false false = omega arith
 
-pub spares_begun : {H : Type 0} (among : ℕ → Type 0) (kind : Kind) (type : ValueType) (column : Column) (old begun mid new : Ledger H) → begun ≡ record old { unit = true }
-    → MakesKey kind type column begun mid → (m o : Records) (e : StoreError) → IsSettled old m → RefusesOf among begun mid e → Undoes mid new o → SparesBelow new 34 e
+pub spares_begun : {H : Type 0} {plain : Type 0} (among : ℕ → Type 0) (kind : Kind) (type : ValueType) (column : Column) (old begun mid new : Ledger H) → begun ≡ record old { unit = true }
+    → MakesKey plain kind type column begun mid → (m o : Records) (e : StoreError) → IsSettled old m → RefusesOf among begun mid e → Undoes mid new o → SparesBelow new 34 e
 spares_begun among kind type column old begun mid new begins made m o (Full w active held oldest) settled refuses undoes =
-    let spare = spares_among old begun mid new (by_width (key_nodes 8) (one_record made.width)) begins made.counts among m o (Full w active held oldest) settled refuses undoes in
+    let spare = spares_among old begun mid new (by_width most_nodes (one_record made.width)) begins made.counts among m o (Full w active held oldest) settled refuses undoes in
     let few = few_below made.width w in
     omega (arith, spare, few)
 spares_begun among kind type column old begun mid new begins made m o Memory settled refuses undoes = tt

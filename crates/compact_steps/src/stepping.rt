@@ -4,7 +4,7 @@ ghost use Rattle.attr_steps.specs.Views.{table_at};
 ghost use Rattle.std.specs.Prelude.{◌≡◌, ◌≤◌, None, length, IfSome};
 ghost use Rattle.attr_steps.specs.Fields.{HoldsAttributes, KeepForms, trees_of};
 ghost use Rattle.attr_types.specs.declared.field.TheConstants.{MOST_FIELDS};
-ghost use Rattle.compact_steps.specs.Units.{IsUnderWay};
+ghost use Rattle.compact_steps.specs.Units.{ArePlain, IsUnderWay};
 ghost use Rattle.compact_steps.specs.Walks.{HasLastField};
 ghost use Rattle.compact_steps.specs.Compactions.{Compacts};
 
@@ -52,8 +52,8 @@ pub fn compact<const OFFSET_BITS: u32, S: Store<OFFSET_BITS>>(
     ensures compacts { Compacts OFFSET_BITS root.entry (S.ledger store.old) (S.ledger store.new) (S.records store.old) (S.records store.new)
         fields.now (trees_of fields.now roots.old) (trees_of fields.now roots.new) before result.0 (store.new ≡ store.old) keys result.1 }
     ensures forms { KeepForms (S.records store.old) (S.records store.new) (trees_of fields.now roots.old) (trees_of fields.now roots.new) }
-    ensures counts { MakesKeys fields.now (table_at (S.records store.old) (trees_of fields.now roots.old)) (S.ledger store.old)
-        (S.ledger store.new) keys }
+    ensures counts { MakesKeys (ArePlain (S.records store.old) (trees_of fields.now roots.old)) fields.now
+        (table_at (S.records store.old) (trees_of fields.now roots.old)) (S.ledger store.old) (S.ledger store.new) keys }
 {
     let Some(mut plan) = open_plan(store, fields, roots, root, before) else {
         return (None, Ok(Step::Idle));

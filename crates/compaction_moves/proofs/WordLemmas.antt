@@ -24,7 +24,7 @@ use Rattle.posting_store.specs.Lists.{list_at, list_levels, list_reach, is_vecto
 use Rattle.posting_store.proofs.ChangeLemmas.{counts_short, makes_short, makes_tree, replaces}
 use Rattle.posting_store.specs.Keeps.{form_block, list_block, KeepsListBlocks}
 use Rattle.posting_store.proofs.FormLemmas.{form_even, form_odd, form_short, form_tree, form_vector, no_vector, short_at, short_few, short_reach, tree_at, tree_form, tree_levels, tree_reach}
-use Rattle.posting_store.proofs.VectorLemmas.{makes_vector, ones, vector_counted, vector_list_at, vector_long}
+use Rattle.posting_store.proofs.VectorLemmas.{makes_vector, vector_counted, vector_list_at, vector_long, with_ones}
 use Rattle.posting_store.proofs.PairLemmas.{weighed, weighed-length}
 use Rattle.value_index.proofs.CountLemmas.{within_more}
 use Rattle.attr_compaction.specs.PhaseKeys.{form_docs}
@@ -238,7 +238,7 @@ module _ {H : Type 0} (a b : Ledger H) (m n : Records) (word root : ℕ) (list :
     vector_made : MakesVector a b m n root (list_at m word) top
     vector_made = record {
       vector_is = moves.vector_is;
-      docs_are = ap ones moves.documents ∙ sym (vector_list_at m word root at);
+      docs_are = ap with_ones moves.documents ∙ sym (vector_list_at m word root at);
       owns = moves.owns;
       turns = moves.turns;
     }

@@ -8,6 +8,7 @@ use Rattle.attr_steps.proofs.FieldSteps.{laws_of}
 use Rattle.attr_steps.proofs.Units.{left_unit, refused_among, keeps_unit}
 use Rattle.attr_images.specs.Documents.{column_at}
 use Rattle.compaction_moves.specs.Counts.{MakesKey}
+use Rattle.value_index.specs.Forms.{IsPlainIndex}
 use Rattle.compact_steps.specs.Units.{keys_at}
 use Rattle.compact_steps.proofs.KeyCounts.{key_unit}
 use Rattle.compact_steps.proofs.UnitSteps.{active_begun, meets_begun, part_begun, spares_begun, unit_compacts}
@@ -107,7 +108,7 @@ returns-in-Ok-clause-counts g c =
     let ledger = g.S.Store.ledger in
     let records = g.S.Frozen.records in
     let a = trees_of_field c.args.field.now c.args.own in
-    let made = subst (λ (f : Records). MakesKey a.kind a.type (column_at a.kind a.type f a.documents) (ledger c.begin.new.self) (ledger c.move_one.new.store)) c.begin.ensures.records c.move_one.ensures.counts in
+    let made = subst (λ (f : Records). MakesKey (IsPlainIndex f a.dictionary) a.kind a.type (column_at a.kind a.type f a.documents) (ledger c.begin.new.self) (ledger c.move_one.new.store)) c.begin.ensures.records c.move_one.ensures.counts in
     key_unit a.kind a.type (column_at a.kind a.type (records c.args.store.now) a.documents) (ledger c.args.store.now) (ledger c.begin.new.self) (ledger c.move_one.new.store) (ledger c.accept.new.self)
     c.begin.ensures.ledger made (records c.accept.new.self) c.accept.ensures.counts (g.met.S.Store.settled c.accept.new.self c.accept.ensures.unit)
 
@@ -116,6 +117,6 @@ returns-in-Err-clause-counts g c =
     let ledger = g.S.Store.ledger in
     let records = g.S.Frozen.records in
     let a = trees_of_field c.args.field.now c.args.own in
-    let made = subst (λ (f : Records). MakesKey a.kind a.type (column_at a.kind a.type f a.documents) (ledger c.begin.new.self) (ledger c.move_one.new.store)) c.begin.ensures.records c.move_one.ensures.counts in
+    let made = subst (λ (f : Records). MakesKey (IsPlainIndex f a.dictionary) a.kind a.type (column_at a.kind a.type f a.documents) (ledger c.begin.new.self) (ledger c.move_one.new.store)) c.begin.ensures.records c.move_one.ensures.counts in
     key_unit a.kind a.type (column_at a.kind a.type (records c.args.store.now) a.documents) (ledger c.args.store.now) (ledger c.begin.new.self) (ledger c.move_one.new.store) (ledger c.undo.new.self)
     c.begin.ensures.ledger made (records c.undo.new.self) c.undo.ensures.counts (g.met.S.Store.settled c.undo.new.self c.undo.ensures.unit)

@@ -6,6 +6,7 @@ use Rattle.attr_steps.specs.Fields.{trees_of}
 use Rattle.entry_ref.specs.Records.{Records}
 use Rattle.store_api.specs.Ledgers.{Ledger}
 use Rattle.attr_steps.specs.Views.{table_at}
+use Rattle.compact_steps.specs.Units.{ArePlain}
 use Rattle.compact_steps.specs.Counts.{MakesKeys}
 use Rattle.compact_steps.proofs.KeyCounts.{keys_finished, keys_none, keys_sealed}
 use Rattle.compact_steps.specs.Compactions.{BeginsNone, OpensPlan}
@@ -138,7 +139,7 @@ returns-in_default-clause-counts g c =
     let fields = c.args.fields.now in
     let table = table_at (g.S.Frozen.records old) (trees_of fields c.args.roots.now) in
     let none = subst (λ (o : Option PlanView). IfNone o (BeginsNone g.row.OFFSET_BITS (ledger old) c.args.before (mid ≡ old))) c.in_default.is c.open_plan.ensures.none in
-    subst (λ s. MakesKeys fields table (ledger old) (ledger s) c.args.keys) (sym none.store_is) (keys_none fields table (ledger old) c.args.keys)
+    subst (λ s. MakesKeys (ArePlain (g.S.Frozen.records old) (trees_of fields c.args.roots.now)) fields table (ledger old) (ledger s) c.args.keys) (sym none.store_is) (keys_none fields table (ledger old) c.args.keys)
 
 pub returns-in-Ok-Visited-clause-counts : goal.returns-in-Ok-Visited-clause-counts
 returns-in-Ok-Visited-clause-counts g c =
@@ -152,7 +153,7 @@ returns-in-Ok-Visited-clause-counts g c =
     let opens = subst (λ (o : Option PlanView). IfSome o (OpensPlan g.row.OFFSET_BITS c.args.root (ledger old) (ledger mid) (records old) (records mid) fields trees c.args.before)) c.in-Some.is
     c.open_plan.ensures.opens in
     let table = table_at (records old) trees in
-    let visited = subst (λ (f : Records). MakesKeys fields (table_at f trees) (ledger mid) (ledger new) c.args.keys) opens.left.records c.visit_keys.ensures.counts in
+    let visited = subst (λ (f : Records). MakesKeys (ArePlain f trees) fields (table_at f trees) (ledger mid) (ledger new) c.args.keys) opens.left.records c.visit_keys.ensures.counts in
     let made = keys_sealed fields table (ledger old) (ledger mid) (ledger new) c.args.keys opens.counts visited in
     made
 
@@ -168,7 +169,7 @@ returns-in-Err-clause-counts g c =
     let opens = subst (λ (o : Option PlanView). IfSome o (OpensPlan g.row.OFFSET_BITS c.args.root (ledger old) (ledger mid) (records old) (records mid) fields trees c.args.before)) c.in-Some.is
     c.open_plan.ensures.opens in
     let table = table_at (records old) trees in
-    let visited = subst (λ (f : Records). MakesKeys fields (table_at f trees) (ledger mid) (ledger new) c.args.keys) opens.left.records c.visit_keys.ensures.counts in
+    let visited = subst (λ (f : Records). MakesKeys (ArePlain f trees) fields (table_at f trees) (ledger mid) (ledger new) c.args.keys) opens.left.records c.visit_keys.ensures.counts in
     let made = keys_sealed fields table (ledger old) (ledger mid) (ledger new) c.args.keys opens.counts visited in
     made
 
@@ -184,7 +185,7 @@ returns-in-Ok-Over-clause-counts g c =
     let opens = subst (λ (o : Option PlanView). IfSome o (OpensPlan g.row.OFFSET_BITS c.args.root (ledger old) (ledger mid) (records old) (records mid) fields trees c.args.before)) c.in-Some.is
     c.open_plan.ensures.opens in
     let table = table_at (records old) trees in
-    let visited = subst (λ (f : Records). MakesKeys fields (table_at f trees) (ledger mid) (ledger new) c.args.keys) opens.left.records c.visit_keys.ensures.counts in
+    let visited = subst (λ (f : Records). MakesKeys (ArePlain f trees) fields (table_at f trees) (ledger mid) (ledger new) c.args.keys) opens.left.records c.visit_keys.ensures.counts in
     let made = keys_sealed fields table (ledger old) (ledger mid) (ledger new) c.args.keys opens.counts visited in
     let end = c.end_plan-buffer.ensures.ledger in
-    subst (λ (l : Ledger _). MakesKeys fields table (ledger old) l c.args.keys) (sym end) (keys_finished fields table (ledger old) (ledger new) c.args.keys _ made)
+    subst (λ (l : Ledger _). MakesKeys (ArePlain (records old) trees) fields table (ledger old) l c.args.keys) (sym end) (keys_finished fields table (ledger old) (ledger new) c.args.keys _ made)
