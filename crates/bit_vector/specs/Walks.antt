@@ -1,19 +1,16 @@
 -- Positions in a bit vector.
 use Rattle.std.specs.Prelude.{◌≡◌, ◌/◌, ◌%◌, ℕ, nat_le, true, List, [], ◌∷◌, map, filter}
-use Rattle.std.specs.List.{flat_map, AllByRecursion}
+use Rattle.std.specs.List.{AllByRecursion}
 use Rattle.std.specs.List.Sorted.{IsStrictlySortedBy}
 use Rattle.std.specs.Ordering.{nat_cmp}
 use Rattle.entry_ref.specs.Records.{Records}
 use Rattle.tree_read.specs.SearchPlaces.{IsAt, HasPair, pairs_from, first_key, first_value}
 use Rattle.attr_types.specs.Lawful.{IsDocNumber}
-use Rattle.attr_images.specs.Postings.{block_documents, IsBlock}
+use Rattle.attr_images.specs.Postings.{IsBlock}
 use Rattle.attr_images.specs.declared.TheConstants.{BLOCK_DOCUMENTS}
 use Rattle.attr_index.specs.Sets.{in_words}
+use Rattle.bit_vector.specs.Vectors.{blocks_documents}
 use Rattle.bit_vector.specs.declared.cursor.VectorCursor.{VectorCursor}
-
--- the documents of blocks
-abbrev pub blocks_documents : Records → List (ℕ × ℕ) → List ℕ
-blocks_documents m blocks = flat_map (λ p. block_documents p.0 (m p.1)) blocks
 
 -- the documents from a position on
 abbrev pub documents_from : {bits : ℕ} → Records → VectorCursor bits → List ℕ

@@ -57,11 +57,13 @@ pub fn next_bit<const OFFSET_BITS: u32, F: Frozen<OFFSET_BITS>>(
     ensures next { IsNextBit (F.records frozen.old block.entry) from result }
     ensures same { frozen.new ≡ frozen.old }
 {
-    for i in from..BLOCK_DOCUMENTS as u32 {
-        let word = frozen.word(block, i / 64);
-        if (word >> (i % 64)) & 1 == 1 {
-            return i;
+    let mut i = from;
+    while i < BLOCK_DOCUMENTS as u32 {
+        let left = frozen.word(block, i / 64) >> (i % 64);
+        if left != 0 {
+            return i + left.trailing_zeros();
         }
+        i = (i / 64 + 1) * 64;
     }
     BLOCK_DOCUMENTS as u32
 }

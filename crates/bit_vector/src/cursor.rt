@@ -22,6 +22,7 @@ pub struct VectorCursor<const OFFSET_BITS: u32> {
 
 impl<const OFFSET_BITS: u32> VectorCursor<OFFSET_BITS> {
     /// Returns a cursor before the first document.
+    #[tactic(none)]
     pub fn first<F: Frozen<OFFSET_BITS>>(
         frozen: &mut F,
         root: EntryRef<OFFSET_BITS>,
@@ -40,12 +41,13 @@ impl<const OFFSET_BITS: u32> VectorCursor<OFFSET_BITS> {
     }
 
     /// Moves to the first document of the block at hand, if there is one.
+    #[tactic(none)]
     fn enter<F: Frozen<OFFSET_BITS>>(&mut self, frozen: &mut F) {
         if self.blocks.at_end() {
             return;
         }
-        let record = EntryRef::from_raw(self.blocks.value() as u32);
-        let bit = next_bit(frozen, record, 0);
+        let block = EntryRef::from_raw(self.blocks.value() as u32);
+        let bit = next_bit(frozen, block, 0);
         self.doc = Doc::new(self.blocks.key() as u32 * BLOCK_SIZE + bit);
     }
 
@@ -67,6 +69,7 @@ impl<const OFFSET_BITS: u32> VectorCursor<OFFSET_BITS> {
     }
 
     /// Moves past one document.
+    #[tactic(none)]
     pub fn next<F: Frozen<OFFSET_BITS>>(&mut self, frozen: &mut F)
         requires place { IsVectorPlace (F.records frozen.old) self.old }
         requires document { HasDocument self.old }
@@ -74,9 +77,9 @@ impl<const OFFSET_BITS: u32> VectorCursor<OFFSET_BITS> {
         ensures documents { documents_from (F.records frozen.old) self.new ≡ drop 1 (documents_from (F.records frozen.old) self.old) }
         ensures same { frozen.new ≡ frozen.old }
     {
-        let record = EntryRef::from_raw(self.blocks.value() as u32);
+        let block = EntryRef::from_raw(self.blocks.value() as u32);
         let number = self.doc.number();
-        let bit = next_bit(frozen, record, number % BLOCK_SIZE + 1);
+        let bit = next_bit(frozen, block, number % BLOCK_SIZE + 1);
         if bit < BLOCK_SIZE {
             self.doc = Doc::new(number / BLOCK_SIZE * BLOCK_SIZE + bit);
         } else {

@@ -18,11 +18,11 @@ pub fn contains<const OFFSET_BITS: u32, F: Frozen<OFFSET_BITS>>(
     ensures has { result ≡ has (vector_documents (F.records frozen.old) root.entry) doc }
     ensures same { frozen.new ≡ frozen.old }
 {
-    let number = doc.number();
-    match find_block(frozen, root, (number / BLOCK_SIZE) as u64) {
-        Some(record) => {
-            let word = frozen.word(record, number % BLOCK_SIZE / 64);
-            (word >> (number % 64)) & 1 == 1
+    let place = doc.number();
+    match find_block(frozen, root, (place / BLOCK_SIZE) as u64) {
+        Some(block) => {
+            let word = frozen.word(block, place % BLOCK_SIZE / 64);
+            (word >> (place % 64)) & 1 == 1
         }
         None => false,
     }

@@ -1,0 +1,152 @@
+-- A walk through the documents of a bit vector.
+use Rattle.std.proofs.Common.{◌≡◌, ◌≢◌, ◌⊎◌, inl, inr, ℕ, zero, suc, ◌+◌, ◌*◌, ◌/◌, ◌%◌, ◌<◌, ◌≤◌, ◌^◌, Bool, true, false, ◌||◌, ◌&&◌, cond, List, [], ◌∷◌, ◌++◌, map, filter, drop, length, nat_eq, nat_le, refl, sym, ap, ap₂, subst, ◌∙◌, arith}
+use Rattle.std.specs.List.{AllByRecursion}
+use Rattle.std.specs.List.Sorted.{IsStrictlySortedBy}
+use Rattle.std.specs.Ordering.{nat_cmp}
+use Rattle.std.proofs.lemmas.Bool.{eqb-true, eqb-false, eq-eqb, ne_eqb, le-leb, cases_lt}
+use Rattle.std.proofs.lemmas.List.Elements.{filter-append}
+use Rattle.list_facts.proofs.Each.{AllByRecursion-left, AllByRecursion-right}
+use Rattle.list_facts.proofs.Tests.{too_many}
+use Rattle.entry_ref.specs.Records.{Records}
+use Rattle.tree_read.specs.SearchPlaces.{first_key, first_value}
+use Rattle.attr_types.specs.Lawful.{IsDocNumber}
+use Rattle.attr_images.specs.Postings.{block_documents, IsBlock}
+use Rattle.attr_index.proofs.BitLemmas.{by_cases}
+use Rattle.attr_index.specs.Sets.{has, in_words, IsAscending}
+use Rattle.bit_vector.specs.Blocks.{IsNextBit}
+use Rattle.bit_vector.specs.Vectors.{blocks_documents}
+use Rattle.bit_vector.specs.Walks.{first_document, IsInBlock}
+use Rattle.bit_vector.proofs.DocumentLemmas.{absent, all_has, has_all, has_append, or_false}
+use Rattle.bit_vector.proofs.VectorLemmas.{blocks_ascend, in_block, later, own_block}
+
+-- filters of documents
+keeps : (test : ℕ → Bool) (ds : List ℕ) → AllByRecursion (λ d. test d ≡ true) ds → filter test ds ≡ ds
+keeps test [] all = refl
+keeps test (d ∷ ds) all = ap (λ b. cond b (d ∷ filter test ds) (filter test ds)) all.0 ∙ ap (λ xs. d ∷ xs) (keeps test ds all.1)
+
+loses : (test : ℕ → Bool) (ds : List ℕ) → AllByRecursion (λ d. test d ≡ false) ds → filter test ds ≡ []
+loses test [] all = refl
+loses test (d ∷ ds) all = ap (λ b. cond b (d ∷ filter test ds) (filter test ds)) all.0 ∙ loses test ds all.1
+
+alike : (test other : ℕ → Bool) (ds : List ℕ) → AllByRecursion (λ d. test d ≡ other d) ds → filter test ds ≡ filter other ds
+alike test other [] all = refl
+alike test other (d ∷ ds) all =
+    ap (λ b. cond b (d ∷ filter test ds) (filter test ds)) all.0 ∙ ap (λ xs. cond (other d) (d ∷ xs) xs) (alike test other ds all.1)
+
+le_true : (a b : ℕ) → a ≤ b → nat_le a b ≡ true
+le_true a b le = le-leb a b le
+
+le_false : (a b : ℕ) → b < a → nat_le a b ≡ false
+le_false a b low = too_many a b low
+
+above : (x : ℕ) (ds : List ℕ) → AllByRecursion (λ y. x < y) ds → AllByRecursion (λ y. nat_le (suc x) y ≡ true) ds
+above x [] all = tt
+above x (d ∷ ds) all = let up : x < d = all.0 in (le_true (suc x) d (omega (arith, up)), above x ds all.1)
+
+above_too : (x : ℕ) (ds : List ℕ) → AllByRecursion (λ y. x < y) ds → AllByRecursion (λ y. nat_le x y ≡ true) ds
+above_too x [] all = tt
+above_too x (d ∷ ds) all = let up : x < d = all.0 in (le_true x d (omega (arith, up)), above_too x ds all.1)
+
+-- a document that is there comes first of those from it on
+pub from_first : (doc : ℕ) (ds : List ℕ) → IsAscending ds → has ds doc ≡ true → filter (nat_le doc) ds ≡ doc ∷ filter (nat_le (suc doc)) ds
+from_first doc [] up there = absurd (grind (arith, there))
+from_first doc (d ∷ ds) up there = by_cases (nat_eq doc d)
+    (λ yes.
+    let same : doc ≡ d = eqb-true doc d yes in
+    let high : AllByRecursion (λ y. doc < y) ds = subst (λ x. AllByRecursion (λ y. x < y) ds) (sym same) up.0 in
+    ap (λ b. cond b (d ∷ filter (nat_le doc) ds) (filter (nat_le doc) ds)) (le_true doc d (omega (arith, same)))
+    ∙ ap (λ xs. d ∷ xs) (keeps (nat_le doc) ds (above_too doc ds high) ∙ sym (keeps (nat_le (suc doc)) ds (above doc ds high)))
+    ∙ ap (λ x. x ∷ filter (nat_le (suc doc)) ds) (sym same)
+    ∙ ap (λ xs. doc ∷ xs) (sym (ap (λ b. cond b (d ∷ filter (nat_le (suc doc)) ds) (filter (nat_le (suc doc)) ds)) (le_false (suc doc) d (omega (arith, same))))))
+    (λ no.
+    let rest : has ds doc ≡ true = sym (ap (λ b. b || has ds doc) no) ∙ there in
+    let low : d < doc = all_has (λ x. d < x) ds up.0 doc rest in
+    ap (λ b. cond b (d ∷ filter (nat_le doc) ds) (filter (nat_le doc) ds)) (le_false doc d low)
+    ∙ from_first doc ds up.1 rest
+    ∙ ap (λ xs. doc ∷ xs) (sym (ap (λ b. cond b (d ∷ filter (nat_le (suc doc)) ds) (filter (nat_le (suc doc)) ds)) (le_false (suc doc) d (omega (arith, low))))))
+
+pub first_of_from : (doc : ℕ) (ds : List ℕ) → IsAscending ds → has ds doc ≡ true → doc ≡ first_document (filter (nat_le doc) ds)
+first_of_from doc ds up there = sym (ap first_document (from_first doc ds up there))
+
+some_first : (x : ℕ) (xs ys : List ℕ) → ys ≡ x ∷ xs → ys ≡ [] → ⊥
+some_first x xs ys is none = absurd (grind (arith, is, none))
+
+pub some_from : (doc : ℕ) (ds : List ℕ) → IsAscending ds → has ds doc ≡ true → filter (nat_le doc) ds ≡ [] → ⊥
+some_from doc ds up there none = some_first doc (filter (nat_le (suc doc)) ds) (filter (nat_le doc) ds) (from_first doc ds up there) none
+
+module _ (m : Records) where
+  -- a bit of the first block
+  pub first_has : (doc : ℕ) (ps : List (ℕ × ℕ)) → 0 < length ps → IsInBlock m doc ps → has (blocks_documents m ps) doc ≡ true
+  first_has doc [] some is = absurd (omega (arith, some))
+  first_has doc (p ∷ ps) some is =
+      has_append (block_documents p.0 (m p.1)) (blocks_documents m ps) doc
+      ∙ ap (λ b. b || has (blocks_documents m ps) doc) (in_block p.0 (m p.1) doc is.block ∙ is.bit)
+
+  -- from the first document of the first block on, nothing is passed
+  pub from_start : (p : ℕ × ℕ) (ps : List (ℕ × ℕ)) (bit doc : ℕ) → IsStrictlySortedBy nat_cmp (map (λ q. q.0) (p ∷ ps)) → IsNextBit (m p.1) 0 bit → bit < 4096 → doc ≡ 4096 * p.0 + bit
+      → filter (nat_le doc) (blocks_documents m (p ∷ ps)) ≡ blocks_documents m (p ∷ ps)
+  unfolding IsStrictlySortedBy
+  from_start p ps bit doc up found below is =
+      keeps (nat_le doc) (blocks_documents m (p ∷ ps)) (has_all (λ d. nat_le doc d ≡ true) (blocks_documents m (p ∷ ps)) (λ d there. by_cases (has (block_documents p.0 (m p.1)) d)
+      (λ yes.
+      let at : d / 4096 ≡ p.0 = all_has (λ x. x / 4096 ≡ p.0) (block_documents p.0 (m p.1)) (own_block p.0 (m p.1)) d yes in
+      let set : in_words (m p.1) (d % 4096) ≡ true = sym (in_block p.0 (m p.1) d at) ∙ yes in
+      le_true doc d (least (d % 4096) set (cases_lt (d % 4096) bit) (λ high. omega (arith, at, is, high))))
+      (λ no.
+      let rest : has (blocks_documents m ps) d ≡ true = sym (ap (λ b. b || has (blocks_documents m ps) d) no) ∙ sym (has_append (block_documents p.0 (m p.1)) (blocks_documents m ps) d) ∙ there in
+      let high : p.0 < d / 4096 = all_has (λ x. p.0 < x / 4096) (blocks_documents m ps) (later m p.0 ps up.0) d rest in
+      le_true doc d (omega (arith, high, is, below)))))
+    where
+      least : {G : Type 0} (i : ℕ) → in_words (m p.1) i ≡ true → (i < bit) ⊎ (bit ≤ i) → (bit ≤ i → G) → G
+      least i set (inl low) then_high = let lost : true ≡ false = sym set ∙ found.before i (omega arith) low in absurd (grind (arith, lost))
+      least i set (inr high) then_high = then_high high
+
+  -- the next document is in the same block
+  pub from_next : (p : ℕ × ℕ) (ps : List (ℕ × ℕ)) (doc bit after : ℕ) → IsStrictlySortedBy nat_cmp (map (λ q. q.0) (p ∷ ps)) → IsInBlock m doc (p ∷ ps)
+      → IsNextBit (m p.1) (doc % 4096 + 1) bit → bit < 4096 → after ≡ 4096 * (doc / 4096) + bit
+      → filter (nat_le after) (blocks_documents m (p ∷ ps)) ≡ drop 1 (filter (nat_le doc) (blocks_documents m (p ∷ ps)))
+  unfolding IsStrictlySortedBy
+  from_next p ps doc bit after up is found below at_next =
+      alike (nat_le after) (nat_le (suc doc)) (blocks_documents m (p ∷ ps)) (has_all (λ d. nat_le after d ≡ nat_le (suc doc) d) (blocks_documents m (p ∷ ps)) (λ d there. by_cases (has (block_documents p.0 (m p.1)) d)
+      (λ yes.
+      let at : d / 4096 ≡ p.0 = all_has (λ x. x / 4096 ≡ p.0) (block_documents p.0 (m p.1)) (own_block p.0 (m p.1)) d yes in
+      let set : in_words (m p.1) (d % 4096) ≡ true = sym (in_block p.0 (m p.1) d at) ∙ yes in
+      told d at set (cases_lt (d % 4096) bit))
+      (λ no.
+      let rest : has (blocks_documents m ps) d ≡ true = sym (ap (λ b. b || has (blocks_documents m ps) d) no) ∙ sym (has_append (block_documents p.0 (m p.1)) (blocks_documents m ps) d) ∙ there in
+      let high : p.0 < d / 4096 = all_has (λ x. p.0 < x / 4096) (blocks_documents m ps) (later m p.0 ps up.0) d rest in
+      let block = is.block in
+      le_true after d (omega (arith, high, at_next, below, block)) ∙ sym (le_true (suc doc) d (omega (arith, high, block))))))
+      ∙ sym (ap (drop 1) (from_first doc (blocks_documents m (p ∷ ps)) (blocks_ascend m (p ∷ ps) up) (first_has doc (p ∷ ps) (omega arith) is)))
+    where
+      told : (d : ℕ) → d / 4096 ≡ p.0 → in_words (m p.1) (d % 4096) ≡ true → (d % 4096 < bit) ⊎ (bit ≤ d % 4096) → nat_le after d ≡ nat_le (suc doc) d
+      told d at set (inr high) =
+          let block = is.block in let up = found.from_on in
+          le_true after d (omega (arith, at, high, at_next, block)) ∙ sym (le_true (suc doc) d (omega (arith, at, high, up, block)))
+      told d at set (inl low) = by (cases_lt (d % 4096) (doc % 4096 + 1))
+        where
+          by : (d % 4096 < doc % 4096 + 1) ⊎ (doc % 4096 + 1 ≤ d % 4096) → nat_le after d ≡ nat_le (suc doc) d
+          by (inl less) = let block = is.block in
+              le_false after d (omega (arith, at, low, at_next, block)) ∙ sym (le_false (suc doc) d (omega (arith, at, less, block)))
+          by (inr more) = let lost : true ≡ false = sym set ∙ found.before (d % 4096) more low in absurd (grind (arith, lost))
+
+  -- the block has no more documents
+  pub from_last : (p : ℕ × ℕ) (ps : List (ℕ × ℕ)) (doc bit : ℕ) → IsStrictlySortedBy nat_cmp (map (λ q. q.0) (p ∷ ps)) → IsInBlock m doc (p ∷ ps)
+      → IsNextBit (m p.1) (doc % 4096 + 1) bit → 4096 ≤ bit → blocks_documents m ps ≡ drop 1 (filter (nat_le doc) (blocks_documents m (p ∷ ps)))
+  unfolding IsStrictlySortedBy
+  from_last p ps doc bit up is found end =
+      sym (ap (drop 1) (from_first doc (blocks_documents m (p ∷ ps)) (blocks_ascend m (p ∷ ps) up) (first_has doc (p ∷ ps) (omega arith) is))
+      ∙ filter-append (nat_le (suc doc)) (block_documents p.0 (m p.1)) (blocks_documents m ps)
+      ∙ ap₂ (λ xs ys. xs ++ ys)
+      (loses (nat_le (suc doc)) (block_documents p.0 (m p.1)) (has_all (λ d. nat_le (suc doc) d ≡ false) (block_documents p.0 (m p.1)) (λ d yes.
+      let at : d / 4096 ≡ p.0 = all_has (λ x. x / 4096 ≡ p.0) (block_documents p.0 (m p.1)) (own_block p.0 (m p.1)) d yes in
+      let set : in_words (m p.1) (d % 4096) ≡ true = sym (in_block p.0 (m p.1) d at) ∙ yes in
+      told d at set (cases_lt (d % 4096) (doc % 4096 + 1)))))
+      (keeps (nat_le (suc doc)) (blocks_documents m ps) (has_all (λ d. nat_le (suc doc) d ≡ true) (blocks_documents m ps) (λ d rest.
+      let high : p.0 < d / 4096 = all_has (λ x. p.0 < x / 4096) (blocks_documents m ps) (later m p.0 ps up.0) d rest in
+      let block = is.block in
+      le_true (suc doc) d (omega (arith, high, block))))))
+    where
+      told : (d : ℕ) → d / 4096 ≡ p.0 → in_words (m p.1) (d % 4096) ≡ true → (d % 4096 < doc % 4096 + 1) ⊎ (doc % 4096 + 1 ≤ d % 4096) → nat_le (suc doc) d ≡ false
+      told d at set (inl less) = let block = is.block in le_false (suc doc) d (omega (arith, at, less, block))
+      told d at set (inr more) = let lost : true ≡ false = sym set ∙ found.before (d % 4096) more (omega (arith, end)) in absurd (grind (arith, lost))
