@@ -6,3 +6,6 @@ pub mod CountLemmas
 pub mod WalkLemmas
 pub mod SetLemmas
 pub mod OnesLemmas
+pub mod FillLemmas
+pub mod DropLemmas
+pub mod GatherLemmas

@@ -152,3 +152,72 @@ no_numbers k = has_all IsDocNumber (block_documents k []) (λ d there.
     let block : d / 4096 ≡ k = all_has (λ x. x / 4096 ≡ k) (block_documents k []) (own_block k []) d there in
     let lost : true ≡ false = sym there ∙ in_block k [] d block ∙ no_bits [] (d % 4096) refl in
     absurd (grind (arith, lost)))
+
+or_yes : (x : Bool) → (x || true) ≡ true
+or_yes true = refl
+or_yes false = refl
+
+-- the words of a block after its bit was set
+pub record AreSet (m : Records) (root doc k : ℕ) (words : List ℕ) : Type 0 where
+  pub form : IsBlock k words
+  pub numbers : AllByRecursion IsDocNumber (block_documents k words)
+  pub block : k ≡ doc / 4096
+  pub bits : (i : ℕ) → i < 4096 → in_words words i ≡ (has (vector_documents m root) (4096 * (doc / 4096) + i) || nat_eq i (doc % 4096))
+
+pub are_set : (m : Records) (root doc place : ℕ) (old words : List ℕ) → IsVector m root → place ≡ doc → IsDocNumber place → length words ≡ 64
+    → ((i : ℕ) → i < 4096 → in_words old i ≡ has (vector_documents m root) (4096 * (place / 4096) + i))
+    → ((j : ℕ) → in_words words j ≡ (in_words old j || nat_eq j (place % 4096))) → AreSet m root doc (place / 4096) words
+are_set m root doc place old words is same number size before set =
+    let docs = vector_documents m root in
+    let last : place ≤ 1048575 = number.1 in
+    let bits : (i : ℕ) → i < 4096 → in_words words i ≡ (has docs (4096 * (place / 4096) + i) || nat_eq i (place % 4096)) =
+    λ i low. set i ∙ ap (λ b. b || nat_eq i (place % 4096)) (before i low) in
+    record {
+      form = block_is (place / 4096) words (place % 4096) (omega (arith, last)) size (omega arith)
+          (set (place % 4096) ∙ ap (λ b. in_words old (place % 4096) || b) (eq-eqb (place % 4096) (place % 4096) refl) ∙ or_yes (in_words old (place % 4096)));
+      numbers = block_numbers (place / 4096) words docs place is.numbers number refl (λ i low there. sym (bits i low) ∙ there);
+      block = ap (λ n. n / 4096) same;
+      bits = λ i low. bits i low ∙ ap (λ n. has docs (4096 * (n / 4096) + i) || nat_eq i (n % 4096)) same;
+    }
+
+-- the words of a block after its bit was cleared
+pub cleared_bits : (m : Records) (root doc place : ℕ) (old words : List ℕ) → place ≡ doc
+    → ((i : ℕ) → i < 4096 → in_words old i ≡ has (vector_documents m root) (4096 * (place / 4096) + i))
+    → ((j : ℕ) → in_words words j ≡ (in_words old j && not (nat_eq j (place % 4096))))
+    → (i : ℕ) → i < 4096 → in_words words i ≡ (has (vector_documents m root) (4096 * (doc / 4096) + i) && not (nat_eq i (doc % 4096)))
+cleared_bits m root doc place old words same before set i low =
+    set i ∙ ap (λ b. b && not (nat_eq i (place % 4096))) (before i low)
+    ∙ ap (λ n. has (vector_documents m root) (4096 * (n / 4096) + i) && not (nat_eq i (n % 4096))) same
+
+pub none_left : (m : Records) (root doc : ℕ) (words : List ℕ) → ((i : ℕ) → in_words words i ≡ false)
+    → ((i : ℕ) → i < 4096 → in_words words i ≡ (has (vector_documents m root) (4096 * (doc / 4096) + i) && not (nat_eq i (doc % 4096))))
+    → (i : ℕ) → i < 4096 → in_words [] i ≡ (has (vector_documents m root) (4096 * (doc / 4096) + i) && not (nat_eq i (doc % 4096)))
+none_left m root doc words none bits i low = no_bits [] i refl ∙ sym (none i) ∙ bits i low
+
+pub record AreLeft (k : ℕ) (words : List ℕ) : Type 0 where
+  pub form : IsBlock k words
+  pub numbers : AllByRecursion IsDocNumber (block_documents k words)
+
+pub are_left : (m : Records) (root doc place : ℕ) (words : List ℕ) → IsVector m root → place ≡ doc → IsDocNumber place → length words ≡ 64 → HasBit words
+    → ((i : ℕ) → i < 4096 → in_words words i ≡ (has (vector_documents m root) (4096 * (doc / 4096) + i) && not (nat_eq i (doc % 4096))))
+    → AreLeft (place / 4096) words
+are_left m root doc place words is same number size some bits =
+    let last : place ≤ 1048575 = number.1 in
+    let within = some.within in
+    record {
+      form = block_is (place / 4096) words some.bit (omega (arith, last)) size (omega (arith, within, size)) some.set;
+      numbers = block_numbers (place / 4096) words (vector_documents m root) place is.numbers number refl (λ i low there.
+          still_set (has (vector_documents m root) (4096 * (place / 4096) + i)) (nat_eq i (doc % 4096))
+          (ap (λ n. has (vector_documents m root) (4096 * (n / 4096) + i) && not (nat_eq i (doc % 4096))) same ∙ sym (bits i low) ∙ there) (nat_eq i (place % 4096)));
+    }
+
+-- whether the bit was set before
+pub was_set : (m : Records) (root doc place : ℕ) (old : List ℕ) (b : Bool) → place ≡ doc
+    → ((i : ℕ) → i < 4096 → in_words old i ≡ has (vector_documents m root) (4096 * (place / 4096) + i)) → b ≡ in_words old (place % 4096)
+    → b ≡ has (vector_documents m root) doc
+was_set m root doc place old b same before is =
+    is ∙ before (place % 4096) (omega arith)
+    ∙ ap (has (vector_documents m root)) ((let e : 4096 * (place / 4096) + place % 4096 ≡ place = omega arith in e) ∙ same)
+
+pub denied : {A : Type 0} (b : Bool) → false ≡ b → b ≡ true → A
+denied b is there = let lost : false ≡ true = is ∙ there in absurd (grind (arith, lost))

@@ -49,7 +49,7 @@ module _ (k : ℕ) (ws : List ℕ) where
   pub out_of_block : (d : ℕ) → (d / 4096 ≡ k → ⊥) → has (block_documents k ws) d ≡ false
   out_of_block d out = block_has_bits k d ws ∙ ap (λ b. b && in_words ws (d % 4096)) (ne_eqb (d / 4096) k out)
 
-less_is : (a b : ℕ) → nat_cmp a b ≡ Less → a < b
+pub less_is : (a b : ℕ) → nat_cmp a b ≡ Less → a < b
 less_is a b less = told (nat_cmp a b) less (ranks a b)
   where
     told : (o : Ordering) → o ≡ Less → MatchOrdering o (a < b) (a ≡ b) (b < a) → a < b

@@ -1,5 +1,6 @@
 -- A walk through the documents of a bit vector.
 use Rattle.std.proofs.Common.{◌≡◌, ◌≢◌, ◌⊎◌, inl, inr, ℕ, zero, suc, ◌+◌, ◌*◌, ◌/◌, ◌%◌, ◌<◌, ◌≤◌, ◌^◌, Bool, true, false, ◌||◌, ◌&&◌, cond, List, [], ◌∷◌, ◌++◌, map, filter, drop, length, nat_eq, nat_le, refl, sym, ap, ap₂, subst, ◌∙◌, arith}
+use Rattle.std.specs.Prelude.{◌↔◌}
 use Rattle.std.specs.List.{AllByRecursion}
 use Rattle.std.specs.List.Sorted.{IsStrictlySortedBy}
 use Rattle.std.specs.Ordering.{nat_cmp}
@@ -8,14 +9,16 @@ use Rattle.std.proofs.lemmas.List.Elements.{filter-append}
 use Rattle.list_facts.proofs.Each.{AllByRecursion-left, AllByRecursion-right}
 use Rattle.list_facts.proofs.Tests.{too_many}
 use Rattle.entry_ref.specs.Records.{Records}
-use Rattle.tree_read.specs.SearchPlaces.{first_key, first_value}
+use Rattle.tree_read.specs.SearchPlaces.{Place, IsAt, pairs_from, first_key, first_value}
+use Rattle.tree_read.specs.Trees.{tree_pairs}
 use Rattle.attr_types.specs.Lawful.{IsDocNumber}
 use Rattle.attr_images.specs.Postings.{block_documents, IsBlock}
 use Rattle.attr_index.proofs.BitLemmas.{by_cases}
 use Rattle.attr_index.specs.Sets.{has, in_words, IsAscending}
 use Rattle.bit_vector.specs.Blocks.{IsNextBit}
-use Rattle.bit_vector.specs.Vectors.{blocks_documents}
-use Rattle.bit_vector.specs.Walks.{first_document, IsInBlock}
+use Rattle.bit_vector.specs.Vectors.{blocks_documents, IsVector}
+use Rattle.bit_vector.specs.Walks.{documents_from, first_document, HasDocument, IsBlockPlace, IsInBlock, IsVectorPlace}
+use Rattle.bit_vector.specs.declared.cursor.VectorCursor.{VectorCursor}
 use Rattle.bit_vector.proofs.DocumentLemmas.{absent, all_has, has_all, has_append, or_false}
 use Rattle.bit_vector.proofs.VectorLemmas.{blocks_ascend, in_block, later, own_block}
 
@@ -76,9 +79,9 @@ some_from doc ds up there none = some_first doc (filter (nat_le (suc doc)) ds) (
 
 module _ (m : Records) where
   -- a bit of the first block
-  pub first_has : (doc : ℕ) (ps : List (ℕ × ℕ)) → 0 < length ps → IsInBlock m doc ps → has (blocks_documents m ps) doc ≡ true
-  first_has doc [] some is = absurd (omega (arith, some))
-  first_has doc (p ∷ ps) some is =
+  pub first_has : (doc : ℕ) (ps : List (ℕ × ℕ)) → IsInBlock m doc ps → has (blocks_documents m ps) doc ≡ true
+  first_has doc [] is = let some = is.some in absurd (omega (arith, some))
+  first_has doc (p ∷ ps) is =
       has_append (block_documents p.0 (m p.1)) (blocks_documents m ps) doc
       ∙ ap (λ b. b || has (blocks_documents m ps) doc) (in_block p.0 (m p.1) doc is.block ∙ is.bit)
 
@@ -117,7 +120,7 @@ module _ (m : Records) where
       let high : p.0 < d / 4096 = all_has (λ x. p.0 < x / 4096) (blocks_documents m ps) (later m p.0 ps up.0) d rest in
       let block = is.block in
       le_true after d (omega (arith, high, at_next, below, block)) ∙ sym (le_true (suc doc) d (omega (arith, high, block))))))
-      ∙ sym (ap (drop 1) (from_first doc (blocks_documents m (p ∷ ps)) (blocks_ascend m (p ∷ ps) up) (first_has doc (p ∷ ps) (omega arith) is)))
+      ∙ sym (ap (drop 1) (from_first doc (blocks_documents m (p ∷ ps)) (blocks_ascend m (p ∷ ps) up) (first_has doc (p ∷ ps) is)))
     where
       told : (d : ℕ) → d / 4096 ≡ p.0 → in_words (m p.1) (d % 4096) ≡ true → (d % 4096 < bit) ⊎ (bit ≤ d % 4096) → nat_le after d ≡ nat_le (suc doc) d
       told d at set (inr high) =
@@ -135,7 +138,7 @@ module _ (m : Records) where
       → IsNextBit (m p.1) (doc % 4096 + 1) bit → 4096 ≤ bit → blocks_documents m ps ≡ drop 1 (filter (nat_le doc) (blocks_documents m (p ∷ ps)))
   unfolding IsStrictlySortedBy
   from_last p ps doc bit up is found end =
-      sym (ap (drop 1) (from_first doc (blocks_documents m (p ∷ ps)) (blocks_ascend m (p ∷ ps) up) (first_has doc (p ∷ ps) (omega arith) is))
+      sym (ap (drop 1) (from_first doc (blocks_documents m (p ∷ ps)) (blocks_ascend m (p ∷ ps) up) (first_has doc (p ∷ ps) is))
       ∙ filter-append (nat_le (suc doc)) (block_documents p.0 (m p.1)) (blocks_documents m ps)
       ∙ ap₂ (λ xs ys. xs ++ ys)
       (loses (nat_le (suc doc)) (block_documents p.0 (m p.1)) (has_all (λ d. nat_le (suc doc) d ≡ false) (block_documents p.0 (m p.1)) (λ d yes.
@@ -150,3 +153,120 @@ module _ (m : Records) where
       told : (d : ℕ) → d / 4096 ≡ p.0 → in_words (m p.1) (d % 4096) ≡ true → (d % 4096 < doc % 4096 + 1) ⊎ (doc % 4096 + 1 ≤ d % 4096) → nat_le (suc doc) d ≡ false
       told d at set (inl less) = let block = is.block in le_false (suc doc) d (omega (arith, at, less, block))
       told d at set (inr more) = let lost : true ≡ false = sym set ∙ found.before (d % 4096) more (omega (arith, end)) in absurd (grind (arith, lost))
+
+  -- a block has a first document
+  first_below : (k : ℕ) (ws : List ℕ) (bit : ℕ) → IsBlock k ws → IsNextBit ws 0 bit → bit < 4096
+  first_below k ws bit block found = told (block_documents k ws) block.some (λ d there. there) (cases_lt bit 4096)
+    where
+      told : (ds : List ℕ) → 0 < length ds → ((d : ℕ) → has ds d ≡ true → has (block_documents k ws) d ≡ true) → (bit < 4096) ⊎ (4096 ≤ bit) → bit < 4096
+      told ds some among (inl low) = low
+      told [] some among (inr high) = absurd (omega (arith, some))
+      told (d ∷ ds) some among (inr high) =
+          let there = among d (ap (λ b. b || has ds d) (eq-eqb d d refl)) in
+          let at : d / 4096 ≡ k = all_has (λ x. x / 4096 ≡ k) (block_documents k ws) (own_block k ws) d there in
+          let lost : true ≡ false = sym there ∙ in_block k ws d at ∙ found.before (d % 4096) (omega arith) (omega (arith, high)) in
+          absurd (grind (arith, lost))
+
+  module _ (ps : List (ℕ × ℕ)) (key value bit : ℕ) (some : ps ≡ [] → ⊥) (key_is : key ≡ first_key ps) (value_is : value ≡ first_value ps)
+      (all : AllByRecursion (λ p. IsBlock p.0 (m p.1)) ps) (found : IsNextBit (m value) 0 bit) where
+    pub enter_below : bit < 4096
+    enter_below = below ps some all value_is
+      where
+        below : (qs : List (ℕ × ℕ)) → (qs ≡ [] → ⊥) → AllByRecursion (λ p. IsBlock p.0 (m p.1)) qs → value ≡ first_value qs → bit < 4096
+        below [] some all is = absurd (some refl)
+        below (q ∷ qs) some all is = first_below q.0 (m q.1) bit all.0 (subst (λ v. IsNextBit (m v) 0 bit) is found)
+
+    pub enter_place : (doc : ℕ) → doc ≡ 4096 * key + bit → IsInBlock m doc ps
+    enter_place doc is =
+        let low = enter_below in
+        record {
+          some = filled ps some;
+          block = (let e : doc / 4096 ≡ key = omega (arith, is, low) in e) ∙ key_is;
+          bit = ap (λ v. in_words (m v) (doc % 4096)) (sym value_is) ∙ ap (in_words (m value)) (let e : doc % 4096 ≡ bit = omega (arith, is, low) in e) ∙ found.set low;
+        }
+      where
+        filled : (qs : List (ℕ × ℕ)) → (qs ≡ [] → ⊥) → 0 < length qs
+        filled [] some = absurd (some refl)
+        filled (q ∷ qs) some = omega arith
+
+    pub enter_documents : (doc : ℕ) → doc ≡ 4096 * key + bit → IsStrictlySortedBy nat_cmp (map (λ q. q.0) ps) → filter (nat_le doc) (blocks_documents m ps) ≡ blocks_documents m ps
+    enter_documents doc is up = told ps some key_is value_is up
+      where
+        told : (qs : List (ℕ × ℕ)) → (qs ≡ [] → ⊥) → key ≡ first_key qs → value ≡ first_value qs → IsStrictlySortedBy nat_cmp (map (λ q. q.0) qs)
+            → filter (nat_le doc) (blocks_documents m qs) ≡ blocks_documents m qs
+        told [] none k v up = absurd (none refl)
+        told (q ∷ qs) none k v up = from_start q qs bit doc up (subst (λ r. IsNextBit (m r) 0 bit) v found) enter_below (is ∙ ap (λ n. 4096 * n + bit) k)
+
+  -- the next document, in the same block or in another
+  module _ (ps : List (ℕ × ℕ)) (doc value bit : ℕ) (up : IsStrictlySortedBy nat_cmp (map (λ q. q.0) ps)) (is : IsInBlock m doc ps) (value_is : value ≡ first_value ps)
+      (found : IsNextBit (m value) (doc % 4096 + 1) bit) where
+    pub next_place : (later_doc : ℕ) → bit < 4096 → later_doc ≡ doc / 4096 * 4096 + bit → IsInBlock m later_doc ps
+    next_place later_doc low at = record {
+      some = is.some;
+      block = (let e : later_doc / 4096 ≡ doc / 4096 = omega (arith, at, low) in e) ∙ is.block;
+      bit = ap (λ v. in_words (m v) (later_doc % 4096)) (sym value_is) ∙ ap (in_words (m value)) (let e : later_doc % 4096 ≡ bit = omega (arith, at, low) in e) ∙ found.set low;
+    }
+
+    pub next_documents : (later_doc : ℕ) → bit < 4096 → later_doc ≡ doc / 4096 * 4096 + bit
+        → filter (nat_le later_doc) (blocks_documents m ps) ≡ drop 1 (filter (nat_le doc) (blocks_documents m ps))
+    next_documents later_doc low at = told ps up is value_is
+      where
+        told : (qs : List (ℕ × ℕ)) → IsStrictlySortedBy nat_cmp (map (λ q. q.0) qs) → IsInBlock m doc qs → value ≡ first_value qs
+            → filter (nat_le later_doc) (blocks_documents m qs) ≡ drop 1 (filter (nat_le doc) (blocks_documents m qs))
+        told [] up is v = let some = is.some in absurd (omega (arith, some))
+        told (q ∷ qs) up is v = from_next q qs doc bit later_doc up is (subst (λ r. IsNextBit (m r) (doc % 4096 + 1) bit) v found) low (omega (arith, at))
+
+    pub last_documents : (qs : List (ℕ × ℕ)) → 4096 ≤ bit → qs ≡ drop 1 ps → blocks_documents m qs ≡ drop 1 (filter (nat_le doc) (blocks_documents m ps))
+    last_documents qs high rest = ap (blocks_documents m) rest ∙ told ps up is value_is
+      where
+        told : (xs : List (ℕ × ℕ)) → IsStrictlySortedBy nat_cmp (map (λ q. q.0) xs) → IsInBlock m doc xs → value ≡ first_value xs
+            → blocks_documents m (drop 1 xs) ≡ drop 1 (filter (nat_le doc) (blocks_documents m xs))
+        told [] up is v = let some = is.some in absurd (omega (arith, some))
+        told (x ∷ xs) up is v = from_last x xs doc bit up is (subst (λ r. IsNextBit (m r) (doc % 4096 + 1) bit) v found) high
+
+-- the position after the first block
+drop_sorted : (ps : List (ℕ × ℕ)) → IsStrictlySortedBy nat_cmp (map (λ p. p.0) ps) → IsStrictlySortedBy nat_cmp (map (λ p. p.0) (drop 1 ps))
+unfolding IsStrictlySortedBy
+drop_sorted [] up = tt
+drop_sorted (p ∷ ps) up = up.1
+
+drop_numbers : (m : Records) (ps : List (ℕ × ℕ)) → AllByRecursion IsDocNumber (blocks_documents m ps) → AllByRecursion IsDocNumber (blocks_documents m (drop 1 ps))
+drop_numbers m [] all = tt
+drop_numbers m (p ∷ ps) all = AllByRecursion-right IsDocNumber (block_documents p.0 (m p.1)) (blocks_documents m ps) all
+
+drop_blocks : (m : Records) (ps : List (ℕ × ℕ)) → AllByRecursion (λ p. IsBlock p.0 (m p.1)) ps → AllByRecursion (λ p. IsBlock p.0 (m p.1)) (drop 1 ps)
+drop_blocks m [] all = tt
+drop_blocks m (p ∷ ps) all = all.1
+
+pub next_blocks : (m : Records) (at then_at : Place) → IsBlockPlace m at → IsAt m then_at → pairs_from m then_at ≡ drop 1 (pairs_from m at) → IsBlockPlace m then_at
+next_blocks m at then_at is stands rest = record {
+  stands = stands;
+  ascends = subst (λ (ps : List (ℕ × ℕ)). IsStrictlySortedBy nat_cmp (map (λ p. p.0) ps)) (sym rest) (drop_sorted (pairs_from m at) is.ascends);
+  blocks = subst (AllByRecursion (λ (p : ℕ × ℕ). IsBlock p.0 (m p.1))) (sym rest) (drop_blocks m (pairs_from m at) is.blocks);
+  numbers = subst (λ (ps : List (ℕ × ℕ)). AllByRecursion IsDocNumber (blocks_documents m ps)) (sym rest) (drop_numbers m (pairs_from m at) is.numbers);
+}
+
+pub first_blocks : (m : Records) (root : ℕ) (at : Place) → IsVector m root → IsAt m at → pairs_from m at ≡ tree_pairs m root → IsBlockPlace m at
+first_blocks m root at is stands pairs = record {
+  stands = stands;
+  ascends = subst (λ (ps : List (ℕ × ℕ)). IsStrictlySortedBy nat_cmp (map (λ p. p.0) ps)) (sym pairs) is.tree_is.ascends;
+  blocks = subst (AllByRecursion (λ (p : ℕ × ℕ). IsBlock p.0 (m p.1))) (sym pairs) is.blocks;
+  numbers = subst (λ (ps : List (ℕ × ℕ)). AllByRecursion IsDocNumber (blocks_documents m ps)) (sym pairs) is.numbers;
+}
+
+-- a position at the end
+module _ {bits : ℕ} (m : Records) (at : VectorCursor bits) (place : IsVectorPlace m at) where
+  pub has_first : HasDocument at → has (blocks_documents m (pairs_from m at.blocks)) at.doc ≡ true
+  has_first has_it = first_has m at.doc (pairs_from m at.blocks) (place.document has_it)
+
+  pub doc_is : HasDocument at → at.doc ≡ first_document (documents_from m at)
+  doc_is has_it = first_of_from at.doc (blocks_documents m (pairs_from m at.blocks)) (blocks_ascend m (pairs_from m at.blocks) place.blocks.ascends) (has_first has_it)
+
+  pub number_is : HasDocument at → IsDocNumber at.doc
+  number_is has_it = all_has IsDocNumber (blocks_documents m (pairs_from m at.blocks)) place.blocks.numbers at.doc (has_first has_it)
+
+  pub end_tells : (b : Bool) → (b ≡ true → pairs_from m at.blocks ≡ []) → (b ≡ false → HasDocument at) → (b ≡ true) ↔ (documents_from m at ≡ [])
+  end_tells b tells follows = (
+    λ yes. ap (λ (ps : List (ℕ × ℕ)). filter (nat_le at.doc) (blocks_documents m ps)) (tells yes),
+    λ none. by_cases b (λ yes. yes) (λ no. absurd (some_from at.doc (blocks_documents m (pairs_from m at.blocks)) (blocks_ascend m (pairs_from m at.blocks) place.blocks.ascends) (has_first (follows no)) none)),
+  )

@@ -46,7 +46,6 @@ fn read_block<const OFFSET_BITS: u32, F: Frozen<OFFSET_BITS>>(
 }
 
 /// Returns the words of a block, which are zeros if a bit vector lacks the block.
-#[tactic(none)]
 pub fn block_words<const OFFSET_BITS: u32, F: Frozen<OFFSET_BITS>>(
     frozen: &mut F,
     root: EntryRef<OFFSET_BITS>,

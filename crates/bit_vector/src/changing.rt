@@ -27,7 +27,6 @@ use store_api::{Store, StoreError, drop_one, make_entry};
 use tree_read::NODE_WORDS;
 
 /// Adds a block that a bit vector lacks.
-#[tactic(none)]
 fn add_block<const OFFSET_BITS: u32, S: Store<OFFSET_BITS>>(
     store: &mut S,
     root: EntryRef<OFFSET_BITS>,
@@ -50,7 +49,6 @@ fn add_block<const OFFSET_BITS: u32, S: Store<OFFSET_BITS>>(
 }
 
 /// Puts the record of a block in place of the one that a bit vector has.
-#[tactic(none)]
 fn replace_block<const OFFSET_BITS: u32, S: Store<OFFSET_BITS>>(
     store: &mut S,
     root: EntryRef<OFFSET_BITS>,
@@ -76,7 +74,6 @@ fn replace_block<const OFFSET_BITS: u32, S: Store<OFFSET_BITS>>(
 }
 
 /// Puts the record of a block into a bit vector.
-#[tactic(none)]
 fn put_block<const OFFSET_BITS: u32, S: Store<OFFSET_BITS>>(
     store: &mut S,
     root: EntryRef<OFFSET_BITS>,
@@ -101,7 +98,6 @@ fn put_block<const OFFSET_BITS: u32, S: Store<OFFSET_BITS>>(
 }
 
 /// Makes the words of a block, which have some bit, those of a bit vector.
-#[tactic(none)]
 fn set_block<const OFFSET_BITS: u32, S: Store<OFFSET_BITS>>(
     store: &mut S,
     root: EntryRef<OFFSET_BITS>,
@@ -125,7 +121,6 @@ fn set_block<const OFFSET_BITS: u32, S: Store<OFFSET_BITS>>(
 }
 
 /// Takes out the block of a bit vector with this record.
-#[tactic(none)]
 fn take_block<const OFFSET_BITS: u32, S: Store<OFFSET_BITS>>(
     store: &mut S,
     root: EntryRef<OFFSET_BITS>,
@@ -148,7 +143,6 @@ fn take_block<const OFFSET_BITS: u32, S: Store<OFFSET_BITS>>(
 }
 
 /// Makes a bit vector lack a block.
-#[tactic(none)]
 fn clear_block<const OFFSET_BITS: u32, S: Store<OFFSET_BITS>>(
     store: &mut S,
     root: EntryRef<OFFSET_BITS>,

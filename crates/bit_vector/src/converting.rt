@@ -23,7 +23,6 @@ use store_api::{Store, StoreError};
 use tree_read::NODE_WORDS;
 
 /// Makes a bit vector of the keys of a tree by number, which are documents. The tree stays.
-#[tactic(none)]
 pub fn from_tree<const OFFSET_BITS: u32, S: Store<OFFSET_BITS>>(
     alloc: Global,
     store: &mut S,
@@ -51,7 +50,6 @@ pub fn from_tree<const OFFSET_BITS: u32, S: Store<OFFSET_BITS>>(
 }
 
 /// Returns the documents of a bit vector.
-#[tactic(none)]
 fn documents_of<const OFFSET_BITS: u32, F: Frozen<OFFSET_BITS>>(
     alloc: Global,
     frozen: &mut F,
@@ -71,7 +69,6 @@ fn documents_of<const OFFSET_BITS: u32, F: Frozen<OFFSET_BITS>>(
 }
 
 /// Makes a tree by number of the documents of a bit vector, each with the value 1. The bit vector stays.
-#[tactic(none)]
 pub fn to_tree<const OFFSET_BITS: u32, S: Store<OFFSET_BITS>>(
     alloc: Global,
     store: &mut S,

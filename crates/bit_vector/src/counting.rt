@@ -8,7 +8,6 @@ use entry_ref::EntryRef;
 use frozen_btree::Cursor;
 
 /// Returns the number of documents of a block.
-#[tactic(none)]
 fn count_block<const OFFSET_BITS: u32, F: Frozen<OFFSET_BITS>>(
     frozen: &mut F,
     block: EntryRef<OFFSET_BITS>,
@@ -26,7 +25,6 @@ fn count_block<const OFFSET_BITS: u32, F: Frozen<OFFSET_BITS>>(
 }
 
 /// Returns the number of documents of a bit vector.
-#[tactic(none)]
 pub fn count<const OFFSET_BITS: u32, F: Frozen<OFFSET_BITS>>(
     frozen: &mut F,
     root: EntryRef<OFFSET_BITS>,

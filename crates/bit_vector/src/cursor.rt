@@ -1,8 +1,9 @@
 ghost use Rattle.std.specs.Prelude.{◌≡◌, ◌↔◌, ℕ, drop, [], false, IsTrue};
 ghost use Rattle.attr_images.specs.Postings.{vector_documents};
-ghost use Rattle.bit_vector.specs.Vectors.{IsVector};
-ghost use Rattle.bit_vector.specs.Walks.{documents_from, first_document, HasDocument, IsVectorPlace};
+ghost use Rattle.bit_vector.specs.Vectors.{blocks_documents, IsVector};
+ghost use Rattle.bit_vector.specs.Walks.{documents_from, first_document, HasDocument, IsBlockPlace, IsVectorPlace};
 ghost use Rattle.entry_ref.specs.Records.{Records};
+ghost use Rattle.tree_read.specs.SearchPlaces.{pairs_from};
 
 use crate::bits::next_bit;
 use crate::blocks::BLOCK_SIZE;
@@ -22,7 +23,6 @@ pub struct VectorCursor<const OFFSET_BITS: u32> {
 
 impl<const OFFSET_BITS: u32> VectorCursor<OFFSET_BITS> {
     /// Returns a cursor before the first document.
-    #[tactic(none)]
     pub fn first<F: Frozen<OFFSET_BITS>>(
         frozen: &mut F,
         root: EntryRef<OFFSET_BITS>,
@@ -41,8 +41,13 @@ impl<const OFFSET_BITS: u32> VectorCursor<OFFSET_BITS> {
     }
 
     /// Moves to the first document of the block at hand, if there is one.
-    #[tactic(none)]
-    fn enter<F: Frozen<OFFSET_BITS>>(&mut self, frozen: &mut F) {
+    fn enter<F: Frozen<OFFSET_BITS>>(&mut self, frozen: &mut F)
+        requires { IsBlockPlace (F.records frozen.old) self.old.blocks }
+        ensures place { IsVectorPlace (F.records frozen.old) self.new }
+        ensures documents { documents_from (F.records frozen.old) self.new
+            ≡ blocks_documents (F.records frozen.old) (pairs_from (F.records frozen.old) self.old.blocks) }
+        ensures same { frozen.new ≡ frozen.old }
+    {
         if self.blocks.at_end() {
             return;
         }
@@ -69,7 +74,6 @@ impl<const OFFSET_BITS: u32> VectorCursor<OFFSET_BITS> {
     }
 
     /// Moves past one document.
-    #[tactic(none)]
     pub fn next<F: Frozen<OFFSET_BITS>>(&mut self, frozen: &mut F)
         requires place { IsVectorPlace (F.records frozen.old) self.old }
         requires document { HasDocument self.old }

@@ -13,7 +13,6 @@ use frozen_btree::{Cursor, drop_nodes, drop_tree};
 use store_api::Store;
 
 /// Returns the records of the blocks of a bit vector.
-#[tactic(none)]
 fn records_of<const OFFSET_BITS: u32, F: Frozen<OFFSET_BITS>>(
     frozen: &mut F,
     root: EntryRef<OFFSET_BITS>,
@@ -32,7 +31,6 @@ fn records_of<const OFFSET_BITS: u32, F: Frozen<OFFSET_BITS>>(
 }
 
 /// Drops the nodes and the blocks of a bit vector.
-#[tactic(none)]
 pub fn drop_vector<const OFFSET_BITS: u32, S: Store<OFFSET_BITS>>(
     store: &mut S,
     root: EntryRef<OFFSET_BITS>,

@@ -30,7 +30,6 @@ pub struct Blocks {
 }
 
 /// Returns the words of a block with the documents that are keys of a tree.
-#[tactic(none)]
 fn words_of_tree<const OFFSET_BITS: u32, F: Frozen<OFFSET_BITS>>(
     frozen: &mut F,
     root: EntryRef<OFFSET_BITS>,
@@ -56,7 +55,6 @@ fn words_of_tree<const OFFSET_BITS: u32, F: Frozen<OFFSET_BITS>>(
 }
 
 /// Makes the block with a number, if a tree has one of its documents.
-#[tactic(none)]
 fn make_block<const OFFSET_BITS: u32, S: Store<OFFSET_BITS>>(
     store: &mut S,
     root: EntryRef<OFFSET_BITS>,
@@ -86,7 +84,6 @@ fn make_block<const OFFSET_BITS: u32, S: Store<OFFSET_BITS>>(
 }
 
 /// Makes the blocks of the documents that are keys of a tree.
-#[tactic(none)]
 pub fn make_blocks<const OFFSET_BITS: u32, S: Store<OFFSET_BITS>>(
     store: &mut S,
     root: EntryRef<OFFSET_BITS>,
