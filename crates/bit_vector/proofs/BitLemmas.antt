@@ -157,3 +157,18 @@ next_none words from i low end before = record {
   before = λ j least less. before j least (omega (arith, less, end));
   set = λ inside. absurd (omega (arith, inside));
 }
+
+pub zero_more : (words : List ℕ) (i : ℕ) → ((j : ℕ) → j < i → get_or words j 0 ≡ 0) → get_or words i 0 ≡ 0 → (j : ℕ) → j < i + 1 → get_or words j 0 ≡ 0
+zero_more words i each here j low = told (cases_lt j i)
+  where
+    told : (j < i) ⊎ (i ≤ j) → get_or words j 0 ≡ 0
+    told (inl less) = each j less
+    told (inr more) = ap (λ k. get_or words k 0) (let e : j ≡ i = omega (arith, low, more) in e) ∙ here
+
+pub passes_more : (words : List ℕ) (i from : ℕ) → ((j : ℕ) → from ≤ j → j < i → in_words words j ≡ false) → get_or words (i / 64) 0 / 2 ^ (i % 64) ≡ 0
+    → (j : ℕ) → from ≤ j → j < (i / 64 + 1) * 64 → in_words words j ≡ false
+passes_more words i from before none j least low = told (cases_lt j i)
+  where
+    told : (j < i) ⊎ (i ≤ j) → in_words words j ≡ false
+    told (inl less) = before j least less
+    told (inr more) = passes words i none j more low

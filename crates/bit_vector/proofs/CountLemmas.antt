@@ -10,6 +10,7 @@ use Rattle.store_api.specs.declared.store.StoreError.TheVariants.{Full, Memory}
 use Rattle.store_api.proofs.Counts.{at_most-none, at_most-then, at_most-more}
 use Rattle.frozen_btree.specs.Makes.{CountsNodes}
 use Rattle.bit_vector.specs.Changes.{vector_most, IsVectorWidth, MakesWithin}
+use Rattle.bit_vector.specs.Fillings.{block_most}
 
 -- nothing
 pub within_none : {H : Type 0} (a : Ledger H) (most : ℕ → ℕ) → MakesWithin a a most
@@ -115,3 +116,23 @@ pub if_one : {A H : Type 0} (among : ℕ → Type 0) (a b c : Ledger H) (width :
     → IfErr answer (Refuses b c width) → IfErr answer (RefusesOf among a c)
 if_one among a b c width (Ok x) may is one refuses = tt
 if_one among a b c width (Err e) may is one refuses = of_one among a b c width e may is one refuses
+
+-- one block, or none
+one_block : (w : ℕ) → vector_most 1 0 w ≤ block_most true w
+one_block w = elim (nat_eq w 64) as (λ t. cond t 1 (cond (nat_eq w 34) 0 0) ≤ cond t 1 0) [
+  | true ↦ omega arith
+  | false ↦ elim (nat_eq w 34) as (λ u. cond {A = ℕ} u 0 0 ≤ 0) [ true ↦ omega arith | false ↦ omega arith ]
+]
+
+pub within_one : {H : Type 0} (a b : Ledger H) (t : Bool) → t ≡ true → MakesAtMost (capacity a.work.sizes.words 64) 1 (a.of_width 64) (b.of_width 64)
+    → ((c w : ℕ) → w ≢ 64 → MakesAtMost c 0 (a.of_width w) (b.of_width w)) → MakesWithin a b (block_most t)
+within_one a b t is here others = subst (λ u. MakesWithin a b (block_most u)) (sym is) (within_more a b (vector_most 1 0) (block_most true) one_block (within_blocks a b 1 here others))
+
+sum_one : (n most w : ℕ) (t : Bool) → n + cond t 1 0 ≤ most → vector_most n 0 w + block_most t w ≤ vector_most most 0 w
+sum_one n most w true le = elim (nat_eq w 64) as (λ u. cond u n (cond (nat_eq w 34) 0 0) + cond u 1 0 ≤ cond u most (cond (nat_eq w 34) 0 0)) [ true ↦ omega (arith, le) | false ↦ omega arith ]
+sum_one n most w false le = elim (nat_eq w 64) as (λ u. cond u n (cond (nat_eq w 34) 0 0) + 0 ≤ cond u most (cond (nat_eq w 34) 0 0)) [ true ↦ omega (arith, le) | false ↦ omega arith ]
+
+pub within_more_blocks : {H : Type 0} (a b c : Ledger H) (n most : ℕ) (t : Bool) → n + cond t 1 0 ≤ most → MayDo a b → MakesWithin a b (vector_most n 0) → MakesWithin b c (block_most t)
+    → MakesWithin a c (vector_most most 0)
+within_more_blocks a b c n most t le may first second =
+    within_more a c (λ w. vector_most n 0 w + block_most t w) (vector_most most 0) (λ w. sum_one n most w t le) (within_then a b c (vector_most n 0) (block_most t) may first second)

@@ -82,12 +82,12 @@ or_moved true b c = refl
 or_moved false b c = refl
 
 -- one key more
-pub fills_more : (k : ℕ) (words more : List ℕ) (rest next : List (ℕ × ℕ)) (all : List ℕ) (key : ℕ) (test : Bool) → IsFilling k words rest all → (rest ≡ [] → ⊥) → key ≡ first_key rest
+pub fills_more : (k : ℕ) (words more : List ℕ) (rest next : List (ℕ × ℕ)) (all : List ℕ) (key : ℕ) → IsFilling k words rest all → (rest ≡ [] → ⊥) → key ≡ first_key rest
     → next ≡ drop 1 rest → key / 4096 ≡ k → length more ≡ length words → ((j : ℕ) → in_words more j ≡ (in_words words j || nat_eq j (key % 4096)))
     → IsFilling k more next all
 unfolding IsStrictlySortedBy
-fills_more k words more [] next all key test is some first then at size bits = absurd (some refl)
-fills_more k words more (p ∷ ps) next all key test is some first then at size bits =
+fills_more k words more [] next all key is some first then at size bits = absurd (some refl)
+fills_more k words more (p ∷ ps) next all key is some first then at size bits =
     let sorted = is.sorted in
     let least = is.least in
     record {
@@ -149,3 +149,9 @@ no_block_of docs k none = by_cases (is_block_of docs k)
         or_yes : (a : Bool) → (a || true) ≡ true
         or_yes true = refl
         or_yes false = refl
+
+pub some_block_of : (docs : List ℕ) (k : ℕ) (words : List ℕ) → length words ≡ 64 → HasBit words → ((i : ℕ) → i < 4096 → in_words words i ≡ has docs (4096 * k + i)) → is_block_of docs k ≡ true
+some_block_of docs k words size some bits =
+    let within = some.within in
+    let below : some.bit < 4096 = omega (arith, within, size) in
+    block_of docs k (4096 * k + some.bit) (sym (bits some.bit below) ∙ some.set) (omega (arith, below))

@@ -1,19 +1,21 @@
 -- A bit vector made of blocks that were made of documents.
-use Rattle.std.proofs.Common.{◌≡◌, ◌≢◌, ℕ, ℤ, pos, zero, suc, ◌+◌, ◌*◌, ◌/◌, ◌%◌, ◌<◌, ◌≤◌, Bool, true, false, ◌||◌, ◌&&◌, cond, List, [], ◌∷◌, ◌++◌, map, filter, length, nat_eq, Result, Ok, Err, refl, sym, ap, ap₂, subst, ◌∙◌, arith}
+use Rattle.std.proofs.Common.{◌≡◌, ◌≢◌, ℕ, ℤ, pos, zero, suc, ◌+◌, ◌-◌, ◌*◌, ◌/◌, ◌%◌, ◌<◌, ◌≤◌, Bool, true, false, ◌||◌, ◌&&◌, cond, List, [], ◌∷◌, ◌++◌, map, filter, length, length-append, nat_eq, Result, Ok, Err, refl, sym, ap, ap₂, subst, ◌∙◌, arith}
 use Rattle.std.specs.Prelude.{IfOk}
 use Rattle.std.specs.List.{zip, range_with_len, AllZip, AllByRecursion}
 use Rattle.std.specs.List.Sorted.{IsStrictlySortedBy}
 use Rattle.std.specs.Ordering.{nat_cmp}
 use Rattle.std.proofs.lemmas.Bool.{eqb-true, eqb-false, eq-eqb, ne_eqb}
+use Rattle.std.proofs.lemmas.List.{append-nil}
 use Rattle.list_facts.proofs.Each.{AllByRecursion-each}
 use Rattle.entry_ref.specs.Records.{Records, SameAt}
 use Rattle.store_api.specs.Ledgers.{Ledger}
-use Rattle.store_api.specs.Parts.{Part, After, Owns, Turns, count_in, entries, times, uses}
+use Rattle.store_api.specs.Parts.{Part, After, Owns, Turns, count_in, entry, entries, times, uses}
 use Rattle.store_api.specs.Units.{MayDo}
 use Rattle.store_api.specs.declared.store.StoreError.{StoreError}
 use Rattle.store_api.proofs.PartLemmas.{after, owns-some, owns-then, turns-as, turns-then}
 use Rattle.store_api.proofs.Times.{times-append}
-use Rattle.tree_read.specs.Trees.{tree_nodes, tree_pairs, by_number, Keeps}
+use Rattle.tree_read.specs.ProofsForTrees.{tree_nodes-same}
+use Rattle.tree_read.specs.Trees.{tree_nodes, tree_pairs, by_number}
 use Rattle.frozen_btree.specs.Changes.{tree}
 use Rattle.attr_types.specs.Lawful.{IsDocNumber}
 use Rattle.attr_images.proofs.BlockLemmas.{block_has_bits}
@@ -27,6 +29,7 @@ use Rattle.bit_vector.specs.Vectors.{blocks_documents, is_block_of, IsVector}
 use Rattle.bit_vector.specs.declared.filling.Blocks.{Blocks}
 use Rattle.bit_vector.proofs.DocumentLemmas.{and_false, all_has, has_all, has_append, ones, or_false, sorted}
 use Rattle.bit_vector.proofs.FillLemmas.{block_of, keys}
+use Rattle.bit_vector.proofs.OnesLemmas.{passing, passing_few, passing_one, passing_split}
 use Rattle.bit_vector.proofs.SetLemmas.{block_is}
 use Rattle.bit_vector.proofs.TurnLemmas.{IsNumberTree}
 use Rattle.bit_vector.proofs.VectorLemmas.{blocks_ascend}
@@ -276,3 +279,67 @@ pub makes_vector_if : {H : Type 0} (a b c : Ledger H) (m n o : Records) (ps : Li
     → IfOk answer (λ r. Turns b c n o [] (tree r ∷ [])) → IfOk answer (MakesVector a c m o 0 (map (λ p. (p.0, pos 1)) ps))
 makes_vector_if a b c m n o ps blocks up lawful makes (Ok next) keyed pairs turns = makes_vector a b c m n o ps blocks up lawful makes next keyed pairs turns
 makes_vector_if a b c m n o ps blocks up lawful makes (Err e) keyed pairs turns = tt
+
+-- one block, or none
+pub makes_no_block : {H : Type 0} (a : Ledger H) (m : Records) (docs : List ℕ) (k : ℕ) (blocks : Blocks) → is_block_of docs k ≡ false → MakesBlock a a m m docs k blocks blocks
+makes_no_block a m docs k blocks none = record {
+  made = [];
+  numbers = sym (append-nil blocks.numbers.items) ∙ ap (λ b. blocks.numbers.items ++ cond b (k ∷ []) []) (sym none);
+  records = sym (append-nil blocks.records.items);
+  each = subst (λ b. AllZip (λ number ref. IsBlockOf docs number (m ref)) (cond b (k ∷ []) []) []) (sym none) tt;
+  turns = record { kept = λ r h. refl; balance = λ r. omega arith };
+}
+
+pub makes_one_block : {H : Type 0} (a b : Ledger H) (m n : Records) (docs : List ℕ) (k ref : ℕ) (before next : Blocks) → is_block_of docs k ≡ true → IsBlockOf docs k (n ref)
+    → Turns a b m n [] (entry ref ∷ []) → next.numbers.items ≡ before.numbers.items ++ k ∷ [] → next.records.items ≡ before.records.items ++ ref ∷ [] → MakesBlock a b m n docs k before next
+makes_one_block a b m n docs k ref before next some is turns numbers records = record {
+  made = ref ∷ [];
+  numbers = numbers ∙ ap (λ b. before.numbers.items ++ cond b (k ∷ []) []) (sym some);
+  records = records;
+  each = subst (λ b. AllZip (λ number q. IsBlockOf docs number (n q)) (cond b (k ∷ []) []) (ref ∷ [])) (sym some) (is, tt);
+  turns = turns;
+}
+
+-- how many blocks are made
+pub block_counts : (docs : List ℕ) (k below : ℕ) → k < below → length (filter (is_block_of docs) (range_with_len 0 k)) + cond (is_block_of docs k) 1 0
+    ≤ length (filter (is_block_of docs) (range_with_len 0 below))
+block_counts docs k below low =
+    let t : ℕ → Bool = is_block_of docs in
+    let first = passing_split (is_block_of docs) 0 k 1 in
+    let one = passing_one (is_block_of docs) (0 + k) in
+    let rest = passing_split (is_block_of docs) 0 (k + 1) (below - (k + 1)) in
+    let whole = ap (passing (is_block_of docs) 0) (let e : k + 1 + (below - (k + 1)) ≡ below = omega (arith, low) in e) in
+    let here = ap (λ x. cond (is_block_of docs x) (suc zero) zero) (let e : 0 + k ≡ k = omega arith in e) in
+    omega (arith, first, one, rest, whole, here)
+
+-- before the first block
+pub same_all : (m : Records) (refs : List ℕ) → SameAt refs m m
+same_all m [] = tt
+same_all m (r ∷ rs) = (refl, same_all m rs)
+
+pub same_then : (m n o : Records) (refs : List ℕ) (root : ℕ) → refs ≡ tree_nodes m root → SameAt refs m n → SameAt (tree_nodes n root) n o → SameAt refs m o
+same_then m n o refs root are first second =
+    both refs first (subst (λ rs. SameAt rs n o) (tree_nodes-same m n root (subst (λ rs. SameAt rs m n) are first) ∙ sym are) second)
+  where
+    both : (rs : List ℕ) → SameAt rs m n → SameAt rs n o → SameAt rs m o
+    both [] x y = tt
+    both (r ∷ rs) x y = (y.0 ∙ x.0, both rs x.1 y.1)
+
+pub start_blocks : {H : Type 0} (a : Ledger H) (m : Records) (docs : List ℕ) (blocks : Blocks) → blocks.numbers.items ≡ [] → blocks.records.items ≡ [] → MakesBlocks a a m m docs 0 blocks
+start_blocks a m docs blocks numbers records = record {
+  numbers = numbers;
+  each = subst (λ (xs : List ℕ). AllZip (λ number ref. IsBlockOf docs number (m ref)) xs blocks.records.items) (sym numbers)
+      (subst (λ (ys : List ℕ). AllZip (λ number ref. IsBlockOf docs number (m ref)) [] ys) (sym records) tt);
+  turns = record { kept = λ r h. refl; balance = λ r. let none = ap (times r) records in omega arith };
+}
+
+pub number_few : (docs : List ℕ) (k : ℕ) (numbers : List ℕ) → numbers ≡ filter (is_block_of docs) (range_with_len 0 k) → length numbers ≤ k
+number_few docs k numbers are = let size = ap length are in let few = passing_few (is_block_of docs) 0 k in omega (arith, size, few)
+
+pub next_count : {H : Type 0} (b c : Ledger H) (n o : Records) (docs : List ℕ) (k : ℕ) (before next : Blocks) → MakesBlock b c n o docs k before next
+    → length before.numbers.items + cond (is_block_of docs k) 1 0 ≤ length next.numbers.items
+next_count b c n o docs k before next more =
+    let size = ap length more.numbers in
+    let both = length-append before.numbers.items (cond (is_block_of docs k) (k ∷ []) []) in
+    let one : length (cond (is_block_of docs k) (k ∷ []) []) ≡ cond (is_block_of docs k) 1 0 = elim (is_block_of docs k) as (λ t. length (cond t (k ∷ []) []) ≡ cond t 1 0) [ true ↦ refl | false ↦ refl ] in
+    omega (arith, size, both, one)

@@ -42,7 +42,7 @@ passing_alike test other a b (suc n) same =
     ap test (let e : a + 1 + i ≡ a + suc i = omega arith in e) ∙ same (suc i) (omega (arith, low)) ∙ ap other (let e : b + suc i ≡ b + 1 + i = omega arith in e)))
     ∙ sym (passing_first other b n)
 
-passing_few : (test : ℕ → Bool) (a n : ℕ) → passing test a n ≤ n
+pub passing_few : (test : ℕ → Bool) (a n : ℕ) → passing test a n ≤ n
 passing_few test a zero = omega arith
 passing_few test a (suc n) =
     let rest = passing_few test (a + 1) n in
@@ -107,3 +107,10 @@ block_size n k ws = length-map (filter (in_words ws) (range_with_len 0 n)) (λ i
 pub block_count : (k : ℕ) (ws : List ℕ) → passing (in_words ws) 0 4096 ≡ length (block_documents k ws)
 unfolding block_documents
 block_count k ws = sym (block_size 4096 k ws)
+
+pub passing_one : (test : ℕ → Bool) (a : ℕ) → passing test a 1 ≡ cond (test a) 1 0
+passing_one test a =
+    elim (test a) as (λ b. length (cond b (a ∷ filter test (range_with_len (a + 1) 0)) (filter test (range_with_len (a + 1) 0))) ≡ cond b 1 0) [
+      | true ↦ refl
+      | false ↦ refl
+    ]

@@ -270,3 +270,29 @@ module _ {bits : ℕ} (m : Records) (at : VectorCursor bits) (place : IsVectorPl
     λ yes. ap (λ (ps : List (ℕ × ℕ)). filter (nat_le at.doc) (blocks_documents m ps)) (tells yes),
     λ none. by_cases b (λ yes. yes) (λ no. absurd (some_from at.doc (blocks_documents m (pairs_from m at.blocks)) (blocks_ascend m (pairs_from m at.blocks) place.blocks.ascends) (has_first (follows no)) none)),
   )
+
+pub follows_if : (slot used : ℕ) (b : Bool) → (b ≡ true) ↔ (slot < used → ⊥) → b ≡ false → slot < used
+follows_if slot used b tells is = told (cases_lt slot used)
+  where
+    told : (slot < used) ⊎ (used ≤ slot) → slot < used
+    told (inl low) = low
+    told (inr high) = let lost : true ≡ false = sym (tells.1 (λ low. omega (arith, low, high))) ∙ is in absurd (grind (arith, lost))
+
+-- the first document of the first block has a valid number
+pub enter_number : (m : Records) (ps : List (ℕ × ℕ)) (doc : ℕ) → IsInBlock m doc ps → AllByRecursion IsDocNumber (blocks_documents m ps) → IsDocNumber doc
+enter_number m ps doc is all = all_has IsDocNumber (blocks_documents m ps) all doc (first_has m doc ps is)
+
+-- a walk that gathers the documents
+pub fewer_documents : (rest behind : List ℕ) → (rest ≡ [] → ⊥) → behind ≡ drop 1 rest → length behind < length rest
+fewer_documents [] behind some is = absurd (some refl)
+fewer_documents (d ∷ ds) behind some is = let e = ap length is in omega (arith, e)
+
+pub more_documents : (done more rest behind whole : List ℕ) (doc : ℕ) → (rest ≡ [] → ⊥) → doc ≡ first_document rest → behind ≡ drop 1 rest → more ≡ done ++ doc ∷ []
+    → done ++ rest ≡ whole → more ++ behind ≡ whole
+more_documents done more [] behind whole doc some first is new was = absurd (some refl)
+more_documents done more (d ∷ ds) behind whole doc some first is new was =
+    ap₂ (λ (xs ys : List ℕ). xs ++ ys) new is ∙ joins done ∙ ap (λ (x : ℕ). done ++ (x ∷ ds)) first ∙ was
+  where
+    joins : (xs : List ℕ) → (xs ++ doc ∷ []) ++ ds ≡ xs ++ (doc ∷ ds)
+    joins [] = refl
+    joins (x ∷ xs) = ap (λ ys. x ∷ ys) (joins xs)

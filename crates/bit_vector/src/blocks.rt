@@ -21,7 +21,7 @@ pub fn find_block<const OFFSET_BITS: u32, F: Frozen<OFFSET_BITS>>(
     root: EntryRef<OFFSET_BITS>,
     number: u64,
 ) -> Option<EntryRef<OFFSET_BITS>>
-    requires { IsVector (F.records frozen.old) root }
+    requires vector { IsVector (F.records frozen.old) root }
     ensures found { result ≡ lookup (beside_block number) (tree_pairs (F.records frozen.old) root.entry) }
     ensures same { frozen.new ≡ frozen.old }
 {
@@ -51,7 +51,7 @@ pub fn block_words<const OFFSET_BITS: u32, F: Frozen<OFFSET_BITS>>(
     root: EntryRef<OFFSET_BITS>,
     number: u64,
 ) -> [u64; BLOCK_WORDS]
-    requires { IsVector (F.records frozen.old) root }
+    requires vector { IsVector (F.records frozen.old) root }
     ensures bits { (i : ℕ) → i < BLOCK_DOCUMENTS
         → in_words result i ≡ has (vector_documents (F.records frozen.old) root.entry) (BLOCK_DOCUMENTS * number + i) }
     ensures same { frozen.new ≡ frozen.old }

@@ -4,11 +4,11 @@ ghost use Rattle.std.specs.List.{range_with_len, AllByRecursion};
 ghost use Rattle.std.specs.Ordering.{nat_cmp};
 ghost use Rattle.attr_index.specs.Sets.{has, in_words};
 ghost use Rattle.attr_types.specs.Lawful.{IsDocNumber};
-ghost use Rattle.bit_vector.specs.Changes.{vector_most, MakesWithin};
+ghost use Rattle.bit_vector.specs.Changes.{vector_most, IsVectorWidth, MakesWithin};
 ghost use Rattle.bit_vector.specs.Fillings.{block_most, MakesBlock, MakesBlocks};
 ghost use Rattle.bit_vector.specs.Vectors.{count_blocks, is_block_of};
 ghost use Rattle.frozen_btree.specs.Changes.{tree};
-ghost use Rattle.store_api.specs.Calls.{Refuses};
+ghost use Rattle.store_api.specs.Calls.{Refuses, RefusesOf};
 ghost use Rattle.store_api.specs.Parts.{Owns};
 ghost use Rattle.store_api.specs.Units.{MayDo};
 ghost use Rattle.tree_read.specs.Trees.{tree_pairs, by_number, IsTree};
@@ -95,7 +95,7 @@ pub fn make_blocks<const OFFSET_BITS: u32, S: Store<OFFSET_BITS>>(
         (map (λ p. p.0) (tree_pairs (S.records store.old) root.entry)) MOST_BLOCKS blocks) }
     ensures counts { MakesWithin (S.ledger store.old) (S.ledger store.new)
         (vector_most (count_blocks (map (λ p. p.0) (tree_pairs (S.records store.old) root.entry))) 0) }
-    ensures refuses { IfErr result (Refuses (S.ledger store.old) (S.ledger store.new) BLOCK_WORDS) }
+    ensures refuses { IfErr result (RefusesOf IsVectorWidth (S.ledger store.old) (S.ledger store.new)) }
     ensures may { MayDo (S.ledger store.old) (S.ledger store.new) }
 {
     let mut blocks = Blocks {

@@ -56,7 +56,7 @@ pub returns-clause-records : goal.returns-clause-records
 returns-clause-records g c =
     let m = g.F.Frozen.records c.args.frozen.now in
     let inv = c.loop-cursor.invariant in
-    let none = (c.at_end.ensures.pairs m inv.at).0 (sym c.loop-cursor-test.false) in
+    let none = (c.at_end.ensures.pairs m inv.at).0 c.loop-cursor-test.false in
     sym (append-nil c.loop-cursor.records.items)
     ∙ ap (λ (ps : List (ℕ × ℕ)). c.loop-cursor.records.items ++ map (λ p. p.1) ps) (sym none)
     ∙ inv.done
