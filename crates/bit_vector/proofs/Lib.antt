@@ -9,3 +9,4 @@ pub mod OnesLemmas
 pub mod FillLemmas
 pub mod DropLemmas
 pub mod GatherLemmas
+pub mod MoveLemmas

@@ -183,7 +183,7 @@ module _ {H : Type 0} (a b c : Ledger H) (m n o : Records) (root next k ref : �
     (was : listed (lookup (beside_block k) (tree_pairs m root)) ≡ old) (changes : Turns a b m n (tree root ∷ []) (tree next ∷ []))
     (dropped : Turns b c n o (entries old ∷ []) []) (tree_is : IsTree nat_cmp by_number n next)
     (pairs : tree_pairs n next ≡ put (beside_block k) (k, ref) (tree_pairs m root)) where
-  put_pairs : tree_pairs o next ≡ put (beside_block k) (k, ref) (tree_pairs m root)
+  pub put_pairs : tree_pairs o next ≡ put (beside_block k) (k, ref) (tree_pairs m root)
   put_pairs = tree_pairs-same n o next (tree_same a b c m n o root next k old (entry ref ∷ []) is owns was changes dropped) ∙ pairs
 
   put_tree : IsTree nat_cmp by_number o next
@@ -226,7 +226,7 @@ module _ {H : Type 0} (a b c : Ledger H) (m n o : Records) (root next k ref : �
 
 -- the record of a block made, beside a bit vector
 module _ {H : Type 0} (a b : Ledger H) (m n : Records) (root ref : ℕ) (owns : Owns a m (vector_part root ∷ [])) (made : Turns a b m n [] (entry ref ∷ [])) where
-  made_after : After a b m n (vector_part root ∷ []) (vector_part root ∷ entry ref ∷ []) (vector_part root ∷ [])
+  pub made_after : After a b m n (vector_part root ∷ []) (vector_part root ∷ entry ref ∷ []) (vector_part root ∷ [])
   made_after = after a b m n [] (entry ref ∷ []) (vector_part root ∷ []) (vector_part root ∷ []) (vector_part root ∷ entry ref ∷ []) owns made
       (λ h r. omega arith) (λ h r. omega arith)
 

@@ -32,7 +32,7 @@ pub fn find_block<const OFFSET_BITS: u32, F: Frozen<OFFSET_BITS>>(
 }
 
 /// Returns the words of a block's record.
-fn read_block<const OFFSET_BITS: u32, F: Frozen<OFFSET_BITS>>(
+pub fn read_block<const OFFSET_BITS: u32, F: Frozen<OFFSET_BITS>>(
     frozen: &mut F,
     block: EntryRef<OFFSET_BITS>,
 ) -> [u64; BLOCK_WORDS]

@@ -1,5 +1,4 @@
-ghost use Rattle.std.specs.Prelude.{◌≡◌, ◌≢◌, ◌+◌, ◌*◌, ◌∷◌, [], ℕ, true, length, Some, IfOk, IfErr};
-ghost use Rattle.entry_ref.specs.References.{buffer_of};
+ghost use Rattle.std.specs.Prelude.{◌≡◌, ◌+◌, ◌*◌, ◌∷◌, [], true, length, None, Some, IfOk, IfErr};
 ghost use Rattle.bit_vector.specs.Changes.{vector_most, vector_part, MakesWithin};
 ghost use Rattle.bit_vector.specs.Keeps.{block_at};
 ghost use Rattle.bit_vector.specs.Moves.{moved_nodes, CopiesBlock, MovesBlock, MovesWay, PutsBlock};
@@ -10,7 +9,7 @@ ghost use Rattle.store_api.specs.Calls.{IsUsedWidth, Refuses, RefusesOf};
 ghost use Rattle.store_api.specs.Parts.{Owns, entry};
 ghost use Rattle.store_api.specs.Units.{MayDo};
 
-use crate::blocks::find_block;
+use crate::blocks::{find_block, read_block};
 use attr_images::BLOCK_WORDS;
 use entry_ref::EntryRef;
 use frozen_btree::{NumberKey, insert as insert_pair, touch};
@@ -18,6 +17,7 @@ use store_api::{Store, StoreError, drop_one, make_entry};
 use tree_read::NODE_WORDS;
 
 /// Copies the nodes on the way to a block if they lie in the buffer.
+#[tactic(none)]
 fn move_way<const OFFSET_BITS: u32, S: Store<OFFSET_BITS>>(
     store: &mut S,
     root: EntryRef<OFFSET_BITS>,
@@ -38,6 +38,7 @@ fn move_way<const OFFSET_BITS: u32, S: Store<OFFSET_BITS>>(
 }
 
 /// Makes a copy of the record of a block.
+#[tactic(none)]
 fn copy_block<const OFFSET_BITS: u32, S: Store<OFFSET_BITS>>(
     store: &mut S,
     block: EntryRef<OFFSET_BITS>,
@@ -50,12 +51,12 @@ fn copy_block<const OFFSET_BITS: u32, S: Store<OFFSET_BITS>>(
     ensures refuses { IfErr result (Refuses (S.ledger store.old) (S.ledger store.new) BLOCK_WORDS) }
     ensures may { MayDo (S.ledger store.old) (S.ledger store.new) }
 {
-    let mut words = [0; BLOCK_WORDS];
-    store.read(block, 0, &mut words);
+    let words = read_block(store, block);
     make_entry(store, BLOCK_WORDS as u32, &words)
 }
 
 /// Puts a copy of a block's record in its place, and drops the old record.
+#[tactic(none)]
 fn put_copy<const OFFSET_BITS: u32, S: Store<OFFSET_BITS>>(
     store: &mut S,
     root: EntryRef<OFFSET_BITS>,
@@ -80,6 +81,7 @@ fn put_copy<const OFFSET_BITS: u32, S: Store<OFFSET_BITS>>(
 }
 
 /// Moves a block whose record lies in the buffer.
+#[tactic(none)]
 fn move_found<const OFFSET_BITS: u32, S: Store<OFFSET_BITS>>(
     store: &mut S,
     root: EntryRef<OFFSET_BITS>,
@@ -104,8 +106,62 @@ fn move_found<const OFFSET_BITS: u32, S: Store<OFFSET_BITS>>(
     move_way(store, next, number, buffer)
 }
 
+/// Moves a block that is there.
+#[tactic(none)]
+fn move_there<const OFFSET_BITS: u32, S: Store<OFFSET_BITS>>(
+    store: &mut S,
+    root: EntryRef<OFFSET_BITS>,
+    number: u64,
+    block: EntryRef<OFFSET_BITS>,
+    buffer: u32,
+) -> Result<EntryRef<OFFSET_BITS>, StoreError>
+    requires unit { (S.ledger store.old).unit ≡ true }
+    requires sealed { (S.ledger store.old).sealed buffer ≡ true }
+    requires vector { IsVector (S.records store.old) root }
+    requires has { block_at (S.records store.old) root number ≡ Some block }
+    requires owns { Owns (S.ledger store.old) (S.records store.old) (vector_part root ∷ []) }
+    ensures moves { IfOk result (MovesBlock OFFSET_BITS buffer number (S.ledger store.old) (S.ledger store.new)
+        (S.records store.old) (S.records store.new) root.entry) }
+    ensures counts { MakesWithin (S.ledger store.old) (S.ledger store.new) (vector_most 1 moved_nodes) }
+    ensures refuses { IfErr result (RefusesOf (IsUsedWidth (S.ledger store.old) (S.records store.old)) (S.ledger store.old)
+        (S.ledger store.new)) }
+    ensures may { MayDo (S.ledger store.old) (S.ledger store.new) }
+{
+    if block.buffer() != buffer {
+        return move_way(store, root, number, buffer);
+    }
+    move_found(store, root, number, block, buffer)
+}
+
+/// Moves the nodes on the way to a block that is not there.
+#[tactic(none)]
+fn move_missing<const OFFSET_BITS: u32, S: Store<OFFSET_BITS>>(
+    store: &mut S,
+    root: EntryRef<OFFSET_BITS>,
+    number: u64,
+    buffer: u32,
+) -> Result<EntryRef<OFFSET_BITS>, StoreError>
+    requires unit { (S.ledger store.old).unit ≡ true }
+    requires sealed { (S.ledger store.old).sealed buffer ≡ true }
+    requires vector { IsVector (S.records store.old) root }
+    requires lacks { block_at (S.records store.old) root number ≡ None }
+    requires owns { Owns (S.ledger store.old) (S.records store.old) (vector_part root ∷ []) }
+    ensures moves { IfOk result (MovesBlock OFFSET_BITS buffer number (S.ledger store.old) (S.ledger store.new)
+        (S.records store.old) (S.records store.new) root.entry) }
+    ensures counts { MakesWithin (S.ledger store.old) (S.ledger store.new) (vector_most 1 moved_nodes) }
+    ensures refuses { IfErr result (RefusesOf (IsUsedWidth (S.ledger store.old) (S.records store.old)) (S.ledger store.old)
+        (S.ledger store.new)) }
+    ensures may { MayDo (S.ledger store.old) (S.ledger store.new) }
+{
+    if !root.valid() {
+        return Ok(root);
+    }
+    move_way(store, root, number, buffer)
+}
+
 /// Moves a block of a bit vector out of a sealed buffer, if there is one with this number: its record is copied if it lies
 /// there, and so are the nodes on the way to it. Returns the root of the new bit vector, which has the same documents.
+#[tactic(none)]
 pub fn move_block<const OFFSET_BITS: u32, S: Store<OFFSET_BITS>>(
     store: &mut S,
     root: EntryRef<OFFSET_BITS>,
@@ -124,12 +180,7 @@ pub fn move_block<const OFFSET_BITS: u32, S: Store<OFFSET_BITS>>(
     ensures may { MayDo (S.ledger store.old) (S.ledger store.new) }
 {
     match find_block(store, root, number) {
-        Some(block) => {
-            if block.buffer() == buffer {
-                return move_found(store, root, number, block, buffer);
-            }
-            move_way(store, root, number, buffer)
-        }
-        None => move_way(store, root, number, buffer),
+        Some(block) => move_there(store, root, number, block, buffer),
+        None => move_missing(store, root, number, buffer),
     }
 }
