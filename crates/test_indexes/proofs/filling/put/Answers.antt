@@ -5,8 +5,7 @@ use Rattle.test_indexes.proofs.filling.put.Goals as goal
 pub add-requires : goal.add-requires
 add-requires g c =
     let s = c.args.store.now in
-    let index = subst (λ t. IsIndex t (g.S.Frozen.records s) c.args.root) (sym c.requires.typed) c.requires.holds.index_is in
-    (
+    let index = subst (λ t. IsIndex t (g.S.Frozen.records s) c.args.root) (sym c.requires.typed) c.requires.holds.index_is in (
       omega arith,
       (
         c.requires.holds.unit,
