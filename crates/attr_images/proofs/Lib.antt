@@ -1,4 +1,3 @@
-pub mod FilledLemmas
 pub mod TextLemmas
 pub mod ShapeLemmas
 pub mod ListLemmas
