@@ -104,17 +104,7 @@ fn put_weighed<const OFFSET_BITS: u32, S: Store<OFFSET_BITS>>(
         items,
     )?;
     let dictionary = remove_values(
-        alloc,
-        store,
-        kind,
-        value_type,
-        documents,
-        added,
-        doc,
-        old,
-        new,
-        dense,
-        total,
+        alloc, store, kind, value_type, documents, added, doc, old, new, dense, total,
     )?;
     Ok(FieldRoots {
         documents,

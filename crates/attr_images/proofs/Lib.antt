@@ -6,3 +6,4 @@ pub mod TableLemmas
 pub mod ImageLemmas
 pub mod RootLemmas
 pub mod ExampleLemmas
+pub mod FilledLemmas

@@ -98,9 +98,7 @@ fn remove_document<const OFFSET_BITS: u32, S: Store<OFFSET_BITS>>(
     if old.is_none() {
         return Ok(None);
     }
-    let next = change_unit(
-        alloc, store, fields, roots, doc, old, None, dense, total,
-    )?;
+    let next = change_unit(alloc, store, fields, roots, doc, old, None, dense, total)?;
     Ok(Some(next))
 }
 
@@ -195,9 +193,7 @@ pub fn step<const OFFSET_BITS: u32, S: Store<OFFSET_BITS>>(
     let old = document.as_ref();
     match op {
         Op::Put { items, .. } => {
-            put_document(
-                alloc, store, fields, roots, doc, old, items, dense, total,
-            )
+            put_document(alloc, store, fields, roots, doc, old, items, dense, total)
         }
         Op::Update { create, change, .. } => {
             update_document(

@@ -61,9 +61,7 @@ pub fn change_unit<const OFFSET_BITS: u32, S: Store<OFFSET_BITS>>(
 {
     field_law();
     store.begin();
-    match change_document(
-        alloc, store, fields, roots, doc, old, new, dense, total,
-    ) {
+    match change_document(alloc, store, fields, roots, doc, old, new, dense, total) {
         Ok(next) => {
             store.accept();
             Ok(next)

@@ -96,13 +96,13 @@ update_document-requires g c =
               subst (λ f. HaveForms c.args.dense (records f) trees) same c.requires.forms,
               (
                 subst (λ f. OwnsFields (ledger f) (records f) trees) same c.requires.owns,
-              (
-                there,
                 (
-                  (c.doc-doc.ensures.first, c.doc-doc.ensures.last),
-                  subst (λ changes. AllZip (λ field change. ChangeFits field.kind field.value change) fields changes) (sym c.as_slice.ensures) (subst (OpFits fields) c.in-Update.is c.requires.fits).1,
+                  there,
+                  (
+                    (c.doc-doc.ensures.first, c.doc-doc.ensures.last),
+                    subst (λ changes. AllZip (λ field change. ChangeFits field.kind field.value change) fields changes) (sym c.as_slice.ensures) (subst (OpFits fields) c.in-Update.is c.requires.fits).1,
+                  ),
                 ),
-              ),
               ),
             ),
           ),
@@ -141,8 +141,10 @@ remove_document-requires g c =
           c.requires.sized,
           (
             subst (λ f. AreFields (records f) fields trees) same c.requires.fields,
-            (subst (λ f. HaveForms c.args.dense (records f) trees) same c.requires.forms,
-            (subst (λ f. OwnsFields (ledger f) (records f) trees) same c.requires.owns, (there, (c.doc-doc.ensures.first, c.doc-doc.ensures.last)))),
+            (
+              subst (λ f. HaveForms c.args.dense (records f) trees) same c.requires.forms,
+              (subst (λ f. OwnsFields (ledger f) (records f) trees) same c.requires.owns, (there, (c.doc-doc.ensures.first, c.doc-doc.ensures.last))),
+            ),
           ),
         ),
       ),
