@@ -105,8 +105,8 @@ items_nodes kind count l n w low = told (nat_eq w 34)
 
 -- a block of a bit vector, with the nodes on the way to it; and nodes of the dictionary
 block_or_none : (t : Bool) (x y : ℕ) → x ≡ 0 → y ≡ 0 → cond t 1 x + y ≤ cond t 1 0
-block_or_none true x y none no = omega (arith, no)
-block_or_none false x y none no = omega (arith, none, no)
+block_or_none true x y first second = omega (arith, second)
+block_or_none false x y first second = omega (arith, first, second)
 
 vector_nodes : (l w : ℕ) → l ≤ 8 → vector_most 1 moved_nodes w + nodes_most l w ≤ by_width most_nodes (one_record 64) w
 vector_nodes l w few =

@@ -53,6 +53,9 @@ tree_within a b levels count many made = record {
     told w false is = made.others (capacity a.work.sizes.words w) w (eqb-false w 34 is)
 
 -- ---- a list that is no bit vector has no blocks
+no_some : (x : ℕ) → None ≡ Some x → ⊥
+no_some x e = grind (arith, e)
+
 pub plain_block : (m : Records) (word k r : ℕ) → IsPlain word → list_block m word k ≡ Some r → ⊥
 plain_block m word k r plain there = told (word % 2) refl
   where
@@ -60,9 +63,6 @@ plain_block m word k r plain there = told (word % 2) refl
     told zero is = no_some r (sym (ap (λ f. form_block m f k) (form_even word plain is)) ∙ there)
     told (suc zero) is = no_some r (sym (ap (λ f. form_block m f k) (form_odd word plain is)) ∙ there)
     told (suc (suc bit)) is = absurd (omega (arith, is))
-
-    no_some : (x : ℕ) → None ≡ Some x → ⊥
-    no_some x e = grind (arith, e)
 
 pub plain_keeps : (IsOld : ℕ → Type 0) (m n : Records) (word next : ℕ) → IsPlain next → KeepsListBlocks IsOld m n word next
 plain_keeps IsOld m n word next plain = record { each = λ k r there used. absurd (plain_block n next k r plain there) }

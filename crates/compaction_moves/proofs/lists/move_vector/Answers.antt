@@ -8,15 +8,15 @@ pub move_block-requires : goal.move_block-requires
 move_block-requires g c =
     let s = c.args.store.now in
     let m = g.S.Frozen.records s in
-    let at = c.vector_root.ensures in (
+    let at = c.vector_root-root.ensures in (
       omega arith,
       (
         c.requires.unit,
         (
           c.requires.sealed,
           (
-            vector_is m c.args.list c.vector_root.result at c.requires.list,
-            vector_owned m c.args.list c.vector_root.result at (g.S.Store.ledger s) c.requires.owns,
+            vector_is m c.args.list c.vector_root-root.result at c.requires.list,
+            vector_owned m c.args.list c.vector_root-root.result at (g.S.Store.ledger s) c.requires.owns,
           ),
         ),
       ),
@@ -28,7 +28,7 @@ returns-in_err-next-clause-counts g c =
     let records = g.S.Frozen.records in
     let s = c.args.store.now in
     let t = c.move_block.new.store in
-    vector_most_made (ledger s) (ledger t) (records s) (records t) c.args.list c.vector_root.result c.requires.list c.requires.vector c.vector_root.ensures c.move_block.ensures.counts
+    vector_most_made (ledger s) (ledger t) (records s) (records t) c.args.list c.vector_root-root.result c.requires.list c.requires.vector c.vector_root-root.ensures c.move_block.ensures.counts
 
 pub returns-in_err-next-clause-refuses : goal.returns-in_err-next-clause-refuses
 returns-in_err-next-clause-refuses g c =
@@ -40,7 +40,7 @@ returns-clause-moves g c =
     let records = g.S.Frozen.records in
     let s = c.args.store.now in
     let t = c.move_block.new.store in
-    vector_moved (ledger s) (ledger t) (records s) (records t) c.args.list c.vector_root.result c.requires.list c.requires.vector c.vector_root.ensures
+    vector_moved (ledger s) (ledger t) (records s) (records t) c.args.list c.vector_root-root.result c.requires.list c.requires.vector c.vector_root-root.ensures
     g.row.OFFSET_BITS c.args.buffer c.args.doc c.vector_word.result c.in_ok-next.next c.vector_word.ensures.word c.vector_word.ensures.vector c.in_ok-next.ensures.moves
 
 pub returns-clause-counts : goal.returns-clause-counts
@@ -49,4 +49,4 @@ returns-clause-counts g c =
     let records = g.S.Frozen.records in
     let s = c.args.store.now in
     let t = c.move_block.new.store in
-    vector_most_made (ledger s) (ledger t) (records s) (records t) c.args.list c.vector_root.result c.requires.list c.requires.vector c.vector_root.ensures c.move_block.ensures.counts
+    vector_most_made (ledger s) (ledger t) (records s) (records t) c.args.list c.vector_root-root.result c.requires.list c.requires.vector c.vector_root-root.ensures c.move_block.ensures.counts
