@@ -1,6 +1,7 @@
 pub mod DocumentLemmas
 pub mod BitLemmas
 pub mod VectorLemmas
+pub mod KeepLemmas
 pub mod TurnLemmas
 pub mod CountLemmas
 pub mod WalkLemmas

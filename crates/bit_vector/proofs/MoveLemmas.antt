@@ -48,6 +48,7 @@ use Rattle.bit_vector.specs.Moves.{CopiesBlock, MovesBlock, MovesWay, PutsBlock}
 use Rattle.bit_vector.specs.Vectors.{blocks_documents, IsVector}
 use Rattle.bit_vector.proofs.CountLemmas.{within_both, within_more, within_nodes, within_then, within_wider}
 use Rattle.bit_vector.proofs.DropLemmas.{blocks_few, blocks_small}
+use Rattle.bit_vector.proofs.KeepLemmas.{some_is, block_among}
 use Rattle.bit_vector.proofs.TurnLemmas.{refs, IsNumberTree, made_after, made_nodes, made_owns, made_vector, padded_same}
 use Rattle.bit_vector.proofs.VectorLemmas.{bit_there, found_all, same_blocks, vector_ascends, vector_documents-same}
 
@@ -253,25 +254,6 @@ moved_within a b c d l h low high first both copy put way =
     (within_then a c d (vector_most 1 (2 * l + 1)) (vector_most 0 h) both (within_both a b c 1 (2 * l + 1) first copy put) (within_nodes c d h way))
 
 -- ---- widths
-some_is : (x y : ℕ) → Some x ≡ Some y → y ≡ x
-some_is x y e = cc
-
-pub block_among : (m : Records) (root k block : ℕ) → block_at m root k ≡ Some block → Among block ((vector_part root).reach m)
-block_among m root k block found = right (tree_nodes m root) (refs (tree_pairs m root)) (among (tree_pairs m root) found)
-  where
-    right : (xs ys : List ℕ) → Among block ys → Among block (xs ++ ys)
-    right [] ys h = h
-    right (x ∷ xs) ys h = inr (right xs ys h)
-
-    among : (qs : List (ℕ × ℕ)) → lookup (beside_block k) qs ≡ Some block → Among block (refs qs)
-    among [] h = absurd (grind (arith, h))
-    among (q ∷ qs) h =
-        (elim (nat_cmp q.0 k) as (λ o. choose o (lookup (beside_block k) qs) (Some q.1) None ≡ Some block → Among block (refs (q ∷ qs))) [
-          | Less ↦ λ e. inr (among qs e)
-          | Equal ↦ λ e. inl (some_is q.1 block e)
-          | Greater ↦ λ e. absurd (grind (arith, e))
-        ]) h
-
 pub block_used : {H : Type 0} (a : Ledger H) (m : Records) (root k block : ℕ) → IsVector m root → Owns a m (vector_part root ∷ []) → block_at m root k ≡ Some block → IsUsedWidth a m 64
 block_used a m root k block is owns found =
     used_at a m (vector_part root) block 64 owns (block_among m root k block found)

@@ -7,13 +7,14 @@ use Rattle.std.specs.List.{AllByRecursion}
 use Rattle.std.specs.Ordering.{nat_cmp}
 use Rattle.std.proofs.lemmas.List.{append-nil}
 use Rattle.list_facts.proofs.Each.{AllByRecursion-each}
-use Rattle.entry_ref.specs.Records.{Records, SameAt}
+use Rattle.entry_ref.specs.Records.{Records, SameAt, Among}
 use Rattle.arena_api.specs.Calls.{padded}
 use Rattle.store_api.specs.Ledgers.{Ledger}
 use Rattle.store_api.specs.Parts.{Part, After, AllStay, Owns, Turns, count_in, entry, entries, times, uses}
 use Rattle.store_api.specs.declared.store.StoreError.{StoreError}
 use Rattle.store_api.proofs.PartLemmas.{after, owns-some, owns-then, turns-as, turns-then}
-use Rattle.store_api.proofs.Times.{times-append}
+use Rattle.store_api.proofs.Times.{among-times, times-append, times-same}
+use Rattle.store_api.proofs.Uses.{uses-few}
 use Rattle.tree_read.specs.Keys.{IsKeyedTree}
 use Rattle.tree_read.specs.Pairs.{choose, lookup, put, take_out}
 use Rattle.tree_read.specs.ProofsForTrees.{tree_pairs-same, IsTree-same}
@@ -25,7 +26,8 @@ use Rattle.attr_images.specs.Postings.{block_documents, vector_documents, IsBloc
 use Rattle.attr_index.specs.Sets.{has, in_words}
 use Rattle.bit_vector.specs.Blocks.{beside_block, SetsBlock}
 use Rattle.bit_vector.specs.Changes.{vector_part}
-use Rattle.bit_vector.specs.Vectors.{blocks_documents, IsVector}
+use Rattle.bit_vector.specs.Vectors.{blocks_documents, vector_reach, IsVector}
+use Rattle.bit_vector.proofs.KeepLemmas.{out_keeps, put_keeps}
 use Rattle.bit_vector.proofs.VectorLemmas.{numbers_from, out_documents, put_documents, same_blocks, vector_stays, vector_documents-same}
 
 -- a tree whose keys are numbers, as the calls of trees ask for it
@@ -173,6 +175,7 @@ module _ {H : Type 0} (a b c : Ledger H) (m n o : Records) (root next k : ℕ) (
               numbers = numbers_from k [] (vector_documents m root) (vector_documents o next) few is.numbers out_have;
             };
             documents = out_have;
+            blocks = out_keeps m o root next k is out_pairs;
             owns = owns-then a c m o (vector_part root ∷ []) (vector_part next ∷ []) alone out_turns;
             turns = out_turns;
           }
@@ -210,6 +213,14 @@ module _ {H : Type 0} (a b c : Ledger H) (m n o : Records) (root next k ref : �
       let more = refs-put r (beside_block k) (k, ref) (tree_pairs m root) in
       omega arith)
 
+  apart : Among ref (vector_reach m root) → ⊥
+  apart there =
+      let all = owns.each ref in
+      let own = times-same ref ref [] refl in
+      let other = among-times ref (vector_reach m root) there in
+      let few = uses-few a ref in
+      omega arith
+
   pub puts_block : SetsBlock a c m o root (vector_part root ∷ entry ref ∷ []) k (m ref) next
   puts_block = record {
     vector_is = record {
@@ -220,6 +231,7 @@ module _ {H : Type 0} (a b c : Ledger H) (m n o : Records) (root next k ref : �
       numbers = numbers_from k (m ref) (vector_documents m root) (vector_documents o next) numbers is.numbers put_have;
     };
     documents = put_have;
+    blocks = put_keeps m o root next k ref put_pairs apart;
     owns = owns-then a c m o (vector_part root ∷ entry ref ∷ []) (vector_part next ∷ []) owns put_turns;
     turns = put_turns;
   }
@@ -251,6 +263,10 @@ module _ {H : Type 0} (a b : Ledger H) (m n : Records) (root ref : ℕ) (owns : 
     documents = λ d.
         sets.documents d
         ∙ ap₂ (λ (ws ds : List ℕ). cond (nat_eq (d / 4096) k) (in_words ws (d % 4096)) (has ds d)) is (vector_documents-same m n root made_after.stay.0);
+    blocks = record {
+      each = λ j r there old. ap (lookup (beside_block j)) (sym (tree_pairs-same m n root made_nodes))
+          ∙ sets.blocks.each j r there (subst (Among r) (sym ((vector_part root).stays m n made_after.stay.0)) old);
+    };
     owns = sets.owns;
     turns = turns-then a b c m n o (vector_part root ∷ []) (vector_part root ∷ entry ref ∷ []) (vector_part next ∷ []) made_after.turns sets.turns;
   }
@@ -269,7 +285,7 @@ padded_same words size = ap (λ n. words ++ replicate (64 - n) 0) size ∙ appen
 pub sets_none : {H : Type 0} (a : Ledger H) (m : Records) (root k : ℕ) → IsVector m root → Owns a m (vector_part root ∷ [])
     → ((d : ℕ) → has (vector_documents m root) d ≡ cond (nat_eq (d / 4096) k) (in_words [] (d % 4096)) (has (vector_documents m root) d))
     → SetsBlock a a m m root (vector_part root ∷ []) k [] root
-sets_none a m root k is owns same = record { vector_is = is; documents = same; owns = owns; turns = record { kept = λ r h. refl; balance = λ r. refl } }
+sets_none a m root k is owns same = record { vector_is = is; documents = same; blocks = record { each = λ j r there old. there }; owns = owns; turns = record { kept = λ r h. refl; balance = λ r. refl } }
 
 -- what the calls of the tree say, as one
 pub adds_block : {H : Type 0} (a b : Ledger H) (m n : Records) (root k ref value : ℕ) → IsVector m root → IsBlock k (m ref) → AllByRecursion IsDocNumber (block_documents k (m ref))

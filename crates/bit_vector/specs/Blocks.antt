@@ -2,14 +2,15 @@
 use Rattle.std.specs.Prelude.{◌≡◌, ◌/◌, ◌%◌, ◌*◌, ◌<◌, ◌≤◌, ℕ, nat_eq, if◌then◌else◌, true, false, List, [], ◌∷◌, length}
 use Rattle.std.specs.declared.cmp.Ordering.{Ordering}
 use Rattle.std.specs.Ordering.{nat_cmp}
-use Rattle.entry_ref.specs.Records.{Records}
+use Rattle.entry_ref.specs.Records.{Records, Among}
 use Rattle.store_api.specs.Ledgers.{Ledger}
 use Rattle.store_api.specs.Parts.{Part, Owns, Turns}
 use Rattle.attr_images.specs.Postings.{vector_documents}
 use Rattle.attr_images.specs.declared.TheConstants.{BLOCK_DOCUMENTS}
 use Rattle.attr_index.specs.Sets.{has, in_words}
 use Rattle.bit_vector.specs.Changes.{vector_part}
-use Rattle.bit_vector.specs.Vectors.{IsVector}
+use Rattle.bit_vector.specs.Keeps.{KeepsBlocks}
+use Rattle.bit_vector.specs.Vectors.{vector_reach, IsVector}
 
 -- compares a stored number with that of the sought block
 abbrev pub beside_block : ℕ → ℕ → Ordering
@@ -29,11 +30,12 @@ pub record IsNextBit (words : List ℕ) (from bit : ℕ) : Type 0 where
   pub set : bit < BLOCK_DOCUMENTS → in_words words bit ≡ true
 
 -- a bit vector was made in place of parts. In block k it has the documents of these words, elsewhere those of another
--- bit vector
+-- bit vector, and a block whose record that one had was this block of it
 pub record SetsBlock {H : Type 0} (old new : Ledger H) (m n : Records) (root : ℕ) (parts : List Part) (k : ℕ) (words : List ℕ) (next : ℕ)
     : Type 0 where
   pub vector_is : IsVector n next
   pub documents : (doc : ℕ) → has (vector_documents n next) doc
       ≡ (if nat_eq (doc / BLOCK_DOCUMENTS) k then in_words words (doc % BLOCK_DOCUMENTS) else has (vector_documents m root) doc)
+  pub blocks : KeepsBlocks (λ r. Among r (vector_reach m root)) m n root next
   pub owns : Owns new n (vector_part next ∷ [])
   pub turns : Turns old new m n parts (vector_part next ∷ [])
