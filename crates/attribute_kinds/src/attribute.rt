@@ -288,7 +288,8 @@ impl<const OFFSET_BITS: u32, S: Store<OFFSET_BITS, Layout = AttrLayout>> Attribu
         ensures steps { IfOk result (CompactsTo OFFSET_BITS S.ledger S.records self.old self.new keys) }
         ensures refuses { IfErr result (RefusesStep OFFSET_BITS S.ledger S.records self.old self.new) }
         ensures idle { IsIdle OFFSET_BITS (S.ledger self.old.store) self.old.plan → result ≡ Ok Idle }
-        ensures makes { MakesKeys self.old.fields self.old.table (S.ledger self.old.store) (S.ledger self.new.store) keys }
+        ensures makes { MakesKeys (self.old.dense ≡ false) self.old.fields self.old.table (S.ledger self.old.store)
+            (S.ledger self.new.store) keys }
         ensures keeps { KeepsStoreBut (S.ledger self.old.store) (S.ledger self.new.store) }
         ensures table { self.new.table ≡ self.old.table }
         ensures operations { self.new.operations ≡ self.old.operations }

@@ -10,9 +10,12 @@ use Rattle.entry_ref.specs.Records.{Records, SameAt}
 use Rattle.tree_read.specs.ProofsForTrees.{SameAt-left, SameAt-right, flat_map-same, map-same, tree_pairs-same}
 use Rattle.tree_read.specs.Trees.{tree_nodes, tree_pairs}
 use Rattle.attr_field.specs.Documents.{documents_own, items_own}
+use Rattle.attr_field.specs.Forms.{wants}
 use Rattle.attr_images.specs.Postings.{dictionary_reach, list_form, postings_reach}
 use Rattle.attr_images.specs.Tables.{AttributeTrees}
 use Rattle.attr_images.specs.Values.{stored_value, value_of}
+use Rattle.attr_types.specs.declared.kind.Kind.{Kind}
+use Rattle.attr_types.specs.declared.kind.Kind.TheVariants.{Single, Array, WeightedSet}
 use Rattle.attr_types.specs.declared.kind.ValueType.{ValueType}
 use Rattle.attr_types.specs.declared.value.Value.{Value as AnyValue}
 use Rattle.attr_compaction.specs.Places.{has_key, key_cmp, IsPast, PlanPlace}
@@ -20,8 +23,9 @@ use Rattle.attr_compaction.specs.declared.plan.PlanKey.{PlanKey}
 use Rattle.attr_compaction.specs.declared.plan.PlanKey.TheVariants.{Value, Doc, Pair}
 use Rattle.attr_compaction.specs.declared.plan.TheConstants.{DOCUMENTS, KEYS, LISTS, PHASES}
 use Rattle.value_index.specs.Indexes.{index_reach}
+use Rattle.value_index.proofs.FormLemmas.{form_stays}
 use Rattle.attr_compaction.specs.PhaseKeys.{document_keys, form_docs, key_past, keys_of_pairs, pair_keys, value_keys, HasType}
-use Rattle.attr_steps.specs.Fields.{part_of}
+use Rattle.attr_steps.specs.Fields.{part_of, HaveForms, KeepForms}
 use Rattle.compaction_moves.proofs.BlockLemmas.{docs_same}
 use Rattle.posting_store.specs.Lists.{IsPlain}
 use Rattle.compact_steps.specs.Units.{keys_at, ArePlain, KeepKeys, KeepsKeys}
@@ -132,17 +136,25 @@ all_keep m n (a ∷ trees) (b ∷ next) sized each = (each 0 a b refl refl, all_
 
 pub same_keys : (m : Records) (trees : List AttributeTrees) → KeepKeys m m trees trees
 same_keys m [] = tt
-same_keys m (a ∷ trees) = (record { keys = λ phase. refl; plain = λ plain. plain }, same_keys m trees)
+same_keys m (a ∷ trees) = (record { keys = λ phase. refl; plain = λ plain. plain; form = λ dense is. is }, same_keys m trees)
 
 -- an attribute whose records stay
 pub keeps_stay : (m n : Records) (a : AttributeTrees) → SameAt ((part_of a).reach m) m n → KeepsKeys m n a a
 keeps_stay m n a same =
     let index = SameAt-right m n (documents_own a.kind m a.documents) (index_reach m a.dictionary) same in
     let nodes = SameAt-left m n (tree_nodes m a.dictionary) (dictionary_reach m a.dictionary) index in
-    record { keys = keys_stay m n a same; plain = λ plain. subst (AllByRecursion (λ p. IsPlain p.1)) (sym (tree_pairs-same m n a.dictionary nodes)) plain }
+    record {
+      keys = keys_stay m n a same;
+      plain = λ plain. subst (AllByRecursion (λ p. IsPlain p.1)) (sym (tree_pairs-same m n a.dictionary nodes)) plain;
+      form = λ dense is. form_stays a.type m n a.dictionary index (wants dense a.kind) is;
+    }
 
 pub keeps_then : (m n o : Records) (a b d : AttributeTrees) → KeepsKeys m n a b → KeepsKeys n o b d → KeepsKeys m o a d
-keeps_then m n o a b d first second = record { keys = λ phase. second.keys phase ∙ first.keys phase; plain = λ plain. second.plain (first.plain plain) }
+keeps_then m n o a b d first second = record {
+  keys = λ phase. second.keys phase ∙ first.keys phase;
+  plain = λ plain. second.plain (first.plain plain);
+  form = λ dense is. second.form dense (first.form dense is);
+}
 
 -- the keys alone
 pub keys_of_all : (m n : Records) (trees next : List AttributeTrees) → KeepKeys m n trees next → AllZip (λ a b. (phase : ℕ) → keys_at n b phase ≡ keys_at m a phase) trees next
@@ -157,3 +169,20 @@ plain_kept m n [] [] keep plain = tt
 plain_kept m n [] (b ∷ next) keep plain = absurd keep
 plain_kept m n (a ∷ trees) [] keep plain = absurd keep
 plain_kept m n (a ∷ trees) (b ∷ next) keep plain = (keep.0.plain plain.0, plain_kept m n trees next keep.1 plain.1)
+
+-- the forms of all
+pub forms_kept : (m n : Records) (trees next : List AttributeTrees) → KeepKeys m n trees next → KeepForms m n trees next
+forms_kept m n [] [] keep dense are = tt
+forms_kept m n [] (b ∷ next) keep dense are = absurd keep
+forms_kept m n (a ∷ trees) [] keep dense are = absurd keep
+forms_kept m n (a ∷ trees) (b ∷ next) keep dense are = (keep.0.form dense are.0, forms_kept m n trees next keep.1 dense are.1)
+
+-- without the flag no list is a bit vector
+unwanted : (dense : Bool) (kind : Kind) → dense ≡ false → wants dense kind ≡ false
+unwanted dense Single off = off
+unwanted dense Array off = off
+unwanted dense WeightedSet off = refl
+
+pub forms_plain : (dense : Bool) (m : Records) (trees : List AttributeTrees) → HaveForms dense m trees → dense ≡ false → ArePlain m trees
+forms_plain dense m [] are off = tt
+forms_plain dense m (a ∷ trees) are off = (are.0.plain (unwanted dense a.kind off), forms_plain dense m trees are.1 off)

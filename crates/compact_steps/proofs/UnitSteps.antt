@@ -22,10 +22,16 @@ use Rattle.store_api.proofs.Uses.{used_has}
 use Rattle.compaction_moves.specs.IndexMoves.{IsKeyIn}
 use Rattle.attr_field.specs.Documents.{documents_refer}
 use Rattle.attr_images.specs.Documents.{column_at}
-use Rattle.attr_index.specs.Columns.{Column}
+use Rattle.attr_index.specs.Columns.{documents_with, Column}
+use Rattle.attr_index.specs.Index.{list_of}
 use Rattle.compaction_moves.specs.Counts.{most_nodes, one_record, MakesKey}
 use Rattle.value_index.specs.Counts.{by_width}
 use Rattle.attr_field.specs.Fields.{field_part, IsField}
+use Rattle.attr_field.specs.Forms.{wants}
+use Rattle.attr_images.specs.Postings.{index_of}
+use Rattle.attr_types.specs.declared.value.Value.{Value}
+use Rattle.posting_store.specs.Lists.{AreOnes}
+use Rattle.value_index.specs.Forms.{IsOfForm, IsPlainIndex}
 use Rattle.compaction_moves.specs.Cleared.{IsCleared, IsClearedField}
 use Rattle.compact_steps.specs.StepsLaws.{OthersStayCleared, StayLeavesCleared}
 use Rattle.attr_compaction.specs.Places.{PlanPlace, PlanView}
@@ -38,7 +44,7 @@ use Rattle.attr_types.specs.declared.kind.ValueType.{ValueType}
 use Rattle.attr_field.proofs.CopyLemmas.{refers_some}
 use Rattle.attr_compaction.specs.PhaseKeys.{key_past, phase_keys, HasType}
 use Rattle.attr_steps.specs.Calls.{KeepsStore}
-use Rattle.attr_steps.specs.Fields.{AllReferBeside, HoldsAttributes, IsFieldAt, part_of, parts_of, root_entries}
+use Rattle.attr_steps.specs.Fields.{AllReferBeside, HoldsAttributes, IsFieldAt, IsOfFormAt, part_of, parts_of, root_entries}
 use Rattle.attr_steps.proofs.Columns.{FieldLaws}
 use Rattle.attr_steps.proofs.CountLemmas.{spares_among}
 use Rattle.attr_steps.proofs.PartLists.{count_at}
@@ -171,9 +177,24 @@ key_lies bits victim dictionary m [] all r among = absurd among
 key_lies bits victim dictionary m (q ∷ left) all r (inl e) = ap (buffer_of bits) e ∙ all.0.lies
 key_lies bits victim dictionary m (q ∷ left) all r (inr later) = key_lies bits victim dictionary m left all.1 r later
 
-part_moved : {H : Type 0} (bits victim : ℕ) (old mid : Ledger H) (m n : Records) (a b : AttributeTrees) → b.kind ≡ a.kind → b.type ≡ a.type
+-- the index is of the same form, since it has the same lists
+form_moved : (m n : Records) (a b : AttributeTrees) → b.kind ≡ a.kind → b.type ≡ a.type → IsFieldAt m a → IsField a.kind a.type n b.documents b.dictionary
+    → column_at a.kind a.type n b.documents ≡ column_at a.kind a.type m a.documents → (IsPlainIndex m a.dictionary → IsPlainIndex n b.dictionary) → (dense : Bool)
+    → IsOfFormAt dense m a → IsOfFormAt dense n b
+form_moved m n a b kind type was now column plain dense is =
+    subst (λ (k : Kind). IsOfForm (wants dense k) b.type n b.dictionary) (sym kind)
+    (subst (λ (t : ValueType). IsOfForm (wants dense a.kind) t n b.dictionary) (sym type)
+    (record {
+      ones = λ wanted value. subst AreOnes (sym (same value)) (is.ones wanted value);
+      plain = λ off. plain (is.plain off);
+    }))
+  where
+    same : (value : Value) → list_of value (index_of a.type n b.dictionary) ≡ list_of value (index_of a.type m a.dictionary)
+    same value = now.index_of_documents.lists value ∙ ap (documents_with value) column ∙ sym (was.index_of_documents.lists value)
+
+part_moved : {H : Type 0} (bits victim : ℕ) (old mid : Ledger H) (m n : Records) (a b : AttributeTrees) → b.kind ≡ a.kind → b.type ≡ a.type → IsFieldAt m a
     → MovesField bits victim a.kind a.type old mid m n a.documents a.dictionary b.documents b.dictionary → MovesPart bits victim old mid m n a b
-part_moved bits victim old mid m n a b kind type moves = record {
+part_moved bits victim old mid m n a b kind type was moves = record {
   left = moves.left;
   left_in = key_lies bits victim a.dictionary m moves.left moves.left_in;
   is_field = subst (λ (k : Kind). IsField k b.type n b.documents b.dictionary) (sym kind)
@@ -183,16 +204,17 @@ part_moved bits victim old mid m n a b kind type moves = record {
   keys = record {
     keys = λ phase. ap (λ (t : ValueType). phase_keys t n b.documents b.dictionary phase) type ∙ moves.keys_are phase;
     plain = moves.plain;
+    form = form_moved m n a b kind type was moves.field_is moves.column_is moves.plain;
   };
   turns = subst (λ (k : Kind). Turns old mid m n (part_of a ∷ []) (field_part k b.documents b.dictionary ∷ entries moves.left ∷ [])) (sym kind) moves.turns;
 }
 
 pub part_begun : {H : Type 0} (bits victim : ℕ) (old begun mid : Ledger H) (m k n : Records) (a b : AttributeTrees) → b.kind ≡ a.kind → b.type ≡ a.type
-    → begun ≡ record old { unit = true } → k ≡ m
+    → begun ≡ record old { unit = true } → k ≡ m → IsFieldAt k a
     → MovesField bits victim a.kind a.type begun mid k n a.documents a.dictionary b.documents b.dictionary → MovesPart bits victim (record old { unit = true }) mid m n a b
-part_begun bits victim old begun mid m k n a b kind type begins records moves =
+part_begun bits victim old begun mid m k n a b kind type begins records was moves =
     subst (λ (l : Ledger _). MovesPart bits victim l mid m n a b) begins
-    (subst (λ (f : Records). MovesPart bits victim begun mid f n a b) records (part_moved bits victim begun mid k n a b kind type moves))
+    (subst (λ (f : Records). MovesPart bits victim begun mid f n a b) records (part_moved bits victim begun mid k n a b kind type was moves))
 
 -- ---- the width of a full store
 -- a record of it was in use as the unit began, and so it is again: it lies in an active buffer

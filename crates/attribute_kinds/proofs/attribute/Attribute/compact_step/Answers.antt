@@ -1,4 +1,4 @@
-use Rattle.std.proofs.Common.{◌≡◌, ◌≤◌, List, Option, length, refl, inl, sym, ap, subst, ◌∙◌, arith}
+use Rattle.std.proofs.Common.{◌≡◌, ◌≤◌, false, List, Option, length, refl, inl, sym, ap, subst, ◌∙◌, arith}
 use Rattle.std.proofs.lemmas.List.{with_items_is}
 use Rattle.std.specs.Prelude.{IfErr, IfOk}
 use Rattle.std.specs.Option.{IfSome}
@@ -13,9 +13,10 @@ use Rattle.attr_types.specs.declared.field.Field.{Field}
 use Rattle.attr_types.specs.declared.field.TheConstants.{MOST_FIELDS}
 use Rattle.attr_steps.proofs.StepLemmas.{keeps_same}
 use Rattle.attr_steps.specs.Fields.{HaveForms, HoldsAttributes, KeepForms, trees_of}
-use Rattle.compact_steps.specs.Units.{IsUnderWay}
+use Rattle.compact_steps.specs.Units.{ArePlain, IsUnderWay}
 use Rattle.attr_steps.specs.Views.{table_at}
-use Rattle.compact_steps.proofs.KeyCounts.{keys_none}
+use Rattle.compact_steps.proofs.KeyCounts.{keys_none, keys_plain}
+use Rattle.compact_steps.proofs.KeyLemmas.{forms_plain}
 use Rattle.compact_steps.specs.Counts.{MakesKeys}
 use Rattle.compact_steps.specs.Compactions.{Compacts, KeepsStoreBut}
 use Rattle.compact_steps.specs.Walks.{HasLastField}
@@ -341,9 +342,13 @@ returns-clause-makes g c =
     let old = inside.store in
     let new = c.compact-plan.new.store in
     let fields = inside.fields in
-    let first = subst (λ (fs : List Field). MakesKeys fs (table_at (records old) (trees_of fs c.deref_mut.result.now)) (ledger old) (ledger new) c.args.keys) c.as_slice.ensures c.compact-plan.ensures.counts in
-    let made = subst (λ (xs : List (FieldRoots g.row.OFFSET_BITS)). MakesKeys fields (table_at (records old) (trees_of fields xs)) (ledger old) (ledger new) c.args.keys) c.deref_mut.ensures.value first in
-    subst (λ (v : AttributeView g.row.S.Denot). MakesKeys v.fields v.table (ledger v.store) (ledger new) c.args.keys) c.self.view_is made
+    let trees = trees_of fields inside.roots.items in
+    let first = subst (λ (fs : List Field). MakesKeys (ArePlain (records old) (trees_of fs c.deref_mut.result.now)) fs (table_at (records old) (trees_of fs c.deref_mut.result.now)) (ledger old) (ledger new) c.args.keys)
+    c.as_slice.ensures c.compact-plan.ensures.counts in
+    let made = subst (λ (xs : List (FieldRoots g.row.OFFSET_BITS)). MakesKeys (ArePlain (records old) (trees_of fields xs)) fields (table_at (records old) (trees_of fields xs)) (ledger old) (ledger new) c.args.keys)
+    c.deref_mut.ensures.value first in
+    let plain = keys_plain fields (table_at (records old) trees) (ledger old) (ledger new) c.args.keys (forms_plain inside.dense (records old) trees c.self.invariant.forms) made in
+    subst (λ (v : AttributeView g.row.S.Denot). MakesKeys (v.dense ≡ false) v.fields v.table (ledger v.store) (ledger new) c.args.keys) c.self.view_is plain
 
 pub returns-then-self-clause-dense : goal.returns-then-self-clause-dense
 returns-then-self-clause-dense g c = refl
