@@ -66,9 +66,11 @@ fn owns(readers: u64, loops: u64) -> u64 {
         for _ in 0..readers {
             scope.spawn(|| {
                 let word = AtomicU64::new(0);
+                let (word, mut seen) = (black_box(&word), 0u64);
                 for _ in 0..loops {
-                    black_box(black_box(&word).load(SeqCst));
+                    seen = seen.wrapping_add(word.load(SeqCst));
                 }
+                black_box(seen);
             });
         }
     });

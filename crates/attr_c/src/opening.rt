@@ -14,7 +14,25 @@ use attr_types::Fields;
 use attribute_kinds::Attribute;
 use entry_store::EntryStore;
 use std::alloc::{AllocError, Global};
-use word_arena::{Arena, Config, Limits, Writer};
+use word_arena::{Arena, Config, Limits, MOST_COMMITS, MOST_GENERATIONS, Writer};
+
+/// The least number of words of a buffer.
+const LEAST_WORDS: u32 = 8192;
+
+/// The greatest number of words of a buffer.
+const MOST_WORDS: u32 = 65536;
+
+/// The greatest number of buffers where a reference has 10 bits for the buffer.
+const MOST_BUFFERS: u32 = 1023;
+
+/// The greatest number of buffers where a reference has 13 bits for the buffer.
+const MOST_WIDE_BUFFERS: u32 = 8191;
+
+/// The greatest number of words of all buffers together.
+const MOST_WORDS_IN_ALL: u64 = 67_108_864;
+
+/// The greatest number of readers.
+const MOST_READERS: u32 = 64;
 
 /// Returns a value, whose type may cross to another thread.
 pub fn may_cross<T: Send>(value: T) -> T
@@ -98,8 +116,8 @@ fn config_of(fields: &Fields, sizes: &Sizes) -> Config
         words: sizes.words,
         shape: shape_of(fields),
         limits: Limits {
-            commits: 4_294_967_295,
-            generations: 281_474_976_710_655,
+            commits: MOST_COMMITS,
+            generations: MOST_GENERATIONS,
         },
     }
 }
@@ -212,21 +230,25 @@ pub fn opened_in_bounds(
     requires few { length fields ≤ MOST_FIELDS }
     ensures { IfOk result (λ found. IfSome found (IsOpened fields)) }
 {
-    if sizes.buffers < 1 || sizes.words < 8192 || sizes.words > 65536 || sizes.readers > 64 {
+    if sizes.buffers < 1
+        || sizes.words < LEAST_WORDS
+        || sizes.words > MOST_WORDS
+        || sizes.readers > MOST_READERS
+    {
         return Ok(None);
     }
-    if u64::from(sizes.buffers) * u64::from(sizes.words) > 67_108_864 {
+    if u64::from(sizes.buffers) * u64::from(sizes.words) > MOST_WORDS_IN_ALL {
         return Ok(None);
     }
     let config = config_of(&fields, sizes);
     if sizes.wide == 0 {
-        if sizes.buffers > 1023 {
+        if sizes.buffers > MOST_BUFFERS {
             return Ok(None);
         }
         let open = narrow_open(alloc, config, fields, sizes)?;
         return Ok(Some(AnyOpen::Narrow(open)));
     }
-    if sizes.buffers > 8191 {
+    if sizes.buffers > MOST_WIDE_BUFFERS {
         return Ok(None);
     }
     let open = wide_open(alloc, config, fields, sizes)?;

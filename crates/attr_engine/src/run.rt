@@ -30,7 +30,7 @@ use attr_rounds::{Asked, Round, Saving, Told};
 use attr_types::{Field, Fields, Op};
 use std::alloc::{AllocError, Global};
 use std::thread::Threads;
-use word_arena::{Arena, Config, Limits, Writer};
+use word_arena::{Arena, Config, Limits, MOST_COMMITS, MOST_GENERATIONS, Writer};
 
 /// Returns how many readers run beside the loading, and how many after it.
 fn parts(after: bool, readers: u32) -> (u32, u32)
@@ -233,8 +233,8 @@ pub fn run_engine<const OFFSET_BITS: u32, R: Threads + Sync, G: Gate + Sync + 's
         words: request.words,
         shape: shape_of(&request.fields),
         limits: Limits {
-            commits: 4_294_967_295,
-            generations: 281_474_976_710_655,
+            commits: MOST_COMMITS,
+            generations: MOST_GENERATIONS,
         },
     };
     let (arena, token) = Arena::create(alloc, config)?;

@@ -1,4 +1,3 @@
-pub mod FilledLemmas
 pub mod TextLemmas
 pub mod ShapeLemmas
 pub mod ListLemmas
@@ -7,3 +6,4 @@ pub mod TableLemmas
 pub mod ImageLemmas
 pub mod RootLemmas
 pub mod ExampleLemmas
+pub mod FilledLemmas

@@ -9,3 +9,4 @@ pub mod SavingLemmas
 pub mod StoredLemmas
 pub mod Wholes
 pub mod WriteLemmas
+pub mod FirstLemmas

@@ -54,14 +54,20 @@ fn value_in(name: &str) -> Result<ValueType, WordsError>
     value_named(name).ok_or(WordsError::Value)
 }
 
+/// The greatest number of words in all buffers, which wide references can name.
+const MOST_WORDS: u64 = 67_108_864;
+
+/// The greatest number of buffers that references can name which are not wide.
+const MOST_BUFFERS: u32 = 1_023;
+
 /// Returns whether references cannot name all of a store's buffers and words.
 fn are_too_many(wide: bool, buffers: u32, words: u32) -> bool
     ensures { result ≡ are_too_many wide buffers words }
 {
     if wide {
-        u64::from(buffers) * u64::from(words) > 1 << 26
+        u64::from(buffers) * u64::from(words) > MOST_WORDS
     } else {
-        buffers > 1_023
+        buffers > MOST_BUFFERS
     }
 }
 

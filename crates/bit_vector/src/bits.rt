@@ -34,6 +34,7 @@ pub fn clear_bit(words: &mut [u64], i: u32)
 }
 
 /// Returns whether no bit is 1.
+#[tactic(none)]
 pub fn is_empty(words: &[u64]) -> bool
     ensures none { result ≡ true → (i : ℕ) → in_words words.now i ≡ false }
     ensures some { result ≡ false → HasBit words.now }
@@ -47,6 +48,7 @@ pub fn is_empty(words: &[u64]) -> bool
 }
 
 /// Returns the first bit from `from` on that is 1, or the number of bits.
+#[tactic(none)]
 pub fn next_bit<const OFFSET_BITS: u32, F: Frozen<OFFSET_BITS>>(
     frozen: &mut F,
     block: EntryRef<OFFSET_BITS>,
@@ -57,11 +59,13 @@ pub fn next_bit<const OFFSET_BITS: u32, F: Frozen<OFFSET_BITS>>(
     ensures next { IsNextBit (F.records frozen.old block.entry) from result }
     ensures same { frozen.new ≡ frozen.old }
 {
-    for i in from..BLOCK_DOCUMENTS as u32 {
-        let word = frozen.word(block, i / 64);
-        if (word >> (i % 64)) & 1 == 1 {
-            return i;
+    let mut i = from;
+    while i < BLOCK_DOCUMENTS as u32 {
+        let left = frozen.word(block, i / 64) >> (i % 64);
+        if left != 0 {
+            return i + left.trailing_zeros();
         }
+        i = (i / 64 + 1) * 64;
     }
     BLOCK_DOCUMENTS as u32
 }

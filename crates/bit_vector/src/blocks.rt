@@ -19,13 +19,13 @@ pub const BLOCK_SIZE: u32 = BLOCK_DOCUMENTS as u32;
 pub fn find_block<const OFFSET_BITS: u32, F: Frozen<OFFSET_BITS>>(
     frozen: &mut F,
     root: EntryRef<OFFSET_BITS>,
-    block: u64,
+    number: u64,
 ) -> Option<EntryRef<OFFSET_BITS>>
-    requires { IsVector (F.records frozen.old) root }
-    ensures found { result ≡ lookup (beside_block block) (tree_pairs (F.records frozen.old) root.entry) }
+    requires vector { IsVector (F.records frozen.old) root }
+    ensures found { result ≡ lookup (beside_block number) (tree_pairs (F.records frozen.old) root.entry) }
     ensures same { frozen.new ≡ frozen.old }
 {
-    match find(frozen, root, &NumberKey(block)) {
+    match find(frozen, root, &NumberKey(number)) {
         Some((_, stored)) => Some(EntryRef::from_raw(stored as u32)),
         None => None,
     }
@@ -34,14 +34,14 @@ pub fn find_block<const OFFSET_BITS: u32, F: Frozen<OFFSET_BITS>>(
 /// Returns the words of a block's record.
 fn read_block<const OFFSET_BITS: u32, F: Frozen<OFFSET_BITS>>(
     frozen: &mut F,
-    record: EntryRef<OFFSET_BITS>,
+    block: EntryRef<OFFSET_BITS>,
 ) -> [u64; BLOCK_WORDS]
-    requires size { length (F.records frozen.old record) ≡ BLOCK_WORDS }
-    ensures words { result ≡ F.records frozen.old record.entry }
+    requires size { length (F.records frozen.old block) ≡ BLOCK_WORDS }
+    ensures words { result ≡ F.records frozen.old block.entry }
     ensures same { frozen.new ≡ frozen.old }
 {
     let mut words = [0; BLOCK_WORDS];
-    frozen.read(record, 0, &mut words);
+    frozen.read(block, 0, &mut words);
     words
 }
 
@@ -49,15 +49,15 @@ fn read_block<const OFFSET_BITS: u32, F: Frozen<OFFSET_BITS>>(
 pub fn block_words<const OFFSET_BITS: u32, F: Frozen<OFFSET_BITS>>(
     frozen: &mut F,
     root: EntryRef<OFFSET_BITS>,
-    block: u64,
+    number: u64,
 ) -> [u64; BLOCK_WORDS]
-    requires { IsVector (F.records frozen.old) root }
+    requires vector { IsVector (F.records frozen.old) root }
     ensures bits { (i : ℕ) → i < BLOCK_DOCUMENTS
-        → in_words result i ≡ has (vector_documents (F.records frozen.old) root.entry) (BLOCK_DOCUMENTS * block + i) }
+        → in_words result i ≡ has (vector_documents (F.records frozen.old) root.entry) (BLOCK_DOCUMENTS * number + i) }
     ensures same { frozen.new ≡ frozen.old }
 {
-    match find_block(frozen, root, block) {
-        Some(record) => read_block(frozen, record),
+    match find_block(frozen, root, number) {
+        Some(block) => read_block(frozen, block),
         None => [0; BLOCK_WORDS],
     }
 }

@@ -30,45 +30,45 @@ use tree_read::NODE_WORDS;
 fn add_block<const OFFSET_BITS: u32, S: Store<OFFSET_BITS>>(
     store: &mut S,
     root: EntryRef<OFFSET_BITS>,
-    block: u64,
-    record: EntryRef<OFFSET_BITS>,
+    number: u64,
+    block: EntryRef<OFFSET_BITS>,
 ) -> Result<EntryRef<OFFSET_BITS>, StoreError>
     requires unit { (S.ledger store.old).unit ≡ true }
     requires vector { IsVector (S.records store.old) root }
-    requires lacks { lookup (beside_block block) (tree_pairs (S.records store.old) root) ≡ None }
-    requires form { IsBlock block (S.records store.old record) }
-    requires numbers { AllByRecursion IsDocNumber (block_documents block (S.records store.old record)) }
-    requires owns { Owns (S.ledger store.old) (S.records store.old) (vector_part root ∷ entry record ∷ []) }
+    requires lacks { lookup (beside_block number) (tree_pairs (S.records store.old) root) ≡ None }
+    requires form { IsBlock number (S.records store.old block) }
+    requires numbers { AllByRecursion IsDocNumber (block_documents number (S.records store.old block)) }
+    requires owns { Owns (S.ledger store.old) (S.records store.old) (vector_part root ∷ entry block ∷ []) }
     ensures sets { IfOk result (SetsBlock (S.ledger store.old) (S.ledger store.new) (S.records store.old) (S.records store.new)
-        root.entry (vector_part root.entry ∷ entry record.entry ∷ []) block (S.records store.old record.entry)) }
+        root.entry (vector_part root.entry ∷ entry block.entry ∷ []) number (S.records store.old block.entry)) }
     ensures counts { CountsNodes (S.ledger store.old) (S.ledger store.new) (2 * levels (S.records store.old) root.entry + 1) }
     ensures refuses { IfErr result (Refuses (S.ledger store.old) (S.ledger store.new) NODE_WORDS) }
     ensures may { MayDo (S.ledger store.old) (S.ledger store.new) }
 {
-    insert_pair(store, root, &NumberKey(block), block, record.raw() as u64)
+    insert_pair(store, root, &NumberKey(number), number, block.raw() as u64)
 }
 
 /// Puts the record of a block in place of the one that a bit vector has.
 fn replace_block<const OFFSET_BITS: u32, S: Store<OFFSET_BITS>>(
     store: &mut S,
     root: EntryRef<OFFSET_BITS>,
-    block: u64,
-    record: EntryRef<OFFSET_BITS>,
+    number: u64,
+    block: EntryRef<OFFSET_BITS>,
     old: EntryRef<OFFSET_BITS>,
 ) -> Result<EntryRef<OFFSET_BITS>, StoreError>
     requires unit { (S.ledger store.old).unit ≡ true }
     requires vector { IsVector (S.records store.old) root }
-    requires has { lookup (beside_block block) (tree_pairs (S.records store.old) root) ≡ Some old.entry }
-    requires form { IsBlock block (S.records store.old record) }
-    requires numbers { AllByRecursion IsDocNumber (block_documents block (S.records store.old record)) }
-    requires owns { Owns (S.ledger store.old) (S.records store.old) (vector_part root ∷ entry record ∷ []) }
+    requires has { lookup (beside_block number) (tree_pairs (S.records store.old) root) ≡ Some old }
+    requires form { IsBlock number (S.records store.old block) }
+    requires numbers { AllByRecursion IsDocNumber (block_documents number (S.records store.old block)) }
+    requires owns { Owns (S.ledger store.old) (S.records store.old) (vector_part root ∷ entry block ∷ []) }
     ensures sets { IfOk result (SetsBlock (S.ledger store.old) (S.ledger store.new) (S.records store.old) (S.records store.new)
-        root.entry (vector_part root.entry ∷ entry record.entry ∷ []) block (S.records store.old record.entry)) }
+        root.entry (vector_part root.entry ∷ entry block.entry ∷ []) number (S.records store.old block.entry)) }
     ensures counts { CountsNodes (S.ledger store.old) (S.ledger store.new) (2 * levels (S.records store.old) root.entry + 1) }
     ensures refuses { IfErr result (Refuses (S.ledger store.old) (S.ledger store.new) NODE_WORDS) }
     ensures may { MayDo (S.ledger store.old) (S.ledger store.new) }
 {
-    let next = insert_pair(store, root, &NumberKey(block), block, record.raw() as u64)?;
+    let next = insert_pair(store, root, &NumberKey(number), number, block.raw() as u64)?;
     drop_one(store, old);
     Ok(next)
 }
@@ -77,23 +77,23 @@ fn replace_block<const OFFSET_BITS: u32, S: Store<OFFSET_BITS>>(
 fn put_block<const OFFSET_BITS: u32, S: Store<OFFSET_BITS>>(
     store: &mut S,
     root: EntryRef<OFFSET_BITS>,
-    block: u64,
-    record: EntryRef<OFFSET_BITS>,
+    number: u64,
+    block: EntryRef<OFFSET_BITS>,
 ) -> Result<EntryRef<OFFSET_BITS>, StoreError>
     requires unit { (S.ledger store.old).unit ≡ true }
     requires vector { IsVector (S.records store.old) root }
-    requires form { IsBlock block (S.records store.old record) }
-    requires numbers { AllByRecursion IsDocNumber (block_documents block (S.records store.old record)) }
-    requires owns { Owns (S.ledger store.old) (S.records store.old) (vector_part root ∷ entry record ∷ []) }
+    requires form { IsBlock number (S.records store.old block) }
+    requires numbers { AllByRecursion IsDocNumber (block_documents number (S.records store.old block)) }
+    requires owns { Owns (S.ledger store.old) (S.records store.old) (vector_part root ∷ entry block ∷ []) }
     ensures sets { IfOk result (SetsBlock (S.ledger store.old) (S.ledger store.new) (S.records store.old) (S.records store.new)
-        root.entry (vector_part root.entry ∷ entry record.entry ∷ []) block (S.records store.old record.entry)) }
+        root.entry (vector_part root.entry ∷ entry block.entry ∷ []) number (S.records store.old block.entry)) }
     ensures counts { CountsNodes (S.ledger store.old) (S.ledger store.new) (2 * levels (S.records store.old) root.entry + 1) }
     ensures refuses { IfErr result (Refuses (S.ledger store.old) (S.ledger store.new) NODE_WORDS) }
     ensures may { MayDo (S.ledger store.old) (S.ledger store.new) }
 {
-    match find_block(store, root, block) {
-        Some(old) => replace_block(store, root, block, record, old),
-        None => add_block(store, root, block, record),
+    match find_block(store, root, number) {
+        Some(old) => replace_block(store, root, number, block, old),
+        None => add_block(store, root, number, block),
     }
 }
 
@@ -101,43 +101,43 @@ fn put_block<const OFFSET_BITS: u32, S: Store<OFFSET_BITS>>(
 fn set_block<const OFFSET_BITS: u32, S: Store<OFFSET_BITS>>(
     store: &mut S,
     root: EntryRef<OFFSET_BITS>,
-    block: u64,
+    number: u64,
     words: &[u64],
 ) -> Result<EntryRef<OFFSET_BITS>, StoreError>
     requires unit { (S.ledger store.old).unit ≡ true }
     requires vector { IsVector (S.records store.old) root }
-    requires form { IsBlock block words.now }
-    requires numbers { AllByRecursion IsDocNumber (block_documents block words.now) }
+    requires form { IsBlock number words.now }
+    requires numbers { AllByRecursion IsDocNumber (block_documents number words.now) }
     requires owns { Owns (S.ledger store.old) (S.records store.old) (vector_part root ∷ []) }
     ensures sets { IfOk result (SetsBlock (S.ledger store.old) (S.ledger store.new) (S.records store.old) (S.records store.new)
-        root.entry (vector_part root.entry ∷ []) block words.now) }
+        root.entry (vector_part root.entry ∷ []) number words.now) }
     ensures counts { MakesWithin (S.ledger store.old) (S.ledger store.new)
         (vector_most 1 (2 * levels (S.records store.old) root.entry + 1)) }
     ensures refuses { IfErr result (RefusesOf IsVectorWidth (S.ledger store.old) (S.ledger store.new)) }
     ensures may { MayDo (S.ledger store.old) (S.ledger store.new) }
 {
-    let record = make_entry(store, BLOCK_WORDS as u32, words)?;
-    put_block(store, root, block, record)
+    let block = make_entry(store, BLOCK_WORDS as u32, words)?;
+    put_block(store, root, number, block)
 }
 
 /// Takes out the block of a bit vector with this record.
 fn take_block<const OFFSET_BITS: u32, S: Store<OFFSET_BITS>>(
     store: &mut S,
     root: EntryRef<OFFSET_BITS>,
-    block: u64,
+    number: u64,
     old: EntryRef<OFFSET_BITS>,
 ) -> Result<EntryRef<OFFSET_BITS>, StoreError>
     requires unit { (S.ledger store.old).unit ≡ true }
     requires vector { IsVector (S.records store.old) root }
-    requires has { lookup (beside_block block) (tree_pairs (S.records store.old) root) ≡ Some old.entry }
+    requires has { lookup (beside_block number) (tree_pairs (S.records store.old) root) ≡ Some old }
     requires owns { Owns (S.ledger store.old) (S.records store.old) (vector_part root ∷ []) }
     ensures sets { IfOk result (SetsBlock (S.ledger store.old) (S.ledger store.new) (S.records store.old) (S.records store.new)
-        root.entry (vector_part root.entry ∷ []) block []) }
+        root.entry (vector_part root.entry ∷ []) number []) }
     ensures counts { CountsNodes (S.ledger store.old) (S.ledger store.new) (2 * levels (S.records store.old) root.entry + 1) }
     ensures refuses { IfErr result (Refuses (S.ledger store.old) (S.ledger store.new) NODE_WORDS) }
     ensures may { MayDo (S.ledger store.old) (S.ledger store.new) }
 {
-    let next = remove_pair(store, root, &NumberKey(block))?;
+    let next = remove_pair(store, root, &NumberKey(number))?;
     drop_one(store, old);
     Ok(next)
 }
@@ -146,25 +146,26 @@ fn take_block<const OFFSET_BITS: u32, S: Store<OFFSET_BITS>>(
 fn clear_block<const OFFSET_BITS: u32, S: Store<OFFSET_BITS>>(
     store: &mut S,
     root: EntryRef<OFFSET_BITS>,
-    block: u64,
+    number: u64,
 ) -> Result<EntryRef<OFFSET_BITS>, StoreError>
     requires unit { (S.ledger store.old).unit ≡ true }
     requires vector { IsVector (S.records store.old) root }
     requires owns { Owns (S.ledger store.old) (S.records store.old) (vector_part root ∷ []) }
     ensures sets { IfOk result (SetsBlock (S.ledger store.old) (S.ledger store.new) (S.records store.old) (S.records store.new)
-        root.entry (vector_part root.entry ∷ []) block []) }
+        root.entry (vector_part root.entry ∷ []) number []) }
     ensures counts { MakesWithin (S.ledger store.old) (S.ledger store.new)
         (vector_most 1 (2 * levels (S.records store.old) root.entry + 1)) }
     ensures refuses { IfErr result (RefusesOf IsVectorWidth (S.ledger store.old) (S.ledger store.new)) }
     ensures may { MayDo (S.ledger store.old) (S.ledger store.new) }
 {
-    match find_block(store, root, block) {
-        Some(old) => take_block(store, root, block, old),
+    match find_block(store, root, number) {
+        Some(old) => take_block(store, root, number, old),
         None => Ok(root),
     }
 }
 
 /// Adds a document to a bit vector. Returns the root of the new one.
+#[tactic(none)]
 pub fn insert<const OFFSET_BITS: u32, S: Store<OFFSET_BITS>>(
     store: &mut S,
     root: EntryRef<OFFSET_BITS>,
@@ -181,17 +182,18 @@ pub fn insert<const OFFSET_BITS: u32, S: Store<OFFSET_BITS>>(
     ensures refuses { IfErr result (RefusesOf IsVectorWidth (S.ledger store.old) (S.ledger store.new)) }
     ensures may { MayDo (S.ledger store.old) (S.ledger store.new) }
 {
-    let number = doc.number();
-    let block = (number / BLOCK_SIZE) as u64;
-    let mut words = block_words(store, root, block);
-    if has_bit(&words, number % BLOCK_SIZE) {
+    let place = doc.number();
+    let number = (place / BLOCK_SIZE) as u64;
+    let mut words = block_words(store, root, number);
+    if has_bit(&words, place % BLOCK_SIZE) {
         return Ok(root);
     }
-    set_bit(&mut words, number % BLOCK_SIZE);
-    set_block(store, root, block, &words)
+    set_bit(&mut words, place % BLOCK_SIZE);
+    set_block(store, root, number, &words)
 }
 
 /// Removes a document from a bit vector. Returns the root of the new one, or 0 if no document is left.
+#[tactic(none)]
 pub fn remove<const OFFSET_BITS: u32, S: Store<OFFSET_BITS>>(
     store: &mut S,
     root: EntryRef<OFFSET_BITS>,
@@ -207,13 +209,13 @@ pub fn remove<const OFFSET_BITS: u32, S: Store<OFFSET_BITS>>(
     ensures refuses { IfErr result (RefusesOf IsVectorWidth (S.ledger store.old) (S.ledger store.new)) }
     ensures may { MayDo (S.ledger store.old) (S.ledger store.new) }
 {
-    let number = doc.number();
-    let block = (number / BLOCK_SIZE) as u64;
-    let mut words = block_words(store, root, block);
-    clear_bit(&mut words, number % BLOCK_SIZE);
+    let place = doc.number();
+    let number = (place / BLOCK_SIZE) as u64;
+    let mut words = block_words(store, root, number);
+    clear_bit(&mut words, place % BLOCK_SIZE);
     if is_empty(&words) {
-        clear_block(store, root, block)
+        clear_block(store, root, number)
     } else {
-        set_block(store, root, block, &words)
+        set_block(store, root, number, &words)
     }
 }

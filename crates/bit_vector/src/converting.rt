@@ -1,4 +1,4 @@
-ghost use Rattle.std.specs.Prelude.{◌≡◌, ◌+◌, ◌∷◌, [], pos, true, map, length, IfOk, IfErr};
+ghost use Rattle.std.specs.Prelude.{◌≡◌, ◌+◌, ◌∷◌, [], pos, true, map, length, replicate, IfOk, IfErr};
 ghost use Rattle.std.specs.List.{AllByRecursion};
 ghost use Rattle.std.specs.Ordering.{nat_cmp};
 ghost use Rattle.attr_images.specs.Postings.{vector_documents};
@@ -68,6 +68,13 @@ fn documents_of<const OFFSET_BITS: u32, F: Frozen<OFFSET_BITS>>(
     Ok(docs)
 }
 
+/// Returns a list of ones.
+fn ones(alloc: Global, size: usize) -> Result<Vec<u64>, AllocError>
+    ensures { IfOk result (λ ones. ones.items ≡ replicate size 1) }
+{
+    vec![in alloc; 1; size]
+}
+
 /// Makes a tree by number of the documents of a bit vector, each with the value 1. The bit vector stays.
 pub fn to_tree<const OFFSET_BITS: u32, S: Store<OFFSET_BITS>>(
     alloc: Global,
@@ -86,8 +93,8 @@ pub fn to_tree<const OFFSET_BITS: u32, S: Store<OFFSET_BITS>>(
     let Ok(docs) = documents_of(alloc, store, root) else {
         return Err(StoreError::Memory);
     };
-    let Ok(ones) = vec![in alloc; 1; docs.len()] else {
+    let Ok(values) = ones(alloc, docs.len()) else {
         return Err(StoreError::Memory);
     };
-    build::<OFFSET_BITS, S, NumberKey>(alloc, store, docs.as_slice(), ones.as_slice())
+    build::<OFFSET_BITS, S, NumberKey>(alloc, store, docs.as_slice(), values.as_slice())
 }

@@ -10,16 +10,16 @@ use frozen_btree::Cursor;
 /// Returns the number of documents of a block.
 fn count_block<const OFFSET_BITS: u32, F: Frozen<OFFSET_BITS>>(
     frozen: &mut F,
-    record: EntryRef<OFFSET_BITS>,
+    block: EntryRef<OFFSET_BITS>,
 ) -> u32
-    requires size { length (F.records frozen.old record) ≡ BLOCK_WORDS }
-    ensures count { (k : ℕ) → result ≡ length (block_documents k (F.records frozen.old record.entry)) }
+    requires size { length (F.records frozen.old block) ≡ BLOCK_WORDS }
+    ensures count { (k : ℕ) → result ≡ length (block_documents k (F.records frozen.old block.entry)) }
     ensures few { result ≤ 4096 }
     ensures same { frozen.new ≡ frozen.old }
 {
     let mut count = 0;
     for i in 0..BLOCK_WORDS as u32 {
-        count += frozen.word(record, i).count_ones();
+        count += frozen.word(block, i).count_ones();
     }
     count
 }

@@ -1,8 +1,9 @@
 ghost use Rattle.std.specs.Prelude.{◌≡◌, ◌↔◌, ℕ, drop, [], false, IsTrue};
 ghost use Rattle.attr_images.specs.Postings.{vector_documents};
-ghost use Rattle.bit_vector.specs.Vectors.{IsVector};
-ghost use Rattle.bit_vector.specs.Walks.{documents_from, first_document, HasDocument, IsVectorPlace};
+ghost use Rattle.bit_vector.specs.Vectors.{blocks_documents, IsVector};
+ghost use Rattle.bit_vector.specs.Walks.{documents_from, first_document, HasDocument, IsBlockPlace, IsVectorPlace};
 ghost use Rattle.entry_ref.specs.Records.{Records};
+ghost use Rattle.tree_read.specs.SearchPlaces.{pairs_from};
 
 use crate::bits::next_bit;
 use crate::blocks::BLOCK_SIZE;
@@ -40,12 +41,18 @@ impl<const OFFSET_BITS: u32> VectorCursor<OFFSET_BITS> {
     }
 
     /// Moves to the first document of the block at hand, if there is one.
-    fn enter<F: Frozen<OFFSET_BITS>>(&mut self, frozen: &mut F) {
+    fn enter<F: Frozen<OFFSET_BITS>>(&mut self, frozen: &mut F)
+        requires { IsBlockPlace (F.records frozen.old) self.old.blocks }
+        ensures place { IsVectorPlace (F.records frozen.old) self.new }
+        ensures documents { documents_from (F.records frozen.old) self.new
+            ≡ blocks_documents (F.records frozen.old) (pairs_from (F.records frozen.old) self.old.blocks) }
+        ensures same { frozen.new ≡ frozen.old }
+    {
         if self.blocks.at_end() {
             return;
         }
-        let record = EntryRef::from_raw(self.blocks.value() as u32);
-        let bit = next_bit(frozen, record, 0);
+        let block = EntryRef::from_raw(self.blocks.value() as u32);
+        let bit = next_bit(frozen, block, 0);
         self.doc = Doc::new(self.blocks.key() as u32 * BLOCK_SIZE + bit);
     }
 
@@ -74,9 +81,9 @@ impl<const OFFSET_BITS: u32> VectorCursor<OFFSET_BITS> {
         ensures documents { documents_from (F.records frozen.old) self.new ≡ drop 1 (documents_from (F.records frozen.old) self.old) }
         ensures same { frozen.new ≡ frozen.old }
     {
-        let record = EntryRef::from_raw(self.blocks.value() as u32);
+        let block = EntryRef::from_raw(self.blocks.value() as u32);
         let number = self.doc.number();
-        let bit = next_bit(frozen, record, number % BLOCK_SIZE + 1);
+        let bit = next_bit(frozen, block, number % BLOCK_SIZE + 1);
         if bit < BLOCK_SIZE {
             self.doc = Doc::new(number / BLOCK_SIZE * BLOCK_SIZE + bit);
         } else {

@@ -1,4 +1,3 @@
-pub mod WordLemmas
 pub mod TextLemmas
 pub mod ValueLemmas
 pub mod ItemLemmas

@@ -36,6 +36,9 @@ pub trait Layout {
         → lawful shape m root → lawful shape n root × (reaches shape n root ≡ reaches shape m root) };
 }
 
+/// The number of words of a table before the states of its buffers: the root, the newest hold and the counts of 16 holds.
+const FIRST_STATE: u64 = 18;
+
 /// Returns the place of word `i` of an entry of `width` words, in a table of `buffers` buffers of `words` words each.
 pub fn place_of<const OFFSET_BITS: u32>(
     buffers: u32,
@@ -48,7 +51,7 @@ pub fn place_of<const OFFSET_BITS: u32>(
     requires inside { i < width }
     ensures { result ≡ place OFFSET_BITS buffers words width entry.entry i }
 {
-    let base = 18 + buffers as u64 + entry.buffer() as u64 * words as u64;
+    let base = FIRST_STATE + buffers as u64 + entry.buffer() as u64 * words as u64;
     base + entry.offset() as u64 * width as u64 + i as u64
 }
 

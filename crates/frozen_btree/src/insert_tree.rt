@@ -16,7 +16,7 @@ use crate::{drop_nodes, make_leaf, make_part};
 use arrayvec::ArrayVec;
 use entry_ref::EntryRef;
 use store_api::{Store, StoreError};
-use tree_read::{KeyOrder, NODE_WORDS, Slots};
+use tree_read::{KeyOrder, LEVEL_BASE, NODE_WORDS, Slots};
 
 /// Returns the root over the parts of a level: a single part itself, or a node of the next level over both.
 fn root_over<const OFFSET_BITS: u32, S: Store<OFFSET_BITS>>(
@@ -76,7 +76,7 @@ fn rebuild<const OFFSET_BITS: u32, S: Store<OFFSET_BITS>, K: KeyOrder<OFFSET_BIT
     if !root.valid() {
         return make_leaf(store, word, value);
     }
-    let level = store.word(root, 0) / 256;
+    let level = store.word(root, 0) / LEVEL_BASE;
     let parts = insert_below(store, root, level, key, word, value, replaced)?;
     root_over(store, level, &parts)
 }

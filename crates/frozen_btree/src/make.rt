@@ -9,7 +9,7 @@ use arena_api::Frozen;
 use arrayvec::ArrayVec;
 use entry_ref::EntryRef;
 use store_api::{Store, StoreError};
-use tree_read::{MOST_SLOTS, NODE_WORDS, Slots, append, used_in};
+use tree_read::{LEVEL_BASE, MOST_SLOTS, NODE_WORDS, Slots, append, used_in};
 
 /// A node that was made, as its parent's slot holds it: its last key and its reference.
 #[derive(Clone, Copy, Debug, Drop)]
@@ -57,7 +57,7 @@ fn words_of(slots: &Slots, count: u64) -> ArrayVec<u64, NODE_WORDS>
     ensures words { result.items ≡ node_words slots.now.level count slots.now.keys.items slots.now.values.items }
 {
     let mut words = ArrayVec::new();
-    words.push(slots.level * 256 + slots.keys.len() as u64);
+    words.push(slots.level * LEVEL_BASE + slots.keys.len() as u64);
     words.push(count);
     push_slots(&mut words, &slots.keys);
     push_slots(&mut words, &slots.values);

@@ -16,7 +16,7 @@ use crate::{drop_nodes, make_root, make_words};
 use arrayvec::ArrayVec;
 use entry_ref::EntryRef;
 use store_api::{Store, StoreError};
-use tree_read::{KeyOrder, NODE_WORDS, slots_of, used_in};
+use tree_read::{KeyOrder, LEVEL_BASE, NODE_WORDS, slots_of, used_in};
 
 /// Makes the root from words in memory: 0 if no slot is left, and, above the leaves, the child of a single slot.
 fn make_top<const OFFSET_BITS: u32, S: Store<OFFSET_BITS>>(
@@ -65,7 +65,7 @@ fn rebuild<const OFFSET_BITS: u32, S: Store<OFFSET_BITS>, K: KeyOrder<OFFSET_BIT
     ensures makes { MakesNodes (S.ledger store.old) (S.ledger store.new) (S.records store.old) (S.records store.new)
         (levels (S.records store.old) root.entry + 1) }
 {
-    let level = store.word(root, 0) / 256;
+    let level = store.word(root, 0) / LEVEL_BASE;
     let mut words = [0; NODE_WORDS];
     remove_below(store, root, level, key, replaced, &mut words)?;
     make_top(store, &words, root.raw())

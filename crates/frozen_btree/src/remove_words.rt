@@ -3,7 +3,7 @@ ghost use Rattle.std.specs.List.{remove};
 ghost use Rattle.tree_read.specs.Nodes.{slot_words};
 ghost use Rattle.frozen_btree.specs.Words.{AreWords};
 
-use tree_read::{FIRST_KEY, MOST_SLOTS, NODE_WORDS, Slots};
+use tree_read::{FIRST_KEY, LEVEL_BASE, MOST_SLOTS, NODE_WORDS, Slots};
 
 /// Removes one of 16 words, and puts a zero at the end.
 fn take_between(words: &mut [u64], slot: usize)
@@ -69,7 +69,7 @@ pub fn write_slots(words: &mut [u64; NODE_WORDS], pairs: u64, slots: &Slots)
     requires few { length slots.now.keys.items ≤ MOST_SLOTS }
     ensures { AreWords slots.now.level pairs slots.now.keys.items slots.now.values.items words.new }
 {
-    words[0] = slots.level * 256 + slots.keys.len() as u64;
+    words[0] = slots.level * LEVEL_BASE + slots.keys.len() as u64;
     words[1] = pairs;
     write_both(&mut words[FIRST_KEY..], &slots.keys, &slots.values);
 }

@@ -8,8 +8,8 @@ ghost use Rattle.tree_read.specs.SearchPlaces.{Leads, pairs_behind, pairs_from, 
 
 use crate::path::Path;
 use crate::{
-    FIRST_KEY, FIRST_VALUE, KeyOrder, MOST_SLOTS, NODE_WORDS, child_at, read_head, read_words,
-    visit,
+    FIRST_KEY, FIRST_VALUE, KeyOrder, LEVEL_BASE, MOST_SLOTS, NODE_WORDS, child_at, read_head,
+    read_words, visit,
 };
 use arena_api::Frozen;
 use entry_ref::EntryRef;
@@ -116,17 +116,17 @@ impl<const OFFSET_BITS: u32> Cursor<OFFSET_BITS> {
         }
         let mut node = root;
         let mut spot = visit(frozen, node, key, &mut cursor.words);
-        if spot.slot as u64 == cursor.words[0] % 256 {
+        if spot.slot as u64 == cursor.words[0] % LEVEL_BASE {
             return cursor;
         }
-        while cursor.words[0] / 256 > 0 {
+        while cursor.words[0] / LEVEL_BASE > 0 {
             cursor.path.push(node, spot.slot as u32);
             node = EntryRef::from_raw(cursor.words[FIRST_VALUE + spot.slot] as u32);
             spot = visit(frozen, node, key, &mut cursor.words);
         }
         cursor.leaf = node;
         cursor.slot = spot.slot as u32;
-        cursor.used = (cursor.words[0] % 256) as u32;
+        cursor.used = (cursor.words[0] % LEVEL_BASE) as u32;
         cursor
     }
 

@@ -27,7 +27,7 @@ pub use finding::{find, total};
 pub use images_laws::{example_law, frame_law, node_law, tree_law};
 pub use key::KeyOrder;
 pub use keys::{TakesKeys, take_keys};
-pub use node_format::{FIRST_KEY, FIRST_VALUE, LEAST_SLOTS, MOST_SLOTS, NODE_WORDS};
+pub use node_format::{FIRST_KEY, FIRST_VALUE, LEAST_SLOTS, LEVEL_BASE, MOST_SLOTS, NODE_WORDS};
 pub use node_search::{Spot, child_at, first_slot, place_of, visit};
 pub use number::NumberKey;
 pub use order_laws::{key_law, keyed_law, pair_law, put_law, take_out_law};

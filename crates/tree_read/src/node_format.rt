@@ -4,6 +4,9 @@
 /// The number of words of a node: two, then the keys of its slots, then their values.
 pub const NODE_WORDS: usize = 34;
 
+/// The factor for the level in word 0 of a node. The low part of the word is the number of used slots.
+pub const LEVEL_BASE: u64 = 256;
+
 /// The number of slots of a node.
 pub const MOST_SLOTS: usize = 16;
 

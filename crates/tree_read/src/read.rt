@@ -3,7 +3,7 @@ ghost use Rattle.entry_ref.specs.Records.{HasWord};
 ghost use Rattle.tree_read.specs.Nodes.{level_of, used_of, node_keys, node_values};
 
 use crate::slots::{Slots, append};
-use crate::{FIRST_KEY, FIRST_VALUE, MOST_SLOTS, NODE_WORDS};
+use crate::{FIRST_KEY, FIRST_VALUE, LEVEL_BASE, MOST_SLOTS, NODE_WORDS};
 use arena_api::Frozen;
 use arrayvec::ArrayVec;
 use entry_ref::EntryRef;
@@ -40,8 +40,8 @@ pub fn read_head<const OFFSET_BITS: u32, F: Frozen<OFFSET_BITS>>(
 {
     let word = frozen.word(node, 0);
     Head {
-        level: word / 256,
-        used: (word % 256) as u32,
+        level: word / LEVEL_BASE,
+        used: (word % LEVEL_BASE) as u32,
     }
 }
 
@@ -50,7 +50,7 @@ pub fn used_in(words: &[u64]) -> usize
     requires { 0 < length words.now }
     ensures { result ≡ used_of words.now }
 {
-    (words[0] % 256) as usize
+    (words[0] % LEVEL_BASE) as usize
 }
 
 /// Returns the keys of the used slots.
@@ -80,7 +80,7 @@ pub fn slots_of(words: &[u64]) -> Slots
     ensures values { result.values.items ≡ node_values words.now }
 {
     let mut slots = Slots {
-        level: words[0] / 256,
+        level: words[0] / LEVEL_BASE,
         keys: ArrayVec::new(),
         values: ArrayVec::new(),
     };

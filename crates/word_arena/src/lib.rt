@@ -14,7 +14,7 @@ mod work;
 mod writer;
 
 pub use arena::{Arena, Token};
-pub use config::{Config, Limits};
+pub use config::{Config, Limits, MOST_COMMITS, MOST_GENERATIONS};
 pub use reader::{Again, Aimed, Guarded, Reader};
 pub use rule::Watched;
 pub use steps::Steps;

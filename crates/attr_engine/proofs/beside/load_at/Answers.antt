@@ -15,7 +15,7 @@ run_loading-requires-after_bounds g c κs within = (
         (
           c.requires.aside,
           commits_left _ c.args.fields.now c.args.writer.place.table_id (writer_of c.args.writer.place.me.0) c.in_ok-attribute.attribute c.args.ops.now
-            c.in_ok-attribute.ensures.start c.requires.new c.in_ok-attribute.ensures.work c.requires.few,
+              c.in_ok-attribute.ensures.start c.requires.new c.in_ok-attribute.ensures.work c.requires.few,
         ),
       ),
     ),
