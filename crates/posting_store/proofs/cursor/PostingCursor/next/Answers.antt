@@ -17,8 +17,8 @@ next-requires-in-Vector g c =
 
 pub returns-in-Vector-clause-place : goal.returns-in-Vector-clause-place
 returns-in-Vector-clause-place g c =
-    vector_next (g.F.Frozen.records c.args.frozen.now) c.args.self.now c.in-Vector.cursor c.in-Vector.is c.requires.place _ c.next-in-Vector.ensures.place c.next-in-Vector.ensures.documents
+    vector_next (g.F.Frozen.records c.args.frozen.now) c.args.self.now c.in-Vector.cursor c.in-Vector.is c.requires.place c.next-in-Vector.new.self c.next-in-Vector.ensures.place c.next-in-Vector.ensures.documents
 
 pub returns-in-Vector-clause-postings : goal.returns-in-Vector-clause-postings
 returns-in-Vector-clause-postings g c =
-    vector_next_postings (g.F.Frozen.records c.args.frozen.now) c.args.self.now c.in-Vector.cursor c.in-Vector.is c.requires.place _ c.next-in-Vector.ensures.documents
+    vector_next_postings (g.F.Frozen.records c.args.frozen.now) c.args.self.now c.in-Vector.cursor c.in-Vector.is c.requires.place c.next-in-Vector.new.self c.next-in-Vector.ensures.documents
