@@ -1,5 +1,5 @@
 -- What the flag for bit vectors says of lists and of an index, through a change.
-use Rattle.std.proofs.Common.{◌≡◌, ℕ, zero, suc, ℤ, pos, ◌+◌, ◌*◌, ◌<◌, ◌≤◌, Bool, true, false, ◌&&◌, ◌||◌, cond, nat_le, List, [], ◌∷◌, ◌++◌, length, Option, None, Some, option_map, IsSome, refl, sym, ap, subst, ◌∙◌, arith, true≢false, leb-true, leb-false, nat_cmp}
+use Rattle.std.proofs.Common.{◌≡◌, ℕ, ℤ, pos, ◌+◌, ◌*◌, ◌≤◌, Bool, true, false, ◌&&◌, ◌||◌, cond, nat_le, List, [], ◌∷◌, ◌++◌, length, Option, None, Some, option_map, refl, sym, ap, subst, ◌∙◌, arith, true≢false, leb-true, leb-false, nat_cmp}
 use Rattle.std.specs.BTreeMap.{insert_entry, is_at}
 use Rattle.std.specs.declared.cmp.Ordering.TheVariants.{Less, Equal, Greater}
 use Rattle.std.specs.List.{AllByRecursion}
@@ -18,12 +18,12 @@ use Rattle.attr_images.specs.ProofsForImages.{trees_index-same}
 use Rattle.attr_images.specs.declared.TheConstants.{FIRST_VECTOR, LEAST_DENSE, MOST_SPREAD}
 use Rattle.attr_index.specs.Changes.{settled, IsBetween}
 use Rattle.attr_index.specs.Index.{Index, list_of}
-use Rattle.attr_types.specs.Value.{type_of, value_cmp}
+use Rattle.attr_types.specs.Value.{type_of}
 use Rattle.attr_types.specs.declared.kind.Kind.TheVariants.{Single}
 use Rattle.attr_types.specs.declared.kind.ValueType.{ValueType}
 use Rattle.attr_types.specs.declared.value.Value.{Value}
 use Rattle.enum_dictionary.specs.Dictionaries.{beside_value}
-use Rattle.posting_store.specs.Lists.{list_at, is_vector, AreOnes, IsPlain}
+use Rattle.posting_store.specs.Lists.{is_vector, AreOnes, IsPlain}
 use Rattle.posting_store.proofs.FormLemmas.{at_form}
 use Rattle.value_index.specs.Flows.{list_word}
 use Rattle.value_index.specs.Forms.{HasOnes, IsOfForm, IsPlainIndex, KeepsForm}
