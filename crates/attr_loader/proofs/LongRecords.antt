@@ -1,11 +1,11 @@
 -- Which of the records that an operation makes are long: at most one for each new value, and one for the document.
-use Rattle.std.proofs.Common.{◌≡◌, ◌⊎◌, ℕ, ℤ, zero, suc, ◌+◌, ◌*◌, ◌<◌, ◌≤◌, Bool, true, false, cond, nat_eq, nat_le, nat_cmp, List, [], ◌∷◌, length, refl, sym, ap, subst, ◌∙◌, arith, inl, inr}
+use Rattle.std.proofs.Common.{◌≡◌, ℕ, ℤ, zero, suc, ◌+◌, ◌<◌, ◌≤◌, Bool, true, false, cond, nat_eq, nat_le, nat_cmp, List, [], ◌∷◌, length, refl, sym, ap, subst, ◌∙◌, arith, inl, inr}
 use Rattle.std.proofs.lemmas.Bool.{eqb-true, leb-true, true≢false}
 use Rattle.std.specs.BTreeMap.{insert_entry, is_at}
 use Rattle.std.specs.Map.{remove_entry}
 use Rattle.array_store.proofs.ClassLemmas.{class_least, class_width}
 use Rattle.store_api.specs.Ledgers.{is_width}
-use Rattle.attr_field.specs.Counts.{change_records, entry_weight, lost_values, new_values}
+use Rattle.attr_field.specs.Counts.{change_records, entry_weight, new_values}
 use Rattle.attr_field.specs.Items.{has_list, items_record}
 use Rattle.attr_field.specs.Widths.{IsFieldWidth}
 use Rattle.attr_images.specs.Values.{value_words}

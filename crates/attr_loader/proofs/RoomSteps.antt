@@ -1,5 +1,5 @@
 -- What one operation, one commit and one step of a compaction add to what was made.
-use Rattle.std.proofs.Common.{◌≡◌, ℕ, ℤ, zero, suc, ◌+◌, ◌-◌, ◌*◌, ◌^◌, ◌<◌, ◌≤◌, Bool, true, false, ◌&&◌, cond, nat_eq, nat_le, nat_cmp, List, [], ◌∷◌, length, Option, Some, None, option_map, refl, sym, ap, subst, ◌∙◌, arith, inl, inr, leb-true, mul_assoc, mul_comm}
+use Rattle.std.proofs.Common.{◌≡◌, ℕ, ℤ, zero, suc, ◌+◌, ◌-◌, ◌*◌, ◌^◌, ◌<◌, ◌≤◌, Bool, true, false, ◌&&◌, cond, nat_eq, nat_cmp, List, [], ◌∷◌, length, Option, Some, None, option_map, refl, sym, ap, subst, ◌∙◌, arith, inl, inr, mul_assoc, mul_comm}
 use Rattle.std.proofs.Math.Nat.{mul-le-mul_right, pow-le-pow_right}
 use Rattle.std.proofs.lemmas.Bool.{cases_lt, eqb-true, eqb-false, true≢false}
 use Rattle.std.specs.BTreeMap.{insert_entry, is_at}
@@ -8,7 +8,6 @@ use Rattle.std.specs.Map.{keys_of, remove_entry}
 use Rattle.std.specs.Option.{unwrap_or}
 use Rattle.std.proofs.lemmas.Option.{slice_get_within}
 use Rattle.std.specs.Prelude.{slice_get}
-use Rattle.array_store.proofs.ClassLemmas.{class_least}
 use Rattle.array_store.specs.Adding.{MakesOneOf}
 use Rattle.store_api.specs.Ledgers.{Ledger, is_width}
 use Rattle.attr_field.proofs.SizeLemmas.{documents_few}
@@ -26,7 +25,7 @@ use Rattle.attr_room.proofs.Levels.{levels_there}
 use Rattle.attr_room.proofs.Steps.{counts_rise, keys_long, keys_made, operation_few, operation_long, operation_made, root_long, root_made}
 use Rattle.attr_room.specs.Laws.{HasLevels}
 use Rattle.attr_room.specs.Made as room
-use Rattle.attr_room.specs.Made.{Steps, HasMade, MakesRoot, RiseBy, after_keys, after_operation, after_root, both, broad_sum, pairs_of}
+use Rattle.attr_room.specs.Made.{Steps, HasMade, RiseBy, after_keys, after_operation, after_root, both, broad_sum, pairs_of}
 use Rattle.attr_room.specs.Runs.{AreLevels}
 use Rattle.attr_steps.specs.Widths.{IsOperationWidth}
 use Rattle.attr_steps.specs.Counts.{document_after, document_before, document_records, items_if_there, kind_at, low_document, operation_forms, weights_at, MakesOperation}
@@ -52,7 +51,7 @@ use Rattle.compact_steps.specs.Counts.{AreSingleLong, MakesKeys}
 use Rattle.compaction_moves.specs.Counts.{key_nodes, IsLowColumn}
 use Rattle.posting_store.specs.Changes.{MakesWithin}
 use Rattle.value_index.proofs.CountLemmas.{within_more}
-use Rattle.value_index.specs.Counts.{besides, by_width, is_added, is_gone, new_record, put_records, short_record, taken_records}
+use Rattle.value_index.specs.Counts.{besides, by_width, is_added, is_gone, new_record, put_records, taken_records}
 use Rattle.attr_loader.proofs.ColumnWeights.{index_few, put_length, put_weight, taken_length, taken_weight}
 use Rattle.attr_loader.proofs.LongRecords.{broad, change_long, change_off, change_wide, change_widest, items_refused, off_node, short_broad}
 use Rattle.attr_loader.specs.Room.{column_weight, is_long, is_single, is_single_long, AreSparse, IsMade, IsRefusedBy}

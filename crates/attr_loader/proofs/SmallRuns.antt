@@ -1,6 +1,6 @@
 -- A small run: no compaction begins before its last operation, and the store is never full.
-use Rattle.std.proofs.Common.{◌≡◌, ◌⊎◌, ℕ, zero, suc, ◌+◌, ◌-◌, ◌*◌, ◌/◌, ◌<◌, ◌≤◌, Bool, true, false, List, [], ◌∷◌, ◌++◌, length, take, Some, None, refl, sym, ap, ◌∙◌, subst, arith, inl, inr, length-take, mul-zero}
-use Rattle.std.specs.Prelude.{Result, Ok, Err, IfOk}
+use Rattle.std.proofs.Common.{◌≡◌, ◌⊎◌, ℕ, ◌+◌, ◌-◌, ◌*◌, ◌/◌, ◌<◌, ◌≤◌, Bool, true, false, List, [], ◌∷◌, ◌++◌, length, take, None, refl, sym, ap, ◌∙◌, subst, arith, inl, inr, mul-zero}
+use Rattle.std.specs.Prelude.{Result, Ok, IfOk}
 use Rattle.std.proofs.lemmas.List.Sums.{sum_by-take-le}
 use Rattle.arena_api.specs.Works.{Sizes, active_width, free_count}
 use Rattle.entry_ref.specs.Records.{Records}
@@ -8,7 +8,7 @@ use Rattle.store_api.specs.Ledgers.{Ledger, IsUnfilled, buffers_in, capacity, is
 use Rattle.store_api.specs.Statuses.{is_dead}
 use Rattle.store_api.specs.Victims.{HasNoVictim, IsCandidate, count_entries, dead_words}
 use Rattle.attr_room.proofs.Small.{small_full, small_room}
-use Rattle.attr_room.proofs.Steps.{start_long, start_made, within_filled}
+use Rattle.attr_room.proofs.Steps.{within_filled}
 use Rattle.attr_room.specs.Laws.{no_steps}
 use Rattle.attr_room.specs.Made.{Steps, HasFewLong, HasMade, after_root, pairs_of}
 use Rattle.attr_room.specs.Runs.{weight, IsSmall}
@@ -20,10 +20,10 @@ use Rattle.attribute_kinds.specs.Views.{AttributeView}
 use Rattle.attribute_kinds.specs.declared.answers.AttrError.{AttrError}
 use Rattle.attribute_kinds.specs.declared.answers.Compacted.{Compacted}
 use Rattle.attribute_kinds.specs.declared.answers.Compacted.TheVariants.{Idle}
-use Rattle.attr_loader.proofs.RoomRuns.{after_append, after_key, after_pairs, after_roots, empty_made, take_all, values_length, values_take, weight_on}
+use Rattle.attr_loader.proofs.RoomRuns.{after_key, after_roots, empty_made, values_length, values_take, weight_on}
 use Rattle.attr_loader.specs.Batches.{AddsQuietly, LoadsRoom, RefusesSteps}
 use Rattle.attr_loader.specs.Room.{after_values, is_single_long, load_of, values_of, AreSparse, HasMadeNothing, IsMade, LeavesRoom}
-use Rattle.attr_loader.specs.declared.batch.Batch.TheVariants.{Done, Full}
+use Rattle.attr_loader.specs.declared.batch.Batch.TheVariants.{Done}
 
 -- ---- no buffer is worth a compaction
 module _ {H : Type 0} (bits : ℕ) (dense : Bool) (ledger : Ledger H) (fields : List Field) (table : Table) (steps : Steps) (made : IsMade dense ledger fields table steps)

@@ -1,5 +1,5 @@
 -- How many records a change makes of each width.
-use Rattle.std.proofs.Common.{◌≡◌, ◌≢◌, ℕ, ℤ, List, ◌+◌, ◌*◌, ◌≤◌, Bool, true, false, cond, inl, inr, length, nat_eq, nat_le, Option, None, Some, option_map, refl, sym, ap, subst, ◌∙◌, arith}
+use Rattle.std.proofs.Common.{◌≡◌, ◌≢◌, ℕ, ℤ, List, ◌+◌, ◌*◌, ◌≤◌, Bool, true, false, cond, inl, inr, length, nat_eq, nat_le, Option, None, Some, option_map, refl, sym, ap, subst, arith}
 use Rattle.std.proofs.lemmas.Bool.{eqb-true, eqb-false, leb-false}
 use Rattle.std.specs.Option.{is_some}
 use Rattle.frozen_btree.proofs.TopLemmas.{levels-same}

@@ -1,7 +1,7 @@
 -- How many records a list makes that may be a bit vector: as many as any list, and a block, a record for each block and a tree besides.
-use Rattle.std.proofs.Common.{◌≡◌, ℕ, zero, suc, ℤ, ◌+◌, ◌*◌, ◌/◌, ◌<◌, ◌≤◌, Bool, true, false, ◌&&◌, ◌||◌, cond, nat_eq, nat_le, nat_lt, List, [], ◌∷◌, length, refl, sym, ap, subst, ◌∙◌, arith, true≢false, eqb-true}
+use Rattle.std.proofs.Common.{◌≡◌, ℕ, zero, suc, ℤ, ◌+◌, ◌*◌, ◌/◌, ◌<◌, ◌≤◌, Bool, true, false, ◌||◌, cond, nat_eq, nat_lt, List, [], ◌∷◌, length, refl, sym, ap, subst, arith, true≢false, eqb-true}
 use Rattle.std.proofs.lemmas.Bool.{le-leb, lt-ltb, ltb-true}
-use Rattle.std.specs.List.{list_any, range_with_len}
+use Rattle.std.specs.List.{range_with_len}
 use Rattle.std.specs.Map.{keys_of}
 use Rattle.std.specs.Prelude.{filter}
 use Rattle.list_facts.proofs.Tests.{too_many}
@@ -27,30 +27,31 @@ filter_none (x ∷ xs) = filter_none xs
 
 filter_or : (p q : ℕ → Bool) (xs : List ℕ) → length (filter (λ x. p x || q x) xs) ≤ length (filter p xs) + length (filter q xs)
 filter_or p q [] = omega arith
-filter_or p q (x ∷ xs) = told (p x) (q x)
+filter_or p q (x ∷ xs) = told (filter_or p q xs) (p x) (q x)
   where
-    told : (s t : Bool) → length (cond (s || t) (x ∷ filter (λ y. p y || q y) xs) (filter (λ y. p y || q y) xs))
+    told : length (filter (λ y. p y || q y) xs) ≤ length (filter p xs) + length (filter q xs) → (s t : Bool)
+        → length (cond (s || t) (x ∷ filter (λ y. p y || q y) xs) (filter (λ y. p y || q y) xs))
         ≤ length (cond s (x ∷ filter p xs) (filter p xs)) + length (cond t (x ∷ filter q xs) (filter q xs))
-    told true true = let rest = filter_or p q xs in omega (arith, rest)
-    told true false = let rest = filter_or p q xs in omega (arith, rest)
-    told false true = let rest = filter_or p q xs in omega (arith, rest)
-    told false false = let rest = filter_or p q xs in omega (arith, rest)
+    told rest true true = omega (arith, rest)
+    told rest true false = omega (arith, rest)
+    told rest false true = omega (arith, rest)
+    told rest false false = omega (arith, rest)
 
 past_block : (k a n : ℕ) → k < a → length (filter (λ x. nat_eq k x) (range_with_len a n)) ≤ 0
 past_block k a zero below = omega arith
-past_block k a (suc n) below = told (nat_eq k a) refl
+past_block k a (suc n) below = told (past_block k (suc a) n (omega (arith, below))) (nat_eq k a) refl
   where
-    told : (t : Bool) → nat_eq k a ≡ t → length (cond t (a ∷ filter (λ x. nat_eq k x) (range_with_len (suc a) n)) (filter (λ x. nat_eq k x) (range_with_len (suc a) n))) ≤ 0
-    told true is = absurd (let same = eqb-true k a is in omega arith)
-    told false is = past_block k (suc a) n (omega arith)
+    told : length (filter (λ x. nat_eq k x) (range_with_len (suc a) n)) ≤ 0 → (t : Bool) → nat_eq k a ≡ t → length (cond t (a ∷ filter (λ x. nat_eq k x) (range_with_len (suc a) n)) (filter (λ x. nat_eq k x) (range_with_len (suc a) n))) ≤ 0
+    told rest true is = absurd (let same = eqb-true k a is in omega (arith, same, below))
+    told rest false is = rest
 
 one_block : (k a n : ℕ) → length (filter (λ x. nat_eq k x) (range_with_len a n)) ≤ 1
 one_block k a zero = omega arith
-one_block k a (suc n) = told (nat_eq k a) refl
+one_block k a (suc n) = told (one_block k (suc a) n) (nat_eq k a) refl
   where
-    told : (t : Bool) → nat_eq k a ≡ t → length (cond t (a ∷ filter (λ x. nat_eq k x) (range_with_len (suc a) n)) (filter (λ x. nat_eq k x) (range_with_len (suc a) n))) ≤ 1
-    told true is = let rest = past_block k (suc a) n (let same = eqb-true k a is in omega arith) in omega (arith, rest)
-    told false is = one_block k (suc a) n
+    told : length (filter (λ x. nat_eq k x) (range_with_len (suc a) n)) ≤ 1 → (t : Bool) → nat_eq k a ≡ t → length (cond t (a ∷ filter (λ x. nat_eq k x) (range_with_len (suc a) n)) (filter (λ x. nat_eq k x) (range_with_len (suc a) n))) ≤ 1
+    told rest true is = let none = past_block k (suc a) n (let same = eqb-true k a is in omega (arith, same)) in omega (arith, none)
+    told rest false is = rest
 
 module _ (xs : List ℕ) (once : (k : ℕ) → length (filter (λ x. nat_eq k x) xs) ≤ 1) where
   blocks_in : (docs : List ℕ) → length (filter (is_block_of docs) xs) ≤ length docs
@@ -71,15 +72,15 @@ keys_length (e ∷ es) = ap suc (keys_length es)
 -- ---- a tree of more pairs has no fewer nodes
 nodes_rise : (levels m n : ℕ) → m ≤ n → nodes_above levels m ≤ nodes_above levels n
 nodes_rise zero m n less = omega arith
-nodes_rise (suc levels) m n less = told (nat_lt 16 m) refl
+nodes_rise (suc levels) m n less = told (λ fewer. nodes_rise levels (groups m) (groups n) fewer) (nat_lt 16 m) refl
   where
-    told : (t : Bool) → nat_lt 16 m ≡ t → cond t (groups m + nodes_above levels (groups m)) 1 ≤ nodes_above (suc levels) n
-    told true is =
+    told : (groups m ≤ groups n → nodes_above levels (groups m) ≤ nodes_above levels (groups n)) → (t : Bool) → nat_lt 16 m ≡ t → cond t (groups m + nodes_above levels (groups m)) 1 ≤ nodes_above (suc levels) n
+    told rise true is =
         let many = ltb-true 16 m is in
         let fewer : groups m ≤ groups n = omega (arith, less) in
-        let rest = nodes_rise levels (groups m) (groups n) fewer in
+        let rest = rise fewer in
         subst (λ t. groups m + nodes_above levels (groups m) ≤ cond t (groups n + nodes_above levels (groups n)) 1) (sym (lt-ltb 16 n (omega (arith, many, less)))) (omega (arith, fewer, rest))
-    told false is = nodes_above-some (suc levels) n
+    told rise false is = nodes_above-some (suc levels) n
 
 -- ---- by whether the width is that of blocks, or of nodes
 kept_vector : (s t : Bool) (l b n : ℕ) → cond s 1 (cond t l 0) ≤ cond t l 0 + cond s (1 + b) (cond t n 0)

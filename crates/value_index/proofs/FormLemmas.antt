@@ -1,5 +1,5 @@
 -- What the flag for bit vectors says of lists and of an index, through a change.
-use Rattle.std.proofs.Common.{◌≡◌, ℕ, zero, suc, ℤ, pos, ◌+◌, ◌<◌, ◌≤◌, Bool, true, false, ◌&&◌, ◌||◌, cond, nat_le, List, [], ◌∷◌, ◌++◌, length, Option, None, Some, option_map, IsSome, refl, sym, ap, subst, ◌∙◌, arith, true≢false, leb-true, leb-false, nat_cmp}
+use Rattle.std.proofs.Common.{◌≡◌, ℕ, ℤ, pos, ◌+◌, ◌*◌, ◌≤◌, Bool, true, false, ◌&&◌, ◌||◌, cond, nat_le, List, [], ◌∷◌, ◌++◌, length, Option, None, Some, option_map, refl, sym, ap, subst, ◌∙◌, arith, true≢false, leb-true, leb-false, nat_cmp}
 use Rattle.std.specs.BTreeMap.{insert_entry, is_at}
 use Rattle.std.specs.declared.cmp.Ordering.TheVariants.{Less, Equal, Greater}
 use Rattle.std.specs.List.{AllByRecursion}
@@ -18,12 +18,12 @@ use Rattle.attr_images.specs.ProofsForImages.{trees_index-same}
 use Rattle.attr_images.specs.declared.TheConstants.{FIRST_VECTOR, LEAST_DENSE, MOST_SPREAD}
 use Rattle.attr_index.specs.Changes.{settled, IsBetween}
 use Rattle.attr_index.specs.Index.{Index, list_of}
-use Rattle.attr_types.specs.Value.{type_of, value_cmp}
+use Rattle.attr_types.specs.Value.{type_of}
 use Rattle.attr_types.specs.declared.kind.Kind.TheVariants.{Single}
 use Rattle.attr_types.specs.declared.kind.ValueType.{ValueType}
 use Rattle.attr_types.specs.declared.value.Value.{Value}
 use Rattle.enum_dictionary.specs.Dictionaries.{beside_value}
-use Rattle.posting_store.specs.Lists.{list_at, is_vector, AreOnes, IsPlain}
+use Rattle.posting_store.specs.Lists.{is_vector, AreOnes, IsPlain}
 use Rattle.posting_store.proofs.FormLemmas.{at_form}
 use Rattle.value_index.specs.Flows.{list_word}
 use Rattle.value_index.specs.Forms.{HasOnes, IsOfForm, IsPlainIndex, KeepsForm}
@@ -80,19 +80,19 @@ ones_insert (e ∷ es) doc weight one ones =
 
 pub ones_remove : (test : ℕ → Bool) (docs : Docs) → AreOnes docs → AreOnes (remove_entry test docs)
 ones_remove test [] ones = tt
-ones_remove test (e ∷ es) ones = told (test e.0)
+ones_remove test (e ∷ es) ones = told (ones_remove test es ones.1) (test e.0)
   where
-    told : (t : Bool) → AreOnes (cond t es (e ∷ remove_entry test es))
-    told true = ones.1
-    told false = (ones.0, ones_remove test es ones.1)
+    told : AreOnes (remove_entry test es) → (t : Bool) → AreOnes (cond t es (e ∷ remove_entry test es))
+    told rest true = ones.1
+    told rest false = (ones.0, rest)
 
 pub ones_lookup : (test : ℕ → Bool) (docs : Docs) (weight : ℤ) → AreOnes docs → lookup_in test docs ≡ Some weight → weight ≡ pos 1
 ones_lookup test [] weight ones is = absurd (grind (arith, is))
-ones_lookup test (e ∷ es) weight ones is = told (test e.0) is
+ones_lookup test (e ∷ es) weight ones is = told (ones_lookup test es weight ones.1) (test e.0) is
   where
-    told : (t : Bool) → cond t (Some e.1) (lookup_in test es) ≡ Some weight → weight ≡ pos 1
-    told true h = sym (same_Some e.1 weight h) ∙ ones.0
-    told false h = ones_lookup test es weight ones.1 h
+    told : (lookup_in test es ≡ Some weight → weight ≡ pos 1) → (t : Bool) → cond t (Some e.1) (lookup_in test es) ≡ Some weight → weight ≡ pos 1
+    told rest true h = sym (same_Some e.1 weight h) ∙ ones.0
+    told rest false h = rest h
 
 settled_ones : (added removed : Option ℤ) (doc : ℕ) (docs : Docs) → ((weight : ℤ) → added ≡ Some weight → weight ≡ pos 1) → AreOnes docs
     → AreOnes (settled added removed doc docs)
@@ -108,11 +108,11 @@ between_ones start doc added removed index between one ones value =
 -- among entries that all have weight 1
 pub entry_one : (test : Value → Bool) (entries : List (Value × ℤ)) (weight : ℤ) → AllByRecursion (λ e. e.1 ≡ pos 1) entries → lookup_in test entries ≡ Some weight → weight ≡ pos 1
 entry_one test [] weight ones is = absurd (grind (arith, is))
-entry_one test (e ∷ es) weight ones is = told (test e.0) is
+entry_one test (e ∷ es) weight ones is = told (entry_one test es weight ones.1) (test e.0) is
   where
-    told : (t : Bool) → cond t (Some e.1) (lookup_in test es) ≡ Some weight → weight ≡ pos 1
-    told true h = sym (same_Some e.1 weight h) ∙ ones.0
-    told false h = entry_one test es weight ones.1 h
+    told : (lookup_in test es ≡ Some weight → weight ≡ pos 1) → (t : Bool) → cond t (Some e.1) (lookup_in test es) ≡ Some weight → weight ≡ pos 1
+    told rest true h = sym (same_Some e.1 weight h) ∙ ones.0
+    told rest false h = rest h
 
 pub one_here : (done more : List (Value × ℤ)) (value : Value) (weight : ℤ) → AllByRecursion (λ e. e.1 ≡ pos 1) (done ++ (value, weight) ∷ more) → weight ≡ pos 1
 one_here [] more value weight ones = ones.0
@@ -141,19 +141,19 @@ insert_more (e ∷ es) doc weight =
 
 pub remove_few : (test : ℕ → Bool) (docs : Docs) → length (remove_entry test docs) ≤ 1 + length docs
 remove_few test [] = omega arith
-remove_few test (e ∷ es) = told (test e.0)
+remove_few test (e ∷ es) = told (remove_few test es) (test e.0)
   where
-    told : (t : Bool) → length (cond t es (e ∷ remove_entry test es)) ≤ 1 + length (e ∷ es)
-    told true = omega arith
-    told false = let rest = remove_few test es in omega (arith, rest)
+    told : length (remove_entry test es) ≤ 1 + length es → (t : Bool) → length (cond t es (e ∷ remove_entry test es)) ≤ 1 + length (e ∷ es)
+    told rest true = omega arith
+    told rest false = omega (arith, rest)
 
 pub remove_more : (test : ℕ → Bool) (docs : Docs) → length docs ≤ 1 + length (remove_entry test docs)
 remove_more test [] = omega arith
-remove_more test (e ∷ es) = told (test e.0)
+remove_more test (e ∷ es) = told (remove_more test es) (test e.0)
   where
-    told : (t : Bool) → length (e ∷ es) ≤ 1 + length (cond t es (e ∷ remove_entry test es))
-    told true = omega arith
-    told false = let rest = remove_more test es in omega (arith, rest)
+    told : length es ≤ 1 + length (remove_entry test es) → (t : Bool) → length (e ∷ es) ≤ 1 + length (cond t es (e ∷ remove_entry test es))
+    told rest true = omega arith
+    told rest false = omega (arith, rest)
 
 -- ---- an index
 pub plain_nothing : (dense : Bool) (type : ValueType) (m : Records) → IsOfForm dense type m 0

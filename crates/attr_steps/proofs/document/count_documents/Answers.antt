@@ -1,4 +1,4 @@
-use Rattle.std.proofs.Common.{◌≡◌, length, sym, refl, arith, rules}
+use Rattle.std.proofs.Common.{length, sym, refl, arith, rules}
 use Rattle.std.proofs.lemmas.Option.{slice_get_read}
 use Rattle.attr_steps.proofs.Reading.{reads_field}
 use Rattle.attr_steps.proofs.document.count_documents.Goals as goal

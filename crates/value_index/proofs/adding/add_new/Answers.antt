@@ -1,4 +1,4 @@
-use Rattle.std.proofs.Common.{[], ℤ, pos, w32, true, to_z, of_z, refl, sym, ap, subst, ◌∙◌, arith, ◌≡◌, ◌+◌, ◌*◌, ◌||◌, ℕ}
+use Rattle.std.proofs.Common.{[], ℤ, pos, w32, refl, sym, ap, subst, ◌∙◌, arith, ◌≡◌, ◌+◌, ◌*◌, ◌||◌, ℕ}
 use Rattle.std.proofs.lemmas.Int.{to_z-of_z}
 use Rattle.std.proofs.lemmas.Result.{err_from_is_err_and}
 use Rattle.std.specs.Prelude.{length}

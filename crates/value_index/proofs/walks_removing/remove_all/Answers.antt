@@ -1,7 +1,7 @@
-use Rattle.std.proofs.Common.{◌≡◌, ℕ, ℤ, List, pos, true, false, Some, length, not, nat_cmp, sym, ap, subst, ◌∙◌, arith}
+use Rattle.std.proofs.Common.{◌≡◌, ℕ, ℤ, List, true, false, length, not, nat_cmp, sym, ap, subst, ◌∙◌, arith}
 use Rattle.std.proofs.lemmas.Result.{err_from_is_err_and}
 use Rattle.std.specs.BTreeMap.{get, is_at}
-use Rattle.std.specs.Map.{lookup, remove_entry}
+use Rattle.std.specs.Map.{remove_entry}
 use Rattle.store_api.proofs.May.{may_do-then}
 use Rattle.attr_images.specs.Postings.{index_of}
 use Rattle.attr_index.proofs.MapLemmas.{none_then, some_then}
