@@ -27,7 +27,6 @@ use Rattle.bit_vector.specs.Changes.{vector_part, MakesVector}
 use Rattle.bit_vector.specs.Fillings.{IsBlockOf, MakesBlock, MakesBlocks}
 use Rattle.bit_vector.specs.Vectors.{blocks_documents, is_block_of, IsVector}
 use Rattle.bit_vector.specs.declared.filling.Blocks.{Blocks}
-use Rattle.bit_vector.proofs.KeepLemmas.{used_keeps}
 use Rattle.bit_vector.proofs.DocumentLemmas.{and_false, all_has, has_all, has_append, ones, or_false, sorted}
 use Rattle.bit_vector.proofs.FillLemmas.{block_of, keys}
 use Rattle.bit_vector.proofs.OnesLemmas.{passing, passing_few, passing_one, passing_split}
@@ -271,7 +270,7 @@ module _ {H : Type 0} (a b c : Ledger H) (m n o : Records) (ps : List (ℕ × �
         numbers = subst (AllByRecursion IsDocNumber) (sym documents_are) lawful;
       };
       docs_are = ap ones documents_are ∙ ones_keys ps;
-      blocks = used_keeps a c m o 0 next vector_turns (record { each = λ k r there old. absurd old });
+      blocks = record { each = λ k r there old. absurd old };
       owns = owns-then a c m o (vector_part 0 ∷ []) (vector_part next ∷ []) (record { each = λ r. omega arith }) vector_turns;
       turns = vector_turns;
     }

@@ -1,23 +1,17 @@
 -- A change of a block leaves the other blocks.
-use Rattle.std.proofs.Common.{◌≡◌, ℕ, ◌+◌, ◌<◌, ◌≤◌, List, [], ◌∷◌, ◌++◌, map, Option, None, Some, inl, inr, refl, sym, ap, subst, ◌∙◌, arith}
+use Rattle.std.proofs.Common.{◌≡◌, ℕ, List, [], ◌∷◌, ◌++◌, map, Option, None, Some, inl, inr, refl, sym, ap, subst, ◌∙◌, arith}
 use Rattle.std.proofs.lemmas.Bool.{cases_eq}
 use Rattle.std.proofs.lemmas.Cmp.{nat_cmp_total}
 use Rattle.std.specs.declared.cmp.Ordering.{Ordering}
 use Rattle.std.specs.declared.cmp.Ordering.TheVariants.{Less, Equal, Greater}
 use Rattle.std.specs.Ordering.{nat_cmp}
 use Rattle.entry_ref.specs.Records.{Records, Among}
-use Rattle.store_api.specs.Ledgers.{Ledger}
-use Rattle.store_api.specs.Parts.{Turns, times, uses}
-use Rattle.store_api.specs.Statuses.{in_use}
-use Rattle.store_api.proofs.Times.{among-times, times-among}
-use Rattle.store_api.proofs.Uses.{uses-few, uses-in}
 use Rattle.tree_read.specs.Pairs.{choose, lookup, put, take_out}
 use Rattle.tree_read.specs.Trees.{tree_nodes, tree_pairs}
 use Rattle.tree_read.proofs.PairLemmas.{lookup-put}
 use Rattle.doc_vector.proofs.DocumentLemmas.{same_number, other_number}
 use Rattle.doc_vector.proofs.MapLemmas.{put_others, take_out_gone, take_out_others}
 use Rattle.bit_vector.specs.Blocks.{beside_block}
-use Rattle.bit_vector.specs.Changes.{vector_part}
 use Rattle.bit_vector.specs.Keeps.{block_at, KeepsBlocks}
 use Rattle.bit_vector.specs.Vectors.{vector_reach, IsVector}
 
@@ -81,16 +75,3 @@ module _ (m o : Records) (root next k : ℕ) where
             sym (ap (lookup (beside_block j)) pairs
             ∙ take_out_others nat_cmp nat_cmp_total (λ x. x) k j (other_number k j other) (tree_pairs m root) is.tree_is.ascends) ∙ there
       ]
-
--- what was in use and is a block now was owned before
-pub used_keeps : {H : Type 0} (a c : Ledger H) (m o : Records) (root next : ℕ) → Turns a c m o (vector_part root ∷ []) (vector_part next ∷ []) → KeepsOwn m o root next
-    → KeepsBlocks (λ r. in_use (a.status r) ≡ true) m o root next
-used_keeps a c m o root next turns keeps = record { each = λ k r there used. keeps.each k r there (owned k r there used) }
-  where
-    owned : (k r : ℕ) → block_at o next k ≡ Some r → in_use (a.status r) ≡ true → Among r (vector_reach m root)
-    owned k r there used =
-        let t = turns.balance r in
-        let was = uses-in a r used in
-        let few = uses-few c r in
-        let now = among-times r (vector_reach o next) (block_among o next k r there) in
-        times-among r (vector_reach m root) (omega arith)

@@ -19,7 +19,6 @@ use Rattle.attr_index.specs.Sets.{has, in_words}
 use Rattle.bit_vector.specs.Blocks.{beside_block, HasBit, SetsBlock}
 use Rattle.bit_vector.specs.Changes.{vector_part, MakesVector}
 use Rattle.bit_vector.specs.Vectors.{vector_at, IsVector}
-use Rattle.bit_vector.proofs.KeepLemmas.{used_keeps}
 use Rattle.bit_vector.proofs.DocumentLemmas.{and_false, all_has, has_all, inserted, or_false, removed, unchanged}
 use Rattle.bit_vector.proofs.VectorLemmas.{bit_lacking, in_block, own_block, vector_ascends}
 
@@ -57,7 +56,7 @@ module _ {H : Type 0} (a b : Ledger H) (m n : Records) (root doc : ℕ) (is : Is
           (λ no.
           let apart = eqb-false (x / 4096) (doc / 4096) no in
           outside x apart ∙ sym (or_false (has docs x)) ∙ ap (λ t. has docs x || t) (sym (ne_eqb x doc (λ e. apart (ap (λ d. d / 4096) e))))));
-      blocks = used_keeps a b m n root next sets.turns sets.blocks;
+      blocks = sets.blocks;
       owns = sets.owns;
       turns = sets.turns;
     }
@@ -74,7 +73,7 @@ module _ {H : Type 0} (a b : Ledger H) (m n : Records) (root doc : ℕ) (is : Is
           (λ no.
           let apart = eqb-false (x / 4096) (doc / 4096) no in
           outside x apart ∙ and_true (has docs x) ∙ ap (λ t. has docs x && not t) (sym (ne_eqb x doc (λ e. apart (ap (λ d. d / 4096) e))))));
-      blocks = used_keeps a b m n root next sets.turns sets.blocks;
+      blocks = sets.blocks;
       owns = sets.owns;
       turns = sets.turns;
     }

@@ -1,10 +1,9 @@
 -- How a change of a bit vector changes a store.
-use Rattle.std.specs.Prelude.{◌≡◌, ◌⊎◌, ℕ, ℤ, nat_eq, if◌then◌else◌, true, List, [], ◌∷◌}
+use Rattle.std.specs.Prelude.{◌≡◌, ◌⊎◌, ℕ, ℤ, nat_eq, if◌then◌else◌, List, [], ◌∷◌}
 use Rattle.std.specs.Ordering.{nat_cmp}
-use Rattle.entry_ref.specs.Records.{Records}
+use Rattle.entry_ref.specs.Records.{Records, Among}
 use Rattle.store_api.specs.Ledgers.{Ledger, capacity}
 use Rattle.store_api.specs.Parts.{Part, Owns, Turns}
-use Rattle.store_api.specs.Statuses.{in_use}
 use Rattle.store_api.specs.Units.{MakesAtMost}
 use Rattle.tree_read.specs.Trees.{tree_pairs, by_number, IsTree}
 use Rattle.tree_read.specs.declared.node_format.TheConstants.{NODE_WORDS}
@@ -18,11 +17,11 @@ use Rattle.bit_vector.specs.Vectors.{vector_at, vector_reach, IsVector}
 abbrev pub vector_part : ℕ → Part
 vector_part root = record { reach = λ m. vector_reach m root; stays = λ m n same. vector_reach-same m n root same }
 
--- a bit vector of these documents was made, in place of another. A block whose record was in use was this block of that one
+-- a bit vector of these documents was made, in place of another. A block whose record that one had was this block of it
 pub record MakesVector {H : Type 0} (old new : Ledger H) (m n : Records) (root : ℕ) (docs : List (ℕ × ℤ)) (next : ℕ) : Type 0 where
   pub vector_is : IsVector n next
   pub docs_are : vector_at n next ≡ docs
-  pub blocks : KeepsBlocks (λ r. in_use (old.status r) ≡ true) m n root next
+  pub blocks : KeepsBlocks (λ r. Among r (vector_reach m root)) m n root next
   pub owns : Owns new n (vector_part next ∷ [])
   pub turns : Turns old new m n (vector_part root ∷ []) (vector_part next ∷ [])
 
