@@ -1,16 +1,18 @@
 -- A list made anew, of the same documents.
-use Rattle.std.proofs.Common.{◌≡◌, ◌≢◌, ℕ, zero, suc, ℤ, None, Some, ◌+◌, ◌*◌, ◌/◌, ◌%◌, ◌<◌, ◌≤◌, Bool, cond, nat_eq, List, [], ◌∷◌, map, length, true, false, true≢false, refl, sym, ap, subst, ◌∙◌, arith}
+use Rattle.std.proofs.Common.{◌≡◌, ◌≢◌, ℕ, zero, suc, ℤ, Some, ◌+◌, ◌*◌, ◌/◌, ◌%◌, ◌<◌, ◌≤◌, Bool, cond, nat_eq, List, [], ◌∷◌, map, length, true, false, true≢false, refl, sym, ap, subst, ◌∙◌, arith}
 use Rattle.std.proofs.lemmas.Bool.{eqb-false, eqb-true, le-leb, lt-leb}
 use Rattle.std.proofs.lemmas.List.{length-map}
 use Rattle.std.specs.Ordering.{nat_cmp}
 use Rattle.std.specs.List.{AllByRecursion}
 use Rattle.entry_ref.specs.References.{buffer_of}
-use Rattle.entry_ref.specs.Records.{Records, SameAt}
+use Rattle.entry_ref.specs.Records.{Records, SameAt, Among}
 use Rattle.store_api.specs.Ledgers.{Ledger, capacity}
 use Rattle.store_api.specs.Parts.{Owns, Turns, count_in, entry, times}
 use Rattle.store_api.specs.Statuses.{in_use}
 use Rattle.store_api.specs.Units.{MakesAtMost, MayDo}
 use Rattle.store_api.proofs.PartLemmas.{after, owns-some, turns-as}
+use Rattle.store_api.proofs.Times.{among-times}
+use Rattle.store_api.proofs.Uses.{in-uses}
 use Rattle.tree_read.specs.Trees.{tree_pairs, by_number, IsTree}
 use Rattle.frozen_btree.specs.Changes.{levels, tree as tree_part}
 use Rattle.frozen_btree.specs.Makes.{CountsNodes}
@@ -23,13 +25,15 @@ use Rattle.posting_store.specs.Changes.{list_part, list_most, MakesList, MakesWi
 use Rattle.posting_store.specs.Lists.{list_at, list_levels, list_reach, is_vector, AreDocuments, IsList, IsPlain}
 use Rattle.posting_store.proofs.ChangeLemmas.{counts_short, makes_short, makes_tree, replaces}
 use Rattle.posting_store.specs.Keeps.{form_block, list_block, KeepsListBlocks}
-use Rattle.posting_store.proofs.FormLemmas.{form_even, form_odd, form_short, form_tree, form_vector, no_vector, short_at, short_few, short_reach, tree_at, tree_form, tree_levels, tree_reach}
-use Rattle.posting_store.proofs.VectorLemmas.{makes_vector, vector_counted, vector_list_at, vector_long, with_ones}
+use Rattle.posting_store.proofs.FlowLemmas.{flows_nothing, flows_vector, plain_block}
+use Rattle.posting_store.proofs.FormLemmas.{form_short, form_tree, form_vector, no_vector, short_at, short_few, short_reach, tree_at, tree_form, tree_levels, tree_reach}
+use Rattle.posting_store.proofs.VectorLemmas.{makes_vector, vector_counted, vector_list_at, vector_long, vector_owned, with_ones}
 use Rattle.posting_store.proofs.PairLemmas.{weighed, weighed-length}
 use Rattle.value_index.proofs.CountLemmas.{within_more}
 use Rattle.attr_compaction.specs.PhaseKeys.{form_docs}
-use Rattle.bit_vector.specs.Changes.{vector_most, MakesVector}
+use Rattle.bit_vector.specs.Changes.{vector_most, vector_part, MakesVector}
 use Rattle.bit_vector.specs.Moves.{moved_nodes, MovesBlock}
+use Rattle.bit_vector.specs.Vectors.{vector_reach}
 use Rattle.compaction_moves.specs.IndexMoves.{word_most, FormIsApart, MovesWord}
 use Rattle.compaction_moves.proofs.BlockLemmas.{block_same, nodes_of_vector}
 
@@ -53,17 +57,6 @@ tree_within a b levels count many made = record {
     told w false is = made.others (capacity a.work.sizes.words w) w (eqb-false w 34 is)
 
 -- ---- a list that is no bit vector has no blocks
-no_some : (x : ℕ) → None ≡ Some x → ⊥
-no_some x e = grind (arith, e)
-
-pub plain_block : (m : Records) (word k r : ℕ) → IsPlain word → list_block m word k ≡ Some r → ⊥
-plain_block m word k r plain there = told (word % 2) refl
-  where
-    told : (bit : ℕ) → word % 2 ≡ bit → ⊥
-    told zero is = no_some r (sym (ap (λ f. form_block m f k) (form_even word plain is)) ∙ there)
-    told (suc zero) is = no_some r (sym (ap (λ f. form_block m f k) (form_odd word plain is)) ∙ there)
-    told (suc (suc bit)) is = absurd (omega (arith, is))
-
 pub plain_keeps : (IsOld : ℕ → Type 0) (m n : Records) (word next : ℕ) → IsPlain next → KeepsListBlocks IsOld m n word next
 plain_keeps IsOld m n word next plain = record { each = λ k r there used. absurd (plain_block n next k r plain there) }
 
@@ -84,6 +77,7 @@ word_kept bits buffer doc a m word list owns apart = record {
     list_is = list;
     form = refl;
     docs_are = refl;
+    flows = flows_nothing (λ r. in_use (a.back r) ≡ true) m word;
     owns = owns;
     turns = record { kept = λ r h. refl; balance = λ r. refl };
   };
@@ -146,10 +140,10 @@ module _ (m : Records) (word ref : ℕ) (list : IsList m word) (plain : IsPlain 
       dropped_list = turns-as b c n o (entry ref ∷ []) [] (list_part word ∷ []) [] dropped
           (λ r. ap (λ rs. times r rs + 0) (same_list ∙ short_reach m word ref plain word_is there)) (λ r. refl)
 
-      short_made : (next : ℕ) → next ≡ 2 * copy → IsPlain next → MakesList a c m o word (list_at m word) false next
-      short_made next next_is next_plain =
+      short_made : (next : ℕ) → next ≡ 2 * copy → IsPlain next → MayDo a b → MakesList a c m o word (list_at m word) false next
+      short_made next next_is next_plain may =
           subst (λ (docs : List (ℕ × ℤ)). MakesList a c m o word docs false next) (sym short_docs)
-          (replaces a b c m n o word next (map unpacked (stored_items (m ref))) owns (copied next next_is next_plain) dropped_list)
+          (replaces a b c m n o word next (map unpacked (stored_items (m ref))) owns (copied next next_is next_plain) may dropped_list)
 
       copy_apart : (buffer doc next : ℕ) → next ≡ 2 * copy → IsPlain next → MayDo a b → a.sealed buffer ≡ true → FormIsApart bits buffer doc o (list_form next)
       copy_apart buffer doc next next_is next_plain may sealed =
@@ -160,7 +154,7 @@ module _ (m : Records) (word ref : ℕ) (list : IsList m word) (plain : IsPlain 
 
       pub short_moved : (buffer doc next : ℕ) → next ≡ 2 * copy → IsPlain next → MayDo a b → a.sealed buffer ≡ true → MovesWord bits buffer doc a c m o word next
       short_moved buffer doc next next_is next_plain may sealed = record {
-        makes = plain_form a c m o word next plain (short_made next next_is next_plain);
+        makes = plain_form a c m o word next plain (short_made next next_is next_plain may);
         apart = copy_apart buffer doc next next_is next_plain may sealed;
         docs = ap (form_docs o) (form_short next copy next_plain next_is) ∙ sym (ap (form_docs m) (form_short word ref plain word_is));
         blocks = plain_keeps (λ r. in_use (a.status r) ≡ true) m o word next next_plain;
@@ -194,7 +188,7 @@ module _ {H : Type 0} (a b : Ledger H) (m n : Records) (word root : ℕ) (list :
   tree_made : (next top : ℕ) → next ≡ 2 * top + 1 → IsPlain next → IsTree nat_cmp by_number n top → tree_pairs n top ≡ tree_pairs m root
       → Owns b n (tree_part top ∷ []) → Turns a b m n (tree_part root ∷ []) (tree_part top ∷ []) → MakesList a b m n word (list_at m word) false next
   tree_made next top made next_plain tree_is pairs owns turns =
-      makes_tree a b m n word next top (list_at m word) (tree_part root ∷ []) made next_plain tree_is
+      makes_tree a b m n word next top (list_at m word) (tree_part root ∷ []) made next_plain plain tree_is
       (subst (AllByRecursion (λ p. p.1 < 4294967296)) (sym pairs) (tree_form m word root plain tree_is_word list).2)
       many (ap weighed pairs ∙ sym (tree_at m word root plain tree_is_word)) (are_documents m word list) owns turns
       (λ r. ap (λ rs. times r rs + 0) (tree_reach m word root plain tree_is_word))
@@ -234,11 +228,22 @@ starts_of [] = refl
 starts_of (p ∷ ps) = ap (λ ks. 4096 * p.0 ∷ ks) (starts_of ps)
 
 module _ {H : Type 0} (a b : Ledger H) (m n : Records) (word root : ℕ) (list : IsList m word) (dense : is_vector word ≡ true) (at : word ≡ 8589934592 + root) where
-  module _ (bits buffer doc next top : ℕ) (next_is : next ≡ 8589934592 + top) (next_dense : is_vector next ≡ true) (moves : MovesBlock bits buffer (doc / 4096) a b m n root top) where
+  module _ (bits buffer doc next top : ℕ) (next_is : next ≡ 8589934592 + top) (next_dense : is_vector next ≡ true) (moves : MovesBlock bits buffer (doc / 4096) a b m n root top)
+      (owns : Owns a m (list_part word ∷ [])) (may : MayDo a b) where
+    used_there : (r : ℕ) → Among r (vector_reach m root) → in_use (a.status r) ≡ true
+    used_there r own =
+        let all = (vector_owned m word root at a owns).each r in
+        let some = among-times r (vector_reach m root) own in
+        in-uses a r (omega arith)
+
+    turned : Turns a b m n (list_part word ∷ []) (list_part next ∷ [])
+    turned = turns-as a b m n (vector_part root ∷ []) (vector_part top ∷ []) (list_part word ∷ []) (list_part next ∷ []) moves.turns (vector_counted m word root at) (vector_counted n next top next_is)
+
     vector_made : MakesVector a b m n root (list_at m word) top
     vector_made = record {
       vector_is = moves.vector_is;
       docs_are = ap with_ones moves.documents ∙ sym (vector_list_at m word root at);
+      blocks = record { each = λ k r there own. moves.blocks.each k r there (used_there r own) };
       owns = moves.owns;
       turns = moves.turns;
     }
@@ -251,7 +256,8 @@ module _ {H : Type 0} (a b : Ledger H) (m n : Records) (word root : ℕ) (list :
     pub vector_moved : MovesWord bits buffer doc a b m n word next
     vector_moved = record {
       makes = subst (λ (t : Bool). MakesList a b m n word (list_at m word) t next) (sym dense)
-          (makes_vector a b m n word next root top (list_at m word) next_is next_dense vector_made (vector_long m word root at list) (are_documents m word list)
+          (makes_vector a b m n word next root top (list_at m word) next_is next_dense vector_made
+          (flows_vector a b m n word next root top at next_is may turned vector_made.blocks) (vector_long m word root at list) (are_documents m word list)
           (vector_counted m word root at));
       apart = subst (FormIsApart bits buffer doc n) (sym (form_vector next top next_is)) moves.apart;
       docs = ap (form_docs n) (form_vector next top next_is) ∙ starts_of (tree_pairs n top) ∙ ap (map (λ k. 4096 * k)) moves.numbers ∙ sym (starts_of (tree_pairs m root))

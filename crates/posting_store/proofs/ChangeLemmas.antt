@@ -10,10 +10,12 @@ use Rattle.array_store.specs.Adding.{AddsRecord, MakesOneOf}
 use Rattle.attr_images.specs.Postings.{tree, list_form, IsPostingList}
 use Rattle.attr_images.specs.Words.{class_of, filled, stored_items, unpacked, IsStoredList}
 use Rattle.attr_types.specs.Lawful.{IsDocNumber}
-use Rattle.entry_ref.specs.Records.{Records}
+use Rattle.entry_ref.specs.Records.{Records, Among}
 use Rattle.store_api.specs.Ledgers.{Ledger, capacity}
 use Rattle.store_api.specs.Parts.{Part, count_in, times, entry, Owns, Turns, AllStay}
+use Rattle.store_api.specs.Statuses.{in_use}
 use Rattle.store_api.specs.Units.{MakesAtMost, MayDo}
+use Rattle.store_api.proofs.Flows.{flow_part}
 use Rattle.store_api.proofs.Counts.{at_most-none, at_most-then, at_most-more}
 use Rattle.store_api.proofs.PartLemmas.{after, turns-as, turns-then, owns-some}
 use Rattle.tree_read.specs.Trees.{tree_pairs, by_number, IsTree}
@@ -22,6 +24,7 @@ use Rattle.frozen_btree.specs.Makes.{CountsNodes}
 use Rattle.posting_store.specs.Lists.{list_at, IsList, IsPlain, AreDocuments}
 use Rattle.posting_store.specs.ProofsForLists.{IsList-same, list_at-same}
 use Rattle.posting_store.specs.Changes.{list_part, list_most, IsListWidth, MakesList, MakesWithin}
+use Rattle.posting_store.proofs.FlowLemmas.{flows_fresh, flows_plain}
 use Rattle.posting_store.proofs.FormLemmas.{form_short, form_tree, no_vector, short_at, short_reach, tree_at, tree_reach}
 use Rattle.posting_store.proofs.PairLemmas.{weighed, weighed-length}
 
@@ -45,6 +48,7 @@ module _ {H : Type 0} (old new : Ledger H) (m n : Records) where
         list_is = is_list n 0 [] (λ some. absurd (omega arith)) refl (record { ascends = nothing_ascends; numbers = tt });
         form = refl;
         docs_are = refl;
+        flows = flows_plain (λ r. in_use (old.back r) ≡ true) m n 0 0 (omega arith) (omega arith);
         owns = record { each = λ r. omega arith };
         turns = turns-as old new m n [] [] (list_part 0 ∷ []) (list_part 0 ∷ []) turns (λ r. refl) (λ r. refl);
       }
@@ -69,16 +73,17 @@ module _ {H : Type 0} (old new : Ledger H) (m n : Records) where
         list_is = is_list n next (map unpacked items) (λ more. subst (IsPostingList n) (sym form) stored) docs are;
         form = no_vector next plain;
         docs_are = docs;
+        flows = flows_plain (λ r. in_use (old.back r) ≡ true) m n 0 next (omega arith) plain;
         owns = record { each = λ r. let b = turns.balance r in let e = counted r in omega arith };
         turns = turns-as old new m n [] (entry ref ∷ []) (list_part 0 ∷ []) (list_part next ∷ []) turns (λ r. refl) counted;
       }
 
   -- a tree in place of other parts
-  pub makes_tree : (word next root : ℕ) (docs : List (ℕ × ℤ)) (parts : List Part) → next ≡ 2 * root + 1 → IsPlain next
+  pub makes_tree : (word next root : ℕ) (docs : List (ℕ × ℤ)) (parts : List Part) → next ≡ 2 * root + 1 → IsPlain next → IsPlain word
       → IsTree nat_cmp by_number n root → AllByRecursion (λ p. p.1 < 4294967296) (tree_pairs n root) → 8 < length docs → weighed (tree_pairs n root) ≡ docs → AreDocuments docs
       → Owns new n (tree_part root ∷ []) → Turns old new m n parts (tree_part root ∷ []) → ((r : ℕ) → count_in r m (list_part word ∷ []) ≡ count_in r m parts)
       → MakesList old new m n word docs false next
-  makes_tree word next root docs parts is plain tree_is small many reads are owns turns before =
+  makes_tree word next root docs parts is plain was_plain tree_is small many reads are owns turns before =
       let form = form_tree next root plain is in
       let at = tree_at n next root plain is ∙ reads in
       let reach = tree_reach n next root plain is in
@@ -90,6 +95,7 @@ module _ {H : Type 0} (old new : Ledger H) (m n : Records) where
         list_is = is_list n next docs (λ more. subst (IsPostingList n) (sym form) posting) at are;
         form = no_vector next plain;
         docs_are = at;
+        flows = flows_plain (λ r. in_use (old.back r) ≡ true) m n word next was_plain plain;
         owns = record { each = λ r. let o = owns.each r in let e = counted r in omega arith };
         turns = turns-as old new m n parts (tree_part root ∷ []) (list_part word ∷ []) (list_part next ∷ []) turns before counted;
       }
@@ -111,14 +117,16 @@ module _ {H : Type 0} (a b c : Ledger H) (m n o : Records) (word next : ℕ) (do
   pub old_owned : Owns b n (list_part word ∷ [])
   old_owned = owns-some b n (list_part next ∷ list_part word ∷ []) (list_part word ∷ []) first_owns (λ r. omega arith)
 
-  pub replaces : Turns b c n o (list_part word ∷ []) [] → MakesList a c m o word docs dense next
-  replaces dropped =
+  pub replaces : MayDo a b → Turns b c n o (list_part word ∷ []) [] → MakesList a c m o word docs dense next
+  replaces may dropped =
       let first = after a b m n (list_part 0 ∷ []) (list_part next ∷ []) (list_part word ∷ []) (list_part word ∷ []) (list_part next ∷ list_part word ∷ []) owns made (λ k r. omega arith) (λ k r. omega arith) in
       let second = after b c n o (list_part word ∷ []) [] (list_part next ∷ []) (list_part next ∷ list_part word ∷ []) (list_part next ∷ []) first.owns dropped (λ k r. omega arith) (λ k r. omega arith) in
       record {
         list_is = IsList-same n o next second.stay.0 makes.list_is;
         form = makes.form;
         docs_are = list_at-same n o next second.stay.0 ∙ makes.docs_are;
+        flows = flows_fresh (λ r. in_use (a.back r) ≡ true) m o word next (λ r old among.
+            absurd (flow_part a b m n (list_part 0) (list_part next) may made r old (subst (λ (rs : List ℕ). Among r rs) ((list_part next).stays n o second.stay.0) among)));
         owns = second.owns;
         turns = turns-then a b c m n o (list_part word ∷ []) (list_part next ∷ list_part word ∷ []) (list_part next ∷ []) first.turns second.turns;
       }

@@ -2,6 +2,7 @@ pub mod ListLemmas
 pub mod CursorLemmas
 pub mod ItemLemmas
 pub mod FormLemmas
+pub mod FlowLemmas
 pub mod PairLemmas
 pub mod ChangeLemmas
 pub mod LeafLemmas

@@ -9,6 +9,7 @@ use Rattle.frozen_btree.specs.Builds.{nodes_of}
 use Rattle.store_api.specs.Calls.{RefusesOf}
 use Rattle.store_api.specs.Ledgers.{Ledger}
 use Rattle.store_api.specs.Parts.{Owns}
+use Rattle.store_api.specs.Statuses.{in_use}
 use Rattle.store_api.specs.Units.{MayDo}
 use Rattle.store_api.specs.declared.store.StoreError.{StoreError}
 use Rattle.store_api.proofs.PartLemmas.{turns-same, turns-then}
@@ -18,6 +19,7 @@ use Rattle.bit_vector.specs.Vectors.{count_blocks}
 use Rattle.posting_store.specs.Lists.{list_at, is_vector, IsList, IsPlain}
 use Rattle.posting_store.specs.Changes.{list_part, list_most, list_change_most, form_most, IsListWidth, IsFormWidth, IsListChangeWidth, MakesByRule, MakesList}
 use Rattle.posting_store.proofs.ChangeLemmas.{counts_both, counts_weaker, tree_most}
+use Rattle.posting_store.proofs.FlowLemmas.{flows_both, flows_nothing}
 use Rattle.posting_store.proofs.FormLemmas.{no_vector, plain_of}
 use Rattle.posting_store.proofs.RefusalLemmas.{if_more, of_more}
 use Rattle.posting_store.proofs.VectorLemmas.{vector_many}
@@ -118,6 +120,7 @@ makes_same a m word dense list form owns = record {
   list_is = list;
   form = form;
   docs_are = refl;
+  flows = flows_nothing (λ r. in_use (a.back r) ≡ true) m word;
   owns = owns;
   turns = turns-same a m (list_part word ∷ []);
 }
@@ -127,21 +130,22 @@ module _ {H : Type 0} (a b c : Ledger H) (m n o : Records) (word mid : ℕ) (doc
   long : was ≡ true → 8 < length docs
   long is = subst (λ (es : List (ℕ × ℤ)). 8 < length es) makes.docs_are (vector_many n mid (makes.form ∙ is) makes.list_is)
 
-  pub makes_then : (next : ℕ) (dense : Bool) → MakesList b c n o mid (list_at n mid) dense next → MakesList a c m o word docs dense next
-  makes_then next dense second = record {
+  pub makes_then : (next : ℕ) (dense : Bool) → MayDo a b → MayDo b c → MakesList b c n o mid (list_at n mid) dense next → MakesList a c m o word docs dense next
+  makes_then next dense first then second = record {
     list_is = second.list_is;
     form = second.form;
     docs_are = second.docs_are ∙ makes.docs_are;
+    flows = flows_both a b c m n o word mid next first then second.turns makes.flows second.flows;
     owns = second.owns;
     turns = turns-then a b c m n o (list_part word ∷ []) (list_part mid ∷ []) (list_part next ∷ []) makes.turns second.turns;
   }
 
-  pub rule_makes : (result : Result ℕ StoreError) (dense : Bool) (documents : ℕ) → IfOk result (MakesByRule dense documents b c n o mid (list_at n mid))
+  pub rule_makes : MayDo a b → MayDo b c → (result : Result ℕ StoreError) (dense : Bool) (documents : ℕ) → IfOk result (MakesByRule dense documents b c n o mid (list_at n mid))
       → IfOk result (MakesByRule dense documents a c m o word docs)
-  rule_makes (Ok next) dense documents second =
+  rule_makes first then (Ok next) dense documents second =
       subst (λ (es : List (ℕ × ℤ)). MakesList a c m o word docs (is_dense dense (length es) documents) next) makes.docs_are
-      (makes_then next (is_dense dense (length (list_at n mid)) documents) second)
-  rule_makes (Err e) dense documents second = tt
+      (makes_then next (is_dense dense (length (list_at n mid)) documents) first then second)
+  rule_makes first then (Err e) dense documents second = tt
 
   pub rule_counts : (dense : Bool) (documents levels : ℕ) → MayDo a b → MakesWithin a b (list_change_most was was levels docs)
       → MakesWithin b c (form_most (is_vector mid) (is_dense dense (length (list_at n mid)) documents) (list_at n mid))

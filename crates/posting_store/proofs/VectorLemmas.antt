@@ -11,7 +11,8 @@ use Rattle.entry_ref.specs.Records.{Records}
 use Rattle.tree_read.specs.Trees.{tree_pairs, by_number, root_level, root_least, IsTree, IsRootNode}
 use Rattle.store_api.specs.Ledgers.{Ledger, capacity}
 use Rattle.store_api.specs.Parts.{count_in, times, Owns, Turns}
-use Rattle.store_api.specs.Units.{MakesAtMost}
+use Rattle.store_api.specs.Statuses.{in_use}
+use Rattle.store_api.specs.Units.{MakesAtMost, MayDo}
 use Rattle.store_api.proofs.PartLemmas.{turns-as}
 use Rattle.frozen_btree.specs.Builds.{nodes_of}
 use Rattle.frozen_btree.specs.Changes.{levels}
@@ -25,6 +26,8 @@ use Rattle.bit_vector.specs.Changes.{vector_most, vector_part, MakesTree, MakesV
 use Rattle.bit_vector.specs.Vectors.{count_blocks, vector_at, vector_reach, IsVector}
 use Rattle.posting_store.specs.Lists.{list_at, list_levels, list_reach, form_levels, is_vector, AreDocuments, AreOnes, IsList, IsPlain}
 use Rattle.posting_store.specs.Changes.{list_part, list_change_most, form_most, IsLongWidth, MakesList}
+use Rattle.posting_store.specs.Keeps.{FlowsList}
+use Rattle.posting_store.proofs.FlowLemmas.{flows_made, flows_vector}
 use Rattle.posting_store.proofs.ChangeLemmas.{is_list, makes_tree}
 use Rattle.posting_store.proofs.FormLemmas.{at_form, reach_form, form_vector, tree_at, vector_high}
 use Rattle.posting_store.proofs.LeafLemmas.{length_in_least}
@@ -119,9 +122,9 @@ vector_many m word dense list = vector_long m word (word - 8589934592) (counted_
 -- a bit vector in place of another list
 module _ {H : Type 0} (old new : Ledger H) (m n : Records) where
   pub makes_vector : (word next was root : ℕ) (docs : List (ℕ × ℤ)) → next ≡ 8589934592 + root → is_vector next ≡ true
-      → MakesVector old new m n was docs root → 8 < length docs → AreDocuments docs
+      → MakesVector old new m n was docs root → FlowsList (λ r. in_use (old.back r) ≡ true) m n word next → 8 < length docs → AreDocuments docs
       → ((r : ℕ) → count_in r m (list_part word ∷ []) ≡ count_in r m (vector_part was ∷ [])) → MakesList old new m n word docs true next
-  makes_vector word next was root docs is dense makes many are before =
+  makes_vector word next was root docs is dense makes flows many are before =
       let at = vector_list_at n next root is ∙ makes.docs_are in
       let counted = vector_counted n next root is in
       let size : length (with_ones (vector_documents n root)) ≡ length docs = ap length makes.docs_are in
@@ -131,6 +134,7 @@ module _ {H : Type 0} (old new : Ledger H) (m n : Records) where
         list_is = is_list n next docs (λ more. subst (IsPostingList n) (sym (form_vector next root is)) posting) at are;
         form = dense;
         docs_are = at;
+        flows = flows;
         owns = record { each = λ r. let o = makes.owns.each r in let e = counted r in omega arith };
         turns = turns-as old new m n (vector_part was ∷ []) (vector_part root ∷ []) (list_part word ∷ []) (list_part next ∷ []) makes.turns before counted;
       }
@@ -157,16 +161,21 @@ module _ {H : Type 0} (old new : Ledger H) (m n : Records) (word root : ℕ) (is
   vector_documents_are : AreDocuments (list_at m word)
   vector_documents_are = record { ascends = list.ascends; numbers = list.numbers }
 
+  vector_turns : (next top : ℕ) → next ≡ 8589934592 + top → Turns old new m n (vector_part root ∷ []) (vector_part top ∷ []) → Turns old new m n (list_part word ∷ []) (list_part next ∷ [])
+  vector_turns next top made turns =
+      turns-as old new m n (vector_part root ∷ []) (vector_part top ∷ []) (list_part word ∷ []) (list_part next ∷ []) turns (vector_counted m word root is) (vector_counted n next top made)
+
   module _ (doc : ℕ) (number : IsDocNumber doc) where
     pub vector_more : 8 < length (insert_entry nat_cmp (list_at m word) doc (pos 1))
     vector_more = let least = length_in_least doc (pos 1) (list_at m word) in let before = vector_long m word root is list in omega (arith, least, before)
 
     pub vector_added : (next top : ℕ) → next ≡ 8589934592 + top → is_vector next ≡ true
-        → MakesVector old new m n root (insert_entry nat_cmp (vector_at m root) doc (pos 1)) top
+        → MayDo old new → MakesVector old new m n root (insert_entry nat_cmp (vector_at m root) doc (pos 1)) top
         → MakesList old new m n word (insert_entry nat_cmp (list_at m word) doc (pos 1)) true next
-    vector_added next top made dense makes =
+    vector_added next top made dense may makes =
         makes_vector old new m n word next root top (insert_entry nat_cmp (list_at m word) doc (pos 1)) made dense
         (subst (λ (es : List (ℕ × ℤ)). MakesVector old new m n root (insert_entry nat_cmp es doc (pos 1)) top) (sym (vector_list_at m word root is)) makes)
+        (flows_vector old new m n word next root top is made may (vector_turns next top made makes.turns) makes.blocks)
         vector_more (documents_in doc (pos 1) (list_at m word) number vector_documents_are) (vector_counted m word root is)
 
   module _ (doc : ℕ) (there : IsSome (lookup_in (is_at (nat_cmp doc)) (list_at m word))) (still : 9 < length (list_at m word)) where
@@ -174,11 +183,12 @@ module _ {H : Type 0} (old new : Ledger H) (m n : Records) (word root : ℕ) (is
     vector_left = let less = length_out_some (is_at (nat_cmp doc)) (list_at m word) there in omega (arith, less, still)
 
     pub vector_removed : (next top : ℕ) → next ≡ 8589934592 + top → is_vector next ≡ true
-        → MakesVector old new m n root (remove_entry (is_at (nat_cmp doc)) (vector_at m root)) top
+        → MayDo old new → MakesVector old new m n root (remove_entry (is_at (nat_cmp doc)) (vector_at m root)) top
         → MakesList old new m n word (remove_entry (is_at (nat_cmp doc)) (list_at m word)) true next
-    vector_removed next top made dense makes =
+    vector_removed next top made dense may makes =
         makes_vector old new m n word next root top (remove_entry (is_at (nat_cmp doc)) (list_at m word)) made dense
         (subst (λ (es : List (ℕ × ℤ)). MakesVector old new m n root (remove_entry (is_at (nat_cmp doc)) es) top) (sym (vector_list_at m word root is)) makes)
+        (flows_vector old new m n word next root top is made may (vector_turns next top made makes.turns) makes.blocks)
         vector_left (documents_out (is_at (nat_cmp doc)) (list_at m word) vector_documents_are) (vector_counted m word root is)
 
   pub vector_counts : (docs : List (ℕ × ℤ)) → MakesWithin old new (vector_most 1 (2 * levels m root + 1)) → MakesWithin old new (list_change_most true true (list_levels m word) docs)
@@ -188,7 +198,7 @@ module _ {H : Type 0} (old new : Ledger H) (m n : Records) (word root : ℕ) (is
   pub vector_as_tree : (next top : ℕ) → next ≡ 2 * top + 1 → IsPlain next → MakesTree old new m n (paired (vector_documents m root)) top
       → MakesList old new m n 0 (list_at m word) false next
   vector_as_tree next top made plain makes =
-      makes_tree old new m n 0 next top (list_at m word) [] made plain makes.tree_is
+      makes_tree old new m n 0 next top (list_at m word) [] made plain (omega arith) makes.tree_is
       (subst (AllByRecursion (λ p. p.1 < 4294967296)) (sym makes.pairs_are) (paired_small (vector_documents m root)))
       (vector_long m word root is list)
       (ap weighed makes.pairs_are ∙ pairs_of_ones (vector_documents m root) ∙ sym (vector_list_at m word root is))
@@ -208,11 +218,12 @@ module _ {H : Type 0} (old new : Ledger H) (m n : Records) (word root : ℕ) (li
   tree_numbers = subst (AllByRecursion IsDocNumber) tree_keys_are list.numbers
 
   pub tree_as_vector : (next top : ℕ) → next ≡ 8589934592 + top → is_vector next ≡ true → 8 < length (list_at m word) → AreOnes (list_at m word)
-      → MakesVector old new m n 0 (map (λ p. (p.0, pos 1)) (tree_pairs m root)) top → MakesList old new m n 0 (list_at m word) true next
-  tree_as_vector next top made dense many all makes =
+      → MayDo old new → MakesVector old new m n 0 (map (λ p. (p.0, pos 1)) (tree_pairs m root)) top → MakesList old new m n 0 (list_at m word) true next
+  tree_as_vector next top made dense many all may makes =
       let same : map {B = ℕ × ℤ} (λ p. (p.0, pos 1)) (tree_pairs m root) ≡ list_at m word
       = ones_of_pairs (tree_pairs m root) (subst AreOnes (tree_at m word root plain is) all) ∙ sym (tree_at m word root plain is) in
       makes_vector old new m n 0 next 0 top (list_at m word) made dense (subst (λ (es : List (ℕ × ℤ)). MakesVector old new m n 0 es top) same makes)
+      (flows_made old new m n 0 next may (turns-as old new m n (vector_part 0 ∷ []) (vector_part top ∷ []) (list_part 0 ∷ []) (list_part next ∷ []) makes.turns (λ r. refl) (vector_counted n next top made)))
       many (record { ascends = list.ascends; numbers = list.numbers }) (λ r. refl)
 
   pub blocks_counts : MakesWithin old new (vector_most (count_blocks (map (λ p. p.0) (tree_pairs m root))) (nodes_of (count_blocks (map (λ p. p.0) (tree_pairs m root)))))

@@ -4,6 +4,7 @@ use Rattle.std.specs.Map.{keys_of}
 use Rattle.entry_ref.specs.Records.{Records}
 use Rattle.store_api.specs.Ledgers.{Ledger}
 use Rattle.store_api.specs.Parts.{Part, Owns, Turns}
+use Rattle.store_api.specs.Statuses.{in_use}
 use Rattle.tree_read.specs.declared.node_format.TheConstants.{NODE_WORDS}
 use Rattle.frozen_btree.specs.Builds.{nodes_of}
 use Rattle.attr_images.specs.Postings.{is_dense}
@@ -12,6 +13,7 @@ use Rattle.attr_images.specs.Words.{class_of}
 use Rattle.bit_vector.specs.Changes.{vector_most, IsVectorWidth}
 pub use Rattle.bit_vector.specs.Changes.{MakesWithin}
 use Rattle.bit_vector.specs.Vectors.{count_blocks}
+use Rattle.posting_store.specs.Keeps.{FlowsList}
 use Rattle.posting_store.specs.Lists.{list_at, list_reach, is_vector, IsList}
 use Rattle.posting_store.specs.ProofsForLists.{list_reach-same}
 
@@ -19,12 +21,14 @@ use Rattle.posting_store.specs.ProofsForLists.{list_reach-same}
 abbrev pub list_part : ℕ → Part
 list_part word = record { reach = λ m. list_reach m word; stays = λ m n same. list_reach-same m n word same }
 
--- a list of these documents was made, in place of another; whether it is a bit vector
+-- a list of these documents was made, in place of another; whether it is a bit vector. What was in use when the unit began
+-- is the same block of it
 pub record MakesList {H : Type 0} (old new : Ledger H) (m n : Records) (word : ℕ) (docs : List (ℕ × ℤ)) (dense : Bool) (next : ℕ)
     : Type 0 where
   pub list_is : IsList n next
   pub form : is_vector next ≡ dense
   pub docs_are : list_at n next ≡ docs
+  pub flows : FlowsList (λ r. in_use (old.back r) ≡ true) m n word next
   pub owns : Owns new n (list_part next ∷ [])
   pub turns : Turns old new m n (list_part word ∷ []) (list_part next ∷ [])
 

@@ -1,5 +1,5 @@
 -- The index after a change of one value's list: the value's pair set in its dictionary, or taken out.
-use Rattle.std.proofs.Common.{◌≡◌, ℕ, ℤ, ◌<◌, ◌≤◌, List, [], ◌∷◌, ◌++◌, map, length, Some, Option, option_map, IsSome, inl, inr, ◌⊎◌, refl, sym, ap, subst, ◌∙◌, arith}
+use Rattle.std.proofs.Common.{◌≡◌, ℕ, ℤ, ◌<◌, ◌≤◌, true, List, [], ◌∷◌, ◌++◌, map, length, Some, Option, option_map, IsSome, inl, inr, ◌⊎◌, refl, sym, ap, subst, ◌∙◌, arith}
 use Rattle.std.specs.BTreeMap.{insert_entry, is_at}
 use Rattle.std.specs.List.{flat_map, AllByRecursion}
 use Rattle.std.specs.Map.{remove_entry}
@@ -10,6 +10,7 @@ use Rattle.tree_read.specs.Pairs.{lookup, lookup_pair, put, take_out}
 use Rattle.tree_read.proofs.PairLemmas.{lookup-of_pair}
 use Rattle.store_api.specs.Ledgers.{Ledger}
 use Rattle.store_api.specs.Parts.{Part, After, Owns, Turns, count_in, entry, times}
+use Rattle.store_api.specs.Statuses.{in_use}
 use Rattle.store_api.specs.Units.{MayDo}
 use Rattle.store_api.proofs.PartLemmas.{after, owns-some, turns-as, turns-then}
 use Rattle.tree_read.specs.ProofsForTrees.{SameAt-right, all-same, tree_nodes-same}
@@ -29,6 +30,7 @@ use Rattle.enum_dictionary.proofs.DictionaryLemmas.{dictionary_stays}
 use Rattle.posting_store.specs.Changes.{list_part}
 use Rattle.posting_store.specs.Lists.{list_at, list_reach, IsPlain}
 use Rattle.posting_store.specs.ProofsForLists.{IsList-same, list_at-same, list_reach-same}
+use Rattle.posting_store.proofs.FlowLemmas.{flows_on}
 use Rattle.posting_store.proofs.FormLemmas.{at_form}
 use Rattle.value_index.specs.Changes.{KeepsKeys, MakesIndex}
 use Rattle.value_index.specs.Flows.{list_word}
@@ -180,7 +182,8 @@ module _ {H : Type 0} (value : Value) (a b : Ledger H) (m n : Records) (root key
         index_is = index_set;
         reads_as = reads_set;
         keys = keys_set;
-        flows = flows_set value a m o root next (nodes_from taken.may may) rest_stays key word pairs_are (ap (value_of type) key_stays ∙ is.reads) taken.from_key (list_from taken);
+        flows = flows_set value a m o root next (nodes_from taken.may may) rest_stays key word pairs_are (ap (value_of type) key_stays ∙ is.reads) taken.from_key (list_from taken)
+            (flows_on (λ r. in_use (a.back r) ≡ true) m n o (list_word value m root) word tree_step.stay.1.0 taken.list_flows);
         owns = owns-some c o (parts next key word rest) (index_part next ∷ []) tree_step.owns (λ r. let e = set_count r in omega arith);
         turns = turns-as a c m o (index_part root ∷ []) (parts next key word rest) (index_part root ∷ []) (index_part next ∷ []) both (λ r. refl) set_count;
       }

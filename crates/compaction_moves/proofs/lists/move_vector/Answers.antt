@@ -41,7 +41,7 @@ returns-clause-moves g c =
     let s = c.args.store.now in
     let t = c.move_block.new.store in
     vector_moved (ledger s) (ledger t) (records s) (records t) c.args.list c.vector_root-root.result c.requires.list c.requires.vector c.vector_root-root.ensures
-    g.row.OFFSET_BITS c.args.buffer c.args.doc c.vector_word.result c.in_ok-next.next c.vector_word.ensures.word c.vector_word.ensures.vector c.in_ok-next.ensures.moves
+    g.row.OFFSET_BITS c.args.buffer c.args.doc c.vector_word.result c.in_ok-next.next c.vector_word.ensures.word c.vector_word.ensures.vector c.in_ok-next.ensures.moves c.requires.owns c.move_block.ensures.may
 
 pub returns-clause-counts : goal.returns-clause-counts
 returns-clause-counts g c =

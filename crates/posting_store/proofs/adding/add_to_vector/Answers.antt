@@ -75,4 +75,4 @@ returns-clause-makes g c =
     let is = c.root_of-vector.ensures in
     let number : IsDocNumber c.args.doc = (c.number_law.ensures.first, c.number_law.ensures.last) in
     vector_added (ledger s) (ledger t) (records s) (records t) c.args.list root is c.requires.list c.args.doc number c.vector.result c.in_ok-root.root c.vector.ensures.word c.vector.ensures.vector
-    c.in_ok-root.ensures.makes
+    c.insert.ensures.may c.in_ok-root.ensures.makes

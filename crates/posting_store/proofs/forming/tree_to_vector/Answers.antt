@@ -37,7 +37,7 @@ drop_list-requires-clause-list g c =
     let odd = many_odd m c.args.list c.requires.plain c.requires.list c.requires.many in
     let is : c.args.list ≡ 2 * c.entry.result + 1 = let e = c.entry.ensures in omega (arith, odd, e) in
     let makes = tree_as_vector a b m n c.args.list c.entry.result c.requires.list c.requires.plain is c.vector-next.result c.in_ok-root.root c.vector-next.ensures.word c.vector-next.ensures.vector
-    c.requires.many c.requires.ones c.in_ok-root.ensures.makes in
+    c.requires.many c.requires.ones c.from_tree.ensures.may c.in_ok-root.ensures.makes in
     old_stays a b b m n n c.args.list c.vector-next.result (list_at m c.args.list) c.requires.owns makes c.requires.list
 
 pub drop_list-requires-clause-owns : goal.drop_list-requires-clause-owns
@@ -49,7 +49,7 @@ drop_list-requires-clause-owns g c =
     let odd = many_odd m c.args.list c.requires.plain c.requires.list c.requires.many in
     let is : c.args.list ≡ 2 * c.entry.result + 1 = let e = c.entry.ensures in omega (arith, odd, e) in
     let makes = tree_as_vector a b m n c.args.list c.entry.result c.requires.list c.requires.plain is c.vector-next.result c.in_ok-root.root c.vector-next.ensures.word c.vector-next.ensures.vector
-    c.requires.many c.requires.ones c.in_ok-root.ensures.makes in
+    c.requires.many c.requires.ones c.from_tree.ensures.may c.in_ok-root.ensures.makes in
     old_owned a b b m n n c.args.list c.vector-next.result (list_at m c.args.list) c.requires.owns makes
 
 pub returns-in_err-root-clause-counts : goal.returns-in_err-root-clause-counts
@@ -78,8 +78,8 @@ returns-clause-makes g c =
     let odd = many_odd m c.args.list c.requires.plain c.requires.list c.requires.many in
     let is : c.args.list ≡ 2 * c.entry.result + 1 = let e = c.entry.ensures in omega (arith, odd, e) in
     let makes = tree_as_vector a b m n c.args.list c.entry.result c.requires.list c.requires.plain is c.vector-next.result c.in_ok-root.root c.vector-next.ensures.word c.vector-next.ensures.vector
-    c.requires.many c.requires.ones c.in_ok-root.ensures.makes in
-    replaces a b u m n o c.args.list c.vector-next.result (list_at m c.args.list) c.requires.owns makes c.drop_list.ensures.turns
+    c.requires.many c.requires.ones c.from_tree.ensures.may c.in_ok-root.ensures.makes in
+    replaces a b u m n o c.args.list c.vector-next.result (list_at m c.args.list) c.requires.owns makes c.from_tree.ensures.may c.drop_list.ensures.turns
 
 pub returns-clause-counts : goal.returns-clause-counts
 returns-clause-counts g c =

@@ -57,7 +57,7 @@ returns-clause-makes g c =
     let o = g.S.Frozen.records c.drop_list.new.store in
     let makes = vector_as_tree a b m n c.args.list c.root_of-vector.result c.root_of-vector.ensures c.requires.list c.tree-made.result c.in_ok-root.root c.tree-made.ensures.word c.tree-made.ensures.plain
     c.in_ok-root.ensures.makes in
-    replaces a b u m n o c.args.list c.tree-made.result (list_at m c.args.list) c.requires.owns makes c.drop_list.ensures.turns
+    replaces a b u m n o c.args.list c.tree-made.result (list_at m c.args.list) c.requires.owns makes c.to_tree.ensures.may c.drop_list.ensures.turns
 
 pub returns-clause-counts : goal.returns-clause-counts
 returns-clause-counts g c =

@@ -72,4 +72,4 @@ returns-clause-makes g c =
     let root = c.root_of-vector.result in
     let is = c.root_of-vector.ensures in
     vector_removed (ledger s) (ledger t) (records s) (records t) c.args.list root is c.requires.list c.args.doc c.requires.there c.requires.many c.vector.result c.in_ok-root.root
-    c.vector.ensures.word c.vector.ensures.vector c.in_ok-root.ensures.makes
+    c.vector.ensures.word c.vector.ensures.vector c.remove.ensures.may c.in_ok-root.ensures.makes
