@@ -1,18 +1,18 @@
 -- A block of a bit vector moved out of a buffer.
-use Rattle.std.proofs.Common.{◌≡◌, ◌≢◌, ℕ, zero, suc, ◌+◌, ◌*◌, ◌/◌, ◌%◌, ◌^◌, ◌<◌, ◌≤◌, Bool, true, false, true≢false, cond, nat_eq, List, [], ◌∷◌, ◌++◌, map, length, Option, None, Some, Result, Ok, Err, inl, inr}
+use Rattle.std.proofs.Common.{◌≡◌, ◌≢◌, ℕ, zero, suc, ◌+◌, ◌*◌, ◌/◌, ◌%◌, ◌^◌, ◌<◌, ◌≤◌, Bool, true, false, true≢false, cond, nat_eq, List, [], ◌∷◌, ◌++◌, map, length, None, Some, Result, Ok, Err, inl, inr}
 use Rattle.std.proofs.Common.{refl, sym, ap, ap₂, subst, ◌∙◌, arith}
 use Rattle.std.proofs.Math.Nat.{pow-le-pow_right}
-use Rattle.std.proofs.lemmas.Bool.{cases_eq, cases_lt, eqb-true, eqb-false}
+use Rattle.std.proofs.lemmas.Bool.{cases_eq, cases_lt, eqb-true}
 use Rattle.std.proofs.lemmas.Cmp.{nat_cmp_total}
 use Rattle.std.specs.Prelude.{IfOk}
 use Rattle.std.specs.declared.cmp.Ordering.{Ordering}
 use Rattle.std.specs.declared.cmp.Ordering.TheVariants.{Less, Equal, Greater}
-use Rattle.std.specs.List.{flat_map, AllByRecursion}
+use Rattle.std.specs.List.{AllByRecursion}
 use Rattle.std.specs.Ordering.{nat_cmp, MatchOrdering}
 use Rattle.std.specs.Cmp.{ranks}
 use Rattle.entry_ref.proofs.Among.{SameAt-among}
 use Rattle.entry_ref.specs.References.{buffer_of}
-use Rattle.entry_ref.specs.Records.{Records, SameAt, Among}
+use Rattle.entry_ref.specs.Records.{Records, SameAt}
 use Rattle.arena_api.specs.Calls.{padded}
 use Rattle.list_facts.proofs.Each.{AllByRecursion-left, AllByRecursion-right}
 use Rattle.store_api.specs.Calls.{IsUsedWidth}
@@ -29,7 +29,7 @@ use Rattle.tree_read.proofs.TreeLemmas.{many_pairs}
 use Rattle.tree_read.specs.Nodes.{level_of}
 use Rattle.tree_read.specs.Pairs.{choose, lookup, put}
 use Rattle.tree_read.specs.ProofsForTrees.{tree_pairs-same}
-use Rattle.tree_read.specs.Trees.{tree_nodes, tree_pairs, by_number, IsRootNode, IsTree}
+use Rattle.tree_read.specs.Trees.{tree_nodes, tree_pairs, IsRootNode}
 use Rattle.frozen_btree.specs.Changes.{levels, tree}
 use Rattle.frozen_btree.specs.Makes.{CountsNodes}
 use Rattle.frozen_btree.specs.Paths.{path_nodes, NoneIn}

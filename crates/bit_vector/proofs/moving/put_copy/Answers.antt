@@ -1,5 +1,4 @@
-use Rattle.std.proofs.Common.{◌≡◌, ◌∷◌, [], ℕ, ap, subst, arith, sym, ◌∙◌, ◌+◌, ◌*◌}
-use Rattle.std.specs.List.{AllByRecursion}
+use Rattle.std.proofs.Common.{◌≡◌, ◌∷◌, [], ℕ, ap, subst, arith, ◌∙◌, ◌+◌, ◌*◌}
 use Rattle.std.proofs.lemmas.Result.{err_from_is_err_and}
 use Rattle.store_api.specs.Parts.{entry}
 use Rattle.store_api.proofs.May.{may_do-then}
