@@ -14,7 +14,7 @@ use Rattle.attr_room.specs.Runs.{commits_to, step_keys, weight, IsOwed}
 use Rattle.attr_types.specs.Table.{Table, after_op, after_ops}
 use Rattle.attr_types.specs.declared.field.Field.{Field}
 use Rattle.attr_types.specs.declared.op.Op.{Op}
-use Rattle.attribute_kinds.specs.Counts.{operation_values}
+use Rattle.attribute_kinds.specs.Counts.{operation_values, HasNoVectors}
 use Rattle.attribute_kinds.specs.Views.{AttributeView}
 use Rattle.attr_loader.proofs.Points.{batch_of, whole}
 use Rattle.array_store.specs.Adding.{MakesOneOf}
@@ -170,7 +170,8 @@ module _ {S H : Type 0} (ledger : S → Ledger H) where
     };
   }
 
-  pub room_keys : (a b : AttributeView S) → b.fields ≡ a.fields → b.table ≡ a.table → b.dense ≡ a.dense → MakesKeys a.fields a.table (ledger a.store) (ledger b.store) step_keys
+  pub room_keys : (a b : AttributeView S) → b.fields ≡ a.fields → b.table ≡ a.table → b.dense ≡ a.dense
+      → MakesKeys (HasNoVectors a.dense a.table) a.fields a.table (ledger a.store) (ledger b.store) step_keys
       → AddsSteps ledger a b (λ steps. after_keys steps step_keys)
   room_keys a b fields table dense makes =
       λ steps made.

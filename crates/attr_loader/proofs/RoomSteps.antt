@@ -46,7 +46,7 @@ use Rattle.attr_types.specs.declared.value.Value.{Value}
 use Rattle.attr_types.specs.declared.value.Value.TheVariants as values
 use Rattle.attribute_kinds.proofs.RecordSums.{field_sum, over, over_walk, all_values}
 use Rattle.attribute_kinds.proofs.RoomLemmas.{sparse_none}
-use Rattle.attribute_kinds.specs.Counts.{operation_values, AreShort, IsSparse}
+use Rattle.attribute_kinds.specs.Counts.{operation_values, AreShort, HasNoVectors, IsSparse}
 use Rattle.compact_steps.specs.Counts.{AreSingleLong, MakesKeys}
 use Rattle.compaction_moves.specs.Counts.{key_nodes, IsLowColumn}
 use Rattle.posting_store.specs.Changes.{MakesWithin}
@@ -375,16 +375,16 @@ made_root dense old new fields table steps made makes =
 twice : (a k : ℕ) → 2 * a * k ≡ a * (2 * k)
 twice a k = ap (λ x. x * k) (mul_comm 2 a) ∙ mul_assoc a 2 k
 
-pub made_keys : {H : Type 0} (dense : Bool) (old new : Ledger H) (fields : List Field) (table : Table) (steps : Steps) (keys : ℕ) → 0 < keys → IsMade dense old fields table steps
-    → MakesKeys fields table old new keys → IsMade dense new fields table (after_keys steps keys)
-made_keys dense old new fields table steps keys some_keys made makes =
+keys_plain : {H : Type 0} (dense : Bool) (old new : Ledger H) (fields : List Field) (table : Table) (steps : Steps) (keys : ℕ) → 0 < keys → IsMade dense old fields table steps
+    → HasNoVectors dense table → MakesKeys (HasNoVectors dense table) fields table old new keys → IsMade dense new fields table (after_keys steps keys)
+keys_plain dense old new fields table steps keys some_keys made plain makes =
     let there = levels_there (pairs_of steps) in
     let low_column : IsLowColumn there.levels (column_of 0 table) = record {
       some = there.are.some;
       values = λ index of. (let few = index_few (column_of 0 table) index of in let all = made.values in let high = there.are.high in omega (arith, few, all, high));
       documents = (let few = made.documents in let high = there.are.high in omega (arith, few, high));
     } in
-    let low = makes.low there.levels (λ field below. first there.levels field low_column (omega (arith, below, made.one))) in
+    let low = makes.low plain there.levels (λ field below. first there.levels field low_column (omega (arith, below, made.one))) in
     let more = by_width (key_nodes there.levels * keys) makes.records in
     let keyed : room.MakesKeys (is_single_long fields) (pairs_of steps) keys more = record {
       nodes = λ levels some below.
@@ -394,7 +394,7 @@ made_keys dense old new fields table steps keys some_keys made makes =
           omega (arith, inner, same);
       records = let few = makes.few in omega (arith, few);
       narrow = λ is.
-          let none = makes.narrow (single_long fields is).all in
+          let none = makes.narrow plain (single_long fields is).all in
           let a = none 32 (omega arith) in let b = none 64 (omega arith) in let c = none 128 (omega arith) in
           let d = none 256 (omega arith) in let e = none 512 (omega arith) in let f = none 1024 (omega arith) in
           omega (arith, a, b, c, d, e, f);
@@ -416,3 +416,39 @@ made_keys dense old new fields table steps keys some_keys made makes =
     first : (levels field : ℕ) → IsLowColumn levels (column_of 0 table) → field < 1 → IsLowColumn levels (column_of field table)
     first levels zero low below = low
     first levels (suc field) low below = absurd (omega arith)
+
+-- with more documents nothing is promised of a store with bit vectors
+table_length : (i : ℕ) (table : Table) → length (column_of i table) ≡ length table
+table_length i [] = refl
+table_length i (e ∷ table) = ap suc (table_length i table)
+
+keys_many : {H : Type 0} (dense : Bool) (old new : Ledger H) (fields : List Field) (table : Table) (steps : Steps) (keys : ℕ) → 0 < keys → IsMade dense old fields table steps
+    → dense ≡ true → LEAST_DENSE ≤ length table → IsMade dense new fields table (after_keys steps keys)
+keys_many dense old new fields table steps keys some_keys made on many =
+    let more : ℕ → ℕ = λ width. 0 in
+    let keyed : room.MakesKeys (is_single_long fields) (pairs_of steps) keys more = record {
+      nodes = λ levels some below. omega arith;
+      records = omega arith;
+      narrow = λ is. omega arith;
+    } in
+    record {
+      one = made.one;
+      most = both made.most more;
+      has = keys_made (is_single_long fields) steps keys made.most more made.has keyed;
+      long = keys_long (is_single_long fields) steps keys made.most more made.long keyed;
+      plain = λ none. absurd (omega (arith, none, some_keys));
+      within = λ sparse. absurd (let below = sparse on in let few = made.documents in let size = table_length 0 table in omega (arith, below, few, size, many));
+      lawful = made.lawful;
+      typed = made.typed;
+      values = made.values;
+      documents = made.documents;
+    }
+
+pub made_keys : {H : Type 0} (dense : Bool) (old new : Ledger H) (fields : List Field) (table : Table) (steps : Steps) (keys : ℕ) → 0 < keys → IsMade dense old fields table steps
+    → MakesKeys (HasNoVectors dense table) fields table old new keys → IsMade dense new fields table (after_keys steps keys)
+made_keys false old new fields table steps keys some_keys made makes =
+    keys_plain false old new fields table steps keys some_keys made (λ on. absurd (true≢false (sym on))) makes
+made_keys true old new fields table steps keys some_keys made makes = elim (cases_lt (length table) LEAST_DENSE) [
+  | inl few ↦ keys_plain true old new fields table steps keys some_keys made (λ on. few) makes
+  | inr many ↦ keys_many true old new fields table steps keys some_keys made refl many
+]

@@ -36,6 +36,10 @@ IsSparse dense fields table op = dense ≡ true
     → AreShort (column_of 0 table) (weights_at (document_before table op) 0)
     × AreShort (column_of 0 table) (weights_at (document_after fields table op) 0)
 
+-- bit vectors are not wanted, or the table has so few documents that no list is one
+abbrev pub HasNoVectors : Bool → Table → Type 0
+HasNoVectors dense table = dense ≡ true → length table < LEAST_DENSE
+
 -- a full store has few spare entries of the width at the end of the call; with one attribute, the bound depends on
 -- the values alone if lists are sparse
 pub record SparesFew {H : Type 0} (dense : Bool) (new : Ledger H) (fields : List Field) (table : Table) (op : Op) (width : ℕ)

@@ -16,7 +16,7 @@ ghost use Rattle.attr_steps.specs.Calls.{KeepsStore, LeavesEntries};
 ghost use Rattle.attribute_kinds.specs.Calls.{applied_to, RefusesOperation};
 ghost use Rattle.attribute_kinds.specs.Calls.{RefusesCommit, CommitsImage, HasCommit, IsForRoot};
 ghost use Rattle.attr_steps.specs.Counts.{MakesOperation};
-ghost use Rattle.attribute_kinds.specs.Counts.{LacksBuffers, NamesWidth, SparesOf};
+ghost use Rattle.attribute_kinds.specs.Counts.{HasNoVectors, LacksBuffers, NamesWidth, SparesOf};
 ghost use Rattle.attribute_kinds.specs.Compacting.{CompactsTo, IsIdle, RefusesStep};
 ghost use Rattle.compact_steps.specs.Compactions.{KeepsStoreBut};
 ghost use Rattle.compact_steps.specs.Counts.{MakesKeys};
@@ -288,7 +288,7 @@ impl<const OFFSET_BITS: u32, S: Store<OFFSET_BITS, Layout = AttrLayout>> Attribu
         ensures steps { IfOk result (CompactsTo OFFSET_BITS S.ledger S.records self.old self.new keys) }
         ensures refuses { IfErr result (RefusesStep OFFSET_BITS S.ledger S.records self.old self.new) }
         ensures idle { IsIdle OFFSET_BITS (S.ledger self.old.store) self.old.plan → result ≡ Ok Idle }
-        ensures makes { MakesKeys (self.old.dense ≡ false) self.old.fields self.old.table (S.ledger self.old.store)
+        ensures makes { MakesKeys (HasNoVectors self.old.dense self.old.table) self.old.fields self.old.table (S.ledger self.old.store)
             (S.ledger self.new.store) keys }
         ensures keeps { KeepsStoreBut (S.ledger self.old.store) (S.ledger self.new.store) }
         ensures table { self.new.table ≡ self.old.table }

@@ -14,8 +14,6 @@ use Rattle.attr_field.specs.Forms.{wants}
 use Rattle.attr_images.specs.Postings.{dictionary_reach, list_form, postings_reach}
 use Rattle.attr_images.specs.Tables.{AttributeTrees}
 use Rattle.attr_images.specs.Values.{stored_value, value_of}
-use Rattle.attr_types.specs.declared.kind.Kind.{Kind}
-use Rattle.attr_types.specs.declared.kind.Kind.TheVariants.{Single, Array, WeightedSet}
 use Rattle.attr_types.specs.declared.kind.ValueType.{ValueType}
 use Rattle.attr_types.specs.declared.value.Value.{Value as AnyValue}
 use Rattle.attr_compaction.specs.Places.{has_key, key_cmp, IsPast, PlanPlace}
@@ -25,7 +23,7 @@ use Rattle.attr_compaction.specs.declared.plan.TheConstants.{DOCUMENTS, KEYS, LI
 use Rattle.value_index.specs.Indexes.{index_reach}
 use Rattle.value_index.proofs.FormLemmas.{form_stays}
 use Rattle.attr_compaction.specs.PhaseKeys.{document_keys, form_docs, key_past, keys_of_pairs, pair_keys, value_keys, HasType}
-use Rattle.attr_steps.specs.Fields.{part_of, HaveForms, KeepForms}
+use Rattle.attr_steps.specs.Fields.{part_of, KeepForms}
 use Rattle.compaction_moves.proofs.BlockLemmas.{docs_same}
 use Rattle.posting_store.specs.Lists.{IsPlain}
 use Rattle.compact_steps.specs.Units.{keys_at, ArePlain, KeepKeys, KeepsKeys}
@@ -176,13 +174,3 @@ forms_kept m n [] [] keep dense are = tt
 forms_kept m n [] (b ∷ next) keep dense are = absurd keep
 forms_kept m n (a ∷ trees) [] keep dense are = absurd keep
 forms_kept m n (a ∷ trees) (b ∷ next) keep dense are = (keep.0.form dense are.0, forms_kept m n trees next keep.1 dense are.1)
-
--- without the flag no list is a bit vector
-unwanted : (dense : Bool) (kind : Kind) → dense ≡ false → wants dense kind ≡ false
-unwanted dense Single off = off
-unwanted dense Array off = off
-unwanted dense WeightedSet off = refl
-
-pub forms_plain : (dense : Bool) (m : Records) (trees : List AttributeTrees) → HaveForms dense m trees → dense ≡ false → ArePlain m trees
-forms_plain dense m [] are off = tt
-forms_plain dense m (a ∷ trees) are off = (are.0.plain (unwanted dense a.kind off), forms_plain dense m trees are.1 off)

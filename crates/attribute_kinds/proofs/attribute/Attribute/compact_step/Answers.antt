@@ -1,4 +1,4 @@
-use Rattle.std.proofs.Common.{◌≡◌, ◌≤◌, false, List, Option, length, refl, inl, sym, ap, subst, ◌∙◌, arith}
+use Rattle.std.proofs.Common.{◌≡◌, ◌≤◌, List, Option, length, refl, inl, sym, ap, subst, ◌∙◌, arith}
 use Rattle.std.proofs.lemmas.List.{with_items_is}
 use Rattle.std.specs.Prelude.{IfErr, IfOk}
 use Rattle.std.specs.Option.{IfSome}
@@ -16,10 +16,11 @@ use Rattle.attr_steps.specs.Fields.{HaveForms, HoldsAttributes, KeepForms, trees
 use Rattle.compact_steps.specs.Units.{ArePlain, IsUnderWay}
 use Rattle.attr_steps.specs.Views.{table_at}
 use Rattle.compact_steps.proofs.KeyCounts.{keys_none, keys_plain}
-use Rattle.compact_steps.proofs.KeyLemmas.{forms_plain}
+use Rattle.compact_steps.proofs.PlainLemmas.{plain_by}
 use Rattle.compact_steps.specs.Counts.{MakesKeys}
 use Rattle.compact_steps.specs.Compactions.{Compacts, KeepsStoreBut}
 use Rattle.compact_steps.specs.Walks.{HasLastField}
+use Rattle.attribute_kinds.specs.Counts.{HasNoVectors}
 use Rattle.attribute_kinds.specs.Compacting.{CompactsTo, IsIdle, RefusesStep}
 use Rattle.attribute_kinds.specs.Standing.{IsAttribute}
 use Rattle.attribute_kinds.specs.Views.{AttributeView}
@@ -347,8 +348,8 @@ returns-clause-makes g c =
     c.as_slice.ensures c.compact-plan.ensures.counts in
     let made = subst (λ (xs : List (FieldRoots g.row.OFFSET_BITS)). MakesKeys (ArePlain (records old) (trees_of fields xs)) fields (table_at (records old) (trees_of fields xs)) (ledger old) (ledger new) c.args.keys)
     c.deref_mut.ensures.value first in
-    let plain = keys_plain fields (table_at (records old) trees) (ledger old) (ledger new) c.args.keys (forms_plain inside.dense (records old) trees c.self.invariant.forms) made in
-    subst (λ (v : AttributeView g.row.S.Denot). MakesKeys (v.dense ≡ false) v.fields v.table (ledger v.store) (ledger new) c.args.keys) c.self.view_is plain
+    let plain = keys_plain fields (table_at (records old) trees) (ledger old) (ledger new) c.args.keys (plain_by inside.dense (records old) fields trees c.self.invariant.stands.holds.are_fields c.self.invariant.forms) made in
+    subst (λ (v : AttributeView g.row.S.Denot). MakesKeys (HasNoVectors v.dense v.table) v.fields v.table (ledger v.store) (ledger new) c.args.keys) c.self.view_is plain
 
 pub returns-then-self-clause-dense : goal.returns-then-self-clause-dense
 returns-then-self-clause-dense g c = refl
