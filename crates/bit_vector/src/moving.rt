@@ -17,7 +17,6 @@ use store_api::{Store, StoreError, drop_one, make_entry};
 use tree_read::NODE_WORDS;
 
 /// Copies the nodes on the way to a block if they lie in the buffer.
-#[tactic(none)]
 fn move_way<const OFFSET_BITS: u32, S: Store<OFFSET_BITS>>(
     store: &mut S,
     root: EntryRef<OFFSET_BITS>,
@@ -38,7 +37,6 @@ fn move_way<const OFFSET_BITS: u32, S: Store<OFFSET_BITS>>(
 }
 
 /// Makes a copy of the record of a block.
-#[tactic(none)]
 fn copy_block<const OFFSET_BITS: u32, S: Store<OFFSET_BITS>>(
     store: &mut S,
     block: EntryRef<OFFSET_BITS>,
@@ -56,7 +54,6 @@ fn copy_block<const OFFSET_BITS: u32, S: Store<OFFSET_BITS>>(
 }
 
 /// Puts a copy of a block's record in its place, and drops the old record.
-#[tactic(none)]
 fn put_copy<const OFFSET_BITS: u32, S: Store<OFFSET_BITS>>(
     store: &mut S,
     root: EntryRef<OFFSET_BITS>,
@@ -81,7 +78,6 @@ fn put_copy<const OFFSET_BITS: u32, S: Store<OFFSET_BITS>>(
 }
 
 /// Moves a block whose record lies in the buffer.
-#[tactic(none)]
 fn move_found<const OFFSET_BITS: u32, S: Store<OFFSET_BITS>>(
     store: &mut S,
     root: EntryRef<OFFSET_BITS>,
@@ -107,7 +103,6 @@ fn move_found<const OFFSET_BITS: u32, S: Store<OFFSET_BITS>>(
 }
 
 /// Moves a block that is there.
-#[tactic(none)]
 fn move_there<const OFFSET_BITS: u32, S: Store<OFFSET_BITS>>(
     store: &mut S,
     root: EntryRef<OFFSET_BITS>,
@@ -134,7 +129,6 @@ fn move_there<const OFFSET_BITS: u32, S: Store<OFFSET_BITS>>(
 }
 
 /// Moves the nodes on the way to a block that is not there.
-#[tactic(none)]
 fn move_missing<const OFFSET_BITS: u32, S: Store<OFFSET_BITS>>(
     store: &mut S,
     root: EntryRef<OFFSET_BITS>,
@@ -161,7 +155,6 @@ fn move_missing<const OFFSET_BITS: u32, S: Store<OFFSET_BITS>>(
 
 /// Moves a block of a bit vector out of a sealed buffer, if there is one with this number: its record is copied if it lies
 /// there, and so are the nodes on the way to it. Returns the root of the new bit vector, which has the same documents.
-#[tactic(none)]
 pub fn move_block<const OFFSET_BITS: u32, S: Store<OFFSET_BITS>>(
     store: &mut S,
     root: EntryRef<OFFSET_BITS>,
