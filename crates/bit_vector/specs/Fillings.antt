@@ -23,11 +23,11 @@ pub record MakesBlock {H : Type 0} (old new : Ledger H) (m n : Records) (docs : 
   pub made : List ℕ
   pub numbers : after.numbers.items ≡ before.numbers.items ++ (if is_block_of docs k then k ∷ [] else [])
   pub records : after.records.items ≡ before.records.items ++ made
-  pub each : AllZip (λ number record. IsBlockOf docs number (n record)) (if is_block_of docs k then k ∷ [] else []) made
+  pub each : AllZip (λ number ref. IsBlockOf docs number (n ref)) (if is_block_of docs k then k ∷ [] else []) made
   pub turns : Turns old new m n [] (entries made ∷ [])
 
 -- the blocks below a number that have documents were made
 pub record MakesBlocks {H : Type 0} (old new : Ledger H) (m n : Records) (docs : List ℕ) (below : ℕ) (blocks : Blocks) : Type 0 where
   pub numbers : blocks.numbers.items ≡ filter (is_block_of docs) (range_with_len 0 below)
-  pub each : AllZip (λ number record. IsBlockOf docs number (n record)) blocks.numbers.items blocks.records.items
+  pub each : AllZip (λ number ref. IsBlockOf docs number (n ref)) blocks.numbers.items blocks.records.items
   pub turns : Turns old new m n [] (entries blocks.records.items ∷ [])
