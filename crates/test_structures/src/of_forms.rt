@@ -180,9 +180,11 @@ fn is_dense_as(
 ) -> Result<bool, AllocError> {
     let (is_vector, docs) = dense(alloc, 1, last.min(1000), documents, again)?;
     let ends = [docs.first().copied(), docs.last().copied()];
-    Ok(is_vector == wanted
-        && docs.len() == last as usize
-        && ends == [Some((1, 1)), Some((last, 1))])
+    Ok(
+        is_vector == wanted
+            && docs.len() == last as usize
+            && ends == [Some((1, 1)), Some((last, 1))],
+    )
 }
 
 #[test]

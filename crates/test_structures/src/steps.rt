@@ -73,7 +73,15 @@ fn listed<const OFFSET_BITS: u32, S: Store<OFFSET_BITS>>(
     list_law();
     let mut list = Posting::EMPTY;
     for number in first..last + 1 {
-        list = put(alloc, store, list, Doc::new(number), weight, dense, documents)?;
+        list = put(
+            alloc,
+            store,
+            list,
+            Doc::new(number),
+            weight,
+            dense,
+            documents,
+        )?;
     }
     Ok(list)
 }
