@@ -5,7 +5,7 @@ use Rattle.store_api.specs.Units.{MayDo}
 use Rattle.store_api.proofs.May.{may_do-same}
 use Rattle.attr_images.specs.Documents.{column_at}
 use Rattle.attr_index.specs.Changes.{first_weights}
-use Rattle.attr_index.specs.Columns.{items_of, with_change}
+use Rattle.attr_index.specs.Columns.{Column, items_of, with_change}
 use Rattle.attr_types.specs.declared.value.Value.{Value}
 use Rattle.store_api.specs.Calls.{RefusesOf}
 use Rattle.attr_types.specs.declared.items.Item.{Item}
@@ -181,7 +181,7 @@ returns-clause-counts g c =
     let is = c.in-Ok-weights_of-2.after.entries in
     let first = first_weights [] c.args.old.now in
     let last = first_weights [] c.args.new.now in
-    let form = λ column old new. field_forms c.wants-wanted.result column doc old new in
+    let form = λ (cs : Column) (old new : List (Value × ℤ)). field_forms c.wants-wanted.result cs doc old new in
     let column = column_at kind c.args.value_type (records c.args.store.now) c.args.roots.documents in
     subst (λ (b : Bool). MakesWithin (ledger c.args.store.now) new (besides (by_width (field_nodes first last) (field_records kind column doc count first last)) (field_forms b column doc first last))) c.wants-wanted.ensures
     (subst (λ (es : List (Value × ℤ)). MakesWithin (ledger c.args.store.now) new (besides (by_width (field_nodes first es) (field_records kind column doc count first es)) (form column first es))) c.in-Ok-weights_of-2.ensures.weights
@@ -243,7 +243,7 @@ returns-clause-low g c =
     let is = c.in-Ok-weights_of-2.after.entries in
     let first = first_weights [] c.args.old.now in
     let last = first_weights [] c.args.new.now in
-    let form = λ column old new. field_forms c.wants-wanted.result column doc old new in
+    let form = λ (cs : Column) (old new : List (Value × ℤ)). field_forms c.wants-wanted.result cs doc old new in
     let column = column_at kind c.args.value_type (records c.args.store.now) c.args.roots.documents in
     λ levels stays.
     let here = subst (λ s. StaysLow levels (column_at c.args.kind c.args.value_type (records s) c.args.roots.documents) is) (sym c.has_already.ensures.same)

@@ -1,4 +1,4 @@
-use Rattle.std.proofs.Common.{ℤ, pos, w32, to_z, of_z, refl, sym, ap, subst, ◌∙◌, arith, ◌≡◌, ◌+◌, ◌*◌, ◌||◌, ℕ, length}
+use Rattle.std.proofs.Common.{ℤ, pos, w32, to_z, of_z, refl, sym, ap, subst, ◌∙◌, arith, ◌≡◌, ◌+◌, ◌*◌, ◌||◌, ℕ, false, length}
 use Rattle.std.proofs.lemmas.Int.{to_z-of_z}
 use Rattle.std.proofs.lemmas.Result.{err_from_is_err_and}
 use Rattle.std.specs.BTreeMap.{insert_entry}
@@ -64,7 +64,7 @@ returns-in_err-next-clause-refuses g c =
     ∙ ap (λ (ds : Docs). length (insert_entry nat_cmp ds c.args.doc c.args.weight)) was in
     let p = err_from_is_err_and c.from_residual.result c.from_residual.ensures.1 in
     let made : ℕ = length (insert_entry nat_cmp (list_at m list) c.args.doc (to_z w32 (of_z w32 c.args.weight))) in
-    let plain = λ off. plain_found value m root (c.args.key, list) c.requires.found (c.requires.plain off) in
+    let plain = λ (off : c.args.dense ≡ false). plain_found value m root (c.args.key, list) c.requires.found (c.requires.plain off) in
     let vector = is_vector list || is_dense c.args.dense made c.args.documents in
     rw (p.1, p.2) (of_more (IsListChangeWidth vector made) (IsChangeWidth c.args.dense value count) a a (ledger c.add.new.store) _ (may_do-same a)
     (λ w is. list_change c.args.dense vector value count w (form_wanted c.args.dense list made c.args.documents plain) (subst (λ k. IsListChangeWidth vector k w) size is)) c.in_err-next.ensures.refuses)

@@ -1,4 +1,4 @@
-use Rattle.std.proofs.Common.{subst, ◌≡◌, ◌<◌, refl, sym, ap, ◌∙◌, arith, ◌+◌, ◌*◌, ◌||◌, ℕ, length}
+use Rattle.std.proofs.Common.{subst, ◌≡◌, ◌<◌, refl, sym, ap, ◌∙◌, arith, ◌+◌, ◌*◌, ◌||◌, ℕ, false, length}
 use Rattle.std.proofs.lemmas.Result.{err_from_is_err_and}
 use Rattle.std.specs.BTreeMap.{is_at}
 use Rattle.std.specs.Map.{remove_entry}
@@ -65,7 +65,7 @@ returns-in_err-next-clause-refuses g c =
     ap (λ (ds : Docs). length (remove_entry (is_at (nat_cmp c.args.doc)) ds)) was in
     let p = err_from_is_err_and c.from_residual.result c.from_residual.ensures.1 in
     let made : ℕ = length (remove_entry (is_at (nat_cmp c.args.doc)) (list_at m list)) in
-    let plain = λ off. plain_found value m root (c.args.key, list) c.requires.found (c.requires.plain off) in
+    let plain = λ (off : c.args.dense ≡ false). plain_found value m root (c.args.key, list) c.requires.found (c.requires.plain off) in
     let vector = is_vector list || is_dense c.args.dense made c.args.documents in
     rw (p.1, p.2) (of_more (IsListChangeWidth vector made) (IsChangeWidth c.args.dense value count) a a (ledger c.remove.new.store) _ (may_do-same a)
     (λ w is. list_change c.args.dense vector value count w (form_wanted c.args.dense list made c.args.documents plain) (subst (λ k. IsListChangeWidth vector k w) size is)) c.in_err-next.ensures.refuses)

@@ -59,10 +59,10 @@ add-requires g c =
     let weight = c.in-Some.weight.now in
     let fits : SFits w32 weight = search rules in
     let listed = put_list (index_of type (records c.args.store.now) c.args.root) c.args.doc c.args.new.now.entries c.loop-value.value-iterator c.next.new.self value weight (index_of type m root) c.iter-value-items.ensures.ordered c.in-Some.ensures.steps p.walk in
-    let ones = λ wanted. subst {A = List (ℕ × ℤ)} AreOnes (subst (λ (t : ValueType). list_of value (index_of type (records c.args.store.now) c.args.root) ≡ list_of value (index_of t m root)) (sym typed) listed)
+    let ones = λ (wanted : c.args.dense ≡ true). subst {A = List (ℕ × ℤ)} AreOnes (subst (λ (t : ValueType). list_of value (index_of type (records c.args.store.now) c.args.root) ≡ list_of value (index_of t m root)) (sym typed) listed)
     (c.requires.form.ones wanted value) in
     let joined = ap (λ es. p.walk.done ++ es) (sym c.in-Some.ensures.steps) ∙ p.walk.joins in
-    let one = λ wanted. one_here p.walk.done c.next.new.self value weight (subst (AllByRecursion (λ (e : Value × ℤ). e.1 ≡ pos 1)) (sym joined) (c.requires.ones wanted)) in (
+    let one = λ (wanted : c.args.dense ≡ true). one_here p.walk.done c.next.new.self value weight (subst (AllByRecursion (λ (e : Value × ℤ). e.1 ≡ pos 1)) (sym joined) (c.requires.ones wanted)) in (
       omega arith,
       (
         p.unit,

@@ -59,7 +59,7 @@ remove-requires g c =
     let root = c.loop-value.next in
     let listed = take_list (index_of type (records c.args.store.now) c.args.root) c.args.doc c.args.old.now.entries c.loop-value.value-iterator c.next.new.self value c.in-Some.field-0-1.now (index_of type m root)
     c.iter-value-items.ensures.ordered c.in-Some.ensures.steps added p.walk (none_then (added value) (sym c.contains_key.ensures ∙ c.if-not-contains_key.true)) in
-    let ones = λ wanted. subst {A = List (ℕ × ℤ)} AreOnes (subst (λ (t : ValueType). list_of value (index_of type (records c.args.store.now) c.args.root) ≡ list_of value (index_of t m root)) (sym typed) listed)
+    let ones = λ (wanted : c.args.dense ≡ true). subst {A = List (ℕ × ℤ)} AreOnes (subst (λ (t : ValueType). list_of value (index_of type (records c.args.store.now) c.args.root) ≡ list_of value (index_of t m root)) (sym typed) listed)
     (c.requires.form.ones wanted value) in (
       omega arith,
       (

@@ -3,6 +3,7 @@ use Rattle.std.specs.BTreeMap.{get}
 use Rattle.attr_images.specs.Postings.{index_of}
 use Rattle.attr_types.specs.Value.{value_cmp}
 use Rattle.attr_index.specs.Index.{list_of}
+use Rattle.attr_types.specs.declared.value.Value.{Value}
 use Rattle.value_index.specs.Counts.{is_gone, taken_forms, taken_records, value_nodes, RemovesLow}
 use Rattle.value_index.specs.Forms.{IsPlainIndex}
 use Rattle.value_index.proofs.WalksCountLemmas.{CountsSoFar}
@@ -14,7 +15,7 @@ abbrev pub invariant-loop-value : goal.invariant-loop-value
 invariant-loop-value g l =
     let ledger = g.S.Store.ledger in
     let records = g.S.Frozen.records in
-    let lists = λ value. list_of value (index_of l.fn.value_type (records l.fn.store) l.fn.root) in
+    let lists = λ (value : Value). list_of value (index_of l.fn.value_type (records l.fn.store) l.fn.root) in
     let each = taken_records lists l.doc in
     let form = taken_forms l.dense lists l.doc in
     record {
