@@ -70,10 +70,10 @@ module _ (m : Records) (kind : Kind) (type : ValueType) (documents dictionary : 
     pair_plain few = told (is_vector q.1) refl
       where
         told : (dense : Bool) → is_vector q.1 ≡ dense → IsPlain q.1
-        told false no = plain_of q.1 no
-        told true yes =
+        told false off = plain_of q.1 off
+        told true on =
             let pair = at_pair (IsValuePair m) (tree_pairs m dictionary) field.index_is.pairs q within in
-            let long = pair.long yes in
+            let long = pair.long on in
             let read : length (list_at m q.1) ≡ length (docs_at m q.1) = ap length (at_form m q.1 pair.some) in
             let same : length (list_of value (index_of type m dictionary)) ≡ length (docs_at m q.1) = ap length list_is in
             let lists : length (list_of value (index_of type m dictionary)) ≡ length (documents_with value here) = ap length (field.index_of_documents.lists value) in
