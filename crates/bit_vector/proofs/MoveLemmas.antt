@@ -173,13 +173,13 @@ put_copies a c m o root next k copy block is has_block same pairs sets = record 
 }
   where
     told : (doc : ℕ) (t : Bool) → nat_eq (doc / 4096) k ≡ t → cond t (in_words (m copy) (doc % 4096)) (has (vector_documents m root) doc) ≡ has (vector_documents m root) doc
-    told doc true yes =
-        let at : doc / 4096 ≡ k = eqb-true (doc / 4096) k yes in
+    told doc true here =
+        let at : doc / 4096 ≡ k = eqb-true (doc / 4096) k here in
         let whole : 4096 * k + doc % 4096 ≡ doc = omega (arith, at) in
         ap (λ ws. in_words ws (doc % 4096)) same
         ∙ bit_there m (tree_pairs m root) is.tree_is.ascends k (doc % 4096) (omega arith) block has_block
         ∙ ap (has (vector_documents m root)) whole
-    told doc false no = refl
+    told doc false apart = refl
 
 -- the record copied, put in, and the way to it moved
 module _ {H : Type 0} (bits buffer k : ℕ) (a b c d : Ledger H) (m n o p : Records) (root copy next : ℕ) (is : IsVector m root) (owns : Owns a m (vector_part root ∷ []))
