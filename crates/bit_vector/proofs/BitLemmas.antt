@@ -1,10 +1,11 @@
 -- The bits of words: one cleared, none set, and the first one that is set.
 use Rattle.std.proofs.Common.{◌≡◌, ◌≢◌, ◌⊎◌, inl, inr, ℕ, zero, suc, ◌+◌, ◌-◌, ◌*◌, ◌/◌, ◌%◌, ◌^◌, ◌<◌, ◌≤◌, Bool, true, false, ◌||◌, ◌&&◌, not, List, [], ◌∷◌, length, get_or, set, replicate, nat_eq, bit_and, w64, refl, sym, ap, ap₂, subst, ◌∙◌, arith}
-use Rattle.std.proofs.Math.Nat.{div-div-eq-div-mul}
+use Rattle.std.proofs.Math.Nat.{div-div-eq-div-mul, div-eq_of_lt, div-le_self}
 use Rattle.std.proofs.lemmas.Bool.{eqb-true, eqb-false, eq-eqb, ne_eqb, cases_lt}
 use Rattle.std.proofs.lemmas.Grind.{get_or-set_at}
 use Rattle.std.proofs.lemmas.List.{get_or-set_other}
-use Rattle.std.proofs.lemmas.Nat.{pow-add, pow_mono}
+use Rattle.std.proofs.Common.{pow_mono}
+use Rattle.std.proofs.lemmas.Nat.{pow-add}
 use Rattle.std.proofs.lemmas.Nat.Bits.{bit_at_clear_same, bit_at_clear_other, bit_at-trailing_zeros, bit_at-zero}
 use Rattle.std.specs.Int.{bit_at, trailing_zeros}
 use Rattle.attr_index.proofs.BitLemmas.{by_cases, bit_of, no_bits}
@@ -59,13 +60,16 @@ zero_at (w ∷ ws) each (suc j) = zero_at ws (λ i low. each (suc i) (omega (ari
 pub none_set : (words : List ℕ) → ((j : ℕ) → j < length words → get_or words j 0 ≡ 0) → (i : ℕ) → in_words words i ≡ false
 none_set words each i = no_bits words i (zero_at words each (i / 64))
 
-pub zeros_at : (n i : ℕ) → get_or (replicate n 0) i 0 ≡ 0
+abbrev pub zeros : ℕ → List ℕ
+zeros n = replicate n 0
+
+pub zeros_at : (n i : ℕ) → get_or (zeros n) i 0 ≡ 0
 zeros_at zero i = refl
 zeros_at (suc n) zero = refl
 zeros_at (suc n) (suc i) = zeros_at n i
 
-pub zero_bits : (n i : ℕ) → in_words (replicate n 0) i ≡ false
-zero_bits n i = no_bits (replicate n 0) i (zeros_at n (i / 64))
+pub zero_bits : (n i : ℕ) → in_words (zeros n) i ≡ false
+zero_bits n i = no_bits (zeros n) i (zeros_at n (i / 64))
 
 -- a word that is not zero has a bit
 pub some_set : (words : List ℕ) (j : ℕ) → j < length words → get_or words j 0 ≢ 0 → get_or words j 0 < 18446744073709551616 → HasBit words
@@ -104,11 +108,7 @@ module _ (words : List ℕ) (i : ℕ) where
     left = word / 2 ^ (i % 64)
 
     left_fits : left < 18446744073709551616
-    left_fits = let le : left ≤ word = div_le word (2 ^ (i % 64)) in omega (arith, le, fits)
-      where
-        div_le : (w d : ℕ) → w / d ≤ w
-        div_le w zero = omega arith
-        div_le w (suc d) = omega arith
+    left_fits = let le : left ≤ word = div-le_self word (2 ^ (i % 64)) in omega (arith, le, fits)
 
     facts : (trailing_zeros w64 left < 64) × (bit_at left (trailing_zeros w64 left) ≡ 1) × ((k : ℕ) → k < trailing_zeros w64 left → bit_at left k ≡ 0)
     facts = bit_at-trailing_zeros w64 left (omega (arith, some)) left_fits
@@ -121,12 +121,9 @@ module _ (words : List ℕ) (i : ℕ) where
         told (inl low) = low
         told (inr high) =
             let large : 2 ^ 64 ≤ 2 ^ (i % 64 + trailing_zeros w64 left) = pow_mono high in
-            let none : word / 2 ^ (i % 64 + trailing_zeros w64 left) ≡ 0 = below_div word (2 ^ (i % 64 + trailing_zeros w64 left)) (omega (arith, large, fits)) in
+            let none : word / 2 ^ (i % 64 + trailing_zeros w64 left) ≡ 0 = div-eq_of_lt (omega (arith, large, fits)) in
             let lost : 1 ≡ 0 = sym facts.1 ∙ bit_after word (i % 64) (trailing_zeros w64 left) ∙ ap (λ x. x % 2) none in
             absurd (omega (arith, lost))
-          where
-            below_div : (w d : ℕ) → w < d → w / d ≡ 0
-            below_div w d low = omega (arith, low)
 
     pub next_set : (bit from : ℕ) → bit ≡ i + trailing_zeros w64 left → from ≤ i → i < 4096 → ((j : ℕ) → from ≤ j → j < i → in_words words j ≡ false) → IsNextBit words from bit
     next_set bit from is low below before =

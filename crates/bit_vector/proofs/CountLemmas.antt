@@ -136,3 +136,9 @@ pub within_more_blocks : {H : Type 0} (a b c : Ledger H) (n most : ℕ) (t : Boo
     → MakesWithin a c (vector_most most 0)
 within_more_blocks a b c n most t le may first second =
     within_more a c (λ w. vector_most n 0 w + block_most t w) (vector_most most 0) (λ w. sum_one n most w t le) (within_then a b c (vector_most n 0) (block_most t) may first second)
+
+pub counts_none : {H : Type 0} (a : Ledger H) (most : ℕ) → CountsNodes a a most
+counts_none a most = record {
+  nodes = at_most-more (capacity a.work.sizes.words 34) 0 most (a.of_width 34) (a.of_width 34) (omega arith) (at_most-none (capacity a.work.sizes.words 34) (a.of_width 34));
+  others = λ k w ne. at_most-none k (a.of_width w);
+}

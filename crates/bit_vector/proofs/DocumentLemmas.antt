@@ -1,5 +1,5 @@
 -- Documents that ascend, each with weight 1, and a document put in or taken out.
-use Rattle.std.proofs.Common.{◌≡◌, ◌≢◌, ℕ, pos, ℤ, ◌<◌, ◌≤◌, Bool, true, false, ◌||◌, ◌&&◌, not, cond, List, [], ◌∷◌, ◌++◌, map, length, nat_eq, refl, sym, ap, ap₂, subst, ◌∙◌, arith}
+use Rattle.std.proofs.Common.{◌≡◌, ◌≢◌, ℕ, suc, pos, ℤ, ◌<◌, ◌≤◌, Bool, true, false, ◌||◌, ◌&&◌, not, cond, List, [], ◌∷◌, ◌++◌, map, length, nat_eq, refl, sym, ap, ap₂, subst, ◌∙◌, arith}
 use Rattle.std.specs.BTreeMap.{insert_entry, is_at}
 use Rattle.std.specs.Cmp.{ranks, nat_cmp_is}
 use Rattle.std.specs.declared.cmp.Ordering.{Ordering}
@@ -23,7 +23,7 @@ ones-keys (doc ∷ docs) = ap (λ ks. doc ∷ ks) (ones-keys docs)
 
 pub ones-length : (docs : List ℕ) → length (ones docs) ≡ length docs
 ones-length [] = refl
-ones-length (doc ∷ docs) = ap (λ n. 1 + n) (ones-length docs)
+ones-length (doc ∷ docs) = ap suc (ones-length docs)
 
 -- a document in its place
 abbrev pub with_doc : ℕ → List ℕ → List ℕ

@@ -1,5 +1,6 @@
 -- A bit vector dropped, and the tree of its documents.
-use Rattle.std.proofs.Common.{◌≡◌, ℕ, zero, suc, ◌+◌, ◌*◌, ◌/◌, ◌%◌, ◌<◌, ◌≤◌, List, [], ◌∷◌, ◌++◌, map, length, length-append, drop, replicate, Bool, true, false, refl, sym, ap, subst, ◌∙◌, arith}
+use Rattle.std.proofs.Common.{◌≡◌, ℕ, zero, suc, ◌+◌, ◌*◌, ◌/◌, ◌%◌, ◌<◌, ◌≤◌, List, [], ◌∷◌, ◌++◌, map, length, length-append, drop, replicate, Bool, true, false, Result, Ok, Err, refl, sym, ap, subst, ◌∙◌, arith}
+use Rattle.std.specs.Prelude.{IfOk}
 use Rattle.std.specs.List.{zip, AllByRecursion}
 use Rattle.std.specs.List.Sorted.{IsStrictlySortedBy}
 use Rattle.std.specs.Ordering.{nat_cmp}
@@ -8,6 +9,7 @@ use Rattle.list_facts.proofs.Each.{AllByRecursion-left, AllByRecursion-right}
 use Rattle.entry_ref.specs.Records.{Records}
 use Rattle.store_api.specs.Ledgers.{Ledger}
 use Rattle.store_api.specs.Parts.{Part, After, Owns, Turns, count_in, entries, times}
+use Rattle.store_api.specs.declared.store.StoreError.{StoreError}
 use Rattle.store_api.proofs.PartLemmas.{after, owns-some, turns-as, turns-then}
 use Rattle.store_api.proofs.Times.{times-append}
 use Rattle.tree_read.specs.SearchPlaces.{first_key, first_value}
@@ -15,11 +17,12 @@ use Rattle.tree_read.specs.Trees.{tree_nodes, tree_pairs}
 use Rattle.frozen_btree.specs.Changes.{tree}
 use Rattle.attr_types.specs.Lawful.{IsDocNumber}
 use Rattle.attr_images.specs.Postings.{block_documents, IsBlock}
-use Rattle.bit_vector.specs.Changes.{vector_part}
+use Rattle.bit_vector.specs.Changes.{vector_part, MakesTree}
 use Rattle.bit_vector.specs.Vectors.{blocks_documents}
 use Rattle.attr_index.proofs.BoundLemmas.{documents_few}
 use Rattle.attr_index.specs.Sets.{IsAscending}
 use Rattle.bit_vector.proofs.DocumentLemmas.{sorted}
+use Rattle.bit_vector.proofs.TurnLemmas.{IsNumberTree}
 use Rattle.bit_vector.proofs.VectorLemmas.{less_is, own_block}
 
 -- a vector has at most 256 blocks
@@ -48,7 +51,7 @@ few_from a (p ∷ ps) up small low within =
     rises (q ∷ qs) all = (let up = less_is p.0 q.0 all.0 in omega (arith, up), rises qs all.1)
 
 pub blocks_few : (ps : List (ℕ × ℕ)) → IsStrictlySortedBy nat_cmp (map (λ p. p.0) ps) → AllByRecursion (λ p. p.0 ≤ 255) ps → length ps ≤ 256
-blocks_few ps up small = few_from 0 ps up small (least ps) (omega arith)
+blocks_few ps up small = let few = few_from 0 ps up small (least ps) (omega arith) in omega (arith, few)
   where
     least : (qs : List (ℕ × ℕ)) → AllByRecursion (λ q. 0 ≤ q.0) qs
     least [] = tt
@@ -84,7 +87,10 @@ module _ {H : Type 0} (a b c : Ledger H) (m n o : Records) (root : ℕ) (refs : 
         (λ r. sym (count_both r)) (λ r. refl)
 
 -- documents with the value 1
-pub ones_zip : (n : ℕ) (docs : List ℕ) → n ≡ length docs → zip docs (replicate n 1) ≡ map (λ (doc : ℕ). (doc, 1)) docs
+abbrev pub units : ℕ → List ℕ
+units n = replicate n 1
+
+pub ones_zip : (n : ℕ) (docs : List ℕ) → n ≡ length docs → zip docs (units n) ≡ map (λ (doc : ℕ). (doc, 1)) docs
 ones_zip zero [] same = refl
 ones_zip zero (d ∷ ds) same = absurd (omega (arith, same))
 ones_zip (suc n) [] same = absurd (omega (arith, same))
@@ -146,3 +152,12 @@ first_count m (p ∷ ps) qs count total value n some is first size whole =
 
 pub count_few : (docs : List ℕ) → IsAscending docs → AllByRecursion IsDocNumber docs → length docs ≤ 1048575
 count_few docs up all = documents_few docs (sorted docs up) all
+
+-- the tree of documents, where a call went on unchanged
+pub makes_tree_if : {H : Type 0} (a b : Ledger H) (m n : Records) (pairs : List (ℕ × ℕ)) (answer : Result ℕ StoreError) → IfOk answer (IsNumberTree n) → IfOk answer (λ r. tree_pairs n r ≡ pairs)
+    → IfOk answer (λ r. Owns b n (tree r ∷ [])) → IfOk answer (λ r. Turns a b m n [] (tree r ∷ [])) → IfOk answer (MakesTree a b m n pairs)
+makes_tree_if a b m n pairs (Ok next) keyed are owns turns = record { tree_is = keyed.tree; pairs_are = are; owns = owns; turns = turns }
+makes_tree_if a b m n pairs (Err e) keyed are owns turns = tt
+
+pub not_none : {A : Type 0} (xs : List A) → 0 < length xs → xs ≡ [] → ⊥
+not_none xs some none = let e = ap length none in omega (arith, some, e)

@@ -1,8 +1,10 @@
 -- The number of documents of a block, word by word.
-use Rattle.std.proofs.Common.{◌≡◌, ℕ, zero, suc, ◌+◌, ◌*◌, ◌/◌, ◌%◌, ◌^◌, ◌<◌, ◌≤◌, Bool, true, false, cond, List, [], ◌∷◌, length, filter, map, length-map, get_or, nat_eq, count_ones, refl, sym, ap, ap₂, subst, ◌∙◌, arith}
+use Rattle.std.proofs.Common.{◌≡◌, ℕ, zero, suc, ◌+◌, ◌*◌, ◌/◌, ◌%◌, ◌^◌, ◌<◌, ◌≤◌, Bool, true, false, cond, List, [], ◌∷◌, length, filter, map, get_or, nat_eq, count_ones, refl, sym, ap, ap₂, subst, ◌∙◌, arith}
 use lib.Count.{ones_step}
 use Rattle.std.proofs.Math.Nat.{div-div-eq-div-mul}
-use Rattle.std.proofs.lemmas.Nat.{pow-suc}
+use Rattle.std.proofs.Common.{pow-suc}
+use Rattle.std.proofs.lemmas.List.{length-map}
+use Rattle.std.proofs.lemmas.Nat.{ones_le_self}
 use Rattle.std.specs.Int.{bit_at}
 use Rattle.std.specs.List.{range_with_len}
 use Rattle.attr_images.specs.Postings.{block_documents}
@@ -63,7 +65,7 @@ bit_one v = told (v % 2) (omega arith)
     told (suc (suc r)) low = absurd (omega (arith, low))
 
 bits_from : (w s n : ℕ) → w / 2 ^ s < 2 ^ n → passing (bit w) s n ≡ count_ones (w / 2 ^ s)
-bits_from w s zero low = sym (ap count_ones (let e : w / 2 ^ s ≡ 0 = omega (arith, low) in e))
+bits_from w s zero low = let few = ones_le_self (w / 2 ^ s) in omega (arith, low, few)
 bits_from w s (suc n) low =
     let v : ℕ = w / 2 ^ s in
     let half : w / 2 ^ (s + 1) ≡ (w / 2 ^ s) / 2 =

@@ -118,18 +118,18 @@ module _ (m : Records) where
       (λ no.
       let rest : has (blocks_documents m ps) d ≡ true = sym (ap (λ b. b || has (blocks_documents m ps) d) no) ∙ sym (has_append (block_documents p.0 (m p.1)) (blocks_documents m ps) d) ∙ there in
       let high : p.0 < d / 4096 = all_has (λ x. p.0 < x / 4096) (blocks_documents m ps) (later m p.0 ps up.0) d rest in
-      let block = is.block in
+      let block : doc / 4096 ≡ p.0 = is.block in
       le_true after d (omega (arith, high, at_next, below, block)) ∙ sym (le_true (suc doc) d (omega (arith, high, block))))))
       ∙ sym (ap (drop 1) (from_first doc (blocks_documents m (p ∷ ps)) (blocks_ascend m (p ∷ ps) up) (first_has doc (p ∷ ps) is)))
     where
       told : (d : ℕ) → d / 4096 ≡ p.0 → in_words (m p.1) (d % 4096) ≡ true → (d % 4096 < bit) ⊎ (bit ≤ d % 4096) → nat_le after d ≡ nat_le (suc doc) d
       told d at set (inr high) =
-          let block = is.block in let up = found.from_on in
+          let block : doc / 4096 ≡ p.0 = is.block in let up = found.from_on in
           le_true after d (omega (arith, at, high, at_next, block)) ∙ sym (le_true (suc doc) d (omega (arith, at, high, up, block)))
       told d at set (inl low) = by (cases_lt (d % 4096) (doc % 4096 + 1))
         where
           by : (d % 4096 < doc % 4096 + 1) ⊎ (doc % 4096 + 1 ≤ d % 4096) → nat_le after d ≡ nat_le (suc doc) d
-          by (inl less) = let block = is.block in
+          by (inl less) = let block : doc / 4096 ≡ p.0 = is.block in
               le_false after d (omega (arith, at, low, at_next, block)) ∙ sym (le_false (suc doc) d (omega (arith, at, less, block)))
           by (inr more) = let lost : true ≡ false = sym set ∙ found.before (d % 4096) more low in absurd (grind (arith, lost))
 
@@ -147,11 +147,11 @@ module _ (m : Records) where
       told d at set (cases_lt (d % 4096) (doc % 4096 + 1)))))
       (keeps (nat_le (suc doc)) (blocks_documents m ps) (has_all (λ d. nat_le (suc doc) d ≡ true) (blocks_documents m ps) (λ d rest.
       let high : p.0 < d / 4096 = all_has (λ x. p.0 < x / 4096) (blocks_documents m ps) (later m p.0 ps up.0) d rest in
-      let block = is.block in
+      let block : doc / 4096 ≡ p.0 = is.block in
       le_true (suc doc) d (omega (arith, high, block))))))
     where
       told : (d : ℕ) → d / 4096 ≡ p.0 → in_words (m p.1) (d % 4096) ≡ true → (d % 4096 < doc % 4096 + 1) ⊎ (doc % 4096 + 1 ≤ d % 4096) → nat_le (suc doc) d ≡ false
-      told d at set (inl less) = let block = is.block in le_false (suc doc) d (omega (arith, at, less, block))
+      told d at set (inl less) = let block : doc / 4096 ≡ p.0 = is.block in le_false (suc doc) d (omega (arith, at, less, block))
       told d at set (inr more) = let lost : true ≡ false = sym set ∙ found.before (d % 4096) more (omega (arith, end)) in absurd (grind (arith, lost))
 
   -- a block has a first document

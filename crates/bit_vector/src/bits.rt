@@ -34,7 +34,6 @@ pub fn clear_bit(words: &mut [u64], i: u32)
 }
 
 /// Returns whether no bit is 1.
-#[tactic(none)]
 pub fn is_empty(words: &[u64]) -> bool
     ensures none { result ≡ true → (i : ℕ) → in_words words.now i ≡ false }
     ensures some { result ≡ false → HasBit words.now }
@@ -48,7 +47,6 @@ pub fn is_empty(words: &[u64]) -> bool
 }
 
 /// Returns the first bit from `from` on that is 1, or the number of bits.
-#[tactic(none)]
 pub fn next_bit<const OFFSET_BITS: u32, F: Frozen<OFFSET_BITS>>(
     frozen: &mut F,
     block: EntryRef<OFFSET_BITS>,

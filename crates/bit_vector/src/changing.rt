@@ -1,4 +1,4 @@
-ghost use Rattle.std.specs.Prelude.{◌≡◌, ◌<◌, ◌≤◌, ◌+◌, ◌*◌, ℕ, pos, ◌∷◌, [], true, false, None, Some, length, IfOk, IfErr};
+ghost use Rattle.std.specs.Prelude.{◌≡◌, ◌<◌, ◌≤◌, ◌+◌, ◌*◌, ℕ, pos, ◌∷◌, [], true, false, None, Some, Ok, length, IfOk, IfErr};
 ghost use Rattle.std.specs.BTreeMap.{insert_entry, is_at};
 ghost use Rattle.std.specs.List.{AllByRecursion};
 ghost use Rattle.std.specs.Map.{remove_entry};
@@ -165,7 +165,6 @@ fn clear_block<const OFFSET_BITS: u32, S: Store<OFFSET_BITS>>(
 }
 
 /// Adds a document to a bit vector. Returns the root of the new one.
-#[tactic(none)]
 pub fn insert<const OFFSET_BITS: u32, S: Store<OFFSET_BITS>>(
     store: &mut S,
     root: EntryRef<OFFSET_BITS>,
@@ -177,6 +176,7 @@ pub fn insert<const OFFSET_BITS: u32, S: Store<OFFSET_BITS>>(
     ensures makes { IfOk result (MakesVector (S.ledger store.old) (S.ledger store.new) (S.records store.old) (S.records store.new)
         root.entry (insert_entry nat_cmp (vector_at (S.records store.old) root.entry) doc (pos 1))) }
     ensures still { has (vector_documents (S.records store.old) root.entry) doc ≡ true → store.new ≡ store.old }
+    ensures stays { has (vector_documents (S.records store.old) root.entry) doc ≡ true → result ≡ Ok root.entry }
     ensures counts { MakesWithin (S.ledger store.old) (S.ledger store.new)
         (vector_most 1 (2 * levels (S.records store.old) root.entry + 1)) }
     ensures refuses { IfErr result (RefusesOf IsVectorWidth (S.ledger store.old) (S.ledger store.new)) }
@@ -193,7 +193,6 @@ pub fn insert<const OFFSET_BITS: u32, S: Store<OFFSET_BITS>>(
 }
 
 /// Removes a document from a bit vector. Returns the root of the new one, or 0 if no document is left.
-#[tactic(none)]
 pub fn remove<const OFFSET_BITS: u32, S: Store<OFFSET_BITS>>(
     store: &mut S,
     root: EntryRef<OFFSET_BITS>,

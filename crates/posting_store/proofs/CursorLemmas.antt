@@ -144,7 +144,7 @@ has_in_first (x ∷ xs) ys d is = told (has_in_first xs ys d) (nat_eq d x) is
     told rest false is = rest is
 
 document_follows : {bits : ℕ} (m : Records) (at : VectorCursor bits) → IsVectorPlace m at → HasDocument at → 0 < length (documents_from m at)
-document_follows m at place some = by (pairs_from m at.blocks) _ _ (pair-first m at.blocks place.stands some) (place.document some)
+document_follows m at place some = by (pairs_from m at.blocks) _ _ (pair-first m at.blocks place.blocks.stands some) (place.document some)
   where
     by : (ps rest : List (ℕ × ℕ)) (p : ℕ × ℕ) → ps ≡ p ∷ rest → IsInBlock m at.doc ps
         → 0 < length (filter (nat_le at.doc) (flat_map (λ q. block_documents q.0 (m q.1)) ps))

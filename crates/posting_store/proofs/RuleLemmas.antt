@@ -19,7 +19,7 @@ use Rattle.posting_store.specs.Lists.{list_at, is_vector, IsList, IsPlain}
 use Rattle.posting_store.specs.Changes.{list_part, list_most, list_change_most, form_most, IsListWidth, IsFormWidth, IsListChangeWidth, MakesByRule, MakesList}
 use Rattle.posting_store.proofs.ChangeLemmas.{counts_both, counts_weaker, tree_most}
 use Rattle.posting_store.proofs.FormLemmas.{no_vector, plain_of}
-use Rattle.posting_store.proofs.RefusalLemmas.{if_more, of_more}
+use Rattle.posting_store.proofs.RefusalLemmas.{if_more}
 use Rattle.posting_store.proofs.VectorLemmas.{vector_many}
 
 -- only a long list is dense
@@ -179,7 +179,3 @@ pub first_counts : {H : Type 0} (a b : Ledger H) (was is : Bool) (levels : ℕ) 
     → MakesWithin a b (list_change_most was was levels docs) → MakesWithin a b (list_change_most was is levels docs)
 first_counts a b was is levels docs long dense made =
     counts_weaker a b (list_change_most was was levels docs) (list_change_most was is levels docs) (λ w. let e = most_then was is levels docs w long dense in omega (arith, e)) made
-
-pub first_refuses : {H : Type 0} (a b : Ledger H) (was is : Bool) (count : ℕ) (e : StoreError) → MayDo a a → RefusesOf (IsListChangeWidth was count) a b e
-    → RefusesOf (IsListChangeWidth (was || is) count) a b e
-first_refuses a b was is count e may refuses = of_more (IsListChangeWidth was count) (IsListChangeWidth (was || is) count) a a b e may (λ w one. changed_more was is count w one) refuses

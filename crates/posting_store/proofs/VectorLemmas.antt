@@ -197,7 +197,7 @@ module _ {H : Type 0} (old new : Ledger H) (m n : Records) (word root : ℕ) (is
   pub tree_counts : CountsNodes old new (nodes_of (length (vector_documents m root))) → MakesWithin old new (form_most true false (list_at m word))
   tree_counts made =
       subst (λ k. MakesWithin old new (vector_most 0 (nodes_of k))) (sym (vector_size m word root is list))
-      (counts_nodes old new (nodes_of (length (vector_documents m root))) made)
+      (counts_nodes old new m n (nodes_of (length (vector_documents m root))) made)
 
 -- a tree as a bit vector
 module _ {H : Type 0} (old new : Ledger H) (m n : Records) (word root : ℕ) (list : IsList m word) (plain : IsPlain word) (is : word ≡ 2 * root + 1) where

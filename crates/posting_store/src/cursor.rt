@@ -84,10 +84,7 @@ pub fn walk<const OFFSET_BITS: u32, F: Frozen<OFFSET_BITS>>(
 }
 
 /// Returns the number of documents of a list that is no bit vector.
-fn count_plain<const OFFSET_BITS: u32, F: Frozen<OFFSET_BITS>>(
-    frozen: &mut F,
-    list: Posting,
-) -> u32
+fn count_plain<const OFFSET_BITS: u32, F: Frozen<OFFSET_BITS>>(frozen: &mut F, list: Posting) -> u32
     requires list { IsList (F.records frozen.old) list }
     requires plain { IsPlain list }
     ensures count { result ≡ length (list_at (F.records frozen.old) list) }

@@ -16,19 +16,19 @@ loop-i-preserved g c =
     record {
       same = c.word.ensures.same ∙ inv.same;
       low = let low = inv.low in omega (arith, low);
-      before = passes_more ws i c.args.from inv.before (ap (λ w. w / 2 ^ (i % 64)) (sym read) ∙ c.if-left.false);
+      before = passes_more ws i c.args.from inv.before (ap (λ w. w / 2 ^ (i % 64)) (sym read) ∙ c.if-left-ne0.false);
     }
 
-pub returns-then-left-clause-next : goal.returns-then-left-clause-next
-returns-then-left-clause-next g c =
+pub returns-then-left-ne0-clause-next : goal.returns-then-left-ne0-clause-next
+returns-then-left-ne0-clause-next g c =
     let m = g.F.Frozen.records c.args.frozen.now in
     let ws = m c.args.block in
     let inv = c.loop-i.invariant in
     let i = c.loop-i.i in
     let read : c.word.result ≡ get_or ws (i / 64) 0 = c.word.ensures.value ∙ ap (λ (f : g.row.F.Denot). get_or (g.F.Frozen.records f c.args.block) (i / 64) 0) inv.same in
     let fits = c.word.type_inv in
-    next_set ws i (λ none. c.if-left.true (ap (λ w. w / 2 ^ (i % 64)) read ∙ none)) (omega (arith, read, fits)) _ c.args.from
-    (ap (λ n. i + n) (c.trailing_zeros.ensures ∙ ap (λ w. trailing_zeros w64 (w / 2 ^ (i % 64))) read)) inv.low c.loop-i-test.true inv.before
+    next_set ws i (λ none. c.if-left-ne0.true (ap (λ w. w / 2 ^ (i % 64)) read ∙ none)) (omega (arith, read, fits)) _ c.args.from
+    (ap (λ w. i + trailing_zeros w64 (w / 2 ^ (i % 64))) read) inv.low c.loop-i-test.true inv.before
 
 pub returns-clause-next : goal.returns-clause-next
 returns-clause-next g c =

@@ -21,8 +21,8 @@ returns-in-Some-clause-bits g c = λ i below.
     ap (λ (ws : List ℕ). in_words ws i) words
     ∙ bit_there m (tree_pairs m c.args.root) c.requires.vector.tree_is.ascends c.args.number i below c.in-Some.block found
 
-pub returns-clause-bits : goal.returns-clause-bits
-returns-clause-bits g c = λ i below.
+pub returns-in-None-clause-bits : goal.returns-in-None-clause-bits
+returns-in-None-clause-bits g c = λ i below.
     let m = g.F.Frozen.records c.args.frozen.now in
     let found = sym c.find_block.ensures.found ∙ c.in-None.is in
     zero_bits 64 i ∙ sym (bit_lacking m (tree_pairs m c.args.root) c.requires.vector.tree_is.ascends c.args.number i below found)

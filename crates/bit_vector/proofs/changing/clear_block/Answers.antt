@@ -64,8 +64,8 @@ pub returns-in-Some-clause-may : goal.returns-in-Some-clause-may
 returns-in-Some-clause-may g c =
     subst (λ (f : g.row.S.Denot). MayDo (g.S.Store.ledger f) (g.S.Store.ledger c.take_block.new.store)) c.find_block.ensures.same c.take_block.ensures.may
 
-pub returns-clause-sets : goal.returns-clause-sets
-returns-clause-sets g c =
+pub returns-in-None-clause-sets : goal.returns-in-None-clause-sets
+returns-in-None-clause-sets g c =
     let ledger = g.S.Store.ledger in
     let records = g.S.Frozen.records in
     let s = c.args.store.now in
@@ -75,15 +75,15 @@ returns-clause-sets g c =
     subst (λ (f : g.row.S.Denot). SetsBlock (ledger s) (ledger f) (records s) (records f) root (vector_part root ∷ []) k [] root) (sym c.find_block.ensures.same)
     (sets_none (ledger s) (records s) root k c.requires.vector c.requires.owns (lacks (records s) root k c.requires.vector none))
 
-pub returns-clause-counts : goal.returns-clause-counts
-returns-clause-counts g c =
+pub returns-in-None-clause-counts : goal.returns-in-None-clause-counts
+returns-in-None-clause-counts g c =
     let ledger = g.S.Store.ledger in
     let s = c.args.store.now in
     let most = vector_most 1 (2 * levels (g.S.Frozen.records s) c.args.root + 1) in
     subst (λ (f : g.row.S.Denot). MakesWithin (ledger s) (ledger f) most) (sym c.find_block.ensures.same) (within_none (ledger s) most)
 
-pub returns-clause-may : goal.returns-clause-may
-returns-clause-may g c =
+pub returns-in-None-clause-may : goal.returns-in-None-clause-may
+returns-in-None-clause-may g c =
     let ledger = g.S.Store.ledger in
     let s = c.args.store.now in
     subst (λ (f : g.row.S.Denot). MayDo (ledger s) (ledger f)) (sym c.find_block.ensures.same) (may_do-same (ledger s))

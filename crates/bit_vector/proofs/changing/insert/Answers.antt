@@ -50,6 +50,9 @@ returns-then-has_bit-clause-makes g c =
 pub returns-then-has_bit-clause-still : goal.returns-then-has_bit-clause-still
 returns-then-has_bit-clause-still g c = λ there. c.block_words-words.ensures.same
 
+pub returns-then-has_bit-clause-stays : goal.returns-then-has_bit-clause-stays
+returns-then-has_bit-clause-stays g c = λ there. refl
+
 pub returns-then-has_bit-clause-counts : goal.returns-then-has_bit-clause-counts
 returns-then-has_bit-clause-counts g c =
     let ledger = g.S.Store.ledger in
@@ -81,6 +84,12 @@ returns-clause-makes g c =
 
 pub returns-clause-still : goal.returns-clause-still
 returns-clause-still g c = λ there.
+    denied (has (vector_documents (g.S.Frozen.records c.args.store.now) c.args.root) c.args.doc)
+    (was_set (g.S.Frozen.records c.args.store.now) c.args.root c.args.doc c.number-place.result c.block_words-words.result _ c.number-place.ensures.number c.block_words-words.ensures.bits
+    c.if-has_bit.ensures) there
+
+pub returns-clause-stays : goal.returns-clause-stays
+returns-clause-stays g c = λ there.
     denied (has (vector_documents (g.S.Frozen.records c.args.store.now) c.args.root) c.args.doc)
     (was_set (g.S.Frozen.records c.args.store.now) c.args.root c.args.doc c.number-place.result c.block_words-words.result _ c.number-place.ensures.number c.block_words-words.ensures.bits
     c.if-has_bit.ensures) there

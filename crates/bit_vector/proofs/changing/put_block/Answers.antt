@@ -90,23 +90,23 @@ pub returns-in-Some-clause-may : goal.returns-in-Some-clause-may
 returns-in-Some-clause-may g c =
     subst (λ (f : g.row.S.Denot). MayDo (g.S.Store.ledger f) (g.S.Store.ledger c.replace_block.new.store)) c.find_block.ensures.same c.replace_block.ensures.may
 
-pub returns-clause-sets : goal.returns-clause-sets
-returns-clause-sets g c =
+pub returns-in-None-clause-sets : goal.returns-in-None-clause-sets
+returns-in-None-clause-sets g c =
     let ledger = g.S.Store.ledger in
     let records = g.S.Frozen.records in
     let t = c.add_block.new.store in
     subst (λ (f : g.row.S.Denot). IfOk c.add_block.result (SetsBlock (ledger f) (ledger t) (records f) (records t) c.args.root (vector_part c.args.root ∷ entry c.args.block ∷ []) c.args.number
     (records f c.args.block))) c.find_block.ensures.same c.add_block.ensures.sets
 
-pub returns-clause-counts : goal.returns-clause-counts
-returns-clause-counts g c =
+pub returns-in-None-clause-counts : goal.returns-in-None-clause-counts
+returns-in-None-clause-counts g c =
     subst (λ (f : g.row.S.Denot). CountsNodes (g.S.Store.ledger f) (g.S.Store.ledger c.add_block.new.store) (2 * levels (g.S.Frozen.records f) c.args.root + 1)) c.find_block.ensures.same
     c.add_block.ensures.counts
 
-pub returns-clause-refuses : goal.returns-clause-refuses
-returns-clause-refuses g c =
+pub returns-in-None-clause-refuses : goal.returns-in-None-clause-refuses
+returns-in-None-clause-refuses g c =
     subst (λ (f : g.row.S.Denot). IfErr c.add_block.result (Refuses (g.S.Store.ledger f) (g.S.Store.ledger c.add_block.new.store) 34)) c.find_block.ensures.same c.add_block.ensures.refuses
 
-pub returns-clause-may : goal.returns-clause-may
-returns-clause-may g c =
+pub returns-in-None-clause-may : goal.returns-in-None-clause-may
+returns-in-None-clause-may g c =
     subst (λ (f : g.row.S.Denot). MayDo (g.S.Store.ledger f) (g.S.Store.ledger c.add_block.new.store)) c.find_block.ensures.same c.add_block.ensures.may

@@ -19,10 +19,7 @@ pub next-requires : goal.next-requires
 next-requires g c =
     let records = g.F.Frozen.records in
     let inv = c.loop-cursor.invariant in
-    record {
-      place = subst (λ f. IsVectorPlace (records f) c.loop-cursor.cursor) (sym inv.same) inv.place;
-      document = c.at_end.ensures.follows c.loop-cursor-test.true;
-    }
+    (omega arith, (subst (λ f. IsVectorPlace (records f) c.loop-cursor.cursor) (sym inv.same) inv.place, c.at_end.ensures.follows c.loop-cursor-test.true))
 
 pub loop-cursor-smaller : goal.loop-cursor-smaller
 loop-cursor-smaller g c =

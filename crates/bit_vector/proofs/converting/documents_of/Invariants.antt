@@ -9,7 +9,7 @@ invariant-loop-cursor g l =
     record {
       same : l.frozen ≡ l.fn.frozen;
       place : IsVectorPlace m l.cursor;
-      done : l.docs.items ++ documents_from m l.cursor ≡ vector_documents m l.root;
+      done : l.docs.items ++ documents_from m l.cursor ≡ vector_documents m l.fn.root;
     }
 
 abbrev pub decreases-loop-cursor : goal.decreases-loop-cursor

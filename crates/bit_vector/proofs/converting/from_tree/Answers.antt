@@ -41,13 +41,23 @@ build-requires g c =
     let blocks = c.in_ok-blocks.blocks in
     let makes = c.in_ok-blocks.ensures.makes in
     let up = c.requires.tree.ascends in
-    record {
-      unit = c.make_blocks.ensures.may.unit ∙ c.requires.unit;
-      even = ap length c.as_slice.ensures ∙ even (ledger s) (ledger t) (ledger t) (records s) (records t) (records t) ps blocks up c.requires.numbers makes ∙ ap length (sym c.as_slice-2.ensures);
-      ascends = numbers_ascend (ledger s) (ledger t) (ledger t) (records s) (records t) (records t) ps blocks up c.requires.numbers makes;
-      readable = each_pair (ledger s) (ledger t) (ledger t) (records s) (records t) (records t) ps blocks up c.requires.numbers makes;
-      apart = each_pair (ledger s) (ledger t) (ledger t) (records s) (records t) (records t) ps blocks up c.requires.numbers makes;
-    }
+    let l = ledger s in
+    let n = ledger t in (
+      omega arith,
+      (
+        c.make_blocks.ensures.may.unit ∙ c.requires.unit,
+        (
+          ap length c.as_slice.ensures.value ∙ even l n n (records s) (records t) (records t) ps blocks up c.requires.numbers makes ∙ ap length (sym c.as_slice-2.ensures.value),
+          (
+            numbers_ascend l n n (records s) (records t) (records t) ps blocks up c.requires.numbers makes,
+            (
+              each_pair l n n (records s) (records t) (records t) ps blocks up c.requires.numbers makes,
+              each_pair l n n (records s) (records t) (records t) ps blocks up c.requires.numbers makes,
+            ),
+          ),
+        ),
+      ),
+    )
 
 pub returns-clause-makes : goal.returns-clause-makes
 returns-clause-makes g c =

@@ -30,8 +30,8 @@ overflow_cast-value g c =
     let below = g.met.F.Frozen.references c.args.frozen.now c.value.result (omega (arith, size)) in
     omega arith
 
-pub count_block-requires : goal.count_block-requires
-count_block-requires g c =
+pub count_block-count-requires : goal.count_block-count-requires
+count_block-count-requires g c =
     let m = g.F.Frozen.records c.args.frozen.now in
     let inv = c.loop-cursor.invariant in
     let ps = pairs_from m c.loop-cursor.cursor in
@@ -47,14 +47,14 @@ loop-cursor-preserved g c =
     let at = c.loop-cursor.cursor in
     let ps = pairs_from m at in
     let some = not_end ps c.at_end.result (c.at_end.ensures.pairs m inv.at).1 c.loop-cursor-test.true in
-    let then_next = c.count_block.ensures.same ∙ inv.same in
+    let then_next = c.count_block-count.ensures.same ∙ inv.same in
     let behind : pairs_from m c.next.new.self ≡ drop 1 ps = subst (λ f. pairs_from (records f) c.next.new.self ≡ drop 1 (pairs_from (records f) at)) then_next c.next.ensures.pairs in
     let value_is = c.from_raw.ensures ∙ c.value.ensures m inv.at in
-    let size : (k : ℕ) → c.count_block.result ≡ length (block_documents k (m c.from_raw.result)) =
-    subst (λ (f : g.row.F.Denot). (k : ℕ) → c.count_block.result ≡ length (block_documents k (records f c.from_raw.result))) inv.same c.count_block.ensures.count in
+    let size : (k : ℕ) → c.count_block-count.result ≡ length (block_documents k (m c.from_raw.result)) =
+    subst (λ (f : g.row.F.Denot). (k : ℕ) → c.count_block-count.result ≡ length (block_documents k (records f c.from_raw.result))) inv.same c.count_block-count.ensures.count in
     record {
       same = c.next.ensures.same ∙ then_next;
       at = subst (λ f. IsAt (records f) c.next.new.self) then_next c.next.ensures.at;
       blocks = subst (AllByRecursion (λ (p : ℕ × ℕ). IsBlock p.0 (m p.1))) (sym behind) (rest_all (λ p. IsBlock p.0 (m p.1)) ps inv.blocks);
-      whole = first_count m ps (pairs_from m c.next.new.self) c.loop-cursor.count (length (vector_documents m c.args.root)) c.from_raw.result c.count_block.result some behind value_is size inv.whole;
+      whole = first_count m ps (pairs_from m c.next.new.self) c.loop-cursor.count (length (vector_documents m c.args.root)) c.from_raw.result c.count_block-count.result some behind value_is size inv.whole;
     }

@@ -12,7 +12,7 @@ invariant-loop-cursor g l =
       same : l.frozen ≡ l.fn.frozen;
       at : IsAt m l.cursor;
       blocks : AllByRecursion (λ p. IsBlock p.0 (m p.1)) (pairs_from m l.cursor);
-      whole : l.count + length (blocks_documents m (pairs_from m l.cursor)) ≡ length (vector_documents m l.root);
+      whole : l.count + length (blocks_documents m (pairs_from m l.cursor)) ≡ length (vector_documents m l.fn.root);
     }
 
 abbrev pub decreases-loop-cursor : goal.decreases-loop-cursor

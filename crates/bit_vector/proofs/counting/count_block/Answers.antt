@@ -15,7 +15,7 @@ loop-i-preserved g c =
     let fits = c.word.type_inv in
     record {
       same = c.word.ensures.same ∙ inv.same;
-      count = one_word ws c.loop-i.i c.loop-i.count _ (omega (arith, read, fits)) inv.count (ap (λ n. c.loop-i.count + n) (c.count_ones.ensures ∙ ap count_ones read));
+      count = one_word ws c.loop-i.i c.loop-i.count _ (omega (arith, read, fits)) inv.count (ap (λ w. c.loop-i.count + count_ones w) read);
     }
 
 pub returns-clause-count : goal.returns-clause-count

@@ -36,10 +36,10 @@ drop_nodes-requires g c =
     let t = c.drop_tree.new.store in
     let owns = subst (λ f. Owns (ledger f) (records f) (vector_part c.args.root ∷ [])) same c.requires.owns in
     let was = subst (λ (f : g.row.S.Denot). c.records_of-records.result.items ≡ map (λ p. p.1) (tree_pairs (records f) c.args.root)) same c.records_of-records.ensures.records in
-    let blocks = drop_owns_blocks (ledger s) (ledger t) (ledger t) (records s) (records t) (records t) c.args.root c.records_of-records.result.items was owns c.drop_tree.ensures.turns in (
-      omega arith,
-      (search rules, subst (λ (rs : List ℕ). Owns (ledger t) (records t) (entries rs ∷ [])) (sym c.as_slice.ensures) blocks),
-    )
+    let blocks = drop_owns_blocks (ledger s) (ledger t) (ledger t) (records s) (records t) (records t) c.args.root c.records_of-records.result.items was owns c.drop_tree.ensures.turns in record {
+      unit = c.drop_tree.ensures.may.unit ∙ subst (λ f. (ledger f).unit ≡ true) same c.requires.unit;
+      owns = subst (λ (rs : List ℕ). Owns (ledger t) (records t) (entries rs ∷ [])) (sym c.as_slice.ensures.value) blocks;
+    }
 
 pub returns-clause-turns : goal.returns-clause-turns
 returns-clause-turns g c =
@@ -53,7 +53,7 @@ returns-clause-turns g c =
     let was = subst (λ (f : g.row.S.Denot). c.records_of-records.result.items ≡ map (λ p. p.1) (tree_pairs (records f) c.args.root)) same c.records_of-records.ensures.records in
     subst (λ (f : g.row.S.Denot). Turns (ledger f) (ledger u) (records f) (records u) (vector_part c.args.root ∷ []) []) c.records_of-records.ensures.same
     (drops_vector (ledger s) (ledger t) (ledger u) (records s) (records t) (records u) c.args.root c.records_of-records.result.items was owns c.drop_tree.ensures.turns
-    (subst (λ (rs : List ℕ). Turns (ledger t) (ledger u) (records t) (records u) (entries rs ∷ []) []) c.as_slice.ensures c.drop_nodes.ensures.drops.turns))
+    (subst (λ (rs : List ℕ). Turns (ledger t) (ledger u) (records t) (records u) (entries rs ∷ []) []) c.as_slice.ensures.value c.drop_nodes.ensures.drops.turns))
 
 pub returns-clause-none_made : goal.returns-clause-none_made
 returns-clause-none_made g c = λ k w.

@@ -12,7 +12,7 @@ invariant-loop-cursor g l =
       same : l.frozen ≡ l.fn.frozen;
       at : IsAt m l.cursor;
       blocks : AllByRecursion (λ p. IsBlock p.0 (m p.1)) (pairs_from m l.cursor);
-      done : l.records.items ++ map (λ p. p.1) (pairs_from m l.cursor) ≡ map (λ p. p.1) (tree_pairs m l.root);
+      done : l.records.items ++ map (λ p. p.1) (pairs_from m l.cursor) ≡ map (λ p. p.1) (tree_pairs m l.fn.root);
       few : length l.records.items + length (pairs_from m l.cursor) ≤ 256;
     }
 

@@ -17,9 +17,9 @@ invariant-loop-number g l =
     let n = g.S.Frozen.records l.store in
     record {
       unit : b.unit ≡ true;
-      same : SameAt (tree_nodes m l.root) m n;
-      owns : Owns b n (tree l.root ∷ entries l.blocks.records.items ∷ []);
-      makes : MakesBlocks a b m n (keys (tree_pairs m l.root)) l.number l.blocks;
+      same : SameAt (tree_nodes m l.fn.root) m n;
+      owns : Owns b n (tree l.fn.root ∷ entries l.blocks.records.items ∷ []);
+      makes : MakesBlocks a b m n (keys (tree_pairs m l.fn.root)) l.number l.blocks;
       counts : MakesWithin a b (vector_most (length l.blocks.numbers.items) 0);
       may : MayDo a b;
     }

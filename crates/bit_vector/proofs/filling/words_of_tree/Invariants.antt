@@ -10,7 +10,7 @@ invariant-loop-cursor g l =
     record {
       same : l.frozen ≡ l.fn.frozen;
       at : IsAt m l.cursor;
-      fills : IsFilling l.number l.words (pairs_from m l.cursor) (keys (tree_pairs m l.root));
+      fills : IsFilling l.number l.words (pairs_from m l.cursor) (keys (tree_pairs m l.fn.root));
     }
 
 abbrev pub decreases-loop-cursor : goal.decreases-loop-cursor

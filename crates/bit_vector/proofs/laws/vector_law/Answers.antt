@@ -1,8 +1,4 @@
 use Rattle.bit_vector.proofs.VectorLemmas.{root_has, vector_at-same, vector_nothing, vector_sorted, vector_stays, vector_there}
-use Rattle.bit_vector.proofs.BitLemmas.{next_none}
-use Rattle.bit_vector.proofs.WalkLemmas.{from_last}
-use Rattle.bit_vector.proofs.CountLemmas.{if_one}
-use Rattle.bit_vector.proofs.TurnLemmas.{adds_block}
 use Rattle.bit_vector.proofs.laws.vector_law.Goals as goal
 
 pub returns-clause-nothing : goal.returns-clause-nothing

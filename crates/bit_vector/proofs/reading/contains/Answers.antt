@@ -22,8 +22,8 @@ returns-in-Some-clause-has g c =
     ∙ bit_there m (tree_pairs m c.args.root) c.requires.vector.tree_is.ascends (place / 4096) (place % 4096) (omega arith) c.in-Some.block found
     ∙ ap (has (vector_documents m c.args.root)) (let e : 4096 * (place / 4096) + place % 4096 ≡ place = omega arith in e ∙ c.number-place.ensures.number)
 
-pub returns-clause-has : goal.returns-clause-has
-returns-clause-has g c =
+pub returns-in-None-clause-has : goal.returns-in-None-clause-has
+returns-in-None-clause-has g c =
     let m = g.F.Frozen.records c.args.frozen.now in
     let place = c.number-place.result in
     let found = sym c.find_block.ensures.found ∙ c.in-None.is in

@@ -1,4 +1,4 @@
-use Rattle.std.proofs.Common.{◌≡◌, ◌∷◌, [], true, false, ℕ, ℤ, pos, List, w32, length, refl, sym, ap, subst, ◌∙◌, ◌<◌, ◌||◌, arith}
+use Rattle.std.proofs.Common.{◌≡◌, ◌∷◌, [], true, false, ℕ, ℤ, pos, List, w32, to_z, of_z, length, refl, sym, ap, subst, ◌∙◌, ◌<◌, ◌||◌, arith}
 use Rattle.std.specs.Prelude.{IfOk, IfErr}
 use Rattle.std.proofs.lemmas.Int.{to_z-of_z}
 use Rattle.std.proofs.lemmas.Result.{err_from_is_err_and}
@@ -12,7 +12,8 @@ use Rattle.posting_store.specs.Lists.{list_at, list_levels, is_vector, AreOnes}
 use Rattle.posting_store.specs.Changes.{list_change_most, IsListChangeWidth, MakesList}
 use Rattle.posting_store.proofs.LeafLemmas.{length_in_least}
 use Rattle.posting_store.proofs.PairLemmas.{ones_in}
-use Rattle.posting_store.proofs.RuleLemmas.{dense_many, first_counts, first_refuses, one_weight, rule_counts, rule_makes, rule_plain, rule_refuses}
+use Rattle.posting_store.proofs.RefusalLemmas.{of_more}
+use Rattle.posting_store.proofs.RuleLemmas.{changed_more, dense_many, first_counts, one_weight, rule_counts, rule_makes, rule_plain, rule_refuses}
 use Rattle.posting_store.proofs.VectorLemmas.{vector_many}
 use Rattle.posting_store.proofs.adding.add.Goals as goal
 
@@ -81,8 +82,10 @@ returns-in_err-next-clause-refuses g c =
     let was = is_vector c.args.list in
     let again = to_z-of_z w32 c.args.weight c.ranges.weight in
     let p = err_from_is_err_and c.from_residual.result c.from_residual.ensures.1 in
-    rw (p.1, p.2) (first_refuses (ledger s) (ledger t) was (is_dense c.args.dense (length docs) c.args.documents) (length docs) _ (may_do-same (ledger s))
-    (subst (λ (w : ℤ). RefusesOf (IsListChangeWidth was (length (insert_entry nat_cmp es c.args.doc w))) (ledger s) (ledger t) _) again c.in_err-next.ensures.refuses))
+    let is = is_dense c.args.dense (length docs) c.args.documents in
+    rw (p.1, p.2) (of_more (IsListChangeWidth was (length (insert_entry nat_cmp es c.args.doc (to_z w32 (of_z w32 c.args.weight))))) (IsListChangeWidth (was || is) (length docs)) (ledger s) (ledger s) (ledger t) _
+    (may_do-same (ledger s))
+    (λ w one. changed_more was is (length docs) w (subst (λ (z : ℤ). IsListChangeWidth was (length (insert_entry nat_cmp es c.args.doc z)) w) again one)) c.in_err-next.ensures.refuses)
 
 pub returns-clause-makes : goal.returns-clause-makes
 returns-clause-makes g c =

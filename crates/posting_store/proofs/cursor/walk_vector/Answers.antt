@@ -5,7 +5,7 @@ use Rattle.posting_store.proofs.cursor.walk_vector.Goals as goal
 
 pub first-requires : goal.first-requires
 first-requires g c =
-    (omega arith, vector_is (g.F.Frozen.records c.args.frozen.now) c.args.list c.root_of-root.result c.root_of-root.ensures c.requires.list)
+    (omega arith, (omega arith, vector_is (g.F.Frozen.records c.args.frozen.now) c.args.list c.root_of-root.result c.root_of-root.ensures c.requires.list))
 
 pub returns-clause-place : goal.returns-clause-place
 returns-clause-place g c =

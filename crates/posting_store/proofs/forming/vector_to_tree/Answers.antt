@@ -1,4 +1,4 @@
-use Rattle.std.proofs.Common.{true, false, inr, refl}
+use Rattle.std.proofs.Common.{true, false, inr, refl, arith}
 use Rattle.std.proofs.lemmas.Result.{err_from_is_err_and}
 use Rattle.bit_vector.specs.Changes.{IsVectorWidth}
 use Rattle.store_api.proofs.May.{may_do-same, may_do-then}

@@ -1,6 +1,5 @@
 use Rattle.std.proofs.Common.{◌-◌, arith}
 use Rattle.posting_store.proofs.VectorLemmas.{vector_there}
-use Rattle.posting_store.proofs.FormLemmas.{vector_high}
 use Rattle.posting_store.proofs.posting.root_of.Goals as goal
 
 pub overflow_cast-word : goal.overflow_cast-word

@@ -13,7 +13,8 @@ use Rattle.store_api.proofs.May.{may_do-same, may_do-then}
 use Rattle.posting_store.specs.Lists.{list_at, list_levels, is_vector, AreOnes}
 use Rattle.posting_store.specs.Changes.{list_change_most, IsListChangeWidth, MakesList}
 use Rattle.posting_store.proofs.PairLemmas.{length_out_some, ones_out}
-use Rattle.posting_store.proofs.RuleLemmas.{dense_many, first_counts, first_refuses, rule_counts, rule_makes, rule_plain, rule_refuses}
+use Rattle.posting_store.proofs.RefusalLemmas.{of_more}
+use Rattle.posting_store.proofs.RuleLemmas.{changed_more, dense_many, first_counts, rule_counts, rule_makes, rule_plain, rule_refuses}
 use Rattle.posting_store.proofs.removing.remove_from_long.Goals as goal
 
 pub by_rule-requires-clause-unit : goal.by_rule-requires-clause-unit
@@ -70,7 +71,9 @@ returns-in_err-next-clause-refuses g c =
     let docs = remove_entry (is_at (nat_cmp c.args.doc)) es in
     let was = is_vector c.args.list in
     let p = err_from_is_err_and c.from_residual.result c.from_residual.ensures.1 in
-    rw (p.1, p.2) (first_refuses (ledger s) (ledger t) was (is_dense c.args.dense (length docs) c.args.documents) (length docs) _ (may_do-same (ledger s)) c.in_err-next.ensures.refuses)
+    let is = is_dense c.args.dense (length docs) c.args.documents in
+    rw (p.1, p.2) (of_more (IsListChangeWidth was (length docs)) (IsListChangeWidth (was || is) (length docs)) (ledger s) (ledger s) (ledger t) _
+    (may_do-same (ledger s)) (λ w one. changed_more was is (length docs) w one) c.in_err-next.ensures.refuses)
 
 pub returns-clause-makes : goal.returns-clause-makes
 returns-clause-makes g c =

@@ -11,6 +11,6 @@ returns-in-Short-clause-doc g c =
     c.new.ensures ∙ ap (λ w. w / 4294967296) c.word.ensures.value
     ∙ this_doc (g.F.Frozen.records c.args.frozen.now) c.args.self.now c.in-Short.list c.in-Short.count c.in-Short.at c.in-Short.is c.requires.place c.requires.posting
 
-pub returns-clause-doc : goal.returns-clause-doc
-returns-clause-doc g c =
+pub returns-in-Vector-clause-doc : goal.returns-in-Vector-clause-doc
+returns-in-Vector-clause-doc g c =
     vector_doc (g.F.Frozen.records c.args.frozen.now) c.args.self.now c.in-Vector.cursor c.in-Vector.is c.requires.place c.doc.result c.doc.ensures

@@ -11,14 +11,18 @@ returns-in-Short-clause-postings g c =
     next_postings (g.F.Frozen.records c.args.frozen.now) c.args.self.now c.in-Short.list c.in-Short.count c.in-Short.at c.in-Short.is c.requires.place
 
 pub next-requires-in-Vector : goal.next-requires-in-Vector
-next-requires-in-Vector g c =
-    (omega arith, (vector_stands (g.F.Frozen.records c.args.frozen.now) c.args.self.now c.in-Vector.cursor c.in-Vector.is c.requires.place,
-    vector_has (g.F.Frozen.records c.args.frozen.now) c.args.self.now c.in-Vector.cursor c.in-Vector.is c.requires.place c.requires.posting))
+next-requires-in-Vector g c = (
+  omega arith,
+  (
+    vector_stands (g.F.Frozen.records c.args.frozen.now) c.args.self.now c.in-Vector.cursor c.in-Vector.is c.requires.place,
+    vector_has (g.F.Frozen.records c.args.frozen.now) c.args.self.now c.in-Vector.cursor c.in-Vector.is c.requires.place c.requires.posting,
+  ),
+)
 
 pub returns-in-Vector-clause-place : goal.returns-in-Vector-clause-place
 returns-in-Vector-clause-place g c =
-    vector_next (g.F.Frozen.records c.args.frozen.now) c.args.self.now c.in-Vector.cursor c.in-Vector.is c.requires.place _ c.next-in-Vector.ensures.place c.next-in-Vector.ensures.documents
+    vector_next (g.F.Frozen.records c.args.frozen.now) c.args.self.now c.in-Vector.cursor c.in-Vector.is c.requires.place c.next-in-Vector.new.self c.next-in-Vector.ensures.place c.next-in-Vector.ensures.documents
 
 pub returns-in-Vector-clause-postings : goal.returns-in-Vector-clause-postings
 returns-in-Vector-clause-postings g c =
-    vector_next_postings (g.F.Frozen.records c.args.frozen.now) c.args.self.now c.in-Vector.cursor c.in-Vector.is c.requires.place _ c.next-in-Vector.ensures.documents
+    vector_next_postings (g.F.Frozen.records c.args.frozen.now) c.args.self.now c.in-Vector.cursor c.in-Vector.is c.requires.place c.next-in-Vector.new.self c.next-in-Vector.ensures.documents

@@ -9,6 +9,6 @@ returns-in-Short-clause-weight g c =
     ∙ c.cast_signed.ensures ∙ ap (λ w. weight_in_bits (w % 4294967296)) c.word.ensures.value
     ∙ this_weight (g.F.Frozen.records c.args.frozen.now) c.args.self.now c.in-Short.list c.in-Short.count c.in-Short.at c.in-Short.is c.requires.place c.requires.posting
 
-pub returns-clause-weight : goal.returns-clause-weight
-returns-clause-weight g c =
+pub returns-in-Vector-clause-weight : goal.returns-in-Vector-clause-weight
+returns-in-Vector-clause-weight g c =
     vector_weight (g.F.Frozen.records c.args.frozen.now) c.args.self.now c.in-Vector.field-0 c.in-Vector.is c.requires.place c.requires.posting
