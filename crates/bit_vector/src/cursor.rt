@@ -41,7 +41,6 @@ impl<const OFFSET_BITS: u32> VectorCursor<OFFSET_BITS> {
     }
 
     /// Moves to the first document of the block at hand, if there is one.
-    #[tactic(none)]
     fn enter<F: Frozen<OFFSET_BITS>>(&mut self, frozen: &mut F)
         requires { IsBlockPlace (F.records frozen.old) self.old.blocks }
         ensures place { IsVectorPlace (F.records frozen.old) self.new }
@@ -75,7 +74,6 @@ impl<const OFFSET_BITS: u32> VectorCursor<OFFSET_BITS> {
     }
 
     /// Moves past one document.
-    #[tactic(none)]
     pub fn next<F: Frozen<OFFSET_BITS>>(&mut self, frozen: &mut F)
         requires place { IsVectorPlace (F.records frozen.old) self.old }
         requires document { HasDocument self.old }

@@ -37,7 +37,7 @@ set_block-requires g c =
     let bits = cleared_bits (records c.args.store.now) c.args.root c.args.doc place c.block_words-words.result c.clear_bit.new.words c.number-place.ensures.number c.block_words-words.ensures.bits
     c.clear_bit.ensures.bits in
     let are = are_left (records c.args.store.now) c.args.root c.args.doc place c.clear_bit.new.words c.requires.vector c.number-place.ensures.number number (c.clear_bit.ensures.size ∙ own)
-    (c.if-is_empty.ensures.some c.if-is_empty.false) bits in (
+    (c.if-is_empty.ensures.some refl) bits in (
       omega arith,
       (
         subst (λ f. (ledger f).unit ≡ true) same c.requires.unit,
@@ -57,7 +57,7 @@ returns-then-is_empty-clause-makes g c =
     let place = c.number-place.result in
     let bits = cleared_bits (records s) c.args.root c.args.doc place c.block_words-words.result c.clear_bit.new.words c.number-place.ensures.number c.block_words-words.ensures.bits
     c.clear_bit.ensures.bits in
-    removes_if (ledger s) (ledger t) (records s) (records t) c.args.root c.args.doc c.requires.vector [] (none_left (records s) c.args.root c.args.doc c.clear_bit.new.words (c.if-is_empty.ensures.none c.if-is_empty.true) bits) c.clear_block.result
+    removes_if (ledger s) (ledger t) (records s) (records t) c.args.root c.args.doc c.requires.vector [] (none_left (records s) c.args.root c.args.doc c.clear_bit.new.words (c.if-is_empty.ensures.none refl) bits) c.clear_block.result
     (subst (λ (k : ℕ). IfOk c.clear_block.result (SetsBlock (ledger s) (ledger t) (records s) (records t) c.args.root (vector_part c.args.root ∷ []) k []))
     (ap (λ (n : ℕ). n / 4096) c.number-place.ensures.number)
     (subst (λ (f : g.row.S.Denot). IfOk c.clear_block.result (SetsBlock (ledger f) (ledger t) (records f) (records t) c.args.root (vector_part c.args.root ∷ []) (place / 4096) []))

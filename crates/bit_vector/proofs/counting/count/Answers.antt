@@ -1,4 +1,4 @@
-use Rattle.std.proofs.Common.{◌≡◌, ◌+◌, ◌<◌, ◌≤◌, ℕ, List, length, drop, sym, ap, subst, ◌∙◌, arith}
+use Rattle.std.proofs.Common.{◌≡◌, ◌+◌, ◌<◌, ◌≤◌, ℕ, List, length, drop, refl, sym, ap, subst, ◌∙◌, arith}
 use Rattle.std.specs.List.{AllByRecursion}
 use Rattle.tree_read.specs.SearchPlaces.{IsAt, pairs_from}
 use Rattle.attr_images.specs.Postings.{block_documents, vector_documents, IsBlock}
@@ -58,3 +58,17 @@ loop-cursor-preserved g c =
       blocks = subst (AllByRecursion (λ (p : ℕ × ℕ). IsBlock p.0 (m p.1))) (sym behind) (rest_all (λ p. IsBlock p.0 (m p.1)) ps inv.blocks);
       whole = first_count m ps (pairs_from m c.next.new.self) c.loop-cursor.count (length (vector_documents m c.args.root)) c.from_raw.result c.count_block-count.result some behind value_is size inv.whole;
     }
+
+pub overflow_add-count : goal.overflow_add-count
+overflow_add-count g c =
+    let records = g.F.Frozen.records in
+    let m = records c.args.frozen.now in
+    let inv = c.loop-cursor.invariant in
+    let ps = pairs_from m c.loop-cursor.cursor in
+    let some = not_end ps c.at_end.result (c.at_end.ensures.pairs m inv.at).1 c.loop-cursor-test.true in
+    let value_is = c.from_raw.ensures ∙ c.value.ensures m inv.at in
+    let size : (k : ℕ) → c.count_block-count.result ≡ length (block_documents k (m c.from_raw.result)) =
+    subst (λ (f : g.row.F.Denot). (k : ℕ) → c.count_block-count.result ≡ length (block_documents k (records f c.from_raw.result))) inv.same c.count_block-count.ensures.count in
+    let whole = first_count m ps (drop 1 ps) c.loop-cursor.count (length (vector_documents m c.args.root)) c.from_raw.result c.count_block-count.result some refl value_is size inv.whole in
+    let few = count_few (vector_documents m c.args.root) (vector_ascends m c.args.root c.requires.vector) c.requires.vector.numbers in
+    omega (arith, whole, few)

@@ -21,7 +21,7 @@ returns-then-is_empty-clause-makes g c =
     let records = g.S.Frozen.records in
     let s = c.args.store.now in
     let docs = keys (tree_pairs (records s) c.args.root) in
-    let none = no_block_of docs c.args.number (λ i low. sym (c.words_of_tree-words.ensures.bits i low) ∙ c.if-is_empty.ensures.none c.if-is_empty.true i) in
+    let none = no_block_of docs c.args.number (λ i low. sym (c.words_of_tree-words.ensures.bits i low) ∙ c.if-is_empty.ensures.none refl i) in
     subst (λ (f : g.row.S.Denot). MakesBlock (ledger s) (ledger f) (records s) (records f) docs c.args.number c.args.blocks.now c.args.blocks.now) (sym c.words_of_tree-words.ensures.same)
     (makes_no_block (ledger s) (records s) docs c.args.number c.args.blocks.now none)
 
@@ -45,7 +45,7 @@ returns-in_err-block-clause-counts g c =
     let t = c.make_entry.new.store in
     let docs = keys (tree_pairs (g.S.Frozen.records c.args.store.now) c.args.root) in
     let own : length c.words_of_tree-words.result ≡ 64 = search rules in
-    let some = some_block_of docs c.args.number c.words_of_tree-words.result own (c.if-is_empty.ensures.some c.if-is_empty.false) c.words_of_tree-words.ensures.bits in
+    let some = some_block_of docs c.args.number c.words_of_tree-words.result own (c.if-is_empty.ensures.some refl) c.words_of_tree-words.ensures.bits in
     subst (λ (f : g.row.S.Denot). MakesWithin (ledger f) (ledger t) (block_most (is_block_of docs c.args.number))) c.words_of_tree-words.ensures.same
     (within_one (ledger s) (ledger t) (is_block_of docs c.args.number) some c.make_entry.ensures.one c.make_entry.ensures.others)
 
@@ -56,7 +56,7 @@ returns-clause-counts g c =
     let t = c.make_entry.new.store in
     let docs = keys (tree_pairs (g.S.Frozen.records c.args.store.now) c.args.root) in
     let own : length c.words_of_tree-words.result ≡ 64 = search rules in
-    let some = some_block_of docs c.args.number c.words_of_tree-words.result own (c.if-is_empty.ensures.some c.if-is_empty.false) c.words_of_tree-words.ensures.bits in
+    let some = some_block_of docs c.args.number c.words_of_tree-words.result own (c.if-is_empty.ensures.some refl) c.words_of_tree-words.ensures.bits in
     subst (λ (f : g.row.S.Denot). MakesWithin (ledger f) (ledger t) (block_most (is_block_of docs c.args.number))) c.words_of_tree-words.ensures.same
     (within_one (ledger s) (ledger t) (is_block_of docs c.args.number) some c.make_entry.ensures.one c.make_entry.ensures.others)
 
@@ -69,7 +69,7 @@ returns-clause-makes g c =
     let docs = keys (tree_pairs (records c.args.store.now) c.args.root) in
     let words = c.words_of_tree-words.result in
     let own : length words ≡ 64 = search rules in
-    let some = some_block_of docs c.args.number words own (c.if-is_empty.ensures.some c.if-is_empty.false) c.words_of_tree-words.ensures.bits in
+    let some = some_block_of docs c.args.number words own (c.if-is_empty.ensures.some refl) c.words_of_tree-words.ensures.bits in
     let stored = c.in_ok-block.ensures.words ∙ padded_same words own in
     let is = record {
       size = ap length stored ∙ own;
