@@ -73,7 +73,8 @@ commit_readers {H = H} old new bits image info made =
     ∙ with_hold-made (published made.mid.work stores.commits image) made.mid.finished ∙ made.prepares.readers
 
 module _ {S H : Type 0} (ledger : S → Ledger H) where
-  pub keeps_of : (old new : AttributeView S) → KeepsStore (ledger old.store) (ledger new.store) → new.fields ≡ old.fields → new.dense ≡ old.dense → new.committed ≡ old.committed → new.committed_operations ≡ old.committed_operations
+  pub keeps_of : (old new : AttributeView S) → KeepsStore (ledger old.store) (ledger new.store) → new.fields ≡ old.fields → new.dense ≡ old.dense → new.committed ≡ old.committed
+      → new.committed_operations ≡ old.committed_operations
       → KeepsCommit ledger old new
   keeps_of old new keeps fields dense committed count = record {
     stays = record { home = keeps.home; sizes = keeps.sizes; readers = keeps.readers; fields = fields; dense = dense };
@@ -99,7 +100,8 @@ module _ {S H : Type 0} (ledger : S → Ledger H) where
   }
 
   pub stays_on : (a b c : AttributeView S) → StaysIn ledger a b → StaysIn ledger b c → StaysIn ledger a c
-  stays_on a b c first second = record { home = second.home ∙ first.home; sizes = second.sizes ∙ first.sizes; readers = second.readers ∙ first.readers; fields = second.fields ∙ first.fields; dense = second.dense ∙ first.dense }
+  stays_on a b c first second = record { home = second.home ∙ first.home; sizes = second.sizes ∙ first.sizes; readers = second.readers ∙ first.readers; fields = second.fields ∙ first.fields; dense = second.dense
+      ∙ first.dense }
 
   pub keeps_on : (a b c : AttributeView S) → KeepsCommit ledger a b → KeepsCommit ledger b c → KeepsCommit ledger a c
   keeps_on a b c first second = record {

@@ -327,7 +327,8 @@ module _ {S H : Type 0} (ledger : S → Ledger H) where
             keys = (let keys = after_key runs.steps (values_of b.fields b.table (take before part)) in let had = runs.keys in omega (arith, keys, had, commits));
           })
           made_now.has
-          (within_filled (ledger c.store).work.sizes.words made_now.most (λ width. ((ledger c.store).of_width width).made) (λ width. ((ledger c.store).of_width width).buffers) (made_now.within (λ on. absurd (true≢false (sym on ∙ off)))) few)
+          (within_filled (ledger c.store).work.sizes.words made_now.most (λ width. ((ledger c.store).of_width width).made) (λ width. ((ledger c.store).of_width width).buffers)
+              (made_now.within (λ on. absurd (true≢false (sym on ∙ off)))) few)
           (omega (arith, counted, free))
 
       pub owed_at : IsOwed (load_of (ledger start.store).work.sizes.buffers (ledger start.store).work.sizes.words start.fields batch ops) (count + before) count

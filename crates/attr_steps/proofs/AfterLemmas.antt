@@ -35,7 +35,8 @@ module _ (fields : List Field) (table : Table) (op : Op) (before after : Option 
   of_operation P p = subst (λ (d : Option Document). P (document_before table op) d) is (subst (λ (d : Option Document). P d after) was p)
 
   -- of which width it was refused, by the table after it
-  pub width_after : (dense : Bool) (next : Table) (e : StoreError) → step fields table op ≡ Some next → IsFullAmong (IsChangedWidth dense fields next before after) e → IsFullAmong (IsOperationWidth dense fields table op) e
+  pub width_after : (dense : Bool) (next : Table) (e : StoreError) → step fields table op ≡ Some next → IsFullAmong (IsChangedWidth dense fields next before after) e → IsFullAmong
+      (IsOperationWidth dense fields table op) e
   width_after dense next e made full =
       subst (λ (t : Table). IsFullAmong (IsChangedWidth dense fields t (document_before table op) (document_after fields table op)) e) (sym (ap (λ (o : Option Table). unwrap_or o table) made))
       (of_operation (λ was is. IsFullAmong (IsChangedWidth dense fields next was is) e) full)

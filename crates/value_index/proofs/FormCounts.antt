@@ -41,7 +41,8 @@ past_block : (k a n : ℕ) → k < a → length (filter (λ x. nat_eq k x) (rang
 past_block k a zero below = omega arith
 past_block k a (suc n) below = told (past_block k (suc a) n (omega (arith, below))) (nat_eq k a) refl
   where
-    told : length (filter (λ x. nat_eq k x) (range_with_len (suc a) n)) ≤ 0 → (t : Bool) → nat_eq k a ≡ t → length (cond t (a ∷ filter (λ x. nat_eq k x) (range_with_len (suc a) n)) (filter (λ x. nat_eq k x) (range_with_len (suc a) n))) ≤ 0
+    told : length (filter (λ x. nat_eq k x) (range_with_len (suc a) n)) ≤ 0 → (t : Bool) → nat_eq k a ≡ t → length
+        (cond t (a ∷ filter (λ x. nat_eq k x) (range_with_len (suc a) n)) (filter (λ x. nat_eq k x) (range_with_len (suc a) n))) ≤ 0
     told rest true is = absurd (let same = eqb-true k a is in omega (arith, same, below))
     told rest false is = rest
 
@@ -49,7 +50,8 @@ one_block : (k a n : ℕ) → length (filter (λ x. nat_eq k x) (range_with_len 
 one_block k a zero = omega arith
 one_block k a (suc n) = told (one_block k (suc a) n) (nat_eq k a) refl
   where
-    told : length (filter (λ x. nat_eq k x) (range_with_len (suc a) n)) ≤ 1 → (t : Bool) → nat_eq k a ≡ t → length (cond t (a ∷ filter (λ x. nat_eq k x) (range_with_len (suc a) n)) (filter (λ x. nat_eq k x) (range_with_len (suc a) n))) ≤ 1
+    told : length (filter (λ x. nat_eq k x) (range_with_len (suc a) n)) ≤ 1 → (t : Bool) → nat_eq k a ≡ t → length
+        (cond t (a ∷ filter (λ x. nat_eq k x) (range_with_len (suc a) n)) (filter (λ x. nat_eq k x) (range_with_len (suc a) n))) ≤ 1
     told rest true is = let none = past_block k (suc a) n (let same = eqb-true k a is in omega (arith, same)) in omega (arith, none)
     told rest false is = rest
 

@@ -363,7 +363,8 @@ returns-in_err-documents-clause-low g c =
     let few = subst (λ (cl : Column). length cl < 2 * 8 ^ levels) (sym c.in_ok-added.ensures.steps.column_is) (let low = stays.documents in let less : length column < 2 * 8 ^ levels = omega arith in less) in
     let entry = c.set_items.ensures.low levels stays.some few in
     let last = ledger c.set_items.new.store in
-    put_two kind column start doc count of old new c.args.dense (value_nodes levels * new_values old new) (2 * levels + 1) (value_nodes levels * lost_values old new) (ledger c.args.store.now) (ledger c.add_values.new.store) last last c.add_values.ensures.may added entry
+    put_two kind column start doc count of old new c.args.dense (value_nodes levels * new_values old new) (2 * levels + 1) (value_nodes levels * lost_values old new) (ledger c.args.store.now)
+        (ledger c.add_values.new.store) last last c.add_values.ensures.may added entry
 
 pub returns-in_err-dictionary-clause-low : goal.returns-in_err-dictionary-clause-low
 returns-in_err-dictionary-clause-low g c =

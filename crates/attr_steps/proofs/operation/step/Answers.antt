@@ -55,7 +55,8 @@ put_document-requires g c =
           c.requires.sized,
           (
             subst (λ f. AreFields (records f) fields trees) same c.requires.fields,
-            (subst (λ f. HaveForms c.args.dense (records f) trees) same c.requires.forms, (subst (λ f. OwnsFields (ledger f) (records f) trees) same c.requires.owns, (there, ((c.doc-doc.ensures.first, c.doc-doc.ensures.last), (subst (OpFits fields) c.in-Put.is c.requires.fits).1)))),
+            (subst (λ f. HaveForms c.args.dense (records f) trees) same c.requires.forms, (subst (λ f. OwnsFields (ledger f) (records f) trees) same c.requires.owns,
+                (there, ((c.doc-doc.ensures.first, c.doc-doc.ensures.last), (subst (OpFits fields) c.in-Put.is c.requires.fits).1)))),
           ),
         ),
       ),
@@ -69,13 +70,15 @@ returns-in-Put-clause-steps g c =
     let trees = trees_of fields c.args.roots.now in
     let new = c.put_document.new.store in
     let old = c.args.store.now in
-    let here = subst (λ f. Stepped fields (ledger f) (ledger new) (records f) (records new) trees (Put c.doc-doc.result c.in-Put.items) (new ≡ f) c.put_document.result) (c.read_document.ensures.same ∙ c.count_documents-total.ensures.same)
+    let here = subst (λ f. Stepped fields (ledger f) (ledger new) (records f) (records new) trees (Put c.doc-doc.result c.in-Put.items) (new ≡ f) c.put_document.result)
+        (c.read_document.ensures.same ∙ c.count_documents-total.ensures.same)
     c.put_document.ensures.steps in
     subst (λ o. Stepped fields (ledger old) (ledger new) (records old) (records new) trees o (new ≡ old) c.put_document.result)
     (ap (λ d. Put d c.in-Put.items) (c.doc-doc.ensures.doc ∙ ap op_doc c.in-Put.is) ∙ sym c.in-Put.is) here
 
 pub returns-in-Put-clause-keeps : goal.returns-in-Put-clause-keeps
-returns-in-Put-clause-keeps g c = subst (λ f. KeepsStore (g.S.Store.ledger f) (g.S.Store.ledger c.put_document.new.store)) (c.read_document.ensures.same ∙ c.count_documents-total.ensures.same) c.put_document.ensures.keeps
+returns-in-Put-clause-keeps g c = subst (λ f. KeepsStore (g.S.Store.ledger f) (g.S.Store.ledger c.put_document.new.store))
+    (c.read_document.ensures.same ∙ c.count_documents-total.ensures.same) c.put_document.ensures.keeps
 
 pub update_document-requires : goal.update_document-requires
 update_document-requires g c =
@@ -124,7 +127,8 @@ returns-in-Update-clause-steps g c =
     ∙ ap (λ d. Update d c.in-Update.create c.in-Update.change) (c.doc-doc.ensures.doc ∙ ap op_doc c.in-Update.is) ∙ sym c.in-Update.is) here
 
 pub returns-in-Update-clause-keeps : goal.returns-in-Update-clause-keeps
-returns-in-Update-clause-keeps g c = subst (λ f. KeepsStore (g.S.Store.ledger f) (g.S.Store.ledger c.update_document.new.store)) (c.read_document.ensures.same ∙ c.count_documents-total.ensures.same) c.update_document.ensures.keeps
+returns-in-Update-clause-keeps g c = subst (λ f. KeepsStore (g.S.Store.ledger f) (g.S.Store.ledger c.update_document.new.store))
+    (c.read_document.ensures.same ∙ c.count_documents-total.ensures.same) c.update_document.ensures.keeps
 
 pub remove_document-requires : goal.remove_document-requires
 remove_document-requires g c =
@@ -158,7 +162,8 @@ returns-clause-steps g c =
     let trees = trees_of fields c.args.roots.now in
     let new = c.remove_document.new.store in
     let old = c.args.store.now in
-    let here = subst (λ f. Stepped fields (ledger f) (ledger new) (records f) (records new) trees (Remove c.doc-doc.result) (new ≡ f) c.remove_document.result) (c.read_document.ensures.same ∙ c.count_documents-total.ensures.same)
+    let here = subst (λ f. Stepped fields (ledger f) (ledger new) (records f) (records new) trees (Remove c.doc-doc.result) (new ≡ f) c.remove_document.result)
+        (c.read_document.ensures.same ∙ c.count_documents-total.ensures.same)
     c.remove_document.ensures.steps in
     subst (λ o. Stepped fields (ledger old) (ledger new) (records old) (records new) trees o (new ≡ old) c.remove_document.result) (ap Remove (c.doc-doc.ensures.doc ∙ ap op_doc c.in-Remove.is) ∙ sym c.in-Remove.is) here
 
@@ -181,7 +186,8 @@ returns-in-Put-clause-counts g c =
     let trees = trees_of fields c.args.roots.now in
     let new = c.put_document.new.store in
     let old = c.args.store.now in
-    let here = subst (λ f. MakesOperation c.args.dense (ledger f) (ledger new) fields (table_at (records f) trees) (Put c.doc-doc.result c.in-Put.items)) (c.read_document.ensures.same ∙ c.count_documents-total.ensures.same) c.put_document.ensures.counts in
+    let here = subst (λ f. MakesOperation c.args.dense (ledger f) (ledger new) fields (table_at (records f) trees) (Put c.doc-doc.result c.in-Put.items))
+        (c.read_document.ensures.same ∙ c.count_documents-total.ensures.same) c.put_document.ensures.counts in
     subst (λ o. MakesOperation c.args.dense (ledger old) (ledger new) fields (table_at (records old) trees) o) (ap (λ d. Put d c.in-Put.items) (c.doc-doc.ensures.doc ∙ ap op_doc c.in-Put.is) ∙ sym c.in-Put.is) here
 
 pub returns-in-Put-clause-spares : goal.returns-in-Put-clause-spares
@@ -192,9 +198,11 @@ returns-in-Put-clause-spares g c =
     let trees = trees_of fields c.args.roots.now in
     let new = c.put_document.new.store in
     let old = c.args.store.now in
-    let here = subst (λ f. IfErr c.put_document.result (SparesOperation c.args.dense (ledger new) fields (table_at (records f) trees) (Put c.doc-doc.result c.in-Put.items))) (c.read_document.ensures.same ∙ c.count_documents-total.ensures.same)
+    let here = subst (λ f. IfErr c.put_document.result (SparesOperation c.args.dense (ledger new) fields (table_at (records f) trees) (Put c.doc-doc.result c.in-Put.items)))
+        (c.read_document.ensures.same ∙ c.count_documents-total.ensures.same)
     c.put_document.ensures.spares in
-    subst (λ o. IfErr c.put_document.result (SparesOperation c.args.dense (ledger new) fields (table_at (records old) trees) o)) (ap (λ d. Put d c.in-Put.items) (c.doc-doc.ensures.doc ∙ ap op_doc c.in-Put.is) ∙ sym c.in-Put.is) here
+    subst (λ o. IfErr c.put_document.result (SparesOperation c.args.dense (ledger new) fields (table_at (records old) trees) o))
+        (ap (λ d. Put d c.in-Put.items) (c.doc-doc.ensures.doc ∙ ap op_doc c.in-Put.is) ∙ sym c.in-Put.is) here
 
 pub returns-in-Update-clause-counts : goal.returns-in-Update-clause-counts
 returns-in-Update-clause-counts g c =
@@ -204,7 +212,8 @@ returns-in-Update-clause-counts g c =
     let trees = trees_of fields c.args.roots.now in
     let new = c.update_document.new.store in
     let old = c.args.store.now in
-    let here = subst (λ f. MakesOperation c.args.dense (ledger f) (ledger new) fields (table_at (records f) trees) (Update c.doc-doc.result c.in-Update.create c.as_slice.result.now)) (c.read_document.ensures.same ∙ c.count_documents-total.ensures.same)
+    let here = subst (λ f. MakesOperation c.args.dense (ledger f) (ledger new) fields (table_at (records f) trees) (Update c.doc-doc.result c.in-Update.create c.as_slice.result.now))
+        (c.read_document.ensures.same ∙ c.count_documents-total.ensures.same)
     c.update_document.ensures.counts in
     subst (λ o. MakesOperation c.args.dense (ledger old) (ledger new) fields (table_at (records old) trees) o) (ap (λ changes. Update c.doc-doc.result c.in-Update.create changes) c.as_slice.ensures
     ∙ ap (λ d. Update d c.in-Update.create c.in-Update.change) (c.doc-doc.ensures.doc ∙ ap op_doc c.in-Update.is) ∙ sym c.in-Update.is) here
@@ -230,7 +239,8 @@ returns-clause-counts g c =
     let trees = trees_of fields c.args.roots.now in
     let new = c.remove_document.new.store in
     let old = c.args.store.now in
-    let here = subst (λ f. MakesOperation c.args.dense (ledger f) (ledger new) fields (table_at (records f) trees) (Remove c.doc-doc.result)) (c.read_document.ensures.same ∙ c.count_documents-total.ensures.same) c.remove_document.ensures.counts in
+    let here = subst (λ f. MakesOperation c.args.dense (ledger f) (ledger new) fields (table_at (records f) trees) (Remove c.doc-doc.result))
+        (c.read_document.ensures.same ∙ c.count_documents-total.ensures.same) c.remove_document.ensures.counts in
     subst (λ o. MakesOperation c.args.dense (ledger old) (ledger new) fields (table_at (records old) trees) o) (ap Remove (c.doc-doc.ensures.doc ∙ ap op_doc c.in-Remove.is) ∙ sym c.in-Remove.is) here
 
 pub returns-clause-spares : goal.returns-clause-spares
@@ -241,7 +251,8 @@ returns-clause-spares g c =
     let trees = trees_of fields c.args.roots.now in
     let new = c.remove_document.new.store in
     let old = c.args.store.now in
-    let here = subst (λ f. IfErr c.remove_document.result (SparesOperation c.args.dense (ledger new) fields (table_at (records f) trees) (Remove c.doc-doc.result))) (c.read_document.ensures.same ∙ c.count_documents-total.ensures.same) c.remove_document.ensures.spares in
+    let here = subst (λ f. IfErr c.remove_document.result (SparesOperation c.args.dense (ledger new) fields (table_at (records f) trees) (Remove c.doc-doc.result)))
+        (c.read_document.ensures.same ∙ c.count_documents-total.ensures.same) c.remove_document.ensures.spares in
     subst (λ o. IfErr c.remove_document.result (SparesOperation c.args.dense (ledger new) fields (table_at (records old) trees) o)) (ap Remove (c.doc-doc.ensures.doc ∙ ap op_doc c.in-Remove.is) ∙ sym c.in-Remove.is) here
 
 pub returns-in-Put-clause-widths : goal.returns-in-Put-clause-widths
@@ -250,7 +261,8 @@ returns-in-Put-clause-widths g c =
     let fields = c.args.fields.now in
     let trees = trees_of fields c.args.roots.now in
     let old = c.args.store.now in
-    let here = subst (λ f. IfErr c.put_document.result (IsFullAmong (IsOperationWidth c.args.dense fields (table_at (records f) trees) (Put c.doc-doc.result c.in-Put.items)))) (c.read_document.ensures.same ∙ c.count_documents-total.ensures.same)
+    let here = subst (λ f. IfErr c.put_document.result (IsFullAmong (IsOperationWidth c.args.dense fields (table_at (records f) trees) (Put c.doc-doc.result c.in-Put.items))))
+        (c.read_document.ensures.same ∙ c.count_documents-total.ensures.same)
     c.put_document.ensures.widths in
     subst (λ o. IfErr c.put_document.result (IsFullAmong (IsOperationWidth c.args.dense fields (table_at (records old) trees) o)))
     (ap (λ d. Put d c.in-Put.items) (c.doc-doc.ensures.doc ∙ ap op_doc c.in-Put.is) ∙ sym c.in-Put.is) here
@@ -272,8 +284,10 @@ returns-clause-widths g c =
     let fields = c.args.fields.now in
     let trees = trees_of fields c.args.roots.now in
     let old = c.args.store.now in
-    let here = subst (λ f. IfErr c.remove_document.result (IsFullAmong (IsOperationWidth c.args.dense fields (table_at (records f) trees) (Remove c.doc-doc.result)))) (c.read_document.ensures.same ∙ c.count_documents-total.ensures.same) c.remove_document.ensures.widths in
-    subst (λ o. IfErr c.remove_document.result (IsFullAmong (IsOperationWidth c.args.dense fields (table_at (records old) trees) o))) (ap Remove (c.doc-doc.ensures.doc ∙ ap op_doc c.in-Remove.is) ∙ sym c.in-Remove.is) here
+    let here = subst (λ f. IfErr c.remove_document.result (IsFullAmong (IsOperationWidth c.args.dense fields (table_at (records f) trees) (Remove c.doc-doc.result))))
+        (c.read_document.ensures.same ∙ c.count_documents-total.ensures.same) c.remove_document.ensures.widths in
+    subst (λ o. IfErr c.remove_document.result (IsFullAmong (IsOperationWidth c.args.dense fields (table_at (records old) trees) o)))
+        (ap Remove (c.doc-doc.ensures.doc ∙ ap op_doc c.in-Remove.is) ∙ sym c.in-Remove.is) here
 
 pub returns-in-Put-clause-forms : goal.returns-in-Put-clause-forms
 returns-in-Put-clause-forms g c = c.put_document.ensures.forms
