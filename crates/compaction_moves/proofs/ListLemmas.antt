@@ -43,7 +43,8 @@ use Rattle.value_index.proofs.StepLemmas.{open_next, word_some}
 use Rattle.compaction_moves.specs.IndexMoves.{move_most, word_most, FormIsApart, MovesList, MovesWord}
 use Rattle.compaction_moves.proofs.BlockLemmas.{form_block_same}
 use Rattle.compaction_moves.proofs.IndexKeyLemmas.{key_of}
-use Rattle.compaction_moves.proofs.IndexSetLemmas.{IsReady, key_stays, list_stays, ready_dictionary, ready_owns, rest_stays, set_docs, set_index, set_is, set_key, set_list, set_owns, set_pairs, set_plain, set_rest, set_turns}
+use Rattle.compaction_moves.proofs.IndexSetLemmas.{IsReady, key_stays, list_stays, ready_dictionary, ready_owns, rest_stays, set_docs, set_index}
+use Rattle.compaction_moves.proofs.IndexSetLemmas.{set_is, set_key, set_list, set_owns, set_pairs, set_plain, set_rest, set_turns}
 use Rattle.compaction_moves.proofs.WordLemmas.{form_same}
 
 -- a pair put in its own place

@@ -93,7 +93,8 @@ returns-in-None-clause-counts g c =
 pub returns-in-None-clause-refuses : goal.returns-in-None-clause-refuses
 returns-in-None-clause-refuses g c =
     let ledger = g.S.Store.ledger in
-    subst (λ (f : g.row.S.Denot). IfErr c.move_missing.result (RefusesOf (IsUsedWidth (ledger f) (g.S.Frozen.records f)) (ledger f) (ledger c.move_missing.new.store))) c.find_block.ensures.same c.move_missing.ensures.refuses
+    subst (λ (f : g.row.S.Denot). IfErr c.move_missing.result (RefusesOf (IsUsedWidth (ledger f) (g.S.Frozen.records f)) (ledger f) (ledger c.move_missing.new.store)))
+    c.find_block.ensures.same c.move_missing.ensures.refuses
 
 pub returns-in-None-clause-may : goal.returns-in-None-clause-may
 returns-in-None-clause-may g c =

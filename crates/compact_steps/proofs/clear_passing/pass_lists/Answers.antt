@@ -85,7 +85,8 @@ returns-in-Some-clause-passes g c =
     (subst (λ (f : g.row.F.Denot). IsRun (StandsApart bits c.victim.result kind (records f) sights.List) (pairs_from (records f) c.upper-cursor.result) count last) same c.run_from-run.ensures.run)) in
     let read = c.in-Some.ensures.value ∙ ap (λ (f : g.row.F.Denot). stored_value type (records f) last) (c.run_from-run.ensures.same ∙ same) in
     subst (λ v. Passes bits c.args.plan.now.victim at m a (Pair v 0) count) (sym read)
-    (lists_pass bits c.args.plan.now.victim at m a count last (let some = c.if-run-eq0.false in omega arith) c.args.value.now c.args.doc c.requires (c.has_long.ensures.plain c.if-has_long.false) (c.has_long.ensures.even c.if-has_long.false) run)
+    (lists_pass bits c.args.plan.now.victim at m a count last (let some = c.if-run-eq0.false in omega arith) c.args.value.now c.args.doc c.requires
+    (c.has_long.ensures.plain c.if-has_long.false) (c.has_long.ensures.even c.if-has_long.false) run)
 
 pub returns-in-Some-clause-few : goal.returns-in-Some-clause-few
 returns-in-Some-clause-few g c = c.run_from-run.ensures.few

@@ -84,7 +84,8 @@ returns-in-Err-clause-spares g c =
     let ledger = g.S.Store.ledger in
     let among = IsUsedWidth (ledger c.begin.new.self) (g.S.Frozen.records c.begin.new.self) in
     let a = trees_of_field c.args.field.now c.args.own in
-    spares_begun among a.kind a.type (column_at a.kind a.type (g.S.Frozen.records c.begin.new.self) a.documents) (ledger c.args.store.now) (ledger c.begin.new.self) (ledger c.move_one.new.store) (ledger c.undo.new.self) c.begin.ensures.ledger c.move_one.ensures.counts
+    spares_begun among a.kind a.type (column_at a.kind a.type (g.S.Frozen.records c.begin.new.self) a.documents) (ledger c.args.store.now)
+    (ledger c.begin.new.self) (ledger c.move_one.new.store) (ledger c.undo.new.self) c.begin.ensures.ledger c.move_one.ensures.counts
     (g.S.Frozen.records c.args.store.now) (g.S.Frozen.records c.undo.new.self) c.in-Err.error (g.met.S.Store.settled c.args.store.now c.requires.holds.unit)
     c.in-Err.ensures.refuses c.undo.ensures
 
@@ -111,7 +112,8 @@ returns-in-Ok-clause-counts g c =
     let ledger = g.S.Store.ledger in
     let records = g.S.Frozen.records in
     let a = trees_of_field c.args.field.now c.args.own in
-    let made = subst (λ (f : Records). MakesKey (IsPlainIndex f a.dictionary) a.kind a.type (column_at a.kind a.type f a.documents) (ledger c.begin.new.self) (ledger c.move_one.new.store)) c.begin.ensures.records c.move_one.ensures.counts in
+    let made = subst (λ (f : Records). MakesKey (IsPlainIndex f a.dictionary) a.kind a.type (column_at a.kind a.type f a.documents) (ledger c.begin.new.self) (ledger c.move_one.new.store))
+    c.begin.ensures.records c.move_one.ensures.counts in
     key_unit a.kind a.type (column_at a.kind a.type (records c.args.store.now) a.documents) (ledger c.args.store.now) (ledger c.begin.new.self) (ledger c.move_one.new.store) (ledger c.accept.new.self)
     c.begin.ensures.ledger made (records c.accept.new.self) c.accept.ensures.counts (g.met.S.Store.settled c.accept.new.self c.accept.ensures.unit)
 
@@ -120,6 +122,7 @@ returns-in-Err-clause-counts g c =
     let ledger = g.S.Store.ledger in
     let records = g.S.Frozen.records in
     let a = trees_of_field c.args.field.now c.args.own in
-    let made = subst (λ (f : Records). MakesKey (IsPlainIndex f a.dictionary) a.kind a.type (column_at a.kind a.type f a.documents) (ledger c.begin.new.self) (ledger c.move_one.new.store)) c.begin.ensures.records c.move_one.ensures.counts in
+    let made = subst (λ (f : Records). MakesKey (IsPlainIndex f a.dictionary) a.kind a.type (column_at a.kind a.type f a.documents) (ledger c.begin.new.self) (ledger c.move_one.new.store))
+    c.begin.ensures.records c.move_one.ensures.counts in
     key_unit a.kind a.type (column_at a.kind a.type (records c.args.store.now) a.documents) (ledger c.args.store.now) (ledger c.begin.new.self) (ledger c.move_one.new.store) (ledger c.undo.new.self)
     c.begin.ensures.ledger made (records c.undo.new.self) c.undo.ensures.counts (g.met.S.Store.settled c.undo.new.self c.undo.ensures.unit)

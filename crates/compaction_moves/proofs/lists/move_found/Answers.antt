@@ -53,7 +53,8 @@ returns-in_err-next-clause-counts g c =
     let a = g.S.Store.ledger c.args.store.now in
     let b = g.S.Store.ledger c.move_word.new.store in
     let count : ℕ = length (list_of value (index_of (type_of value) m root)) in
-    let made = subst (λ k. MakesWithin a b (word_most (is_vector list) (list_levels m list) k)) (ap (λ (ds : Docs). length ds) (list_is value m root c.requires.index c.args.key list c.requires.found)) c.move_word.ensures.counts in
+    let made = subst (λ k. MakesWithin a b (word_most (is_vector list) (list_levels m list) k))
+    (ap (λ (ds : Docs). length ds) (list_is value m root c.requires.index c.args.key list c.requires.found)) c.move_word.ensures.counts in
     within_more a b (word_most (is_vector list) (list_levels m list) count) (move_most value m root count)
     (λ w. let e = most_found value m root c.args.key list count w c.requires.found in omega arith) made
 
@@ -81,7 +82,8 @@ returns-then-next-list-clause-counts g c =
     let a = g.S.Store.ledger c.args.store.now in
     let b = g.S.Store.ledger c.move_word.new.store in
     let count : ℕ = length (list_of value (index_of (type_of value) m root)) in
-    let made = subst (λ k. MakesWithin a b (word_most (is_vector list) (list_levels m list) k)) (ap (λ (ds : Docs). length ds) (list_is value m root c.requires.index c.args.key list c.requires.found)) c.move_word.ensures.counts in
+    let made = subst (λ k. MakesWithin a b (word_most (is_vector list) (list_levels m list) k))
+    (ap (λ (ds : Docs). length ds) (list_is value m root c.requires.index c.args.key list c.requires.found)) c.move_word.ensures.counts in
     within_more a b (word_most (is_vector list) (list_levels m list) count) (move_most value m root count)
     (λ w. let e = most_found value m root c.args.key list count w c.requires.found in omega arith) made
 
@@ -155,7 +157,8 @@ returns-clause-counts g c =
     let n = records c.move_word.new.store in
     let next = c.in_ok-next.next in
     let count : ℕ = length (list_of value (index_of (type_of value) m root)) in
-    let made = subst (λ k. MakesWithin a b (word_most (is_vector list) (list_levels m list) k)) (ap (λ (ds : Docs). length ds) (list_is value m root c.requires.index key list c.requires.found)) c.move_word.ensures.counts in
+    let made = subst (λ k. MakesWithin a b (word_most (is_vector list) (list_levels m list) k))
+    (ap (λ (ds : Docs). length ds) (list_is value m root c.requires.index key list c.requires.found)) c.move_word.ensures.counts in
     let ready = list_ready g.row.OFFSET_BITS c.args.buffer c.args.doc value a b m n root key list next c.requires.index c.requires.owns c.requires.found c.in_ok-next.ensures.moves in
     let nodes = within_tree b d m n root (2 * levels n root + 1) ready.nodes (omega arith) c.set.ensures.counts in
     within_more a d (λ w. word_most (is_vector list) (list_levels m list) count w + nodes_most (levels m root) w) (move_most value m root count)

@@ -99,7 +99,8 @@ returns-clause-makes g c =
     let again = to_z-of_z w32 c.args.weight c.ranges.weight in
     let u = c.by_rule.new.store in
     let makes = subst (λ (w : ℤ). MakesList (ledger s) (ledger t) (records s) (records t) c.args.list (insert_entry nat_cmp es c.args.doc w) was c.in_ok-next.next) again c.in_ok-next.ensures.makes in
-    rule_makes (ledger s) (ledger t) (ledger u) (records s) (records t) (records u) c.args.list c.in_ok-next.next docs was makes c.add_in_form.ensures.may c.by_rule.ensures.may c.by_rule.result c.args.dense c.args.documents c.by_rule.ensures.makes
+    rule_makes (ledger s) (ledger t) (ledger u) (records s) (records t) (records u) c.args.list c.in_ok-next.next docs was makes
+    c.add_in_form.ensures.may c.by_rule.ensures.may c.by_rule.result c.args.dense c.args.documents c.by_rule.ensures.makes
 
 pub returns-clause-counts : goal.returns-clause-counts
 returns-clause-counts g c =

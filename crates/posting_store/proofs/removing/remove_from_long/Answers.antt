@@ -85,7 +85,8 @@ returns-clause-makes g c =
     let docs = remove_entry (is_at (nat_cmp c.args.doc)) es in
     let was = is_vector c.args.list in
     let u = c.by_rule.new.store in
-    rule_makes (ledger s) (ledger t) (ledger u) (records s) (records t) (records u) c.args.list c.in_ok-next.next docs was c.in_ok-next.ensures.makes c.remove_in_form.ensures.may c.by_rule.ensures.may c.by_rule.result c.args.dense c.args.documents c.by_rule.ensures.makes
+    rule_makes (ledger s) (ledger t) (ledger u) (records s) (records t) (records u) c.args.list c.in_ok-next.next docs was c.in_ok-next.ensures.makes
+    c.remove_in_form.ensures.may c.by_rule.ensures.may c.by_rule.result c.args.dense c.args.documents c.by_rule.ensures.makes
 
 pub returns-clause-counts : goal.returns-clause-counts
 returns-clause-counts g c =

@@ -354,7 +354,8 @@ returns-clause-makes g c =
     c.as_slice.ensures c.compact-plan.ensures.counts in
     let made = subst (λ (xs : List (FieldRoots g.row.OFFSET_BITS)). MakesKeys (ArePlain (records old) (trees_of fields xs)) fields (table_at (records old) (trees_of fields xs)) (ledger old) (ledger new) c.args.keys)
     c.deref_mut.ensures.value first in
-    let plain = keys_plain fields (table_at (records old) trees) (ledger old) (ledger new) c.args.keys (plain_by inside.dense (records old) fields trees c.self.invariant.stands.holds.are_fields c.self.invariant.forms) made in
+    let plain = keys_plain fields (table_at (records old) trees) (ledger old) (ledger new) c.args.keys
+    (plain_by inside.dense (records old) fields trees c.self.invariant.stands.holds.are_fields c.self.invariant.forms) made in
     subst (λ (v : AttributeView g.row.S.Denot). MakesKeys (HasNoVectors v.dense v.table) v.fields v.table (ledger v.store) (ledger new) c.args.keys) c.self.view_is plain
 
 pub returns-then-self-clause-dense : goal.returns-then-self-clause-dense
