@@ -100,8 +100,14 @@ module _ {S H : Type 0} (ledger : S → Ledger H) where
   }
 
   pub stays_on : (a b c : AttributeView S) → StaysIn ledger a b → StaysIn ledger b c → StaysIn ledger a c
-  stays_on a b c first second = record { home = second.home ∙ first.home; sizes = second.sizes ∙ first.sizes; readers = second.readers ∙ first.readers; fields = second.fields ∙ first.fields; dense = second.dense
-      ∙ first.dense }
+  stays_on a b c first second = record {
+    home = second.home ∙ first.home;
+    sizes = second.sizes ∙ first.sizes;
+    readers = second.readers ∙ first.readers;
+    fields = second.fields ∙ first.fields;
+    dense = second.dense
+        ∙ first.dense;
+  }
 
   pub keeps_on : (a b c : AttributeView S) → KeepsCommit ledger a b → KeepsCommit ledger b c → KeepsCommit ledger a c
   keeps_on a b c first second = record {

@@ -328,7 +328,7 @@ module _ {S H : Type 0} (ledger : S → Ledger H) where
           })
           made_now.has
           (within_filled (ledger c.store).work.sizes.words made_now.most (λ width. ((ledger c.store).of_width width).made) (λ width. ((ledger c.store).of_width width).buffers)
-              (made_now.within (λ on. absurd (true≢false (sym on ∙ off)))) few)
+          (made_now.within (λ on. absurd (true≢false (sym on ∙ off)))) few)
           (omega (arith, counted, free))
 
       pub owed_at : IsOwed (load_of (ledger start.store).work.sizes.buffers (ledger start.store).work.sizes.words start.fields batch ops) (count + before) count

@@ -172,7 +172,7 @@ module _ {S H : Type 0} (ledger : S → Ledger H) (batch : ℕ) (ops : List Op) 
         (subst (λ (fs : List Field). LeavesRoom (ledger start.store).work.sizes.words (is_single_long fs) after) (sym fields) left) in
         let parts = subst (λ (xs : List Op). LeavesRoom (ledger b.store).work.sizes.words (is_single_long b.fields) (after_root (after_values runs.steps (values_of b.fields b.table xs)))
         → AreSparse b.dense (after_root (after_values runs.steps (values_of b.fields b.table xs))) → (c.plan ≡ None) × IsMade c.dense (ledger c.store) c.fields c.table
-            (after_root (after_values runs.steps (values_of b.fields b.table xs)))) (sym whole)
+        (after_root (after_values runs.steps (values_of b.fields b.table xs)))) (sym whole)
         (room.1 runs.plan runs.steps runs.made) here (sparse_now b.dense (ledger start.store).work.sizes.buffers (ledger start.store).work.sizes.words small) in
         record {
           plan = parts.0;

@@ -206,7 +206,7 @@ module _ {S H : Type 0} (ledger : S → Ledger H) (batch : ℕ) (ops : List Op) 
 
     pub finds_no_room : (c : AttributeView S) (before active held : ℕ) → 0 < batch → FindsNoRoom ledger b c part before active held
         → (start.dense ≡ false → length start.fields ≡ 1 → HasMadeNothing (ledger start.store) → IsOwed (load_of (ledger start.store).work.sizes.buffers (ledger start.store).work.sizes.words start.fields batch ops)
-            (count + before) count)
+        (count + before) count)
         → (length start.fields ≡ 1 → HasMadeNothing (ledger start.store) → start.plan ≡ None → 8 ≤ (ledger start.store).work.sizes.buffers
         → ¬ IsSmall (load_of (ledger start.store).work.sizes.buffers (ledger start.store).work.sizes.words start.fields batch ops))
         → current (ledger c.store).work ≤ (ledger c.store).work.commits.last

@@ -144,7 +144,7 @@ module _ {bits : ℕ} {H : Type 0} (begun now : Ledger H) (k m : Records) (field
         is = subst (λ (c : Column). IsFieldWidth (wants dense field.kind) field.kind c (items_if_there old i) (items_if_there new i) w) column
             (subst (λ (items : List Item). IsFieldWidth (wants dense field.kind) field.kind (with_change (column_at field.kind field.value m root.documents) doc after) items (items_if_there new i) w) was
             (subst (λ (items : List Item). IsFieldWidth (wants dense field.kind) field.kind (with_change (column_at field.kind field.value m root.documents) doc after) before items w)
-                (ap (λ (a : Option (List Item)). unwrap_or a []) next) is));
+            (ap (λ (a : Option (List Item)). unwrap_or a []) next) is));
       }
 
   -- the walk goes on

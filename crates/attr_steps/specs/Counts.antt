@@ -45,7 +45,8 @@ document_records fields table doc old new (suc field) width = document_records f
 abbrev pub document_forms : Bool → List Field → Table → ℕ → Option Document → Option Document → ℕ → ℕ → ℕ
 document_forms dense fields table doc old new zero width = 0
 document_forms dense fields table doc old new (suc field) width = document_forms dense fields table doc old new field width
-    + change_forms (wants dense (kind_at fields field)) (column_of field table) doc (items_if_there old field) (items_if_there new field) width
+    + change_forms (wants dense (kind_at fields field)) (column_of field table) doc (items_if_there old field)
+    (items_if_there new field) width
 
 -- no tree of the first attributes gets more levels while the document is changed to this one, by the number of values
 -- and of documents of each

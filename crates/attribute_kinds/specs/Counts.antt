@@ -45,7 +45,8 @@ HasNoVectors dense table = dense ≡ true → length table < LEAST_DENSE
 pub record SparesFew {H : Type 0} (dense : Bool) (new : Ledger H) (fields : List Field) (table : Table) (op : Op) (width : ℕ)
     : Type 0 where
   pub few : (new.of_width width).spare
-      ≤ besides (by_width (operation_nodes fields table op) (operation_records fields table op)) (operation_forms dense fields table op) width
+      ≤ besides (by_width (operation_nodes fields table op) (operation_records fields table op))
+      (operation_forms dense fields table op) width
   pub one : IsSparse dense fields table op → length fields ≡ 1
       → (new.of_width width).spare < 34 * (operation_values fields table op + 1)
 

@@ -1,4 +1,5 @@
-ghost use Rattle.std.specs.Prelude.{◌≡◌, ℕ, ◌<◌, ◌≤◌, ◌+◌, ◌-◌, ◌*◌, ◌^◌, [], None, false, length, IfOk, IfErr, OnOk, OnErr, Ok, Err, replicate};
+ghost use Rattle.std.specs.Prelude.{◌≡◌, ℕ, ◌<◌, ◌≤◌, ◌+◌, ◌-◌, ◌*◌, ◌^◌, [], None, false, length};
+ghost use Rattle.std.specs.Prelude.{IfOk, IfErr, OnOk, OnErr, Ok, Err, replicate};
 ghost use Rattle.entry_ref.specs.Images.{words_at};
 ghost use Rattle.arena_api.specs.Calls.{IsFresh, told_after};
 ghost use Rattle.arena_api.specs.Works.{last_image};

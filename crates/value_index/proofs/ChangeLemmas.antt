@@ -122,8 +122,13 @@ module _ {H : Type 0} (value : Value) (a b : Ledger H) (m n : Records) (root key
       pairs_are = makes.pairs_are ∙ are ∙ open_put
 
       new_pair : IsValuePair o (key, word)
-      new_pair = record { key = is.key_some; some = some; list_is = IsList-same n o word tree_step.stay.1.0 is.list_is; long = λ vector. subst {A = List (ℕ × ℤ)} (λ ds. LEAST_DENSE ≤ length ds)
-          (sym (list_at-same n o word tree_step.stay.1.0)) (is.long vector) }
+      new_pair = record {
+        key = is.key_some;
+        some = some;
+        list_is = IsList-same n o word tree_step.stay.1.0 is.list_is;
+        long = λ vector. subst {A = List (ℕ × ℤ)} (λ ds. LEAST_DENSE ≤ length ds)
+            (sym (list_at-same n o word tree_step.stay.1.0)) (is.long vector);
+      }
 
       index_set : IsIndex type o next
       index_set = record {

@@ -46,8 +46,9 @@ fn add_new<const OFFSET_BITS: u32, S: Store<OFFSET_BITS>>(
         (S.records store.old) (S.records store.new) root.entry
         (with_posting value.now doc weight (index_of (type_of value.now) (S.records store.old) root.entry))) }
     ensures plain { IfOk result (λ next. dense ≡ false → IsPlainIndex (S.records store.new) next) }
-    ensures counts { MakesWithin (S.ledger store.old) (S.ledger store.new) (add_most value.now (S.records store.old) root.entry dense documents
-        (insert_entry nat_cmp (list_of value.now (index_of (type_of value.now) (S.records store.old) root.entry)) doc weight)) }
+    ensures counts { MakesWithin (S.ledger store.old) (S.ledger store.new) (add_most value.now (S.records store.old) root.entry
+        dense documents (insert_entry nat_cmp
+        (list_of value.now (index_of (type_of value.now) (S.records store.old) root.entry)) doc weight)) }
     ensures refuses { IfErr result (RefusesOf (IsChangeWidth dense value.now
         (length (insert_entry nat_cmp (list_of value.now (index_of (type_of value.now) (S.records store.old) root.entry)) doc weight)))
         (S.ledger store.old) (S.ledger store.new)) }
@@ -84,8 +85,9 @@ fn add_more<const OFFSET_BITS: u32, S: Store<OFFSET_BITS>>(
         (S.records store.old) (S.records store.new) root.entry
         (with_posting value.now doc weight (index_of (type_of value.now) (S.records store.old) root.entry))) }
     ensures plain { IfOk result (λ next. dense ≡ false → IsPlainIndex (S.records store.new) next) }
-    ensures counts { MakesWithin (S.ledger store.old) (S.ledger store.new) (add_most value.now (S.records store.old) root.entry dense documents
-        (insert_entry nat_cmp (list_of value.now (index_of (type_of value.now) (S.records store.old) root.entry)) doc weight)) }
+    ensures counts { MakesWithin (S.ledger store.old) (S.ledger store.new) (add_most value.now (S.records store.old) root.entry
+        dense documents (insert_entry nat_cmp
+        (list_of value.now (index_of (type_of value.now) (S.records store.old) root.entry)) doc weight)) }
     ensures refuses { IfErr result (RefusesOf (IsChangeWidth dense value.now
         (length (insert_entry nat_cmp (list_of value.now (index_of (type_of value.now) (S.records store.old) root.entry)) doc weight)))
         (S.ledger store.old) (S.ledger store.new)) }
@@ -118,8 +120,9 @@ pub fn add<const OFFSET_BITS: u32, S: Store<OFFSET_BITS>>(
         (S.records store.old) (S.records store.new) root.entry
         (with_posting value.now doc weight (index_of (type_of value.now) (S.records store.old) root.entry))) }
     ensures plain { IfOk result (λ next. dense ≡ false → IsPlainIndex (S.records store.new) next) }
-    ensures counts { MakesWithin (S.ledger store.old) (S.ledger store.new) (add_most value.now (S.records store.old) root.entry dense documents
-        (insert_entry nat_cmp (list_of value.now (index_of (type_of value.now) (S.records store.old) root.entry)) doc weight)) }
+    ensures counts { MakesWithin (S.ledger store.old) (S.ledger store.new) (add_most value.now (S.records store.old) root.entry
+        dense documents (insert_entry nat_cmp
+        (list_of value.now (index_of (type_of value.now) (S.records store.old) root.entry)) doc weight)) }
     ensures refuses { IfErr result (RefusesOf (IsChangeWidth dense value.now
         (length (insert_entry nat_cmp (list_of value.now (index_of (type_of value.now) (S.records store.old) root.entry)) doc weight)))
         (S.ledger store.old) (S.ledger store.new)) }

@@ -51,7 +51,8 @@ fn remove_from<const OFFSET_BITS: u32, S: Store<OFFSET_BITS>>(
         (without_posting value.now doc (index_of (type_of value.now) (S.records store.old) root.entry))) }
     ensures plain { IfOk result (λ next. dense ≡ false → IsPlainIndex (S.records store.new) next) }
     ensures counts { MakesWithin (S.ledger store.old) (S.ledger store.new) (change_most value.now (S.records store.old) root.entry
-        dense documents (remove_entry (is_at (nat_cmp doc)) (list_of value.now (index_of (type_of value.now) (S.records store.old) root.entry)))) }
+        dense documents (remove_entry (is_at (nat_cmp doc))
+        (list_of value.now (index_of (type_of value.now) (S.records store.old) root.entry)))) }
     ensures refuses { IfErr result (RefusesOf (IsChangeWidth dense value.now
         (length (remove_entry (is_at (nat_cmp doc)) (list_of value.now (index_of (type_of value.now) (S.records store.old) root.entry)))))
         (S.ledger store.old) (S.ledger store.new)) }
@@ -89,7 +90,8 @@ pub fn remove<const OFFSET_BITS: u32, S: Store<OFFSET_BITS>>(
         (without_posting value.now doc (index_of (type_of value.now) (S.records store.old) root.entry))) }
     ensures plain { IfOk result (λ next. dense ≡ false → IsPlainIndex (S.records store.new) next) }
     ensures counts { MakesWithin (S.ledger store.old) (S.ledger store.new) (change_most value.now (S.records store.old) root.entry
-        dense documents (remove_entry (is_at (nat_cmp doc)) (list_of value.now (index_of (type_of value.now) (S.records store.old) root.entry)))) }
+        dense documents (remove_entry (is_at (nat_cmp doc))
+        (list_of value.now (index_of (type_of value.now) (S.records store.old) root.entry)))) }
     ensures refuses { IfErr result (RefusesOf (IsChangeWidth dense value.now
         (length (remove_entry (is_at (nat_cmp doc)) (list_of value.now (index_of (type_of value.now) (S.records store.old) root.entry)))))
         (S.ledger store.old) (S.ledger store.new)) }

@@ -143,7 +143,7 @@ returns-in_default-clause-counts g c =
     let column = column_at c.args.kind c.args.value_type (g.S.Frozen.records c.args.store.now) c.args.roots.documents in
     let records = change_records c.args.kind column c.args.doc c.args.old.now c.args.new.now in
     let most = besides (by_width (field_nodes (first_weights [] c.args.old.now) (first_weights [] c.args.new.now)) records)
-        (change_forms (wants c.args.dense c.args.kind) column c.args.doc c.args.old.now c.args.new.now) in
+    (change_forms (wants c.args.dense c.args.kind) column c.args.doc c.args.old.now c.args.new.now) in
     subst (λ s. MakesWithin (ledger c.args.store.now) (ledger s) most) (sym c.has_already.ensures.same) (within_none (ledger c.args.store.now) most)
 
 pub returns-then-same-clause-counts : goal.returns-then-same-clause-counts
@@ -152,7 +152,7 @@ returns-then-same-clause-counts g c =
     let column = column_at c.args.kind c.args.value_type (g.S.Frozen.records c.args.store.now) c.args.roots.documents in
     let records = change_records c.args.kind column c.args.doc c.args.old.now c.args.new.now in
     let most = besides (by_width (field_nodes (first_weights [] c.args.old.now) (first_weights [] c.args.new.now)) records)
-        (change_forms (wants c.args.dense c.args.kind) column c.args.doc c.args.old.now c.args.new.now) in
+    (change_forms (wants c.args.dense c.args.kind) column c.args.doc c.args.old.now c.args.new.now) in
     subst (λ s. MakesWithin (ledger c.args.store.now) (ledger s) most) (sym c.has_already.ensures.same) (within_none (ledger c.args.store.now) most)
 
 pub returns-in_default-weights_of-clause-counts : goal.returns-in_default-weights_of-clause-counts
@@ -161,7 +161,7 @@ returns-in_default-weights_of-clause-counts g c =
     let column = column_at c.args.kind c.args.value_type (g.S.Frozen.records c.args.store.now) c.args.roots.documents in
     let records = change_records c.args.kind column c.args.doc c.args.old.now c.args.new.now in
     let most = besides (by_width (field_nodes (first_weights [] c.args.old.now) (first_weights [] c.args.new.now)) records)
-        (change_forms (wants c.args.dense c.args.kind) column c.args.doc c.args.old.now c.args.new.now) in
+    (change_forms (wants c.args.dense c.args.kind) column c.args.doc c.args.old.now c.args.new.now) in
     subst (λ s. MakesWithin (ledger c.args.store.now) (ledger s) most) (sym c.has_already.ensures.same) (within_none (ledger c.args.store.now) most)
 
 pub returns-in_default-weights_of-2-clause-counts : goal.returns-in_default-weights_of-2-clause-counts
@@ -170,7 +170,7 @@ returns-in_default-weights_of-2-clause-counts g c =
     let column = column_at c.args.kind c.args.value_type (g.S.Frozen.records c.args.store.now) c.args.roots.documents in
     let records = change_records c.args.kind column c.args.doc c.args.old.now c.args.new.now in
     let most = besides (by_width (field_nodes (first_weights [] c.args.old.now) (first_weights [] c.args.new.now)) records)
-        (change_forms (wants c.args.dense c.args.kind) column c.args.doc c.args.old.now c.args.new.now) in
+    (change_forms (wants c.args.dense c.args.kind) column c.args.doc c.args.old.now c.args.new.now) in
     subst (λ s. MakesWithin (ledger c.args.store.now) (ledger s) most) (sym c.has_already.ensures.same) (within_none (ledger c.args.store.now) most)
 
 pub returns-clause-counts : goal.returns-clause-counts
@@ -188,11 +188,11 @@ returns-clause-counts g c =
     let form = λ (cs : Column) (old new : List (Value × ℤ)). field_forms c.wants-wanted.result cs doc old new in
     let column = column_at kind c.args.value_type (records c.args.store.now) c.args.roots.documents in
     subst (λ (b : Bool). MakesWithin (ledger c.args.store.now) new (besides (by_width (field_nodes first last) (field_records kind column doc count first last)) (field_forms b column doc first last)))
-        c.wants-wanted.ensures
+    c.wants-wanted.ensures
     (subst (λ (es : List (Value × ℤ)). MakesWithin (ledger c.args.store.now) new (besides (by_width (field_nodes first es) (field_records kind column doc count first es)) (form column first es)))
-        c.in-Ok-weights_of-2.ensures.weights
+    c.in-Ok-weights_of-2.ensures.weights
     (subst (λ (es : List (Value × ℤ)). MakesWithin (ledger c.args.store.now) new (besides (by_width (field_nodes es is) (field_records kind column doc count es is)) (form column es is)))
-        c.in-Ok-weights_of.ensures.weights
+    c.in-Ok-weights_of.ensures.weights
     (subst (λ s. MakesWithin (ledger s) new (besides (by_width (field_nodes was is) (field_records kind (column_at kind c.args.value_type (records s) c.args.roots.documents) doc count was is))
     (form (column_at kind c.args.value_type (records s) c.args.roots.documents) was is)))
     c.has_already.ensures.same c.put_weighed.ensures.counts)))
@@ -209,7 +209,7 @@ returns-in_default-clause-low g c =
     let records = change_records c.args.kind column c.args.doc c.args.old.now c.args.new.now in
     λ levels stays.
     let most = besides (by_width (low_nodes levels (first_weights [] c.args.old.now) (first_weights [] c.args.new.now)) records)
-        (change_forms (wants c.args.dense c.args.kind) column c.args.doc c.args.old.now c.args.new.now) in
+    (change_forms (wants c.args.dense c.args.kind) column c.args.doc c.args.old.now c.args.new.now) in
     subst (λ s. MakesWithin (ledger c.args.store.now) (ledger s) most) (sym c.has_already.ensures.same) (within_none (ledger c.args.store.now) most)
 
 pub returns-then-same-clause-low : goal.returns-then-same-clause-low
@@ -219,7 +219,7 @@ returns-then-same-clause-low g c =
     let records = change_records c.args.kind column c.args.doc c.args.old.now c.args.new.now in
     λ levels stays.
     let most = besides (by_width (low_nodes levels (first_weights [] c.args.old.now) (first_weights [] c.args.new.now)) records)
-        (change_forms (wants c.args.dense c.args.kind) column c.args.doc c.args.old.now c.args.new.now) in
+    (change_forms (wants c.args.dense c.args.kind) column c.args.doc c.args.old.now c.args.new.now) in
     subst (λ s. MakesWithin (ledger c.args.store.now) (ledger s) most) (sym c.has_already.ensures.same) (within_none (ledger c.args.store.now) most)
 
 pub returns-in_default-weights_of-clause-low : goal.returns-in_default-weights_of-clause-low
@@ -229,7 +229,7 @@ returns-in_default-weights_of-clause-low g c =
     let records = change_records c.args.kind column c.args.doc c.args.old.now c.args.new.now in
     λ levels stays.
     let most = besides (by_width (low_nodes levels (first_weights [] c.args.old.now) (first_weights [] c.args.new.now)) records)
-        (change_forms (wants c.args.dense c.args.kind) column c.args.doc c.args.old.now c.args.new.now) in
+    (change_forms (wants c.args.dense c.args.kind) column c.args.doc c.args.old.now c.args.new.now) in
     subst (λ s. MakesWithin (ledger c.args.store.now) (ledger s) most) (sym c.has_already.ensures.same) (within_none (ledger c.args.store.now) most)
 
 pub returns-in_default-weights_of-2-clause-low : goal.returns-in_default-weights_of-2-clause-low
@@ -239,7 +239,7 @@ returns-in_default-weights_of-2-clause-low g c =
     let records = change_records c.args.kind column c.args.doc c.args.old.now c.args.new.now in
     λ levels stays.
     let most = besides (by_width (low_nodes levels (first_weights [] c.args.old.now) (first_weights [] c.args.new.now)) records)
-        (change_forms (wants c.args.dense c.args.kind) column c.args.doc c.args.old.now c.args.new.now) in
+    (change_forms (wants c.args.dense c.args.kind) column c.args.doc c.args.old.now c.args.new.now) in
     subst (λ s. MakesWithin (ledger c.args.store.now) (ledger s) most) (sym c.has_already.ensures.same) (within_none (ledger c.args.store.now) most)
 
 pub returns-clause-low : goal.returns-clause-low
@@ -260,11 +260,11 @@ returns-clause-low g c =
     let here = subst (λ s. StaysLow levels (column_at c.args.kind c.args.value_type (records s) c.args.roots.documents) is) (sym c.has_already.ensures.same)
     (subst (λ (es : List (Value × ℤ)). StaysLow levels column es) (sym c.in-Ok-weights_of-2.ensures.weights) stays) in
     subst (λ (b : Bool). MakesWithin (ledger c.args.store.now) new (besides (by_width (low_nodes levels first last) (field_records kind column doc count first last)) (field_forms b column doc first last)))
-        c.wants-wanted.ensures
+    c.wants-wanted.ensures
     (subst (λ (es : List (Value × ℤ)). MakesWithin (ledger c.args.store.now) new (besides (by_width (low_nodes levels first es) (field_records kind column doc count first es)) (form column first es)))
-        c.in-Ok-weights_of-2.ensures.weights
+    c.in-Ok-weights_of-2.ensures.weights
     (subst (λ (es : List (Value × ℤ)). MakesWithin (ledger c.args.store.now) new (besides (by_width (low_nodes levels es is) (field_records kind column doc count es is)) (form column es is)))
-        c.in-Ok-weights_of.ensures.weights
+    c.in-Ok-weights_of.ensures.weights
     (subst (λ s. MakesWithin (ledger s) new (besides (by_width (low_nodes levels was is) (field_records kind (column_at kind c.args.value_type (records s) c.args.roots.documents) doc count was is))
     (form (column_at kind c.args.value_type (records s) c.args.roots.documents) was is)))
     c.has_already.ensures.same (c.put_weighed.ensures.low levels here))))

@@ -364,7 +364,7 @@ returns-in_err-documents-clause-low g c =
     let entry = c.set_items.ensures.low levels stays.some few in
     let last = ledger c.set_items.new.store in
     put_two kind column start doc count of old new c.args.dense (value_nodes levels * new_values old new) (2 * levels + 1) (value_nodes levels * lost_values old new) (ledger c.args.store.now)
-        (ledger c.add_values.new.store) last last c.add_values.ensures.may added entry
+    (ledger c.add_values.new.store) last last c.add_values.ensures.may added entry
 
 pub returns-in_err-dictionary-clause-low : goal.returns-in_err-dictionary-clause-low
 returns-in_err-dictionary-clause-low g c =

@@ -58,7 +58,7 @@ returns-clause-refuses g c =
     subst (λ (b : Bool). IfErr c.remove_weighed.result (RefusesOf (IsFieldWidth b kind (with_change column c.args.doc None) c.args.old.now []) (ledger c.args.store.now) (ledger c.remove_weighed.new.store)))
     c.wants-wanted.ensures
     (subst (λ (old : List Item). IfErr c.remove_weighed.result (RefusesOf (IsFieldWidth c.wants-wanted.result kind (with_change column c.args.doc None) old []) (ledger c.args.store.now)
-        (ledger c.remove_weighed.new.store)))
+    (ledger c.remove_weighed.new.store)))
     (sym c.requires.was) c.remove_weighed.ensures.refuses)
 
 pub returns-in_default-clause-counts : goal.returns-in_default-clause-counts

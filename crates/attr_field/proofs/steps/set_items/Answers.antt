@@ -136,7 +136,7 @@ returns-clause-form g c =
     (λ next. KeepsForm type m n dictionary) c.set_document.result c.set_document.ensures.makes
     (λ next makes. documents_form c.index_law.ensures.stays kind type old new m n documents dictionary next keys column c.requires.stands
     (subst (λ s. MakesDocuments kind type (ledger s) new (records s) n documents keys (with_change (column_at kind type (records s) documents) doc (Some items)) next) c.keys_of.ensures.same makes) kept
-        c.index_law.ensures.form)
+    c.index_law.ensures.form)
 
 pub returns-clause-refuses : goal.returns-clause-refuses
 returns-clause-refuses g c =

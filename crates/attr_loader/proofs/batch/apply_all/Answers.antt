@@ -35,7 +35,7 @@ loop-op-preserved g c =
       plan = h.plan ∙ i.plan;
       room = subst (λ (list : List Op). AddsSteps ledger start c.apply.new.self (λ steps. after_values steps (values_of start.fields start.table list))) (sym front)
           (room_on ledger start c.loop-op.attribute (λ steps. IsMade c.apply.new.self.dense (ledger c.apply.new.self.store) c.apply.new.self.fields c.apply.new.self.table steps)
-              (take c.loop-op.op-index ops) c.op-item.result
+          (take c.loop-op.op-index ops) c.op-item.result
           i.room i.applies.table i.applies.keeps.stays.fields
           (room_applied ledger c.loop-op.attribute c.apply.new.self c.op-item.result h.fields h.table h.dense
           (subst (λ (fs : List Field). OpFits fs c.op-item.result) (sym i.applies.keeps.stays.fields)

@@ -74,7 +74,7 @@ returns-in_err-next-clause-spares g c =
     let table = table_at (g.S.Frozen.records c.args.store.now) (trees_of fields c.args.roots.now) in
     let spares = of_operation fields table (Put c.args.doc c.args.items.now) (option_copied c.args.old) (Some c.args.items.now) c.requires.there (put_after fields table c.args.doc c.args.items.now)
     (λ was is. SparesAtMost (g.S.Store.ledger c.change_unit.new.store) (besides (by_width (document_nodes was is (length fields)) (document_records fields table c.args.doc was is (length fields)))
-        (document_forms c.args.dense fields table c.args.doc was is (length fields))) c.in_err-next.field-0.0) c.in_err-next.ensures.spares in
+    (document_forms c.args.dense fields table c.args.doc was is (length fields))) c.in_err-next.field-0.0) c.in_err-next.ensures.spares in
     let p = err_from_is_err_and c.from_residual.result c.from_residual.ensures.1 in rw (p.1, p.2) spares
 
 pub returns-clause-counts : goal.returns-clause-counts

@@ -55,8 +55,13 @@ put_document-requires g c =
           c.requires.sized,
           (
             subst (λ f. AreFields (records f) fields trees) same c.requires.fields,
-            (subst (λ f. HaveForms c.args.dense (records f) trees) same c.requires.forms, (subst (λ f. OwnsFields (ledger f) (records f) trees) same c.requires.owns,
-                (there, ((c.doc-doc.ensures.first, c.doc-doc.ensures.last), (subst (OpFits fields) c.in-Put.is c.requires.fits).1)))),
+            (
+              subst (λ f. HaveForms c.args.dense (records f) trees) same c.requires.forms,
+              (
+                subst (λ f. OwnsFields (ledger f) (records f) trees) same c.requires.owns,
+                (there, ((c.doc-doc.ensures.first, c.doc-doc.ensures.last), (subst (OpFits fields) c.in-Put.is c.requires.fits).1)),
+              ),
+            ),
           ),
         ),
       ),
@@ -71,7 +76,7 @@ returns-in-Put-clause-steps g c =
     let new = c.put_document.new.store in
     let old = c.args.store.now in
     let here = subst (λ f. Stepped fields (ledger f) (ledger new) (records f) (records new) trees (Put c.doc-doc.result c.in-Put.items) (new ≡ f) c.put_document.result)
-        (c.read_document.ensures.same ∙ c.count_documents-total.ensures.same)
+    (c.read_document.ensures.same ∙ c.count_documents-total.ensures.same)
     c.put_document.ensures.steps in
     subst (λ o. Stepped fields (ledger old) (ledger new) (records old) (records new) trees o (new ≡ old) c.put_document.result)
     (ap (λ d. Put d c.in-Put.items) (c.doc-doc.ensures.doc ∙ ap op_doc c.in-Put.is) ∙ sym c.in-Put.is) here
@@ -163,7 +168,7 @@ returns-clause-steps g c =
     let new = c.remove_document.new.store in
     let old = c.args.store.now in
     let here = subst (λ f. Stepped fields (ledger f) (ledger new) (records f) (records new) trees (Remove c.doc-doc.result) (new ≡ f) c.remove_document.result)
-        (c.read_document.ensures.same ∙ c.count_documents-total.ensures.same)
+    (c.read_document.ensures.same ∙ c.count_documents-total.ensures.same)
     c.remove_document.ensures.steps in
     subst (λ o. Stepped fields (ledger old) (ledger new) (records old) (records new) trees o (new ≡ old) c.remove_document.result) (ap Remove (c.doc-doc.ensures.doc ∙ ap op_doc c.in-Remove.is) ∙ sym c.in-Remove.is) here
 
@@ -187,7 +192,7 @@ returns-in-Put-clause-counts g c =
     let new = c.put_document.new.store in
     let old = c.args.store.now in
     let here = subst (λ f. MakesOperation c.args.dense (ledger f) (ledger new) fields (table_at (records f) trees) (Put c.doc-doc.result c.in-Put.items))
-        (c.read_document.ensures.same ∙ c.count_documents-total.ensures.same) c.put_document.ensures.counts in
+    (c.read_document.ensures.same ∙ c.count_documents-total.ensures.same) c.put_document.ensures.counts in
     subst (λ o. MakesOperation c.args.dense (ledger old) (ledger new) fields (table_at (records old) trees) o) (ap (λ d. Put d c.in-Put.items) (c.doc-doc.ensures.doc ∙ ap op_doc c.in-Put.is) ∙ sym c.in-Put.is) here
 
 pub returns-in-Put-clause-spares : goal.returns-in-Put-clause-spares
@@ -199,10 +204,10 @@ returns-in-Put-clause-spares g c =
     let new = c.put_document.new.store in
     let old = c.args.store.now in
     let here = subst (λ f. IfErr c.put_document.result (SparesOperation c.args.dense (ledger new) fields (table_at (records f) trees) (Put c.doc-doc.result c.in-Put.items)))
-        (c.read_document.ensures.same ∙ c.count_documents-total.ensures.same)
+    (c.read_document.ensures.same ∙ c.count_documents-total.ensures.same)
     c.put_document.ensures.spares in
     subst (λ o. IfErr c.put_document.result (SparesOperation c.args.dense (ledger new) fields (table_at (records old) trees) o))
-        (ap (λ d. Put d c.in-Put.items) (c.doc-doc.ensures.doc ∙ ap op_doc c.in-Put.is) ∙ sym c.in-Put.is) here
+    (ap (λ d. Put d c.in-Put.items) (c.doc-doc.ensures.doc ∙ ap op_doc c.in-Put.is) ∙ sym c.in-Put.is) here
 
 pub returns-in-Update-clause-counts : goal.returns-in-Update-clause-counts
 returns-in-Update-clause-counts g c =
@@ -213,7 +218,7 @@ returns-in-Update-clause-counts g c =
     let new = c.update_document.new.store in
     let old = c.args.store.now in
     let here = subst (λ f. MakesOperation c.args.dense (ledger f) (ledger new) fields (table_at (records f) trees) (Update c.doc-doc.result c.in-Update.create c.as_slice.result.now))
-        (c.read_document.ensures.same ∙ c.count_documents-total.ensures.same)
+    (c.read_document.ensures.same ∙ c.count_documents-total.ensures.same)
     c.update_document.ensures.counts in
     subst (λ o. MakesOperation c.args.dense (ledger old) (ledger new) fields (table_at (records old) trees) o) (ap (λ changes. Update c.doc-doc.result c.in-Update.create changes) c.as_slice.ensures
     ∙ ap (λ d. Update d c.in-Update.create c.in-Update.change) (c.doc-doc.ensures.doc ∙ ap op_doc c.in-Update.is) ∙ sym c.in-Update.is) here
@@ -240,7 +245,7 @@ returns-clause-counts g c =
     let new = c.remove_document.new.store in
     let old = c.args.store.now in
     let here = subst (λ f. MakesOperation c.args.dense (ledger f) (ledger new) fields (table_at (records f) trees) (Remove c.doc-doc.result))
-        (c.read_document.ensures.same ∙ c.count_documents-total.ensures.same) c.remove_document.ensures.counts in
+    (c.read_document.ensures.same ∙ c.count_documents-total.ensures.same) c.remove_document.ensures.counts in
     subst (λ o. MakesOperation c.args.dense (ledger old) (ledger new) fields (table_at (records old) trees) o) (ap Remove (c.doc-doc.ensures.doc ∙ ap op_doc c.in-Remove.is) ∙ sym c.in-Remove.is) here
 
 pub returns-clause-spares : goal.returns-clause-spares
@@ -252,7 +257,7 @@ returns-clause-spares g c =
     let new = c.remove_document.new.store in
     let old = c.args.store.now in
     let here = subst (λ f. IfErr c.remove_document.result (SparesOperation c.args.dense (ledger new) fields (table_at (records f) trees) (Remove c.doc-doc.result)))
-        (c.read_document.ensures.same ∙ c.count_documents-total.ensures.same) c.remove_document.ensures.spares in
+    (c.read_document.ensures.same ∙ c.count_documents-total.ensures.same) c.remove_document.ensures.spares in
     subst (λ o. IfErr c.remove_document.result (SparesOperation c.args.dense (ledger new) fields (table_at (records old) trees) o)) (ap Remove (c.doc-doc.ensures.doc ∙ ap op_doc c.in-Remove.is) ∙ sym c.in-Remove.is) here
 
 pub returns-in-Put-clause-widths : goal.returns-in-Put-clause-widths
@@ -262,7 +267,7 @@ returns-in-Put-clause-widths g c =
     let trees = trees_of fields c.args.roots.now in
     let old = c.args.store.now in
     let here = subst (λ f. IfErr c.put_document.result (IsFullAmong (IsOperationWidth c.args.dense fields (table_at (records f) trees) (Put c.doc-doc.result c.in-Put.items))))
-        (c.read_document.ensures.same ∙ c.count_documents-total.ensures.same)
+    (c.read_document.ensures.same ∙ c.count_documents-total.ensures.same)
     c.put_document.ensures.widths in
     subst (λ o. IfErr c.put_document.result (IsFullAmong (IsOperationWidth c.args.dense fields (table_at (records old) trees) o)))
     (ap (λ d. Put d c.in-Put.items) (c.doc-doc.ensures.doc ∙ ap op_doc c.in-Put.is) ∙ sym c.in-Put.is) here
@@ -285,9 +290,9 @@ returns-clause-widths g c =
     let trees = trees_of fields c.args.roots.now in
     let old = c.args.store.now in
     let here = subst (λ f. IfErr c.remove_document.result (IsFullAmong (IsOperationWidth c.args.dense fields (table_at (records f) trees) (Remove c.doc-doc.result))))
-        (c.read_document.ensures.same ∙ c.count_documents-total.ensures.same) c.remove_document.ensures.widths in
+    (c.read_document.ensures.same ∙ c.count_documents-total.ensures.same) c.remove_document.ensures.widths in
     subst (λ o. IfErr c.remove_document.result (IsFullAmong (IsOperationWidth c.args.dense fields (table_at (records old) trees) o)))
-        (ap Remove (c.doc-doc.ensures.doc ∙ ap op_doc c.in-Remove.is) ∙ sym c.in-Remove.is) here
+    (ap Remove (c.doc-doc.ensures.doc ∙ ap op_doc c.in-Remove.is) ∙ sym c.in-Remove.is) here
 
 pub returns-in-Put-clause-forms : goal.returns-in-Put-clause-forms
 returns-in-Put-clause-forms g c = c.put_document.ensures.forms

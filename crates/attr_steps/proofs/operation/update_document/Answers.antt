@@ -104,7 +104,7 @@ returns-in_err-next-clause-spares g c =
     let after = with_after fields table (Update c.args.doc c.args.create c.args.changes.now) c.args.doc c.in-Some.document made.1 in
     let spares = of_operation fields table (Update c.args.doc c.args.create c.args.changes.now) (option_copied c.args.old) (Some c.in-Some.document) c.requires.there after
     (λ was is. SparesAtMost (g.S.Store.ledger c.change_unit.new.store) (besides (by_width (document_nodes was is (length fields)) (document_records fields table c.args.doc was is (length fields)))
-        (document_forms c.args.dense fields table c.args.doc was is (length fields))) c.in_err-next.field-0.0) c.in_err-next.ensures.spares in
+    (document_forms c.args.dense fields table c.args.doc was is (length fields))) c.in_err-next.field-0.0) c.in_err-next.ensures.spares in
     let p = err_from_is_err_and c.from_residual.result c.from_residual.ensures.1 in rw (p.1, p.2) spares
 
 pub returns-clause-counts : goal.returns-clause-counts

@@ -77,7 +77,7 @@ returns-in-Ok-clause-counts g c =
     let ledger = g.S.Store.ledger in
     let trees = trees_of c.args.fields.now c.args.roots.now in
     let made = subst (λ f. MakesDocument c.args.dense (ledger c.begin.new.self) (ledger c.change_document.new.store) c.args.fields.now (table_at f trees) c.args.doc (option_copied c.args.old)
-        (option_copied c.args.new) (length c.args.fields.now))
+    (option_copied c.args.new) (length c.args.fields.now))
     c.begin.ensures.records c.change_document.ensures.counts in
     document_unit c.args.dense (ledger c.args.store.now) (ledger c.begin.new.self) (ledger c.change_document.new.store) (ledger c.accept.new.self) c.args.fields.now (table_at (g.S.Frozen.records c.args.store.now) trees)
     c.args.doc (option_copied c.args.old) (option_copied c.args.new) (length c.args.fields.now) c.begin.ensures.ledger made (g.S.Frozen.records c.accept.new.self) c.accept.ensures.counts
@@ -103,7 +103,7 @@ returns-in-Err-clause-refused g c =
     let ledger = g.S.Store.ledger in
     let mid = ledger c.change_document.new.store in
     let among : Records → ℕ → Type 0 = λ f. IsChangedWidth c.args.dense c.args.fields.now (table_with (table_at f (trees_of c.args.fields.now c.args.roots.now)) c.args.doc (option_copied c.args.new))
-        (option_copied c.args.old)
+    (option_copied c.args.old)
     (option_copied c.args.new) in
     refused_among (among (g.S.Frozen.records c.begin.new.self)) (ledger c.args.store.now) mid (ledger c.undo.new.self) c.in-Err.error c.undo.ensures.work c.undo.ensures.counts
     (subst (λ l. RefusesOf (among (g.S.Frozen.records c.begin.new.self)) l mid c.in-Err.error) c.begin.ensures.ledger c.in-Err.ensures.refuses)
@@ -113,7 +113,7 @@ returns-in-Err-clause-counts g c =
     let ledger = g.S.Store.ledger in
     let trees = trees_of c.args.fields.now c.args.roots.now in
     let made = subst (λ f. MakesDocument c.args.dense (ledger c.begin.new.self) (ledger c.change_document.new.store) c.args.fields.now (table_at f trees) c.args.doc (option_copied c.args.old)
-        (option_copied c.args.new) (length c.args.fields.now))
+    (option_copied c.args.new) (length c.args.fields.now))
     c.begin.ensures.records c.change_document.ensures.counts in
     document_unit c.args.dense (ledger c.args.store.now) (ledger c.begin.new.self) (ledger c.change_document.new.store) (ledger c.undo.new.self) c.args.fields.now (table_at (g.S.Frozen.records c.args.store.now) trees)
     c.args.doc (option_copied c.args.old) (option_copied c.args.new) (length c.args.fields.now) c.begin.ensures.ledger made (g.S.Frozen.records c.undo.new.self) c.undo.ensures.counts
@@ -123,7 +123,7 @@ pub returns-in-Err-clause-spares : goal.returns-in-Err-clause-spares
 returns-in-Err-clause-spares g c =
     let ledger = g.S.Store.ledger in
     let among : Records → ℕ → Type 0 = λ f. IsChangedWidth c.args.dense c.args.fields.now (table_with (table_at f (trees_of c.args.fields.now c.args.roots.now)) c.args.doc (option_copied c.args.new))
-        (option_copied c.args.old)
+    (option_copied c.args.old)
     (option_copied c.args.new) in
     let trees = trees_of c.args.fields.now c.args.roots.now in
     let old = option_copied c.args.old in
@@ -149,7 +149,7 @@ returns-in-Err-clause-widths g c =
     let ledger = g.S.Store.ledger in
     let records = g.S.Frozen.records in
     let among : Records → ℕ → Type 0 = λ f. IsChangedWidth c.args.dense c.args.fields.now (table_with (table_at f (trees_of c.args.fields.now c.args.roots.now)) c.args.doc (option_copied c.args.new))
-        (option_copied c.args.old)
+    (option_copied c.args.old)
     (option_copied c.args.new) in
     subst (λ f. IsFullAmong (among f) c.in-Err.error) c.begin.ensures.records
     (full_among (among (records c.begin.new.self)) (ledger c.begin.new.self) (ledger c.change_document.new.store) c.in-Err.error c.in-Err.ensures.refuses)

@@ -113,7 +113,7 @@ returns-clause-makes g c =
     let n = records c.add.new.store in
     let docs = insert_entry nat_cmp (list_at m list) c.args.doc c.args.weight in
     let makes = subst (λ (w : ℤ). MakesByRule c.args.dense c.args.documents a b m n list (insert_entry nat_cmp (list_at m list) c.args.doc w) next)
-        (to_z-of_z w32 c.args.weight c.ranges.weight) c.in_ok-next.ensures.makes in
+    (to_z-of_z w32 c.args.weight c.ranges.weight) c.in_ok-next.ensures.makes in
     let form = is_dense c.args.dense (length docs) c.args.documents in
     let is = open_next value m root c.requires.index key list c.requires.found a b n next docs form c.requires.owns makes (made_long c.args.dense (length docs) c.args.documents next makes.form) in
     let was = list_is value m root c.requires.index key list c.requires.found in
@@ -142,7 +142,7 @@ returns-clause-plain g c =
     let n = records c.add.new.store in
     let docs = insert_entry nat_cmp (list_at m list) c.args.doc c.args.weight in
     let makes = subst (λ (w : ℤ). MakesByRule c.args.dense c.args.documents a b m n list (insert_entry nat_cmp (list_at m list) c.args.doc w) next)
-        (to_z-of_z w32 c.args.weight c.ranges.weight) c.in_ok-next.ensures.makes in
+    (to_z-of_z w32 c.args.weight c.ranges.weight) c.in_ok-next.ensures.makes in
     let form = is_dense c.args.dense (length docs) c.args.documents in
     let is = open_next value m root c.requires.index key list c.requires.found a b n next docs form c.requires.owns makes (made_long c.args.dense (length docs) c.args.documents next makes.form) in
     let was = list_is value m root c.requires.index key list c.requires.found in
@@ -161,7 +161,7 @@ returns-clause-refuses g c =
     let m = g.S.Frozen.records c.args.store.now in
     let count : ℕ = length (insert_entry nat_cmp (list_of value (index_of (type_of value) m root)) c.args.doc c.args.weight) in
     if_one (IsChangeWidth c.args.dense value count) (ledger c.args.store.now) (ledger c.add.new.store) (ledger c.set.new.store) 34 c.set.result c.add.ensures.may refl
-        (node_change c.args.dense value count) c.set.ensures.refuses
+    (node_change c.args.dense value count) c.set.ensures.refuses
 
 pub returns-clause-may : goal.returns-clause-may
 returns-clause-may g c =

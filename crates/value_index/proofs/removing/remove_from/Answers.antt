@@ -165,7 +165,7 @@ returns-then-word-ne0-clause-refuses g c =
     let m = g.S.Frozen.records c.args.store.now in
     let count : ℕ = length (remove_entry (is_at (nat_cmp c.args.doc)) (list_of value (index_of (type_of value) m root))) in
     if_one (IsChangeWidth c.args.dense value count) (ledger c.args.store.now) (ledger c.remove.new.store) (ledger c.set.new.store) 34 c.set.result c.remove.ensures.may refl
-        (node_change c.args.dense value count) c.set.ensures.refuses
+    (node_change c.args.dense value count) c.set.ensures.refuses
 
 pub returns-then-word-ne0-clause-may : goal.returns-then-word-ne0-clause-may
 returns-then-word-ne0-clause-may g c =

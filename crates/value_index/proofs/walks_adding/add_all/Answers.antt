@@ -59,9 +59,9 @@ add-requires g c =
     let weight = c.in-Some.weight.now in
     let fits : SFits w32 weight = search rules in
     let listed = put_list (index_of type (records c.args.store.now) c.args.root) c.args.doc c.args.new.now.entries c.loop-value.value-iterator c.next.new.self value weight
-        (index_of type m root) c.iter-value-items.ensures.ordered c.in-Some.ensures.steps p.walk in
+    (index_of type m root) c.iter-value-items.ensures.ordered c.in-Some.ensures.steps p.walk in
     let ones = λ (wanted : c.args.dense ≡ true). subst {A = List (ℕ × ℤ)} AreOnes (subst (λ (t : ValueType). list_of value (index_of type (records c.args.store.now) c.args.root) ≡ list_of value (index_of t m root))
-        (sym typed) listed)
+    (sym typed) listed)
     (c.requires.form.ones wanted value) in
     let joined = ap (λ es. p.walk.done ++ es) (sym c.in-Some.ensures.steps) ∙ p.walk.joins in
     let one = λ (wanted : c.args.dense ≡ true). one_here p.walk.done c.next.new.self value weight (subst (AllByRecursion (λ (e : Value × ℤ). e.1 ≡ pos 1)) (sym joined) (c.requires.ones wanted)) in (
@@ -112,7 +112,7 @@ returns-in_err-next-clause-counts g c =
     value weight up p c.in-Some.ensures.steps c.requires.typed in
     let listed = put_list (index_of type (records c.args.store.now) c.args.root) doc entries c.loop-value.value-iterator c.next.new.self value weight (index_of type m root) up c.in-Some.ensures.steps p.walk in
     let made = subst (λ (z : ℤ). MakesWithin now new (add_most value m root c.args.dense c.args.documents (insert_entry nat_cmp (list_of value (index_of (type_of value) m root)) doc z)))
-        (to_z-of_z w32 weight fits) c.add.ensures.counts in
+    (to_z-of_z w32 weight fits) c.add.ensures.counts in
     counts_end 34 each form begun test entries new c.next.new.self
     (counts_put 34 each form begun test entries
     now c.loop-value.value-iterator c.next.new.self value weight c.loop-value.invariant.counts c.in-Some.ensures.steps
@@ -146,7 +146,7 @@ returns-in_err-next-clause-low g c =
     value weight up p c.in-Some.ensures.steps c.requires.typed in
     let listed = put_list (index_of type (records c.args.store.now) c.args.root) doc entries c.loop-value.value-iterator c.next.new.self value weight (index_of type m root) up c.in-Some.ensures.steps p.walk in
     let made = subst (λ (z : ℤ). MakesWithin now new (add_most value m root c.args.dense c.args.documents (insert_entry nat_cmp (list_of value (index_of (type_of value) m root)) doc z)))
-        (to_z-of_z w32 weight fits) c.add.ensures.counts in
+    (to_z-of_z w32 weight fits) c.add.ensures.counts in
     λ levels low.
     let here : IsLow levels (index_of c.args.value_type m root) = low p.walk.done c.loop-value.value-iterator (index_of c.args.value_type m root) p.walk.joins p.walk.between in
     counts_end (value_nodes levels) each form begun test entries new c.next.new.self
@@ -157,7 +157,7 @@ returns-in_err-next-clause-low g c =
     (low_added value weight m root doc levels (subst (λ t. IsIndex t m root) (sym typed) p.index_is) (dictionary_low type m root levels p.index_is here)
     (list_low value m root levels (subst (λ t. IsIndex t m root) (sym typed) p.index_is) (subst (λ t. IsLow levels (index_of t m root)) (sym typed) here))
     now new c.args.dense c.args.documents c.loop-value.invariant.plain lists (subst (λ (t : ValueType). list_of value (index_of type (records c.args.store.now) c.args.root) ≡ list_of value (index_of t m root))
-        (sym typed) listed) made))
+    (sym typed) listed) made))
 
 pub returns-in_err-next-clause-refuses : goal.returns-in_err-next-clause-refuses
 returns-in_err-next-clause-refuses g c =
@@ -213,10 +213,10 @@ loop-value-preserved-then-not-has_weight g c =
     let each = put_records lists doc in
     let form = put_forms c.args.dense lists doc in
     let listed = put_list (index_of type (records c.args.store.now) c.args.root) doc c.args.new.now.entries c.loop-value.value-iterator c.next.new.self value weight
-        (index_of type m root) up c.in-Some.ensures.steps p.walk in
+    (index_of type m root) up c.in-Some.ensures.steps p.walk in
     let reads = subst (λ (t : ValueType). list_of value (index_of type (records c.args.store.now) c.args.root) ≡ list_of value (index_of t m root)) (sym typed) listed in
     let made = subst (λ (z : ℤ). MakesWithin now new (add_most value m root c.args.dense c.args.documents (insert_entry nat_cmp (list_of value (index_of (type_of value) m root)) doc z)))
-        (to_z-of_z w32 weight fits) c.add.ensures.counts in
+    (to_z-of_z w32 weight fits) c.add.ensures.counts in
     let is_index = subst (λ t. IsIndex t m root) (sym typed) p.index_is in
     record {
       adds = adds_put c.args.value_type (ledger c.args.store.now) (records c.args.store.now) c.args.root doc c.args.new.now.entries

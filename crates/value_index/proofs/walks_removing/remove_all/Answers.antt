@@ -60,7 +60,7 @@ remove-requires g c =
     let listed = take_list (index_of type (records c.args.store.now) c.args.root) c.args.doc c.args.old.now.entries c.loop-value.value-iterator c.next.new.self value c.in-Some.field-0-1.now (index_of type m root)
     c.iter-value-items.ensures.ordered c.in-Some.ensures.steps added p.walk (none_then (added value) (sym c.contains_key.ensures ∙ c.if-not-contains_key.true)) in
     let ones = λ (wanted : c.args.dense ≡ true). subst {A = List (ℕ × ℤ)} AreOnes (subst (λ (t : ValueType). list_of value (index_of type (records c.args.store.now) c.args.root) ≡ list_of value (index_of t m root))
-        (sym typed) listed)
+    (sym typed) listed)
     (c.requires.form.ones wanted value) in (
       omega arith,
       (
@@ -151,7 +151,7 @@ returns-in_err-next-clause-low g c =
     (low_gone value weight m root doc levels (subst (λ t. IsIndex t m root) (sym typed) p.index_is) (dictionary_low type m root levels p.index_is here)
     (list_low value m root levels (subst (λ t. IsIndex t m root) (sym typed) p.index_is) (subst (λ t. IsLow levels (index_of t m root)) (sym typed) here))
     now new c.args.dense c.args.documents c.loop-value.invariant.plain lists (subst (λ (t : ValueType). list_of value (index_of type (records c.args.store.now) c.args.root) ≡ list_of value (index_of t m root))
-        (sym typed) listed) c.remove.ensures.counts))
+    (sym typed) listed) c.remove.ensures.counts))
 
 pub returns-in_err-next-clause-refuses : goal.returns-in_err-next-clause-refuses
 returns-in_err-next-clause-refuses g c =

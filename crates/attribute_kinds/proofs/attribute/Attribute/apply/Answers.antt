@@ -86,9 +86,9 @@ invariant_of-self g c =
     let next = trees_of fields c.in-Ok-Some.roots.items in
     let settled = (g.met.S.Store.settled old c.self.invariant.stands.holds.unit).back in
     let forms1 = subst (λ fs. IfOk c.step.result (λ made. IfSome made (λ (next : Vec (FieldRoots g.row.OFFSET_BITS) Global). HaveForms inside.dense (records new) (trees_of fs next.items)))) c.as_slice.ensures
-        c.step.ensures.forms in
+    c.step.ensures.forms in
     let forms = subst (λ (r : Result (Option (Vec (FieldRoots g.row.OFFSET_BITS) Global)) StoreError). IfOk r (λ made. IfSome made
-        (λ (next : Vec (FieldRoots g.row.OFFSET_BITS) Global). HaveForms inside.dense (records new) (trees_of fields next.items))))
+    (λ (next : Vec (FieldRoots g.row.OFFSET_BITS) Global). HaveForms inside.dense (records new) (trees_of fields next.items))))
     (c.in-Ok-Some.is ∙ ap Ok c.in-Ok-Some.field-0-is) forms1 in
     record {
       stands = now;

@@ -132,7 +132,7 @@ invariant_of-self g c =
     let forms = subst (λ (xs : List (FieldRoots g.row.OFFSET_BITS)). KeepForms (records old) (records new) (trees_of fields xs) (trees_of fields c.compact-plan.new.roots)) c.deref_mut.ensures.value forms1 in
     subst (λ w. IsAttribute inside.dense (ledger new) (records new) fields others inside.last.root inside.last.commit inside.last.operations c.compact-plan.result.0 w) (sym c.has_finished-self-inside.ensures)
     (attribute_told g.row.OFFSET_BITS ledger records fields inside.dense inside.operations inside.last.root inside.last.operations old new inside.roots.items others inside.plan c.compact-plan.result.0 c.args.keys
-        inside.last.commit
+    inside.last.commit
     c.compact-plan.result.1 c.self.invariant.stands unfinished
     (ap length rs ∙ sized) made
     (subst (λ (xs : List (FieldRoots g.row.OFFSET_BITS)). HaveForms inside.dense (records new) (trees_of fields xs)) (sym rs)
@@ -170,7 +170,7 @@ returns-clause-steps g c =
     (subst (λ r. IfOk r (CompactsTo g.row.OFFSET_BITS ledger records (seen g.row.OFFSET_BITS ledger records fields inside.dense inside.operations inside.last.root inside.last.operations old trees inside.plan)
     (seen g.row.OFFSET_BITS ledger records fields inside.dense inside.operations inside.last.root inside.last.operations new next c.compact-plan.result.0) c.args.keys)) (sym c.told.ensures)
     (steps_told g.row.OFFSET_BITS ledger records fields inside.dense inside.operations inside.last.root inside.last.operations old new trees next inside.plan c.compact-plan.result.0 c.args.keys
-        c.compact-plan.result.1 made))
+    c.compact-plan.result.1 made))
 
 pub returns-clause-refuses : goal.returns-clause-refuses
 returns-clause-refuses g c =
@@ -203,7 +203,7 @@ returns-clause-refuses g c =
     (subst (λ r. IfErr r (RefusesStep g.row.OFFSET_BITS ledger records (seen g.row.OFFSET_BITS ledger records fields inside.dense inside.operations inside.last.root inside.last.operations old trees inside.plan)
     (seen g.row.OFFSET_BITS ledger records fields inside.dense inside.operations inside.last.root inside.last.operations new next c.compact-plan.result.0))) (sym c.told.ensures)
     (refuses_told g.row.OFFSET_BITS ledger records fields inside.dense inside.operations inside.last.root inside.last.operations old new trees next inside.plan c.compact-plan.result.0 c.args.keys
-        c.compact-plan.result.1 made))
+    c.compact-plan.result.1 made))
 
 pub returns-clause-idle : goal.returns-clause-idle
 returns-clause-idle g c =
@@ -263,7 +263,7 @@ returns-clause-keeps g c =
     (sym rs) made3 in
     subst (λ (v : AttributeView g.row.S.Denot). KeepsStoreBut (ledger v.store) (ledger new)) c.self.view_is
     (keeps_told g.row.OFFSET_BITS ledger records fields inside.dense inside.operations inside.last.root inside.last.operations old new trees next inside.plan c.compact-plan.result.0 c.args.keys
-        c.compact-plan.result.1 made)
+    c.compact-plan.result.1 made)
 
 pub returns-clause-table : goal.returns-clause-table
 returns-clause-table g c =
@@ -292,7 +292,7 @@ returns-clause-table g c =
     (trees_of fields xs) inside.plan c.compact-plan.result.0 (new ≡ old) c.args.keys c.compact-plan.result.1)
     (sym rs) made3 in
     table_told g.row.OFFSET_BITS ledger records fields inside.dense inside.operations inside.last.root inside.last.operations old new trees next inside.plan c.compact-plan.result.0 c.args.keys c.compact-plan.result.1
-        made
+    made
     ∙ ap (λ (v : AttributeView g.row.S.Denot). v.table) c.self.view_is
 
 pub returns-clause-operations : goal.returns-clause-operations
@@ -334,7 +334,7 @@ returns-clause-committed g c =
     (trees_of fields xs) inside.plan c.compact-plan.result.0 (new ≡ old) c.args.keys c.compact-plan.result.1)
     (sym rs) made3 in
     let keeps = keeps_told g.row.OFFSET_BITS ledger records fields inside.dense inside.operations inside.last.root inside.last.operations old new trees next inside.plan c.compact-plan.result.0 c.args.keys
-        c.compact-plan.result.1
+    c.compact-plan.result.1
     made in
     ap (λ (i : Image). table_of (shape_of (types_of fields)) (words_at i) inside.last.root) keeps.commits.image ∙ ap (λ (v : AttributeView g.row.S.Denot). v.committed) c.self.view_is
 
