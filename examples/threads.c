@@ -193,8 +193,12 @@ int main(int count, char **words) {
     struct attr_numbers numbers;
     attr_counts(&engine, &numbers);
     expect("the counts", numbers.operations == total && numbers.committed == total && numbers.commit == told.commit);
+    expect("the words", numbers.held_words <= numbers.dead_words && numbers.dead_words <= numbers.used_words);
+    expect("the buffers", numbers.used_words <= (uint64_t)numbers.active * numbers.words && numbers.active + numbers.held <= numbers.buffers);
     printf("threads: %llu operations in %u commits, of which %llu were skipped; every answer right\n", (unsigned long long)total, told.commit, (unsigned long long)numbers.skipped);
     fprintf(stderr, "threads: %llu answers of %d readers\n", (unsigned long long)answers, READERS);
+    fprintf(stderr, "threads: of %u buffers %u are in use and %u wait; %llu words used, %llu of them dead, %llu held\n", numbers.buffers, numbers.active, numbers.held,
+        (unsigned long long)numbers.used_words, (unsigned long long)numbers.dead_words, (unsigned long long)numbers.held_words);
     attr_close(engine);
     return 0;
 }

@@ -148,16 +148,29 @@ int32_t attr_compact(attr_engine *engine, uint32_t keys, struct attr_told *told)
  * told->operations documents were put in. */
 int32_t attr_load(attr_engine *engine, const uint8_t *bytes, size_t length, struct attr_told *told);
 
-/* Numbers for a monitor. oldest, is_held, active and held are as of the last commit or ATTR_FULL that told them. */
+/* Numbers for a monitor, all of the time of the call but for oldest and is_held, which the last commit or ATTR_FULL told.
+ *
+ * An entry that an operation drops is dead. If the last commit has it, the next commit makes it held: readers may have it. It is free,
+ * and can be given out again, once a commit or a full store finds that no reader has a commit with it. The words of a buffer that
+ * waits for readers are counted in none of the three. */
 struct attr_numbers {
     uint64_t skipped;       /* operations that changed nothing */
-    uint32_t operations;    /* operations applied, these counted */
+    uint64_t used_words;    /* words of the buffers in use that were given out, with the few at the head of each that hold no entry */
+    uint64_t dead_words;    /* those of free, dropped and held entries, which a compaction gathers */
+    uint64_t held_words;    /* those of held entries */
+    uint32_t operations;    /* operations applied, the skipped ones counted */
     uint32_t commit;        /* the last commit, 0 before the first */
     uint32_t committed;     /* how many operations it has */
-    uint32_t oldest, is_held, active, held;
-    uint32_t buffers, words;
+    uint32_t oldest;        /* as in struct attr_told */
+    uint32_t is_held;       /* as in struct attr_told */
+    uint32_t active;        /* buffers in use */
+    uint32_t held;          /* buffers that wait until readers have left the commits that had them; the others are free */
+    uint32_t buffers;       /* all buffers */
+    uint32_t words;         /* words of each buffer */
     uint32_t readers;       /* readers that are not handed out */
 };
+
+/* Writes the numbers to *numbers. It goes over all buffers. */
 void attr_counts(attr_engine *engine, struct attr_numbers *numbers);
 
 /* ---- readers ---- */

@@ -3,6 +3,8 @@ use Rattle.std.specs.Prelude.{◌≡◌, ◌<◌, ◌≤◌, ℕ, List, [], leng
 use Rattle.attr_types.specs.Table.{Table}
 use Rattle.attr_types.specs.declared.field.Field.{Field}
 use Rattle.attr_types.specs.declared.field.TheConstants.{MOST_FIELDS}
+use Rattle.store_api.specs.declared.store.Usage.{Usage}
+use Rattle.attr_c.specs.declared.told.CountsTold.{CountsTold}
 use Rattle.attr_c.specs.declared.state.AnyOpen.{AnyOpen}
 use Rattle.attr_c.specs.declared.state.AnyOpen.TheVariants.{Narrow, Wide}
 use Rattle.attr_c.specs.declared.state.Engine.{Engine}
@@ -54,6 +56,16 @@ pub record IsNewEngine (e : Engine) : Type 0 where
   pub some : 0 < length (open_fields e.open)
   pub few : length (open_fields e.open) ≤ MOST_FIELDS
   pub has_nothing : HasNothing (open_table e.open) (open_committed e.open) (open_operations e.open) (open_committed_operations e.open)
+
+-- the buffers and words in use, of the numbers for a monitor
+abbrev pub usage_told : CountsTold → Usage
+usage_told told = record {
+  active = told.active;
+  on_hold = told.held;
+  used = told.used_words;
+  dead = told.dead_words;
+  held = told.held_words;
+}
 
 abbrev pub fields_of : Engine → List Field
 fields_of e = open_fields e.open

@@ -1,8 +1,9 @@
 //! The calls from C with the writer's handle.
 ghost use Rattle.std.specs.Prelude.{◌≡◌, ◌≢◌, ◌+◌, pos, drop, IsOk, IsErr};
-ghost use Rattle.attr_c.specs.Engines.{committed_of, committed_operations_of, fields_of, operations_of, table_of, KeepsTables};
+ghost use Rattle.attr_c.specs.Engines.{committed_of, committed_operations_of, fields_of, operations_of, table_of, usage_told, KeepsTables};
 ghost use Rattle.attr_c.specs.Feeding.{FedTo, Feeds, Stays};
 ghost use Rattle.attr_c.specs.Loading.{LoadsFront, LoadsSave};
+ghost use Rattle.store_api.specs.Usages.{IsUsage};
 
 use crate::codes::OK;
 use crate::feeding::feed;
@@ -216,18 +217,23 @@ pub extern "C" fn attr_load(
 fn counts_of<const OFFSET_BITS: u32, S: Store<OFFSET_BITS, Layout = AttrLayout>>(
     open: &Open<OFFSET_BITS, S>,
 ) -> CountsTold
-    ensures { result.operations ≡ open.now.attribute.operations }
+    ensures operations { result.operations ≡ open.now.attribute.operations }
+    ensures usage { IsUsage OFFSET_BITS (S.ledger open.now.attribute.store) (usage_told result) }
 {
     let counts = &open.counts;
+    let usage = open.attribute.usage();
     CountsTold {
         skipped: counts.skipped,
+        used_words: usage.used,
+        dead_words: usage.dead,
+        held_words: usage.held,
         operations: open.attribute.operations(),
         commit: counts.commit,
         committed: counts.committed,
         oldest: counts.oldest,
         is_held: counts.is_held,
-        active: counts.active,
-        held: counts.held,
+        active: usage.active,
+        held: usage.on_hold,
         buffers: counts.sizes.buffers,
         words: counts.sizes.words,
         readers: open.pool.len().min(64) as u32,

@@ -99,8 +99,6 @@ fn no_counts(sizes: &Sizes) -> Counts {
         since: [0; 16],
         oldest: 0,
         is_held: 0,
-        active: 0,
-        held: 0,
     }
 }
 

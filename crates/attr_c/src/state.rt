@@ -38,8 +38,6 @@ pub struct Counts {
     pub since: [u32; 16],
     pub oldest: u32,
     pub is_held: u32,
-    pub active: u32,
-    pub held: u32,
 }
 
 /// The attributes, and the readers that are still to be handed out.

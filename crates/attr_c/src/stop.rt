@@ -82,8 +82,6 @@ fn store_code(counts: &mut Counts, error: AttrError, told: &mut Told) -> i32
             oldest,
         } => {
             note_oldest(counts, oldest);
-            counts.active = active;
-            counts.held = held;
             told.width = width;
             told.active = active;
             told.held = held;

@@ -84,6 +84,12 @@ pub struct ItemTold {
 pub struct CountsTold {
     /// The number of operations that changed nothing.
     pub skipped: u64,
+    /// The words of active buffers that were given out, the reserved ones at the head of each buffer included.
+    pub used_words: u64,
+    /// Those of free, dropped and held entries.
+    pub dead_words: u64,
+    /// Those of held entries, which readers may have.
+    pub held_words: u64,
     /// The number of operations that were applied, including these.
     pub operations: u32,
     /// The last commit, and its number of operations.
@@ -93,7 +99,7 @@ pub struct CountsTold {
     /// commit or refusal.
     pub oldest: u32,
     pub is_held: u32,
-    /// How many buffers were in use, and how many waited for readers, when the store was last full.
+    /// How many buffers are in use, and how many wait for readers. The others are free.
     pub active: u32,
     pub held: u32,
     pub buffers: u32,

@@ -9,6 +9,7 @@ ghost use Rattle.attr_images.specs.Shapes.{shape_of, types_of};
 ghost use Rattle.attr_images.specs.Words.{class_of};
 ghost use Rattle.array_store.specs.Adding.{MakesOneOf};
 ghost use Rattle.store_api.specs.Ledgers.{no_counts};
+ghost use Rattle.store_api.specs.Usages.{IsUsage};
 ghost use Rattle.attr_types.specs.Lawful.{OpFits};
 ghost use Rattle.attr_types.specs.Table.{after_op};
 ghost use Rattle.attr_types.specs.declared.field.TheConstants.{MOST_FIELDS};
@@ -35,7 +36,7 @@ use entry_ref::EntryRef;
 use entry_store::{EntryStore, NoMemory};
 use std::alloc::{AllocError, Global};
 use std::marker::Model;
-use store_api::Store;
+use store_api::{Store, Usage};
 
 /// The attributes of a collection, at most eight, in a store of their own. Each operation is applied as a whole or
 /// not at all, and the applied operations are committed as one image.
@@ -168,6 +169,13 @@ impl<const OFFSET_BITS: u32, S: Store<OFFSET_BITS, Layout = AttrLayout>> Attribu
         ensures unit { (S.ledger self.now.store).unit ≡ false }
     {
         self.operations
+    }
+
+    /// Returns how many buffers and words of the store are in use. It goes over all buffers.
+    pub fn usage(&self) -> Usage
+        ensures { IsUsage OFFSET_BITS (S.ledger self.now.store) result }
+    {
+        self.store.usage()
     }
 
     /// Applies an operation to the attributes, or skips it. If it is refused, everything is as it was, and the call

@@ -1,9 +1,10 @@
 -- The buffers of a store by number, and how each call changes them.
 use Rattle.std.specs.Prelude.{◌≡◌, ℕ, ◌+◌, ◌-◌, ◌*◌, ◌<◌, ◌≤◌, ◌&&◌, Bool, true, false, nat_eq, nat_lt, not, if◌then◌else◌, List, map}
-use Rattle.std.specs.Prelude.{length, slice_set, slice_index_or}
+use Rattle.std.specs.Prelude.{length, slice_set, slice_index_or, sum_by}
 use Rattle.buffer_states.specs.declared.BufferState.{BufferState}
 use Rattle.buffer_states.specs.declared.BufferState.TheVariants.{Free, Active, OnHold}
 use Rattle.buffer_states.specs.declared.Buffer.{Buffer}
+use Rattle.buffer_states.specs.declared.Words.{Words}
 
 -- a free buffer with all numbers 0
 abbrev pub new_buffer : Buffer
@@ -103,6 +104,14 @@ freed_at buffers b = slice_set buffers b new_buffer
 -- a buffer on hold below this generation becomes free
 abbrev pub freed_below : ℕ → Buffer → Buffer
 freed_below oldest buffer = if is_on_hold buffer.state && nat_lt buffer.generation oldest then new_buffer else buffer
+
+-- the words of all buffers together
+abbrev pub words_of : List Buffer → Words
+words_of buffers = record {
+  used = sum_by (λ (buffer : Buffer). buffer.used) buffers;
+  dead = sum_by (λ (buffer : Buffer). buffer.dead) buffers;
+  held = sum_by (λ (buffer : Buffer). buffer.held) buffers;
+}
 
 -- an active buffer that is neither being filled nor sealed, and of whose used words more than one in twenty is dead
 abbrev pub is_candidate : Buffer → Bool

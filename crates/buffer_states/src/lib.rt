@@ -52,6 +52,14 @@ pub struct Buffer {
     pub sealed: bool,
 }
 
+/// The words of all buffers together.
+#[derive(Clone, Copy, Debug, PartialEq, Eq, Drop)]
+pub struct Words {
+    pub used: u64,
+    pub dead: u64,
+    pub held: u64,
+}
+
 const NEW_BUFFER: Buffer = Buffer {
     state: BufferState::Free,
     width: 0,
@@ -83,7 +91,7 @@ impl Buffers {
     ghost use Rattle.buffer_states.specs.Buffers.{new_buffer, buffer_at, activated, with_counts, with_next, with_taken, with_given};
     ghost use Rattle.buffer_states.specs.Buffers.{with_dropped, with_kept, with_dropped_held, with_released, sealed_at};
     ghost use Rattle.buffer_states.specs.Buffers.{on_hold_at, freed_at, freed_below, is_state_free, is_state_active, is_on_hold};
-    ghost use Rattle.buffer_states.specs.Buffers.{is_candidate, IsVictim, IsLowestFree};
+    ghost use Rattle.buffer_states.specs.Buffers.{is_candidate, IsVictim, IsLowestFree, words_of};
     ghost use Rattle.std.specs.Prelude.{All};
     ghost use Rattle.buffer_states.specs.declared.BufferState.TheVariants.{Free, Active, OnHold};
 
@@ -328,6 +336,24 @@ impl Buffers {
             .iter()
             .filter(|buffer| buffer.state.is_on_hold())
             .count() as u32
+    }
+
+    /// Returns the used, dead and held words of all buffers.
+    pub fn words(&self) -> Words
+        requires { length self.now < 2 ^ 32 }
+        ensures { result ≡ words_of self.now }
+    {
+        let mut words = Words {
+            used: 0,
+            dead: 0,
+            held: 0,
+        };
+        for number in 0..self.buffers.len() {
+            words.used += u64::from(self.used(number as u32));
+            words.dead += u64::from(self.dead(number as u32));
+            words.held += u64::from(self.held(number as u32));
+        }
+        words
     }
 
     /// Returns the buffer that a compaction should empty: the candidate with the most dead words, and the first among

@@ -42,7 +42,7 @@ pub sum_zeros : (n : ℕ) → sum_below (λ p. 0) n ≡ 0
 sum_zeros zero = refl
 sum_zeros (suc n) = omega (arith, sum_zeros n)
 
-sum_list : {A : Type 0} (f : A → ℕ) (d : A) (xs : List A) → sum_below (λ b. f (get_or xs b d)) (length xs) ≡ sum_by f xs
+pub sum_list : {A : Type 0} (f : A → ℕ) (d : A) (xs : List A) → sum_below (λ b. f (get_or xs b d)) (length xs) ≡ sum_by f xs
 sum_list f d [] = refl
 sum_list f d (x ∷ xs) = sum_shift (λ b. f (get_or (x ∷ xs) b d)) (length xs) ∙ omega (arith, sum_list f d xs, sum_by-cons f x xs)
 

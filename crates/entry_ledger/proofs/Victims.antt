@@ -1,22 +1,25 @@
--- The words of a buffer that are used and dead are those of its counts; so a victim of the buffers is one of the entries.
+-- The words of a buffer that are used, dead and held are those of its counts; so are those of all buffers together, and a victim of the buffers is one of the entries.
 use Rattle.std.proofs.Common.{◌≡◌, ◌≢◌, ℕ, zero, suc, ◌+◌, ◌*◌, ◌<◌, ◌≤◌, Bool, true, false, not, ◌&&◌, cond, List, [], ◌∷◌, length, Option, None, Some, refl, sym, ap, ◌∙◌, arith, inl, inr}
 use Rattle.std.specs.Prelude.{nat_lt, ◌⊎◌}
-use Rattle.std.specs.List.{slice_get, count_by}
+use Rattle.std.specs.List.{slice_get, sum_by, count_by}
 use Rattle.std.proofs.lemmas.List.Sums.{sum_by-cons}
 use Rattle.std.proofs.lemmas.Bool.{cases_lt, cases_eq, and_parts, lt-ltb, ltb-true, not-true, true≢false}
 use Rattle.list_facts.specs.Counting.{one_if}
 use Rattle.entry_ref.specs.References.{packed}
 use Rattle.store_api.specs.Ledgers.{capacity}
-use Rattle.buffer_states.specs.Buffers.{buffer_at, is_state_active, is_candidate}
+use Rattle.store_api.specs.Usages.{over_buffers}
+use Rattle.buffer_states.specs.declared.Buffer.{Buffer}
+use Rattle.buffer_states.specs.declared.Words.{Words}
+use Rattle.buffer_states.specs.Buffers.{buffer_at, new_buffer, is_state_active, is_candidate, words_of}
 use Rattle.buffer_states.specs.Buffers.{IsVictim as IsVictimBuffer}
 use Rattle.entry_ledger.specs.declared.state.State.{State}
-use Rattle.entry_ledger.specs.States.{ShelfView, is_dead}
+use Rattle.entry_ledger.specs.States.{ShelfView, is_dead, is_held}
 use Rattle.entry_ledger.specs.Shelves.{shelf_at}
 use Rattle.hold_lists.specs.Held.{HeldEntry}
-use Rattle.entry_ledger.specs.Entries.{EntriesView, width_of, is_taken_entry, is_dead_entry, count_entries, entries_that, used_words, dead_words}
-use Rattle.entry_ledger.specs.Calls.{IsCandidate, IsVictim}
+use Rattle.entry_ledger.specs.Entries.{EntriesView, width_of, is_taken_entry, is_dead_entry, is_held_entry, count_entries, entries_that, used_words, dead_words, held_words}
+use Rattle.entry_ledger.specs.Calls.{IsCandidate, IsVictim, HasWords}
 use Rattle.entry_ledger.specs.Ledgers.{LedgerView, entries_of, AreEntries}
-use Rattle.entry_ledger.proofs.Spares.{sum_below, sum_same, sum_shift, sum_zeros}
+use Rattle.entry_ledger.proofs.Spares.{sum_below, sum_same, sum_shift, sum_zeros, sum_list}
 use Rattle.entry_ledger.proofs.States.{state_by}
 use Rattle.entry_ledger.proofs.Takes.{entries_in}
 use Rattle.entry_ledger.proofs.Good.{width-is, room-of}
@@ -42,6 +45,10 @@ count-places passes test none some (s ∷ states) (suc n) fits =
 count-all : (states : List State) → count_by (λ (s : State). true) states ≡ length states
 count-all [] = refl
 count-all (s ∷ states) = omega (arith, count-all states, sum_by-cons (λ (t : State). cond true 1 0) s states)
+
+over-below : (words : ℕ → ℕ) (n : ℕ) → sum_below words n ≡ over_buffers words n
+over-below words zero = refl
+over-below words (suc n) = ap (λ m. m + words n) (over-below words n)
 
 module _ (bits : ℕ) (v : LedgerView) (held : List HeldEntry) (room unheld : ℕ) (k : AreEntries bits v held room unheld) where
   abbrev e : EntriesView
@@ -83,6 +90,25 @@ module _ (bits : ℕ) (v : LedgerView) (held : List HeldEntry) (room unheld : �
   dead-is b below =
       ap (λ n. width_of e b * n) (entries-counted is_dead_entry is_dead refl (λ s. refl) b below)
       ∙ ap (λ w. w * count_by is_dead (shelf b).states) (width-is bits v held room unheld k b) ∙ sym (k.counted b).dead
+
+  held-is : (b : ℕ) → b < length v.buffers → held_words bits e b ≡ (buffer_at v.buffers b).held
+  held-is b below =
+      ap (λ n. width_of e b * n) (entries-counted (is_held_entry v.last) (is_held v.last) refl (λ s. refl) b below)
+      ∙ ap (λ w. w * count_by (is_held v.last) (shelf b).states) (width-is bits v held room unheld k b) ∙ sym (k.counted b).held
+
+  -- a count of the buffers, summed by their numbers
+  summed : (count : Buffer → ℕ) (words : ℕ → ℕ) → ((b : ℕ) → b < length v.buffers → words b ≡ count (buffer_at v.buffers b)) → sum_by count v.buffers ≡ over_buffers words e.count
+  summed count words each =
+      sym (sum_list count new_buffer v.buffers) ∙ sum_same (λ b. count (buffer_at v.buffers b)) words (length v.buffers) (λ b below. sym (each b below))
+      ∙ over-below words (length v.buffers) ∙ ap (over_buffers words) k.count
+
+  pub words-are : (words : Words) → words ≡ words_of v.buffers → HasWords bits (entries_of bits v) words
+  unfolding entries_of
+  words-are words is = record {
+    used = ap (λ (w : Words). w.used) is ∙ summed (λ (b : Buffer). b.used) (used_words bits e) used-is;
+    dead = ap (λ (w : Words). w.dead) is ∙ summed (λ (b : Buffer). b.dead) (dead_words bits e) dead-is;
+    held = ap (λ (w : Words). w.held) is ∙ summed (λ (b : Buffer). b.held) (held_words bits e) held-is;
+  }
 
   candidate-back : (b : ℕ) → IsCandidate bits e b → (b < length v.buffers) × (is_candidate (buffer_at v.buffers b) ≡ true)
   candidate-back b can =

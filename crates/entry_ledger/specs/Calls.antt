@@ -5,12 +5,15 @@ use Rattle.entry_ref.specs.References.{buffer_of}
 use Rattle.entry_ref.specs.Places.{IsEntry}
 use Rattle.store_api.specs.Ledgers.{capacity, no_counts, with_counts}
 use Rattle.store_api.specs.Calls.{GivesBackOf, DropsOf, EndsOf, SealsOf, took_spare}
+use Rattle.store_api.specs.Usages.{over_buffers}
 use Rattle.buffer_states.specs.declared.BufferState.TheVariants.{Free, Active, OnHold}
+use Rattle.buffer_states.specs.declared.Words.{Words}
 use Rattle.buffer_states.specs.Buffers.{is_state_free, is_state_active, is_on_hold}
 use Rattle.entry_ledger.specs.declared.state.State.{State}
 use Rattle.entry_ledger.specs.declared.state.State.TheVariants.{Free as FreeState, Made, Dropped}
 use Rattle.entry_ledger.specs.States.{dropped, accepted, undone, settled_state, is_touched}
-use Rattle.entry_ledger.specs.Entries.{EntriesView, Mark, width_of, is_open_entry, is_free_entry, is_settled_entry, used_words, dead_words}
+use Rattle.entry_ledger.specs.Entries.{EntriesView, Mark, width_of, is_open_entry, is_free_entry, is_settled_entry}
+use Rattle.entry_ledger.specs.Entries.{used_words, dead_words, held_words}
 
 -- the states after that of one entry changes
 abbrev pub with_state : (ℕ → Option State) → ℕ → State → ℕ → Option State
@@ -144,6 +147,12 @@ pub record IsVictim (bits : ℕ) (e : EntriesView) (b : ℕ) : Type 0 where
   pub candidate : IsCandidate bits e b
   pub most : (a : ℕ) → IsCandidate bits e a
       → (dead_words bits e a < dead_words bits e b) ⊎ ((dead_words bits e a ≡ dead_words bits e b) × (b ≤ a))
+
+-- the words of all buffers together
+pub record HasWords (bits : ℕ) (e : EntriesView) (words : Words) : Type 0 where
+  pub used : words.used ≡ over_buffers (used_words bits e) e.count
+  pub dead : words.dead ≡ over_buffers (dead_words bits e) e.count
+  pub held : words.held ≡ over_buffers (held_words bits e) e.count
 
 -- the free buffer with the lowest number
 pub record IsLowestFree (e : EntriesView) (b : ℕ) : Type 0 where

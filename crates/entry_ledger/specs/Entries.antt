@@ -9,7 +9,7 @@ use Rattle.buffer_states.specs.declared.BufferState.{BufferState}
 use Rattle.buffer_states.specs.Buffers.{is_state_free, is_state_active, is_on_hold}
 use Rattle.entry_ledger.specs.declared.state.State.{State}
 use Rattle.entry_ledger.specs.declared.state.State.TheVariants.{InUse, DroppedNow, Dropped}
-use Rattle.entry_ledger.specs.States.{is_free_state, is_touched, is_used, is_dead}
+use Rattle.entry_ledger.specs.States.{is_free_state, is_touched, is_used, is_dead, is_held}
 
 -- a buffer: free, active, or on hold with a generation; and the width of its entries
 pub record Mark : Type 0 where
@@ -63,6 +63,11 @@ abbrev pub is_dead_entry : Option State → Bool
 is_dead_entry None = false
 is_dead_entry (Some state) = is_dead state
 
+-- dropped before the last commit
+abbrev pub is_held_entry : ℕ → Option State → Bool
+is_held_entry last None = false
+is_held_entry last (Some state) = is_held last state
+
 -- no unit has changed the entry
 abbrev pub is_settled_entry : Option State → Bool
 is_settled_entry None = true
@@ -88,13 +93,16 @@ count_entries bits passes state b (suc n) = count_entries bits passes state b n 
 abbrev pub entries_that : ℕ → (Option State → Bool) → EntriesView → ℕ → ℕ
 entries_that bits passes e b = count_entries bits passes e.state b (capacity e.words (width_of e b))
 
--- the words of all offsets taken so far, offset 0 included; and the words of the entries that are free, dropped or
--- held
+-- the words of all offsets taken so far, offset 0 included; of the entries that are free, dropped or held; and of those
+-- that are held
 abbrev pub used_words : ℕ → EntriesView → ℕ → ℕ
 used_words bits e b = width_of e b * (1 + entries_that bits is_taken_entry e b)
 
 abbrev pub dead_words : ℕ → EntriesView → ℕ → ℕ
 dead_words bits e b = width_of e b * entries_that bits is_dead_entry e b
+
+abbrev pub held_words : ℕ → EntriesView → ℕ → ℕ
+held_words bits e b = width_of e b * entries_that bits (is_held_entry e.last) e b
 
 -- the number of buffers, among the first n, whose state passes
 abbrev pub count_marks : (BufferState → Bool) → (ℕ → Mark) → ℕ → ℕ

@@ -9,7 +9,7 @@ ghost use Rattle.entry_ledger.specs.Ledgers.{entries_of, taken_buffer, dropped_b
 ghost use Rattle.entry_ledger.specs.Ledgers.{is_dropped_now, is_dead_after, touched_total, held_after, CanRelease, Releases};
 
 use crate::{Shelves, State};
-use buffer_states::Buffers;
+use buffer_states::{Buffers, Words};
 use entry_ref::EntryRef;
 use hold_lists::HoldList;
 use std::alloc::{AllocError, Global};
@@ -59,7 +59,7 @@ impl<const OFFSET_BITS: u32> EntryLedger<OFFSET_BITS> {
     ghost use Rattle.entry_ledger.specs.Entries.{IsGood, width_of, is_used_entry, is_settled_entry, is_dropped_since, count_marks};
     ghost use Rattle.entry_ledger.specs.Calls.{new_entries, CanTake, made_at, opened_at, Drops, StepsEnd, IsEnded, Accepts, Undoes};
     ghost use Rattle.entry_ledger.specs.Calls.{Frees, Seals, retired_at};
-    ghost use Rattle.entry_ledger.specs.Calls.{IsCandidate, IsVictim, IsLowestFree};
+    ghost use Rattle.entry_ledger.specs.Calls.{IsCandidate, IsVictim, IsLowestFree, HasWords};
 
     /// Creates a ledger of `buffers` free buffers with `words` words each.
     #[tactic(none)]
@@ -147,6 +147,14 @@ impl<const OFFSET_BITS: u32> EntryLedger<OFFSET_BITS> {
         ensures { result ≡ count_marks is_on_hold (entries_of OFFSET_BITS self.now).mark (entries_of OFFSET_BITS self.now).count }
     {
         self.buffers.on_hold()
+    }
+
+    /// Returns the used, dead and held words of all buffers.
+    #[tactic(none)]
+    pub fn words(&self) -> Words
+        ensures { HasWords OFFSET_BITS (entries_of OFFSET_BITS self.now) result }
+    {
+        self.buffers.words()
     }
 
     /// Returns the buffer from which a compaction gains most, if any is worth it.

@@ -1,4 +1,4 @@
--- A buffer is sealed, finished, chosen.
+-- A buffer is sealed, finished, chosen; and how much of the buffers is in use.
 use Rattle.std.proofs.Common.{◌≡◌, ◌≢◌, ℕ, zero, suc, ◌+◌, ◌*◌, ◌<◌, Bool, true, false, cond, eqb, Option, Some, None, refl, sym, ap, subst, ◌∙◌, arith, inl, inr, ⊎_elim}
 use Rattle.std.specs.Prelude.{IfSome, IfNone}
 use Rattle.std.proofs.lemmas.Bool.{true≢false, eq-eqb, eqb-true}
@@ -6,20 +6,22 @@ use Rattle.entry_ledger.proofs.Marks.{this-false}
 use Rattle.list_facts.specs.Counting.{one_if}
 use Rattle.entry_ledger.specs.declared.state.State.{State}
 use Rattle.entry_ledger.specs.declared.state.State.TheVariants.{Free, Returned, Made, InUse, LetGo, DroppedNow, Dropped}
-use Rattle.buffer_states.specs.Buffers.{is_state_active}
+use Rattle.buffer_states.specs.Buffers.{is_state_active, is_on_hold}
+use Rattle.buffer_states.specs.declared.Words.{Words}
 use Rattle.entry_ref.specs.References.{packed}
 use Rattle.entry_ref.specs.Records.{Records}
 use Rattle.arena_api.specs.Works.{WorkView, Buffer, Tag, active_width, last_image}
-use Rattle.store_api.specs.Statuses.{Status, is_taken, is_dead}
+use Rattle.store_api.specs.Statuses.{Status, is_taken, is_dead, is_held_status}
 use Rattle.store_api.specs.Ledgers.{Ledger, IsUnfilled, is_this, is_in, capacity}
 use Rattle.store_api.specs.Ledgers.{is_active as is_active_buffer}
+use Rattle.store_api.specs.Usages.{IsUsage, over_buffers, held_words}
 use Rattle.store_api.specs.Victims.{IsCandidate, IsVictim, HasNoVictim, count_entries, used_words, dead_words}
-use Rattle.entry_ledger.specs.Entries.{EntriesView, IsGood, width_of, is_settled_entry, is_taken_entry, is_dead_entry}
-use Rattle.entry_ledger.specs.Entries.{count_entries as count_states, used_words as used_states, dead_words as dead_states}
-use Rattle.entry_ledger.specs.Calls.{Seals}
+use Rattle.entry_ledger.specs.Entries.{EntriesView, IsGood, width_of, is_settled_entry, is_taken_entry, is_dead_entry, is_held_entry, count_marks}
+use Rattle.entry_ledger.specs.Entries.{count_entries as count_states, used_words as used_states, dead_words as dead_states, held_words as held_states}
+use Rattle.entry_ledger.specs.Calls.{Seals, HasWords}
 use Rattle.entry_ledger.specs.Calls.{IsCandidate as IsCandidateEntry, IsVictim as IsVictimEntry}
 use Rattle.entry_store.specs.Standing.{Stands, statuses, status_of, ledger_of, is_mark_of, is_in_generation, tag_at}
-use Rattle.entry_store.specs.ProofsForMarks.{mark-width, mark-active}
+use Rattle.entry_store.specs.ProofsForMarks.{mark-width, mark-active, count-active, count-held}
 use Rattle.entry_store.proofs.Soundness.{sound-same}
 
 active-from : (b : Buffer) → 0 < active_width b → is_active_buffer b ≡ true
@@ -69,6 +71,32 @@ dead-same has last (Some (InUse after)) = use-dead (eqb after last) has
 dead-same has last (Some LetGo) = refl
 dead-same has last (Some (DroppedNow after)) = refl
 dead-same has last (Some (Dropped after g)) = held-dead (eqb after last) (tag_at g after)
+
+use-held : (t has : Bool) → is_held_status (cond t Status.pending (cond has Status.live Status.left)) ≡ false
+use-held true has = refl
+use-held false true = refl
+use-held false false = refl
+
+held-held : (t : Bool) (tag : Tag) → is_held_status (cond t Status.dropped (Status.held tag)) ≡ cond t false true
+held-held true tag = refl
+held-held false tag = refl
+
+held-same : (has : Bool) (last : ℕ) (o : Option State) → is_held_status (status_of has last o) ≡ is_held_entry last o
+held-same has last None = refl
+held-same has last (Some Free) = refl
+held-same has last (Some Returned) = refl
+held-same has last (Some Made) = refl
+held-same has last (Some (InUse after)) = use-held (eqb after last) has
+held-same has last (Some LetGo) = refl
+held-same has last (Some (DroppedNow after)) = refl
+held-same has last (Some (Dropped after g)) = held-held (eqb after last) (tag_at g after)
+
+over-same : (f g : ℕ → ℕ) (n : ℕ) → ((b : ℕ) → b < n → f b ≡ g b) → over_buffers f n ≡ over_buffers g n
+over-same f g zero same = refl
+over-same f g (suc n) same =
+    let rest = over-same f g n (λ b low. same b (omega arith)) in
+    let here = same n (omega arith) in
+    omega arith
 
 count-same : (bits : ℕ) (p : Status → Bool) (q : Option State → Bool) (status : ℕ → Status) (state : ℕ → Option State) (b n : ℕ) → ((r : ℕ) → p (status r) ≡ q (state r))
     → count_entries bits p status b n ≡ count_states bits q state b n
@@ -153,6 +181,27 @@ module _ {H : Type 0} (bits : ℕ) (work : WorkView H) (shape : ℕ) (m : Record
       ap (λ w. w * count_entries bits is_dead (statuses work.commits e) b (capacity work.sizes.words w)) (sym (width-is b below))
       ∙ ap (λ n. width_of e b * count_entries bits is_dead (statuses work.commits e) b (capacity n (width_of e b))) (sym st.words)
       ∙ ap (λ n. width_of e b * n) (count-same bits is_dead is_dead_entry (statuses work.commits e) e.state b (capacity e.words (width_of e b)) (λ r. dead-same (is_in (last_image work.commits) r) e.last (e.state r)))
+
+  held-words-same : (b : ℕ) → b < work.sizes.buffers → held_words bits ledger b ≡ held_states bits e b
+  held-words-same b below =
+      ap (λ w. w * count_entries bits is_held_status (statuses work.commits e) b (capacity work.sizes.words w)) (sym (width-is b below))
+      ∙ ap (λ n. width_of e b * count_entries bits is_held_status (statuses work.commits e) b (capacity n (width_of e b))) (sym st.words)
+      ∙ ap (λ n. width_of e b * n) (count-same bits is_held_status (is_held_entry e.last) (statuses work.commits e) e.state b (capacity e.words (width_of e b))
+      (λ r. held-same (is_in (last_image work.commits) r) e.last (e.state r)))
+
+  -- what all buffers have, by statuses
+  over-words : (states words : ℕ → ℕ) → ((b : ℕ) → b < work.sizes.buffers → words b ≡ states b) → over_buffers states e.count ≡ over_buffers words work.sizes.buffers
+  over-words states words same = ap (over_buffers states) st.count ∙ over-same states words work.sizes.buffers (λ b below. sym (same b below))
+
+  pub usage-is : (active on_hold : ℕ) (words : Words) → active ≡ count_marks is_state_active e.mark e.count → on_hold ≡ count_marks is_on_hold e.mark e.count → HasWords bits e words
+      → IsUsage bits ledger (record { active = active; on_hold = on_hold; used = words.used; dead = words.dead; held = words.held })
+  usage-is active on_hold words few waits has = record {
+    active = few ∙ ap (count_marks is_state_active e.mark) st.count ∙ count-active e.mark work.buffer work.sizes.buffers st.marks;
+    on_hold = waits ∙ ap (count_marks is_on_hold e.mark) st.count ∙ count-held e.mark work.buffer work.sizes.buffers st.marks;
+    used = has.used ∙ over-words (used_states bits e) (used_words bits ledger) used-same;
+    dead = has.dead ∙ over-words (dead_states bits e) (dead_words bits ledger) dead-words-same;
+    held = has.held ∙ over-words (held_states bits e) (held_words bits ledger) held-words-same;
+  }
 
   candidate-to : (b : ℕ) → IsCandidate bits ledger b → IsCandidateEntry bits e b
   candidate-to b is =

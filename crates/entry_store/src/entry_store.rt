@@ -21,7 +21,7 @@ use arena_api::{Advance, Frozen, Oldest, Work};
 use entry_ledger::EntryLedger;
 use entry_ref::EntryRef;
 use std::alloc::Global;
-use store_api::{Store, StoreError, Stored};
+use store_api::{Store, StoreError, Stored, Usage};
 
 /// A store over a work.
 #[derive(Drop)]
@@ -449,6 +449,17 @@ impl<const OFFSET_BITS: u32, W: Work<OFFSET_BITS>> Store<OFFSET_BITS>
 
     fn choose_victim(&self) -> Option<u32> {
         self.entries.choose_victim()
+    }
+
+    fn usage(&self) -> Usage {
+        let words = self.entries.words();
+        Usage {
+            active: self.entries.active(),
+            on_hold: self.entries.on_hold(),
+            used: words.used,
+            dead: words.dead,
+            held: words.held,
+        }
     }
 
     fn commits_left(&self) -> u32 {

@@ -4,4 +4,5 @@ pub mod Units
 pub mod Calls
 pub mod Parts
 pub mod Victims
+pub mod Usages
 pub mod Flows

@@ -58,6 +58,10 @@ abbrev pub is_free_status : Status → Bool
 is_free_status Status.free = true
 is_free_status status = false
 
+abbrev pub is_held_status : Status → Bool
+is_held_status (Status.held tag) = true
+is_held_status status = false
+
 abbrev pub is_let_go : Status → Bool
 is_let_go Status.let_go = true
 is_let_go status = false

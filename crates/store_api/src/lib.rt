@@ -7,4 +7,4 @@ mod store;
 
 pub use laws::{counting_law, may_do_law, parts_law};
 pub use parts::{drop_one, make_entry};
-pub use store::{Store, StoreError, Stored};
+pub use store::{Store, StoreError, Stored, Usage};

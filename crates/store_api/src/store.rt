@@ -14,6 +14,7 @@ ghost use Rattle.store_api.specs.Ledgers.{is_width, widths};
 ghost use Rattle.store_api.specs.Units.{MayDo};
 ghost use Rattle.store_api.specs.Calls.{GivesBack, MayGiveBack, Makes, Refuses, ComesAfter, DropsEntry, Accepts, Undoes, IsWhole, StoresCommit, Seals};
 ghost use Rattle.store_api.specs.Victims.{IsVictim, HasNoVictim};
+ghost use Rattle.store_api.specs.Usages.{IsUsage};
 
 use arena_api::{Advance, Frozen, Oldest};
 use entry_ref::{EntryRef, Layout};
@@ -41,6 +42,20 @@ pub struct Stored {
     pub commit: u32,
     pub advance: Advance,
     pub oldest: Oldest,
+}
+
+/// How many buffers of a store are in use, and how many words of the active ones.
+#[derive(Clone, Copy, Debug, PartialEq, Eq, Drop)]
+pub struct Usage {
+    /// The number of active buffers, and of buffers on hold.
+    pub active: u32,
+    pub on_hold: u32,
+    /// The words of all offsets taken so far, offset 0 of each buffer included.
+    pub used: u64,
+    /// Those of entries that are free, dropped or held.
+    pub dead: u64,
+    /// Those of held entries, which readers of earlier commits may have.
+    pub held: u64,
 }
 
 /// Entries in the buffers of a work, with a ledger that holds the status of each entry.
@@ -148,6 +163,10 @@ pub trait Store<const OFFSET_BITS: u32>: Frozen<OFFSET_BITS> {
     fn choose_victim(&self) -> Option<u32>
         ensures some { IfSome result (IsVictim OFFSET_BITS (ledger self.now)) }
         ensures none { IfNone result (HasNoVictim OFFSET_BITS (ledger self.now)) };
+
+    /// Returns how many buffers and words are in use. It goes over all buffers.
+    fn usage(&self) -> Usage
+        ensures { IsUsage OFFSET_BITS (ledger self.now) result };
 
     /// Returns how many more commits are possible.
     fn commits_left(&self) -> u32
