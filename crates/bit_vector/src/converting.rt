@@ -76,7 +76,6 @@ fn ones(alloc: Global, size: usize) -> Result<Vec<u64>, AllocError>
 }
 
 /// Makes a tree by number of the documents of a bit vector, each with the value 1. The bit vector stays.
-#[tactic(none)]
 pub fn to_tree<const OFFSET_BITS: u32, S: Store<OFFSET_BITS>>(
     alloc: Global,
     store: &mut S,
