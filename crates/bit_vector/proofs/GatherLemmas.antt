@@ -6,7 +6,6 @@ use Rattle.std.specs.List.Sorted.{IsStrictlySortedBy}
 use Rattle.std.specs.Ordering.{nat_cmp}
 use Rattle.std.proofs.lemmas.Bool.{eqb-true, eqb-false, eq-eqb, ne_eqb}
 use Rattle.std.proofs.lemmas.List.{append-nil}
-use Rattle.list_facts.proofs.Each.{AllByRecursion-each}
 use Rattle.entry_ref.specs.Records.{Records, SameAt}
 use Rattle.store_api.specs.Ledgers.{Ledger}
 use Rattle.store_api.specs.Parts.{Part, After, Owns, Turns, count_in, entry, entries, times, uses}
@@ -59,17 +58,19 @@ in_range s (suc n) x low high = by_cases (nat_eq x s)
     (λ yes. ap (λ b. b || has (range_with_len (s + 1) n) x) yes)
     (λ no. let apart = eqb-false x s no in ap (λ b. b || has (range_with_len (s + 1) n) x) no ∙ in_range (s + 1) n x (omega (arith, low, apart)) (omega (arith, high)))
 
-pub filter_more : (t : ℕ → Bool) (s n : ℕ) → filter t (range_with_len s (suc n)) ≡ filter t (range_with_len s n) ++ cond (t (s + n)) ((s + n) ∷ []) []
+filter_more : (t : ℕ → Bool) (s n : ℕ) → filter t (range_with_len s (suc n)) ≡ filter t (range_with_len s n) ++ cond (t (s + n)) ((s + n) ∷ []) []
 filter_more t s zero = ap (λ x. cond (t x) (x ∷ []) []) (let e : s ≡ s + 0 = omega arith in e)
 filter_more t s (suc n) =
+    let rest : filter t (range_with_len (s + 1) (suc n)) ≡ filter t (range_with_len (s + 1) n) ++ cond (t (s + suc n)) ((s + suc n) ∷ []) [] =
+    filter_more t (s + 1) n ∙ ap (λ x. filter t (range_with_len (s + 1) n) ++ cond (t x) (x ∷ []) []) (let e : s + 1 + n ≡ s + suc n = omega arith in e) in
     elim (t s) as (λ b. cond b (s ∷ filter t (range_with_len (s + 1) (suc n))) (filter t (range_with_len (s + 1) (suc n)))
     ≡ cond b (s ∷ filter t (range_with_len (s + 1) n)) (filter t (range_with_len (s + 1) n)) ++ cond (t (s + suc n)) ((s + suc n) ∷ []) []) [
       | true ↦ ap (λ xs. s ∷ xs) rest
       | false ↦ rest
     ]
-  where
-    rest : filter t (range_with_len (s + 1) (suc n)) ≡ filter t (range_with_len (s + 1) n) ++ cond (t (s + suc n)) ((s + suc n) ∷ []) []
-    rest = filter_more t (s + 1) n ∙ ap (λ x. filter t (range_with_len (s + 1) n) ++ cond (t x) (x ∷ []) []) (let e : s + 1 + n ≡ s + suc n = omega arith in e)
+
+filter_next : (t : ℕ → Bool) (n : ℕ) → filter t (range_with_len 0 (suc n)) ≡ filter t (range_with_len 0 n) ++ cond (t n) (n ∷ []) []
+filter_next t n = filter_more t 0 n ∙ ap (λ x. filter t (range_with_len 0 n) ++ cond (t x) (x ∷ []) []) (let e : 0 + n ≡ n = omega arith in e)
 
 -- pairs of blocks
 zip_keys : (P : ℕ → ℕ → Type 0) (ks rs : List ℕ) → AllZip P ks rs → map (λ p. p.0) (zip ks rs) ≡ ks
@@ -139,7 +140,7 @@ module _ {H : Type 0} (a b c : Ledger H) (m n o : Records) (docs : List ℕ) (ro
 
   pub makes_next : MakesBlocks a c m o docs (suc k) next
   makes_next = record {
-    numbers = more.numbers ∙ ap (λ (xs : List ℕ). xs ++ cond (is_block_of docs k) (k ∷ []) []) makes.numbers ∙ sym (filter_more (is_block_of docs) 0 k);
+    numbers = more.numbers ∙ ap (λ (xs : List ℕ). xs ++ cond (is_block_of docs k) (k ∷ []) []) makes.numbers ∙ sym (filter_next (is_block_of docs) k);
     each = subst (λ (xs : List ℕ). AllZip (λ number ref. IsBlockOf docs number (o ref)) xs next.records.items) (sym more.numbers)
         (subst (λ (ys : List ℕ). AllZip (λ number ref. IsBlockOf docs number (o ref)) (before.numbers.items ++ cond (is_block_of docs k) (k ∷ []) []) ys) (sym more.records)
         (zip_both (λ number ref. IsBlockOf docs number (o ref)) before.numbers.items old (cond (is_block_of docs k) (k ∷ []) []) new (zip_same n o docs before.numbers.items old old_stay makes.each) more.each));
@@ -213,15 +214,23 @@ module _ {H : Type 0} (a b c : Ledger H) (m n o : Records) (ps : List (ℕ × �
   abbrev rs : List ℕ
   rs = blocks.records.items
 
-  pub even : length ks ≡ length rs
+  even : length ks ≡ length rs
   even = zip_even (λ k r. IsBlockOf (keys ps) k (n r)) ks rs makes.each
 
-  pub numbers_ascend : IsStrictlySortedBy nat_cmp (map (λ p. p.0) (zip ks rs))
+  numbers_ascend : IsStrictlySortedBy nat_cmp (map (λ p. p.0) (zip ks rs))
   numbers_ascend = subst (IsStrictlySortedBy nat_cmp) (sym (zip_keys (λ k r. IsBlockOf (keys ps) k (n r)) ks rs makes.each))
       (subst (IsStrictlySortedBy nat_cmp) (sym makes.numbers) (sorted (filter (is_block_of (keys ps)) (range_with_len 0 256)) (filter_ascends (is_block_of (keys ps)) 0 256)))
 
-  pub each_pair : AllByRecursion (λ (p : ℕ × ℕ). Unit {0}) (zip ks rs)
-  each_pair = AllByRecursion-each (λ (p : ℕ × ℕ). Unit {0}) (λ p. tt) (zip ks rs)
+  -- slices of both
+  module _ (xs ys : List ℕ) (are : xs ≡ ks) (values : ys ≡ rs) where
+    pub slices_even : length xs ≡ length ys
+    slices_even = ap length are ∙ even ∙ sym (ap length values)
+
+    pub slices_pairs : zip xs ys ≡ zip ks rs
+    slices_pairs = ap (λ (qs : List ℕ). zip qs ys) are ∙ ap (zip ks) values
+
+    pub slices_ascend : IsStrictlySortedBy nat_cmp (map (λ p. p.0) (zip xs ys))
+    slices_ascend = subst (λ (qs : List (ℕ × ℕ)). IsStrictlySortedBy nat_cmp (map (λ p. p.0) qs)) (sym slices_pairs) numbers_ascend
 
   module _ (next : ℕ) (keyed : IsNumberTree o next) (pairs : tree_pairs o next ≡ zip ks rs) (turns : Turns b c n o [] (tree next ∷ [])) where
     owns_blocks : Owns b n (entries rs ∷ [])
