@@ -1,5 +1,6 @@
 -- The next key in lists.
-use Rattle.std.proofs.Common.{◌≡◌, ◌≢◌, ℕ, ℤ, zero, suc, ◌+◌, ◌*◌, ◌/◌, ◌%◌, ◌<◌, Bool, true, false, cond, not, nat_lt, List, [], ◌∷◌, ◌++◌, map, length, None, Some, Option, option_map, Less, Equal, Greater, is_lt}
+use Rattle.std.proofs.Common.{◌≡◌, ◌≢◌, ℕ, ℤ, zero, suc, ◌+◌, ◌-◌, ◌*◌, ◌/◌, ◌%◌, ◌<◌, ◌^◌, Bool, true, false}
+use Rattle.std.proofs.Common.{cond, not, nat_lt, List, [], ◌∷◌, ◌++◌, map, length, None, Some, Option, option_map, Less, Equal, Greater, is_lt}
 use Rattle.std.proofs.Common.{nat_cmp, refl, sym, ap, subst, ◌∙◌, arith}
 use Rattle.std.proofs.lemmas.Bool.{le-ltb}
 use Rattle.std.proofs.lemmas.List.{length-map}
@@ -24,10 +25,12 @@ use Rattle.attr_compaction.specs.Places.{key_cmp}
 use Rattle.attr_compaction.specs.declared.plan.PlanKey.{PlanKey}
 use Rattle.attr_compaction.specs.declared.plan.PlanKey.TheVariants.{Pair}
 use Rattle.enum_dictionary.specs.Dictionaries.{behind, beside_value}
-use Rattle.posting_store.specs.Lists.{IsList, IsPlain}
-use Rattle.posting_store.proofs.FormLemmas.{form_even, form_odd, tree_at, tree_form}
+use Rattle.posting_store.specs.Lists.{is_vector, IsList, IsPlain}
+use Rattle.posting_store.proofs.FormLemmas.{form_even, form_odd, plain_of, tree_at, tree_form}
 use Rattle.value_index.specs.Indexes.{IsIndex, IsValuePair}
 use Rattle.attr_compaction.specs.PhaseKeys.{first_item, form_docs, key_past, keys_of_pairs, next_in_list, IsListPair}
+use Rattle.posting_store.proofs.VectorLemmas.{counted_from}
+use Rattle.attr_compaction.proofs.BlockLemmas.{vector_filled}
 use Rattle.attr_compaction.proofs.NextLemmas.{lt_cmp, past_number}
 
 -- ---- a list that is a tree, and one that is a record
@@ -50,11 +53,11 @@ module _ (m : Records) (word root : ℕ) (list : IsList m word) (plain : IsPlain
   tree_form_is = tree_form m word root plain word_is list
 
   keyed : (ps : List (ℕ × ℕ)) → AllByRecursion IsDocNumber (keys_of (map (λ p. (p.0, weight_in_bits p.1)) ps))
-      → AllByRecursion (λ p. IsDocNumber p.0) ps
+      → AllByRecursion (λ p. p.0 < 2 ^ 32) ps
   keyed [] all = tt
-  keyed (p ∷ ps) all = (all.0, keyed ps all.1)
+  keyed (p ∷ ps) all = ((let few = all.0.1 in omega (arith, few)), keyed ps all.1)
 
-  pub tree_numbers : AllByRecursion (λ p. IsDocNumber p.0) (tree_pairs m root)
+  pub tree_numbers : AllByRecursion (λ p. p.0 < 2 ^ 32) (tree_pairs m root)
   tree_numbers = keyed (tree_pairs m root) (subst (λ (es : List (ℕ × ℤ)). AllByRecursion IsDocNumber (keys_of es)) (tree_at m word root plain word_is) list.numbers)
 
   pub first_tree : option_map (λ (p : ℕ × ℕ). p.0) (first_item (tree_pairs m root)) ≡ first_item (form_docs m (list_form word))
@@ -78,8 +81,8 @@ module _ (m : Records) (word root : ℕ) (list : IsList m word) (plain : IsPlain
           ]) refl
 
 -- each list has a document
-pub docs_filled : (m : Records) (word : ℕ) → IsList m word → IsPlain word → 0 < word → 0 < length (form_docs m (list_form word))
-docs_filled m word list plain some = told (word % 2) refl
+plain_filled : (m : Records) (word : ℕ) → IsList m word → IsPlain word → 0 < length (form_docs m (list_form word))
+plain_filled m word list plain = told (word % 2) refl
   where
     told : (bit : ℕ) → word % 2 ≡ bit → 0 < length (form_docs m (list_form word))
     told zero is = subst {A = List ℕ} (λ docs. 0 < length docs) (sym (short_docs m word plain is)) (omega arith)
@@ -90,6 +93,13 @@ docs_filled m word list plain some = told (word % 2) refl
         let size = length-map (tree_pairs m root) (λ (p : ℕ × ℕ). p.0) in
         subst {A = List ℕ} (λ docs. 0 < length docs) (sym (tree_docs m word root list plain is refl)) (omega arith)
     told (suc (suc bit)) is = absurd (omega arith)
+
+pub docs_filled : (m : Records) (word : ℕ) → IsList m word → 0 < length (form_docs m (list_form word))
+docs_filled m word list = told (is_vector word) refl
+  where
+    told : (t : Bool) → is_vector word ≡ t → 0 < length (form_docs m (list_form word))
+    told true is = vector_filled m word (word - 8589934592) list (counted_from word is)
+    told false is = plain_filled m word list (plain_of word is)
 
 -- ---- the first key of pairs
 module _ (type : ValueType) (m : Records) where
@@ -110,7 +120,7 @@ module _ (type : ValueType) (m : Records) where
   first_pair_is [] some all key list at value = absurd (some refl)
   first_pair_is (p ∷ ps) some all key list at value =
       let pair = all.0.pair_is in
-      let filled = docs_filled m p.1 pair.list_is pair.plain pair.some in
+      let filled = docs_filled m p.1 pair.list_is in
       ap (λ (k : ℕ). option_map (λ (doc : ℕ). Pair (stored_value type m k) doc) (first_item (form_docs m (list_form list)))) at
       ∙ ap (λ (w : ℕ). option_map (λ (doc : ℕ). Pair (stored_value type m p.0) doc) (first_item (form_docs m (list_form w)))) value
       ∙ sym (first_of_pair (stored_value type m p.0) (form_docs m (list_form p.1)) (keys_of_pairs type m ps) filled)
@@ -151,7 +161,7 @@ module _ (type : ValueType) (m : Records) where
       → first_item (keys_of_pairs type m ps) ≡ find test (keys_of_pairs type m ps)
   first_passes test all [] are = refl
   first_passes test all (p ∷ ps) are =
-      let pair = are.0.pair_is in first (form_docs m (list_form p.1)) (docs_filled m p.1 pair.list_is pair.plain pair.some)
+      let pair = are.0.pair_is in first (form_docs m (list_form p.1)) (docs_filled m p.1 pair.list_is)
     where
       first : (docs : List ℕ) → 0 < length docs → first_item (map (λ doc. Pair (stored_value type m p.0) doc) docs ++ keys_of_pairs type m ps)
           ≡ find test (map (λ doc. Pair (stored_value type m p.0) doc) docs ++ keys_of_pairs type m ps)
@@ -161,7 +171,7 @@ module _ (type : ValueType) (m : Records) where
 
   first_passes_at : (test : PlanKey → Bool) (p : ℕ × ℕ) (ps : List (ℕ × ℕ)) → ((doc : ℕ) → test (Pair (stored_value type m p.0) doc) ≡ true) → IsListPair type m p
       → find test (keys_of_pairs type m (p ∷ ps)) ≡ first_item (keys_of_pairs type m (p ∷ ps))
-  first_passes_at test p ps all is = first (form_docs m (list_form p.1)) (docs_filled m p.1 is.pair_is.list_is is.pair_is.plain is.pair_is.some)
+  first_passes_at test p ps all is = first (form_docs m (list_form p.1)) (docs_filled m p.1 is.pair_is.list_is)
     where
       first : (docs : List ℕ) → 0 < length docs → find test (map (λ doc. Pair (stored_value type m p.0) doc) docs ++ keys_of_pairs type m ps)
           ≡ first_item (map (λ doc. Pair (stored_value type m p.0) doc) docs ++ keys_of_pairs type m ps)

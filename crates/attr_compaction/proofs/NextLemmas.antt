@@ -1,5 +1,5 @@
 -- The next key of a phase.
-use Rattle.std.proofs.Common.{◌≡◌, ◌≢◌, ℕ, ◌+◌, ◌<◌, Bool, true, false, cond, not, nat_lt, List, [], ◌∷◌, map, None, Some, Option, option_map, Less, Equal, Greater, is_lt, nat_cmp, refl, sym, ap, ◌∙◌, arith}
+use Rattle.std.proofs.Common.{◌≡◌, ◌≢◌, ℕ, ◌+◌, ◌<◌, ◌^◌, Bool, true, false, cond, not, nat_lt, List, [], ◌∷◌, map, None, Some, Option, option_map, Less, Equal, Greater, is_lt, nat_cmp, refl, sym, ap, ◌∙◌, arith}
 use Rattle.std.proofs.lemmas.Bool.{ltb-true, ltb-false, le-ltb, lt-ltb}
 use Rattle.std.specs.declared.cmp.Ordering.{Ordering}
 use Rattle.std.specs.List.{find, AllByRecursion}
@@ -11,7 +11,6 @@ use Rattle.tree_read.specs.Trees.{tree_pairs}
 use Rattle.tree_read.specs.SearchPlaces.{first_key, first_value}
 use Rattle.attr_images.specs.Values.{stored_value}
 use Rattle.attr_types.specs.ProofsForOrder.{value_cmp_total}
-use Rattle.attr_types.specs.Lawful.{IsDocNumber}
 use Rattle.attr_types.specs.Value.{type_of, value_cmp}
 use Rattle.doc_vector.specs.Documents.{IsDocumentPair}
 use Rattle.attr_types.specs.declared.kind.ValueType.{ValueType}
@@ -157,6 +156,6 @@ module _ (m : Records) (root : ℕ) where
   number_past_is doc number is =
       ap (option_map (λ (d : ℕ). Doc d)) is ∙ keyed_twice (first_item (seek (λ key. nat_cmp key (doc + 1)) (tree_pairs m root))) ∙ doc_past_is m root doc
 
-pub documents_number : (ps : List (ℕ × ℕ)) → AllByRecursion IsDocumentPair ps → AllByRecursion (λ p. IsDocNumber p.0) ps
+pub documents_number : (ps : List (ℕ × ℕ)) → AllByRecursion IsDocumentPair ps → AllByRecursion (λ p. p.0 < 2 ^ 32) ps
 documents_number [] all = tt
-documents_number (p ∷ ps) all = (all.0.document, documents_number ps all.1)
+documents_number (p ∷ ps) all = ((let few = all.0.document.1 in omega (arith, few)), documents_number ps all.1)

@@ -1,5 +1,5 @@
 -- The keys of a phase ascend.
-use Rattle.std.proofs.Common.{◌≡◌, ℕ, ℤ, zero, suc, ◌+◌, ◌*◌, ◌/◌, ◌%◌, Bool, true, false, cond, nat_eq, List, [], ◌∷◌, ◌++◌, map, Less, nat_cmp, refl, sym, ap, subst, ◌∙◌, arith}
+use Rattle.std.proofs.Common.{◌≡◌, ℕ, ℤ, zero, suc, ◌+◌, ◌-◌, ◌*◌, ◌/◌, ◌%◌, Bool, true, false, cond, nat_eq, List, [], ◌∷◌, ◌++◌, map, Less, nat_cmp, refl, sym, ap, subst, ◌∙◌, arith}
 use Rattle.std.proofs.lemmas.Cmp.{tied_itself}
 use Rattle.std.specs.declared.cmp.Ordering.{Ordering}
 use Rattle.std.specs.List.{AllByRecursion}
@@ -19,11 +19,13 @@ use Rattle.attr_types.specs.declared.value.Value.{Value as AnyValue}
 use Rattle.attr_compaction.specs.Places.{key_cmp}
 use Rattle.attr_compaction.specs.declared.plan.PlanKey.{PlanKey}
 use Rattle.attr_compaction.specs.declared.plan.PlanKey.TheVariants.{Value, Doc, Pair}
-use Rattle.posting_store.specs.Lists.{IsList, IsPlain}
-use Rattle.posting_store.proofs.FormLemmas.{tree_at}
+use Rattle.posting_store.specs.Lists.{is_vector, IsList, IsPlain}
+use Rattle.posting_store.proofs.FormLemmas.{plain_of, tree_at}
 use Rattle.value_index.specs.Indexes.{IsValuePair}
 use Rattle.attr_compaction.specs.KeysLaws.{PhaseKeysAscend}
 use Rattle.attr_compaction.specs.PhaseKeys.{document_keys, form_docs, keys_of_pairs, node_phase_keys, pair_keys, value_keys}
+use Rattle.posting_store.proofs.VectorLemmas.{counted_from}
+use Rattle.attr_compaction.proofs.BlockLemmas.{vector_ascends}
 use Rattle.attr_compaction.proofs.ListLemmas.{short_docs, tree_docs}
 
 abbrev Up : List PlanKey → Type 0
@@ -103,8 +105,8 @@ module _ (type : ValueType) (m : Records) where
   plain_keys [] = refl
   plain_keys (p ∷ ps) = ap (λ ks. p.0 ∷ ks) (plain_keys ps)
 
-  docs_ascend : (word : ℕ) → IsList m word → IsPlain word → IsStrictlySortedBy nat_cmp (form_docs m (list_form word))
-  docs_ascend word list plain = told (word % 2) refl
+  plain_ascend : (word : ℕ) → IsList m word → IsPlain word → IsStrictlySortedBy nat_cmp (form_docs m (list_form word))
+  plain_ascend word list plain = told (word % 2) refl
     where
       told : (bit : ℕ) → word % 2 ≡ bit → IsStrictlySortedBy nat_cmp (form_docs m (list_form word))
       told zero is = subst (λ (ds : List ℕ). IsStrictlySortedBy nat_cmp ds) (sym (short_docs m word plain is)) one_ascends
@@ -116,12 +118,19 @@ module _ (type : ValueType) (m : Records) where
           (subst (λ (es : List (ℕ × ℤ)). IsStrictlySortedBy nat_cmp (keys_of es)) (tree_at m word root plain at) list.ascends))
       told (suc (suc bit)) is = absurd (omega (arith, is))
 
+  docs_ascend : (word : ℕ) → IsList m word → IsStrictlySortedBy nat_cmp (form_docs m (list_form word))
+  docs_ascend word list = told (is_vector word) refl
+    where
+      told : (t : Bool) → is_vector word ≡ t → IsStrictlySortedBy nat_cmp (form_docs m (list_form word))
+      told true is = vector_ascends m word (word - 8589934592) list (counted_from word is)
+      told false is = plain_ascend word list (plain_of word is)
+
   pub lists_ascend : (ps : List (ℕ × ℕ)) → IsStrictlySortedBy value_cmp (map read ps) → AllByRecursion (IsValuePair m) ps → Up (keys_of_pairs type m ps)
   unfolding IsStrictlySortedBy
   lists_ascend [] up are = tt
   lists_ascend (p ∷ ps) up are =
       ascend_both (map (λ doc. Pair (stored_value type m p.0) doc) (form_docs m (list_form p.1))) (keys_of_pairs type m ps)
-      (in_list (stored_value type m p.0) (form_docs m (list_form p.1)) (docs_ascend p.1 are.0.list_is are.0.plain)) (lists_ascend ps up.1 are.1)
+      (in_list (stored_value type m p.0) (form_docs m (list_form p.1)) (docs_ascend p.1 are.0.list_is)) (lists_ascend ps up.1 are.1)
       (all_pairs_above (stored_value type m p.0) (form_docs m (list_form p.1)) ps up.0)
 
 pub phase_ascends : PhaseKeysAscend

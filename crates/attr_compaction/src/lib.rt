@@ -15,9 +15,11 @@ mod numbers;
 mod pairs;
 mod plan;
 mod values;
+mod vectors;
 
 pub use counts_laws::count_law;
 pub use keys_laws::keys_law;
 pub use laws::place_law;
 pub use next::next_key;
 pub use plan::{DOCUMENTS, KEYS, LISTS, NODES, PHASES, Plan, PlanKey};
+pub use vectors::{is_vector, vector_root};

@@ -5,6 +5,7 @@ ghost use Rattle.posting_store.specs.Lists.{IsList, IsPlain};
 ghost use Rattle.attr_compaction.specs.PhaseKeys.{first_item, form_docs};
 
 use crate::numbers::{first_number, number_past};
+use crate::vectors::{block_past, first_block, is_vector};
 use arena_api::Frozen;
 use entry_ref::EntryRef;
 
@@ -24,8 +25,8 @@ fn root_of<const OFFSET_BITS: u32>(list: u64) -> EntryRef<OFFSET_BITS>
     EntryRef::from_raw((list / 2) as u32)
 }
 
-/// Returns the first document of a list in the form of a key, which is 0 if the list is a single record.
-pub fn first_in_list<const OFFSET_BITS: u32, F: Frozen<OFFSET_BITS>>(
+/// Returns the first document of a list that is no bit vector, in the form of a key: 0 if it is a single record.
+fn first_plain<const OFFSET_BITS: u32, F: Frozen<OFFSET_BITS>>(
     frozen: &mut F,
     list: u64,
 ) -> Option<u32>
@@ -41,8 +42,8 @@ pub fn first_in_list<const OFFSET_BITS: u32, F: Frozen<OFFSET_BITS>>(
     first_number(frozen, root_of(list))
 }
 
-/// Returns the first document of a list above another one, in the form of a key.
-pub fn past_in_list<const OFFSET_BITS: u32, F: Frozen<OFFSET_BITS>>(
+/// Returns the first document above another one of a list that is no bit vector, in the form of a key.
+fn past_plain<const OFFSET_BITS: u32, F: Frozen<OFFSET_BITS>>(
     frozen: &mut F,
     list: u64,
     doc: u32,
@@ -57,4 +58,38 @@ pub fn past_in_list<const OFFSET_BITS: u32, F: Frozen<OFFSET_BITS>>(
         return None;
     }
     number_past(frozen, root_of(list), doc)
+}
+
+/// Returns the first document of a list in the form of a key: 0 if the list is a single record, and the number with
+/// which the first block begins if it is a bit vector.
+pub fn first_in_list<const OFFSET_BITS: u32, F: Frozen<OFFSET_BITS>>(
+    frozen: &mut F,
+    list: u64,
+) -> Option<u32>
+    requires list { IsList (F.records frozen.old) list }
+    requires some { 0 < list }
+    ensures first { result ≡ first_item (form_docs (F.records frozen.old) (list_form list)) }
+    ensures same { frozen.new ≡ frozen.old }
+{
+    if is_vector(list) {
+        return first_block(frozen, list);
+    }
+    first_plain(frozen, list)
+}
+
+/// Returns the first document of a list above another one, in the form of a key.
+pub fn past_in_list<const OFFSET_BITS: u32, F: Frozen<OFFSET_BITS>>(
+    frozen: &mut F,
+    list: u64,
+    doc: u32,
+) -> Option<u32>
+    requires list { IsList (F.records frozen.old) list }
+    requires some { 0 < list }
+    ensures next { result ≡ find (nat_lt doc) (form_docs (F.records frozen.old) (list_form list)) }
+    ensures same { frozen.new ≡ frozen.old }
+{
+    if is_vector(list) {
+        return block_past(frozen, list, doc);
+    }
+    past_plain(frozen, list, doc)
 }

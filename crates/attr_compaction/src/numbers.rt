@@ -1,24 +1,23 @@
-ghost use Rattle.std.specs.Prelude.{◌≡◌, ◌+◌};
+ghost use Rattle.std.specs.Prelude.{◌≡◌, ◌<◌, ◌+◌, ◌^◌};
 ghost use Rattle.std.specs.List.{AllByRecursion};
 ghost use Rattle.std.specs.Option.{option_map};
 ghost use Rattle.std.specs.Ordering.{nat_cmp};
 ghost use Rattle.tree_read.specs.Pairs.{seek};
 ghost use Rattle.tree_read.specs.Trees.{tree_pairs, by_number, IsTree};
 ghost use Rattle.tree_read.specs.SearchPlaces.{pairs_from, IsAt};
-ghost use Rattle.attr_types.specs.Lawful.{IsDocNumber};
 ghost use Rattle.attr_compaction.specs.PhaseKeys.{first_item};
 
 use arena_api::Frozen;
 use entry_ref::EntryRef;
 use frozen_btree::{Cursor, NumberKey};
 
-/// Returns the document of the next pair, if there is one.
+/// Returns the number of the next pair, if there is one.
 fn number_at<const OFFSET_BITS: u32, F: Frozen<OFFSET_BITS>>(
     frozen: &mut F,
     cursor: &Cursor<OFFSET_BITS>,
 ) -> Option<u32>
     requires at { IsAt (F.records frozen.old) cursor.now }
-    requires numbers { AllByRecursion (λ p. IsDocNumber p.0) (pairs_from (F.records frozen.old) cursor.now) }
+    requires few { AllByRecursion (λ p. p.0 < 2 ^ 32) (pairs_from (F.records frozen.old) cursor.now) }
     ensures number { result ≡ option_map (λ p. p.0) (first_item (pairs_from (F.records frozen.old) cursor.now)) }
     ensures same { frozen.new ≡ frozen.old }
 {
@@ -30,13 +29,13 @@ fn number_at<const OFFSET_BITS: u32, F: Frozen<OFFSET_BITS>>(
     Some(number)
 }
 
-/// Returns the first document of a tree by document.
+/// Returns the first number of a tree by number.
 pub fn first_number<const OFFSET_BITS: u32, F: Frozen<OFFSET_BITS>>(
     frozen: &mut F,
     root: EntryRef<OFFSET_BITS>,
 ) -> Option<u32>
     requires tree { IsTree nat_cmp by_number (F.records frozen.old) root }
-    requires numbers { AllByRecursion (λ p. IsDocNumber p.0) (tree_pairs (F.records frozen.old) root) }
+    requires few { AllByRecursion (λ p. p.0 < 2 ^ 32) (tree_pairs (F.records frozen.old) root) }
     ensures number { result ≡ option_map (λ p. p.0) (first_item (tree_pairs (F.records frozen.old) root.entry)) }
     ensures same { frozen.new ≡ frozen.old }
 {
@@ -44,14 +43,14 @@ pub fn first_number<const OFFSET_BITS: u32, F: Frozen<OFFSET_BITS>>(
     number_at(frozen, &cursor)
 }
 
-/// Returns the first document of a tree by document above a number.
+/// Returns the first number of a tree by number above another one.
 pub fn number_past<const OFFSET_BITS: u32, F: Frozen<OFFSET_BITS>>(
     frozen: &mut F,
     root: EntryRef<OFFSET_BITS>,
     after: u32,
 ) -> Option<u32>
     requires tree { IsTree nat_cmp by_number (F.records frozen.old) root }
-    requires numbers { AllByRecursion (λ p. IsDocNumber p.0) (tree_pairs (F.records frozen.old) root) }
+    requires few { AllByRecursion (λ p. p.0 < 2 ^ 32) (tree_pairs (F.records frozen.old) root) }
     ensures number { result ≡ option_map (λ p. p.0)
         (first_item (seek (λ key. nat_cmp key (after + 1)) (tree_pairs (F.records frozen.old) root.entry))) }
     ensures same { frozen.new ≡ frozen.old }

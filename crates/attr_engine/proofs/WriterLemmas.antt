@@ -1,5 +1,5 @@
 -- What stays of a writer, and what a loading makes of it.
-use Rattle.std.proofs.Common.{◌≡◌, ◌<◌, ◌≤◌, ◌+◌, ℕ, zero, suc, List, [], ◌∷◌, length, None, Some, refl, sym, ap, subst, ◌∙◌, arith}
+use Rattle.std.proofs.Common.{◌≡◌, ◌<◌, ◌≤◌, ◌+◌, ℕ, zero, suc, List, [], ◌∷◌, length, None, Some, refl, sym, ap, subst, ◌∙◌, arith, false}
 use Rattle.std.specs.Prelude.{slice_get, All, IfSome, ◌^◌}
 use Rattle.std.specs.List.{AllByRecursion}
 use Rattle.std.proofs.lemmas.Option.{slice_get_within, IfSome_then}
@@ -57,11 +57,11 @@ module _ {S : Type 0} (ledger : S → Ledger TableId) (fields : List Field) (bat
   pub made_stays : v.made ≡ w.made
   made_stays = ap (λ (x : WorkView TableId). x.made) to ∙ loads.stays.readers ∙ ap (λ (x : WorkView TableId). x.made) from
 
-  owed_into : HasMadeNothing (ledger a.store) → length fields ≡ 1 → IfSome loaded.full (λ full. IsOwed (load_of w.sizes.buffers w.sizes.words fields batch ops) full.operation loaded.operations)
-  owed_into nothing one =
+  owed_into : HasMadeNothing (ledger a.store) → a.dense ≡ false → length fields ≡ 1 → IfSome loaded.full (λ full. IsOwed (load_of w.sizes.buffers w.sizes.words fields batch ops) full.operation loaded.operations)
+  owed_into nothing off one =
       subst (λ (x : WorkView TableId). IfSome loaded.full (λ (full : NoRoom). IsOwed (load_of x.sizes.buffers x.sizes.words fields batch ops) full.operation loaded.operations)) from
       (subst (λ (fs : List Field). IfSome loaded.full (λ (full : NoRoom). IsOwed (load_of (ledger a.store).work.sizes.buffers (ledger a.store).work.sizes.words fs batch ops) full.operation loaded.operations)) fields_are
-      (loads.owed (ap length fields_are ∙ one) nothing))
+      (loads.owed off (ap length fields_are ∙ one) nothing))
 
   small_into : HasMadeNothing (ledger a.store) → a.plan ≡ None → length fields ≡ 1 → 8 ≤ w.sizes.buffers → IsSmall (load_of w.sizes.buffers w.sizes.words fields batch ops) → loaded.full ≡ None
   small_into nothing plan one many small =
@@ -76,8 +76,8 @@ module _ {S : Type 0} (ledger : S → Ledger TableId) (fields : List Field) (bat
       loads.unheld (ap (λ (x : WorkView TableId). x.made) from ∙ sym made_stays ∙ none) (omega (arith, last, generations, few))
 
   pub loads_into : v.sizes.shape ≡ shape_of (types_of b.fields) → IsNewWriter fields home w → length ops < 2 ^ 32 → slice_get v.commits 0 ≡ Some no_image → HasMadeNothing (ledger a.store)
-      → a.plan ≡ None → LoadsInto fields batch ops w v loaded
-  loads_into shape_now new few first nothing plan =
+      → a.dense ≡ false → a.plan ≡ None → LoadsInto fields batch ops w v loaded
+  loads_into shape_now new few first nothing off plan =
       let are : AreCommits fields batch ops loads.last v.commits =
       subst (AreCommits fields batch ops loads.last) told_is (subst (λ fs. AreCommits fs batch ops loads.last ((ledger b.store).work.told)) fields_are loads.told) in
       let long = are.count (slice_get_within v.commits 0 no_image first) in
@@ -92,7 +92,7 @@ module _ {S : Type 0} (ledger : S → Ledger TableId) (fields : List Field) (bat
         full = IfSome_then loaded.full loads.full (λ room at.
             let here = subst (λ (x : WorkView TableId). CountsFull x room) (sym to) (at.free, at.active_is, at.held_is) in
             record { free = here.0; active_is = here.1; held_is = here.2 });
-        owed = owed_into nothing;
+        owed = owed_into nothing off;
         small = small_into nothing plan;
         unheld = unheld_into new few;
       }

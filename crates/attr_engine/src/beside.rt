@@ -1,5 +1,5 @@
 //! The loading, beside other tasks.
-ghost use Rattle.std.specs.Prelude.{◌≡◌, ◌<◌, ◌≤◌, ◌+◌, ◌^◌, length, map, is_some, None, IfOk, IfSome, All};
+ghost use Rattle.std.specs.Prelude.{◌≡◌, ◌<◌, ◌≤◌, ◌+◌, ◌^◌, false, length, map, is_some, None, IfOk, IfSome, All};
 ghost use Rattle.std.specs.List.{AllByRecursion, AllZip};
 ghost use Rattle.word_arena.specs.Knows.{view_of};
 ghost use Rattle.word_arena.specs.Ruled.{reader_of, writer_of};
@@ -46,6 +46,7 @@ fn opened<'a, const OFFSET_BITS: u32>(
 >
     requires new { IsNewWriter fields.now writer.place.table_id (writer_of writer.place.me.0) }
     ensures fields { IfOk result (λ a. a.fields ≡ fields.now) }
+    ensures dense { IfOk result (λ a. a.dense ≡ false) }
     ensures start { IfOk result (IsAtStart ⟦<EntryStore<OFFSET_BITS, Writer<'a, OFFSET_BITS, AttrLayout>> as Store<OFFSET_BITS>>⟧.ledger) }
     ensures work { IfOk result (λ a. (⟦<EntryStore<OFFSET_BITS, Writer<'a, OFFSET_BITS, AttrLayout>> as Store<OFFSET_BITS>>⟧.ledger
         a.store).work

@@ -11,7 +11,7 @@ use Rattle.attr_index.proofs.OfLemmas.{empty_index, has_values, has_lists}
 use Rattle.attr_index.specs.Index.{IsIndexOf}
 use Rattle.value_index.proofs.KeyLemmas.{among_left, among_right}
 use Rattle.value_index.specs.Indexes.{index_reach}
-use Rattle.value_index.specs.Laws.{NothingIsIndex, IndexStays, IndexIsLawful, KeyIsRead}
+use Rattle.value_index.specs.Laws.{NothingIsIndex, IndexStays, IndexIsLawful, FormStays, KeyIsRead}
 use Rattle.attr_field.specs.Laws.{NothingIsField, FieldStays, FieldIsLawful, FieldOwnsKeys, FieldReaches, FieldReachesOwn}
 
 pub field_nothing : NothingIsDocuments → NothingIsIndex → NothingIsField
@@ -25,8 +25,8 @@ field_nothing documents index kind type m = (
   refl,
 )
 
-pub field_stays : DocumentsStay → IndexStays → FieldStays
-field_stays documents_stay index_stays kind type m n documents dictionary same refer is =
+pub field_stays : DocumentsStay → IndexStays → FormStays → FieldStays
+field_stays documents_stay index_stays form_stays kind type m n documents dictionary same refer is =
     let own = SameAt-left m n (documents_own kind m documents) (index_reach m dictionary) same in
     let rest = SameAt-right m n (documents_own kind m documents) (index_reach m dictionary) same in
     let index = index_stays type m n dictionary rest is.index_is in
@@ -41,6 +41,7 @@ field_stays documents_stay index_stays kind type m n documents dictionary same r
       column_is = stay.1;
       refers = stay.2;
       keys = index.2;
+      form = form_stays type m n dictionary rest;
     }
 
 pub field_lawful : DocumentsAreLawful → IndexIsLawful → FieldIsLawful

@@ -25,8 +25,9 @@ use Rattle.attr_types.specs.declared.value.Value.{Value}
 use Rattle.value_index.proofs.WalksKeyLemmas.{settled_long}
 use Rattle.value_index.specs.Changes.{KeepsKeys}
 use Rattle.value_index.specs.Flows.{FlowsIndex}
+use Rattle.value_index.specs.Forms.{KeepsForm}
 use Rattle.value_index.specs.Indexes.{index_part, index_reach, IsIndex, IsKey}
-use Rattle.value_index.specs.Laws.{IndexStays, KeyIsRead}
+use Rattle.value_index.specs.Laws.{FormStays, IndexStays, KeyIsRead}
 use Rattle.attr_field.specs.Changes.{KeepsCopies}
 use Rattle.attr_field.specs.Steps.{StandsField, StepsField}
 use Rattle.attr_field.proofs.CopyLemmas.{refers_after}
@@ -91,6 +92,9 @@ module _ (index_stays : IndexStays) {H : Type 0} (kind : Kind) (type : ValueType
 
   pub documents_index_same : index_of type n dictionary ≡ index_of type m dictionary
   documents_index_same = documents_index.1
+
+  pub documents_form : FormStays → KeepsForm type m n dictionary
+  documents_form stays = stays type m n dictionary documents_after.stay.0
 
   documents_keeps : KeepsCopies old kind m n documents (documents_part kind documents ∷ index_part dictionary ∷ []) next dictionary
   documents_keeps = record {

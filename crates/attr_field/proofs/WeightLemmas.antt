@@ -1,9 +1,11 @@
 -- Maps of first weights.
-use Rattle.std.proofs.Common.{◌≡◌, ℕ, ℤ, ◌<◌, Bool, true, false, cond, List, [], ◌∷◌, length, Option, None, Some, option_map, nat_cmp, is_eq, refl, sym, ap, subst, ◌∙◌, arith}
+use Rattle.std.proofs.Common.{◌≡◌, ℕ, ℤ, pos, ◌<◌, Bool, true, false, true≢false, cond, List, [], ◌∷◌, length, Option, None, Some, option_map, nat_cmp, is_eq, refl, sym, ap, subst, ◌∙◌}
 use Rattle.std.proofs.lemmas.Cmp.{tied_itself}
 use Rattle.std.specs.Prelude.{IsSome}
 use Rattle.std.specs.BTreeMap.{insert_entry, is_at}
 use Rattle.std.specs.List.{AllByRecursion, find}
+use Rattle.std.specs.Ordering.{match_ordering}
+use Rattle.std.specs.declared.cmp.Ordering.TheVariants.{Less, Equal, Greater}
 use Rattle.std.specs.Map.{keys_of, lookup}
 use Rattle.std.specs.Option.{is_some}
 use Rattle.list_facts.proofs.Each.{AllByRecursion-weaker}
@@ -18,7 +20,11 @@ use Rattle.attr_types.proofs.EntryLemmas.{all_keys-insert, all-lookup}
 use Rattle.attr_types.specs.ProofsForOrder.{value_cmp_total}
 use Rattle.attr_types.specs.Value.{value_cmp, values_of, type_of, AreOfType}
 use Rattle.attr_types.specs.declared.items.Item.{Item}
+use Rattle.attr_types.specs.Lawful.{HaveWeightOne, IsLawfulItems}
 use Rattle.attr_types.specs.declared.kind.Kind.{Kind}
+use Rattle.attr_types.specs.declared.kind.Kind.TheVariants as kinds
+use Rattle.value_index.specs.Forms.{WeighOnes}
+use Rattle.attr_field.specs.Forms.{wants}
 use Rattle.attr_types.specs.declared.kind.ValueType.{ValueType}
 use Rattle.attr_types.specs.declared.value.Value.{Value}
 use Rattle.entry_ref.specs.Records.{Records}
@@ -63,6 +69,32 @@ items_typed kind type m documents doc = told (lookup (is_at (nat_cmp doc)) (colu
         → AreOfType type (values_of (Rattle.std.specs.Prelude.unwrap_or o []))
     told None is = tt
     told (Some items) is = all-lookup (λ items. AreOfType type (values_of items)) (is_at (nat_cmp doc)) (column_at kind type m documents) (column_typed kind type m (tree_pairs m documents)) items is
+
+-- weights of 1, where bit vectors are wanted
+ones_put : (es : List (Value × ℤ)) (value : Value) (weight : ℤ) → weight ≡ pos 1 → AllByRecursion (λ e. e.1 ≡ pos 1) es → AllByRecursion (λ e. e.1 ≡ pos 1) (insert_entry value_cmp es value weight)
+ones_put [] value weight one ones = (one, tt)
+ones_put (e ∷ es) value weight one ones =
+    let rest = ones_put es value weight one ones.1 in
+    elim (value_cmp value e.0) as (λ o. AllByRecursion (λ (x : Value × ℤ). x.1 ≡ pos 1) (match_ordering o ((value, weight) ∷ e ∷ es) ((e.0, weight) ∷ es) (e ∷ insert_entry value_cmp es value weight))) [
+      | Less ↦ (one, ones)
+      | Equal ↦ (one, ones.1)
+      | Greater ↦ (ones.0, rest)
+    ]
+
+ones_first : (es : List (Value × ℤ)) (items : List Item) → AllByRecursion (λ e. e.1 ≡ pos 1) es → HaveWeightOne items → AllByRecursion (λ e. e.1 ≡ pos 1) (first_weights es items)
+ones_first es [] ones all = ones
+ones_first es (item ∷ items) ones all =
+    ones_first (cond (is_some (lookup (is_at (value_cmp item.value)) es)) es (insert_entry value_cmp es item.value item.weight)) items
+    (told (is_some (lookup (is_at (value_cmp item.value)) es))) all.1
+  where
+    told : (t : Bool) → AllByRecursion (λ (x : Value × ℤ). x.1 ≡ pos 1) (cond t es (insert_entry value_cmp es item.value item.weight))
+    told true = ones
+    told false = ones_put es item.value item.weight all.0 ones
+
+pub weigh_ones : (dense : Bool) (kind : Kind) (items : List Item) (entries : List (Value × ℤ)) → IsLawfulItems kind items → entries ≡ first_weights [] items → WeighOnes (wants dense kind) entries
+weigh_ones dense kinds.Single items entries fits is wanted = subst (AllByRecursion (λ (x : Value × ℤ). x.1 ≡ pos 1)) (sym is) (ones_first [] items tt fits.1)
+weigh_ones dense kinds.Array items entries fits is wanted = subst (AllByRecursion (λ (x : Value × ℤ). x.1 ≡ pos 1)) (sym is) (ones_first [] items tt fits.1)
+weigh_ones dense kinds.WeightedSet items entries fits is wanted = absurd (true≢false (sym wanted))
 
 -- each item has a weight among the items
 weight_at : (value : Value) (item : Item) (items : List Item) (b : Bool) → is_eq (value_cmp value item.value) ≡ b → IsSome (weight_in value items)

@@ -1,5 +1,5 @@
 -- Of which width a step was refused, by the column after the change.
-use Rattle.std.proofs.Common.{◌≡◌, ℕ, ℤ, List, [], length, Option, Some, None, nat_cmp, refl, sym, ap, subst, ◌∙◌, inl, inr}
+use Rattle.std.proofs.Common.{◌≡◌, Bool, ℕ, ℤ, List, [], length, Option, Some, None, nat_cmp, refl, sym, ap, subst, ◌∙◌, inl, inr}
 use Rattle.std.proofs.lemmas.Cmp.{nat_cmp_total}
 use Rattle.std.specs.Prelude.{◌⊎◌, IsSome, unwrap_or}
 use Rattle.std.specs.BTreeMap.{insert_entry}
@@ -37,7 +37,7 @@ none_is : {X : Type 0} → IsSome {T = ℤ} None → X
 none_is some = cc
 
 -- ---- the document's items change in a column, from these weights to those
-module _ (kind : Kind) (column : Column) (start : Index) (doc : ℕ) (new : Option (List Item)) (up : IsStrictlySortedBy nat_cmp (keys_of column)) (of : IsIndexOf column start)
+module _ (dense : Bool) (kind : Kind) (column : Column) (start : Index) (doc : ℕ) (new : Option (List Item)) (up : IsStrictlySortedBy nat_cmp (keys_of column)) (of : IsIndexOf column start)
     (old after : List (Value × ℤ)) (before : old ≡ first_weights [] (items_of column doc)) (are : after ≡ first_weights [] (unwrap_or new [])) where
   abbrev next : Column
   next = with_change column doc new
@@ -57,7 +57,7 @@ module _ (kind : Kind) (column : Column) (start : Index) (doc : ℕ) (new : Opti
       ∙ sym (documents_with-change column doc new value up)
 
   -- the first walk
-  pub added_width : (w : ℕ) → IsWalkWidth start doc (weights after) (λ v. None) w → IsFieldWidth kind next (items_of column doc) (unwrap_or new []) w
+  pub added_width : (w : ℕ) → IsWalkWidth dense start doc (weights after) (λ v. None) w → IsFieldWidth dense kind next (items_of column doc) (unwrap_or new []) w
   added_width w (inl node) = inl (inl node)
   added_width w (inr one) =
       let value = one.value in
@@ -66,7 +66,7 @@ module _ (kind : Kind) (column : Column) (start : Index) (doc : ℕ) (new : Opti
       inr (record {
         value = value;
         had = inr (had_after value some);
-        is = subst (λ (docs : List (ℕ × ℤ)). IsValueWidth value (length docs) w) lists one.is;
+        is = subst (λ (docs : List (ℕ × ℤ)). IsValueWidth dense value (length docs) w) lists one.is;
       })
     where
       told : (value : Value) → IsSome (weights after value) ⊎ IsSome {T = ℤ} None → IsSome (weights after value)
@@ -81,12 +81,12 @@ module _ (kind : Kind) (column : Column) (start : Index) (doc : ℕ) (new : Opti
         ∙ settled_twice doc (weights after value) (weights old value) (list_of value start) (list_of-sorted value start of.formed)
         ∙ both value
 
-    pub removed_width : (w : ℕ) → IsWalkWidth middle doc (weights after) (weights old) w → IsFieldWidth kind next (items_of column doc) (unwrap_or new []) w
+    pub removed_width : (w : ℕ) → IsWalkWidth dense middle doc (weights after) (weights old) w → IsFieldWidth dense kind next (items_of column doc) (unwrap_or new []) w
     removed_width w (inl node) = inl (inl node)
     removed_width w (inr one) = inr (record {
       value = one.value;
       had = told one.value one.walked;
-      is = subst (λ (docs : List (ℕ × ℤ)). IsValueWidth one.value (length docs) w) (again one.value) one.is;
+      is = subst (λ (docs : List (ℕ × ℤ)). IsValueWidth dense one.value (length docs) w) (again one.value) one.is;
     })
       where
         told : (value : Value) → IsSome (weights after value) ⊎ IsSome (weights old value)

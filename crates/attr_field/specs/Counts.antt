@@ -1,5 +1,5 @@
 -- Bounds on the records that a change of one document's items makes, by what they are and by width.
-use Rattle.std.specs.Prelude.{ℕ, ℤ, ◌+◌, ◌*◌, ◌^◌, ◌<◌, List, [], length, Option}
+use Rattle.std.specs.Prelude.{Bool, ℕ, ℤ, ◌+◌, ◌*◌, ◌^◌, ◌<◌, List, [], length, Option}
 use Rattle.std.specs.BTreeMap.{is_at}
 use Rattle.std.specs.Map.{lookup}
 use Rattle.attr_field.specs.Items.{items_record}
@@ -10,7 +10,7 @@ use Rattle.attr_types.specs.Value.{value_cmp}
 use Rattle.attr_types.specs.declared.items.Item.{Item}
 use Rattle.attr_types.specs.declared.kind.Kind.{Kind}
 use Rattle.attr_types.specs.declared.value.Value.{Value}
-use Rattle.value_index.specs.Counts.{added_count, added_records, gone_count, gone_records, value_nodes}
+use Rattle.value_index.specs.Counts.{added_count, added_forms, added_records, gone_count, gone_forms, gone_records, value_nodes}
 
 -- the weight of a value among entries
 abbrev pub entry_weight : List (Value × ℤ) → Value → Option ℤ
@@ -37,6 +37,14 @@ field_records kind column doc count old new width = added_records (λ value. doc
 abbrev pub change_records : Kind → Column → ℕ → List Item → List Item → ℕ → ℕ
 change_records kind column doc before after =
     field_records kind column doc (length after) (first_weights [] before) (first_weights [] after)
+
+-- bounds on what lists need besides that may be bit vectors
+abbrev pub field_forms : Bool → Column → ℕ → List (Value × ℤ) → List (Value × ℤ) → ℕ → ℕ
+field_forms dense column doc old new width = added_forms dense (λ value. documents_with value column) doc (entry_weight old) new width
+    + gone_forms dense (λ value. documents_with value column) doc (entry_weight new) old width
+
+abbrev pub change_forms : Bool → Column → ℕ → List Item → List Item → ℕ → ℕ
+change_forms dense column doc before after = field_forms dense column doc (first_weights [] before) (first_weights [] after)
 
 -- no tree of an attribute gets more levels while a document gets these values, by the number of its values and of its
 -- documents

@@ -6,6 +6,7 @@ use Rattle.attr_images.specs.Attributes.{trees_reach, IsLawfulAttribute}
 use Rattle.attr_images.specs.Documents.{column_at}
 use Rattle.attr_types.specs.declared.kind.Kind.{Kind}
 use Rattle.attr_types.specs.declared.kind.ValueType.{ValueType}
+use Rattle.value_index.specs.Forms.{KeepsForm}
 use Rattle.value_index.specs.Indexes.{IsKey}
 use Rattle.attr_field.specs.Fields.{field_part, IsField, RefersToKeys}
 
@@ -14,12 +15,13 @@ abbrev pub NothingIsField : Type 0
 NothingIsField = (kind : Kind) (type : ValueType) (m : Records) → IsField kind type m 0 0 × (column_at kind type m 0 ≡ [])
     × ((field_part kind 0 0).reach m ≡ [])
 
--- an attribute in other records, with its column, what its documents refer to, and its keys
+-- an attribute in other records, with its column, what its documents refer to, its keys, and its form
 pub record FieldIsSame (kind : Kind) (type : ValueType) (m n : Records) (documents dictionary : ℕ) : Type 0 where
   pub field_is : IsField kind type n documents dictionary
   pub column_is : column_at kind type n documents ≡ column_at kind type m documents
   pub refers : documents_refer kind n documents ≡ documents_refer kind m documents
   pub keys : (r : ℕ) → IsKey m dictionary r → IsKey n dictionary r
+  pub form : KeepsForm type m n dictionary
 
 -- it stays the same while the records stay the same that it owns, and those to which its documents refer
 abbrev pub FieldStays : Type 0

@@ -1,5 +1,6 @@
 pub mod ProofsForFields
 pub mod Counts
+pub mod Forms
 pub mod Fields
 pub mod Flows
 pub mod Changes

@@ -6,15 +6,17 @@ ghost use Rattle.store_api.specs.Calls.{RefusesOf};
 ghost use Rattle.store_api.specs.Parts.{Owns};
 ghost use Rattle.store_api.specs.Units.{MayDo};
 ghost use Rattle.attr_field.specs.Changes.{MakesField};
-ghost use Rattle.attr_field.specs.Counts.{change_records, field_nodes, field_records, low_nodes, StaysLow};
+ghost use Rattle.attr_field.specs.Counts.{change_forms, change_records, field_forms, field_nodes, field_records, low_nodes, StaysLow};
 ghost use Rattle.attr_field.specs.Fields.{field_part, IsField, RefersBeside};
+ghost use Rattle.attr_field.specs.Forms.{wants};
 ghost use Rattle.attr_field.specs.Widths.{IsFieldWidth};
 ghost use Rattle.attr_images.specs.Documents.{column_at};
 ghost use Rattle.attr_index.specs.Changes.{first_weights};
 ghost use Rattle.attr_index.specs.Columns.{items_of, with_change};
 ghost use Rattle.attr_types.specs.Lawful.{ItemsFit};
 ghost use Rattle.posting_store.specs.Changes.{MakesWithin};
-ghost use Rattle.value_index.specs.Counts.{by_width};
+ghost use Rattle.value_index.specs.Counts.{besides, by_width};
+ghost use Rattle.value_index.specs.Forms.{IsOfForm, WeighOnes};
 
 use crate::comparing::has_already;
 use crate::documents_law;
@@ -39,12 +41,16 @@ fn put_weighed<const OFFSET_BITS: u32, S: Store<OFFSET_BITS>>(
     items: &[Item],
     old: &BTreeMap<Value, i32>,
     new: &BTreeMap<Value, i32>,
+    dense: bool,
+    total: u32,
 ) -> Result<FieldRoots<OFFSET_BITS>, StoreError>
     requires unit { (S.ledger store.old).unit ≡ true }
     requires field { IsField kind value_type (S.records store.old) roots.documents roots.dictionary }
     requires owns { Owns (S.ledger store.old) (S.records store.old) (field_part kind roots.documents roots.dictionary ∷ []) }
     requires refers { RefersBeside (S.ledger store.old) kind (S.records store.old) roots.documents roots.dictionary
         (field_part kind roots.documents roots.dictionary ∷ []) }
+    requires form { IsOfForm dense value_type (S.records store.old) roots.dictionary }
+    requires ones { WeighOnes dense new.now.entries }
     requires fits { ItemsFit kind value_type items.now }
     requires before { old.now.entries ≡ first_weights [] (items_of (column_at kind value_type (S.records store.old) roots.documents) doc) }
     requires after { new.now.entries ≡ first_weights [] items.now }
@@ -52,14 +58,21 @@ fn put_weighed<const OFFSET_BITS: u32, S: Store<OFFSET_BITS>>(
         (S.records store.new) roots.entry.documents roots.entry.dictionary
         (with_change (column_at kind value_type (S.records store.old) roots.entry.documents) doc (Some items.now))
         next.documents next.dictionary) }
-    ensures counts { MakesWithin (S.ledger store.old) (S.ledger store.new) (by_width (field_nodes old.now.entries new.now.entries)
+    ensures form { IfOk result (λ next. IsOfForm dense value_type (S.records store.new) next.dictionary) }
+    ensures counts { MakesWithin (S.ledger store.old) (S.ledger store.new) (besides
+        (by_width (field_nodes old.now.entries new.now.entries)
         (field_records kind (column_at kind value_type (S.records store.old) roots.entry.documents) doc (length items.now)
+        old.now.entries new.now.entries))
+        (field_forms dense (column_at kind value_type (S.records store.old) roots.entry.documents) doc
         old.now.entries new.now.entries)) }
     ensures low { (levels : ℕ) → StaysLow levels (column_at kind value_type (S.records store.old) roots.entry.documents) new.now.entries
-        → MakesWithin (S.ledger store.old) (S.ledger store.new) (by_width (low_nodes levels old.now.entries new.now.entries)
+        → MakesWithin (S.ledger store.old) (S.ledger store.new) (besides
+        (by_width (low_nodes levels old.now.entries new.now.entries)
         (field_records kind (column_at kind value_type (S.records store.old) roots.entry.documents) doc (length items.now)
+        old.now.entries new.now.entries))
+        (field_forms dense (column_at kind value_type (S.records store.old) roots.entry.documents) doc
         old.now.entries new.now.entries)) }
-    ensures refuses { IfErr result (RefusesOf (IsFieldWidth kind
+    ensures refuses { IfErr result (RefusesOf (IsFieldWidth dense kind
         (with_change (column_at kind value_type (S.records store.old) roots.entry.documents) doc (Some items.now))
         (items_of (column_at kind value_type (S.records store.old) roots.entry.documents) doc) items.now)
         (S.ledger store.old) (S.ledger store.new)) }
@@ -68,6 +81,7 @@ fn put_weighed<const OFFSET_BITS: u32, S: Store<OFFSET_BITS>>(
     documents_law();
     key_law();
     let added = add_values(
+        alloc,
         store,
         kind,
         value_type,
@@ -76,6 +90,8 @@ fn put_weighed<const OFFSET_BITS: u32, S: Store<OFFSET_BITS>>(
         doc,
         old,
         new,
+        dense,
+        total,
     )?;
     let documents = set_items(
         alloc,
@@ -87,15 +103,28 @@ fn put_weighed<const OFFSET_BITS: u32, S: Store<OFFSET_BITS>>(
         doc,
         items,
     )?;
-    let dictionary = remove_values(store, kind, value_type, documents, added, doc, old, new)?;
+    let dictionary = remove_values(
+        alloc, store, kind, value_type, documents, added, doc, old, new, dense, total,
+    )?;
     Ok(FieldRoots {
         documents,
         dictionary,
     })
 }
 
-/// Sets the items of a document, where `old` are the items that it had, or none. Returns the new roots. Posting lists
-/// are never made as bit vectors.
+/// Returns whether bit vectors are wanted in an attribute of this kind: never with weighted sets.
+fn wants(dense: bool, kind: Kind) -> bool
+    ensures { result ≡ wants dense kind }
+{
+    match kind {
+        Kind::Single => dense,
+        Kind::Array => dense,
+        Kind::WeightedSet => false,
+    }
+}
+
+/// Sets the items of a document, where `old` are the items that it had, or none. Returns the new roots. With `dense` long
+/// lists become bit vectors, for `documents` documents in all; with weighted sets the flag changes nothing.
 #[tactic(none)]
 pub fn put<const OFFSET_BITS: u32, S: Store<OFFSET_BITS>>(
     alloc: Global,
@@ -106,6 +135,7 @@ pub fn put<const OFFSET_BITS: u32, S: Store<OFFSET_BITS>>(
     doc: Doc,
     old: &[Item],
     new: &[Item],
+    dense: bool,
     documents: u32,
 ) -> Result<FieldRoots<OFFSET_BITS>, StoreError>
     requires unit { (S.ledger store.old).unit ≡ true }
@@ -113,29 +143,34 @@ pub fn put<const OFFSET_BITS: u32, S: Store<OFFSET_BITS>>(
     requires owns { Owns (S.ledger store.old) (S.records store.old) (field_part kind roots.documents roots.dictionary ∷ []) }
     requires refers { RefersBeside (S.ledger store.old) kind (S.records store.old) roots.documents roots.dictionary
         (field_part kind roots.documents roots.dictionary ∷ []) }
+    requires form { IsOfForm (wants dense kind) value_type (S.records store.old) roots.dictionary }
     requires was { old.now ≡ items_of (column_at kind value_type (S.records store.old) roots.documents) doc }
     requires fits { ItemsFit kind value_type new.now }
     ensures makes { IfOk result (λ next. MakesField kind value_type (S.ledger store.old) (S.ledger store.new) (S.records store.old)
         (S.records store.new) roots.entry.documents roots.entry.dictionary
         (with_change (column_at kind value_type (S.records store.old) roots.entry.documents) doc (Some new.now))
         next.documents next.dictionary) }
+    ensures form { IfOk result (λ next. IsOfForm (wants dense kind) value_type (S.records store.new) next.dictionary) }
     ensures same { lookup (is_at (nat_cmp doc)) (column_at kind value_type (S.records store.old) roots.entry.documents) ≡ Some new.now
         → store.new ≡ store.old }
-    ensures counts { MakesWithin (S.ledger store.old) (S.ledger store.new)
+    ensures counts { MakesWithin (S.ledger store.old) (S.ledger store.new) (besides
         (by_width (field_nodes (first_weights [] old.now) (first_weights [] new.now))
-        (change_records kind (column_at kind value_type (S.records store.old) roots.entry.documents) doc old.now new.now)) }
+        (change_records kind (column_at kind value_type (S.records store.old) roots.entry.documents) doc old.now new.now))
+        (change_forms (wants dense kind) (column_at kind value_type (S.records store.old) roots.entry.documents) doc
+        old.now new.now)) }
     ensures low { (levels : ℕ) → StaysLow levels (column_at kind value_type (S.records store.old) roots.entry.documents)
         (first_weights [] new.now)
-        → MakesWithin (S.ledger store.old) (S.ledger store.new)
+        → MakesWithin (S.ledger store.old) (S.ledger store.new) (besides
         (by_width (low_nodes levels (first_weights [] old.now) (first_weights [] new.now))
-        (change_records kind (column_at kind value_type (S.records store.old) roots.entry.documents) doc old.now new.now)) }
-    ensures refuses { IfErr result (RefusesOf (IsFieldWidth kind
+        (change_records kind (column_at kind value_type (S.records store.old) roots.entry.documents) doc old.now new.now))
+        (change_forms (wants dense kind) (column_at kind value_type (S.records store.old) roots.entry.documents) doc
+        old.now new.now)) }
+    ensures refuses { IfErr result (RefusesOf (IsFieldWidth (wants dense kind) kind
         (with_change (column_at kind value_type (S.records store.old) roots.entry.documents) doc (Some new.now)) old.now new.now)
         (S.ledger store.old) (S.ledger store.new)) }
     ensures may { MayDo (S.ledger store.old) (S.ledger store.new) }
 {
     documents_law();
-    let _ = documents;
     let Ok(same) = has_already(
         alloc,
         store,
@@ -157,8 +192,9 @@ pub fn put<const OFFSET_BITS: u32, S: Store<OFFSET_BITS>>(
     let Ok(after) = weights_of(alloc, new) else {
         return Err(StoreError::Memory);
     };
+    let wanted = wants(dense, kind);
     put_weighed(
-        alloc, store, kind, value_type, roots, doc, new, &before, &after,
+        alloc, store, kind, value_type, roots, doc, new, &before, &after, wanted, documents,
     )
 }
 
@@ -179,24 +215,30 @@ fn remove_weighed<const OFFSET_BITS: u32, S: Store<OFFSET_BITS>>(
     roots: FieldRoots<OFFSET_BITS>,
     doc: Doc,
     old: &BTreeMap<Value, i32>,
+    dense: bool,
+    total: u32,
 ) -> Result<FieldRoots<OFFSET_BITS>, StoreError>
     requires unit { (S.ledger store.old).unit ≡ true }
     requires field { IsField kind value_type (S.records store.old) roots.documents roots.dictionary }
     requires owns { Owns (S.ledger store.old) (S.records store.old) (field_part kind roots.documents roots.dictionary ∷ []) }
     requires refers { RefersBeside (S.ledger store.old) kind (S.records store.old) roots.documents roots.dictionary
         (field_part kind roots.documents roots.dictionary ∷ []) }
+    requires form { IsOfForm dense value_type (S.records store.old) roots.dictionary }
     requires there { IsSome (lookup (is_at (nat_cmp doc)) (column_at kind value_type (S.records store.old) roots.documents)) }
     requires before { old.now.entries ≡ first_weights [] (items_of (column_at kind value_type (S.records store.old) roots.documents) doc) }
     ensures makes { IfOk result (λ next. MakesField kind value_type (S.ledger store.old) (S.ledger store.new) (S.records store.old)
         (S.records store.new) roots.entry.documents roots.entry.dictionary
         (with_change (column_at kind value_type (S.records store.old) roots.entry.documents) doc None)
         next.documents next.dictionary) }
-    ensures counts { MakesWithin (S.ledger store.old) (S.ledger store.new) (by_width (field_nodes old.now.entries [])
-        (field_records kind (column_at kind value_type (S.records store.old) roots.entry.documents) doc 0 old.now.entries [])) }
+    ensures form { IfOk result (λ next. IsOfForm dense value_type (S.records store.new) next.dictionary) }
+    ensures counts { MakesWithin (S.ledger store.old) (S.ledger store.new) (besides (by_width (field_nodes old.now.entries [])
+        (field_records kind (column_at kind value_type (S.records store.old) roots.entry.documents) doc 0 old.now.entries []))
+        (field_forms dense (column_at kind value_type (S.records store.old) roots.entry.documents) doc old.now.entries [])) }
     ensures low { (levels : ℕ) → StaysLow levels (column_at kind value_type (S.records store.old) roots.entry.documents) []
-        → MakesWithin (S.ledger store.old) (S.ledger store.new) (by_width (low_nodes levels old.now.entries [])
-        (field_records kind (column_at kind value_type (S.records store.old) roots.entry.documents) doc 0 old.now.entries [])) }
-    ensures refuses { IfErr result (RefusesOf (IsFieldWidth kind
+        → MakesWithin (S.ledger store.old) (S.ledger store.new) (besides (by_width (low_nodes levels old.now.entries [])
+        (field_records kind (column_at kind value_type (S.records store.old) roots.entry.documents) doc 0 old.now.entries []))
+        (field_forms dense (column_at kind value_type (S.records store.old) roots.entry.documents) doc old.now.entries [])) }
+    ensures refuses { IfErr result (RefusesOf (IsFieldWidth dense kind
         (with_change (column_at kind value_type (S.records store.old) roots.entry.documents) doc None)
         (items_of (column_at kind value_type (S.records store.old) roots.entry.documents) doc) [])
         (S.ledger store.old) (S.ledger store.new)) }
@@ -214,6 +256,7 @@ fn remove_weighed<const OFFSET_BITS: u32, S: Store<OFFSET_BITS>>(
         doc,
     )?;
     let dictionary = remove_values(
+        alloc,
         store,
         kind,
         value_type,
@@ -222,6 +265,8 @@ fn remove_weighed<const OFFSET_BITS: u32, S: Store<OFFSET_BITS>>(
         doc,
         old,
         &none,
+        dense,
+        total,
     )?;
     Ok(FieldRoots {
         documents,
@@ -229,7 +274,8 @@ fn remove_weighed<const OFFSET_BITS: u32, S: Store<OFFSET_BITS>>(
     })
 }
 
-/// Removes a document that exists with these items. Returns the new roots.
+/// Removes a document that exists with these items. Returns the new roots. With `dense` long lists become or remain bit
+/// vectors, for `documents` documents in all; with weighted sets the flag changes nothing.
 #[tactic(none)]
 pub fn remove<const OFFSET_BITS: u32, S: Store<OFFSET_BITS>>(
     alloc: Global,
@@ -239,6 +285,7 @@ pub fn remove<const OFFSET_BITS: u32, S: Store<OFFSET_BITS>>(
     roots: FieldRoots<OFFSET_BITS>,
     doc: Doc,
     old: &[Item],
+    dense: bool,
     documents: u32,
 ) -> Result<FieldRoots<OFFSET_BITS>, StoreError>
     requires unit { (S.ledger store.old).unit ≡ true }
@@ -246,25 +293,33 @@ pub fn remove<const OFFSET_BITS: u32, S: Store<OFFSET_BITS>>(
     requires owns { Owns (S.ledger store.old) (S.records store.old) (field_part kind roots.documents roots.dictionary ∷ []) }
     requires refers { RefersBeside (S.ledger store.old) kind (S.records store.old) roots.documents roots.dictionary
         (field_part kind roots.documents roots.dictionary ∷ []) }
+    requires form { IsOfForm (wants dense kind) value_type (S.records store.old) roots.dictionary }
     requires there { IsSome (lookup (is_at (nat_cmp doc)) (column_at kind value_type (S.records store.old) roots.documents)) }
     requires was { old.now ≡ items_of (column_at kind value_type (S.records store.old) roots.documents) doc }
     ensures makes { IfOk result (λ next. MakesField kind value_type (S.ledger store.old) (S.ledger store.new) (S.records store.old)
         (S.records store.new) roots.entry.documents roots.entry.dictionary
         (with_change (column_at kind value_type (S.records store.old) roots.entry.documents) doc None)
         next.documents next.dictionary) }
-    ensures counts { MakesWithin (S.ledger store.old) (S.ledger store.new) (by_width (field_nodes (first_weights [] old.now) [])
-        (change_records kind (column_at kind value_type (S.records store.old) roots.entry.documents) doc old.now [])) }
+    ensures form { IfOk result (λ next. IsOfForm (wants dense kind) value_type (S.records store.new) next.dictionary) }
+    ensures counts { MakesWithin (S.ledger store.old) (S.ledger store.new) (besides
+        (by_width (field_nodes (first_weights [] old.now) [])
+        (change_records kind (column_at kind value_type (S.records store.old) roots.entry.documents) doc old.now []))
+        (change_forms (wants dense kind) (column_at kind value_type (S.records store.old) roots.entry.documents) doc old.now [])) }
     ensures low { (levels : ℕ) → StaysLow levels (column_at kind value_type (S.records store.old) roots.entry.documents) []
-        → MakesWithin (S.ledger store.old) (S.ledger store.new) (by_width (low_nodes levels (first_weights [] old.now) [])
-        (change_records kind (column_at kind value_type (S.records store.old) roots.entry.documents) doc old.now [])) }
-    ensures refuses { IfErr result (RefusesOf (IsFieldWidth kind
+        → MakesWithin (S.ledger store.old) (S.ledger store.new) (besides
+        (by_width (low_nodes levels (first_weights [] old.now) [])
+        (change_records kind (column_at kind value_type (S.records store.old) roots.entry.documents) doc old.now []))
+        (change_forms (wants dense kind) (column_at kind value_type (S.records store.old) roots.entry.documents) doc old.now [])) }
+    ensures refuses { IfErr result (RefusesOf (IsFieldWidth (wants dense kind) kind
         (with_change (column_at kind value_type (S.records store.old) roots.entry.documents) doc None) old.now [])
         (S.ledger store.old) (S.ledger store.new)) }
     ensures may { MayDo (S.ledger store.old) (S.ledger store.new) }
 {
-    let _ = documents;
+    let wanted = wants(dense, kind);
     let Ok(before) = weights_of(alloc, old) else {
         return Err(StoreError::Memory);
     };
-    remove_weighed(alloc, store, kind, value_type, roots, doc, &before)
+    remove_weighed(
+        alloc, store, kind, value_type, roots, doc, &before, wanted, documents,
+    )
 }

@@ -19,8 +19,9 @@ ghost use Rattle.attr_types.specs.Lawful.{ItemsFit};
 ghost use Rattle.attr_types.specs.Value.{value_cmp, AreOfType};
 ghost use Rattle.attr_types.specs.declared.value.Value.{Value as OneValue};
 ghost use Rattle.posting_store.specs.Changes.{MakesWithin};
-ghost use Rattle.value_index.specs.Counts.{added_count, added_records, by_width, gone_count, gone_records, value_nodes};
-ghost use Rattle.value_index.specs.Counts.{AddsLow, RemovesLow};
+ghost use Rattle.value_index.specs.Counts.{added_count, added_forms, added_records, besides, by_width, value_nodes};
+ghost use Rattle.value_index.specs.Counts.{gone_count, gone_forms, gone_records, AddsLow, RemovesLow};
+ghost use Rattle.value_index.specs.Forms.{IsOfForm, KeepsForm, WeighOnes};
 ghost use Rattle.value_index.specs.Widths.{IsWalkWidth};
 
 use crate::keys::keys_of;
@@ -32,9 +33,11 @@ use std::collections::BTreeMap;
 use store_api::{Store, StoreError};
 use value_index::{add_all, index_law, key_law, remove_all};
 
-/// Adds the document to the lists of its new values. Returns the root of the new index.
+/// Adds the document to the lists of its new values. Returns the root of the new index. With `dense` long lists become
+/// bit vectors, for `total` documents in all.
 #[tactic(none)]
 pub fn add_values<const OFFSET_BITS: u32, S: Store<OFFSET_BITS>>(
+    alloc: Global,
     store: &mut S,
     kind: Kind,
     value_type: ValueType,
@@ -43,9 +46,13 @@ pub fn add_values<const OFFSET_BITS: u32, S: Store<OFFSET_BITS>>(
     doc: Doc,
     old: &BTreeMap<Value, i32>,
     new: &BTreeMap<Value, i32>,
+    dense: bool,
+    total: u32,
 ) -> Result<EntryRef<OFFSET_BITS>, StoreError>
     requires unit { (S.ledger store.old).unit ≡ true }
     requires stands { StandsField kind value_type (S.ledger store.old) (S.records store.old) documents dictionary }
+    requires form { IsOfForm dense value_type (S.records store.old) dictionary }
+    requires ones { WeighOnes dense new.now.entries }
     requires indexed { IsIndexOf (column_at kind value_type (S.records store.old) documents)
         (index_of value_type (S.records store.old) dictionary) }
     requires typed { AreOfType value_type (values_in new.now.entries) }
@@ -54,19 +61,24 @@ pub fn add_values<const OFFSET_BITS: u32, S: Store<OFFSET_BITS>>(
     ensures steps { IfOk result (λ next. StepsField kind value_type (S.ledger store.old) (S.ledger store.new)
         (S.records store.old) (S.records store.new) documents.entry dictionary.entry
         (column_at kind value_type (S.records store.old) documents.entry) documents.entry next) }
+    ensures form { IfOk result (IsOfForm dense value_type (S.records store.new)) }
     ensures between { IfOk result (λ next. IsBetween (index_of value_type (S.records store.old) dictionary.entry) doc
         (get value_cmp new.now) (λ value. None) (index_of value_type (S.records store.new) next)) }
-    ensures counts { MakesWithin (S.ledger store.old) (S.ledger store.new)
+    ensures counts { MakesWithin (S.ledger store.old) (S.ledger store.new) (besides
         (by_width (34 * added_count (get value_cmp old.now) new.now.entries)
         (added_records (λ value. list_of value (index_of value_type (S.records store.old) dictionary.entry)) doc (get value_cmp old.now)
+        new.now.entries))
+        (added_forms dense (λ value. list_of value (index_of value_type (S.records store.old) dictionary.entry)) doc (get value_cmp old.now)
         new.now.entries)) }
     ensures low { (levels : ℕ) → AddsLow levels (index_of value_type (S.records store.old) dictionary.entry) doc new.now.entries
-        → MakesWithin (S.ledger store.old) (S.ledger store.new)
+        → MakesWithin (S.ledger store.old) (S.ledger store.new) (besides
         (by_width (value_nodes levels * added_count (get value_cmp old.now) new.now.entries)
         (added_records (λ value. list_of value (index_of value_type (S.records store.old) dictionary.entry)) doc (get value_cmp old.now)
+        new.now.entries))
+        (added_forms dense (λ value. list_of value (index_of value_type (S.records store.old) dictionary.entry)) doc (get value_cmp old.now)
         new.now.entries)) }
     ensures refuses { IfErr result (RefusesOf
-        (IsWalkWidth (index_of value_type (S.records store.old) dictionary.entry) doc (get value_cmp new.now) (λ value. None))
+        (IsWalkWidth dense (index_of value_type (S.records store.old) dictionary.entry) doc (get value_cmp new.now) (λ value. None))
         (S.ledger store.old) (S.ledger store.new)) }
     ensures may { MayDo (S.ledger store.old) (S.ledger store.new) }
 {
@@ -75,7 +87,9 @@ pub fn add_values<const OFFSET_BITS: u32, S: Store<OFFSET_BITS>>(
     key_law();
     let _ = kind;
     let _ = documents;
-    add_all(store, value_type, dictionary, doc, old, new)
+    add_all(
+        alloc, store, value_type, dictionary, doc, old, new, dense, total,
+    )
 }
 
 /// Sets the items of the document, given the keys of their values. Returns the root of the new documents.
@@ -100,6 +114,7 @@ pub fn set_items<const OFFSET_BITS: u32, S: Store<OFFSET_BITS>>(
         (with_change (column_at kind value_type (S.records store.old) documents.entry) doc (Some items.now)) next dictionary.entry) }
     ensures index { IfOk result (λ next. index_of value_type (S.records store.new) dictionary.entry
         ≡ index_of value_type (S.records store.old) dictionary.entry) }
+    ensures form { IfOk result (λ next. KeepsForm value_type (S.records store.old) (S.records store.new) dictionary.entry) }
     ensures counts { MakesWithin (S.ledger store.old) (S.ledger store.new) (documents_most kind (length items.now) 17) }
     ensures low { (levels : ℕ) → 0 < levels → length (column_at kind value_type (S.records store.old) documents.entry) < 2 * 8 ^ levels
         → MakesWithin (S.ledger store.old) (S.ledger store.new) (documents_most kind (length items.now) (2 * levels + 1)) }
@@ -141,6 +156,7 @@ pub fn take_out<const OFFSET_BITS: u32, S: Store<OFFSET_BITS>>(
         (with_change (column_at kind value_type (S.records store.old) documents.entry) doc None) next dictionary.entry) }
     ensures index { IfOk result (λ next. index_of value_type (S.records store.new) dictionary.entry
         ≡ index_of value_type (S.records store.old) dictionary.entry) }
+    ensures form { IfOk result (λ next. KeepsForm value_type (S.records store.old) (S.records store.new) dictionary.entry) }
     ensures counts { MakesWithin (S.ledger store.old) (S.ledger store.new) (by_width 17 (λ width. 0)) }
     ensures low { (levels : ℕ) → 0 < levels → length (column_at kind value_type (S.records store.old) documents.entry) < 2 * 8 ^ levels
         → MakesWithin (S.ledger store.old) (S.ledger store.new) (by_width (2 * levels + 1) (λ width. 0)) }
@@ -154,9 +170,10 @@ pub fn take_out<const OFFSET_BITS: u32, S: Store<OFFSET_BITS>>(
 }
 
 /// Removes the document from the lists of its old values. Returns the root of the new index, which is the index of
-/// the documents.
+/// the documents. With `dense` long lists become or remain bit vectors, for `total` documents in all.
 #[tactic(none)]
 pub fn remove_values<const OFFSET_BITS: u32, S: Store<OFFSET_BITS>>(
+    alloc: Global,
     store: &mut S,
     kind: Kind,
     value_type: ValueType,
@@ -165,9 +182,12 @@ pub fn remove_values<const OFFSET_BITS: u32, S: Store<OFFSET_BITS>>(
     doc: Doc,
     old: &BTreeMap<Value, i32>,
     new: &BTreeMap<Value, i32>,
+    dense: bool,
+    total: u32,
 ) -> Result<EntryRef<OFFSET_BITS>, StoreError>
     requires unit { (S.ledger store.old).unit ≡ true }
     requires stands { StandsField kind value_type (S.ledger store.old) (S.records store.old) documents dictionary }
+    requires form { IsOfForm dense value_type (S.records store.old) dictionary }
     requires typed { AreOfType value_type (values_in old.now.entries) }
     requires has { (value : OneValue) → lookup (is_at (nat_cmp doc)) (list_of value (index_of value_type (S.records store.old) dictionary))
         ≡ first_given (get value_cmp new.now value) (get value_cmp old.now value) }
@@ -177,20 +197,25 @@ pub fn remove_values<const OFFSET_BITS: u32, S: Store<OFFSET_BITS>>(
     ensures steps { IfOk result (λ next. StepsField kind value_type (S.ledger store.old) (S.ledger store.new)
         (S.records store.old) (S.records store.new) documents.entry dictionary.entry
         (column_at kind value_type (S.records store.old) documents.entry) documents.entry next) }
+    ensures form { IfOk result (IsOfForm dense value_type (S.records store.new)) }
     ensures index { IfOk result (λ next. IsIndexOf (column_at kind value_type (S.records store.old) documents.entry)
         (index_of value_type (S.records store.new) next)) }
-    ensures counts { MakesWithin (S.ledger store.old) (S.ledger store.new)
+    ensures counts { MakesWithin (S.ledger store.old) (S.ledger store.new) (besides
         (by_width (34 * gone_count (get value_cmp new.now) old.now.entries)
         (gone_records (λ value. list_of value (index_of value_type (S.records store.old) dictionary.entry)) doc (get value_cmp new.now)
+        old.now.entries))
+        (gone_forms dense (λ value. list_of value (index_of value_type (S.records store.old) dictionary.entry)) doc (get value_cmp new.now)
         old.now.entries)) }
     ensures low { (levels : ℕ)
         → RemovesLow levels (index_of value_type (S.records store.old) dictionary.entry) doc (get value_cmp new.now) old.now.entries
-        → MakesWithin (S.ledger store.old) (S.ledger store.new)
+        → MakesWithin (S.ledger store.old) (S.ledger store.new) (besides
         (by_width (value_nodes levels * gone_count (get value_cmp new.now) old.now.entries)
         (gone_records (λ value. list_of value (index_of value_type (S.records store.old) dictionary.entry)) doc (get value_cmp new.now)
+        old.now.entries))
+        (gone_forms dense (λ value. list_of value (index_of value_type (S.records store.old) dictionary.entry)) doc (get value_cmp new.now)
         old.now.entries)) }
     ensures refuses { IfErr result (RefusesOf
-        (IsWalkWidth (index_of value_type (S.records store.old) dictionary.entry) doc (get value_cmp new.now) (get value_cmp old.now))
+        (IsWalkWidth dense (index_of value_type (S.records store.old) dictionary.entry) doc (get value_cmp new.now) (get value_cmp old.now))
         (S.ledger store.old) (S.ledger store.new)) }
     ensures may { MayDo (S.ledger store.old) (S.ledger store.new) }
 {
@@ -199,5 +224,7 @@ pub fn remove_values<const OFFSET_BITS: u32, S: Store<OFFSET_BITS>>(
     key_law();
     let _ = kind;
     let _ = documents;
-    remove_all(store, value_type, dictionary, doc, old, new)
+    remove_all(
+        alloc, store, value_type, dictionary, doc, old, new, dense, total,
+    )
 }

@@ -73,10 +73,11 @@ commit_readers {H = H} old new bits image info made =
     ∙ with_hold-made (published made.mid.work stores.commits image) made.mid.finished ∙ made.prepares.readers
 
 module _ {S H : Type 0} (ledger : S → Ledger H) where
-  pub keeps_of : (old new : AttributeView S) → KeepsStore (ledger old.store) (ledger new.store) → new.fields ≡ old.fields → new.committed ≡ old.committed → new.committed_operations ≡ old.committed_operations
+  pub keeps_of : (old new : AttributeView S) → KeepsStore (ledger old.store) (ledger new.store) → new.fields ≡ old.fields → new.dense ≡ old.dense → new.committed ≡ old.committed
+      → new.committed_operations ≡ old.committed_operations
       → KeepsCommit ledger old new
-  keeps_of old new keeps fields committed count = record {
-    stays = record { home = keeps.home; sizes = keeps.sizes; readers = keeps.readers; fields = fields };
+  keeps_of old new keeps fields dense committed count = record {
+    stays = record { home = keeps.home; sizes = keeps.sizes; readers = keeps.readers; fields = fields; dense = dense };
     told = keeps.told;
     last = keeps.commits.last;
     committed = committed;
@@ -84,11 +85,11 @@ module _ {S H : Type 0} (ledger : S → Ledger H) where
   }
 
   -- a step of a compaction
-  pub keeps_table : (old new : AttributeView S) → KeepsStoreBut (ledger old.store) (ledger new.store) → new.fields ≡ old.fields → new.table ≡ old.table → new.operations ≡ old.operations
+  pub keeps_table : (old new : AttributeView S) → KeepsStoreBut (ledger old.store) (ledger new.store) → new.fields ≡ old.fields → new.dense ≡ old.dense → new.table ≡ old.table → new.operations ≡ old.operations
       → new.committed ≡ old.committed → new.committed_operations ≡ old.committed_operations → KeepsTable ledger old new
-  keeps_table old new keeps fields table operations committed count = record {
+  keeps_table old new keeps fields dense table operations committed count = record {
     keeps = record {
-      stays = record { home = keeps.home; sizes = keeps.sizes; readers = keeps.readers; fields = fields };
+      stays = record { home = keeps.home; sizes = keeps.sizes; readers = keeps.readers; fields = fields; dense = dense };
       told = keeps.told;
       last = keeps.commits.last;
       committed = committed;
@@ -99,7 +100,14 @@ module _ {S H : Type 0} (ledger : S → Ledger H) where
   }
 
   pub stays_on : (a b c : AttributeView S) → StaysIn ledger a b → StaysIn ledger b c → StaysIn ledger a c
-  stays_on a b c first second = record { home = second.home ∙ first.home; sizes = second.sizes ∙ first.sizes; readers = second.readers ∙ first.readers; fields = second.fields ∙ first.fields }
+  stays_on a b c first second = record {
+    home = second.home ∙ first.home;
+    sizes = second.sizes ∙ first.sizes;
+    readers = second.readers ∙ first.readers;
+    fields = second.fields ∙ first.fields;
+    dense = second.dense
+        ∙ first.dense;
+  }
 
   pub keeps_on : (a b c : AttributeView S) → KeepsCommit ledger a b → KeepsCommit ledger b c → KeepsCommit ledger a c
   keeps_on a b c first second = record {
@@ -160,7 +168,7 @@ module _ {S H : Type 0} (ledger : S → Ledger H) where
 
   pub applies_none : (a : AttributeView S) → AppliesAll ledger a a [] 0
   applies_none a = record {
-    keeps = record { stays = record { home = refl; sizes = refl; readers = refl; fields = refl }; told = refl; last = refl; committed = refl; committed_operations = refl };
+    keeps = record { stays = record { home = refl; sizes = refl; readers = refl; fields = refl; dense = refl }; told = refl; last = refl; committed = refl; committed_operations = refl };
     table = refl;
     operations = omega arith;
     skips = refl;

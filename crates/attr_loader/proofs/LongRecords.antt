@@ -1,11 +1,11 @@
 -- Which of the records that an operation makes are long: at most one for each new value, and one for the document.
-use Rattle.std.proofs.Common.{◌≡◌, ◌⊎◌, ℕ, ℤ, zero, suc, ◌+◌, ◌*◌, ◌<◌, ◌≤◌, Bool, true, false, cond, nat_eq, nat_le, nat_cmp, List, [], ◌∷◌, length, refl, sym, ap, subst, ◌∙◌, arith, inl, inr}
+use Rattle.std.proofs.Common.{◌≡◌, ℕ, ℤ, zero, suc, ◌+◌, ◌<◌, ◌≤◌, Bool, true, false, cond, nat_eq, nat_le, nat_cmp, List, [], ◌∷◌, length, refl, sym, ap, subst, ◌∙◌, arith, inl, inr}
 use Rattle.std.proofs.lemmas.Bool.{eqb-true, leb-true, true≢false}
 use Rattle.std.specs.BTreeMap.{insert_entry, is_at}
 use Rattle.std.specs.Map.{remove_entry}
 use Rattle.array_store.proofs.ClassLemmas.{class_least, class_width}
 use Rattle.store_api.specs.Ledgers.{is_width}
-use Rattle.attr_field.specs.Counts.{change_records, entry_weight, lost_values, new_values}
+use Rattle.attr_field.specs.Counts.{change_records, entry_weight, new_values}
 use Rattle.attr_field.specs.Items.{has_list, items_record}
 use Rattle.attr_field.specs.Widths.{IsFieldWidth}
 use Rattle.attr_images.specs.Values.{value_words}
@@ -138,10 +138,10 @@ items_other kind zero is = refl
 items_other kind (suc count) is = subst (λ k. cond {A = ℕ} (has_list kind) (cond (nat_eq 1024 k) 1 0) 0 ≡ 0) is (cond_none (has_list kind))
 
 -- a document that was refused a record of 512 words needs none of 1024
-pub items_refused : (kind : Kind) (column : Column) (before after : List Item) → IsFieldWidth kind column before after 512 → items_record kind (length after) 1024 ≡ 0
-items_refused kind column before after (inl (inl node)) = absurd (omega (arith, node))
-items_refused kind column before after (inl (inr items)) = items_other kind (length after) items.width_is
-items_refused kind column before after (inr value) = absurd (let few = value.is.few in omega (arith, few))
+pub items_refused : (dense : Bool) (kind : Kind) (column : Column) (before after : List Item) → IsFieldWidth dense kind column before after 512 → items_record kind (length after) 1024 ≡ 0
+items_refused dense kind column before after (inl (inl node)) = absurd (omega (arith, node))
+items_refused dense kind column before after (inl (inr items)) = items_other kind (length after) items.width_is
+items_refused dense kind column before after (inr value) = absurd (let few = value.is.few in omega (arith, few))
 
 -- ---- other widths than those of the store
 module _ (w : ℕ) (off : is_width w ≡ false) where

@@ -1,5 +1,5 @@
 -- What a loading makes, batch by batch, and a full store that is owed to it.
-use Rattle.std.proofs.Common.{◌≡◌, ℕ, zero, suc, ◌+◌, ◌-◌, ◌*◌, ◌/◌, ◌<◌, ◌≤◌, true, List, [], ◌∷◌, ◌++◌, length, take, drop, Some, None, refl, sym, ap, ◌∙◌, subst, arith}
+use Rattle.std.proofs.Common.{◌≡◌, ℕ, zero, suc, ◌+◌, ◌-◌, ◌*◌, ◌/◌, ◌<◌, ◌≤◌, Bool, true, false, true≢false, List, [], ◌∷◌, ◌++◌, length, take, refl, sym, ap, ◌∙◌, subst, arith}
 use Rattle.std.specs.Prelude.{Result, Ok, Err, IfOk}
 use Rattle.std.specs.List.Sorted.{IsStrictlySortedBy}
 use Rattle.std.proofs.lemmas.List.Sums.{sum_by-append, sum_by-cons}
@@ -14,7 +14,7 @@ use Rattle.attr_loader.specs.Runs.{commits_to, step_keys, weight, IsOwed}
 use Rattle.attr_types.specs.Table.{Table, after_op, after_ops}
 use Rattle.attr_types.specs.declared.field.Field.{Field}
 use Rattle.attr_types.specs.declared.op.Op.{Op}
-use Rattle.attribute_kinds.specs.Counts.{operation_values}
+use Rattle.attribute_kinds.specs.Counts.{operation_values, HasNoVectors}
 use Rattle.attribute_kinds.specs.Views.{AttributeView}
 use Rattle.attr_loader.proofs.Points.{batch_of, whole}
 use Rattle.array_store.specs.Adding.{MakesOneOf}
@@ -64,9 +64,9 @@ after_key steps [] = refl
 after_key steps (t ∷ ts) = after_key (after_operation steps t) ts
 
 -- a root record more may be made
-pub refused_more : {H : Type 0} (ledger : Ledger H) (fields : List Field) (table : Table) (steps : Steps) (width : ℕ) → IsRefusedBy ledger fields table steps width
-    → IsRefusedBy ledger fields table (after_root steps) width
-refused_more ledger fields table steps width refused =
+pub refused_more : {H : Type 0} (dense : Bool) (ledger : Ledger H) (fields : List Field) (table : Table) (steps : Steps) (width : ℕ) → IsRefusedBy dense ledger fields table steps width
+    → IsRefusedBy dense ledger fields table (after_root steps) width
+refused_more dense ledger fields table steps width refused =
     let made = refused.made in
     record {
       made = record {
@@ -96,14 +96,14 @@ unfolding IsStrictlySortedBy
 none_ascend = tt
 
 -- nothing was made of an empty table
-pub empty_made : {H : Type 0} (ledger : Ledger H) (fields : List Field) → length fields ≡ 1 → HasMadeNothing ledger → IsMade ledger fields [] no_steps
-empty_made ledger fields one nothing = record {
+pub empty_made : {H : Type 0} (dense : Bool) (ledger : Ledger H) (fields : List Field) → length fields ≡ 1 → HasMadeNothing ledger → IsMade dense ledger fields [] no_steps
+empty_made dense ledger fields one nothing = record {
   one = one;
   most = λ w. 0;
   has = start_made (is_single_long fields);
   long = start_long;
   plain = λ none w off. refl;
-  within = record {
+  within = λ sparse. record {
     made_few = λ w. (let same = ap (λ c. c.made) (nothing.counts w) in omega (arith, same));
     buffers_few = λ w. (let same = ap (λ c. c.buffers) (nothing.counts w) in omega (arith, same));
   };
@@ -117,8 +117,8 @@ empty_made ledger fields one nothing = record {
 module _ {S H : Type 0} (ledger : S → Ledger H) where
   -- one operation more
   pub room_on : (a b : AttributeView S) (P : Steps → Type 0) (ops : List Op) (op : Op) → AddsSteps ledger a b (λ steps. after_values steps (values_of a.fields a.table ops)) → b.table ≡ after_ops a.fields a.table ops
-      → b.fields ≡ a.fields → ((steps : Steps) → IsMade (ledger b.store) b.fields b.table steps → P (after_operation steps (operation_values b.fields b.table op)))
-      → (steps : Steps) → IsMade (ledger a.store) a.fields a.table steps → P (after_values steps (values_of a.fields a.table (ops ++ op ∷ [])))
+      → b.fields ≡ a.fields → ((steps : Steps) → IsMade b.dense (ledger b.store) b.fields b.table steps → P (after_operation steps (operation_values b.fields b.table op)))
+      → (steps : Steps) → IsMade a.dense (ledger a.store) a.fields a.table steps → P (after_values steps (values_of a.fields a.table (ops ++ op ∷ [])))
   room_on a b P ops op before table fields one =
       λ steps made.
       let t = operation_values a.fields (after_ops a.fields a.table ops) op in
@@ -128,52 +128,57 @@ module _ {S H : Type 0} (ledger : S → Ledger H) where
       subst P (sym is)
       (subst (λ n. P (after_operation (after_values steps (values_of a.fields a.table ops)) n)) value (one (after_values steps (values_of a.fields a.table ops)) (before steps made)))
 
-  pub room_applied : (b c : AttributeView S) (op : Op) → c.fields ≡ b.fields → c.table ≡ after_op b.fields b.table op → OpFits b.fields op
-      → MakesOperation (ledger b.store) (ledger c.store) b.fields b.table op → (steps : Steps) → IsMade (ledger b.store) b.fields b.table steps
-      → IsMade (ledger c.store) c.fields c.table (after_operation steps (operation_values b.fields b.table op))
-  room_applied b c op fields table fits makes steps made =
-      let now = made_after (ledger b.store) (ledger c.store) b.fields b.table op steps made fits makes in
-      subst (λ (fs : List Field). IsMade (ledger c.store) fs c.table (after_operation steps (operation_values b.fields b.table op))) (sym fields)
-      (subst (λ (t : Table). IsMade (ledger c.store) b.fields t (after_operation steps (operation_values b.fields b.table op))) (sym table) now)
+  pub room_applied : (b c : AttributeView S) (op : Op) → c.fields ≡ b.fields → c.table ≡ after_op b.fields b.table op → c.dense ≡ b.dense → OpFits b.fields op
+      → MakesOperation b.dense (ledger b.store) (ledger c.store) b.fields b.table op → (steps : Steps) → IsMade b.dense (ledger b.store) b.fields b.table steps
+      → IsMade c.dense (ledger c.store) c.fields c.table (after_operation steps (operation_values b.fields b.table op))
+  room_applied b c op fields table dense fits makes steps made =
+      let now = made_after b.dense (ledger b.store) (ledger c.store) b.fields b.table op steps made fits makes in
+      subst (λ (on : Bool). IsMade on (ledger c.store) c.fields c.table (after_operation steps (operation_values b.fields b.table op))) (sym dense)
+      (subst (λ (fs : List Field). IsMade b.dense (ledger c.store) fs c.table (after_operation steps (operation_values b.fields b.table op))) (sym fields)
+      (subst (λ (t : Table). IsMade b.dense (ledger c.store) b.fields t (after_operation steps (operation_values b.fields b.table op))) (sym table) now))
 
-  pub room_refused : (b c : AttributeView S) (op : Op) (width : ℕ) → c.fields ≡ b.fields → c.table ≡ b.table → OpFits b.fields op
-      → MakesOperation (ledger b.store) (ledger c.store) b.fields b.table op → IsOperationWidth b.fields b.table op width → (steps : Steps) → IsMade (ledger b.store) b.fields b.table steps
-      → IsRefusedBy (ledger c.store) c.fields c.table (after_operation steps (operation_values b.fields b.table op)) width
-  room_refused b c op width fields table fits makes names steps made =
-      let now = made_refused (ledger b.store) (ledger c.store) b.fields b.table op steps made fits makes width names in
-      subst (λ (fs : List Field). IsRefusedBy (ledger c.store) fs c.table (after_operation steps (operation_values b.fields b.table op)) width) (sym fields)
-      (subst (λ (t : Table). IsRefusedBy (ledger c.store) b.fields t (after_operation steps (operation_values b.fields b.table op)) width) (sym table) now)
+  pub room_refused : (b c : AttributeView S) (op : Op) (width : ℕ) → c.fields ≡ b.fields → c.table ≡ b.table → c.dense ≡ b.dense → OpFits b.fields op
+      → MakesOperation b.dense (ledger b.store) (ledger c.store) b.fields b.table op → IsOperationWidth b.dense b.fields b.table op width → (steps : Steps) → IsMade b.dense (ledger b.store) b.fields b.table steps
+      → IsRefusedBy c.dense (ledger c.store) c.fields c.table (after_operation steps (operation_values b.fields b.table op)) width
+  room_refused b c op width fields table dense fits makes names steps made =
+      let now = made_refused b.dense (ledger b.store) (ledger c.store) b.fields b.table op steps made fits makes width names in
+      subst (λ (on : Bool). IsRefusedBy on (ledger c.store) c.fields c.table (after_operation steps (operation_values b.fields b.table op)) width) (sym dense)
+      (subst (λ (fs : List Field). IsRefusedBy b.dense (ledger c.store) fs c.table (after_operation steps (operation_values b.fields b.table op)) width) (sym fields)
+      (subst (λ (t : Table). IsRefusedBy b.dense (ledger c.store) b.fields t (after_operation steps (operation_values b.fields b.table op)) width) (sym table) now))
 
-  pub room_root : (a b : AttributeView S) → b.fields ≡ a.fields → b.table ≡ a.table → MakesOneOf (class_of (1 + 2 * length a.fields)) (ledger a.store) (ledger b.store)
+  pub room_root : (a b : AttributeView S) → b.fields ≡ a.fields → b.table ≡ a.table → b.dense ≡ a.dense → MakesOneOf (class_of (1 + 2 * length a.fields)) (ledger a.store) (ledger b.store)
       → AddsSteps ledger a b after_root
-  room_root a b fields table makes =
+  room_root a b fields table dense makes =
       λ steps made.
-      subst (λ (fs : List Field). IsMade (ledger b.store) fs b.table (after_root steps)) (sym fields)
-      (subst (λ (t : Table). IsMade (ledger b.store) a.fields t (after_root steps)) (sym table) (made_root (ledger a.store) (ledger b.store) a.fields a.table steps made makes))
+      subst (λ (on : Bool). IsMade on (ledger b.store) b.fields b.table (after_root steps)) (sym dense)
+      (subst (λ (fs : List Field). IsMade a.dense (ledger b.store) fs b.table (after_root steps)) (sym fields)
+      (subst (λ (t : Table). IsMade a.dense (ledger b.store) a.fields t (after_root steps)) (sym table) (made_root a.dense (ledger a.store) (ledger b.store) a.fields a.table steps made makes)))
 
   -- the width of the root record of one attribute is 4
-  pub root_refused : (a b : AttributeView S) (width : ℕ) → b.fields ≡ a.fields → b.table ≡ a.table → MakesOneOf (class_of (1 + 2 * length a.fields)) (ledger a.store) (ledger b.store)
+  pub root_refused : (a b : AttributeView S) (width : ℕ) → b.fields ≡ a.fields → b.table ≡ a.table → b.dense ≡ a.dense → MakesOneOf (class_of (1 + 2 * length a.fields)) (ledger a.store) (ledger b.store)
       → width ≡ class_of (1 + 2 * length a.fields) → is_width width ≡ true
       → ((ledger b.store).of_width width).buffers * capacity (ledger b.store).work.sizes.words width ≤ ((ledger b.store).of_width width).made → RefusesSteps ledger a b after_root
-  root_refused a b width fields table makes for_root is full = record {
+  root_refused a b width fields table dense makes for_root is full = record {
     width = width;
     is = is;
     whole = full;
     adds = λ steps made. record {
-      made = room_root a b fields table makes steps made;
+      made = room_root a b fields table dense makes steps made;
       apart = λ wide. absurd (
           let four : width ≡ 4 = for_root ∙ ap (λ n. class_of (1 + 2 * n)) made.one in
           omega (arith, wide, four));
     };
   }
 
-  pub room_keys : (a b : AttributeView S) → b.fields ≡ a.fields → b.table ≡ a.table → MakesKeys a.fields a.table (ledger a.store) (ledger b.store) step_keys
+  pub room_keys : (a b : AttributeView S) → b.fields ≡ a.fields → b.table ≡ a.table → b.dense ≡ a.dense
+      → MakesKeys (HasNoVectors a.dense a.table) a.fields a.table (ledger a.store) (ledger b.store) step_keys
       → AddsSteps ledger a b (λ steps. after_keys steps step_keys)
-  room_keys a b fields table makes =
+  room_keys a b fields table dense makes =
       λ steps made.
-      subst (λ (fs : List Field). IsMade (ledger b.store) fs b.table (after_keys steps step_keys)) (sym fields)
-      (subst (λ (t : Table). IsMade (ledger b.store) a.fields t (after_keys steps step_keys)) (sym table)
-      (made_keys (ledger a.store) (ledger b.store) a.fields a.table steps step_keys (omega arith) made makes))
+      subst (λ (on : Bool). IsMade on (ledger b.store) b.fields b.table (after_keys steps step_keys)) (sym dense)
+      (subst (λ (fs : List Field). IsMade a.dense (ledger b.store) fs b.table (after_keys steps step_keys)) (sym fields)
+      (subst (λ (t : Table). IsMade a.dense (ledger b.store) a.fields t (after_keys steps step_keys)) (sym table)
+      (made_keys a.dense (ledger a.store) (ledger b.store) a.fields a.table steps step_keys (omega arith) made makes)))
 
   -- nothing is begun while there is room
   room_over : (a b : AttributeView S) (steps : Steps) → (ledger b.store).work.sizes ≡ (ledger a.store).work.sizes → b.fields ≡ a.fields
@@ -182,10 +187,10 @@ module _ {S H : Type 0} (ledger : S → Ledger H) where
       subst (λ (s : Sizes). LeavesRoom s.words (is_single_long b.fields) steps) (sym sizes)
       (subst (λ (fs : List Field). LeavesRoom (ledger a.store).work.sizes.words (is_single_long fs) steps) (sym fields) left)
 
-  pub quiet_then : (a b c : AttributeView S) (f h : Steps → Steps) → (b.plan ≡ a.plan) × AddsSteps ledger a b f → (ledger b.store).work.sizes ≡ (ledger a.store).work.sizes → b.fields ≡ a.fields
+  pub quiet_then : (a b c : AttributeView S) (f h : Steps → Steps) → (b.plan ≡ a.plan) × AddsSteps ledger a b f → (ledger b.store).work.sizes ≡ (ledger a.store).work.sizes → b.fields ≡ a.fields → b.dense ≡ a.dense
       → AddsQuietly ledger b c h → AddsQuietly ledger a c (λ steps. h (f steps))
-  quiet_then a b c f h adds sizes fields quiet =
-      λ none steps made left. quiet (adds.0 ∙ none) (f steps) (adds.1 steps made) (room_over a b (h (f steps)) sizes fields left)
+  quiet_then a b c f h adds sizes fields dense quiet =
+      λ none steps made left sparse. quiet (adds.0 ∙ none) (f steps) (adds.1 steps made) (room_over a b (h (f steps)) sizes fields left) (λ on. sparse (sym dense ∙ on))
 
   -- a commit that finds no room names the last operation
   -- a commit that finds no room names the last operation
@@ -195,19 +200,19 @@ module _ {S H : Type 0} (ledger : S → Ledger H) where
 
   -- what is applied and then committed, or finds no room for the commit
   pub room_of : {E : Type 0} (a b c : AttributeView S) (ops : List Op) (skipped count : ℕ) (o : Result Batch E) → count ≡ length ops → AppliesRoom ledger a b ops (Done skipped)
-      → (ledger b.store).work.sizes ≡ (ledger a.store).work.sizes → b.fields ≡ a.fields → ((before active held : ℕ) → o ≡ Ok (Full before active held) → before ≡ count)
+      → (ledger b.store).work.sizes ≡ (ledger a.store).work.sizes → b.fields ≡ a.fields → b.dense ≡ a.dense → ((before active held : ℕ) → o ≡ Ok (Full before active held) → before ≡ count)
       → IfOk o (CommitsRoom ledger b c) → IfOk o (LoadsRoom ledger a c ops)
-  room_of a b c ops skipped count (Err e) long applies sizes fields named made = tt
-  room_of a b c ops skipped count (Ok (Done more)) long applies sizes fields named made = (
+  room_of a b c ops skipped count (Err e) long applies sizes fields dense named made = tt
+  room_of a b c ops skipped count (Ok (Done more)) long applies sizes fields dense named made = (
     λ steps start. made.0 (after_values steps (values_of a.fields a.table ops)) (applies.1 steps start),
-    quiet_then a b c (λ steps. after_values steps (values_of a.fields a.table ops)) after_root applies sizes fields made.1,
+    quiet_then a b c (λ steps. after_values steps (values_of a.fields a.table ops)) after_root applies sizes fields dense made.1,
   )
-  room_of a b c ops skipped count (Ok (Full before active held)) long applies sizes fields named made = record {
+  room_of a b c ops skipped count (Ok (Full before active held)) long applies sizes fields dense named made = record {
     width = made.width;
     is = made.is;
     whole = made.whole;
     adds = λ steps start.
-        subst (λ (xs : List Op). IsRefusedBy (ledger c.store) c.fields c.table (after_root (after_values steps (values_of a.fields a.table xs))) made.width)
+        subst (λ (xs : List Op). IsRefusedBy c.dense (ledger c.store) c.fields c.table (after_root (after_values steps (values_of a.fields a.table xs))) made.width)
         (sym (take_all ops before (named before active held refl ∙ long)))
         (made.adds (after_values steps (values_of a.fields a.table ops)) (applies.1 steps start));
   }
@@ -217,7 +222,7 @@ module _ {S H : Type 0} (ledger : S → Ledger H) where
     width = applies.width;
     is = applies.is;
     whole = applies.whole;
-    adds = λ steps start. refused_more (ledger c.store) c.fields c.table (after_values steps (values_of a.fields a.table (take before ops))) applies.width (applies.adds steps start);
+    adds = λ steps start. refused_more c.dense (ledger c.store) c.fields c.table (after_values steps (values_of a.fields a.table (take before ops))) applies.width (applies.adds steps start);
   }
 
   -- the values of one part more
@@ -244,7 +249,7 @@ module _ {S H : Type 0} (ledger : S → Ledger H) where
     pub last : ℕ
     pub point : count ≡ commit_point batch (length ops) last
     pub steps : Steps
-    pub made : IsMade (ledger now.store) now.fields now.table steps
+    pub made : IsMade now.dense (ledger now.store) now.fields now.table steps
     pub pairs : pairs_of steps ≡ weight (values_of start.fields [] (take count ops))
     pub roots : steps.roots ≡ last
     pub keys : steps.keys ≡ step_keys * last
@@ -256,7 +261,7 @@ module _ {S H : Type 0} (ledger : S → Ledger H) where
           last = 0;
           point = (let m = Rattle.std.proofs.Common.mul-zero batch in omega (arith, m));
           steps = no_steps;
-          made = subst (λ (t : Table). IsMade (ledger start.store) start.fields t no_steps) (sym empty) (empty_made (ledger start.store) start.fields one nothing);
+          made = subst (λ (t : Table). IsMade start.dense (ledger start.store) start.fields t no_steps) (sym empty) (empty_made start.dense (ledger start.store) start.fields one nothing);
           pairs = refl;
           roots = refl;
           keys = omega arith;
@@ -287,7 +292,7 @@ module _ {S H : Type 0} (ledger : S → Ledger H) where
     -- ---- no room
     module _ (b c : AttributeView S) (count : ℕ) (runs : Runs batch ops start b count) (part : List Op) (before active held : ℕ) (fields : b.fields ≡ start.fields)
         (table : b.table ≡ after_ops start.fields [] (take count ops)) (front : take (count + before) ops ≡ take count ops ++ take before part) (room : LoadsRoom ledger b c part (Full before active held))
-        (some : 0 < batch) (below : count < length ops) (same_fields : c.fields ≡ start.fields) (sizes : (ledger c.store).work.sizes ≡ (ledger start.store).work.sizes)
+        (some : 0 < batch) (below : count < length ops) (same_fields : c.fields ≡ start.fields) (off : c.dense ≡ false) (sizes : (ledger c.store).work.sizes ≡ (ledger start.store).work.sizes)
         (free : free_count (ledger c.store).work.buffer (ledger c.store).work.sizes.buffers ≡ 0)
         (words : 8192 ≤ (ledger c.store).work.sizes.words)
         (counted : free_count (ledger c.store).work.buffer (ledger c.store).work.sizes.buffers + buffers_in (ledger c.store).of_width widths ≡ (ledger c.store).work.sizes.buffers)
@@ -296,7 +301,7 @@ module _ {S H : Type 0} (ledger : S → Ledger H) where
       abbrev after : Steps
       after = after_root (after_values runs.steps (values_of b.fields b.table (take before part)))
 
-      made_now : IsMade (ledger c.store) c.fields c.table after
+      made_now : IsMade c.dense (ledger c.store) c.fields c.table after
       made_now = (room.adds runs.steps runs.made).made
 
       commits_are : commits_to batch (length ops) count ≡ runs.last
@@ -322,7 +327,8 @@ module _ {S H : Type 0} (ledger : S → Ledger H) where
             keys = (let keys = after_key runs.steps (values_of b.fields b.table (take before part)) in let had = runs.keys in omega (arith, keys, had, commits));
           })
           made_now.has
-          (within_filled (ledger c.store).work.sizes.words made_now.most (λ width. ((ledger c.store).of_width width).made) (λ width. ((ledger c.store).of_width width).buffers) made_now.within few)
+          (within_filled (ledger c.store).work.sizes.words made_now.most (λ width. ((ledger c.store).of_width width).made) (λ width. ((ledger c.store).of_width width).buffers)
+          (made_now.within (λ on. absurd (true≢false (sym on ∙ off)))) few)
           (omega (arith, counted, free))
 
       pub owed_at : IsOwed (load_of (ledger start.store).work.sizes.buffers (ledger start.store).work.sizes.words start.fields batch ops) (count + before) count

@@ -1,5 +1,6 @@
 -- What one operation, one commit and one step of a compaction add to what was made.
-use Rattle.std.proofs.Common.{◌≡◌, ℕ, ℤ, zero, suc, ◌+◌, ◌-◌, ◌*◌, ◌^◌, ◌<◌, ◌≤◌, Bool, true, false, ◌&&◌, cond, nat_eq, nat_le, nat_cmp, List, [], ◌∷◌, length, Option, Some, None, option_map, refl, sym, ap, subst, ◌∙◌, arith, inl, inr, leb-true, mul_assoc, mul_comm}
+use Rattle.std.proofs.Common.{◌≡◌, ℕ, ℤ, zero, suc, ◌+◌, ◌-◌, ◌*◌, ◌^◌, ◌<◌, ◌≤◌, Bool, true, false, ◌&&◌, cond, nat_eq, nat_cmp, List, [], ◌∷◌, length, Option, Some, None, option_map, refl, sym, ap, subst, ◌∙◌}
+use Rattle.std.proofs.Common.{arith, inl, inr, mul_assoc, mul_comm}
 use Rattle.std.proofs.Math.Nat.{mul-le-mul_right, pow-le-pow_right}
 use Rattle.std.proofs.lemmas.Bool.{cases_lt, eqb-true, eqb-false, true≢false}
 use Rattle.std.specs.BTreeMap.{insert_entry, is_at}
@@ -8,14 +9,16 @@ use Rattle.std.specs.Map.{keys_of, remove_entry}
 use Rattle.std.specs.Option.{unwrap_or}
 use Rattle.std.proofs.lemmas.Option.{slice_get_within}
 use Rattle.std.specs.Prelude.{slice_get}
-use Rattle.array_store.proofs.ClassLemmas.{class_least}
 use Rattle.array_store.specs.Adding.{MakesOneOf}
 use Rattle.store_api.specs.Ledgers.{Ledger, is_width}
+use Rattle.attr_field.proofs.SizeLemmas.{documents_few}
 use Rattle.attr_field.proofs.WeightLemmas.{weights_typed}
 use Rattle.attr_field.specs.Counts.{change_records, entry_weight, lost_values, new_values, StaysLow}
+use Rattle.attr_field.specs.Forms.{wants}
 use Rattle.attr_field.specs.Items.{items_record}
 use Rattle.attr_field.specs.Widths.{IsFieldWidth}
 use Rattle.attr_images.specs.Words.{class_of}
+use Rattle.attr_images.specs.declared.TheConstants.{LEAST_DENSE}
 use Rattle.attr_index.proofs.ColumnLemmas.{operation_changes}
 use Rattle.attr_index.specs.Changes.{first_weights}
 use Rattle.attr_index.specs.Columns.{Column, column_of, documents_with, with_change}
@@ -23,10 +26,10 @@ use Rattle.attr_loader.proofs.Levels.{levels_there}
 use Rattle.attr_loader.proofs.Steps.{counts_rise, keys_long, keys_made, operation_few, operation_long, operation_made, root_long, root_made}
 use Rattle.attr_loader.specs.Laws.{HasLevels}
 use Rattle.attr_loader.specs.Made as room
-use Rattle.attr_loader.specs.Made.{Steps, HasMade, MakesRoot, RiseBy, after_keys, after_operation, after_root, both, broad_sum, pairs_of}
+use Rattle.attr_loader.specs.Made.{Steps, HasMade, RiseBy, after_keys, after_operation, after_root, both, broad_sum, pairs_of}
 use Rattle.attr_loader.specs.Runs.{AreLevels}
 use Rattle.attr_steps.specs.Widths.{IsOperationWidth}
-use Rattle.attr_steps.specs.Counts.{document_after, document_before, document_records, items_if_there, kind_at, low_document, weights_at, MakesOperation}
+use Rattle.attr_steps.specs.Counts.{document_after, document_before, document_records, items_if_there, kind_at, low_document, operation_forms, weights_at, MakesOperation}
 use Rattle.attr_types.proofs.EntryLemmas.{all-lookup}
 use Rattle.attr_types.proofs.TableLemmas.{step_keeps}
 use Rattle.attr_types.specs.Lawful.{DocumentHasType, IsLawfulTable, OpFits}
@@ -43,14 +46,16 @@ use Rattle.attr_types.specs.declared.op.Op.{Op}
 use Rattle.attr_types.specs.declared.value.Value.{Value}
 use Rattle.attr_types.specs.declared.value.Value.TheVariants as values
 use Rattle.attribute_kinds.proofs.RecordSums.{field_sum, over, over_walk, all_values}
-use Rattle.attribute_kinds.specs.Counts.{operation_values}
+use Rattle.attribute_kinds.proofs.RoomLemmas.{sparse_none}
+use Rattle.attribute_kinds.specs.Counts.{operation_values, AreShort, HasNoVectors, IsSparse}
 use Rattle.compact_steps.specs.Counts.{AreSingleLong, MakesKeys}
 use Rattle.compaction_moves.specs.Counts.{key_nodes, IsLowColumn}
 use Rattle.posting_store.specs.Changes.{MakesWithin}
-use Rattle.value_index.specs.Counts.{by_width, is_added, is_gone, new_record, put_records, short_record, taken_records}
+use Rattle.value_index.proofs.CountLemmas.{within_more}
+use Rattle.value_index.specs.Counts.{besides, by_width, is_added, is_gone, new_record, put_records, taken_records}
 use Rattle.attr_loader.proofs.ColumnWeights.{index_few, put_length, put_weight, taken_length, taken_weight}
 use Rattle.attr_loader.proofs.LongRecords.{broad, change_long, change_off, change_wide, change_widest, items_refused, off_node, short_broad}
-use Rattle.attr_loader.specs.Room.{column_weight, is_long, is_single, is_single_long, IsMade, IsRefusedBy}
+use Rattle.attr_loader.specs.Room.{column_weight, is_long, is_single, is_single_long, AreSparse, IsMade, IsRefusedBy}
 
 -- ---- the table after an operation
 with_weight : (column : Column) (doc : ℕ) (o : Option Document) → column_weight (with_change column doc (option_map (λ d. items_in d 0) o)) ≤ column_weight column + length (weights_at o 0)
@@ -165,8 +170,8 @@ typed_items (field ∷ fields) (Some (items ∷ d)) long one typed =
     subst (λ t. AreOfType t (item_values items)) long.0.1 (typed (items ∷ d) refl).0
 
 -- ---- an operation
-module _ {H : Type 0} (old new : Ledger H) (fields : List Field) (table : Table) (op : Op) (steps : Steps) (made : IsMade old fields table steps) (fits : OpFits fields op)
-    (makes : MakesOperation old new fields table op) where
+module _ {H : Type 0} (dense : Bool) (old new : Ledger H) (fields : List Field) (table : Table) (op : Op) (steps : Steps) (made : IsMade dense old fields table steps) (fits : OpFits fields op)
+    (makes : MakesOperation dense old new fields table op) where
   abbrev t : ℕ
   t = operation_values fields table op
 
@@ -199,11 +204,29 @@ module _ {H : Type 0} (old new : Ledger H) (fields : List Field) (table : Table)
   abbrev more : ℕ → ℕ
   more = by_width (low_document there.levels (document_before table op) (document_after fields table op) 1) records
 
-  low : MakesWithin old new more
-  low =
+  -- its lists are short before it
+  short : (entries : List (Value × ℤ)) → 1 + length (column_of 0 table) < LEAST_DENSE → AreShort (column_of 0 table) entries
+  short [] few = tt
+  short (e ∷ es) few = (let less = documents_few e.0 (column_of 0 table) in omega (arith, less, few), short es few)
+
+  sparse_here : AreSparse dense (after_operation steps t) → IsSparse dense fields table op
+  sparse_here sparse on =
+      let below = sparse on in
+      let documents = made.documents in
+      let few : 1 + length (column_of 0 table) < LEAST_DENSE = omega (arith, below, documents) in
+      (short ob few, short ow few)
+
+  abbrev all_low : ℕ → ℕ
+  all_low = by_width (low_document there.levels (document_before table op) (document_after fields table op) (length fields))
+      (document_records fields table (op_doc op) (document_before table op) (document_after fields table op) (length fields))
+
+  low : AreSparse dense (after_operation steps t) → MakesWithin old new more
+  low sparse =
       subst (λ n. MakesWithin old new (by_width (low_document there.levels (document_before table op) (document_after fields table op) n)
       (document_records fields table (op_doc op) (document_before table op) (document_after fields table op) n))) made.one
-      (makes.low there.levels (λ field below. first field (omega (arith, below, made.one))))
+      (within_more old new (besides all_low (operation_forms dense fields table op)) all_low
+      (λ w. let none = sparse_none dense fields table op (sparse_here sparse) made.one w in omega (arith, none))
+      (makes.low there.levels (λ field below. first field (omega (arith, below, made.one)))))
     where
       first : (field : ℕ) → field < 1 → StaysLow there.levels (column_of field table) (weights_at (document_after fields table op) field)
       first zero below = stays
@@ -254,18 +277,18 @@ module _ {H : Type 0} (old new : Ledger H) (fields : List Field) (table : Table)
   plain none w off = let so_far = made.plain none w off in let here = plain_none w off in omega (arith, so_far, here)
 
   -- the record of 512 words was refused
-  widest_none : (width : ℕ) → width ≡ 512 → IsOperationWidth fields table op width → more 1024 ≡ 0
+  widest_none : (width : ℕ) → width ≡ 512 → IsOperationWidth dense fields table op width → more 1024 ≡ 0
   widest_none width is names =
       told names.number names.field (slice_get_within fields names.number names.field names.field_is) names.field_is
-      (subst (IsFieldWidth names.field.kind (column_of names.number (after_op fields table op)) (items_if_there (document_before table op) names.number)
+      (subst (IsFieldWidth (wants dense names.field.kind) names.field.kind (column_of names.number (after_op fields table op)) (items_if_there (document_before table op) names.number)
       (items_if_there (document_after fields table op) names.number)) is names.is)
     where
       told : (number : ℕ) (field : Field) → number < length fields → slice_get fields number ≡ Some field
-          → IsFieldWidth field.kind (column_of number (after_op fields table op)) (items_if_there (document_before table op) number) (items_if_there (document_after fields table op) number) 512
+          → IsFieldWidth (wants dense field.kind) field.kind (column_of number (after_op fields table op)) (items_if_there (document_before table op) number) (items_if_there (document_after fields table op) number) 512
           → more 1024 ≡ 0
       told zero field below found is =
           let kind : kind_at fields 0 ≡ field.kind = ap (λ o. unwrap_or (option_map (λ f. f.kind) o) Single) found in
-          let none = items_refused field.kind (column_of 0 (after_op fields table op)) (items_if_there (document_before table op) 0) (items_if_there (document_after fields table op) 0) is in
+          let none = items_refused (wants dense field.kind) field.kind (column_of 0 (after_op fields table op)) (items_if_there (document_before table op) 0) (items_if_there (document_after fields table op) 0) is in
           let widest = change_widest (column_of 0 table) (op_doc op) (items_if_there (document_before table op) 0) (items_if_there (document_after fields table op) 0) (kind_at fields 0)
           (ap (λ k. items_record k (length (items_if_there (document_after fields table op) 0)) 1024) kind ∙ none) in
           omega (arith, widest)
@@ -274,13 +297,14 @@ module _ {H : Type 0} (old new : Ledger H) (fields : List Field) (table : Table)
   has : HasMade (is_single_long fields) (after_operation steps t) (both made.most more)
   has = operation_made (is_single_long fields) steps t made.most more made.has (record { nodes = nodes_few; records = sum_few; narrow = narrow_none })
 
-  within : room.IsWithin (both made.most more) (λ width. (new.of_width width).made) (λ width. (new.of_width width).buffers)
-  within =
-      counts_rise made.most more (λ width. (old.of_width width).made) (λ width. (new.of_width width).made) (λ width. (old.of_width width).buffers) (λ width. (new.of_width width).buffers) made.within
-      (record { made_few = λ w. (low.each w).made; buffers_few = λ w. (low.each w).buffers })
+  within : AreSparse dense (after_operation steps t) → room.IsWithin (both made.most more) (λ width. (new.of_width width).made) (λ width. (new.of_width width).buffers)
+  within sparse =
+      counts_rise made.most more (λ width. (old.of_width width).made) (λ width. (new.of_width width).made) (λ width. (old.of_width width).buffers) (λ width. (new.of_width width).buffers)
+      (made.within (λ on. let below = sparse on in omega (arith, below)))
+      (record { made_few = λ w. ((low sparse).each w).made; buffers_few = λ w. ((low sparse).each w).buffers })
 
   -- it was applied
-  pub made_after : IsMade new fields (after_op fields table op) (after_operation steps t)
+  pub made_after : IsMade dense new fields (after_op fields table op) (after_operation steps t)
   made_after =
       let sound = step_keeps fields table op fits (made.lawful, made.typed) in
       record {
@@ -297,7 +321,7 @@ module _ {H : Type 0} (old new : Ledger H) (fields : List Field) (table : Table)
       }
 
   -- it was refused
-  pub made_refused : (width : ℕ) → IsOperationWidth fields table op width → IsRefusedBy new fields table (after_operation steps t) width
+  pub made_refused : (width : ℕ) → IsOperationWidth dense fields table op width → IsRefusedBy dense new fields table (after_operation steps t) width
   made_refused width names = record {
     made = record {
       one = made.one;
@@ -315,9 +339,9 @@ module _ {H : Type 0} (old new : Ledger H) (fields : List Field) (table : Table)
   }
 
 -- ---- a commit
-pub made_root : {H : Type 0} (old new : Ledger H) (fields : List Field) (table : Table) (steps : Steps) → IsMade old fields table steps → MakesOneOf (class_of (1 + 2 * length fields)) old new
-    → IsMade new fields table (after_root steps)
-made_root old new fields table steps made makes =
+pub made_root : {H : Type 0} (dense : Bool) (old new : Ledger H) (fields : List Field) (table : Table) (steps : Steps) → IsMade dense old fields table steps
+    → MakesOneOf (class_of (1 + 2 * length fields)) old new → IsMade dense new fields table (after_root steps)
+made_root dense old new fields table steps made makes =
     let here : MakesOneOf 4 old new = subst (λ n. MakesOneOf (class_of (1 + 2 * n)) old new) made.one makes in
     let more : ℕ → ℕ = λ w. cond (nat_eq w 4) 1 0 in
     let rise : RiseBy more (λ width. (old.of_width width).made) (λ width. (new.of_width width).made) (λ width. (old.of_width width).buffers) (λ width. (new.of_width width).buffers)
@@ -328,8 +352,8 @@ made_root old new fields table steps made makes =
       has = root_made (is_single_long fields) steps made.most more made.has (record { nodes = refl; root = omega arith; others = refl });
       long = root_long steps made.most more made.long (record { nodes = refl; root = omega arith; others = refl });
       plain = λ none w off. (let so_far = made.plain none w off in let here = root_none w off (nat_eq w 4) refl in omega (arith, so_far, here));
-      within = counts_rise made.most more (λ width. (old.of_width width).made) (λ width. (new.of_width width).made) (λ width. (old.of_width width).buffers) (λ width. (new.of_width width).buffers)
-          made.within rise;
+      within = λ sparse. counts_rise made.most more (λ width. (old.of_width width).made) (λ width. (new.of_width width).made) (λ width. (old.of_width width).buffers) (λ width. (new.of_width width).buffers)
+          (made.within sparse) rise;
       lawful = made.lawful;
       typed = made.typed;
       values = made.values;
@@ -352,16 +376,16 @@ made_root old new fields table steps made makes =
 twice : (a k : ℕ) → 2 * a * k ≡ a * (2 * k)
 twice a k = ap (λ x. x * k) (mul_comm 2 a) ∙ mul_assoc a 2 k
 
-pub made_keys : {H : Type 0} (old new : Ledger H) (fields : List Field) (table : Table) (steps : Steps) (keys : ℕ) → 0 < keys → IsMade old fields table steps → MakesKeys fields table old new keys
-    → IsMade new fields table (after_keys steps keys)
-made_keys old new fields table steps keys some_keys made makes =
+keys_plain : {H : Type 0} (dense : Bool) (old new : Ledger H) (fields : List Field) (table : Table) (steps : Steps) (keys : ℕ) → 0 < keys → IsMade dense old fields table steps
+    → HasNoVectors dense table → MakesKeys (HasNoVectors dense table) fields table old new keys → IsMade dense new fields table (after_keys steps keys)
+keys_plain dense old new fields table steps keys some_keys made plain makes =
     let there = levels_there (pairs_of steps) in
     let low_column : IsLowColumn there.levels (column_of 0 table) = record {
       some = there.are.some;
       values = λ index of. (let few = index_few (column_of 0 table) index of in let all = made.values in let high = there.are.high in omega (arith, few, all, high));
       documents = (let few = made.documents in let high = there.are.high in omega (arith, few, high));
     } in
-    let low = makes.low there.levels (λ field below. first there.levels field low_column (omega (arith, below, made.one))) in
+    let low = makes.low plain there.levels (λ field below. first there.levels field low_column (omega (arith, below, made.one))) in
     let more = by_width (key_nodes there.levels * keys) makes.records in
     let keyed : room.MakesKeys (is_single_long fields) (pairs_of steps) keys more = record {
       nodes = λ levels some below.
@@ -371,7 +395,7 @@ made_keys old new fields table steps keys some_keys made makes =
           omega (arith, inner, same);
       records = let few = makes.few in omega (arith, few);
       narrow = λ is.
-          let none = makes.narrow (single_long fields is).all in
+          let none = makes.narrow plain (single_long fields is).all in
           let a = none 32 (omega arith) in let b = none 64 (omega arith) in let c = none 128 (omega arith) in
           let d = none 256 (omega arith) in let e = none 512 (omega arith) in let f = none 1024 (omega arith) in
           omega (arith, a, b, c, d, e, f);
@@ -382,8 +406,8 @@ made_keys old new fields table steps keys some_keys made makes =
       has = keys_made (is_single_long fields) steps keys made.most more made.has keyed;
       long = keys_long (is_single_long fields) steps keys made.most more made.long keyed;
       plain = λ none. absurd (omega (arith, none, some_keys));
-      within = counts_rise made.most more (λ width. (old.of_width width).made) (λ width. (new.of_width width).made) (λ width. (old.of_width width).buffers) (λ width. (new.of_width width).buffers)
-          made.within (record { made_few = low.made; buffers_few = low.buffers });
+      within = λ sparse. counts_rise made.most more (λ width. (old.of_width width).made) (λ width. (new.of_width width).made) (λ width. (old.of_width width).buffers) (λ width. (new.of_width width).buffers)
+          (made.within sparse) (record { made_few = low.made; buffers_few = low.buffers });
       lawful = made.lawful;
       typed = made.typed;
       values = made.values;
@@ -393,3 +417,39 @@ made_keys old new fields table steps keys some_keys made makes =
     first : (levels field : ℕ) → IsLowColumn levels (column_of 0 table) → field < 1 → IsLowColumn levels (column_of field table)
     first levels zero low below = low
     first levels (suc field) low below = absurd (omega arith)
+
+-- with more documents nothing is promised of a store with bit vectors
+table_length : (i : ℕ) (table : Table) → length (column_of i table) ≡ length table
+table_length i [] = refl
+table_length i (e ∷ table) = ap suc (table_length i table)
+
+keys_many : {H : Type 0} (dense : Bool) (old new : Ledger H) (fields : List Field) (table : Table) (steps : Steps) (keys : ℕ) → 0 < keys → IsMade dense old fields table steps
+    → dense ≡ true → LEAST_DENSE ≤ length table → IsMade dense new fields table (after_keys steps keys)
+keys_many dense old new fields table steps keys some_keys made on many =
+    let more : ℕ → ℕ = λ width. 0 in
+    let keyed : room.MakesKeys (is_single_long fields) (pairs_of steps) keys more = record {
+      nodes = λ levels some below. omega arith;
+      records = omega arith;
+      narrow = λ is. omega arith;
+    } in
+    record {
+      one = made.one;
+      most = both made.most more;
+      has = keys_made (is_single_long fields) steps keys made.most more made.has keyed;
+      long = keys_long (is_single_long fields) steps keys made.most more made.long keyed;
+      plain = λ none. absurd (omega (arith, none, some_keys));
+      within = λ sparse. absurd (let below = sparse on in let few = made.documents in let size = table_length 0 table in omega (arith, below, few, size, many));
+      lawful = made.lawful;
+      typed = made.typed;
+      values = made.values;
+      documents = made.documents;
+    }
+
+pub made_keys : {H : Type 0} (dense : Bool) (old new : Ledger H) (fields : List Field) (table : Table) (steps : Steps) (keys : ℕ) → 0 < keys → IsMade dense old fields table steps
+    → MakesKeys (HasNoVectors dense table) fields table old new keys → IsMade dense new fields table (after_keys steps keys)
+made_keys false old new fields table steps keys some_keys made makes =
+    keys_plain false old new fields table steps keys some_keys made (λ on. absurd (true≢false (sym on))) makes
+made_keys true old new fields table steps keys some_keys made makes = elim (cases_lt (length table) LEAST_DENSE) [
+  | inl few ↦ keys_plain true old new fields table steps keys some_keys made (λ on. few) makes
+  | inr many ↦ keys_many true old new fields table steps keys some_keys made refl many
+]

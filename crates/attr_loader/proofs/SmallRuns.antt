@@ -1,6 +1,6 @@
 -- A small run: no compaction begins before its last operation, and the store is never full.
-use Rattle.std.proofs.Common.{◌≡◌, ◌⊎◌, ℕ, zero, suc, ◌+◌, ◌-◌, ◌*◌, ◌/◌, ◌<◌, ◌≤◌, Bool, true, false, List, [], ◌∷◌, ◌++◌, length, take, Some, None, refl, sym, ap, ◌∙◌, subst, arith, inl, inr, length-take, mul-zero}
-use Rattle.std.specs.Prelude.{Result, Ok, Err, IfOk}
+use Rattle.std.proofs.Common.{◌≡◌, ◌⊎◌, ℕ, ◌+◌, ◌-◌, ◌*◌, ◌/◌, ◌<◌, ◌≤◌, Bool, true, false, List, [], ◌∷◌, ◌++◌, length, take, None, refl, sym, ap, ◌∙◌, subst, arith, inl, inr, mul-zero}
+use Rattle.std.specs.Prelude.{Result, Ok, IfOk}
 use Rattle.std.proofs.lemmas.List.Sums.{sum_by-take-le}
 use Rattle.arena_api.specs.Works.{Sizes, active_width, free_count}
 use Rattle.entry_ref.specs.Records.{Records}
@@ -8,7 +8,7 @@ use Rattle.store_api.specs.Ledgers.{Ledger, IsUnfilled, buffers_in, capacity, is
 use Rattle.store_api.specs.Statuses.{is_dead}
 use Rattle.store_api.specs.Victims.{HasNoVictim, IsCandidate, count_entries, dead_words}
 use Rattle.attr_loader.proofs.Small.{small_full, small_room}
-use Rattle.attr_loader.proofs.Steps.{start_long, start_made, within_filled}
+use Rattle.attr_loader.proofs.Steps.{within_filled}
 use Rattle.attr_loader.specs.Laws.{no_steps}
 use Rattle.attr_loader.specs.Made.{Steps, HasFewLong, HasMade, after_root, pairs_of}
 use Rattle.attr_loader.specs.Runs.{weight, IsSmall}
@@ -20,13 +20,14 @@ use Rattle.attribute_kinds.specs.Views.{AttributeView}
 use Rattle.attribute_kinds.specs.declared.answers.AttrError.{AttrError}
 use Rattle.attribute_kinds.specs.declared.answers.Compacted.{Compacted}
 use Rattle.attribute_kinds.specs.declared.answers.Compacted.TheVariants.{Idle}
-use Rattle.attr_loader.proofs.RoomRuns.{after_append, after_key, after_pairs, after_roots, empty_made, take_all, values_length, values_take, weight_on}
+use Rattle.attr_loader.proofs.RoomRuns.{after_key, after_roots, empty_made, values_length, values_take, weight_on}
 use Rattle.attr_loader.specs.Batches.{AddsQuietly, LoadsRoom, RefusesSteps}
-use Rattle.attr_loader.specs.Room.{after_values, is_single_long, load_of, values_of, HasMadeNothing, IsMade, LeavesRoom}
-use Rattle.attr_loader.specs.declared.batch.Batch.TheVariants.{Done, Full}
+use Rattle.attr_loader.specs.Room.{after_values, is_single_long, load_of, values_of, AreSparse, HasMadeNothing, IsMade, LeavesRoom}
+use Rattle.attr_loader.specs.declared.batch.Batch.TheVariants.{Done}
 
 -- ---- no buffer is worth a compaction
-module _ {H : Type 0} (bits : ℕ) (ledger : Ledger H) (fields : List Field) (table : Table) (steps : Steps) (made : IsMade ledger fields table steps)
+module _ {H : Type 0} (bits : ℕ) (dense : Bool) (ledger : Ledger H) (fields : List Field) (table : Table) (steps : Steps) (made : IsMade dense ledger fields table steps)
+    (sparse : AreSparse dense steps)
     (left : LeavesRoom ledger.work.sizes.words (is_single_long fields) steps)
     (unfilled : (b : ℕ) → IsUnfilled ledger b
     → capacity ledger.work.sizes.words (active_width (ledger.work.buffer b)) ≤ (ledger.of_width (active_width (ledger.work.buffer b))).made) where
@@ -34,13 +35,13 @@ module _ {H : Type 0} (bits : ℕ) (ledger : Ledger H) (fields : List Field) (ta
   no_candidate b true is candidate =
       let w = active_width (ledger.work.buffer b) in
       let full = unfilled b (record { below = candidate.below; active = candidate.active; unfilled = candidate.unfilled }) in
-      let few = made.within.made_few w in
+      let few = (made.within sparse).made_few w in
       let low = left.each made.most made.has made.long w is in
       omega (arith, full, few, low)
   no_candidate b false is candidate =
       let w = active_width (ledger.work.buffer b) in
       let full = unfilled b (record { below = candidate.below; active = candidate.active; unfilled = candidate.unfilled }) in
-      let few = made.within.made_few w in
+      let few = (made.within sparse).made_few w in
       let none = made.plain left.none w is in
       let small : capacity ledger.work.sizes.words w ≡ 0 = omega (arith, full, few, none) in
       let dead : dead_words bits ledger b ≡ 0 = ap (λ n. w * count_entries bits is_dead ledger.status b n) small ∙ mul-zero w in
@@ -57,10 +58,10 @@ module _ {S H : Type 0} (bits : ℕ) (ledger : S → Ledger H) (records : S → 
       → capacity (ledger old.store).work.sizes.words (active_width ((ledger old.store).work.buffer b)) ≤ ((ledger old.store).of_width (active_width ((ledger old.store).work.buffer b))).made)
       → AddsQuietly ledger old new (λ steps. steps)
   quiet_step steps_are idle unfilled =
-      λ none steps made left.
-      let is = idle (record { none = none; why = inr (no_victim bits (ledger old.store) old.fields old.table steps made left unfilled) }) in
+      λ none steps made left sparse.
+      let is = idle (record { none = none; why = inr (no_victim bits old.dense (ledger old.store) old.fields old.table steps made sparse left unfilled) }) in
       let stays = subst (λ (r : Result Compacted AttrError). IfOk r (CompactsTo bits ledger records old new keys)) is steps_are in
-      (ap (λ (v : AttributeView S). v.plan) stays.same ∙ none, subst (λ (v : AttributeView S). IsMade (ledger v.store) v.fields v.table steps) (sym stays.same) made)
+      (ap (λ (v : AttributeView S). v.plan) stays.same ∙ none, subst (λ (v : AttributeView S). IsMade v.dense (ledger v.store) v.fields v.table steps) (sym stays.same) made)
 
 -- ---- what was made
 by_kind : (t : Bool) → (t ≡ true) ⊎ (t ≡ false)
@@ -79,7 +80,7 @@ module _ {S H : Type 0} (ledger : S → Ledger H) (batch : ℕ) (ops : List Op) 
   pub record QuietRuns (now : AttributeView S) (count : ℕ) : Type 0 where
     pub plan : now.plan ≡ None
     pub steps : Steps
-    pub made : IsMade (ledger now.store) now.fields now.table steps
+    pub made : IsMade now.dense (ledger now.store) now.fields now.table steps
     pub pairs : pairs_of steps ≡ weight (values_of start.fields [] (take count ops))
     pub operations : steps.operations ≡ count
     pub roots : steps.roots ≤ count
@@ -89,7 +90,7 @@ module _ {S H : Type 0} (ledger : S → Ledger H) (batch : ℕ) (ops : List Op) 
   quiet_begin empty one nothing plan = record {
     plan = plan;
     steps = no_steps;
-    made = subst (λ (t : Table). IsMade (ledger start.store) start.fields t no_steps) (sym empty) (empty_made (ledger start.store) start.fields one nothing);
+    made = subst (λ (t : Table). IsMade start.dense (ledger start.store) start.fields t no_steps) (sym empty) (empty_made start.dense (ledger start.store) start.fields one nothing);
     pairs = refl;
     operations = refl;
     roots = omega arith;
@@ -139,6 +140,14 @@ module _ {S H : Type 0} (ledger : S → Ledger H) (batch : ℕ) (ops : List Op) 
           keys = keys_now;
         }
 
+    -- no list becomes a bit vector
+    sparse_now : (dense : Bool) (buffers words : ℕ) → IsSmall (load_of buffers words start.fields batch ops) → AreSparse dense after
+    sparse_now dense buffers words small on =
+        let pairs = pairs_now in
+        let few = part_weight (count + n) in
+        let light = small.light in
+        omega (arith, pairs, few, light)
+
     -- before the last operation there is room
     pub leaves_room : (buffers words : ℕ) → 8192 ≤ words → IsSmall (load_of buffers words start.fields batch ops) → count + n < length ops
         → LeavesRoom words (is_single_long start.fields) after
@@ -162,8 +171,9 @@ module _ {S H : Type 0} (ledger : S → Ledger H) (batch : ℕ) (ops : List Op) 
         subst (λ (s : Sizes). LeavesRoom s.words (is_single_long b.fields) after) (sym sizes)
         (subst (λ (fs : List Field). LeavesRoom (ledger start.store).work.sizes.words (is_single_long fs) after) (sym fields) left) in
         let parts = subst (λ (xs : List Op). LeavesRoom (ledger b.store).work.sizes.words (is_single_long b.fields) (after_root (after_values runs.steps (values_of b.fields b.table xs)))
-        → (c.plan ≡ None) × IsMade (ledger c.store) c.fields c.table (after_root (after_values runs.steps (values_of b.fields b.table xs)))) (sym whole)
-        (room.1 runs.plan runs.steps runs.made) here in
+        → AreSparse b.dense (after_root (after_values runs.steps (values_of b.fields b.table xs))) → (c.plan ≡ None) × IsMade c.dense (ledger c.store) c.fields c.table
+        (after_root (after_values runs.steps (values_of b.fields b.table xs)))) (sym whole)
+        (room.1 runs.plan runs.steps runs.made) here (sparse_now b.dense (ledger start.store).work.sizes.buffers (ledger start.store).work.sizes.words small) in
         record {
           plan = parts.0;
           steps = after;
@@ -195,7 +205,7 @@ module _ {S H : Type 0} (ledger : S → Ledger H) (batch : ℕ) (ops : List Op) 
         (subst (λ (s : Sizes). 8 ≤ s.buffers) (sym sizes) many)
         (subst (λ (s : Sizes). IsSmall (load_of s.buffers s.words start.fields batch ops)) (sym sizes) small)
         (part_of buffers words) (subst (λ (fs : List Field). HasMade (is_single_long fs) after most) same refused.made.has) refused.made.long
-        (within_filled words most made taken refused.made.within few)
+        (within_filled words most made taken (refused.made.within (sparse_now c.dense (ledger start.store).work.sizes.buffers (ledger start.store).work.sizes.words small)) few)
         (record {
           is = room.is;
           whole = room.whole;

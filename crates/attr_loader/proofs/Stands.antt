@@ -1,5 +1,5 @@
 -- Where a loading stands between two batches.
-use Rattle.std.proofs.Common.{◌≡◌, ℕ, zero, suc, ◌+◌, ◌-◌, ◌*◌, ◌/◌, ◌<◌, ◌≤◌, List, [], ◌∷◌, ◌++◌, length, Some, None, ◌⊎◌, inl, inr, mul-zero, refl, sym, ap, ◌∙◌, subst, arith}
+use Rattle.std.proofs.Common.{◌≡◌, ℕ, zero, suc, ◌+◌, ◌-◌, ◌*◌, ◌/◌, ◌<◌, ◌≤◌, List, [], ◌∷◌, ◌++◌, length, false, Some, None, ◌⊎◌, inl, inr, mul-zero, refl, sym, ap, ◌∙◌, subst, arith}
 use Rattle.std.specs.Prelude.{take, drop, min, slice_get}
 use Rattle.std.proofs.lemmas.List.{length-append, length-take, length-drop, take-take}
 use Rattle.std.proofs.lemmas.Bool.{cases_lt}
@@ -77,7 +77,7 @@ module _ {S H : Type 0} (ledger : S → Ledger H) (batch : ℕ) (ops : List Op) 
 
     pub starts : Stands ledger batch ops start start 0 0
     starts = record {
-      stays = record { home = refl; sizes = refl; readers = refl; fields = refl };
+      stays = record { home = refl; sizes = refl; readers = refl; fields = refl; dense = refl };
       last = 0;
       told = record {
         count = λ some. (let few = at.few in omega (arith, few, some));
@@ -205,7 +205,8 @@ module _ {S H : Type 0} (ledger : S → Ledger H) (batch : ℕ) (ops : List Op) 
     ]
 
     pub finds_no_room : (c : AttributeView S) (before active held : ℕ) → 0 < batch → FindsNoRoom ledger b c part before active held
-        → (length start.fields ≡ 1 → HasMadeNothing (ledger start.store) → IsOwed (load_of (ledger start.store).work.sizes.buffers (ledger start.store).work.sizes.words start.fields batch ops) (count + before) count)
+        → (start.dense ≡ false → length start.fields ≡ 1 → HasMadeNothing (ledger start.store) → IsOwed (load_of (ledger start.store).work.sizes.buffers (ledger start.store).work.sizes.words start.fields batch ops)
+        (count + before) count)
         → (length start.fields ≡ 1 → HasMadeNothing (ledger start.store) → start.plan ≡ None → 8 ≤ (ledger start.store).work.sizes.buffers
         → ¬ IsSmall (load_of (ledger start.store).work.sizes.buffers (ledger start.store).work.sizes.words start.fields batch ops))
         → current (ledger c.store).work ≤ (ledger c.store).work.commits.last
@@ -268,7 +269,7 @@ module _ {S H : Type 0} (ledger : S → Ledger H) (batch : ℕ) (ops : List Op) 
     told = stands.told;
     commits = stands.commits;
     full = tt;
-    owed = λ one nothing. tt;
+    owed = λ off one nothing. tt;
     small = λ one nothing plan many is. refl;
     unheld = λ none few. tt;
     point = stands.point;

@@ -16,7 +16,7 @@ use Rattle.attribute_kinds.specs.Views.{AttributeView}
 use Rattle.attr_loader.specs.Made.{Steps, after_keys, after_root}
 use Rattle.attr_loader.specs.Runs.{step_keys}
 use Rattle.attr_loader.specs.Loading.{told_of, StaysIn}
-use Rattle.attr_loader.specs.Room.{after_values, is_single_long, values_of, IsMade, IsRefusedBy, LeavesRoom}
+use Rattle.attr_loader.specs.Room.{after_values, is_single_long, values_of, AreSparse, IsMade, IsRefusedBy, LeavesRoom}
 use Rattle.attr_loader.specs.declared.error.LoadError.{LoadError}
 use Rattle.attr_loader.specs.declared.error.LoadError.TheVariants.{CommitsSpent, Memory}
 use Rattle.attr_loader.specs.declared.batch.Batch.{Batch}
@@ -103,8 +103,8 @@ module _ {S H : Type 0} (ledger : S → Ledger H) where
 
   -- the store of one attribute has made at most these steps more, after any steps before
   abbrev pub AddsSteps : AttributeView S → AttributeView S → (Steps → Steps) → Type 0
-  AddsSteps old new more = (steps : Steps) → IsMade (ledger old.store) old.fields old.table steps
-      → IsMade (ledger new.store) new.fields new.table (more steps)
+  AddsSteps old new more = (steps : Steps) → IsMade old.dense (ledger old.store) old.fields old.table steps
+      → IsMade new.dense (ledger new.store) new.fields new.table (more steps)
 
   -- the same for a store that refused an entry of some width: all entries of its buffers were made
   pub record RefusesSteps (old new : AttributeView S) (more : Steps → Steps) : Type 0 where
@@ -112,14 +112,14 @@ module _ {S H : Type 0} (ledger : S → Ledger H) where
     pub is : is_width width ≡ true
     pub whole : ((ledger new.store).of_width width).buffers * capacity (ledger new.store).work.sizes.words width
         ≤ ((ledger new.store).of_width width).made
-    pub adds : (steps : Steps) → IsMade (ledger old.store) old.fields old.table steps
-        → IsRefusedBy (ledger new.store) new.fields new.table (more steps) width
+    pub adds : (steps : Steps) → IsMade old.dense (ledger old.store) old.fields old.table steps
+        → IsRefusedBy new.dense (ledger new.store) new.fields new.table (more steps) width
 
-  -- the same while these steps leave room: if no compaction is in progress, none is begun
+  -- the same while these steps leave room and are sparse: if no compaction is in progress, none is begun
   abbrev pub AddsQuietly : AttributeView S → AttributeView S → (Steps → Steps) → Type 0
-  AddsQuietly old new more = old.plan ≡ None → (steps : Steps) → IsMade (ledger old.store) old.fields old.table steps
-      → LeavesRoom (ledger old.store).work.sizes.words (is_single_long old.fields) (more steps)
-      → (new.plan ≡ None) × IsMade (ledger new.store) new.fields new.table (more steps)
+  AddsQuietly old new more = old.plan ≡ None → (steps : Steps) → IsMade old.dense (ledger old.store) old.fields old.table steps
+      → LeavesRoom (ledger old.store).work.sizes.words (is_single_long old.fields) (more steps) → AreSparse old.dense (more steps)
+      → (new.plan ≡ None) × IsMade new.dense (ledger new.store) new.fields new.table (more steps)
 
   -- for operations, with the refused one; for a commit, without and with the keys after it; and for both
   abbrev pub AppliesRoom : AttributeView S → AttributeView S → List Op → Batch → Type 0

@@ -1,5 +1,5 @@
 -- How a loading changes attributes and the recorded images of their store.
-use Rattle.std.specs.Prelude.{◌≡◌, ℕ, suc, ◌+◌, ◌-◌, ◌*◌, ◌/◌, ◌^◌, ◌<◌, ◌≤◌, min, List, [], length, slice_get, Option, Some, None}
+use Rattle.std.specs.Prelude.{◌≡◌, false, ℕ, suc, ◌+◌, ◌-◌, ◌*◌, ◌/◌, ◌^◌, ◌<◌, ◌≤◌, min, List, [], length, slice_get, Option, Some, None}
 use Rattle.std.specs.Prelude.{◌⊎◌, All, IfSome}
 use Rattle.std.specs.List.{AllByRecursion}
 use Rattle.entry_ref.specs.declared.images.Image.{Image}
@@ -68,6 +68,7 @@ module _ {S H : Type 0} (ledger : S → Ledger H) where
     pub sizes : (ledger new.store).work.sizes ≡ (ledger old.store).work.sizes
     pub readers : (ledger new.store).work.made ≡ (ledger old.store).work.made
     pub fields : new.fields ≡ old.fields
+    pub dense : new.dense ≡ old.dense
 
   -- the operation that ran out of space: no buffer is free, and this many are in use and held. It was refused after
   -- those before it; or it is the last of its batch, and their commit was refused
@@ -90,11 +91,12 @@ module _ {S H : Type 0} (ledger : S → Ledger H) where
     pub commits : (ledger new.store).work.commits.last ≡ (ledger old.store).work.commits.last + last
     pub ends : EndsAt batch (length ops) (ledger new.store).work.sizes.buffers loaded.operations loaded.full
     pub full : IfSome loaded.full (IsFullAt batch ops old new loaded.operations)
-    -- with one attribute, in a store in which nothing was made before, a full store is owed to what was made
-    pub owed : length old.fields ≡ 1 → HasMadeNothing (ledger old.store) → IfSome loaded.full
+    -- with one attribute and without bit vectors, in a store in which nothing was made before, a full store is owed to
+    -- what was made
+    pub owed : old.dense ≡ false → length old.fields ≡ 1 → HasMadeNothing (ledger old.store) → IfSome loaded.full
         (λ full. IsOwed (load_of (ledger old.store).work.sizes.buffers (ledger old.store).work.sizes.words old.fields batch ops)
         full.operation loaded.operations)
-    -- and a small run is never out of room, if no compaction is in progress at its start
+    -- and a small run of one attribute is never out of room, if no compaction is in progress at its start
     pub small : length old.fields ≡ 1 → HasMadeNothing (ledger old.store) → old.plan ≡ None → 8 ≤ (ledger old.store).work.sizes.buffers
         → IsSmall (load_of (ledger old.store).work.sizes.buffers (ledger old.store).work.sizes.words old.fields batch ops)
         → loaded.full ≡ None

@@ -2,6 +2,7 @@
 use Rattle.std.specs.Prelude.{◌≡◌, ℕ, ◌+◌, ◌<◌, ◌≤◌, Bool, true, false, ◌&&◌, List, [], ◌∷◌, length}
 use Rattle.std.specs.List.{sum_by}
 use Rattle.store_api.specs.Ledgers.{Ledger, no_counts}
+use Rattle.attr_images.specs.declared.TheConstants.{LEAST_DENSE}
 use Rattle.attr_index.specs.Changes.{first_weights}
 use Rattle.attr_index.specs.Columns.{Column, column_of}
 use Rattle.attr_loader.specs.Made.{Steps, HasFewLong, HasMade, IsWithin, after_operation, is_width}
@@ -59,23 +60,28 @@ after_values steps (t ∷ values) = after_values (after_operation steps t) value
 pub record HasMadeNothing {H : Type 0} (ledger : Ledger H) : Type 0 where
   pub counts : (width : ℕ) → ledger.of_width width ≡ no_counts
 
--- the store of one attribute has made at most what these steps allow, and its table has at most as many values and
+-- bit vectors are not wanted, or these are so few operations that no list becomes one
+abbrev pub AreSparse : Bool → Steps → Type 0
+AreSparse dense steps = dense ≡ true → steps.operations < LEAST_DENSE
+
+-- the store of one attribute has made at most what these steps allow if they are sparse, and its table has at most as many values and
 -- documents; without a compaction, it has made entries of these widths alone
-pub record IsMade {H : Type 0} (ledger : Ledger H) (fields : List Field) (table : Table) (steps : Steps) : Type 0 where
+pub record IsMade {H : Type 0} (dense : Bool) (ledger : Ledger H) (fields : List Field) (table : Table) (steps : Steps) : Type 0 where
   pub one : length fields ≡ 1
   pub most : ℕ → ℕ
   pub has : HasMade (is_single_long fields) steps most
   pub long : HasFewLong steps most
   pub plain : steps.keys ≡ 0 → (width : ℕ) → is_width width ≡ false → most width ≡ 0
-  pub within : IsWithin most (λ width. (ledger.of_width width).made) (λ width. (ledger.of_width width).buffers)
+  pub within : AreSparse dense steps → IsWithin most (λ width. (ledger.of_width width).made) (λ width. (ledger.of_width width).buffers)
   pub lawful : IsLawfulTable fields table
   pub typed : DocumentsHaveType fields table
   pub values : column_weight (column_of 0 table) ≤ steps.values
   pub documents : length (column_of 0 table) ≤ steps.operations
 
 -- if the last operation was refused a record of 512 words, it made none of 1024
-pub record IsRefusedBy {H : Type 0} (ledger : Ledger H) (fields : List Field) (table : Table) (steps : Steps) (width : ℕ) : Type 0 where
-  pub made : IsMade ledger fields table steps
+pub record IsRefusedBy {H : Type 0} (dense : Bool) (ledger : Ledger H) (fields : List Field) (table : Table) (steps : Steps) (width : ℕ)
+    : Type 0 where
+  pub made : IsMade dense ledger fields table steps
   pub apart : width ≡ 512 → made.most 1024 < steps.operations + steps.keys
 
 -- what these steps make, without a compaction, fills no buffer of these widths

@@ -1,5 +1,5 @@
 -- The document after an operation.
-use Rattle.std.proofs.Common.{◌≡◌, ℕ, cond, List, Option, Some, None, sym, ap, subst, ◌∙◌}
+use Rattle.std.proofs.Common.{◌≡◌, Bool, ℕ, cond, List, Option, Some, None, sym, ap, subst, ◌∙◌}
 use Rattle.std.proofs.lemmas.Cmp.{nat_cmp_total, tied_itself}
 use Rattle.std.specs.Option.{unwrap_or}
 use Rattle.std.specs.Ordering.{is_eq}
@@ -35,7 +35,8 @@ module _ (fields : List Field) (table : Table) (op : Op) (before after : Option 
   of_operation P p = subst (λ (d : Option Document). P (document_before table op) d) is (subst (λ (d : Option Document). P d after) was p)
 
   -- of which width it was refused, by the table after it
-  pub width_after : (next : Table) (e : StoreError) → step fields table op ≡ Some next → IsFullAmong (IsChangedWidth fields next before after) e → IsFullAmong (IsOperationWidth fields table op) e
-  width_after next e made full =
-      subst (λ (t : Table). IsFullAmong (IsChangedWidth fields t (document_before table op) (document_after fields table op)) e) (sym (ap (λ (o : Option Table). unwrap_or o table) made))
-      (of_operation (λ was is. IsFullAmong (IsChangedWidth fields next was is) e) full)
+  pub width_after : (dense : Bool) (next : Table) (e : StoreError) → step fields table op ≡ Some next → IsFullAmong (IsChangedWidth dense fields next before after) e → IsFullAmong
+      (IsOperationWidth dense fields table op) e
+  width_after dense next e made full =
+      subst (λ (t : Table). IsFullAmong (IsChangedWidth dense fields t (document_before table op) (document_after fields table op)) e) (sym (ap (λ (o : Option Table). unwrap_or o table) made))
+      (of_operation (λ was is. IsFullAmong (IsChangedWidth dense fields next was is) e) full)

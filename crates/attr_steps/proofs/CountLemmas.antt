@@ -1,5 +1,5 @@
 -- How many records a change of a document makes: attribute by attribute, and then the unit as a whole.
-use Rattle.std.proofs.Common.{◌≡◌, ℕ, ℤ, zero, suc, ◌+◌, ◌-◌, ◌*◌, ◌≤◌, true, List, [], Option, Some, option_map, sym, ap, subst, arith}
+use Rattle.std.proofs.Common.{◌≡◌, Bool, ℕ, ℤ, zero, suc, ◌+◌, ◌-◌, ◌*◌, ◌≤◌, true, List, [], Option, Some, option_map, sym, ap, subst, arith}
 use Rattle.std.specs.Prelude.{min, slice_get, unwrap_or}
 use Rattle.entry_ref.specs.Records.{Records}
 use Rattle.array_store.specs.Adding.{MakesOneOf}
@@ -11,7 +11,8 @@ use Rattle.store_api.specs.Ledgers.{Ledger, OfWidth, IsSettled, capacity}
 use Rattle.store_api.specs.Units.{MayDo, MakesAtMost}
 use Rattle.store_api.specs.declared.store.StoreError.{StoreError}
 use Rattle.store_api.specs.declared.store.StoreError.TheVariants.{Full, Memory}
-use Rattle.attr_field.specs.Counts.{change_records, field_nodes, low_nodes, StaysLow}
+use Rattle.attr_field.specs.Counts.{change_forms, change_records, field_nodes, low_nodes, StaysLow}
+use Rattle.attr_field.specs.Forms.{wants}
 use Rattle.attr_index.specs.Changes.{first_weights}
 use Rattle.attr_index.specs.Columns.{Column, column_of}
 use Rattle.attr_types.specs.Query.{items_in}
@@ -22,10 +23,11 @@ use Rattle.attr_types.specs.declared.items.Item.{Item}
 use Rattle.attr_types.specs.declared.kind.Kind.{Kind}
 use Rattle.attr_types.specs.declared.kind.Kind.TheVariants.{Single}
 use Rattle.attr_types.specs.declared.value.Value.{Value}
-use Rattle.value_index.specs.Counts.{by_width}
-use Rattle.value_index.proofs.WalksCountLemmas.{width_more, width_none, width_then}
+use Rattle.value_index.specs.Counts.{besides, by_width}
+use Rattle.value_index.proofs.CountLemmas.{within_none}
+use Rattle.value_index.proofs.WalksCountLemmas.{besides_more, besides_then}
 use Rattle.posting_store.specs.Changes.{MakesWithin}
-use Rattle.attr_steps.specs.Counts.{document_nodes, document_records, items_if_there, kind_at, low_document, weights_at, MakesDocument, SparesAtMost}
+use Rattle.attr_steps.specs.Counts.{document_forms, document_nodes, document_records, items_if_there, kind_at, low_document, weights_at, MakesDocument, SparesAtMost}
 
 -- ---- more attributes make no less
 on_by : ℕ → ℕ → ℕ
@@ -51,26 +53,35 @@ rises sum step i n below =
 more_of : (a b : ℕ) → a ≤ a + b
 more_of a b = omega arith
 
-module _ {H : Type 0} (fields : List Field) (table : Table) (doc : ℕ) (old new : Option Document) where
-  pub makes_none : (ledger : Ledger H) (n : ℕ) → MakesDocument ledger ledger fields table doc old new n
+module _ {H : Type 0} (dense : Bool) (fields : List Field) (table : Table) (doc : ℕ) (old new : Option Document) where
+  abbrev forms_to : ℕ → ℕ → ℕ
+  forms_to n = document_forms dense fields table doc old new n
+
+  abbrev records_to : ℕ → ℕ → ℕ
+  records_to n = document_records fields table doc old new n
+
+  pub makes_none : (ledger : Ledger H) (n : ℕ) → MakesDocument dense ledger ledger fields table doc old new n
   makes_none ledger n = record {
-    few = width_none ledger (document_nodes old new n) (document_records fields table doc old new n);
-    low = λ levels stay. width_none ledger (low_document levels old new n) (document_records fields table doc old new n);
+    few = within_none ledger (besides (by_width (document_nodes old new n) (records_to n)) (forms_to n));
+    low = λ levels stay. within_none ledger (besides (by_width (low_document levels old new n) (records_to n)) (forms_to n));
   }
 
   module _ (begun now : Ledger H) (i : ℕ) where
-    pub counts_all : (n : ℕ) → i ≤ n → MakesDocument begun now fields table doc old new i → MakesDocument begun now fields table doc old new n
+    pub counts_all : (n : ℕ) → i ≤ n → MakesDocument dense begun now fields table doc old new i → MakesDocument dense begun now fields table doc old new n
     counts_all n below made =
-        let records : (w : ℕ) → document_records fields table doc old new i w ≤ document_records fields table doc old new n w =
-        λ w. rises (λ k. document_records fields table doc old new k w)
-        (λ k. more_of (document_records fields table doc old new k w)
+        let records : (w : ℕ) → records_to i w ≤ records_to n w =
+        λ w. rises (λ k. records_to k w)
+        (λ k. more_of (records_to k w)
         (change_records (kind_at fields k) (column_of k table) doc (items_if_there old k) (items_if_there new k) w)) i n below in
+        let forms : (w : ℕ) → forms_to i w ≤ forms_to n w =
+        λ w. rises (λ k. forms_to k w)
+        (λ k. more_of (forms_to k w)
+        (change_forms (wants dense (kind_at fields k)) (column_of k table) doc (items_if_there old k) (items_if_there new k) w)) i n below in
         record {
-          few = width_more begun now (document_nodes old new i) (document_nodes old new n) (document_records fields table doc old new i) (document_records fields table doc old new n)
-              (rises (document_nodes old new) (λ k. omega arith) i n below) records made.few;
-          low = λ levels stay. width_more begun now (low_document levels old new i) (low_document levels old new n)
-              (document_records fields table doc old new i) (document_records fields table doc old new n)
-              (rises (low_document levels old new) (λ k. more_of (low_document levels old new k) (low_nodes levels (weights_at old k) (weights_at new k))) i n below) records
+          few = besides_more begun now (document_nodes old new i) (document_nodes old new n) (records_to i) (records_to n) (forms_to i) (forms_to n)
+              (rises (document_nodes old new) (λ k. omega arith) i n below) records forms made.few;
+          low = λ levels stay. besides_more begun now (low_document levels old new i) (low_document levels old new n) (records_to i) (records_to n) (forms_to i) (forms_to n)
+              (rises (low_document levels old new) (λ k. more_of (low_document levels old new k) (low_nodes levels (weights_at old k) (weights_at new k))) i n below) records forms
               (made.low levels (λ field less. stay field (omega arith)));
         }
 
@@ -81,7 +92,8 @@ module _ {H : Type 0} (fields : List Field) (table : Table) (doc : ℕ) (old new
       kind_is = sym (ap (λ (o : Option Field). unwrap_or (option_map (λ (f : Field). f.kind) o) Single) at)
 
       abbrev Makes : (List (Value × ℤ) → List (Value × ℤ) → ℕ) → Kind → Column → List Item → List Item → Type 0
-      Makes nodes kind cl had has = MakesWithin now later (by_width (nodes (first_weights [] had) (first_weights [] has)) (change_records kind cl doc had has))
+      Makes nodes kind cl had has =
+          MakesWithin now later (besides (by_width (nodes (first_weights [] had) (first_weights [] has)) (change_records kind cl doc had has)) (change_forms (wants dense kind) cl doc had has))
 
       at_items : (nodes : List (Value × ℤ) → List (Value × ℤ) → ℕ) → Makes nodes field.kind column before (unwrap_or after [])
           → Makes nodes (kind_at fields i) (column_of i table) (items_if_there old i) (items_if_there new i)
@@ -91,19 +103,18 @@ module _ {H : Type 0} (fields : List Field) (table : Table) (doc : ℕ) (old new
           (subst (λ (items : List Item). Makes nodes field.kind column items (items_if_there new i)) was
           (subst (λ (o : Option (List Item)). Makes nodes field.kind column before (unwrap_or o [])) is more)))
 
-      pub counts_on : MayDo begun now → MakesDocument begun now fields table doc old new i
-          → MakesWithin now later (by_width (field_nodes (first_weights [] before) (first_weights [] (unwrap_or after []))) (change_records field.kind column doc before (unwrap_or after [])))
-          → ((levels : ℕ) → StaysLow levels column (first_weights [] (unwrap_or after []))
-          → MakesWithin now later (by_width (low_nodes levels (first_weights [] before) (first_weights [] (unwrap_or after []))) (change_records field.kind column doc before (unwrap_or after []))))
-          → MakesDocument begun later fields table doc old new (i + 1)
+      pub counts_on : MayDo begun now → MakesDocument dense begun now fields table doc old new i
+          → Makes field_nodes field.kind column before (unwrap_or after [])
+          → ((levels : ℕ) → StaysLow levels column (first_weights [] (unwrap_or after [])) → Makes (low_nodes levels) field.kind column before (unwrap_or after []))
+          → MakesDocument dense begun later fields table doc old new (i + 1)
       counts_on may made more low =
           let next : suc i ≡ i + 1 = omega arith in
           let records = change_records (kind_at fields i) (column_of i table) doc (items_if_there old i) (items_if_there new i) in
-          subst (λ n. MakesDocument begun later fields table doc old new n) next (record {
-            few = width_then begun now later (document_nodes old new i) (field_nodes (weights_at old i) (weights_at new i)) (document_records fields table doc old new i) records may made.few
+          let forms = change_forms (wants dense (kind_at fields i)) (column_of i table) doc (items_if_there old i) (items_if_there new i) in
+          subst (λ n. MakesDocument dense begun later fields table doc old new n) next (record {
+            few = besides_then begun now later (document_nodes old new i) (field_nodes (weights_at old i) (weights_at new i)) (records_to i) records (forms_to i) forms may made.few
                 (at_items field_nodes more);
-            low = λ levels stay. width_then begun now later (low_document levels old new i) (low_nodes levels (weights_at old i) (weights_at new i)) (document_records fields table doc old new i)
-                records may
+            low = λ levels stay. besides_then begun now later (low_document levels old new i) (low_nodes levels (weights_at old i) (weights_at new i)) (records_to i) records (forms_to i) forms may
                 (made.low levels (λ number less. stay number (omega arith)))
                 (at_items (low_nodes levels) (low levels
                 (subst (λ (cl : Column). StaysLow levels cl (first_weights [] (unwrap_or after []))) (sym reads)
@@ -140,13 +151,16 @@ module _ {H : Type 0} (old begun mid new : Ledger H) (most : ℕ → ℕ) (begin
       omega arith
   spares_among among m o Memory settled refuses undoes = tt
 
-pub document_unit : {H : Type 0} (old begun mid new : Ledger H) (fields : List Field) (table : Table) (doc : ℕ) (before after : Option Document) (count : ℕ) → begun ≡ record old { unit = true }
-    → MakesDocument begun mid fields table doc before after count → (o : Records) → ((w : ℕ) → EndsOf (mid.of_width w) (new.of_width w)) → IsSettled new o
-    → MakesDocument old new fields table doc before after count
-document_unit old begun mid new fields table doc before after count begins made o ends settled = record {
-  few = counts_unit old begun mid new (by_width (document_nodes before after count) (document_records fields table doc before after count)) begins made.few o ends settled;
-  low = λ levels stay. counts_unit old begun mid new (by_width (low_document levels before after count) (document_records fields table doc before after count)) begins (made.low levels stay) o ends settled;
-}
+pub document_unit : {H : Type 0} (dense : Bool) (old begun mid new : Ledger H) (fields : List Field) (table : Table) (doc : ℕ) (before after : Option Document) (count : ℕ)
+    → begun ≡ record old { unit = true } → MakesDocument dense begun mid fields table doc before after count → (o : Records) → ((w : ℕ) → EndsOf (mid.of_width w) (new.of_width w)) → IsSettled new o
+    → MakesDocument dense old new fields table doc before after count
+document_unit dense old begun mid new fields table doc before after count begins made o ends settled =
+    let records = document_records fields table doc before after count in
+    let forms = document_forms dense fields table doc before after count in
+    record {
+      few = counts_unit old begun mid new (besides (by_width (document_nodes before after count) records) forms) begins made.few o ends settled;
+      low = λ levels stay. counts_unit old begun mid new (besides (by_width (low_document levels before after count) records) forms) begins (made.low levels stay) o ends settled;
+    }
 
 -- ---- one record, of a width
 module _ {H : Type 0} (width : ℕ) where

@@ -24,11 +24,12 @@ use Rattle.attr_images.proofs.TableLemmas.{document_size}
 use Rattle.attr_images.specs.Documents.{column_at}
 use Rattle.attr_field.specs.Changes.{MakesField}
 use Rattle.attr_field.specs.Fields.{field_part, IsField, RefersBeside}
+use Rattle.attr_field.specs.Forms.{wants}
 use Rattle.attr_field.specs.Widths.{IsFieldWidth}
 use Rattle.attr_field.specs.Laws.{FieldStays, FieldIsLawful, FieldOwnsKeys}
 use Rattle.attr_field.specs.declared.roots.FieldRoots.{FieldRoots}
 use Rattle.attr_field.proofs.CopyLemmas.{refers_some}
-use Rattle.attr_steps.specs.Fields.{FitsFields, IsFieldAt, column_in, part_of, parts_of, table_with, trees_of, trees_of_field}
+use Rattle.attr_steps.specs.Fields.{FitsFields, HaveForms, IsFieldAt, IsOfFormAt, column_in, part_of, parts_of, table_with, trees_of, trees_of_field}
 use Rattle.attr_steps.specs.Counts.{items_if_there}
 use Rattle.attr_steps.specs.Views.{table_at}
 use Rattle.attr_steps.specs.Widths.{IsChangedWidth}
@@ -36,7 +37,7 @@ use Rattle.attr_steps.proofs.TreeLists.{tree_get, tree_set}
 use Rattle.attr_steps.proofs.PartLists.{count_at}
 use Rattle.attr_steps.proofs.Columns.{FieldLaws, column_with}
 use Rattle.attr_steps.proofs.Referring.{RefersAt}
-use Rattle.attr_steps.proofs.Walk.{IsPartway, ChangesPart, way_more}
+use Rattle.attr_steps.proofs.Walk.{IsPartway, ChangesPart, way_forms, way_more}
 
 pub laws_of : FieldStays → FieldIsLawful → FieldOwnsKeys → FieldLaws
 laws_of stays lawful keys = record {
@@ -100,6 +101,10 @@ module _ {bits : ℕ} {H : Type 0} (begun now : Ledger H) (k m : Records) (field
   at_tree : slice_get (trees_of fields roots) i ≡ Some (trees_of_field field root)
   at_tree = tree_get fields roots i field root at_field at_root
 
+  -- its form
+  pub form_at : (dense : Bool) → HaveForms dense m (trees_of fields roots) → IsOfFormAt dense m (trees_of_field field root)
+  form_at dense forms = AllByRecursion-slice_get (IsOfFormAt dense m) (trees_of fields roots) i (trees_of_field field root) forms at_tree
+
   pub column_is : column_in m (trees_of_field field root) ≡ column_of i (table_at k (trees_of fields first))
   column_is = way.partly.rest i (trees_of_field field root) (omega arith) at_tree
 
@@ -123,11 +128,11 @@ module _ {bits : ℕ} {H : Type 0} (begun now : Ledger H) (k m : Records) (field
     }
 
   -- of which width its change was refused
-  pub changed_width : Sound fields (table_at k (trees_of fields first)) → (before : List Item) (after : Option (List Item)) → before ≡ items_if_there old i
+  pub changed_width : (dense : Bool) → Sound fields (table_at k (trees_of fields first)) → (before : List Item) (after : Option (List Item)) → before ≡ items_if_there old i
       → after ≡ option_map (λ d. items_in d i) new → (w : ℕ)
-      → IsFieldWidth field.kind (with_change (column_at field.kind field.value m root.documents) doc after) before (unwrap_or after []) w
-      → IsChangedWidth fields (table_with (table_at k (trees_of fields first)) doc new) old new w
-  changed_width sound before after was next w is =
+      → IsFieldWidth (wants dense field.kind) field.kind (with_change (column_at field.kind field.value m root.documents) doc after) before (unwrap_or after []) w
+      → IsChangedWidth dense fields (table_with (table_at k (trees_of fields first)) doc new) old new w
+  changed_width dense sound before after was next w is =
       let table = table_at k (trees_of fields first) in
       let column : with_change (column_at field.kind field.value m root.documents) doc after ≡ column_of i (table_with table doc new) =
       ap (λ a. with_change (column_in m (trees_of_field field root)) doc a) next ∙ ap (λ (c : Column). with_change c doc (option_map (λ d. items_in d i) new)) column_is
@@ -136,9 +141,10 @@ module _ {bits : ℕ} {H : Type 0} (begun now : Ledger H) (k m : Records) (field
         number = i;
         field = field;
         field_is = at_field;
-        is = subst (λ (c : Column). IsFieldWidth field.kind c (items_if_there old i) (items_if_there new i) w) column
-            (subst (λ (items : List Item). IsFieldWidth field.kind (with_change (column_at field.kind field.value m root.documents) doc after) items (items_if_there new i) w) was
-            (subst (λ (items : List Item). IsFieldWidth field.kind (with_change (column_at field.kind field.value m root.documents) doc after) before items w) (ap (λ (a : Option (List Item)). unwrap_or a []) next) is));
+        is = subst (λ (c : Column). IsFieldWidth (wants dense field.kind) field.kind c (items_if_there old i) (items_if_there new i) w) column
+            (subst (λ (items : List Item). IsFieldWidth (wants dense field.kind) field.kind (with_change (column_at field.kind field.value m root.documents) doc after) items (items_if_there new i) w) was
+            (subst (λ (items : List Item). IsFieldWidth (wants dense field.kind) field.kind (with_change (column_at field.kind field.value m root.documents) doc after) before items w)
+            (ap (λ (a : Option (List Item)). unwrap_or a []) next) is));
       }
 
   -- the walk goes on
@@ -162,3 +168,9 @@ module _ {bits : ℕ} {H : Type 0} (begun now : Ledger H) (k m : Records) (field
         let place : suc i ≡ i + 1 = omega arith in
         subst (λ ts. IsPartway begun ledger k n fields (trees_of fields first) ts (table_with (table_at k (trees_of fields first)) doc new) (i + 1)) (sym (tree_set fields roots i field changed at_field))
         (subst (λ j. IsPartway begun ledger k n fields (trees_of fields first) (set (trees_of fields roots) i (trees_of_field field changed)) (table_with (table_at k (trees_of fields first)) doc new) j) place more)
+
+    -- and the forms with it
+    pub forms_on : (dense : Bool) → HaveForms dense m (trees_of fields roots) → IsOfFormAt dense n (trees_of_field field changed) → HaveForms dense n (trees_of fields (set roots i changed))
+    forms_on dense forms here =
+        subst (HaveForms dense n) (sym (tree_set fields roots i field changed at_field))
+        (way_forms laws dense begun now ledger k m n fields (trees_of fields first) (trees_of fields roots) doc new i (trees_of_field field root) (trees_of_field field changed) sound at_tree way part forms here)

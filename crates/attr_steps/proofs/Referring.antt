@@ -1,5 +1,5 @@
 -- What the documents of attributes refer to, keys and old copies: where the attributes stay, and where one is changed.
-use Rattle.std.proofs.Common.{◌≡◌, ◌≢◌, ℕ, ◌<◌, List, [], ◌∷◌, set, Some, sym, ap, subst, ◌∙◌, arith, inl, inr}
+use Rattle.std.proofs.Common.{◌≡◌, ◌≢◌, Bool, ℕ, ◌<◌, List, [], ◌∷◌, set, Some, sym, ap, subst, ◌∙◌, arith, inl, inr}
 use Rattle.std.proofs.lemmas.Bool.{cases_eq}
 use Rattle.std.specs.Prelude.{slice_get}
 use Rattle.std.specs.List.{AllByRecursion}
@@ -13,13 +13,17 @@ use Rattle.store_api.specs.Ledgers.{Ledger}
 use Rattle.store_api.specs.Parts.{Part, AllStay, count_in, times, uses}
 use Rattle.store_api.proofs.Times.{among-times}
 use Rattle.store_api.proofs.Uses.{uses-few}
-use Rattle.attr_field.specs.Documents.{documents_refer}
+use Rattle.tree_read.specs.ProofsForTrees.{SameAt-right}
+use Rattle.attr_field.specs.Documents.{documents_own, documents_refer}
 use Rattle.attr_field.specs.Changes.{KeepsCopies}
 use Rattle.attr_field.specs.Fields.{RefersBeside}
 use Rattle.attr_field.specs.Laws.{FieldIsSame}
 use Rattle.attr_images.specs.Tables.{AttributeTrees}
-use Rattle.value_index.specs.Indexes.{IsKey}
-use Rattle.attr_steps.specs.Fields.{AllReferBeside, IsFieldAt, part_of, parts_of}
+use Rattle.value_index.specs.Forms.{IsOfForm}
+use Rattle.value_index.specs.Indexes.{index_reach, IsKey}
+use Rattle.value_index.specs.Laws.{FormStays, NothingIsOfForm}
+use Rattle.attr_field.specs.Forms.{wants}
+use Rattle.attr_steps.specs.Fields.{AllReferBeside, HaveForms, IsFieldAt, part_of, parts_of}
 use Rattle.attr_steps.proofs.Columns.{FieldLaws}
 use Rattle.attr_steps.proofs.TreeLists.{all_from, get_set-same}
 
@@ -29,6 +33,26 @@ IsSameAt m n a = FieldIsSame a.kind a.type m n a.documents a.dictionary
 
 abbrev pub AreSame : Records → Records → List AttributeTrees → Type 0
 AreSame m n trees = AllByRecursion (IsSameAt m n) trees
+
+-- so they are of the same form
+pub forms_same : (dense : Bool) (m n : Records) (trees : List AttributeTrees) → AreSame m n trees → HaveForms dense m trees → HaveForms dense n trees
+forms_same dense m n [] same forms = tt
+forms_same dense m n (a ∷ trees) same forms = (same.0.form (wants dense a.kind) forms.0, forms_same dense m n trees same.1 forms.1)
+
+pub forms_stay : FormStays → (dense : Bool) (m n : Records) (trees : List AttributeTrees) → AllStay (parts_of trees) m n → HaveForms dense m trees → HaveForms dense n trees
+forms_stay stays dense m n [] stay forms = tt
+forms_stay stays dense m n (a ∷ trees) stay forms = (
+  stays a.type m n a.dictionary (SameAt-right m n (documents_own a.kind m a.documents) (index_reach m a.dictionary) stay.0) (wants dense a.kind) forms.0,
+  forms_stay stays dense m n trees stay.1 forms.1,
+)
+
+-- attributes without documents
+pub forms_none : NothingIsOfForm → (dense : Bool) (m : Records) (trees : List AttributeTrees) → AllByRecursion (λ (a : AttributeTrees). a.dictionary ≡ 0) trees → HaveForms dense m trees
+forms_none nothing dense m [] all = tt
+forms_none nothing dense m (a ∷ trees) all = (
+  subst (λ (root : ℕ). IsOfForm (wants dense a.kind) a.type m root) (sym all.0) (nothing (wants dense a.kind) a.type m),
+  forms_none nothing dense m trees all.1,
+)
 
 -- what one refers to beside some parts
 abbrev pub RefersAt : {H : Type 0} → Ledger H → Records → List Part → AttributeTrees → Type 0

@@ -1,5 +1,5 @@
 -- A unit from before its begin to its end.
-use Rattle.std.proofs.Common.{◌≡◌, ℕ, ◌*◌, ◌<◌, ◌≤◌, List, [], ◌∷◌, true, false, Option, refl, sym, ap, ap₂, subst, ◌∙◌, arith}
+use Rattle.std.proofs.Common.{◌≡◌, Bool, ℕ, ◌*◌, ◌<◌, ◌≤◌, List, [], ◌∷◌, true, false, Option, refl, sym, ap, ap₂, subst, ◌∙◌, arith}
 use Rattle.std.specs.List.{AllByRecursion, AllZip}
 use Rattle.entry_ref.specs.References.{buffer_of}
 use Rattle.entry_ref.specs.Records.{Records}
@@ -19,12 +19,12 @@ use Rattle.attr_types.specs.Value.{Document}
 use Rattle.attr_types.specs.declared.field.Field.{Field}
 use Rattle.attr_index.specs.Columns.{Column}
 use Rattle.attr_steps.specs.Calls.{KeepsStore, LeavesEntries, IsOutOfRoom, RefusesUnit}
-use Rattle.attr_steps.specs.Fields.{AllReferBeside, AreFields, ChangesFields, FlowsTrees, IsFieldAt, OwnsFields, parts_of, table_with}
+use Rattle.attr_steps.specs.Fields.{AllReferBeside, AreFields, ChangesFields, FlowsTrees, HaveForms, IsFieldAt, OwnsFields, parts_of, table_with}
 use Rattle.attr_steps.specs.Views.{table_at}
 use Rattle.attr_steps.specs.Widths.{IsFullAmong}
 use Rattle.attr_steps.proofs.Columns.{FieldLaws}
 use Rattle.attr_steps.proofs.Flowing.{all_began, all_step, step_stays}
-use Rattle.attr_steps.proofs.Referring.{AreSame, all_moved, all_weaker, each_same}
+use Rattle.attr_steps.proofs.Referring.{AreSame, all_moved, all_weaker, each_same, forms_same}
 
 -- ---- attributes that are the same in other records
 module _ (m n : Records) where
@@ -164,6 +164,9 @@ module _ (laws : FieldLaws) {H : Type 0} (old begun mid new : Ledger H) (m k n o
 
     are_same : AreSame n o next
     are_same = each_same laws mid n o next (beside_none next) changes.are_fields.each mid_refer stay copies_stay
+
+    pub unit_forms : (dense : Bool) → HaveForms dense n next → HaveForms dense o next
+    unit_forms dense forms = forms_same dense n o next are_same forms
 
     pub unit_changes : ChangesFields fields old new m o trees doc document next
     unit_changes = record {

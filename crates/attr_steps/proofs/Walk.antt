@@ -1,5 +1,5 @@
 -- A document changed in one attribute after another.
-use Rattle.std.proofs.Common.{◌≡◌, ◌≢◌, ℕ, suc, ◌<◌, ◌≤◌, List, [], ◌∷◌, length, set, Option, Some, option_map, sym, ap, subst, ◌∙◌, arith, inl, inr}
+use Rattle.std.proofs.Common.{◌≡◌, ◌≢◌, Bool, ℕ, suc, ◌<◌, ◌≤◌, List, [], ◌∷◌, length, set, Option, Some, option_map, sym, ap, subst, ◌∙◌, arith, inl, inr}
 use Rattle.std.proofs.lemmas.Bool.{cases_eq}
 use Rattle.std.specs.Prelude.{slice_get}
 use Rattle.std.specs.List.{AllZip}
@@ -13,6 +13,7 @@ use Rattle.store_api.specs.Parts.{Part, After, Owns, Turns, count_in, entries, u
 use Rattle.store_api.specs.Units.{MayDo}
 use Rattle.store_api.proofs.PartLemmas.{turns-same, turns-then}
 use Rattle.attr_field.specs.Changes.{KeepsCopies}
+use Rattle.attr_field.specs.Forms.{wants}
 use Rattle.attr_index.specs.Columns.{column_of, with_change}
 use Rattle.attr_images.specs.Tables.{AttributeTrees}
 use Rattle.attr_types.proofs.TableLemmas.{Sound}
@@ -22,7 +23,7 @@ use Rattle.attr_types.specs.Table.{Table}
 use Rattle.attr_types.specs.Value.{Document}
 use Rattle.attr_types.specs.declared.field.Field.{Field}
 use Rattle.attr_types.specs.declared.items.Item.{Item}
-use Rattle.attr_steps.specs.Fields.{AllReferBeside, AreFields, ChangesFields, FitsFields, FlowsTrees, IsFieldAt, KeepsWords, OwnsFields, StillRefer, column_in, part_of, parts_of, table_with}
+use Rattle.attr_steps.specs.Fields.{AllReferBeside, AreFields, ChangesFields, FitsFields, FlowsTrees, HaveForms, IsFieldAt, IsOfFormAt, KeepsWords, OwnsFields, StillRefer, column_in, part_of, parts_of, table_with}
 use Rattle.attr_steps.specs.Views.{table_at}
 use Rattle.attr_steps.proofs.Flowing.{all_same, all_step, may_unsealed, one_stays, step_set}
 use Rattle.attr_steps.proofs.Referring.{IsSameAt, RefersAt, all_changed, changed_refers, stays_beside}
@@ -69,6 +70,14 @@ module _ (laws : FieldLaws) {H : Type 0} (now new : Ledger H) (m n : Records) (t
 
   pub partly_more : ArePartly n (set trees i b) before after (suc i)
   partly_more = record { each = all_from (IsFieldAt n) (set trees i b) field_at; done = column_at; rest = rest_at_place }
+
+  -- the forms of the others, and of the changed one
+  pub forms_more : (dense : Bool) → HaveForms dense m trees → IsOfFormAt dense n b → HaveForms dense n (set trees i b)
+  forms_more dense forms here = all_from (IsOfFormAt dense n) (set trees i b) (λ j c there. elim (cases_eq j i) [
+    | inl e ↦ subst (IsOfFormAt dense n) (same_Some b c (sym (get_set-same trees i a b at) ∙ ap (slice_get (set trees i b)) (sym e) ∙ there)) here
+    | inr apart ↦ (let was = sym (slice_get-set_other trees i j b apart) ∙ there in
+        (other j c apart was).form (wants dense c.kind) (AllByRecursion-slice_get (IsOfFormAt dense m) trees j c forms was))
+  ])
 
   -- what the others refer to, and the changed one
   pub refer_more : b.kind ≡ a.kind → KeepsCopies now a.kind m n a.documents (part_of a ∷ []) b.documents b.dictionary → (p q : List Part) → AllReferBeside now m trees p
@@ -123,6 +132,19 @@ way_more laws begun now new may k m n fields trees next doc document i a b sound
           (step_set now m n next i a b at part.flows (λ j c apart there. one_stays now m n c (stay_at next i j c m n turned.stay there apart)));
       turns = turns-then begun now new k m n (parts_of trees) (parts_of next) (parts_of (set next i b)) way.turns turned.turns;
     }
+
+-- and the forms with it
+pub way_forms : (laws : FieldLaws) (dense : Bool) {H : Type 0} (begun now new : Ledger H) (k m n : Records) (fields : List Field) (trees next : List AttributeTrees) (doc : ℕ)
+    (document : Option Document) (i : ℕ) (a b : AttributeTrees) → Sound fields (table_at k trees) → slice_get next i ≡ Some a
+    → IsPartway begun now k m fields trees next (table_with (table_at k trees) doc document) i
+    → ChangesPart now new m n a b doc (option_map (λ d. items_in d i) document) → HaveForms dense m next → IsOfFormAt dense n b → HaveForms dense n (set next i b)
+way_forms laws dense begun now new k m n fields trees next doc document i a b sound at way part forms here =
+    let turned = turn_at now new m n next i a b way.owns at part.turns in
+    let column : column_in n b ≡ column_of i (table_with (table_at k trees) doc document) =
+    part.column_is
+    ∙ ap (λ column. with_change column doc (option_map (λ d. items_in d i) document)) (way.partly.rest i a (omega arith) at)
+    ∙ sym (column_with fields (table_at k trees) doc i document sound.0) in
+    forms_more laws now new m n next (table_at k trees) (table_with (table_at k trees) doc document) i a b at way.partly way.refers turned part.is_field column dense forms here
 
 pub way_ends : {H : Type 0} (begun now : Ledger H) → MayDo begun now → (k m : Records) (fields : List Field) (trees next : List AttributeTrees) (doc : ℕ) (document : Option Document)
     → KeepsWords begun now k m → 0 < length fields → Sound fields (table_at k trees) → IsDocNumber doc → IfSome document (FitsFields fields)

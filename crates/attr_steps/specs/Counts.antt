@@ -1,10 +1,11 @@
 -- Bounds on the records that an operation makes, and on the spare entries of a store that refused it.
-use Rattle.std.specs.Prelude.{ℕ, ℤ, zero, suc, ◌+◌, ◌<◌, ◌≤◌, List, [], length, slice_get, Option, option_map, unwrap_or}
+use Rattle.std.specs.Prelude.{Bool, ℕ, ℤ, zero, suc, ◌+◌, ◌<◌, ◌≤◌, List, [], length, slice_get, Option, option_map, unwrap_or}
 use Rattle.store_api.specs.Ledgers.{Ledger}
 use Rattle.store_api.specs.declared.store.StoreError.{StoreError}
 use Rattle.store_api.specs.declared.store.StoreError.TheVariants as errors
 use Rattle.posting_store.specs.Changes.{MakesWithin}
-use Rattle.attr_field.specs.Counts.{change_records, field_nodes, low_nodes, StaysLow}
+use Rattle.attr_field.specs.Counts.{change_forms, change_records, field_nodes, low_nodes, StaysLow}
+use Rattle.attr_field.specs.Forms.{wants}
 use Rattle.attr_index.specs.Changes.{first_weights}
 use Rattle.attr_index.specs.Columns.{column_of}
 use Rattle.attr_types.specs.Query.{items_in}
@@ -16,7 +17,7 @@ use Rattle.attr_types.specs.declared.kind.Kind.{Kind}
 use Rattle.attr_types.specs.declared.kind.Kind.TheVariants.{Single}
 use Rattle.attr_types.specs.declared.op.Op.{Op}
 use Rattle.attr_types.specs.declared.value.Value.{Value}
-use Rattle.value_index.specs.Counts.{by_width}
+use Rattle.value_index.specs.Counts.{besides, by_width}
 
 -- the items of a document in the attribute with this number, or none if it does not exist; and their values, with
 -- first weights
@@ -40,6 +41,13 @@ document_records fields table doc old new zero width = 0
 document_records fields table doc old new (suc field) width = document_records fields table doc old new field width
     + change_records (kind_at fields field) (column_of field table) doc (items_if_there old field) (items_if_there new field) width
 
+-- and on what lists need besides that may be bit vectors
+abbrev pub document_forms : Bool → List Field → Table → ℕ → Option Document → Option Document → ℕ → ℕ → ℕ
+document_forms dense fields table doc old new zero width = 0
+document_forms dense fields table doc old new (suc field) width = document_forms dense fields table doc old new field width
+    + change_forms (wants dense (kind_at fields field)) (column_of field table) doc (items_if_there old field)
+    (items_if_there new field) width
+
 -- no tree of the first attributes gets more levels while the document is changed to this one, by the number of values
 -- and of documents of each
 abbrev pub StayLow : ℕ → Table → Option Document → ℕ → Type 0
@@ -52,11 +60,14 @@ low_document levels old new (suc field) = low_document levels old new field + lo
 
 -- bounds on what a change of a document makes in the first `count` attributes: for any trees, and for trees with few
 -- levels
-pub record MakesDocument {H : Type 0} (old new : Ledger H) (fields : List Field) (table : Table) (doc : ℕ) (before after : Option Document)
-    (count : ℕ) : Type 0 where
-  pub few : MakesWithin old new (by_width (document_nodes before after count) (document_records fields table doc before after count))
+pub record MakesDocument {H : Type 0} (dense : Bool) (old new : Ledger H) (fields : List Field) (table : Table) (doc : ℕ)
+    (before after : Option Document) (count : ℕ) : Type 0 where
+  pub few : MakesWithin old new
+      (besides (by_width (document_nodes before after count) (document_records fields table doc before after count))
+      (document_forms dense fields table doc before after count))
   pub low : (levels : ℕ) → StayLow levels table after count → MakesWithin old new
-      (by_width (low_document levels before after count) (document_records fields table doc before after count))
+      (besides (by_width (low_document levels before after count) (document_records fields table doc before after count))
+      (document_forms dense fields table doc before after count))
 
 -- if a store was full for a width, at most this many entries of it are spare at the end of the call
 abbrev pub SparesAtMost : {H : Type 0} → Ledger H → (ℕ → ℕ) → StoreError → Type 0
@@ -77,11 +88,16 @@ abbrev pub operation_records : List Field → Table → Op → ℕ → ℕ
 operation_records fields table op =
     document_records fields table (op_doc op) (document_before table op) (document_after fields table op) (length fields)
 
--- bounds on what an operation makes, and on what is spare if it was refused
-abbrev pub MakesOperation : {H : Type 0} → Ledger H → Ledger H → List Field → Table → Op → Type 0
-MakesOperation old new fields table op =
-    MakesDocument old new fields table (op_doc op) (document_before table op) (document_after fields table op) (length fields)
+abbrev pub operation_forms : Bool → List Field → Table → Op → ℕ → ℕ
+operation_forms dense fields table op =
+    document_forms dense fields table (op_doc op) (document_before table op) (document_after fields table op) (length fields)
 
-abbrev pub SparesOperation : {H : Type 0} → Ledger H → List Field → Table → Op → StoreError → Type 0
-SparesOperation new fields table op error =
-    SparesAtMost new (by_width (operation_nodes fields table op) (operation_records fields table op)) error
+-- bounds on what an operation makes, and on what is spare if it was refused
+abbrev pub MakesOperation : {H : Type 0} → Bool → Ledger H → Ledger H → List Field → Table → Op → Type 0
+MakesOperation dense old new fields table op =
+    MakesDocument dense old new fields table (op_doc op) (document_before table op) (document_after fields table op) (length fields)
+
+abbrev pub SparesOperation : {H : Type 0} → Bool → Ledger H → List Field → Table → Op → StoreError → Type 0
+SparesOperation dense new fields table op error =
+    SparesAtMost new (besides (by_width (operation_nodes fields table op) (operation_records fields table op))
+    (operation_forms dense fields table op)) error

@@ -1,5 +1,5 @@
 -- The attributes in their store, side by side: each has a part of it, and all have the same documents.
-use Rattle.std.specs.Prelude.{◌≡◌, ℕ, zero, suc, true, false, ◌<◌, ◌≤◌, List, [], ◌∷◌, length, map, Option, None, Some}
+use Rattle.std.specs.Prelude.{◌≡◌, Bool, ℕ, zero, suc, true, false, ◌<◌, ◌≤◌, List, [], ◌∷◌, length, map, Option, None, Some}
 use Rattle.std.specs.List.{AllByRecursion, AllZip}
 use Rattle.entry_ref.specs.References.{buffer_of}
 use Rattle.entry_ref.specs.Records.{Records, Among}
@@ -8,6 +8,7 @@ use Rattle.store_api.specs.Parts.{Part, Owns, Turns, count_in, entries, uses}
 use Rattle.store_api.specs.Statuses.{in_use}
 use Rattle.attr_field.specs.Fields.{field_part, IsField, RefersBeside}
 use Rattle.attr_field.specs.Flows.{FlowsField}
+use Rattle.attr_field.specs.Forms.{wants}
 use Rattle.attr_field.specs.declared.roots.FieldRoots.{FieldRoots}
 use Rattle.attr_images.specs.Documents.{column_at}
 use Rattle.attr_images.specs.Tables.{AttributeTrees, HaveSameDocuments, attributes_reach, columns_at}
@@ -16,6 +17,7 @@ use Rattle.attr_types.specs.Lawful.{IsLawfulDocument, DocumentHasType}
 use Rattle.attr_types.specs.Table.{Table, with_document, without_document}
 use Rattle.attr_types.specs.Value.{Document}
 use Rattle.attr_types.specs.declared.field.Field.{Field}
+use Rattle.value_index.specs.Forms.{IsOfForm}
 use Rattle.attr_steps.specs.Views.{table_at}
 
 -- an attribute's trees, from its field and its roots
@@ -44,6 +46,17 @@ column_in m a = column_at a.kind a.type m a.documents
 
 abbrev pub IsFieldAt : Records → AttributeTrees → Type 0
 IsFieldAt m a = IsField a.kind a.type m a.documents a.dictionary
+
+-- what the flag for bit vectors says of each attribute
+abbrev pub IsOfFormAt : Bool → Records → AttributeTrees → Type 0
+IsOfFormAt dense m a = IsOfForm (wants dense a.kind) a.type m a.dictionary
+
+abbrev pub HaveForms : Bool → Records → List AttributeTrees → Type 0
+HaveForms dense m trees = AllByRecursion (IsOfFormAt dense m) trees
+
+-- they have the same forms in other records, with other trees
+abbrev pub KeepForms : Records → Records → List AttributeTrees → List AttributeTrees → Type 0
+KeepForms m n trees next = (dense : Bool) → HaveForms dense m trees → HaveForms dense n next
 
 -- one or more attributes with the same documents, in the records
 pub record AreFields (m : Records) (fields : List Field) (trees : List AttributeTrees) : Type 0 where

@@ -1,5 +1,5 @@
 -- What callers see of a step of a compaction.
-use Rattle.std.proofs.Common.{◌≡◌, ℕ, ◌≤◌, List, length, Option, None, Some, Result, Ok, Err, inl, inr, refl, sym, ap, subst, ◌∙◌, true≢false}
+use Rattle.std.proofs.Common.{◌≡◌, Bool, ℕ, ◌≤◌, List, length, Option, None, Some, Result, Ok, Err, inl, inr, refl, sym, ap, subst, ◌∙◌, true≢false}
 use Rattle.std.specs.Prelude.{is_some, IfErr, IfOk}
 use Rattle.std.specs.Option.{option_map, IfSome}
 use Rattle.entry_ref.specs.Images.{words_at}
@@ -16,7 +16,7 @@ use Rattle.attr_images.specs.Shapes.{shape_of, types_of}
 use Rattle.attr_images.specs.Tables.{AttributeTrees}
 use Rattle.attr_types.specs.declared.field.Field.{Field}
 use Rattle.attr_steps.proofs.StepLemmas.{keeps_same}
-use Rattle.attr_steps.specs.Fields.{HoldsAttributes, trees_of}
+use Rattle.attr_steps.specs.Fields.{HaveForms, HoldsAttributes, trees_of}
 use Rattle.attr_steps.specs.Views.{table_at}
 use Rattle.compact_steps.specs.Units.{IsUnderWay}
 use Rattle.compact_steps.specs.Compactions.{Compacts, IsUnderPlan, KeepsStoreBut}
@@ -40,11 +40,12 @@ no_victim bits fields old new before plan idle unfinished under = elim idle.why 
   | inr none ↦ none.none plan.victim (subst (λ (o : Option PlanView). IsUnderPlan bits fields old new o plan) idle.none under).victim.candidate
 ]
 
-module _ {S H : Type 0} (bits : ℕ) (ledger : S → Ledger H) (records : S → Records) (fields : List Field) (operations root published : ℕ) where
+module _ {S H : Type 0} (bits : ℕ) (ledger : S → Ledger H) (records : S → Records) (fields : List Field) (dense : Bool) (operations root published : ℕ) where
   abbrev pub seen : S → List AttributeTrees → Option PlanView → AttributeView S
   seen s trees plan = record {
     store = s;
     fields = fields;
+    dense = dense;
     trees = trees;
     table = table_at (records s) trees;
     operations = operations;
@@ -163,8 +164,8 @@ module _ {S H : Type 0} (bits : ℕ) (ledger : S → Ledger H) (records : S → 
   pub attribute_told : (old new : S) (roots others : List (FieldRoots bits)) (before after : Option PlanView) (keys commit : ℕ) (r : Result Step StoreError)
       → StandsAttribute (ledger old) (records old) fields roots root commit published → (ledger old).finished ≡ None → length others ≡ length fields
       → Compacts bits root (ledger old) (ledger new) (records old) (records new) fields (trees_of fields roots) (trees_of fields others) before after (new ≡ old) keys r
-      → IsAttribute (ledger new) (records new) fields others root commit published after (has_finished r)
-  attribute_told old new roots others before after keys commit r stands unfinished sized made =
+      → HaveForms dense (records new) (trees_of fields others) → IsAttribute dense (ledger new) (records new) fields others root commit published after (has_finished r)
+  attribute_told old new roots others before after keys commit r stands unfinished sized made forms =
       let trees = trees_of fields roots in
       let next = trees_of fields others in
       let keeps = keeps_told old new trees next before after keys r made in
@@ -177,6 +178,7 @@ module _ {S H : Type 0} (bits : ℕ) (ledger : S → Ledger H) (records : S → 
           holds = holds_told old new trees next before after keys r made stands.holds;
           last = last_but old new trees next before after keys commit keeps stands.last;
         };
+        forms = forms;
         plan_is = planned.0.0;
         last_is = planned.0.1;
         waits_is = planned.1;

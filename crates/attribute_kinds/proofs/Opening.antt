@@ -1,5 +1,5 @@
 -- Attributes without documents, over a store of which nothing was made.
-use Rattle.std.proofs.Common.{◌≡◌, ℕ, zero, suc, ◌<◌, ◌≤◌, List, [], ◌∷◌, length, replicate, refl, sym, ap, subst, ◌∙◌, arith}
+use Rattle.std.proofs.Common.{◌≡◌, Bool, ℕ, zero, suc, ◌<◌, ◌≤◌, List, [], ◌∷◌, length, replicate, refl, sym, ap, subst, ◌∙◌, arith}
 use Rattle.std.specs.List.{AllByRecursion}
 use Rattle.std.specs.Map.{keys_of}
 use Rattle.entry_ref.specs.References.{buffer_of}
@@ -12,6 +12,7 @@ use Rattle.store_api.specs.Ledgers.{Ledger, IsNew, is_this}
 use Rattle.store_api.specs.Parts.{Part, count_in, entries, times}
 use Rattle.store_api.specs.Statuses.{in_use}
 use Rattle.store_api.proofs.Uses.{uses-out}
+use Rattle.attr_field.specs.Forms.{wants}
 use Rattle.attr_field.specs.Laws.{NothingIsField}
 use Rattle.attr_field.specs.declared.roots.FieldRoots.{FieldRoots}
 use Rattle.attr_images.specs.Shapes.{shape_of, types_of}
@@ -19,7 +20,8 @@ use Rattle.attr_images.specs.Tables.{HaveSameDocuments, columns_at, table_of_col
 use Rattle.attr_index.specs.Columns.{Column}
 use Rattle.attr_types.specs.declared.field.TheConstants.{MOST_FIELDS}
 use Rattle.attr_types.specs.declared.field.Field.{Field}
-use Rattle.attr_steps.specs.Fields.{AllReferBeside, AreFields, IsFieldAt, no_roots, parts_of, trees_of}
+use Rattle.value_index.specs.Laws.{NothingIsOfForm}
+use Rattle.attr_steps.specs.Fields.{AllReferBeside, AreFields, HaveForms, IsFieldAt, no_roots, parts_of, trees_of}
 use Rattle.attribute_kinds.specs.Standing.{StandsAttribute}
 use Rattle.attr_steps.specs.Views.{table_at}
 use Rattle.attr_steps.proofs.TreeLists.{trees_length}
@@ -112,3 +114,13 @@ module _ (laws : NothingIsField) (bits : ℕ) (m : Records) where
   stands_made ledger work fields roots count root are size no_root some few shape new same fresh =
       subst (λ rs. StandsAttribute ledger m fields rs root 0 0) (sym (are ∙ ap none size))
       (subst (λ r. StandsAttribute ledger m fields (none (length fields)) r 0 0) (sym no_root) (stands_opened ledger work fields some few shape new same fresh))
+
+-- and no list is there
+module _ (nothing : NothingIsOfForm) (bits : ℕ) (m : Records) (dense : Bool) where
+  forms_opened : (fields : List Field) → HaveForms dense m (trees_of {bits} fields (replicate (length fields) no_roots))
+  forms_opened [] = tt
+  forms_opened (field ∷ fields) = (nothing (wants dense field.kind) field.value m, forms_opened fields)
+
+  pub forms_made : (fields : List Field) (roots : List (FieldRoots bits)) (count : ℕ) → roots ≡ replicate count no_roots → count ≡ length fields → HaveForms dense m (trees_of fields roots)
+  forms_made fields roots count are size =
+      subst (λ (rs : List (FieldRoots bits)). HaveForms dense m (trees_of fields rs)) (sym (are ∙ ap (λ (n : ℕ). replicate n no_roots) size)) (forms_opened fields)

@@ -11,7 +11,7 @@ use Rattle.attr_images.specs.Images.{IsLawfulImage, operations_at}
 use Rattle.attr_images.specs.Shapes.{shape_of, types_of}
 use Rattle.attr_types.specs.declared.field.TheConstants.{MOST_FIELDS}
 use Rattle.attr_types.specs.declared.field.Field.{Field}
-use Rattle.attr_steps.specs.Fields.{HoldsAttributes, trees_of}
+use Rattle.attr_steps.specs.Fields.{HaveForms, HoldsAttributes, trees_of}
 use Rattle.compact_steps.specs.Units.{IsUnderWay}
 use Rattle.compact_steps.specs.Walks.{HasLastField}
 
@@ -30,10 +30,11 @@ pub record StandsAttribute {H : Type 0} {bits : ℕ} (ledger : Ledger H) (m : Re
   pub holds : HoldsAttributes bits ledger m fields (trees_of fields roots) root
   pub last : IsLast ledger fields root commit operations
 
--- the invariant, with the compaction in progress, or the emptied buffer that waits for its commit
-pub record IsAttribute {H : Type 0} {bits : ℕ} (ledger : Ledger H) (m : Records) (fields : List Field) (roots : List (FieldRoots bits))
-    (root commit operations : ℕ) (plan : Option PlanView) (waits : Bool) : Type 0 where
+-- the invariant, with the flag for bit vectors, and with the compaction in progress, or the emptied buffer that waits for its commit
+pub record IsAttribute {H : Type 0} {bits : ℕ} (dense : Bool) (ledger : Ledger H) (m : Records) (fields : List Field)
+    (roots : List (FieldRoots bits)) (root commit operations : ℕ) (plan : Option PlanView) (waits : Bool) : Type 0 where
   pub stands : StandsAttribute ledger m fields roots root commit operations
+  pub forms : HaveForms dense m (trees_of fields roots)
   pub plan_is : IfSome plan (IsUnderWay bits ledger m (trees_of fields roots))
   pub last_is : IfSome plan HasLastField
   pub waits_is : waits ≡ is_some ledger.finished

@@ -1,5 +1,5 @@
 -- Attributes as callers see them.
-use Rattle.std.specs.Prelude.{ℕ, List, Option}
+use Rattle.std.specs.Prelude.{Bool, ℕ, List, Option}
 use Rattle.attr_compaction.specs.Places.{PlanView}
 use Rattle.attr_images.specs.Tables.{AttributeTrees}
 use Rattle.attr_types.specs.Table.{Table}
@@ -9,6 +9,8 @@ use Rattle.attr_types.specs.declared.field.Field.{Field}
 pub record AttributeView (S : Type 0) : Type 0 where
   pub store : S
   pub fields : List Field
+  -- whether bit vectors are wanted
+  pub dense : Bool
   -- the trees of each attribute, and the table that they represent
   pub trees : List AttributeTrees
   pub table : Table

@@ -1,4 +1,5 @@
-ghost use Rattle.std.specs.Prelude.{◌≡◌, ℕ, ◌<◌, ◌≤◌, ◌+◌, ◌-◌, ◌*◌, ◌^◌, [], None, false, length, IfOk, IfErr, OnOk, OnErr, Ok, Err, replicate};
+ghost use Rattle.std.specs.Prelude.{◌≡◌, ℕ, ◌<◌, ◌≤◌, ◌+◌, ◌-◌, ◌*◌, ◌^◌, [], None, false, length};
+ghost use Rattle.std.specs.Prelude.{IfOk, IfErr, OnOk, OnErr, Ok, Err, replicate};
 ghost use Rattle.entry_ref.specs.Images.{words_at};
 ghost use Rattle.arena_api.specs.Calls.{IsFresh, told_after};
 ghost use Rattle.arena_api.specs.Works.{last_image};
@@ -17,7 +18,7 @@ ghost use Rattle.attr_steps.specs.Calls.{KeepsStore, LeavesEntries};
 ghost use Rattle.attribute_kinds.specs.Calls.{applied_to, RefusesOperation};
 ghost use Rattle.attribute_kinds.specs.Calls.{RefusesCommit, CommitsImage, HasCommit, IsForRoot};
 ghost use Rattle.attr_steps.specs.Counts.{MakesOperation};
-ghost use Rattle.attribute_kinds.specs.Counts.{LacksBuffers, NamesWidth, SparesOf};
+ghost use Rattle.attribute_kinds.specs.Counts.{HasNoVectors, LacksBuffers, NamesWidth, SparesOf};
 ghost use Rattle.attribute_kinds.specs.Compacting.{CompactsTo, IsIdle, RefusesStep};
 ghost use Rattle.compact_steps.specs.Compactions.{KeepsStoreBut};
 ghost use Rattle.compact_steps.specs.Counts.{MakesKeys};
@@ -43,6 +44,8 @@ use store_api::{Store, Usage};
 pub struct Attribute<const OFFSET_BITS: u32, S: Store<OFFSET_BITS, Layout = AttrLayout>> {
     store: S,
     fields: Fields,
+    /// Whether bit vectors are wanted.
+    dense: bool,
     roots: Vec<FieldRoots<OFFSET_BITS>>,
     operations: u32,
     last: Published<OFFSET_BITS>,
@@ -67,6 +70,7 @@ impl<const OFFSET_BITS: u32, S: Store<OFFSET_BITS, Layout = AttrLayout>> Model
     ghost view = { λ a. record {
       store = a.store;
       fields = a.fields;
+      dense = a.dense;
       trees = trees_of a.fields a.roots.items;
       table = table_at (S.records a.store) (trees_of a.fields a.roots.items);
       operations = a.operations;
@@ -76,7 +80,7 @@ impl<const OFFSET_BITS: u32, S: Store<OFFSET_BITS, Layout = AttrLayout>> Model
       plan = a.plan;
     } };
 
-    ghost invariant = { λ a. IsAttribute (S.ledger a.store) (S.records a.store) a.fields a.roots.items
+    ghost invariant = { λ a. IsAttribute a.dense (S.ledger a.store) (S.records a.store) a.fields a.roots.items
         a.last.root a.last.commit a.last.operations a.plan a.waits };
 }
 
@@ -84,15 +88,16 @@ impl<const OFFSET_BITS: u32, W: Work<OFFSET_BITS, Layout = AttrLayout>> Attribut
     OFFSET_BITS,
     EntryStore<OFFSET_BITS, W>,
 > {
-    /// Creates attributes without documents, over a work in which nothing is committed or handed out.
+    /// Creates attributes without documents, over a work in which nothing is committed or handed out. With `dense` the
+    /// documents of a frequent value are a bit vector, except in weighted sets.
     #[tactic(none)]
     pub fn create(alloc: Global, work: W, fields: &Fields, dense: bool) -> Result<Self, NoMemory<W>>
         requires some { 0 < length fields.now }
         requires few { length fields.now ≤ MOST_FIELDS }
         requires shape { W.shape work ≡ shape_of (types_of fields.now) }
         requires fresh { IsFresh (W.knows work) }
-        requires dense { dense ≡ false }
         ensures fields { IfOk result (λ a. a.fields ≡ fields.now) }
+        ensures dense { IfOk result (λ a. a.dense ≡ dense) }
         ensures table { IfOk result (λ a. a.table ≡ []) }
         ensures operations { IfOk result (λ a. a.operations ≡ 0) }
         ensures root { IfOk result (λ a. a.root ≡ 0) }
@@ -102,7 +107,6 @@ impl<const OFFSET_BITS: u32, W: Work<OFFSET_BITS, Layout = AttrLayout>> Attribut
             → (⟦<EntryStore<OFFSET_BITS, W> as Store<OFFSET_BITS>>⟧.ledger a.store).of_width width ≡ no_counts) }
         ensures left { IfErr result (λ e. e.work ≡ work) }
     {
-        let _ = dense;
         field_law();
         let Ok(own) = copied_fields(fields) else {
             return Err(NoMemory { work });
@@ -114,6 +118,7 @@ impl<const OFFSET_BITS: u32, W: Work<OFFSET_BITS, Layout = AttrLayout>> Attribut
         Ok(Attribute {
             store,
             fields: own,
+            dense,
             roots,
             operations: 0,
             last: Published {
@@ -187,12 +192,14 @@ impl<const OFFSET_BITS: u32, S: Store<OFFSET_BITS, Layout = AttrLayout>> Attribu
         ensures entries { OnErr result (LeavesEntries (S.ledger self.old.store) (S.ledger self.new.store)
             (S.records self.old.store) (S.records self.new.store)) }
         ensures refused { IfErr result (RefusesOperation (S.ledger self.old.store) (S.ledger self.new.store)) }
-        ensures counts { MakesOperation (S.ledger self.old.store) (S.ledger self.new.store) self.old.fields self.old.table op.now }
-        ensures spares { IfErr result (SparesOf (S.ledger self.new.store) self.old.fields self.old.table op.now) }
-        ensures widths { IfErr result (NamesWidth self.old.fields self.old.table op.now) }
-        ensures room { IfErr result (LacksBuffers (S.ledger self.old.store) self.old.fields) }
+        ensures counts { MakesOperation self.old.dense (S.ledger self.old.store) (S.ledger self.new.store) self.old.fields
+            self.old.table op.now }
+        ensures spares { IfErr result (SparesOf self.old.dense (S.ledger self.new.store) self.old.fields self.old.table op.now) }
+        ensures widths { IfErr result (NamesWidth self.old.dense self.old.fields self.old.table op.now) }
+        ensures room { IfErr result (LacksBuffers self.old.dense (S.ledger self.old.store) self.old.fields self.old.table op.now) }
         ensures keeps { KeepsStore (S.ledger self.old.store) (S.ledger self.new.store) }
         ensures fields { self.new.fields ≡ self.old.fields }
+        ensures dense { self.new.dense ≡ self.old.dense }
         ensures root { self.new.root ≡ self.old.root }
         ensures committed { self.new.committed ≡ self.old.committed }
         ensures published { self.new.committed_operations ≡ self.old.committed_operations }
@@ -206,6 +213,7 @@ impl<const OFFSET_BITS: u32, S: Store<OFFSET_BITS, Layout = AttrLayout>> Attribu
             self.fields.as_slice(),
             &self.roots,
             op,
+            self.dense,
         ) {
             Ok(Some(roots)) => {
                 self.roots = roots;
@@ -237,6 +245,7 @@ impl<const OFFSET_BITS: u32, S: Store<OFFSET_BITS, Layout = AttrLayout>> Attribu
         ensures table { self.new.table ≡ self.old.table }
         ensures operations { self.new.operations ≡ self.old.operations }
         ensures fields { self.new.fields ≡ self.old.fields }
+        ensures dense { self.new.dense ≡ self.old.dense }
         ensures plan { self.new.plan ≡ self.old.plan }
         ensures left { OnErr result (self.new ≡ record self.old { store = self.new.store }) }
         ensures entries { OnErr result (LeavesEntries (S.ledger self.old.store) (S.ledger self.new.store)
@@ -253,6 +262,7 @@ impl<const OFFSET_BITS: u32, S: Store<OFFSET_BITS, Layout = AttrLayout>> Attribu
             });
         }
         same_law();
+        field_law();
         let fields = self.fields.as_slice();
         match commit_attributes(
             &mut self.store,
@@ -287,11 +297,13 @@ impl<const OFFSET_BITS: u32, S: Store<OFFSET_BITS, Layout = AttrLayout>> Attribu
         ensures steps { IfOk result (CompactsTo OFFSET_BITS S.ledger S.records self.old self.new keys) }
         ensures refuses { IfErr result (RefusesStep OFFSET_BITS S.ledger S.records self.old self.new) }
         ensures idle { IsIdle OFFSET_BITS (S.ledger self.old.store) self.old.plan → result ≡ Ok Idle }
-        ensures makes { MakesKeys self.old.fields self.old.table (S.ledger self.old.store) (S.ledger self.new.store) keys }
+        ensures makes { MakesKeys (HasNoVectors self.old.dense self.old.table) self.old.fields self.old.table (S.ledger self.old.store)
+            (S.ledger self.new.store) keys }
         ensures keeps { KeepsStoreBut (S.ledger self.old.store) (S.ledger self.new.store) }
         ensures table { self.new.table ≡ self.old.table }
         ensures operations { self.new.operations ≡ self.old.operations }
         ensures fields { self.new.fields ≡ self.old.fields }
+        ensures dense { self.new.dense ≡ self.old.dense }
         ensures root { self.new.root ≡ self.old.root }
         ensures committed { self.new.committed ≡ self.old.committed }
         ensures published { self.new.committed_operations ≡ self.old.committed_operations }

@@ -21,6 +21,7 @@ use Rattle.enum_dictionary.specs.Dictionaries.{behind, beside_value}
 use Rattle.attr_compaction.proofs.ListLemmas.{beside_pair, short_docs}
 use Rattle.attr_compaction.proofs.NextLemmas.{lt_cmp, past_number}
 use Rattle.attr_compaction.specs.PhaseKeys.{form_docs, keys_of_pairs, IsListPair}
+use Rattle.posting_store.specs.Lists.{IsPlain}
 use Rattle.compact_steps.specs.Sights.{IsRecordApart}
 use Rattle.compact_steps.proofs.Through.{keys_behind, past, whole_behind}
 
@@ -132,25 +133,27 @@ module _ (type : ValueType) (m : Records) (value : AnyValue) (typed : type_of va
   none_of_one w tied = ap is_lt (beside_pair value w doc 0 Equal tied) ∙ lt_cmp doc 0 ∙ le-ltb doc 0 (omega arith)
 
   pub lists_behind : (ps : List (ℕ × ℕ)) → IsStrictlySortedBy value_cmp (map read ps) → AllByRecursion (IsListPair type m) ps
-      → ((p : ℕ × ℕ) → lookup_pair against ps ≡ Some p → p.1 % 2 ≡ 0) → keys_behind key (keys_of_pairs type m ps) ≡ keys_of_pairs type m (behind against ps)
+      → ((p : ℕ × ℕ) → lookup_pair against ps ≡ Some p → IsPlain p.1) → ((p : ℕ × ℕ) → lookup_pair against ps ≡ Some p → p.1 % 2 ≡ 0)
+      → keys_behind key (keys_of_pairs type m ps) ≡ keys_of_pairs type m (behind against ps)
   unfolding IsStrictlySortedBy
-  lists_behind [] up are even = refl
-  lists_behind (p ∷ ps) up are even =
-      (elim (against p.0) as (λ o. against p.0 ≡ o → ((q : ℕ × ℕ) → choose o (lookup_pair against ps) (Some p) None ≡ Some q → q.1 % 2 ≡ 0)
+  lists_behind [] up are plain even = refl
+  lists_behind (p ∷ ps) up are plain even =
+      (elim (against p.0) as (λ o. against p.0 ≡ o → ((q : ℕ × ℕ) → choose o (lookup_pair against ps) (Some p) None ≡ Some q → IsPlain q.1)
+      → ((q : ℕ × ℕ) → choose o (lookup_pair against ps) (Some p) None ≡ Some q → q.1 % 2 ≡ 0)
       → keys_behind key (keys_of_pairs type m (p ∷ ps)) ≡ keys_of_pairs type m (choose o (behind against ps) (behind against ps) (p ∷ ps))) [
-        | Less ↦ λ is h. skipped (keys_at p) (keys_of_pairs type m ps) (not_past (read p) (seen p.0 ∙ is) (form_docs m (list_form p.1))) ∙ lists_behind ps up.1 are.1 h
-        | Equal ↦ λ is h. (
+        | Less ↦ λ is t h. skipped (keys_at p) (keys_of_pairs type m ps) (not_past (read p) (seen p.0 ∙ is) (form_docs m (list_form p.1))) ∙ lists_behind ps up.1 are.1 t h
+        | Equal ↦ λ is t h. (
             let tied = seen p.0 ∙ is in
-            ap (λ (docs : List ℕ). keys_behind key (map (λ d. Pair (read p) d) docs ++ keys_of_pairs type m ps)) (short_docs m p.1 are.0.pair_is.plain (h p refl))
+            ap (λ (docs : List ℕ). keys_behind key (map (λ d. Pair (read p) d) docs ++ keys_of_pairs type m ps)) (short_docs m p.1 (t p refl) (h p refl))
             ∙ ap (λ (t : Bool). cond t (Pair (read p) 0 ∷ keys_of_pairs type m ps) (keys_behind key (keys_of_pairs type m ps))) (none_of_one (read p) tied)
             ∙ all_behind ps (trans_all (read p) (map read ps) (λ x less. sym (value_cmp_total.congr (read p) value x tied) ∙ less) up.0)
             )
-        | Greater ↦ λ is h. (
+        | Greater ↦ λ is t h. (
             let less = less_back (read p) (seen p.0 ∙ is) in
             whole_behind key (keys_of_pairs type m (p ∷ ps))
             (above_pairs (p ∷ ps) (less, trans_all (read p) (map read ps) (λ x above. value_cmp_total.trans value (read p) x less above) up.0))
             )
-      ]) refl even
+      ]) refl plain even
 
 -- lists that are each one record have one key each
 one_doc : (bits buffer : ℕ) (m : Records) (form : ListForm) → IsRecordApart bits buffer form → form_docs m form ≡ 0 ∷ []

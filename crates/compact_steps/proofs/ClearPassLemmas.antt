@@ -15,6 +15,7 @@ use Rattle.enum_dictionary.specs.Dictionaries.{behind, beside_value}
 use Rattle.attr_compaction.proofs.ListLemmas.{list_pairs}
 use Rattle.attr_compaction.proofs.OrderLemmas.{phase_ascends}
 use Rattle.attr_compaction.specs.PhaseKeys.{document_keys, keys_of_pairs, pair_keys, phase_keys, value_keys}
+use Rattle.posting_store.specs.Lists.{IsPlain}
 use Rattle.compact_steps.specs.Passes.{CanPass, GoesThrough, Passes}
 use Rattle.compact_steps.specs.Sights.{StandsApart, IsRun}
 use Rattle.compact_steps.specs.declared.sights.Sight.TheVariants as sights
@@ -90,16 +91,17 @@ module _ (bits victim : ℕ) (at : PlanPlace) (m : Records) (a : AttributeTrees)
       }
 
   pub lists_pass : (value : AnyValue) (doc : ℕ) → CanPass bits victim at m a LISTS (plan.Pair value doc)
+      → ((p : ℕ × ℕ) → lookup_pair (beside_value value m) (tree_pairs m a.dictionary) ≡ Some p → IsPlain p.1)
       → ((p : ℕ × ℕ) → lookup_pair (beside_value value m) (tree_pairs m a.dictionary) ≡ Some p → p.1 % 2 ≡ 0)
       → IsRun (StandsApart bits victim a.kind m sights.List) (behind (beside_value value m) (tree_pairs m a.dictionary)) count last
       → Passes bits victim at m a (plan.Pair (stored_value a.type m last) 0) count
-  lists_pass value doc can even run =
+  lists_pass value doc can plain even run =
       let ps = behind (beside_value value m) (tree_pairs m a.dictionary) in
       let f : ℕ × ℕ → PlanKey = (λ p. plan.Pair (stored_value a.type m p.0) 0) in
       let goes : GoesThrough (pair_keys a.type m a.dictionary) at.key (map f (take count ps)) (plan.Pair (stored_value a.type m last) 0) =
       run_goes (λ k. plan.Pair (stored_value a.type m k) 0) ps (pair_keys a.type m a.dictionary) run.few run.last_is (keys_of_pairs a.type m (drop count ps)) (ascends can LISTS)
       (ap (λ (k : PlanKey). keys_behind k (pair_keys a.type m a.dictionary)) can.key_is
-      ∙ lists_behind a.type m value can.typed doc (tree_pairs m a.dictionary) can.index_is.dictionary_is.tree_is.ascends (list_pairs a.type m a.dictionary can.index_is) even
+      ∙ lists_behind a.type m value can.typed doc (tree_pairs m a.dictionary) can.index_is.dictionary_is.tree_is.ascends (list_pairs a.type m a.dictionary can.index_is) plain even
       ∙ short_keys bits victim a.type m count ps run.all) in
       record {
         some = some;

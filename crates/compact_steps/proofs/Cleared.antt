@@ -1,5 +1,5 @@
 -- What was cleared up to a place is so up to a key past it, where nothing under the keys between lies in the victim.
-use Rattle.std.proofs.Common.{◌≡◌, ◌≢◌, ◌⊎◌, ℕ, zero, suc, List, [], ◌∷◌, map, take, Less, Equal, Greater, is_lt, inl, inr, refl, sym, ap, subst, ◌∙◌, true≢false, arith}
+use Rattle.std.proofs.Common.{◌≡◌, ◌≢◌, ◌⊎◌, ℕ, zero, suc, ◌*◌, List, [], ◌∷◌, map, take, Less, Equal, Greater, is_lt, inl, inr, refl, sym, ap, subst, ◌∙◌, true≢false, arith}
 use Rattle.std.proofs.lemmas.Cmp.{tied_itself, nat_cmp_total}
 use Rattle.std.specs.Cmp.{IsTotalOrder}
 use Rattle.std.specs.declared.cmp.Ordering.{Ordering}
@@ -12,6 +12,7 @@ use Rattle.tree_read.specs.Pairs.{choose, seek}
 use Rattle.tree_read.specs.Trees.{tree_pairs}
 use Rattle.compaction_moves.specs.Cleared.{IsClearedField, IsVisited, ListIsCleared, NodesAreCleared}
 use Rattle.compaction_moves.specs.Visits.{place_at_key, IsAmongKeys}
+use Rattle.compaction_moves.proofs.BlockLemmas.{block_key, start_in}
 use Rattle.compaction_moves.proofs.BelowLemmas.{keys_of_tree}
 use Rattle.compaction_moves.proofs.IndexClauses.{pair_in}
 use Rattle.compaction_moves.proofs.IndexPairs.{InPairs, at_pair, each_pair}
@@ -131,7 +132,10 @@ module _ (bits victim : ℕ) (at : PlanPlace) (m : Records) (a : AttributeTrees)
   one_list : (value : AnyValue) (form : ListForm) → at.stage.phase ≢ LISTS → ListIsCleared bits victim at field m value form → ListIsCleared bits victim here field m value form
   one_list value (short ref) apart was = λ visited. was (other LISTS apart (plan.Pair value 0) visited)
   one_list value (tree root) apart was = λ node among lies key below visited. was node among lies key below (other LISTS apart (plan.Pair value key) visited)
-  one_list value (vector root) apart was = was
+  one_list value (vector root) apart was = record {
+    nodes = λ node among lies k below visited. was.nodes node among lies k below (other LISTS apart (plan.Pair value (4096 * k)) visited);
+    blocks = λ k r there visited. was.blocks k r there (other LISTS apart (plan.Pair value (4096 * k)) visited);
+  }
 
   pub other_lists : at.stage.phase ≢ LISTS → AllByRecursion (ListIs here) values
   other_lists apart = each_pair (ListIs here) values (λ q within. one_list (stored_value a.type m q.0) (list_form q.1) apart (at_pair (ListIs at) values cleared.lists q within))
@@ -216,7 +220,16 @@ module _ (bits victim : ℕ) (at : PlanPlace) (m : Records) (a : AttributeTrees)
         | inl before ↦ was node among lies key below before
         | inr away ↦ away
       ]
-      by_form value (vector root) is step was = was
+      by_form value (vector root) is step was = record {
+        nodes = λ node among lies k below visited. elim (step (4096 * k) (start_in k (tree_pairs m root) (keys_of_tree m root node k is.0.node among below)) visited) [
+          | inl before ↦ was.nodes node among lies k below before
+          | inr away ↦ absurd away
+        ];
+        blocks = λ k r there visited. elim (step (4096 * k) (start_in k (tree_pairs m root) (block_key m root k r there)) visited) [
+          | inl before ↦ was.blocks k r there before
+          | inr away ↦ absurd away
+        ];
+      }
 
       pub lists_cleared : IsClearedField bits victim here field m a
       lists_cleared = record {

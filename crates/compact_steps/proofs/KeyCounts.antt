@@ -15,7 +15,7 @@ use Rattle.attr_types.specs.declared.kind.Kind.{Kind}
 use Rattle.attr_types.specs.declared.kind.Kind.TheVariants.{Single}
 use Rattle.attr_types.specs.declared.kind.ValueType.{ValueType}
 use Rattle.attr_types.specs.declared.kind.ValueType.TheVariants.{Long}
-use Rattle.compaction_moves.specs.Counts.{key_nodes, one_record, IsLowColumn, MakesKey}
+use Rattle.compaction_moves.specs.Counts.{key_nodes, most_nodes, one_record, IsLowColumn, MakesKey}
 use Rattle.posting_store.specs.Changes.{MakesWithin}
 use Rattle.value_index.proofs.WalksCountLemmas.{one_of}
 use Rattle.value_index.specs.Counts.{by_width}
@@ -75,71 +75,86 @@ one_more nodes n =
     let one : nodes * 1 ≡ nodes = omega arith in
     omega (arith, is, one)
 
-module _ {H : Type 0} (fields : List Field) (table : Table) where
-  pub keys_none : (a : Ledger H) (n : ℕ) → MakesKeys fields table a a n
+module _ {H : Type 0} {plain : Type 0} (fields : List Field) (table : Table) where
+  pub keys_none : (a : Ledger H) (n : ℕ) → MakesKeys plain fields table a a n
   keys_none a n = record {
     records = λ w. 0;
     few = omega arith;
-    narrow = λ long w wide. refl;
-    counts = rises_none a (by_width (key_nodes 8 * n) (λ w. 0));
-    low = λ levels stay. rises_none a (by_width (key_nodes levels * n) (λ w. 0));
+    narrow = λ is long w wide. refl;
+    counts = rises_none a (by_width (most_nodes * n) (λ w. 0));
+    low = λ is levels stay. rises_none a (by_width (key_nodes levels * n) (λ w. 0));
   }
 
-  pub keys_more : (a b : Ledger H) (n k : ℕ) → n ≤ k → MakesKeys fields table a b n → MakesKeys fields table a b k
+  pub keys_more : (a b : Ledger H) (n k : ℕ) → n ≤ k → MakesKeys plain fields table a b n → MakesKeys plain fields table a b k
   keys_more a b n k more made = record {
     records = made.records;
     few = let few = made.few in omega (arith, few);
     narrow = made.narrow;
-    counts = rises_more a b (by_width (key_nodes 8 * n) made.records) (by_width (key_nodes 8 * k) made.records)
-        (width_more (key_nodes 8 * n) (key_nodes 8 * k) made.records made.records (mul-le-mul_left (key_nodes 8) more) (λ w. omega arith)) made.counts;
-    low = λ levels stay. rises_more a b (by_width (key_nodes levels * n) made.records) (by_width (key_nodes levels * k) made.records)
-        (width_more (key_nodes levels * n) (key_nodes levels * k) made.records made.records (mul-le-mul_left (key_nodes levels) more) (λ w. omega arith)) (made.low levels stay);
+    counts = rises_more a b (by_width (most_nodes * n) made.records) (by_width (most_nodes * k) made.records)
+        (width_more (most_nodes * n) (most_nodes * k) made.records made.records (mul-le-mul_left (most_nodes) more) (λ w. omega arith)) made.counts;
+    low = λ is levels stay. rises_more a b (by_width (key_nodes levels * n) made.records) (by_width (key_nodes levels * k) made.records)
+        (width_more (key_nodes levels * n) (key_nodes levels * k) made.records made.records (mul-le-mul_left (key_nodes levels) more) (λ w. omega arith)) (made.low is levels stay);
   }
 
-  pub keys_then : (a b c : Ledger H) (n : ℕ) → MakesKeys fields table a b n → MakesKeys fields table b c 1 → MakesKeys fields table a c (n + 1)
+  pub keys_then : (a b c : Ledger H) (n : ℕ) → MakesKeys plain fields table a b n → MakesKeys plain fields table b c 1 → MakesKeys plain fields table a c (n + 1)
   keys_then a b c n first second = record {
     records = λ w. first.records w + second.records w;
     few = let one = first.few in let two = second.few in omega (arith, one, two);
-    narrow = λ long w wide. let one = first.narrow long w wide in let two = second.narrow long w wide in omega (arith, one, two);
-    counts = rises_more a c (λ w. by_width (key_nodes 8 * n) first.records w + by_width (key_nodes 8 * 1) second.records w)
-        (by_width (key_nodes 8 * (n + 1)) (λ w. first.records w + second.records w))
-        (width_then (key_nodes 8 * n) (key_nodes 8 * 1) (key_nodes 8 * (n + 1)) first.records second.records (one_more (key_nodes 8) n))
-        (rises_then a b c (by_width (key_nodes 8 * n) first.records) (by_width (key_nodes 8 * 1) second.records) first.counts second.counts);
-    low = λ levels stay.
+    narrow = λ is long w wide. let one = first.narrow is long w wide in let two = second.narrow is long w wide in omega (arith, one, two);
+    counts = rises_more a c (λ w. by_width (most_nodes * n) first.records w + by_width (most_nodes * 1) second.records w)
+        (by_width (most_nodes * (n + 1)) (λ w. first.records w + second.records w))
+        (width_then (most_nodes * n) (most_nodes * 1) (most_nodes * (n + 1)) first.records second.records (one_more (most_nodes) n))
+        (rises_then a b c (by_width (most_nodes * n) first.records) (by_width (most_nodes * 1) second.records) first.counts second.counts);
+    low = λ is levels stay.
         rises_more a c (λ w. by_width (key_nodes levels * n) first.records w + by_width (key_nodes levels * 1) second.records w)
         (by_width (key_nodes levels * (n + 1)) (λ w. first.records w + second.records w))
         (width_then (key_nodes levels * n) (key_nodes levels * 1) (key_nodes levels * (n + 1)) first.records second.records (one_more (key_nodes levels) n))
-        (rises_then a b c (by_width (key_nodes levels * n) first.records) (by_width (key_nodes levels * 1) second.records) (first.low levels stay) (second.low levels stay));
+        (rises_then a b c (by_width (key_nodes levels * n) first.records) (by_width (key_nodes levels * 1) second.records) (first.low is levels stay) (second.low is levels stay));
   }
 
   -- the store was sealed before
-  pub keys_sealed : (a b c : Ledger H) (n : ℕ) → RisesBy a b (λ w. 0) → MakesKeys fields table b c n → MakesKeys fields table a c n
+  pub keys_sealed : (a b c : Ledger H) (n : ℕ) → RisesBy a b (λ w. 0) → MakesKeys plain fields table b c n → MakesKeys plain fields table a c n
   keys_sealed a b c n none made = record {
     records = made.records;
     few = made.few;
     narrow = made.narrow;
-    counts = rises_from a b c (by_width (key_nodes 8 * n) made.records) none made.counts;
-    low = λ levels stay. rises_from a b c (by_width (key_nodes levels * n) made.records) none (made.low levels stay);
+    counts = rises_from a b c (by_width (most_nodes * n) made.records) none made.counts;
+    low = λ is levels stay. rises_from a b c (by_width (key_nodes levels * n) made.records) none (made.low is levels stay);
   }
 
   -- a buffer was marked as finished since
-  pub keys_finished : (a b : Ledger H) (n : ℕ) (buffer : Option ℕ) → MakesKeys fields table a b n → MakesKeys fields table a (record b { finished = buffer }) n
+  pub keys_finished : (a b : Ledger H) (n : ℕ) (buffer : Option ℕ) → MakesKeys plain fields table a b n → MakesKeys plain fields table a (record b { finished = buffer }) n
   keys_finished a b n buffer made = record {
     records = made.records;
     few = made.few;
     narrow = made.narrow;
     counts = record { made = made.counts.made; buffers = made.counts.buffers };
-    low = λ levels stay. let low = made.low levels stay in record { made = low.made; buffers = low.buffers };
+    low = λ is levels stay. let low = made.low is levels stay in record { made = low.made; buffers = low.buffers };
   }
 
+-- ---- what holds if no list is a bit vector holds if something more does
+pub keys_plain : {H : Type 0} {plain more : Type 0} (fields : List Field) (table : Table) (a b : Ledger H) (n : ℕ) → (more → plain) → MakesKeys plain fields table a b n
+    → MakesKeys more fields table a b n
+keys_plain fields table a b n so made = record {
+  records = made.records;
+  few = made.few;
+  narrow = λ is. made.narrow (so is);
+  counts = made.counts;
+  low = λ is. made.low (so is);
+}
+
+pub key_plain : {H : Type 0} {plain more : Type 0} (kind : Kind) (type : ValueType) (column : Column) (a b : Ledger H) → (more → plain) → MakesKey plain kind type column a b
+    → MakesKey more kind type column a b
+key_plain kind type column a b so made = record { width = made.width; narrow = λ is. made.narrow (so is); counts = made.counts; low = λ is. made.low (so is) }
+
 -- ---- a unit
-pub key_unit : {H : Type 0} (kind : Kind) (type : ValueType) (column : Column) (old begun mid new : Ledger H) → begun ≡ record old { unit = true } → MakesKey kind type column begun mid
-    → (o : Records) → ((w : ℕ) → EndsOf (mid.of_width w) (new.of_width w)) → IsSettled new o → MakesKey kind type column old new
+pub key_unit : {H : Type 0} {plain : Type 0} (kind : Kind) (type : ValueType) (column : Column) (old begun mid new : Ledger H) → begun ≡ record old { unit = true } → MakesKey plain kind type column begun mid
+    → (o : Records) → ((w : ℕ) → EndsOf (mid.of_width w) (new.of_width w)) → IsSettled new o → MakesKey plain kind type column old new
 key_unit kind type column old begun mid new begins made o ends settled = record {
   width = made.width;
   narrow = made.narrow;
-  counts = counts_unit old begun mid new (by_width (key_nodes 8) (one_record made.width)) begins made.counts o ends settled;
-  low = λ levels stays. counts_unit old begun mid new (by_width (key_nodes levels) (one_record made.width)) begins (made.low levels stays) o ends settled;
+  counts = counts_unit old begun mid new (by_width (most_nodes) (one_record made.width)) begins made.counts o ends settled;
+  low = λ is levels stays. counts_unit old begun mid new (by_width (key_nodes levels) (one_record made.width)) begins (made.low is levels stays) o ends settled;
 }
 
 -- ---- a key of one attribute, among all
@@ -150,20 +165,20 @@ wide_none width w narrow wide = told (nat_eq w width) refl
     told true is = absurd (let same = eqb-true w width is in omega arith)
     told false is = refl
 
-pub key_among : {H : Type 0} (fields : List Field) (table : Table) (i : ℕ) (field : Field) (column : Column) (old new : Ledger H) → slice_get fields i ≡ Some field → i < length fields
-    → column ≡ column_of i table → MakesKey field.kind field.value column old new → MakesKeys fields table old new 1
+pub key_among : {H : Type 0} {plain : Type 0} (fields : List Field) (table : Table) (i : ℕ) (field : Field) (column : Column) (old new : Ledger H) → slice_get fields i ≡ Some field → i < length fields
+    → column ≡ column_of i table → MakesKey plain field.kind field.value column old new → MakesKeys plain fields table old new 1
 key_among fields table i field column old new at below reads made = record {
   records = one_record made.width;
   few = one_of made.width;
-  narrow = λ long w wide.
+  narrow = λ is long w wide.
       let own = AllByRecursion-slice_get (λ (f : Field). (f.kind ≡ Single) × (f.value ≡ Long)) fields i field long at in
-      wide_none made.width w (made.narrow own.0 own.1) wide;
-  counts = rises_more old new (by_width (key_nodes 8) (one_record made.width)) (by_width (key_nodes 8 * 1) (one_record made.width))
-      (width_more (key_nodes 8) (key_nodes 8 * 1) (one_record made.width) (one_record made.width) (omega arith) (λ w. omega arith))
-      (rises_within old new (by_width (key_nodes 8) (one_record made.width)) made.counts);
-  low = λ levels stay.
+      wide_none made.width w (made.narrow is own.0 own.1) wide;
+  counts = rises_more old new (by_width (most_nodes) (one_record made.width)) (by_width (most_nodes * 1) (one_record made.width))
+      (width_more (most_nodes) (most_nodes * 1) (one_record made.width) (one_record made.width) (omega arith) (λ w. omega arith))
+      (rises_within old new (by_width (most_nodes) (one_record made.width)) made.counts);
+  low = λ is levels stay.
       let low : IsLowColumn levels column = subst (λ (cl : Column). IsLowColumn levels cl) (sym reads) (stay i below) in
       rises_more old new (by_width (key_nodes levels) (one_record made.width)) (by_width (key_nodes levels * 1) (one_record made.width))
       (width_more (key_nodes levels) (key_nodes levels * 1) (one_record made.width) (one_record made.width) (omega arith) (λ w. omega arith))
-      (rises_within old new (by_width (key_nodes levels) (one_record made.width)) (made.low levels low));
+      (rises_within old new (by_width (key_nodes levels) (one_record made.width)) (made.low is levels low));
 }

@@ -1,7 +1,7 @@
 -- The keys of an attribute's phases: what they are, and that they stay where the attribute's records stay.
 use Rattle.std.proofs.Common.{◌≡◌, ℕ, zero, suc, ◌<◌, Bool, true, false, cond, nat_eq, List, [], ◌∷◌, ◌++◌, map, length, Some, is_lt, refl, sym, ap, subst, ◌∙◌, arith}
 use Rattle.std.specs.Prelude.{slice_get}
-use Rattle.std.specs.List.{find, flat_map, AllByRecursion}
+use Rattle.std.specs.List.{find, flat_map, AllByRecursion, AllZip}
 use Rattle.attr_images.proofs.ImageLemmas.{value_typed}
 use Rattle.list_facts.proofs.Each.{AllByRecursion-append}
 use Rattle.list_facts.proofs.Options.{same_Some}
@@ -10,7 +10,8 @@ use Rattle.entry_ref.specs.Records.{Records, SameAt}
 use Rattle.tree_read.specs.ProofsForTrees.{SameAt-left, SameAt-right, flat_map-same, map-same, tree_pairs-same}
 use Rattle.tree_read.specs.Trees.{tree_nodes, tree_pairs}
 use Rattle.attr_field.specs.Documents.{documents_own, items_own}
-use Rattle.attr_images.specs.Postings.{ListForm, short, tree, vector, dictionary_reach, list_form, postings_reach}
+use Rattle.attr_field.specs.Forms.{wants}
+use Rattle.attr_images.specs.Postings.{dictionary_reach, list_form, postings_reach}
 use Rattle.attr_images.specs.Tables.{AttributeTrees}
 use Rattle.attr_images.specs.Values.{stored_value, value_of}
 use Rattle.attr_types.specs.declared.kind.ValueType.{ValueType}
@@ -20,17 +21,15 @@ use Rattle.attr_compaction.specs.declared.plan.PlanKey.{PlanKey}
 use Rattle.attr_compaction.specs.declared.plan.PlanKey.TheVariants.{Value, Doc, Pair}
 use Rattle.attr_compaction.specs.declared.plan.TheConstants.{DOCUMENTS, KEYS, LISTS, PHASES}
 use Rattle.value_index.specs.Indexes.{index_reach}
+use Rattle.value_index.proofs.FormLemmas.{form_stays}
 use Rattle.attr_compaction.specs.PhaseKeys.{document_keys, form_docs, key_past, keys_of_pairs, pair_keys, value_keys, HasType}
-use Rattle.attr_steps.specs.Fields.{part_of}
-use Rattle.compact_steps.specs.Units.{keys_at, KeepKeys}
+use Rattle.attr_steps.specs.Fields.{part_of, KeepForms}
+use Rattle.compaction_moves.proofs.BlockLemmas.{docs_same}
+use Rattle.posting_store.specs.Lists.{IsPlain}
+use Rattle.compact_steps.specs.Units.{keys_at, ArePlain, KeepKeys, KeepsKeys}
 
 -- ---- they stay where the records stay
 module _ (m n : Records) where
-  docs_stay : (form : ListForm) → SameAt (postings_reach m form) m n → form_docs n form ≡ form_docs m form
-  docs_stay (short ref) same = refl
-  docs_stay (tree root) same = ap (λ (ps : List (ℕ × ℕ)). map (λ p. p.0) ps) (tree_pairs-same m n root same)
-  docs_stay (vector root) same = refl
-
   abbrev pair_reach : ℕ × ℕ → List ℕ
   pair_reach p = p.0 ∷ postings_reach m (list_form p.1)
 
@@ -45,7 +44,7 @@ module _ (m n : Records) where
 
   one_list : (type : ValueType) (p : ℕ × ℕ) → SameAt (pair_reach p) m n → list_keys type n p ≡ list_keys type m p
   one_list type p same =
-      ap (λ (docs : List ℕ). map (λ doc. Pair (stored_value type n p.0) doc) docs) (docs_stay (list_form p.1) same.1)
+      ap (λ (docs : List ℕ). map (λ doc. Pair (stored_value type n p.0) doc) docs) (docs_same m n (list_form p.1) same.1)
       ∙ ap (λ (ws : List ℕ). map (λ doc. Pair (value_of type ws) doc) (form_docs m (list_form p.1))) same.0
 
   module _ (type : ValueType) (root : ℕ) (nodes : SameAt (tree_nodes m root) m n) (rest : SameAt (dictionary_reach m root) m n) where
@@ -126,7 +125,7 @@ next_fits m a at key few next =
 
 -- ---- of all attributes
 pub all_keep : (m n : Records) (trees next : List AttributeTrees) → length next ≡ length trees
-    → ((j : ℕ) (a b : AttributeTrees) → slice_get trees j ≡ Some a → slice_get next j ≡ Some b → (phase : ℕ) → keys_at n b phase ≡ keys_at m a phase)
+    → ((j : ℕ) (a b : AttributeTrees) → slice_get trees j ≡ Some a → slice_get next j ≡ Some b → KeepsKeys m n a b)
     → KeepKeys m n trees next
 all_keep m n [] [] sized each = tt
 all_keep m n [] (b ∷ next) sized each = absurd (omega arith)
@@ -135,4 +134,43 @@ all_keep m n (a ∷ trees) (b ∷ next) sized each = (each 0 a b refl refl, all_
 
 pub same_keys : (m : Records) (trees : List AttributeTrees) → KeepKeys m m trees trees
 same_keys m [] = tt
-same_keys m (a ∷ trees) = (λ phase. refl, same_keys m trees)
+same_keys m (a ∷ trees) = (record { keys = λ phase. refl; plain = λ plain. plain; form = λ dense is. is }, same_keys m trees)
+
+-- an attribute whose records stay
+pub keeps_stay : (m n : Records) (a : AttributeTrees) → SameAt ((part_of a).reach m) m n → KeepsKeys m n a a
+keeps_stay m n a same =
+    let index = SameAt-right m n (documents_own a.kind m a.documents) (index_reach m a.dictionary) same in
+    let nodes = SameAt-left m n (tree_nodes m a.dictionary) (dictionary_reach m a.dictionary) index in
+    record {
+      keys = keys_stay m n a same;
+      plain = λ plain. subst (AllByRecursion (λ p. IsPlain p.1)) (sym (tree_pairs-same m n a.dictionary nodes)) plain;
+      form = λ dense is. form_stays a.type m n a.dictionary index (wants dense a.kind) is;
+    }
+
+pub keeps_then : (m n o : Records) (a b d : AttributeTrees) → KeepsKeys m n a b → KeepsKeys n o b d → KeepsKeys m o a d
+keeps_then m n o a b d first second = record {
+  keys = λ phase. second.keys phase ∙ first.keys phase;
+  plain = λ plain. second.plain (first.plain plain);
+  form = λ dense is. second.form dense (first.form dense is);
+}
+
+-- the keys alone
+pub keys_of_all : (m n : Records) (trees next : List AttributeTrees) → KeepKeys m n trees next → AllZip (λ a b. (phase : ℕ) → keys_at n b phase ≡ keys_at m a phase) trees next
+keys_of_all m n [] [] keep = tt
+keys_of_all m n [] (b ∷ next) keep = absurd keep
+keys_of_all m n (a ∷ trees) [] keep = absurd keep
+keys_of_all m n (a ∷ trees) (b ∷ next) keep = (keep.0.keys, keys_of_all m n trees next keep.1)
+
+-- no list of all is a bit vector, if none was
+pub plain_kept : (m n : Records) (trees next : List AttributeTrees) → KeepKeys m n trees next → ArePlain m trees → ArePlain n next
+plain_kept m n [] [] keep plain = tt
+plain_kept m n [] (b ∷ next) keep plain = absurd keep
+plain_kept m n (a ∷ trees) [] keep plain = absurd keep
+plain_kept m n (a ∷ trees) (b ∷ next) keep plain = (keep.0.plain plain.0, plain_kept m n trees next keep.1 plain.1)
+
+-- the forms of all
+pub forms_kept : (m n : Records) (trees next : List AttributeTrees) → KeepKeys m n trees next → KeepForms m n trees next
+forms_kept m n [] [] keep dense are = tt
+forms_kept m n [] (b ∷ next) keep dense are = absurd keep
+forms_kept m n (a ∷ trees) [] keep dense are = absurd keep
+forms_kept m n (a ∷ trees) (b ∷ next) keep dense are = (keep.0.form dense are.0, forms_kept m n trees next keep.1 dense are.1)

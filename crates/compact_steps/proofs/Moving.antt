@@ -27,7 +27,7 @@ use Rattle.attr_steps.proofs.PartLists.{count_at, count_set, stay_at}
 use Rattle.attr_steps.proofs.Referring.{AreSame, IsSameAt, RefersAt, all_changed, all_moved, each_same, key_owned, stays_beside}
 use Rattle.attr_steps.proofs.TreeLists.{all_from, get_set-same, rest_at, set_length}
 use Rattle.attr_steps.proofs.Units.{fields_stay, table_stays}
-use Rattle.compact_steps.specs.Units.{keys_at}
+use Rattle.compact_steps.specs.Units.{KeepsKeys}
 
 -- a key moved in one attribute's part: the old copies that it left lie in the victim
 pub record MovesPart {H : Type 0} (bits victim : ℕ) (old new : Ledger H) (m n : Records) (a b : AttributeTrees) : Type 0 where
@@ -37,7 +37,7 @@ pub record MovesPart {H : Type 0} (bits victim : ℕ) (old new : Ledger H) (m n 
   pub column_is : column_in n b ≡ column_in m a
   pub refers : (r : ℕ) → Among r (documents_refer b.kind n b.documents)
       → IsKey n b.dictionary r ⊎ (Among r left ⊎ (Among r (documents_refer a.kind m a.documents) × (count_in r m (part_of a ∷ []) < uses old r)))
-  pub keys : (phase : ℕ) → keys_at n b phase ≡ keys_at m a phase
+  pub keys : KeepsKeys m n a b
   pub turns : Turns old new m n (part_of a ∷ []) (part_of b ∷ entries left ∷ [])
 
 -- ---- columns with one replaced

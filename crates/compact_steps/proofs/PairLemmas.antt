@@ -7,8 +7,6 @@ use Rattle.attr_field.specs.Documents.{AreItemsAt, IsDocuments}
 use Rattle.attr_types.specs.declared.kind.Kind.{Kind}
 use Rattle.attr_types.specs.declared.kind.ValueType.{ValueType}
 use Rattle.doc_vector.specs.Documents.{IsDocumentPair}
-use Rattle.posting_store.specs.Lists.{IsPlain}
-use Rattle.value_index.specs.Indexes.{IsIndex, IsValuePair}
 use Rattle.compact_steps.specs.Sights.{HasItemRecords}
 
 pub all_items : (kind : Kind) (type : ValueType) (m : Records) (root : ℕ) → IsDocuments kind type m root → AllByRecursion (HasItemRecords kind type m) (tree_pairs m root)
@@ -17,13 +15,6 @@ all_items kind type m root are = each (tree_pairs m root) are.map_is.pairs are.i
     each : (ps : List (ℕ × ℕ)) → AllByRecursion IsDocumentPair ps → AllByRecursion (λ p. AreItemsAt kind type m p.1) ps → AllByRecursion (HasItemRecords kind type m) ps
     each [] pairs items = tt
     each (p ∷ ps) pairs items = (record { few = pairs.0.reference; records = items.0.records }, each ps pairs.1 items.1)
-
-pub all_plain : (type : ValueType) (m : Records) (root : ℕ) → IsIndex type m root → AllByRecursion (λ p. IsPlain p.1) (tree_pairs m root)
-all_plain type m root is = each (tree_pairs m root) is.pairs
-  where
-    each : (ps : List (ℕ × ℕ)) → AllByRecursion (IsValuePair m) ps → AllByRecursion (λ p. IsPlain p.1) ps
-    each [] pairs = tt
-    each (p ∷ ps) pairs = (pairs.0.plain, each ps pairs.1)
 
 pub all_numbers : (ps : List (ℕ × ℕ)) → AllByRecursion IsDocumentPair ps → AllByRecursion (λ p. p.0 < 2 ^ 32) ps
 all_numbers [] pairs = tt

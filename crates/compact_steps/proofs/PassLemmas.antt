@@ -28,7 +28,7 @@ use Rattle.attr_compaction.proofs.StageLemmas.{under}
 use Rattle.attr_compaction.specs.Counts.{keys_between}
 use Rattle.attr_compaction.proofs.OrderLemmas.{phase_ascends}
 use Rattle.attr_compaction.specs.PhaseKeys.{HasType}
-use Rattle.compact_steps.proofs.KeyLemmas.{next_fits}
+use Rattle.compact_steps.proofs.KeyLemmas.{keys_of_all, next_fits}
 use Rattle.compact_steps.proofs.TurnLemmas.{place_is, plan_is}
 use Rattle.compact_steps.proofs.WalkLemmas.{found_past, stages_left}
 use Rattle.compact_steps.specs.Units.{keys_at, IsUnderWay, PassesKeys}
@@ -132,8 +132,8 @@ module _ {H : Type 0} (bits root : ℕ) (fields : List Field) (old mid : Ledger 
 
   counted : keys_between from.place at.place m trees ≡ visited + count
   counted =
-      let more = sym (same_between m k trees next from.place at.place visits.keep) ∙ counts.0 in
-      let was = same_between m k trees next from.place to.place visits.keep ∙ visits.count in
+      let more = sym (same_between m k trees next from.place at.place (keys_of_all m k trees next visits.keep)) ∙ counts.0 in
+      let was = same_between m k trees next from.place to.place (keys_of_all m k trees next visits.keep) ∙ visits.count in
       omega (arith, more, was)
 
   pub visits_passed : Visits bits root old mid m k fields trees next from at (visited + count)

@@ -1,5 +1,5 @@
 -- What was cleared of attributes whose records stay.
-use Rattle.std.proofs.Common.{◌≡◌, ◌≢◌, ℕ, zero, suc, List, [], ◌∷◌, Option, None, Some, Bool, true, false, true≢false, sym, ap, subst, nat_cmp}
+use Rattle.std.proofs.Common.{◌≡◌, ◌≢◌, ℕ, zero, suc, List, [], ◌∷◌, Option, None, Some, Bool, true, false, true≢false, sym, ap, subst, ◌∙◌, nat_cmp}
 use Rattle.std.specs.Prelude.{slice_get}
 use Rattle.std.specs.declared.cmp.Ordering.{Ordering}
 use Rattle.std.specs.List.{AllByRecursion}
@@ -26,7 +26,8 @@ use Rattle.attr_types.specs.declared.kind.Kind.{Kind}
 use Rattle.attr_types.specs.declared.kind.ValueType.{ValueType}
 use Rattle.attr_types.specs.declared.value.Value.{Value}
 use Rattle.compaction_moves.specs.DocumentMoves.{AreItemsApart}
-use Rattle.compaction_moves.specs.Cleared.{IsClearedField, IsVisited, ListIsCleared, NodesAreCleared}
+use Rattle.compaction_moves.specs.Cleared.{BlockIsVisited, IsClearedField, IsVisited, ListIsCleared, NodesAreCleared}
+use Rattle.compaction_moves.proofs.BlockLemmas.{block_same, nodes_of_vector}
 use Rattle.compact_steps.specs.StepsLaws.{AllStayLeavesCleared, StayLeavesCleared}
 use Rattle.compact_steps.proofs.StepsBelow.{keys_in_tree, keys_stay}
 use Rattle.compact_steps.proofs.StepsLists.{all_in, all_pairs, IsIn}
@@ -47,7 +48,12 @@ module _ (bits victim : ℕ) (m n : Records) where
   list_clear at field value (tree root) is same cleared =
       nodes_clear nat_cmp by_number root is.0 same (λ doc. IsVisited at field LISTS (plan.Pair value doc)) (λ doc. IsVisited at field LISTS (plan.Pair value doc))
       (λ doc there visited. visited) cleared
-  list_clear at field value (vector root) is same cleared = absurd cleared
+  list_clear at field value (vector root) is same cleared =
+      let nodes = nodes_of_vector m n root same in
+      record {
+        nodes = nodes_clear nat_cmp by_number root is.0 nodes (BlockIsVisited at field value) (BlockIsVisited at field value) (λ k there visited. visited) cleared.nodes;
+        blocks = λ k r there visited. cleared.blocks k r (sym (block_same m n root k nodes) ∙ there) visited;
+      }
 
 module _ (bits victim field : ℕ) (at : PlanPlace) (m n : Records) (kind : Kind) (type : ValueType) (documents dictionary : ℕ) (is : IsField kind type m documents dictionary)
     (same : SameAt ((field_part kind documents dictionary).reach m) m n) where

@@ -1,5 +1,5 @@
 -- What is cleared at the first place and at the last.
-use Rattle.std.proofs.Common.{◌≡◌, ◌≢◌, ℕ, suc, ◌<◌, ◌≤◌, List, [], ◌∷◌, length, Some, inl, inr, refl, sym, subst, arith}
+use Rattle.std.proofs.Common.{◌≡◌, ◌≢◌, ℕ, suc, ◌*◌, ◌<◌, ◌≤◌, List, [], ◌∷◌, length, Some, inl, inr, refl, arith}
 use Rattle.std.specs.Prelude.{slice_get}
 use Rattle.std.specs.List.{AllByRecursion}
 use Rattle.entry_ref.proofs.Among.{Among-append}
@@ -13,29 +13,31 @@ use Rattle.attr_compaction.specs.declared.plan.TheConstants.{DOCUMENTS, KEYS, LI
 use Rattle.attr_field.specs.Fields.{IsField}
 use Rattle.attr_field.specs.Laws.{FieldIsLawful}
 use Rattle.attr_images.specs.Attributes.{trees_reach}
-use Rattle.attr_images.specs.Postings.{list_form}
+use Rattle.attr_images.specs.Postings.{ListForm, short, tree, vector, list_form}
 use Rattle.attr_images.specs.Tables.{AttributeTrees, attributes_reach}
 use Rattle.attr_images.specs.Values.{stored_value}
 use Rattle.attr_steps.specs.Fields.{IsFieldAt}
 use Rattle.attr_types.specs.declared.kind.Kind.{Kind}
 use Rattle.attr_types.specs.declared.kind.ValueType.{ValueType}
-use Rattle.value_index.specs.Indexes.{IsValuePair}
+use Rattle.attr_types.specs.declared.value.Value.{Value}
 use Rattle.compaction_moves.proofs.LeftLemmas.{nothing_left}
 use Rattle.compaction_moves.proofs.VisitLemmas.{nothing_visited}
 use Rattle.compaction_moves.specs.Cleared.{IsClearedField, ListIsCleared}
 use Rattle.compact_steps.specs.StepsLaws.{FirstIsCleared, NothingIsReached}
-use Rattle.compact_steps.proofs.StepsLists.{all_in, all_pairs, IsIn}
-use Rattle.compact_steps.proofs.StepsOwned.{form_of, is_short, is_tree}
+use Rattle.compact_steps.proofs.StepsLists.{all_pairs, IsIn}
 
 -- ---- before the first key
 module _ (bits victim field : ℕ) (m : Records) (kind : Kind) (type : ValueType) (documents dictionary : ℕ) (is : IsField kind type m documents dictionary) where
+  form_first : (value : Value) (form : ListForm) → ListIsCleared bits victim first_place field m value form
+  form_first value (short ref) = λ visited. absurd (nothing_visited field LISTS (plan.Pair value 0) refl visited)
+  form_first value (tree root) = λ node among in_victim key below visited. nothing_visited field LISTS (plan.Pair value key) refl visited
+  form_first value (vector root) = record {
+    nodes = λ node among in_victim k below visited. nothing_visited field LISTS (plan.Pair value (4096 * k)) refl visited;
+    blocks = λ k r there visited. absurd (nothing_visited field LISTS (plan.Pair value (4096 * k)) refl visited);
+  }
+
   list_first : (p : ℕ × ℕ) → IsIn p (tree_pairs m dictionary) → ListIsCleared bits victim first_place field m (stored_value type m p.0) (list_form p.1)
-  list_first p there = elim (form_of p.1 (all_in (IsValuePair m) (tree_pairs m dictionary) is.index_is.pairs p there).plain) [
-    | is_short e ↦ subst (ListIsCleared bits victim first_place field m (stored_value type m p.0)) (sym e)
-        (λ visited. absurd (nothing_visited field LISTS (plan.Pair (stored_value type m p.0) 0) refl visited))
-    | is_tree e ↦ subst (ListIsCleared bits victim first_place field m (stored_value type m p.0)) (sym e)
-        (λ node among in_victim key below visited. nothing_visited field LISTS (plan.Pair (stored_value type m p.0) key) refl visited)
-  ]
+  list_first p there = form_first (stored_value type m p.0) (list_form p.1)
 
   pub field_first : IsClearedField bits victim first_place field m (record { kind = kind; type = type; documents = documents; dictionary = dictionary })
   field_first = record {

@@ -1,8 +1,8 @@
 -- What was cleared of an attribute, through an operation: what lies in the victim then lay there before, in the same role.
-use Rattle.std.proofs.Common.{◌≡◌, ◌≢◌, ℕ, ◌/◌, List, map, length, true, Equal, inl, inr, refl, sym, ap, subst, ◌∙◌, arith, nat_cmp}
+use Rattle.std.proofs.Common.{◌≡◌, ◌≢◌, ℕ, ◌-◌, ◌/◌, Bool, List, map, length, true, false, true≢false, Some, Equal, inl, inr, refl, sym, ap, subst, ◌∙◌, arith, nat_cmp}
 use Rattle.std.proofs.lemmas.Cmp.{nat_cmp_total}
 use Rattle.std.proofs.lemmas.Map.Lookups.{exact_unsigned}
-use Rattle.entry_ref.proofs.Among.{Among-all}
+use Rattle.entry_ref.proofs.Among.{Among-all, Among-append}
 use Rattle.entry_ref.specs.References.{buffer_of}
 use Rattle.entry_ref.specs.Records.{Records, Among}
 use Rattle.store_api.specs.Ledgers.{Ledger}
@@ -16,7 +16,7 @@ use Rattle.attr_field.specs.DocumentsFlows.{reference_at}
 use Rattle.attr_field.specs.Fields.{field_part, IsField}
 use Rattle.attr_field.specs.Flows.{FlowsField}
 use Rattle.attr_images.proofs.ImageLemmas.{value_typed}
-use Rattle.attr_images.specs.Postings.{list_form, postings_reach, IsPostingList}
+use Rattle.attr_images.specs.Postings.{vector, list_form, postings_reach, IsPostingList}
 use Rattle.attr_images.specs.Values.{stored_value, value_of}
 use Rattle.attr_images.specs.Words.{IsStoredList}
 use Rattle.attr_steps.specs.Fields.{KeepsWords}
@@ -28,12 +28,17 @@ use Rattle.attr_types.specs.declared.value.Value.{Value}
 use Rattle.doc_vector.specs.Documents as docs
 use Rattle.compaction_moves.specs.DocumentMoves.{AreItemsApart}
 use Rattle.enum_dictionary.specs.Dictionaries.{beside_value}
+use Rattle.bit_vector.specs.Keeps.{block_at}
+use Rattle.compaction_moves.proofs.BlockLemmas.{block_size, block_value}
 use Rattle.compaction_moves.proofs.PlanVisits.{earlier_visited}
-use Rattle.posting_store.proofs.FormLemmas.{reach_form}
-use Rattle.posting_store.specs.Lists.{list_reach}
+use Rattle.posting_store.specs.Keeps.{form_block, list_block}
+use Rattle.posting_store.proofs.FormLemmas.{form_vector, no_vector, plain_of, reach_form}
+use Rattle.posting_store.proofs.VectorLemmas.{counted_from}
+use Rattle.posting_store.specs.Lists.{list_reach, is_vector, IsPlain}
+use Rattle.value_index.proofs.KeyLemmas.{among_left, among_right}
 use Rattle.value_index.specs.Flows.{list_word}
 use Rattle.value_index.specs.Indexes.{IsValuePair}
-use Rattle.compaction_moves.specs.Cleared.{IsClearedField, IsVisited, ListIsCleared, NodesAreCleared}
+use Rattle.compaction_moves.specs.Cleared.{BlockIsVisited, IsClearedField, IsVisited, ListIsCleared, NodesAreCleared, VectorIsCleared}
 use Rattle.compact_steps.proofs.StepsBelow.{keys_both, keys_in_tree, node_size}
 use Rattle.compact_steps.proofs.StepsLists.{all_in, all_keys, all_pairs, all_refs, flat_in, key_in, lookup_in, pair_found, Found, IsIn}
 use Rattle.compact_steps.proofs.StepsOwned.{form_of, is_short, is_tree, item_owned, key_is_owned, key_owned, list_owned, map_node_owned, short_size, value_node_owned}
@@ -116,6 +121,7 @@ module _ {H : Type 0} (bits victim field : ℕ) (at : PlanPlace) (old new : Ledg
     pair : ℕ × ℕ
     there : IsIn pair (tree_pairs m dictionary)
     is_pair : IsValuePair m pair
+    word : list_word v m dictionary ≡ pair.1
     clear : ListIsCleared bits victim at field m v (list_form pair.1)
     among : Among r (postings_reach m (list_form pair.1))
 
@@ -128,6 +134,10 @@ module _ {H : Type 0} (bits victim field : ℕ) (at : PlanPlace) (old new : Ledg
         pair = q;
         there = found.there;
         is_pair = pair_is;
+        word = pair_found value_cmp value_cmp_total (stored_value type m) (beside_value v m) q
+            (λ k. ap (λ (t : ValueType). value_cmp (stored_value t m k) v) typed
+            ∙ ap (λ (x : Value). value_cmp (stored_value type m k) x) (sym (value_cmp_exact (stored_value type m q.0) v equal)))
+            (tree_pairs m dictionary) is.index_is.dictionary_is.tree_is.ascends found.there;
         clear = subst (λ x. ListIsCleared bits victim at field m x (list_form q.1)) (value_cmp_exact (stored_value type m q.0) v equal)
             (all_in (λ (p : ℕ × ℕ). ListIsCleared bits victim at field m (stored_value type m p.0) (list_form p.1)) (tree_pairs m dictionary) cleared.lists q found.there);
         among = subst (Among r) (reach_form m q.1 pair_is.some) found.among;
@@ -141,6 +151,22 @@ module _ {H : Type 0} (bits victim field : ℕ) (at : PlanPlace) (old new : Ledg
       let before = flows.index.lists (value_then p) (value_typed type (n p.0)) r began (subst (λ w. Among r (list_reach n w)) (sym (word_is p there)) here) in
       old_list (value_then p) r (value_typed type (n p.0)) (lookup_in (beside_value (value_then p) m) (list_reach m) r (tree_pairs m dictionary) (λ none. none) before)
 
+  -- the list had this form already: a list that changed its form has no old record
+  same_form : (p : ℕ × ℕ) → IsIn p values_then → (r : ℕ) → Among r (postings_reach n (list_form p.1)) → buffer_of bits r ≡ victim → (o : OldList (value_then p) r)
+      → is_vector o.pair.1 ≡ is_vector p.1
+  same_form p there r among in_victim o = decided (is_vector o.pair.1) (is_vector p.1) (λ other.
+      let pair_is = all_in (IsValuePair n) values_then next_is.index_is.pairs p there in
+      let began = lies r (used r (list_owned kind n next_documents next_dictionary p r there among)) in_victim in
+      let here : Among r (list_reach n p.1) = subst (Among r) (sym (reach_form n p.1 pair_is.some)) among in
+      (flows.index.blocks (value_then p) (value_typed type (n p.0))).anew
+      (λ e. other (sym (ap is_vector (sym (word_is p there)) ∙ e ∙ ap is_vector o.word))) r began (subst (λ w. Among r (list_reach n w)) (sym (word_is p there)) here))
+    where
+      decided : (a b : Bool) → ((a ≡ b → ⊥) → ⊥) → a ≡ b
+      decided true true not_other = refl
+      decided false false not_other = refl
+      decided true false not_other = absurd (not_other true≢false)
+      decided false true not_other = absurd (not_other (λ e. true≢false (sym e)))
+
   module _ (v : Value) (r : ℕ) (now_used : Used r) (in_victim : buffer_of bits r ≡ victim) (o : OldList v r) where
     same_words : n r ≡ m r
     same_words = words.each r (was r (list_owned kind m documents dictionary o.pair r o.there o.among)) now_used
@@ -149,8 +175,8 @@ module _ {H : Type 0} (bits victim field : ℕ) (at : PlanPlace) (old new : Ledg
     old_form = o.is_pair.list_is.form o.is_pair.some
 
     -- a short list's record was one, and lay elsewhere if it was visited
-    short_next : IsStoredList 8 (n r) → IsVisited at field LISTS (plan.Pair v 0) → ⊥
-    short_next stored visited = elim (form_of o.pair.1 o.is_pair.plain) [
+    short_next : IsPlain o.pair.1 → IsStoredList 8 (n r) → IsVisited at field LISTS (plan.Pair v 0) → ⊥
+    short_next plain stored visited = elim (form_of o.pair.1 plain) [
       | is_short e ↦ elim (subst (λ form. Among r (postings_reach m form)) e o.among) [
         | inl same ↦ subst (ListIsCleared bits victim at field m v) e o.clear visited (ap (buffer_of bits) (sym same) ∙ in_victim)
         | inr none ↦ absurd none
@@ -160,9 +186,9 @@ module _ {H : Type 0} (bits victim field : ℕ) (at : PlanPlace) (old new : Ledg
     ]
 
     -- a list's node was one of that list's
-    node_next : (root : ℕ) → IsTree nat_cmp by_number n root → ((q : ℕ) → Among q (tree_nodes n root) → Used q) → Among r (tree_nodes n root) → (key : ℕ)
+    node_next : IsPlain o.pair.1 → (root : ℕ) → IsTree nat_cmp by_number n root → ((q : ℕ) → Among q (tree_nodes n root) → Used q) → Among r (tree_nodes n root) → (key : ℕ)
         → Among key (Rattle.frozen_btree.specs.Ways.keys_below n r) → IsVisited at field LISTS (plan.Pair v key) → ⊥
-    node_next root is_then after there key below visited = elim (form_of o.pair.1 o.is_pair.plain) [
+    node_next plain root is_then after there key below visited = elim (form_of o.pair.1 plain) [
       | is_short e ↦ elim (subst (λ form. Among r (postings_reach m form)) e o.among) [
         | inl same ↦ short_size (m r) (subst (λ x. IsStoredList 8 (m x)) (sym same) (subst (IsPostingList m) e old_form))
             (sym (ap length same_words) ∙ node_size n nat_cmp by_number root is_then r there)
@@ -176,21 +202,117 @@ module _ {H : Type 0} (bits victim field : ℕ) (at : PlanPlace) (old new : Ledg
           subst (ListIsCleared bits victim at field m v) e o.clear r here in_victim key (subst (Among key) both below) visited)
     ]
 
-  list_next : (p : ℕ × ℕ) → IsIn p values_then → ListIsCleared bits victim at field n (value_then p) (list_form p.1)
-  list_next p there = elim (form_of p.1 pair_is.plain) [
-    | is_short e ↦ subst (ListIsCleared bits victim at field n (value_then p)) (sym e) (λ visited in_victim.
-        let among : Among (p.1 / 2) (postings_reach n (list_form p.1)) = subst (λ form. Among (p.1 / 2) (postings_reach n form)) (sym e) (inl refl) in
-        short_next (value_then p) (p.1 / 2) (used (p.1 / 2) (list_owned kind n next_documents next_dictionary p (p.1 / 2) there among)) in_victim (came p there (p.1 / 2) among in_victim)
-        (subst (IsPostingList n) e (pair_is.list_is.form pair_is.some)) visited)
-    | is_tree e ↦ subst (ListIsCleared bits victim at field n (value_then p)) (sym e) (λ node inside in_victim key below visited.
-        let after : (q : ℕ) → Among q (tree_nodes n (p.1 / 2)) → Used q =
-        λ q among. used q (list_owned kind n next_documents next_dictionary p q there (subst (λ form. Among q (postings_reach n form)) (sym e) among)) in
-        node_next (value_then p) node (after node inside) in_victim (came p there node (subst (λ form. Among node (postings_reach n form)) (sym e) inside) in_victim)
-        (p.1 / 2) (subst (IsPostingList n) e (pair_is.list_is.form pair_is.some)).0 after inside key below visited)
-  ]
-    where
-      pair_is : IsValuePair n p
-      pair_is = all_in (IsValuePair n) values_then next_is.index_is.pairs p there
+    -- a bit vector's blocks and nodes were those of a bit vector
+    module _ (dense : is_vector o.pair.1 ≡ true) where
+      abbrev base : ℕ
+      base = o.pair.1 - 8589934592
+
+      form_is : list_form o.pair.1 ≡ vector base
+      form_is = form_vector o.pair.1 base (counted_from o.pair.1 dense)
+
+      posting_was : IsPostingList m (vector base)
+      posting_was = subst (IsPostingList m) form_is old_form
+
+      clear_was : VectorIsCleared bits victim at field m v base
+      clear_was = subst (ListIsCleared bits victim at field m v) form_is o.clear
+
+      node_was : (q : ℕ) → Among q (tree_nodes m base) → Was q
+      node_was q among = was q (list_owned kind m documents dictionary o.pair q o.there
+          (subst (λ form. Among q (postings_reach m form)) (sym form_is) (among_left q (tree_nodes m base) (map (λ p. p.1) (tree_pairs m base)) among)))
+
+      vector_node_next : (root : ℕ) → IsTree nat_cmp by_number n root → ((q : ℕ) → Among q (tree_nodes n root) → Used q) → Among r (tree_nodes n root) → (k : ℕ)
+          → Among k (Rattle.frozen_btree.specs.Ways.keys_below n r) → BlockIsVisited at field v k → ⊥
+      vector_node_next root is_then after there k below visited =
+          elim (Among-append r (tree_nodes m base) (map (λ p. p.1) (tree_pairs m base)) (subst (λ form. Among r (postings_reach m form)) form_is o.among)) [
+            | inl node ↦ (
+                let both = keys_both m n Was Used words.each nat_cmp by_number base posting_was.0 node_was nat_cmp by_number root is_then after r node there in
+                clear_was.nodes r node in_victim k (subst (Among k) both below) visited
+                )
+            | inr block ↦ (
+                let wide = node_size n nat_cmp by_number root is_then r there in
+                let size = block_size m (tree_pairs m base) posting_was.2 r block in
+                let same = ap length same_words in
+                omega (arith, wide, size, same)
+                )
+          ]
+
+      vector_block_next : (k : ℕ) → list_block m o.pair.1 k ≡ Some r → BlockIsVisited at field v k → ⊥
+      vector_block_next k at_block visited = clear_was.blocks k r (sym (ap (λ f. form_block m f k) form_is) ∙ at_block) visited in_victim
+
+  module _ (p : ℕ × ℕ) (there : IsIn p values_then) where
+    pair_is : IsValuePair n p
+    pair_is = all_in (IsValuePair n) values_then next_is.index_is.pairs p there
+
+    list_used : (r : ℕ) → Among r (postings_reach n (list_form p.1)) → Used r
+    list_used r among = used r (list_owned kind n next_documents next_dictionary p r there among)
+
+    -- a list that is no bit vector
+    plain_was : IsPlain p.1 → (r : ℕ) → Among r (postings_reach n (list_form p.1)) → buffer_of bits r ≡ victim → (o : OldList (value_then p) r) → IsPlain o.pair.1
+    plain_was plain r among in_victim o = plain_of o.pair.1 (same_form p there r among in_victim o ∙ no_vector p.1 plain)
+
+    plain_next : IsPlain p.1 → ListIsCleared bits victim at field n (value_then p) (list_form p.1)
+    plain_next plain = elim (form_of p.1 plain) [
+      | is_short e ↦ subst (ListIsCleared bits victim at field n (value_then p)) (sym e) (λ visited in_victim.
+          let among : Among (p.1 / 2) (postings_reach n (list_form p.1)) = subst (λ form. Among (p.1 / 2) (postings_reach n form)) (sym e) (inl refl) in
+          let o = came p there (p.1 / 2) among in_victim in
+          short_next (value_then p) (p.1 / 2) (list_used (p.1 / 2) among) in_victim o (plain_was plain (p.1 / 2) among in_victim o)
+          (subst (IsPostingList n) e (pair_is.list_is.form pair_is.some)) visited)
+      | is_tree e ↦ subst (ListIsCleared bits victim at field n (value_then p)) (sym e) (λ node inside in_victim key below visited.
+          let after : (q : ℕ) → Among q (tree_nodes n (p.1 / 2)) → Used q =
+          λ q among. list_used q (subst (λ form. Among q (postings_reach n form)) (sym e) among) in
+          let among = subst (λ form. Among node (postings_reach n form)) (sym e) inside in
+          let o = came p there node among in_victim in
+          node_next (value_then p) node (after node inside) in_victim o (plain_was plain node among in_victim o)
+          (p.1 / 2) (subst (IsPostingList n) e (pair_is.list_is.form pair_is.some)).0 after inside key below visited)
+    ]
+
+    -- a bit vector
+    module _ (dense : is_vector p.1 ≡ true) where
+      abbrev top : ℕ
+      top = p.1 - 8589934592
+
+      form_then : list_form p.1 ≡ vector top
+      form_then = form_vector p.1 top (counted_from p.1 dense)
+
+      posting_then : IsPostingList n (vector top)
+      posting_then = subst (IsPostingList n) form_then (pair_is.list_is.form pair_is.some)
+
+      inside_list : (r : ℕ) → Among r (postings_reach n (vector top)) → Among r (postings_reach n (list_form p.1))
+      inside_list r among = subst (λ form. Among r (postings_reach n form)) (sym form_then) among
+
+      node_inside : (r : ℕ) → Among r (tree_nodes n top) → Among r (postings_reach n (list_form p.1))
+      node_inside r among = inside_list r (among_left r (tree_nodes n top) (map (λ q. q.1) (tree_pairs n top)) among)
+
+      block_inside : (r : ℕ) → Among r (map (λ q. q.1) (tree_pairs n top)) → Among r (postings_reach n (list_form p.1))
+      block_inside r among = inside_list r (among_right r (tree_nodes n top) (map (λ q. q.1) (tree_pairs n top)) among)
+
+      block_next : (k r : ℕ) → block_at n top k ≡ Some r → BlockIsVisited at field (value_then p) k → buffer_of bits r ≢ victim
+      block_next k r at_block visited in_victim =
+          let among = block_inside r (block_value n top k r at_block) in
+          let o = came p there r among in_victim in
+          let began = lies r (list_used r among) in_victim in
+          let now : list_block n (list_word (value_then p) n next_dictionary) k ≡ Some r =
+          ap (λ w. list_block n w k) (word_is p there) ∙ ap (λ f. form_block n f k) form_then ∙ at_block in
+          let before = (flows.index.blocks (value_then p) (value_typed type (n p.0))).blocks.each k r now began in
+          vector_block_next (value_then p) r (list_used r among) in_victim o (same_form p there r among in_victim o ∙ dense) k
+          (sym (ap (λ w. list_block m w k) o.word) ∙ before) visited
+
+      vector_next : ListIsCleared bits victim at field n (value_then p) (list_form p.1)
+      vector_next = subst (ListIsCleared bits victim at field n (value_then p)) (sym form_then) (record {
+        nodes = λ node inside in_victim k below visited.
+            let among = node_inside node inside in
+            let o = came p there node among in_victim in
+            vector_node_next (value_then p) node (list_used node among) in_victim o (same_form p there node among in_victim o ∙ dense) top posting_then.0
+            (λ q within. list_used q (node_inside q within)) inside k below visited;
+        blocks = block_next;
+      })
+
+    list_next : ListIsCleared bits victim at field n (value_then p) (list_form p.1)
+    list_next = told (is_vector p.1) refl
+      where
+        told : (t : Bool) → is_vector p.1 ≡ t → ListIsCleared bits victim at field n (value_then p) (list_form p.1)
+        told true is_dense = vector_next is_dense
+        told false is_plain = plain_next (plain_of p.1 is_plain)
 
   -- ---- nodes
   values_next : NodesAreCleared bits victim n (λ r. IsVisited at field NODES (plan.Value (stored_value type n r))) next_dictionary

@@ -1,5 +1,5 @@
 -- What was cleared, at another place that visits no more.
-use Rattle.std.proofs.Common.{◌≡◌, ◌≢◌, ℕ, ◌<◌, List, [], ◌∷◌, ◌++◌, map, length, None, false, inl, inr, refl, sym, ap, subst, ◌∙◌, arith, nat_cmp}
+use Rattle.std.proofs.Common.{◌≡◌, ◌≢◌, ℕ, ◌*◌, ◌<◌, List, [], ◌∷◌, ◌++◌, map, length, None, false, inl, inr, refl, sym, ap, subst, ◌∙◌, arith, nat_cmp}
 use Rattle.std.specs.Prelude.{slice_get}
 use Rattle.std.specs.List.{flat_map}
 use Rattle.std.proofs.lemmas.Option.{slice_get_within}
@@ -24,6 +24,7 @@ use Rattle.attr_types.specs.declared.value.Value.{Value}
 use Rattle.compaction_moves.specs.DocumentMoves.{AreItemsApart}
 use Rattle.attr_compaction.specs.PhaseKeys.{document_keys, form_docs, key_past, keys_of_pairs, phase_keys, value_keys}
 use Rattle.compaction_moves.proofs.PlanVisits.{end_visited, others_visited, stage_visited}
+use Rattle.compaction_moves.proofs.BlockLemmas.{block_key, start_in}
 use Rattle.compaction_moves.proofs.IndexClauses.{key_left, key_right}
 use Rattle.compaction_moves.specs.Visits.{place_at_key, IsAmongKeys}
 use Rattle.value_index.specs.Indexes.{IsValuePair}
@@ -83,7 +84,11 @@ module _ (bits victim field : ℕ) (at next : PlanPlace) (m : Records) where
   list_fewer value (short ref) is fewer cleared = λ visited. cleared (fewer 0 (inl refl) visited)
   list_fewer value (tree root) is fewer cleared =
       λ node there in_victim key below visited. cleared node there in_victim key below (fewer key (keys_in_tree m nat_cmp by_number root is.0 node key there below) visited)
-  list_fewer value (vector root) is fewer cleared = absurd cleared
+  list_fewer value (vector root) is fewer cleared = record {
+    nodes = λ node there in_victim k below visited. cleared.nodes node there in_victim k below
+        (fewer (4096 * k) (start_in k (tree_pairs m root) (keys_in_tree m nat_cmp by_number root is.0 node k there below)) visited);
+    blocks = λ k r at_block visited. cleared.blocks k r at_block (fewer (4096 * k) (start_in k (tree_pairs m root) (block_key m root k r at_block)) visited);
+  }
 
   module _ (kind : Kind) (type : ValueType) (documents dictionary : ℕ) (is : IsField kind type m documents dictionary)
       (fewer : (phase : ℕ) (k : PlanKey) → phase < PHASES → is_start k ≡ false → IsAmongKeys k (phase_keys type m documents dictionary phase)

@@ -22,10 +22,16 @@ use Rattle.store_api.proofs.Uses.{used_has}
 use Rattle.compaction_moves.specs.IndexMoves.{IsKeyIn}
 use Rattle.attr_field.specs.Documents.{documents_refer}
 use Rattle.attr_images.specs.Documents.{column_at}
-use Rattle.attr_index.specs.Columns.{Column}
-use Rattle.compaction_moves.specs.Counts.{key_nodes, one_record, MakesKey}
+use Rattle.attr_index.specs.Columns.{documents_with, Column}
+use Rattle.attr_index.specs.Index.{list_of}
+use Rattle.compaction_moves.specs.Counts.{most_nodes, one_record, MakesKey}
 use Rattle.value_index.specs.Counts.{by_width}
 use Rattle.attr_field.specs.Fields.{field_part, IsField}
+use Rattle.attr_field.specs.Forms.{wants}
+use Rattle.attr_images.specs.Postings.{index_of}
+use Rattle.attr_types.specs.declared.value.Value.{Value}
+use Rattle.posting_store.specs.Lists.{AreOnes}
+use Rattle.value_index.specs.Forms.{IsOfForm, IsPlainIndex}
 use Rattle.compaction_moves.specs.Cleared.{IsCleared, IsClearedField}
 use Rattle.compact_steps.specs.StepsLaws.{OthersStayCleared, StayLeavesCleared}
 use Rattle.attr_compaction.specs.Places.{PlanPlace, PlanView}
@@ -38,15 +44,15 @@ use Rattle.attr_types.specs.declared.kind.ValueType.{ValueType}
 use Rattle.attr_field.proofs.CopyLemmas.{refers_some}
 use Rattle.attr_compaction.specs.PhaseKeys.{key_past, phase_keys, HasType}
 use Rattle.attr_steps.specs.Calls.{KeepsStore}
-use Rattle.attr_steps.specs.Fields.{AllReferBeside, HoldsAttributes, IsFieldAt, part_of, parts_of, root_entries}
+use Rattle.attr_steps.specs.Fields.{AllReferBeside, HoldsAttributes, IsFieldAt, IsOfFormAt, part_of, parts_of, root_entries}
 use Rattle.attr_steps.proofs.Columns.{FieldLaws}
 use Rattle.attr_steps.proofs.CountLemmas.{spares_among}
 use Rattle.attr_steps.proofs.PartLists.{count_at}
 use Rattle.attr_steps.proofs.Referring.{RefersAt, all_weaker}
 use Rattle.attr_steps.proofs.TreeLists.{get_set-same, set_length}
 use Rattle.compaction_moves.specs.FieldMoves.{HasBegun, MovesField}
-use Rattle.compact_steps.specs.Units.{keys_at, CompactsTo, HasActive, IsUnderWay, SparesBelow}
-use Rattle.compact_steps.proofs.KeyLemmas.{all_keep, keys_stay, next_fits}
+use Rattle.compact_steps.specs.Units.{keys_at, CompactsTo, HasActive, IsUnderWay, KeepsKeys, SparesBelow}
+use Rattle.compact_steps.proofs.KeyLemmas.{all_keep, keeps_stay, keeps_then, next_fits}
 use Rattle.compact_steps.proofs.Moving.{MovesPart, all_stay, mid_are, new_holds, new_table, other_stays}
 
 -- what the move of one key asks for
@@ -138,13 +144,12 @@ module _ {H : Type 0} (bits : ℕ) (old : Ledger H) (m : Records) (fields : List
     new_cleared : IsCleared bits plan.victim place o after
     new_cleared j c there = stays bits plan.victim j place n o c (AllByRecursion-slice_get (IsFieldAt n) after j c mid_each there) (one_stays after parts_stay j c there) (mid_cleared j c there)
 
-    mid_keys : (j : ℕ) (c d : AttributeTrees) → slice_get trees j ≡ Some c → slice_get after j ≡ Some d → (phase : ℕ) → keys_at n d phase ≡ keys_at m c phase
-    mid_keys j c d here there phase = elim (cases_eq j i) [
+    mid_keys : (j : ℕ) (c d : AttributeTrees) → slice_get trees j ≡ Some c → slice_get after j ≡ Some d → KeepsKeys m n c d
+    mid_keys j c d here there = elim (cases_eq j i) [
       | inl e ↦ (let first : a ≡ c = same_Some a c (sym at ∙ ap (slice_get trees) (sym e) ∙ here) in
-          subst (λ (x : AttributeTrees). keys_at n d phase ≡ keys_at m x phase) first
-          (subst (λ (y : AttributeTrees). keys_at n y phase ≡ keys_at m a phase) (is_b j d e there) (part.keys phase)))
+          subst (λ (x : AttributeTrees). KeepsKeys m n x d) first (subst (λ (y : AttributeTrees). KeepsKeys m n a y) (is_b j d e there) part.keys))
       | inr apart ↦ (let same : c ≡ d = same_Some c d (sym here ∙ was j d apart there) in
-          subst (λ (y : AttributeTrees). keys_at n y phase ≡ keys_at m c phase) same (keys_stay m n c (apart_stays j c apart here) phase))
+          subst (λ (y : AttributeTrees). KeepsKeys m n c y) same (keeps_stay m n c (apart_stays j c apart here)))
     ]
 
     typed : IfSome (slice_get after i) (λ c. HasType c.type key)
@@ -163,7 +168,7 @@ module _ {H : Type 0} (bits : ℕ) (old : Ledger H) (m : Records) (fields : List
         cleared = new_cleared;
       };
       table = new_table laws bits plan.victim (record old { unit = true }) mid m n fields trees root i a b at holds.are_fields begun_owns begun_refer part new o accepts;
-      keys = all_keep m o trees after (set_length trees i b) (λ j c d here there phase. keys_stay n o d (one_stays after parts_stay j d there) phase ∙ mid_keys j c d here there phase);
+      keys = all_keep m o trees after (set_length trees i b) (λ j c d here there. keeps_then m n o c d d (mid_keys j c d here there) (keeps_stay n o d (one_stays after parts_stay j d there)));
     }
 
 -- ---- what the move says, as of the state before the unit
@@ -172,25 +177,44 @@ key_lies bits victim dictionary m [] all r among = absurd among
 key_lies bits victim dictionary m (q ∷ left) all r (inl e) = ap (buffer_of bits) e ∙ all.0.lies
 key_lies bits victim dictionary m (q ∷ left) all r (inr later) = key_lies bits victim dictionary m left all.1 r later
 
-part_moved : {H : Type 0} (bits victim : ℕ) (old mid : Ledger H) (m n : Records) (a b : AttributeTrees) → b.kind ≡ a.kind → b.type ≡ a.type
+-- the index is of the same form, since it has the same lists
+form_moved : (m n : Records) (a b : AttributeTrees) → b.kind ≡ a.kind → b.type ≡ a.type → IsFieldAt m a → IsField a.kind a.type n b.documents b.dictionary
+    → column_at a.kind a.type n b.documents ≡ column_at a.kind a.type m a.documents → (IsPlainIndex m a.dictionary → IsPlainIndex n b.dictionary) → (dense : Bool)
+    → IsOfFormAt dense m a → IsOfFormAt dense n b
+form_moved m n a b kind type was now column plain dense is =
+    subst (λ (k : Kind). IsOfForm (wants dense k) b.type n b.dictionary) (sym kind)
+    (subst (λ (t : ValueType). IsOfForm (wants dense a.kind) t n b.dictionary) (sym type)
+    (record {
+      ones = λ wanted value. subst AreOnes (sym (same value)) (is.ones wanted value);
+      plain = λ off. plain (is.plain off);
+    }))
+  where
+    same : (value : Value) → list_of value (index_of a.type n b.dictionary) ≡ list_of value (index_of a.type m a.dictionary)
+    same value = now.index_of_documents.lists value ∙ ap (documents_with value) column ∙ sym (was.index_of_documents.lists value)
+
+part_moved : {H : Type 0} (bits victim : ℕ) (old mid : Ledger H) (m n : Records) (a b : AttributeTrees) → b.kind ≡ a.kind → b.type ≡ a.type → IsFieldAt m a
     → MovesField bits victim a.kind a.type old mid m n a.documents a.dictionary b.documents b.dictionary → MovesPart bits victim old mid m n a b
-part_moved bits victim old mid m n a b kind type moves = record {
+part_moved bits victim old mid m n a b kind type was moves = record {
   left = moves.left;
   left_in = key_lies bits victim a.dictionary m moves.left moves.left_in;
   is_field = subst (λ (k : Kind). IsField k b.type n b.documents b.dictionary) (sym kind)
       (subst (λ (t : ValueType). IsField a.kind t n b.documents b.dictionary) (sym type) moves.field_is);
   column_is = ap (λ (k : Kind). column_at k b.type n b.documents) kind ∙ ap (λ (t : ValueType). column_at a.kind t n b.documents) type ∙ moves.column_is;
   refers = λ r among. moves.refers r (subst (λ (k : Kind). Among r (documents_refer k n b.documents)) kind among);
-  keys = λ phase. ap (λ (t : ValueType). phase_keys t n b.documents b.dictionary phase) type ∙ moves.keys_are phase;
+  keys = record {
+    keys = λ phase. ap (λ (t : ValueType). phase_keys t n b.documents b.dictionary phase) type ∙ moves.keys_are phase;
+    plain = moves.plain;
+    form = form_moved m n a b kind type was moves.field_is moves.column_is moves.plain;
+  };
   turns = subst (λ (k : Kind). Turns old mid m n (part_of a ∷ []) (field_part k b.documents b.dictionary ∷ entries moves.left ∷ [])) (sym kind) moves.turns;
 }
 
 pub part_begun : {H : Type 0} (bits victim : ℕ) (old begun mid : Ledger H) (m k n : Records) (a b : AttributeTrees) → b.kind ≡ a.kind → b.type ≡ a.type
-    → begun ≡ record old { unit = true } → k ≡ m
+    → begun ≡ record old { unit = true } → k ≡ m → IsFieldAt k a
     → MovesField bits victim a.kind a.type begun mid k n a.documents a.dictionary b.documents b.dictionary → MovesPart bits victim (record old { unit = true }) mid m n a b
-part_begun bits victim old begun mid m k n a b kind type begins records moves =
+part_begun bits victim old begun mid m k n a b kind type begins records was moves =
     subst (λ (l : Ledger _). MovesPart bits victim l mid m n a b) begins
-    (subst (λ (f : Records). MovesPart bits victim begun mid f n a b) records (part_moved bits victim begun mid k n a b kind type moves))
+    (subst (λ (f : Records). MovesPart bits victim begun mid f n a b) records (part_moved bits victim begun mid k n a b kind type was moves))
 
 -- ---- the width of a full store
 -- a record of it was in use as the unit began, and so it is again: it lies in an active buffer
@@ -209,18 +233,18 @@ active_begun bits old begun mid new m k o (Full width active held oldest) begins
 active_begun bits old begun mid new m k o Memory begins records recorded left placed refuses = tt
 
 -- ---- what a full store has to spare
-few_below : (width w : ℕ) → by_width (key_nodes 8) (one_record width) w < 34
+few_below : (width w : ℕ) → by_width most_nodes (one_record width) w < 34
 few_below width w = told (nat_eq w 34) (nat_eq w width)
   where
-    told : (t u : Bool) → cond t 25 (cond u 1 0) < 34
+    told : (t u : Bool) → cond t 27 (cond u 1 0) < 34
     told true u = omega arith
     told false true = omega arith
     told false false = omega arith
 
-pub spares_begun : {H : Type 0} (among : ℕ → Type 0) (kind : Kind) (type : ValueType) (column : Column) (old begun mid new : Ledger H) → begun ≡ record old { unit = true }
-    → MakesKey kind type column begun mid → (m o : Records) (e : StoreError) → IsSettled old m → RefusesOf among begun mid e → Undoes mid new o → SparesBelow new 34 e
+pub spares_begun : {H : Type 0} {plain : Type 0} (among : ℕ → Type 0) (kind : Kind) (type : ValueType) (column : Column) (old begun mid new : Ledger H) → begun ≡ record old { unit = true }
+    → MakesKey plain kind type column begun mid → (m o : Records) (e : StoreError) → IsSettled old m → RefusesOf among begun mid e → Undoes mid new o → SparesBelow new 34 e
 spares_begun among kind type column old begun mid new begins made m o (Full w active held oldest) settled refuses undoes =
-    let spare = spares_among old begun mid new (by_width (key_nodes 8) (one_record made.width)) begins made.counts among m o (Full w active held oldest) settled refuses undoes in
+    let spare = spares_among old begun mid new (by_width most_nodes (one_record made.width)) begins made.counts among m o (Full w active held oldest) settled refuses undoes in
     let few = few_below made.width w in
     omega (arith, spare, few)
 spares_begun among kind type column old begun mid new begins made m o Memory settled refuses undoes = tt

@@ -25,7 +25,7 @@ use Rattle.attr_steps.proofs.StepLemmas.{keeps_same}
 use Rattle.attr_steps.specs.Calls.{KeepsStore, LeavesEntries, RefusesUnit}
 use Rattle.attr_steps.specs.Fields.{HoldsAttributes, IsFieldAt}
 use Rattle.attr_steps.specs.Views.{table_at}
-use Rattle.compact_steps.proofs.KeyLemmas.{same_keys}
+use Rattle.compact_steps.proofs.KeyLemmas.{keeps_then, keys_of_all, same_keys}
 use Rattle.compact_steps.specs.Units.{keys_at, next_at, GoesOn, IsUnderWay, KeepKeys}
 use Rattle.compact_steps.specs.declared.unit.Turn.{Turn}
 use Rattle.compact_steps.specs.declared.unit.Turn.TheVariants.{Moved, PhaseOver}
@@ -72,7 +72,7 @@ refused_since old mid new Memory fewer room = tt
 
 keys_then : (m k n : Records) (trees next after : List AttributeTrees) → KeepKeys m k trees next → KeepKeys k n next after → KeepKeys m n trees after
 keys_then m k n [] [] [] one two = tt
-keys_then m k n (a ∷ trees) (b ∷ next) (d ∷ after) one two = (λ phase. two.0 phase ∙ one.0 phase, keys_then m k n trees next after one.1 two.1)
+keys_then m k n (a ∷ trees) (b ∷ next) (d ∷ after) one two = (keeps_then m k n a b d one.0 two.0, keys_then m k n trees next after one.1 two.1)
 keys_then m k n [] [] (d ∷ after) one two = absurd two
 keys_then m k n [] (b ∷ next) after one two = absurd one
 keys_then m k n (a ∷ trees) [] after one two = absurd one
@@ -226,9 +226,9 @@ module _ {H : Type 0} (bits root : ℕ) (fields : List Field) where
           let there = subst (λ (f : ℕ). to.place.stage.field < f) visits.under_way.all within in
           let more = turn_counts k next from.place to.place visits.holds.are_fields.each there few visits.rises o is in
           ap (λ (p : PlanPlace). keys_between from.place p m trees) (goes.place ∙ ap (λ (f : ℕ). place_after f to.place (unwrap_or o Start)) visits.under_way.all)
-          ∙ sym (same_between m k trees next from.place (place_after (length next) to.place (unwrap_or o Start)) visits.keep)
+          ∙ sym (same_between m k trees next from.place (place_after (length next) to.place (unwrap_or o Start)) (keys_of_all m k trees next visits.keep))
           ∙ more
-          ∙ ap (λ (c : ℕ). one_of o + c) (same_between m k trees next from.place to.place visits.keep ∙ visits.count)
+          ∙ ap (λ (c : ℕ). one_of o + c) (same_between m k trees next from.place to.place (keys_of_all m k trees next visits.keep) ∙ visits.count)
 
       visits_more : Visits bits root old new m n fields trees after from at (one_of o + visited)
       visits_more = record {

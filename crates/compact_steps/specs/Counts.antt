@@ -7,7 +7,7 @@ use Rattle.attr_types.specs.Table.{Table}
 use Rattle.attr_types.specs.declared.field.Field.{Field}
 use Rattle.attr_types.specs.declared.kind.Kind.TheVariants.{Single}
 use Rattle.attr_types.specs.declared.kind.ValueType.TheVariants.{Long}
-use Rattle.compaction_moves.specs.Counts.{key_nodes, IsLowColumn}
+use Rattle.compaction_moves.specs.Counts.{key_nodes, most_nodes, IsLowColumn}
 use Rattle.value_index.specs.Counts.{by_width, record_sum}
 
 -- of each width at most this many entries were made, and at most this many buffers were taken
@@ -23,12 +23,12 @@ AreSingleLong fields = AllByRecursion (λ field. (field.kind ≡ Single) × (fie
 abbrev pub AreLow : ℕ → List Field → Table → Type 0
 AreLow levels fields table = (field : ℕ) → field < length fields → IsLowColumn levels (column_of field table)
 
--- bounds for this many keys of attributes with this table: for each key the nodes of its move, for any trees and for
--- trees with a bounded number of levels, and one other record, which for attributes of kind single with long values
--- has at most 16 words
-pub record MakesKeys {H : Type 0} (fields : List Field) (table : Table) (old new : Ledger H) (keys : ℕ) : Type 0 where
+-- bounds for this many keys of attributes with this table: for each key the nodes of its move and one other record. If no
+-- list is a bit vector (`plain`), then nodes by the levels of trees, and records of at most 16 words for attributes of kind
+-- single with long values
+pub record MakesKeys {H : Type 0} (plain : Type 0) (fields : List Field) (table : Table) (old new : Ledger H) (keys : ℕ) : Type 0 where
   pub records : ℕ → ℕ
   pub few : record_sum records ≤ keys
-  pub narrow : AreSingleLong fields → (width : ℕ) → 16 < width → records width ≡ 0
-  pub counts : RisesBy old new (by_width (key_nodes 8 * keys) records)
-  pub low : (levels : ℕ) → AreLow levels fields table → RisesBy old new (by_width (key_nodes levels * keys) records)
+  pub narrow : plain → AreSingleLong fields → (width : ℕ) → 16 < width → records width ≡ 0
+  pub counts : RisesBy old new (by_width (most_nodes * keys) records)
+  pub low : plain → (levels : ℕ) → AreLow levels fields table → RisesBy old new (by_width (key_nodes levels * keys) records)

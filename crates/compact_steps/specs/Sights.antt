@@ -9,7 +9,6 @@ use Rattle.attr_images.specs.Postings.{ListForm, short, tree, vector, list_form}
 use Rattle.attr_images.specs.Values.{IsValueRecord}
 use Rattle.attr_types.specs.declared.kind.Kind.{Kind}
 use Rattle.attr_types.specs.declared.kind.ValueType.{ValueType}
-use Rattle.posting_store.specs.Lists.{IsPlain}
 use Rattle.compaction_moves.specs.DocumentMoves.{AreItemsApart}
 use Rattle.compact_steps.specs.declared.sights.Sight.{Sight}
 use Rattle.compact_steps.specs.declared.sights.Sight.TheVariants as sights
@@ -34,7 +33,7 @@ pub record HasItemRecords (kind : Kind) (type : ValueType) (m : Records) (p : �
 abbrev pub IsPairOf : Kind → ValueType → Records → Sight → ℕ × ℕ → Type 0
 IsPairOf kind type m sights.Key p = IsValueRecord type (m p.0)
 IsPairOf kind type m sights.Items p = HasItemRecords kind type m p
-IsPairOf kind type m sights.List p = IsPlain p.1
+IsPairOf kind type m sights.List p = Unit {0}
 
 -- the first `count` pairs have the property, and the last of them has this key
 pub record IsRun (P : ℕ × ℕ → Type 0) (pairs : List (ℕ × ℕ)) (count last : ℕ) : Type 0 where

@@ -1,6 +1,6 @@
 -- A compaction of attributes in progress, and the effect of one turn.
-use Rattle.std.specs.Prelude.{◌≡◌, ℕ, ◌<◌, true, List, length, slice_get, Option, None, Some, unwrap_or}
-use Rattle.std.specs.List.{AllZip}
+use Rattle.std.specs.Prelude.{◌≡◌, ℕ, ◌<◌, Bool, true, List, length, slice_get, Option, None, Some, unwrap_or}
+use Rattle.std.specs.List.{AllByRecursion, AllZip}
 use Rattle.std.specs.Option.{IfSome, option_and_then}
 use Rattle.std.specs.declared.cmp.Ordering.TheVariants.{Less}
 use Rattle.entry_ref.specs.Records.{Records}
@@ -15,8 +15,9 @@ use Rattle.attr_compaction.specs.declared.plan.PlanKey.TheVariants.{Start}
 use Rattle.attr_images.specs.Tables.{AttributeTrees}
 use Rattle.attr_types.specs.declared.field.Field.{Field}
 use Rattle.attr_compaction.specs.PhaseKeys.{key_past, phase_keys, HasType}
+use Rattle.value_index.specs.Forms.{IsPlainIndex}
 use Rattle.compact_steps.specs.Passes.{GoesThrough}
-use Rattle.attr_steps.specs.Fields.{HoldsAttributes}
+use Rattle.attr_steps.specs.Fields.{HoldsAttributes, IsOfFormAt}
 use Rattle.attr_steps.specs.Views.{table_at}
 use Rattle.compact_steps.specs.declared.unit.Turn.{Turn}
 use Rattle.compact_steps.specs.declared.unit.Turn.TheVariants.{Moved, PhaseOver}
@@ -63,9 +64,20 @@ pub record PassesKeys (m : Records) (trees : List AttributeTrees) (old new : Pla
   pub count_is : length passed ≡ count
   pub through : GoesThrough (keys_at m tree old.place.stage.phase) old.place.key passed new.place.key
 
--- each attribute has the same keys in each phase as before
+-- an attribute has the same keys in each phase as another, and no list that is a bit vector if that one has none. It is
+-- of the same form for the flag for bit vectors
+pub record KeepsKeys (m n : Records) (a b : AttributeTrees) : Type 0 where
+  pub keys : (phase : ℕ) → keys_at n b phase ≡ keys_at m a phase
+  pub plain : IsPlainIndex m a.dictionary → IsPlainIndex n b.dictionary
+  pub form : (dense : Bool) → IsOfFormAt dense m a → IsOfFormAt dense n b
+
+-- so does each attribute
 abbrev pub KeepKeys : Records → Records → List AttributeTrees → List AttributeTrees → Type 0
-KeepKeys m n trees next = AllZip (λ a b. (phase : ℕ) → keys_at n b phase ≡ keys_at m a phase) trees next
+KeepKeys m n trees next = AllZip (KeepsKeys m n) trees next
+
+-- no list of these attributes is a bit vector
+abbrev pub ArePlain : Records → List AttributeTrees → Type 0
+ArePlain m trees = AllByRecursion (λ a. IsPlainIndex m a.dictionary) trees
 
 -- attributes replace others: their contents and their keys are the same, and everything up to the plan's place lies
 -- elsewhere

@@ -9,6 +9,7 @@ ghost use Rattle.attr_field.specs.Fields.{IsField};
 ghost use Rattle.attr_images.specs.Values.{stored_value, IsValueRecord};
 ghost use Rattle.attr_types.specs.Value.{type_of};
 ghost use Rattle.enum_dictionary.specs.Dictionaries.{beside_value, IsDictionary};
+ghost use Rattle.posting_store.specs.Lists.{IsPlain};
 ghost use Rattle.attr_compaction.specs.PhaseKeys.{HasType};
 ghost use Rattle.compact_steps.specs.Passes.{CanPass, Passes};
 
@@ -16,7 +17,7 @@ use crate::nodes::{pass_map_nodes, pass_value_nodes};
 use crate::runs::run_from;
 use crate::sights::Sight;
 use arena_api::Frozen;
-use attr_compaction::{DOCUMENTS, KEYS, LISTS, NODES, Plan, PlanKey};
+use attr_compaction::{DOCUMENTS, KEYS, LISTS, NODES, Plan, PlanKey, is_vector};
 use attr_field::FieldRoots;
 use attr_types::{Field, Value, ValueType};
 use entry_ref::EntryRef;
@@ -128,20 +129,34 @@ fn pass_documents<const OFFSET_BITS: u32, F: Frozen<OFFSET_BITS>>(
     })
 }
 
-/// Returns whether the list of a value is a tree, if the value exists.
-fn has_tree<const OFFSET_BITS: u32, F: Frozen<OFFSET_BITS>>(
+/// Returns whether a list is a tree or a bit vector.
+fn is_long(list: u64) -> bool
+    ensures plain { result ≡ false → IsPlain list }
+    ensures even { result ≡ false → list % 2 ≡ 0 }
+{
+    if is_vector(list) {
+        return true;
+    }
+    list % 2 == 1
+}
+
+/// Returns whether the list of a value is a tree or a bit vector, if the value exists.
+fn has_long<const OFFSET_BITS: u32, F: Frozen<OFFSET_BITS>>(
     frozen: &mut F,
     root: EntryRef<OFFSET_BITS>,
     value: &Value,
 ) -> bool
     requires { IsDictionary (type_of value.now) (F.records frozen.old) root }
+    ensures plain { result ≡ false → (p : ℕ × ℕ)
+        → lookup_pair (beside_value value.now (F.records frozen.old)) (tree_pairs (F.records frozen.old) root.entry) ≡ Some p
+        → IsPlain p.1 }
     ensures even { result ≡ false → (p : ℕ × ℕ)
         → lookup_pair (beside_value value.now (F.records frozen.old)) (tree_pairs (F.records frozen.old) root.entry) ≡ Some p
         → p.1 % 2 ≡ 0 }
     ensures same { frozen.new ≡ frozen.old }
 {
     match find(frozen, root, value) {
-        Some(entry) => entry.posting % 2 == 1,
+        Some(entry) => is_long(entry.posting),
         None => false,
     }
 }
@@ -167,7 +182,7 @@ fn pass_lists<const OFFSET_BITS: u32, F: Frozen<OFFSET_BITS>>(
     ensures same { frozen.new ≡ frozen.old }
 {
     let _ = doc;
-    if has_tree(frozen, roots.dictionary, value) {
+    if has_long(frozen, roots.dictionary, value) {
         return None;
     }
     let mut cursor = upper(frozen, roots.dictionary, value);

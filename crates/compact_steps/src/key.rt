@@ -5,6 +5,7 @@ ghost use Rattle.attr_steps.specs.Fields.{HoldsAttributes, IsFieldAt, trees_of, 
 ghost use Rattle.attr_compaction.specs.PhaseKeys.{key_past, HasType};
 ghost use Rattle.attr_images.specs.Documents.{column_at};
 ghost use Rattle.compaction_moves.specs.Counts.{MakesKey};
+ghost use Rattle.value_index.specs.Forms.{IsPlainIndex};
 ghost use Rattle.compact_steps.specs.Units.{keys_at, plan_at, CompactsTo, HasActive, IsUnderWay, SparesBelow};
 
 use crate::{same_law, stage_law};
@@ -69,7 +70,7 @@ pub fn move_unit<const OFFSET_BITS: u32, S: Store<OFFSET_BITS>>(
     ensures left { OnErr result (LeavesEntries (S.ledger store.old) (S.ledger store.new) (S.records store.old) (S.records store.new)) }
     ensures refused { IfErr result (RefusesUnit (S.ledger store.old) (S.ledger store.new)) }
     ensures spares { IfErr result (SparesBelow (S.ledger store.new) 34) }
-    ensures counts { MakesKey field.now.kind field.now.value
+    ensures counts { MakesKey (IsPlainIndex (S.records store.old) own.entry.dictionary) field.now.kind field.now.value
         (column_at field.now.kind field.now.value (S.records store.old) own.entry.documents) (S.ledger store.old) (S.ledger store.new) }
     ensures active { IfErr result (HasActive (S.ledger store.new)) }
     ensures keeps { KeepsStore (S.ledger store.old) (S.ledger store.new) }

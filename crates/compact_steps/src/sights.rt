@@ -2,12 +2,12 @@
 ghost use Rattle.std.specs.Prelude.{◌≡◌, ◌≢◌, ◌<◌, ◌^◌, true};
 ghost use Rattle.entry_ref.specs.References.{buffer_of};
 ghost use Rattle.attr_images.specs.Postings.{list_form};
-ghost use Rattle.posting_store.specs.Lists.{IsPlain};
 ghost use Rattle.attr_images.specs.Documents.{AreItemRecords};
 ghost use Rattle.compaction_moves.specs.DocumentMoves.{AreItemsApart};
 ghost use Rattle.compact_steps.specs.Sights.{StandsApart, IsPairOf, IsRecordApart};
 
 use arena_api::Frozen;
+use attr_compaction::is_vector;
 use attr_types::{Kind, ValueType};
 use compaction_moves::items_lie;
 use entry_ref::EntryRef;
@@ -30,9 +30,11 @@ fn is_apart<const OFFSET_BITS: u32>(reference: u64, buffer: u32) -> bool
 
 /// Returns whether a list is a single record outside the buffer.
 fn list_is_apart<const OFFSET_BITS: u32>(list: u64, buffer: u32) -> bool
-    requires { IsPlain list }
     ensures { result ≡ true → IsRecordApart OFFSET_BITS buffer (list_form list) }
 {
+    if is_vector(list) {
+        return false;
+    }
     if list % 2 == 1 {
         return false;
     }

@@ -2,9 +2,9 @@
 ghost use Rattle.compact_steps.specs.Counts.{MakesKeys};
 ghost use Rattle.attr_steps.specs.Views.{table_at};
 ghost use Rattle.std.specs.Prelude.{◌≡◌, ◌≤◌, None, length, IfSome};
-ghost use Rattle.attr_steps.specs.Fields.{HoldsAttributes, trees_of};
+ghost use Rattle.attr_steps.specs.Fields.{HoldsAttributes, KeepForms, trees_of};
 ghost use Rattle.attr_types.specs.declared.field.TheConstants.{MOST_FIELDS};
-ghost use Rattle.compact_steps.specs.Units.{IsUnderWay};
+ghost use Rattle.compact_steps.specs.Units.{ArePlain, IsUnderWay};
 ghost use Rattle.compact_steps.specs.Walks.{HasLastField};
 ghost use Rattle.compact_steps.specs.Compactions.{Compacts};
 
@@ -51,8 +51,9 @@ pub fn compact<const OFFSET_BITS: u32, S: Store<OFFSET_BITS>>(
     ensures sized { length roots.new ≡ length fields.now }
     ensures compacts { Compacts OFFSET_BITS root.entry (S.ledger store.old) (S.ledger store.new) (S.records store.old) (S.records store.new)
         fields.now (trees_of fields.now roots.old) (trees_of fields.now roots.new) before result.0 (store.new ≡ store.old) keys result.1 }
-    ensures counts { MakesKeys fields.now (table_at (S.records store.old) (trees_of fields.now roots.old)) (S.ledger store.old)
-        (S.ledger store.new) keys }
+    ensures forms { KeepForms (S.records store.old) (S.records store.new) (trees_of fields.now roots.old) (trees_of fields.now roots.new) }
+    ensures counts { MakesKeys (ArePlain (S.records store.old) (trees_of fields.now roots.old)) fields.now
+        (table_at (S.records store.old) (trees_of fields.now roots.old)) (S.ledger store.old) (S.ledger store.new) keys }
 {
     let Some(mut plan) = open_plan(store, fields, roots, root, before) else {
         return (None, Ok(Step::Idle));

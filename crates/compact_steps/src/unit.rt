@@ -4,7 +4,7 @@ ghost use Rattle.attr_steps.specs.Calls.{KeepsStore, LeavesEntries, RefusesUnit}
 ghost use Rattle.attr_steps.specs.Fields.{HoldsAttributes, trees_of};
 ghost use Rattle.attr_steps.specs.Views.{table_at};
 ghost use Rattle.compact_steps.specs.Counts.{MakesKeys};
-ghost use Rattle.compact_steps.specs.Units.{next_at, GoesOn, HasActive, IsUnderWay, KeepKeys, LeavesAtEnd, SparesBelow};
+ghost use Rattle.compact_steps.specs.Units.{next_at, ArePlain, GoesOn, HasActive, IsUnderWay, KeepKeys, LeavesAtEnd, SparesBelow};
 
 use crate::key::{move_unit, next_of};
 use crate::stage_law;
@@ -55,8 +55,8 @@ pub fn compact_one<const OFFSET_BITS: u32, S: Store<OFFSET_BITS>>(
     ensures left { OnErr result (LeavesEntries (S.ledger store.old) (S.ledger store.new) (S.records store.old) (S.records store.new)) }
     ensures refused { IfErr result (RefusesUnit (S.ledger store.old) (S.ledger store.new)) }
     ensures spares { IfErr result (SparesBelow (S.ledger store.new) 34) }
-    ensures counts { MakesKeys fields.now (table_at (S.records store.old) (trees_of fields.now roots.old)) (S.ledger store.old)
-        (S.ledger store.new) 1 }
+    ensures counts { MakesKeys (ArePlain (S.records store.old) (trees_of fields.now roots.old)) fields.now
+        (table_at (S.records store.old) (trees_of fields.now roots.old)) (S.ledger store.old) (S.ledger store.new) 1 }
     ensures active { IfErr result (HasActive (S.ledger store.new)) }
     ensures keeps { KeepsStore (S.ledger store.old) (S.ledger store.new) }
 {

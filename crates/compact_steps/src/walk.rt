@@ -3,7 +3,7 @@ ghost use Rattle.attr_steps.specs.Views.{table_at};
 ghost use Rattle.std.specs.Prelude.{◌≡◌, ◌<◌, ◌+◌, length, nat_eq, if◌then◌else◌, Ok, Err, Some};
 ghost use Rattle.attr_compaction.specs.declared.plan.TheConstants.{PHASES};
 ghost use Rattle.attr_steps.specs.Fields.{HoldsAttributes, trees_of};
-ghost use Rattle.compact_steps.specs.Units.{IsUnderWay};
+ghost use Rattle.compact_steps.specs.Units.{ArePlain, IsUnderWay};
 ghost use Rattle.compact_steps.specs.Walks.{HasLastField, Walks};
 ghost use Rattle.compact_steps.specs.declared.walk.Walk.TheVariants.{Visited};
 
@@ -58,8 +58,8 @@ pub fn visit_keys<const OFFSET_BITS: u32, S: Store<OFFSET_BITS>>(
     ensures sized { length roots.new ≡ length fields.now }
     ensures walks { Walks OFFSET_BITS root.entry (S.ledger store.old) (S.ledger store.new) (S.records store.old) (S.records store.new)
         fields.now (trees_of fields.now roots.old) (trees_of fields.now roots.new) plan.old plan.new keys result }
-    ensures counts { MakesKeys fields.now (table_at (S.records store.old) (trees_of fields.now roots.old)) (S.ledger store.old)
-        (S.ledger store.new) keys }
+    ensures counts { MakesKeys (ArePlain (S.records store.old) (trees_of fields.now roots.old)) fields.now
+        (table_at (S.records store.old) (trees_of fields.now roots.old)) (S.ledger store.old) (S.ledger store.new) keys }
 {
     let mut done: u32 = 0;
     while done < keys {

@@ -1,5 +1,5 @@
 -- The index beside documents that are moved stays: what is cleared of it is so still.
-use Rattle.std.proofs.Common.{◌≡◌, ◌≢◌, ℕ, sym, subst}
+use Rattle.std.proofs.Common.{◌≡◌, ◌≢◌, ℕ, ◌*◌, sym, subst, ◌∙◌}
 use Rattle.std.specs.List.{AllByRecursion}
 use Rattle.entry_ref.proofs.Among.{SameAt-among}
 use Rattle.list_facts.proofs.Each.{AllByRecursion-and}
@@ -18,8 +18,9 @@ use Rattle.attr_compaction.specs.Places.{PlanPlace}
 use Rattle.attr_compaction.specs.declared.plan.PlanKey.{PlanKey}
 use Rattle.attr_compaction.specs.declared.plan.PlanKey.TheVariants as plan
 use Rattle.attr_compaction.specs.declared.plan.TheConstants.{KEYS, LISTS, NODES}
-use Rattle.compaction_moves.specs.Cleared.{IsVisited, ListIsCleared, NodesAreCleared}
+use Rattle.compaction_moves.specs.Cleared.{BlockIsVisited, IsVisited, ListIsCleared, NodesAreCleared}
 use Rattle.compaction_moves.proofs.BelowLemmas.{nodes_stay}
+use Rattle.compaction_moves.proofs.BlockLemmas.{block_same, nodes_of_vector}
 
 -- of a phase nothing more was visited at the next place
 abbrev pub NoMore : PlanPlace → PlanPlace → ℕ → ℕ → Type 0
@@ -56,7 +57,13 @@ module _ (bits victim field : ℕ) (at next : PlanPlace) (m n : Records) (type :
   list_stays still value (tree list) are words was =
       nodes_stay bits victim m n list are.0.node words (λ doc. IsVisited at field LISTS (plan.Pair value doc)) (λ doc. IsVisited next field LISTS (plan.Pair value doc))
       (λ doc among visited. still (plan.Pair value doc) visited) was
-  list_stays still value (vector list) are words was = was
+  list_stays still value (vector list) are words was =
+      let inner = nodes_of_vector m n list words in
+      record {
+        nodes = nodes_stay bits victim m n list are.0.node inner (BlockIsVisited at field value) (BlockIsVisited next field value)
+            (λ k among visited. still (plan.Pair value (4096 * k)) visited) was.nodes;
+        blocks = λ k r there visited. was.blocks k r (sym (block_same m n list k inner) ∙ there) (still (plan.Pair value (4096 * k)) visited);
+      }
 
   abbrev ListWas : ℕ × ℕ → Type 0
   ListWas p = ListIsCleared bits victim at field m (stored_value type m p.0) (list_form p.1)

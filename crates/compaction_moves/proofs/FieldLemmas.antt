@@ -8,7 +8,7 @@ use Rattle.store_api.specs.Ledgers.{Ledger}
 use Rattle.store_api.specs.Parts.{After, Owns, Turns, entries, times}
 use Rattle.store_api.proofs.PartLemmas.{after, owns-some, turns-as}
 use Rattle.store_api.proofs.Times.{times-append}
-use Rattle.tree_read.specs.ProofsForTrees.{SameAt-left, SameAt-right}
+use Rattle.tree_read.specs.ProofsForTrees.{SameAt-left, SameAt-right, tree_pairs-same}
 use Rattle.tree_read.specs.Trees.{tree_nodes, tree_pairs}
 use Rattle.frozen_btree.specs.Changes.{tree}
 use Rattle.attr_field.specs.DocumentsChanges.{pairs_own}
@@ -24,6 +24,8 @@ use Rattle.attr_types.specs.declared.kind.Kind.{Kind}
 use Rattle.attr_types.specs.declared.kind.ValueType.{ValueType}
 use Rattle.compaction_moves.specs.IndexMoves.{IsKeyIn}
 use Rattle.attr_compaction.specs.PhaseKeys.{phase_keys}
+use Rattle.posting_store.specs.Lists.{IsPlain}
+use Rattle.value_index.specs.Forms.{IsPlainIndex}
 use Rattle.value_index.specs.Indexes.{index_part, index_reach, IsIndex, IsKey}
 use Rattle.value_index.specs.Laws.{IndexStays}
 use Rattle.value_index.proofs.IndexLemmas.{keys_same, pair_reach}
@@ -72,8 +74,8 @@ module _ {H : Type 0} (bits buffer : ℕ) (kind : Kind) (type : ValueType) (a b 
     column_same = documents_are.1
 
     pub index_moved : ((phase : ℕ) → phase_keys type n documents next phase ≡ phase_keys type m documents dictionary phase)
-        → MovesField bits buffer kind type a b m n documents dictionary documents next
-    index_moved keys_are = record {
+        → (IsPlainIndex m dictionary → IsPlainIndex n next) → MovesField bits buffer kind type a b m n documents dictionary documents next
+    index_moved keys_are plain = record {
       left = left;
       left_in = left_in;
       field_is = record {
@@ -84,6 +86,7 @@ module _ {H : Type 0} (bits buffer : ℕ) (kind : Kind) (type : ValueType) (a b 
       };
       column_is = documents_are.1;
       keys_are = keys_are;
+      plain = plain;
       refers = λ r among. let was = subst (Among r) documents_are.2 among in elim (refers.each r was) [
         | inl key ↦ elim (keys r key) [
           | inl still ↦ inl still
@@ -127,6 +130,8 @@ module _ {H : Type 0} (bits buffer : ℕ) (kind : Kind) (type : ValueType) (a b 
       };
       column_is = column_is;
       keys_are = keys_are;
+      plain = λ plain. subst (AllByRecursion (λ p. IsPlain p.1))
+          (sym (tree_pairs-same m n dictionary (SameAt-left m n (tree_nodes m dictionary) (dictionary_reach m dictionary) index_same))) plain;
       refers = λ r among. elim (come r among) [
         | inl was ↦ elim (refers.each r was) [
           | inl key ↦ inl (index_is.2 r key)

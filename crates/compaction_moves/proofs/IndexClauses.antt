@@ -1,5 +1,5 @@
 -- What a move leaves of each clause: clauses of phases to come are void, and what stays is cleared as it was.
-use Rattle.std.proofs.Common.{◌≡◌, ℕ, zero, suc, ◌%◌, ◌<◌, true, List, [], ◌∷◌, ◌++◌, map, Option, None, Some, option_map, inl, inr, refl, sym, ap, subst, arith}
+use Rattle.std.proofs.Common.{◌≡◌, ℕ, zero, suc, ◌*◌, ◌<◌, true, List, [], ◌∷◌, ◌++◌, map, Option, None, Some, option_map, inl, inr, refl, sym, ap, subst, ◌∙◌, arith}
 use Rattle.std.specs.List.{flat_map, AllByRecursion}
 use Rattle.list_facts.proofs.Options.{same_Some}
 use Rattle.entry_ref.specs.Records.{Records, SameAt, Among}
@@ -12,7 +12,7 @@ use Rattle.store_api.proofs.Uses.{in-uses}
 use Rattle.tree_read.specs.ProofsForTrees.{SameAt-left, SameAt-right, all-same, tree_pairs-same}
 use Rattle.tree_read.specs.Trees.{tree_nodes, tree_pairs}
 use Rattle.frozen_btree.specs.Paths.{NoneIn}
-use Rattle.compaction_moves.specs.Cleared.{IsVisited, ListIsCleared, NodesAreCleared}
+use Rattle.compaction_moves.specs.Cleared.{BlockIsVisited, IsVisited, ListIsCleared, NodesAreCleared}
 use Rattle.attr_compaction.specs.Places.{PlanPlace}
 use Rattle.attr_compaction.specs.declared.plan.PlanKey.{PlanKey}
 use Rattle.attr_compaction.specs.declared.plan.PlanKey.TheVariants as plan
@@ -26,8 +26,6 @@ use Rattle.attr_types.specs.declared.kind.ValueType.{ValueType}
 use Rattle.attr_types.specs.declared.value.Value.{Value}
 use Rattle.compaction_moves.specs.DocumentMoves.{AreItemsApart}
 use Rattle.enum_dictionary.specs.Dictionaries.{beside_value}
-use Rattle.posting_store.specs.Lists.{IsPlain}
-use Rattle.posting_store.proofs.FormLemmas.{form_even, form_odd}
 use Rattle.value_index.specs.Indexes.{index_part, index_reach, key_at}
 use Rattle.value_index.proofs.IndexLemmas.{pair_reach}
 use Rattle.value_index.proofs.KeyLemmas.{among_left, among_right}
@@ -35,31 +33,21 @@ use Rattle.attr_compaction.specs.PhaseKeys.{form_docs, keys_of_pairs}
 use Rattle.compaction_moves.specs.Visits.{IsAmongKeys}
 use Rattle.compaction_moves.proofs.PlanVisits.{none_behind}
 use Rattle.compaction_moves.proofs.BelowLemmas.{nodes_stay}
+use Rattle.compaction_moves.proofs.BlockLemmas.{block_key, block_same, nodes_of_vector, start_in}
 use Rattle.compaction_moves.proofs.IndexPairs.{InPairs}
-
--- ---- a list that is no bit vector
-abbrev pub IsNoVector : ListForm → Type 0
-IsNoVector (short ref) = Unit {0}
-IsNoVector (tree root) = Unit {0}
-IsNoVector (vector root) = ⊥
-
-pub no_vector : (word : ℕ) → IsPlain word → IsNoVector (list_form word)
-no_vector word plain = told (word % 2) refl
-  where
-    told : (bit : ℕ) → word % 2 ≡ bit → IsNoVector (list_form word)
-    told zero is = subst IsNoVector (sym (form_even word plain is)) tt
-    told (suc zero) is = subst IsNoVector (sym (form_odd word plain is)) tt
-    told (suc (suc bit)) is = absurd (omega (arith, is))
 
 -- ---- phases to come
 module _ (bits victim field : ℕ) (at : PlanPlace) (m : Records) (same : at.stage.field ≡ field) where
   pub nodes_later : (phase : ℕ) (key : ℕ → PlanKey) (root : ℕ) → at.stage.phase < phase → NodesAreCleared bits victim m (λ k. IsVisited at field phase (key k)) root
   nodes_later phase key root less node among lies k below visited = none_behind at field phase (key k) (inr (same, less)) visited
 
-  pub list_later : (value : Value) (form : ListForm) → at.stage.phase < LISTS → IsNoVector form → ListIsCleared bits victim at field m value form
-  list_later value (short ref) less plain = λ visited. absurd (none_behind at field LISTS (plan.Pair value 0) (inr (same, less)) visited)
-  list_later value (tree root) less plain = nodes_later LISTS (λ doc. plan.Pair value doc) root less
-  list_later value (vector root) less plain = absurd plain
+  pub list_later : (value : Value) (form : ListForm) → at.stage.phase < LISTS → ListIsCleared bits victim at field m value form
+  list_later value (short ref) less = λ visited. absurd (none_behind at field LISTS (plan.Pair value 0) (inr (same, less)) visited)
+  list_later value (tree root) less = nodes_later LISTS (λ doc. plan.Pair value doc) root less
+  list_later value (vector root) less = record {
+    nodes = nodes_later LISTS (λ k. plan.Pair value (4096 * k)) root less;
+    blocks = λ k r there visited. absurd (none_behind at field LISTS (plan.Pair value (4096 * k)) (inr (same, less)) visited);
+  }
 
 -- ---- what stays
 pub list_stays : (bits victim field : ℕ) (at next : PlanPlace) (m n : Records) (value : Value) (form : ListForm) → SameAt (postings_reach m form) m n → IsPostingList m form
@@ -68,7 +56,15 @@ pub list_stays : (bits victim field : ℕ) (at next : PlanPlace) (m n : Records)
 list_stays bits victim field at next m n value (short ref) same is still cleared = λ visited. cleared (still 0 (inl refl) visited)
 list_stays bits victim field at next m n value (tree root) same is still cleared =
     nodes_stay bits victim m n root is.0.node same (λ doc. IsVisited at field LISTS (plan.Pair value doc)) (λ doc. IsVisited next field LISTS (plan.Pair value doc)) still cleared
-list_stays bits victim field at next m n value (vector root) same is still cleared = cleared
+list_stays bits victim field at next m n value (vector root) same is still cleared =
+    let nodes = nodes_of_vector m n root same in
+    record {
+      nodes = nodes_stay bits victim m n root is.0.node nodes (BlockIsVisited at field value) (BlockIsVisited next field value)
+          (λ k there visited. still (4096 * k) (start_in k (tree_pairs m root) there) visited) cleared.nodes;
+      blocks = λ k r there visited.
+          let was = sym (block_same m n root k nodes) ∙ there in
+          cleared.blocks k r was (still (4096 * k) (start_in k (tree_pairs m root) (block_key m root k r was)) visited);
+    }
 
 pub items_stay : (bits victim : ℕ) (kind : Kind) (m n : Records) (ref : ℕ) → SameAt (items_own kind ref) m n → AreItemsApart bits victim kind m ref → AreItemsApart bits victim kind n ref
 items_stay bits victim kind m n zero same apart = record { own = apart.own; refer = apart.refer }

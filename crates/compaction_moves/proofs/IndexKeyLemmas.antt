@@ -1,5 +1,5 @@
 -- The key of a value moved.
-use Rattle.std.proofs.Common.{◌≡◌, ℕ, List, [], ◌∷◌, None, Some, Option, option_map, Result, Ok, Err, true, true≢false, inl, inr, ◌⊎◌, refl, sym, ap, subst, ◌∙◌, arith}
+use Rattle.std.proofs.Common.{◌≡◌, ℕ, ℤ, ◌≤◌, length, List, [], ◌∷◌, None, Some, Option, option_map, Result, Ok, Err, true, true≢false, inl, inr, ◌⊎◌, refl, sym, ap, subst, ◌∙◌, arith}
 use Rattle.std.specs.Prelude.{IfOk}
 use Rattle.list_facts.proofs.Options.{same_Some}
 use Rattle.entry_ref.proofs.Among.{SameAt-then, SameAt-among}
@@ -16,6 +16,7 @@ use Rattle.tree_read.specs.Trees.{tree_pairs}
 use Rattle.array_store.specs.Adding.{AddsRecord}
 use Rattle.attr_images.specs.Postings.{dictionary_reach, list_form, postings_reach}
 use Rattle.attr_images.specs.Values.{stored_value, value_words, IsValueRecord}
+use Rattle.attr_images.specs.declared.TheConstants.{LEAST_DENSE}
 use Rattle.attr_types.specs.Value.{type_of}
 use Rattle.attr_types.specs.declared.value.Value.{Value}
 use Rattle.enum_dictionary.specs.Dictionaries.{beside_value, MakesDictionary}
@@ -28,8 +29,9 @@ use Rattle.value_index.proofs.KeyLemmas.{pair_found}
 use Rattle.value_index.proofs.OpenLemmas.{IsOpen, open_found, others, parts, same_self}
 use Rattle.value_index.proofs.PairLemmas.{keys, among_put, found_among}
 use Rattle.compaction_moves.specs.IndexMoves.{MovesKey}
+use Rattle.compaction_moves.proofs.BlockLemmas.{docs_same}
 use Rattle.compaction_moves.proofs.PairLemmas.{same_found}
-use Rattle.compaction_moves.proofs.IndexSetLemmas.{IsReady, parts_with, extra_stays, list_stays, rest_stays, set_index, set_is, set_key, set_list, set_owns, set_pairs, set_rest, set_turns}
+use Rattle.compaction_moves.proofs.IndexSetLemmas.{IsReady, parts_with, extra_stays, list_stays, rest_stays, set_docs, set_index, set_is, set_key, set_list, set_owns, set_pairs, set_plain, set_rest, set_turns}
 
 -- nothing is done where the key lies elsewhere, or is not there
 pub key_unmoved : {H : Type 0} (bits buffer : ℕ) (value : Value) (a : Ledger H) (m : Records) (root : ℕ) → IsIndex (type_of value) m root
@@ -41,6 +43,8 @@ key_unmoved bits buffer value a m root is owns apart = record {
   keys = λ ref among. inl among;
   index_is = is;
   reads_as = refl;
+  docs = refl;
+  plain = λ plain. plain;
   apart = apart;
   others = refl;
   list = refl;
@@ -102,7 +106,7 @@ module _ {H : Type 0} (bits buffer : ℕ) (value : Value) (a b : Ledger H) (m n 
     reads = reads;
     filled = pair.some;
     list_is = IsList-same m n word made.stay.1.1.0 pair.list_is;
-    plain = pair.plain;
+    long = λ vector. subst {A = List (ℕ × ℤ)} (λ ds. LEAST_DENSE ≤ length ds) (sym (list_at-same m n word made.stay.1.1.0)) (pair.long vector);
     docs_are = list_at-same m n word made.stay.1.1.0 ∙ at_form m word pair.some;
   }
 
@@ -121,6 +125,9 @@ module _ {H : Type 0} (bits buffer : ℕ) (value : Value) (a b : Ledger H) (m n 
           keys = λ ref among. kept ref (opened.was ref among);
           index_is = set_is value b m n root key word copy word (entry key ∷ []) start found opened.reads key_ready c o next makes;
           reads_as = set_index value b m n root key word copy word (entry key ∷ []) start found opened.reads key_ready c o next makes;
+          docs = set_docs value b m n root key word copy word (entry key ∷ []) start found opened.reads key_ready c o next makes
+              (docs_same m n (list_form word) (subst (λ rs. SameAt rs m n) (reach_form m word pair.some) made.stay.1.1.0));
+          plain = set_plain value b m n root key word copy word (entry key ∷ []) start found opened.reads key_ready c o next makes (λ plain. plain);
           apart = λ k is there. elsewhere k (same_Some copy k (sym (set_key value b m n root key word copy word (entry key ∷ []) start found opened.reads key_ready c o next makes) ∙ is)) there;
           others = set_rest value b m n root key word copy word (entry key ∷ []) start found opened.reads key_ready c o next makes;
           list = set_list value b m n root key word copy word (entry key ∷ []) start found opened.reads key_ready c o next makes

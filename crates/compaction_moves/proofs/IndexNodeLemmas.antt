@@ -13,19 +13,22 @@ use Rattle.tree_read.specs.Trees.{tree_pairs}
 use Rattle.frozen_btree.specs.Changes.{tree}
 use Rattle.frozen_btree.specs.Paths.{path_nodes, NoneIn}
 use Rattle.frozen_btree.proofs.TouchTreeLemmas.{none-apart}
-use Rattle.attr_images.specs.Postings.{dictionary_reach}
+use Rattle.attr_compaction.specs.PhaseKeys.{form_docs}
+use Rattle.attr_images.specs.Postings.{dictionary_reach, list_form}
 use Rattle.attr_images.specs.Values.{stored_value}
 use Rattle.attr_types.specs.Value.{type_of, value_cmp}
 use Rattle.attr_types.specs.declared.kind.ValueType.{ValueType}
 use Rattle.attr_types.specs.declared.value.Value.{Value}
 use Rattle.enum_dictionary.specs.Dictionaries.{beside_value, IsDictionary}
 use Rattle.enum_dictionary.proofs.DictionaryLemmas.{seen_same, IsValueTree}
+use Rattle.posting_store.specs.Lists.{IsPlain}
 use Rattle.value_index.specs.Indexes.{index_part, IsIndex, IsValuePair}
 use Rattle.value_index.proofs.ChangeLemmas.{shown_stay}
 use Rattle.value_index.proofs.IndexLemmas.{docs_at, pair_reach, pair_same}
 use Rattle.value_index.proofs.OpenLemmas.{index_count, pairs_part, same_self}
 use Rattle.value_index.proofs.ShownLemmas.{shown, shown_same}
 use Rattle.compaction_moves.specs.IndexMoves.{MovesNodes}
+use Rattle.compaction_moves.proofs.BlockLemmas.{lists_same}
 
 -- nothing is done in a dictionary without nodes
 pub nodes_unmoved : {H : Type 0} (bits buffer : ℕ) (value : Value) (a : Ledger H) (m : Records) (root : ℕ) → IsIndex (type_of value) m root → Owns a m (index_part root ∷ []) → root ≡ 0
@@ -33,6 +36,8 @@ pub nodes_unmoved : {H : Type 0} (bits buffer : ℕ) (value : Value) (a : Ledger
 nodes_unmoved bits buffer value a m root is owns none = record {
   index_is = is;
   reads_as = refl;
+  docs = refl;
+  plain = λ plain. plain;
   apart = none-apart bits buffer m (beside_value value m) root none;
   pairs = refl;
   stay = same_self m (dictionary_reach m root);
@@ -66,6 +71,8 @@ module _ {H : Type 0} (bits buffer : ℕ) (type : ValueType) (value key : Value)
         };
         reads_as = ap (map (shown (stored_value (type_of value) n) (docs_at n))) pairs
             ∙ shown_same (stored_value (type_of value) m) (stored_value (type_of value) n) (docs_at m) (docs_at n) ps (shown_stay (type_of value) m n ps stay);
+        docs = ap (map (λ p. form_docs n (list_form p.1))) pairs ∙ lists_same m n ps stay;
+        plain = λ plain. subst (AllByRecursion (λ p. IsPlain p.1)) (sym pairs) plain;
         apart = subst (λ (c : ℕ → Ordering). NoneIn bits buffer (path_nodes n c next)) (seen_same type m value key is same) apart;
         pairs = pairs;
         stay = stay;

@@ -1,5 +1,5 @@
 -- The index after the pair of a value that is there was set, where it reads as before.
-use Rattle.std.proofs.Common.{◌≡◌, ℕ, ◌<◌, List, [], ◌∷◌, map, Some, Option, option_map, refl, sym, ap, subst, ◌∙◌, arith}
+use Rattle.std.proofs.Common.{◌≡◌, ℕ, ◌<◌, ◌≤◌, true, length, List, [], ◌∷◌, map, Some, Option, option_map, refl, sym, ap, subst, ◌∙◌, arith}
 use Rattle.std.specs.declared.cmp.Ordering.TheVariants.{Equal}
 use Rattle.std.specs.List.{flat_map, AllByRecursion}
 use Rattle.entry_ref.proofs.Pairs.{same-from}
@@ -12,7 +12,8 @@ use Rattle.store_api.proofs.PartLemmas.{after, owns-some, turns-as}
 use Rattle.tree_read.specs.ProofsForTrees.{all-same}
 use Rattle.tree_read.specs.Trees.{tree_pairs, tree_nodes}
 use Rattle.frozen_btree.specs.Changes.{tree}
-use Rattle.attr_images.specs.Postings.{index_of}
+use Rattle.attr_compaction.specs.PhaseKeys.{form_docs}
+use Rattle.attr_images.specs.Postings.{index_of, list_form}
 use Rattle.attr_images.specs.Values.{stored_value, value_of, IsValueRecord}
 use Rattle.attr_types.specs.Value.{type_of, value_cmp}
 use Rattle.attr_types.specs.declared.kind.ValueType.{ValueType}
@@ -20,15 +21,20 @@ use Rattle.attr_types.specs.declared.value.Value.{Value}
 use Rattle.enum_dictionary.specs.Dictionaries.{beside_value, IsDictionary, MakesDictionary}
 use Rattle.enum_dictionary.proofs.DictionaryLemmas.{dictionary_stays, value_same}
 use Rattle.posting_store.specs.Changes.{list_part}
-use Rattle.posting_store.specs.Lists.{list_at, list_reach, IsList, IsPlain}
+use Rattle.attr_images.specs.declared.TheConstants.{LEAST_DENSE}
+use Rattle.posting_store.specs.Lists.{list_at, list_reach, is_vector, IsList, IsPlain}
 use Rattle.posting_store.specs.ProofsForLists.{IsList-same, list_at-same}
-use Rattle.posting_store.proofs.FormLemmas.{at_form}
+use Rattle.posting_store.proofs.FormLemmas.{at_form, reach_form}
 use Rattle.value_index.specs.Indexes.{index_part, key_at, IsIndex, IsKey, IsValuePair}
 use Rattle.value_index.proofs.ChangeLemmas.{shown_stay}
 use Rattle.value_index.proofs.IndexLemmas.{docs_at, keys_same, pair_reach, pair_same}
 use Rattle.value_index.proofs.OpenLemmas.{others, pair_count, index_count, pairs_part, pairs_reach-same}
 use Rattle.value_index.proofs.PairLemmas.{keys, all_by_keys, all_put, all_taken, put_as, put_times}
 use Rattle.value_index.proofs.ShownLemmas.{Docs, shown}
+use Rattle.value_index.specs.Forms.{IsPlainIndex}
+use Rattle.compaction_moves.specs.IndexMoves.{lists_docs}
+use Rattle.compaction_moves.proofs.IndexPairs.{at_pair, found_pair}
+use Rattle.compaction_moves.proofs.BlockLemmas.{docs_same, docs_stay}
 use Rattle.compaction_moves.proofs.PairLemmas.{set_found, set_others, set_reads, set_value}
 
 -- the parts of an index, taken apart at one value, and others beside
@@ -46,7 +52,7 @@ pub record IsReady {H : Type 0} (value : Value) (now : Ledger H) (m n : Records)
   pub reads : stored_value (type_of value) n key ≡ value
   pub filled : 0 < word
   pub list_is : IsList n word
-  pub plain : IsPlain word
+  pub long : is_vector word ≡ true → LEAST_DENSE ≤ length (list_at n word)
   pub docs_are : list_at n word ≡ docs
 
 module _ {H : Type 0} (value : Value) (b : Ledger H) (m n : Records) (root was_key was key word : ℕ) (extra : List Part) (start : IsIndex (type_of value) m root)
@@ -94,8 +100,11 @@ module _ {H : Type 0} (value : Value) (b : Ledger H) (m n : Records) (root was_k
     set_pairs =
         makes.pairs_are ∙ ap (put (beside_value value n) (key, word)) stays.1 ∙ put_as (beside_value value m) (beside_value value n) (key, word) (tree_pairs m root) agree
 
+    new_long : is_vector word ≡ true → LEAST_DENSE ≤ length (list_at o word)
+    new_long vector = subst {A = Docs} (λ ds. LEAST_DENSE ≤ length ds) (sym (list_at-same n o word list_stays)) (is.long vector)
+
     new_pair : IsValuePair o (key, word)
-    new_pair = record { key = is.key_some; some = is.filled; list_is = IsList-same n o word list_stays is.list_is; plain = is.plain }
+    new_pair = record { key = is.key_some; some = is.filled; list_is = IsList-same n o word list_stays is.list_is; long = new_long }
 
     pub set_is : IsIndex type o next
     set_is = record {
@@ -118,6 +127,21 @@ module _ {H : Type 0} (value : Value) (b : Ledger H) (m n : Records) (root was_k
         ap (map (shown (stored_value type o) (docs_at o))) set_pairs
         ∙ set_reads (shown (stored_value type o) (docs_at o)) (shown (stored_value type m) (docs_at m)) (beside_value value m) (key, word) (was_key, was) new_shown (tree_pairs m root) found
         (shown_stay type m o rest rest_stays)
+
+    -- the lists have the same keys, if this one has
+    pub set_docs : form_docs n (list_form word) ≡ form_docs m (list_form was) → lists_docs o next ≡ lists_docs m root
+    set_docs same =
+        ap (map (λ p. form_docs o (list_form p.1))) set_pairs
+        ∙ set_reads (λ p. form_docs o (list_form p.1)) (λ p. form_docs m (list_form p.1)) (beside_value value m) (key, word) (was_key, was)
+        (docs_same n o (list_form word) (subst (λ rs. SameAt rs n o) (reach_form n word is.filled) list_stays) ∙ same) (tree_pairs m root) found
+        (docs_stay m o rest rest_stays)
+
+    -- no list is a bit vector, if none was
+    pub set_plain : (IsPlain was → IsPlain word) → IsPlainIndex m root → IsPlainIndex o next
+    set_plain same plain = subst (AllByRecursion (λ p. IsPlain p.1)) (sym set_pairs)
+        (all_put (beside_value value m) (λ p. IsPlain p.1) (key, word) (tree_pairs m root)
+        (same (at_pair (λ p. IsPlain p.1) (tree_pairs m root) plain (was_key, was) (found_pair (beside_value value m) (was_key, was) (tree_pairs m root) found)))
+        (all_taken (beside_value value m) (λ p. IsPlain p.1) (tree_pairs m root) plain))
 
     equal : beside_value value o key ≡ Equal
     equal = ap (λ (v : Value). value_cmp v value) new_reads ∙ value_same value

@@ -23,13 +23,12 @@ use Rattle.compaction_moves.proofs.IndexKeyLemmas.{key_of}
 use Rattle.attr_compaction.proofs.OrderLemmas.{phase_ascends}
 use Rattle.attr_compaction.specs.PhaseKeys.{value_keys}
 use Rattle.compaction_moves.proofs.PlanVisits.{next_visited, none_behind}
-use Rattle.value_index.specs.Indexes.{IsValuePair}
 use Rattle.value_index.proofs.IndexLemmas.{pair_reach}
 use Rattle.compaction_moves.specs.IndexLaws.{KeyMoveClears}
 use Rattle.compaction_moves.specs.IndexTurns.{IsTurn}
 use Rattle.compaction_moves.specs.Visits.{place_at_key}
 use Rattle.compaction_moves.proofs.IndexPairs.{InPairs, at_pair, each_pair, other_pair, pair_key, pair_stays, split_pair, taken_pair}
-use Rattle.compaction_moves.proofs.IndexClauses.{list_later, no_vector, nodes_later, value_in_keys}
+use Rattle.compaction_moves.proofs.IndexClauses.{list_later, nodes_later, value_in_keys}
 
 -- an attribute's trees with values of another type
 abbrev pub of_type : AttributeTrees → ValueType → AttributeTrees
@@ -79,8 +78,7 @@ module _ {H : Type 0} (bits victim field next : ℕ) (at : PlanPlace) (value : V
     documents = each_pair (λ p. IsVisited here field DOCUMENTS (plan.Doc p.0) → AreItemsApart bits victim a.kind n p.1) (tree_pairs n a.documents)
         (λ q within visited. absurd (none_behind here field DOCUMENTS (plan.Doc q.0) (inr (turn.field_is, later DOCUMENTS (omega arith))) visited));
     lists = each_pair (λ p. ListIsCleared bits victim here field n (stored_value type n p.0) (list_form p.1)) (tree_pairs n next)
-        (λ q within. list_later bits victim field here n turn.field_is (stored_value type n q.0) (list_form q.1) (later LISTS (omega arith))
-        (no_vector q.1 (at_pair (IsValuePair n) (tree_pairs n next) moves.index_is.pairs q within).plain));
+        (λ q within. list_later bits victim field here n turn.field_is (stored_value type n q.0) (list_form q.1) (later LISTS (omega arith)));
     values = nodes_later bits victim field here n turn.field_is NODES (λ r. plan.Value (stored_value type n r)) next (later NODES (omega arith));
     map = nodes_later bits victim field here n turn.field_is NODES (λ doc. plan.Doc doc) a.documents (later NODES (omega arith));
   }

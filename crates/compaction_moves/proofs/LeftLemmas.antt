@@ -1,5 +1,5 @@
 -- Past the last phase nothing that an attribute reaches lies in the victim.
-use Rattle.std.proofs.Common.{◌≡◌, ◌≢◌, ℕ, zero, suc, ◌≤◌, List, [], ◌∷◌, ◌++◌, nat_cmp, sym, subst, arith, inl, inr}
+use Rattle.std.proofs.Common.{◌≡◌, ◌≢◌, ℕ, zero, suc, ◌*◌, ◌≤◌, List, [], ◌∷◌, ◌++◌, map, nat_cmp, sym, subst, arith, inl, inr}
 use Rattle.std.proofs.lemmas.Cmp.{nat_cmp_total}
 use Rattle.std.specs.Cmp.{IsTotalOrder}
 use Rattle.std.specs.List.{flat_map, AllByRecursion}
@@ -23,8 +23,9 @@ use Rattle.attr_compaction.specs.Places.{PlanPlace}
 use Rattle.attr_compaction.specs.declared.plan.PlanKey.TheVariants as plan
 use Rattle.attr_compaction.specs.declared.plan.TheConstants.{DOCUMENTS, KEYS, LISTS, NODES, PHASES}
 use Rattle.compaction_moves.specs.DocumentMoves.{AreItemsApart}
-use Rattle.compaction_moves.specs.Cleared.{IsVisited, ListIsCleared, NodesAreCleared}
+use Rattle.compaction_moves.specs.Cleared.{BlockIsVisited, IsVisited, ListIsCleared, NodesAreCleared}
 use Rattle.compaction_moves.specs.Laws.{NothingIsLeft}
+use Rattle.compaction_moves.proofs.BlockLemmas.{pair_block, pair_of_value}
 use Rattle.compaction_moves.proofs.VisitLemmas.{all_visited}
 
 -- what holds of all that each of a list reaches
@@ -63,7 +64,16 @@ module _ (bits victim field : ℕ) (at : PlanPlace) (m : Records) (over : at.sta
   list_apart value (tree root) cleared is r among =
       node_apart nat_cmp nat_cmp_total by_number bits victim m (λ doc. IsVisited at field LISTS (plan.Pair value doc)) root is.0 cleared
       (λ doc. all_visited at field LISTS (plan.Pair value doc) over few (omega arith)) r among
-  list_apart value (vector root) cleared is r among = absurd cleared
+  list_apart value (vector root) cleared is r among = elim (Among-append r (tree_nodes m root) (map (λ p. p.1) (tree_pairs m root)) among) [
+    | inl node ↦ node_apart nat_cmp nat_cmp_total by_number bits victim m (BlockIsVisited at field value) root is.0 cleared.nodes
+        (λ k. all_visited at field LISTS (plan.Pair value (4096 * k)) over few (omega arith)) r node
+    | inr block ↦ (
+        let found = pair_of_value r (tree_pairs m root) block in
+        subst (λ q. buffer_of bits q ≢ victim) found.2
+        (cleared.blocks found.0.0 found.0.1 (pair_block found.0 (tree_pairs m root) is.0.ascends found.1)
+        (all_visited at field LISTS (plan.Pair value (4096 * found.0.0)) over few (omega arith)))
+        )
+  ]
 
   -- ---- a pair of the dictionary
   abbrev KeyIsCleared : ValueType → ℕ × ℕ → Type 0

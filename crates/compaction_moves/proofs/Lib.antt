@@ -17,6 +17,7 @@ pub mod VisitLemmas
 pub mod LeftLemmas
 pub mod PlanVisits
 pub mod IndexPairs
+pub mod BlockLemmas
 pub mod BelowLemmas
 pub mod IndexKeys
 pub mod IndexLeaves

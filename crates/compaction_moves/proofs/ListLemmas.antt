@@ -28,9 +28,10 @@ use Rattle.attr_types.specs.declared.value.Value.{Value}
 use Rattle.enum_dictionary.specs.Dictionaries.{beside_value, IsDictionary, MakesDictionary}
 use Rattle.enum_dictionary.proofs.DictionaryLemmas.{dictionary_stays}
 use Rattle.posting_store.specs.Changes.{MakesList}
-use Rattle.posting_store.specs.Lists.{list_at, list_levels, list_reach}
+use Rattle.posting_store.specs.Keeps.{list_block}
+use Rattle.posting_store.specs.Lists.{list_at, list_levels, list_reach, is_vector}
 use Rattle.posting_store.specs.ProofsForLists.{list_reach-same}
-use Rattle.posting_store.proofs.FormLemmas.{at_form, reach_form}
+use Rattle.posting_store.proofs.FormLemmas.{at_form, no_vector, plain_of, reach_form}
 use Rattle.posting_store.proofs.ListLemmas.{list_filled}
 use Rattle.value_index.specs.Flows.{list_word}
 use Rattle.value_index.specs.Indexes.{index_part, IsIndex, IsKey, IsValuePair}
@@ -39,9 +40,11 @@ use Rattle.value_index.proofs.KeyLemmas.{pair_found, reads_found}
 use Rattle.value_index.proofs.OpenLemmas.{IsOpen, others, parts, same_self}
 use Rattle.value_index.proofs.PairLemmas.{keys, all_by_keys, among_put, key_put, lookup_pair_as}
 use Rattle.value_index.proofs.StepLemmas.{open_next, word_some}
-use Rattle.compaction_moves.specs.IndexMoves.{move_most, word_most, FormIsApart, MovesList}
+use Rattle.compaction_moves.specs.IndexMoves.{move_most, word_most, FormIsApart, MovesList, MovesWord}
+use Rattle.compaction_moves.proofs.BlockLemmas.{form_block_same}
 use Rattle.compaction_moves.proofs.IndexKeyLemmas.{key_of}
-use Rattle.compaction_moves.proofs.IndexSetLemmas.{IsReady, key_stays, list_stays, ready_dictionary, ready_owns, rest_stays, set_index, set_is, set_key, set_list, set_owns, set_pairs, set_rest, set_turns}
+use Rattle.compaction_moves.proofs.IndexSetLemmas.{IsReady, key_stays, list_stays, ready_dictionary, ready_owns, rest_stays, set_docs, set_index}
+use Rattle.compaction_moves.proofs.IndexSetLemmas.{set_is, set_key, set_list, set_owns, set_pairs, set_plain, set_rest, set_turns}
 use Rattle.compaction_moves.proofs.WordLemmas.{form_same}
 
 -- a pair put in its own place
@@ -56,15 +59,15 @@ put_found c p (q ∷ ps) is =
 
 -- what a move makes, by what is found
 pub most_found : (value : Value) (m : Records) (root key word count w : ℕ) → lookup_pair (beside_value value m) (tree_pairs m root) ≡ Some (key, word)
-    → word_most (list_levels m word) count w + nodes_most (levels m root) w ≤ move_most value m root count w
+    → word_most (is_vector word) (list_levels m word) count w + nodes_most (levels m root) w ≤ move_most value m root count w
 most_found value m root key word count w found =
     let word_is : unwrap_or (lookup (beside_value value m) (tree_pairs m root)) 0 ≡ word =
     ap (λ (o : Option ℕ). unwrap_or o 0) (lookup-of_pair (beside_value value m) (tree_pairs m root) ∙ ap (λ (o : Option (ℕ × ℕ)). option_map (λ (p : ℕ × ℕ). p.1) o) found) in
     let same = by word_is in
     omega arith
   where
-    by : unwrap_or (lookup (beside_value value m) (tree_pairs m root)) 0 ≡ word → move_most value m root count w ≡ word_most (list_levels m word) count w + nodes_most (levels m root) w
-    by is = ap (λ x. word_most (list_levels m x) count w + nodes_most (levels m root) w) is
+    by : unwrap_or (lookup (beside_value value m) (tree_pairs m root)) 0 ≡ word → move_most value m root count w ≡ word_most (is_vector word) (list_levels m word) count w + nodes_most (levels m root) w
+    by is = ap (λ x. word_most (is_vector x) (list_levels m x) count w + nodes_most (levels m root) w) is
 
 -- nothing is done where the value is not there
 pub list_unmoved : {H : Type 0} (bits buffer doc : ℕ) (value : Value) (a : Ledger H) (m : Records) (root : ℕ) → IsIndex (type_of value) m root
@@ -72,6 +75,8 @@ pub list_unmoved : {H : Type 0} (bits buffer doc : ℕ) (value : Value) (a : Led
 list_unmoved bits buffer doc value a m root is owns none = record {
   index_is = is;
   reads_as = refl;
+  docs = refl;
+  plain = λ plain. plain;
   apart = λ word there. absurd (no_some word (sym (lookup-of_pair (beside_value value m) (tree_pairs m root)
       ∙ ap (λ (f : Option (ℕ × ℕ)). option_map (λ (p : ℕ × ℕ). p.1) f) none) ∙ there));
   key = refl;
@@ -79,6 +84,8 @@ list_unmoved bits buffer doc value a m root is owns none = record {
   rest = same_self m (flat_map (pair_reach m) (others value m root));
   keys = λ ref among. (among, refl);
   came = λ r used among. among;
+  form = refl;
+  blocks = record { each = λ k r there used. there };
   owns = owns;
   turns = record { kept = λ r h. refl; balance = λ r. refl };
 }
@@ -88,7 +95,10 @@ list_unmoved bits buffer doc value a m root is owns none = record {
 
 module _ {H : Type 0} (bits buffer doc : ℕ) (value : Value) (a b : Ledger H) (m n : Records) (root key word next : ℕ) (start : IsIndex (type_of value) m root)
     (owns : Owns a m (index_part root ∷ [])) (found : lookup_pair (beside_value value m) (tree_pairs m root) ≡ Some (key, word))
-    (makes : MakesList a b m n word (list_at m word) next) where
+    (moves : MovesWord bits buffer doc a b m n word next) where
+  makes : MakesList a b m n word (list_at m word) (is_vector word) next
+  makes = moves.makes
+
   abbrev rest : List (ℕ × ℕ)
   rest = others value m root
 
@@ -96,7 +106,7 @@ module _ {H : Type 0} (bits buffer doc : ℕ) (value : Value) (a b : Ledger H) (
   pair = pair_found value m root start (key, word) found
 
   opened : IsOpen value a b m n root key next
-  opened = open_next value m root start key word found a b n next (list_at m word) owns makes
+  opened = open_next value m root start key word found a b n next (list_at m word) (is_vector word) owns makes (λ vector. pair.long (sym makes.form ∙ vector))
 
   pub next_some : 0 < next
   next_some = word_some n next (subst {A = List (ℕ × ℤ)} (λ docs. 0 < length docs) (sym makes.docs_are) (list_filled m word pair.list_is pair.some))
@@ -115,7 +125,7 @@ module _ {H : Type 0} (bits buffer doc : ℕ) (value : Value) (a b : Ledger H) (
     reads = opened.reads;
     filled = next_some;
     list_is = opened.list_is;
-    plain = opened.plain;
+    long = opened.long;
     docs_are = makes.docs_are ∙ at_form m word pair.some;
   }
 
@@ -136,7 +146,7 @@ module _ {H : Type 0} (bits buffer doc : ℕ) (value : Value) (a b : Ledger H) (
         turns = record { kept = λ r h. refl; balance = λ r. refl };
       }
 
-  module _ (c : Ledger H) (o : Records) (apart : FormIsApart bits buffer doc n (list_form next)) where
+  module _ (c : Ledger H) (o : Records) where
     pub list_set : (top : ℕ) → MakesDictionary (type_of value) b c n o root (put (beside_value value n) (key, next) (tree_pairs n root)) top
         → MovesList bits buffer doc value a c m o root top
     list_set top set =
@@ -147,14 +157,18 @@ module _ {H : Type 0} (bits buffer doc : ℕ) (value : Value) (a b : Ledger H) (
         record {
           index_is = set_is value b m n root key word key next [] start found was_reads list_ready c o top set;
           reads_as = set_index value b m n root key word key next [] start found was_reads list_ready c o top set;
+          docs = set_docs value b m n root key word key next [] start found was_reads list_ready c o top set moves.docs;
+          plain = set_plain value b m n root key word key next [] start found was_reads list_ready c o top set (λ plain. plain_of next (makes.form ∙ no_vector word plain));
           apart = λ w there. subst (λ x. FormIsApart bits buffer doc o (list_form x))
               (same_Some next w (sym (set_list value b m n root key word key next [] start found was_reads list_ready c o top set) ∙ there))
-              (form_same bits buffer doc n o (list_form next) here form apart);
+              (form_same bits buffer doc n o (list_form next) here form moves.apart);
           key = set_key value b m n root key word key next [] start found was_reads list_ready c o top set ∙ sym (key_of value m root (Some (key, word)) found);
           others = set_rest value b m n root key word key next [] start found was_reads list_ready c o top set;
           rest = rest_same;
           keys = λ ref among. kept ref among rest_same (opened.was ref among);
           came = came_from;
+          form = ap is_vector top_word ∙ makes.form ∙ ap is_vector (sym root_word);
+          blocks = record { each = block_from };
           owns = set_owns value b m n root key word key next [] start found was_reads list_ready c o top set;
           turns = turns-then a b c m n o (index_part root ∷ []) (parts root key next rest) (index_part top ∷ []) opened.turns
               (set_turns value b m n root key word key next [] start found was_reads list_ready c o top set);
@@ -176,6 +190,14 @@ module _ {H : Type 0} (bits buffer doc : ℕ) (value : Value) (a b : Ledger H) (
             let was = uses-in a r used in
             let few = uses-few b r in
             subst (λ w. Among r (list_reach m w)) (sym root_word) (times-among r (list_reach m word) (omega arith))
+
+        next_stays : SameAt (postings_reach n (list_form next)) n o
+        next_stays = subst (λ rs. SameAt rs n o) (reach_form n next next_some) (list_stays value b m n root key word key next [] start found was_reads list_ready c o top set)
+
+        block_from : (k r : ℕ) → list_block o (list_word value o top) k ≡ Some r → in_use (a.status r) ≡ true → list_block m (list_word value m root) k ≡ Some r
+        block_from k r there used =
+            ap (λ w. list_block m w k) root_word
+            ∙ moves.blocks.each k r (sym (ap (λ w. list_block o w k) top_word ∙ form_block_same n o (list_form next) k next_stays) ∙ there) used
 
         key_same : o key ≡ n key
         key_same = key_stays value b m n root key word key next [] start found was_reads list_ready c o top set

@@ -1,11 +1,11 @@
 -- A list that was moved as far as a document leads is cleared that far, and what was cleared is so still.
-use Rattle.std.proofs.Common.{◌≡◌, ◌≢◌, ◌⊎◌, true, ℕ, ℤ, zero, suc, ◌+◌, ◌*◌, ◌/◌, ◌%◌, ◌<◌, List, [], ◌∷◌, length, map, Option, Some, option_map, inl, inr, refl, sym, ap, subst, ◌∙◌, arith}
+use Rattle.std.proofs.Common.{◌≡◌, ◌≢◌, ◌⊎◌, Bool, true, false, ℕ, ℤ, zero, suc, ◌+◌, ◌-◌, ◌*◌, ◌/◌, ◌%◌, ◌<◌, List, [], ◌∷◌, length, map, Option, Some, option_map, inl, inr, refl, sym, ap, subst, ◌∙◌, arith}
 use Rattle.std.proofs.lemmas.Cmp.{nat_cmp_total}
 use Rattle.std.proofs.lemmas.List.{length-map}
 use Rattle.std.specs.List.Sorted.{IsStrictlySortedBy}
 use Rattle.std.specs.Option.{unwrap_or}
 use Rattle.std.specs.Ordering.{nat_cmp}
-use Rattle.entry_ref.proofs.Among.{Among-all}
+use Rattle.entry_ref.proofs.Among.{Among-all, Among-append}
 use Rattle.entry_ref.specs.References.{buffer_of}
 use Rattle.entry_ref.specs.Records.{Records, SameAt, Among}
 use Rattle.tree_read.specs.Pairs.{lookup_pair, take_out}
@@ -15,15 +15,16 @@ use Rattle.store_api.specs.Parts.{Owns}
 use Rattle.store_api.specs.Statuses.{in_use}
 use Rattle.tree_read.specs.Trees.{by_number, tree_nodes, tree_pairs}
 use Rattle.frozen_btree.specs.Paths.{path_nodes, NoneIn}
+use Rattle.frozen_btree.proofs.ChangeLemmas.{tree-wide}
 use Rattle.frozen_btree.proofs.WayLemmas.{stand_on_ways}
 use Rattle.frozen_btree.specs.Ways.{keys_below, tree_keys}
-use Rattle.compaction_moves.specs.Cleared.{IsClearedField, IsVisited, ListIsCleared, NodesAreCleared}
+use Rattle.compaction_moves.specs.Cleared.{BlockIsVisited, IsClearedField, IsVisited, ListIsCleared, NodesAreCleared, VectorIsCleared}
 use Rattle.attr_compaction.specs.Places.{doc_in, key_cmp, value_in, PlanPlace}
 use Rattle.attr_compaction.specs.declared.plan.PlanKey.{PlanKey}
 use Rattle.attr_compaction.specs.declared.plan.PlanKey.TheVariants as plan
 use Rattle.attr_compaction.specs.declared.plan.TheConstants.{DOCUMENTS, KEYS, LISTS, NODES}
 use Rattle.attr_field.specs.Documents.{documents_own}
-use Rattle.attr_images.specs.Postings.{tree, list_form, postings_reach, IsPostingList}
+use Rattle.attr_images.specs.Postings.{tree, vector, list_form, postings_reach, IsPostingList}
 use Rattle.attr_images.specs.Tables.{AttributeTrees}
 use Rattle.attr_images.specs.Values.{stored_value, value_of}
 use Rattle.attr_images.specs.Words.{weight_in_bits}
@@ -38,15 +39,20 @@ use Rattle.attr_compaction.proofs.OrderLemmas.{phase_ascends}
 use Rattle.attr_compaction.specs.PhaseKeys.{form_docs, pair_keys}
 use Rattle.compaction_moves.specs.Visits.{place_at_key, IsAmongKeys}
 use Rattle.compaction_moves.proofs.PlanVisits.{all_before, next_visited}
-use Rattle.posting_store.specs.Lists.{list_at, list_reach}
-use Rattle.posting_store.proofs.FormLemmas.{at_form, form_even, form_tree, many_odd, tree_at, tree_form, tree_reach}
+use Rattle.bit_vector.specs.Keeps.{block_at}
+use Rattle.bit_vector.specs.Moves.{IsBlockApart}
+use Rattle.posting_store.specs.Keeps.{form_block, list_block}
+use Rattle.posting_store.specs.Lists.{list_at, list_reach, is_vector, IsPlain}
+use Rattle.posting_store.proofs.FormLemmas.{at_form, form_even, form_tree, form_vector, many_odd, plain_of, tree_at, tree_form, tree_reach}
+use Rattle.posting_store.proofs.VectorLemmas.{counted_from, vector_form, vector_list_reach}
 use Rattle.value_index.specs.Flows.{list_word}
 use Rattle.value_index.specs.Indexes.{index_part, IsValuePair}
 use Rattle.value_index.proofs.IndexLemmas.{pair_reach}
-use Rattle.value_index.proofs.KeyLemmas.{at_key, list_found, reads_found}
+use Rattle.value_index.proofs.KeyLemmas.{among_left, among_right, at_key, list_found, reads_found}
 use Rattle.compaction_moves.specs.IndexLaws.{ListMoveClears}
 use Rattle.compaction_moves.specs.IndexTurns.{IsTurn, LeavesBuffer}
 use Rattle.compaction_moves.proofs.BelowLemmas.{nodes_moved}
+use Rattle.compaction_moves.proofs.BlockLemmas.{block_key, block_size, block_value, start_in}
 use Rattle.compaction_moves.proofs.KeyMoved.{of_type}
 use Rattle.compaction_moves.proofs.IndexPairs.{InPairs, at_pair, each_pair, found_pair, other_pair, pair_key, pair_stays, split_pair, taken_pair}
 use Rattle.compaction_moves.proofs.IndexClauses.{documents_stay, list_stays, list_used, nodes_later, pair_in, pair_of_key}
@@ -143,19 +149,23 @@ module _ {H : Type 0} (bits victim field doc next : ℕ) (at : PlanPlace) (value
     apart : FormIsApart bits victim doc n (list_form q.1)
     apart = moves.apart q.1 (lookup-of_pair (beside_value value n) (tree_pairs n next) ∙ ap (λ (f : Option (ℕ × ℕ)). option_map (λ (x : ℕ × ℕ). x.1) f) found)
 
+    -- both are of one form
+    same_form : is_vector q.1 ≡ is_vector p.1
+    same_form = ap is_vector (sym (word_is value n next q found)) ∙ moves.form ∙ ap is_vector (word_is value m root p was)
+
     -- both are trees
-    module _ (top base : ℕ) (now_is : q.1 ≡ 2 * top + 1) (was_is : p.1 ≡ 2 * base + 1) where
+    module _ (plain_now : IsPlain q.1) (plain_was : IsPlain p.1) (top base : ℕ) (now_is : q.1 ≡ 2 * top + 1) (was_is : p.1 ≡ 2 * base + 1) where
       form_now : list_form q.1 ≡ tree top
-      form_now = form_tree q.1 top pair_now.plain now_is
+      form_now = form_tree q.1 top plain_now now_is
 
       form_was : list_form p.1 ≡ tree base
-      form_was = form_tree p.1 base pair_was.plain was_is
+      form_was = form_tree p.1 base plain_was was_is
 
       tree_now : IsPostingList n (tree top)
-      tree_now = tree_form n q.1 top pair_now.plain now_is pair_now.list_is
+      tree_now = tree_form n q.1 top plain_now now_is pair_now.list_is
 
       tree_was : IsPostingList m (tree base)
-      tree_was = tree_form m p.1 base pair_was.plain was_is pair_was.list_is
+      tree_was = tree_form m p.1 base plain_was was_is pair_was.list_is
 
       used_now : (x : ℕ) → Among x (tree_nodes n top) → in_use (new.status x) ≡ true
       used_now x among = list_used new n next moves.owns x q within (subst (λ f. Among x (postings_reach n f)) (sym form_now) among)
@@ -166,8 +176,8 @@ module _ {H : Type 0} (bits victim field doc next : ℕ) (at : PlanPlace) (value
       came : (node : ℕ) → Among node (tree_nodes n top) → buffer_of bits node ≡ victim → Among node (tree_nodes m base)
       came node among lies =
           let reached : Among node (list_reach n (list_word value n next)) =
-          subst (λ w. Among node (list_reach n w)) (sym (word_is value n next q found)) (subst (Among node) (sym (tree_reach n q.1 top pair_now.plain now_is)) among) in
-          subst (Among node) (tree_reach m p.1 base pair_was.plain was_is)
+          subst (λ w. Among node (list_reach n w)) (sym (word_is value n next q found)) (subst (Among node) (sym (tree_reach n q.1 top plain_now now_is)) among) in
+          subst (Among node) (tree_reach m p.1 base plain_was was_is)
           (subst (λ w. Among node (list_reach m w)) (word_is value m root p was) (moves.came node (leaves.unmade node lies (used_now node among)) reached))
 
       way_apart : NoneIn bits victim (path_nodes n (λ key. nat_cmp key doc) top)
@@ -199,26 +209,137 @@ module _ {H : Type 0} (bits victim field doc next : ℕ) (at : PlanPlace) (value
           (nodes_moved bits victim m n base top tree_was.0.node tree_now.0.node came (λ x x_was x_now. leaves.words x (used_was x x_was) (used_now x x_now))
           (λ d. IsVisited at field LISTS (plan.Pair value d)) (λ d. IsVisited here field LISTS (plan.Pair value d)) still_tree old_tree)
 
-    many_now : q.1 % 2 ≡ 1 → 8 < length (list_at n q.1)
-    many_now odd =
+    many_now : IsPlain q.1 → q.1 % 2 ≡ 1 → 8 < length (list_at n q.1)
+    many_now plain odd =
         let top : ℕ = q.1 / 2 in
         let now_is : q.1 ≡ 2 * top + 1 = omega (arith, odd) in
-        let many : 8 < length (tree_pairs n top) = (tree_form n q.1 top pair_now.plain now_is pair_now.list_is).1 in
+        let many : 8 < length (tree_pairs n top) = (tree_form n q.1 top plain now_is pair_now.list_is).1 in
         let size : length (map {B = ℕ × ℤ} (λ p. (p.0, weight_in_bits p.1)) (tree_pairs n top)) ≡ length (tree_pairs n top) = length-map (tree_pairs n top) (λ p. (p.0, weight_in_bits p.1)) in
-        let whole = ap {A = List (ℕ × ℤ)} length (tree_at n q.1 top pair_now.plain now_is) in
+        let whole = ap {A = List (ℕ × ℤ)} length (tree_at n q.1 top plain now_is) in
         omega (arith, many, size, whole)
 
-    moved_list : ListIsCleared bits victim here field n value (list_form q.1)
-    moved_list = told (q.1 % 2) refl
+    moved_plain : IsPlain q.1 → IsPlain p.1 → ListIsCleared bits victim here field n value (list_form q.1)
+    moved_plain plain_now plain_was = told (q.1 % 2) refl
       where
         told : (bit : ℕ) → q.1 % 2 ≡ bit → ListIsCleared bits victim here field n value (list_form q.1)
         told zero is =
-            let form = form_even q.1 pair_now.plain is in
+            let form = form_even q.1 plain_now is in
             subst (λ f. ListIsCleared bits victim here field n value f) (sym form) (λ visited. subst (FormIsApart bits victim doc n) form apart)
         told (suc zero) is =
-            let odd : p.1 % 2 ≡ 1 = many_odd m p.1 pair_was.plain pair_was.list_is (subst {A = List (ℕ × ℤ)} (λ docs. 8 < length docs) docs_same (many_now is)) in
-            moved_tree (q.1 / 2) (p.1 / 2) (omega (arith, is)) (omega (arith, odd))
+            let odd : p.1 % 2 ≡ 1 = many_odd m p.1 plain_was pair_was.list_is (subst {A = List (ℕ × ℤ)} (λ docs. 8 < length docs) docs_same (many_now plain_now is)) in
+            moved_tree plain_now plain_was (q.1 / 2) (p.1 / 2) (omega (arith, is)) (omega (arith, odd))
         told (suc (suc bit)) is = absurd (omega (arith, is))
+
+    -- both are bit vectors
+    module _ (top base : ℕ) (now_is : q.1 ≡ 8589934592 + top) (was_is : p.1 ≡ 8589934592 + base) where
+      vector_now : list_form q.1 ≡ vector top
+      vector_now = form_vector q.1 top now_is
+
+      vector_was : list_form p.1 ≡ vector base
+      vector_was = form_vector p.1 base was_is
+
+      posting_now : IsPostingList n (vector top)
+      posting_now = vector_form n q.1 top now_is pair_now.list_is
+
+      posting_was : IsPostingList m (vector base)
+      posting_was = vector_form m p.1 base was_is pair_was.list_is
+
+      used_after : (x : ℕ) → Among x (postings_reach n (vector top)) → in_use (new.status x) ≡ true
+      used_after x among = list_used new n next moves.owns x q within (subst (λ f. Among x (postings_reach n f)) (sym vector_now) among)
+
+      used_before : (x : ℕ) → Among x (postings_reach m (vector base)) → in_use (old.status x) ≡ true
+      used_before x among = list_used old m root owns x p there (subst (λ f. Among x (postings_reach m f)) (sym vector_was) among)
+
+      node_after : (x : ℕ) → Among x (tree_nodes n top) → in_use (new.status x) ≡ true
+      node_after x among = used_after x (among_left x (tree_nodes n top) (map (λ p. p.1) (tree_pairs n top)) among)
+
+      node_before : (x : ℕ) → Among x (tree_nodes m base) → in_use (old.status x) ≡ true
+      node_before x among = used_before x (among_left x (tree_nodes m base) (map (λ p. p.1) (tree_pairs m base)) among)
+
+      reached : (x : ℕ) → Among x (postings_reach n (vector top)) → in_use (old.status x) ≡ true → Among x (postings_reach m (vector base))
+      reached x among used =
+          let now : Among x (list_reach n (list_word value n next)) =
+          subst (λ w. Among x (list_reach n w)) (sym (word_is value n next q found)) (subst (Among x) (sym (vector_list_reach n q.1 top now_is)) among) in
+          subst (Among x) (vector_list_reach m p.1 base was_is) (subst (λ w. Among x (list_reach m w)) (word_is value m root p was) (moves.came x used now))
+
+      -- a node is no block: it has other words
+      node_came : (node : ℕ) → Among node (tree_nodes n top) → buffer_of bits node ≡ victim → Among node (tree_nodes m base)
+      node_came node among lies =
+          let used = leaves.unmade node lies (node_after node among) in
+          elim (Among-append node (tree_nodes m base) (map (λ p. p.1) (tree_pairs m base)) (reached node (among_left node (tree_nodes n top) (map (λ p. p.1) (tree_pairs n top)) among) used)) [
+            | inl here ↦ here
+            | inr block ↦ (
+                let wide = Among-all (λ x. length (n x) ≡ 34) (tree_nodes n top) (tree-wide n top posting_now.0.node) node among in
+                let size = block_size m (tree_pairs m base) posting_was.2 node block in
+                let same = ap length (leaves.words node used (node_after node among)) in
+                absurd (omega (arith, wide, size, same))
+                )
+          ]
+
+      -- block k leads to this record, in a word and in the tree
+      block_now : (k r : ℕ) → block_at n top k ≡ Some r → list_block n (list_word value n next) k ≡ Some r
+      block_now k r at = ap (λ w. list_block n w k) (word_is value n next q found) ∙ ap (λ f. form_block n f k) vector_now ∙ at
+
+      block_was : (k r : ℕ) → list_block m (list_word value m root) k ≡ Some r → block_at m base k ≡ Some r
+      block_was k r at = sym (ap (λ w. list_block m w k) (word_is value m root p was) ∙ ap (λ f. form_block m f k) vector_was) ∙ at
+
+      block_apart : IsBlockApart bits victim (doc / 4096) n top
+      block_apart = subst (FormIsApart bits victim doc n) vector_now apart
+
+      number_is : (k : ℕ) → 4096 * k ≡ doc → k ≡ doc / 4096
+      number_is k e = omega (arith, e)
+
+      on_block_way : (node : ℕ) → Among node (tree_nodes n top) → buffer_of bits node ≡ victim → (k : ℕ) → Among k (keys_below n node) → 4096 * k ≡ doc → ⊥
+      on_block_way node among lies k below e =
+          Among-all (λ r. buffer_of bits r ≢ victim) (path_nodes n (λ stored. nat_cmp stored (doc / 4096)) top) block_apart.way node
+          (subst (λ d. Among node (path_nodes n (λ stored. nat_cmp stored d) top)) (number_is k e)
+          (stand_on_ways nat_cmp nat_cmp_total by_number n top node k posting_now.0 among below)) lies
+
+      old_vector : VectorIsCleared bits victim at field m value base
+      old_vector =
+          subst (λ f. ListIsCleared bits victim at field m value f) vector_was
+          (subst (λ v. ListIsCleared bits victim at field m v (list_form p.1)) reads_was (at_pair (ListCleared at m) (tree_pairs m root) cleared.lists p there))
+
+      -- of the blocks that were there, those visited now were visited before, or it is this one
+      block_step : (k : ℕ) → Among k (map (λ p. p.0) (tree_pairs m base)) → BlockIsVisited here field value k → BlockIsVisited at field value k ⊎ (4096 * k ≡ doc)
+      block_step k number visited = told
+          (step value (4096 * k) (subst (λ v. IsAmongKeys (plan.Pair v (4096 * k)) (pair_keys type m root)) reads_was
+          (pair_in type m p (4096 * k) (tree_pairs m root) there (subst (λ f. Among (4096 * k) (form_docs m f)) (sym vector_was) (start_in k (tree_pairs m base) number)))) visited)
+        where
+          told : BlockIsVisited at field value k ⊎ (plan.Pair value (4096 * k) ≡ plan.Pair value doc) → BlockIsVisited at field value k ⊎ (4096 * k ≡ doc)
+          told (inl visited_then) = inl visited_then
+          told (inr e) = inr (ap doc_in e)
+
+      still_block : (node k : ℕ) → Among node (tree_nodes n top) → buffer_of bits node ≡ victim → Among k (keys_below n node) → Among k (tree_keys m base)
+          → BlockIsVisited here field value k → BlockIsVisited at field value k
+      still_block node k among lies below number visited = elim (block_step k number visited) [
+        | inl was ↦ was
+        | inr e ↦ absurd (on_block_way node among lies k below e)
+      ]
+
+      block_clear : (k r : ℕ) → block_at n top k ≡ Some r → BlockIsVisited here field value k → buffer_of bits r ≢ victim
+      block_clear k r at_now visited lies =
+          let among = among_right r (tree_nodes n top) (map (λ p. p.1) (tree_pairs n top)) (block_value n top k r at_now) in
+          let used = leaves.unmade r lies (used_after r among) in
+          let at_was = block_was k r (moves.blocks.each k r (block_now k r at_now) used) in
+          elim (block_step k (block_key m base k r at_was) visited) [
+            | inl before ↦ old_vector.blocks k r at_was before lies
+            | inr e ↦ block_apart.block r (subst (λ d. block_at n top d ≡ Some r) (number_is k e) at_now) lies
+          ]
+
+      moved_blocks : ListIsCleared bits victim here field n value (list_form q.1)
+      moved_blocks = subst (λ f. ListIsCleared bits victim here field n value f) (sym vector_now) (record {
+        nodes = nodes_moved bits victim m n base top posting_was.0.node posting_now.0.node node_came
+            (λ x x_was x_now. leaves.words x (node_before x x_was) (node_after x x_now)) (BlockIsVisited at field value) (BlockIsVisited here field value) still_block old_vector.nodes;
+        blocks = block_clear;
+      })
+
+    moved_list : ListIsCleared bits victim here field n value (list_form q.1)
+    moved_list = told (is_vector q.1) refl
+      where
+        told : (t : Bool) → is_vector q.1 ≡ t → ListIsCleared bits victim here field n value (list_form q.1)
+        told true is = moved_blocks (q.1 - 8589934592) (p.1 - 8589934592) (counted_from q.1 is) (counted_from p.1 (sym same_form ∙ is))
+        told false is = moved_plain (plain_of q.1 is) (plain_of p.1 (sym same_form ∙ is))
 
   each_list : (q : ℕ × ℕ) → InPairs q (tree_pairs n next) → ListCleared here n q
   each_list q within = elim (split_pair (beside_value value n) q (tree_pairs n next) within) [

@@ -27,6 +27,7 @@ use Rattle.compaction_moves.specs.IndexLaws.{KeyMoveClears, KeysAreSame, ListMov
 use Rattle.compaction_moves.specs.IndexTurns.{IsTurn, LeavesBuffer}
 use Rattle.compaction_moves.specs.FieldMoves.{HasBegun}
 use Rattle.compaction_moves.specs.Steps.{CanMove, Moved}
+use Rattle.compaction_moves.proofs.BlockLemmas.{dictionary_docs}
 use Rattle.compaction_moves.proofs.FieldLemmas.{column_same, documents_moved, documents_same, documents_turns, index_is, index_moved, index_owned, index_same, index_turns, keys_stay, refer_as}
 use Rattle.compaction_moves.proofs.FieldKeyLemmas.{document_phase, next_fine, pair_phase, value_phase}
 
@@ -129,7 +130,7 @@ module _ {H : Type 0} (bits : ℕ) (plan : PlanView) (a : AttributeTrees) (old :
           record {
             moves = index_moved bits plan.victim a.kind a.type old new m n a.documents a.dictionary can.field can.owns can.refers
                 stay next moves.left moves.left_in index reads moves.keys stays moves.turns
-                (λ phase. same a.kind a.type m n a.documents a.dictionary a.documents next phase can.field.index_is index reads column);
+                (λ phase. same a.kind a.type m n a.documents a.dictionary a.documents next phase reads moves.docs column) moves.plain;
             cleared = clears bits plan.victim plan.place.stage.field next plan.place value old new m n a typed (turn 0 (Value value) can) moves can.cleared;
           }
 
@@ -147,7 +148,7 @@ module _ {H : Type 0} (bits : ℕ) (plan : PlanView) (a : AttributeTrees) (old :
           let column = column_same bits plan.victim a.kind a.type old new m n a.documents a.dictionary can.field can.owns can.refers stay next [] tt index reads kept stays turns in
           record {
             moves = index_moved bits plan.victim a.kind a.type old new m n a.documents a.dictionary can.field can.owns can.refers stay next [] tt index reads kept stays turns
-                (λ phase. same a.kind a.type m n a.documents a.dictionary a.documents next phase can.field.index_is index reads column);
+                (λ phase. same a.kind a.type m n a.documents a.dictionary a.documents next phase reads moves.docs column) moves.plain;
             cleared = clears bits plan.victim plan.place.stage.field doc next plan.place value old new m n a typed (turn 2 (Pair value doc) can) moves
                 leaves (owned_index 2 (Pair value doc) can)
                 (documents_same bits plan.victim a.kind a.type old new m n a.documents a.dictionary can.field can.owns can.refers stay next [] tt index reads kept stays turns)
@@ -166,7 +167,7 @@ module _ {H : Type 0} (bits : ℕ) (plan : PlanView) (a : AttributeTrees) (old :
           let column = column_same bits plan.victim a.kind a.type old new m n a.documents a.dictionary can.field can.owns can.refers stay next [] tt index reads kept stays turns in
           record {
             moves = index_moved bits plan.victim a.kind a.type old new m n a.documents a.dictionary can.field can.owns can.refers stay next [] tt index reads kept stays turns
-                (λ phase. same a.kind a.type m n a.documents a.dictionary a.documents next phase can.field.index_is index reads column);
+                (λ phase. same a.kind a.type m n a.documents a.dictionary a.documents next phase reads moves.docs column) moves.plain;
             cleared = clears bits plan.victim plan.place.stage.field next plan.place value old new m n a typed (turn 3 (Value value) can) moves
                 leaves (owned_index 3 (Value value) can)
                 (documents_same bits plan.victim a.kind a.type old new m n a.documents a.dictionary can.field can.owns can.refers stay next [] tt index reads kept stays turns)
@@ -183,13 +184,14 @@ module _ {H : Type 0} (bits : ℕ) (plan : PlanView) (a : AttributeTrees) (old :
       items_done clears doc can moves =
           let index = index_is bits plan.victim a.kind a.type old new m n a.documents a.dictionary can.field can.owns can.refers
           stay next moves.documents_are moves.column_is moves.refers moves.turns in
+          let words = index_same bits plan.victim a.kind a.type old new m n a.documents a.dictionary can.field can.owns can.refers
+          stay next moves.documents_are moves.column_is moves.refers moves.turns in
           record {
             moves = documents_moved bits plan.victim a.kind a.type old new m n a.documents a.dictionary can.field can.owns can.refers
                 stay next moves.documents_are moves.column_is moves.refers moves.turns
-                (λ phase. same a.kind a.type m n a.documents a.dictionary next a.dictionary phase can.field.index_is index.0 index.1 moves.column_is);
+                (λ phase. same a.kind a.type m n a.documents a.dictionary next a.dictionary phase index.1 (dictionary_docs m n a.dictionary words) moves.column_is);
             cleared = clears bits plan.victim plan.place.stage.field doc next plan.place a old new m n refl can.phase_is (is_next 1 (Doc doc) can) (trees 1 (Doc doc) can)
-                (index_same bits plan.victim a.kind a.type old new m n a.documents a.dictionary can.field can.owns can.refers
-                stay next moves.documents_are moves.column_is moves.refers moves.turns) moves can.cleared;
+                words moves can.cleared;
           }
 
       pub map_done : MapIsCleared H → LeavesBuffer bits plan.victim old new m n → (doc : ℕ) → CanMove bits old m a plan 3 (Doc doc)
@@ -201,11 +203,12 @@ module _ {H : Type 0} (bits : ℕ) (plan : PlanView) (a : AttributeTrees) (old :
           let turns = documents_turns old new m n a.documents next moves.pairs moves.turns a.kind in
           let index = index_is bits plan.victim a.kind a.type old new m n a.documents a.dictionary can.field can.owns can.refers
           stay next moves.documents_are moves.column_is refers turns in
+          let words = index_same bits plan.victim a.kind a.type old new m n a.documents a.dictionary can.field can.owns can.refers
+          stay next moves.documents_are moves.column_is refers turns in
           record {
             moves = documents_moved bits plan.victim a.kind a.type old new m n a.documents a.dictionary can.field can.owns can.refers
                 stay next moves.documents_are moves.column_is refers turns
-                (λ phase. same a.kind a.type m n a.documents a.dictionary next a.dictionary phase can.field.index_is index.0 index.1 moves.column_is);
+                (λ phase. same a.kind a.type m n a.documents a.dictionary next a.dictionary phase index.1 (dictionary_docs m n a.dictionary words) moves.column_is);
             cleared = clears bits plan.victim plan.place.stage.field doc next plan.place a old new m n refl can.phase_is (is_next 3 (Doc doc) can) (trees 3 (Doc doc) can)
-                (index_same bits plan.victim a.kind a.type old new m n a.documents a.dictionary can.field can.owns can.refers
-                stay next moves.documents_are moves.column_is refers turns) owned leaves.unmade leaves.words moves can.cleared;
+                words owned leaves.unmade leaves.words moves can.cleared;
           }

@@ -1,6 +1,6 @@
 -- What a compaction has cleared of its victim: everything that the attributes reach up to the plan's place lies
 -- elsewhere.
-use Rattle.std.specs.Prelude.{◌≡◌, ◌≢◌, ℕ, List, Some, slice_get}
+use Rattle.std.specs.Prelude.{◌≡◌, ◌≢◌, ℕ, ◌*◌, List, Some, slice_get}
 use Rattle.std.specs.List.{AllByRecursion}
 use Rattle.std.specs.declared.cmp.Ordering.TheVariants.{Greater}
 use Rattle.entry_ref.specs.References.{buffer_of}
@@ -15,8 +15,10 @@ use Rattle.attr_field.specs.declared.roots.FieldRoots.{FieldRoots}
 use Rattle.attr_images.specs.Postings.{ListForm, short, tree, vector, list_form}
 use Rattle.attr_images.specs.Tables.{AttributeTrees}
 use Rattle.attr_images.specs.Values.{stored_value}
+use Rattle.attr_images.specs.declared.TheConstants.{BLOCK_DOCUMENTS}
 use Rattle.attr_types.specs.declared.field.Field.{Field}
 use Rattle.attr_types.specs.declared.value.Value.{Value}
+use Rattle.bit_vector.specs.Keeps.{block_at}
 use Rattle.compaction_moves.specs.DocumentMoves.{AreItemsApart}
 
 -- the trees of an attribute, from its field and its roots
@@ -32,13 +34,22 @@ abbrev pub NodesAreCleared : ℕ → ℕ → Records → (ℕ → Type 0) → �
 NodesAreCleared bits victim m visited root = (node : ℕ) → Among node (tree_nodes m root) → buffer_of bits node ≡ victim → (key : ℕ)
     → Among key (keys_below m node) → visited key → ⊥
 
--- a value's list: its record lies elsewhere, or its nodes on the ways to visited documents do. Bit vectors are not
--- covered
+-- the block with this number of a value's list was visited
+abbrev pub BlockIsVisited : PlanPlace → ℕ → Value → ℕ → Type 0
+BlockIsVisited at field value k = IsVisited at field LISTS (plan.Pair value (BLOCK_DOCUMENTS * k))
+
+-- a bit vector: its visited blocks lie elsewhere, and so do its nodes on the ways to them
+pub record VectorIsCleared (bits victim : ℕ) (at : PlanPlace) (field : ℕ) (m : Records) (value : Value) (root : ℕ) : Type 0 where
+  pub nodes : NodesAreCleared bits victim m (BlockIsVisited at field value) root
+  pub blocks : (k r : ℕ) → block_at m root k ≡ Some r → BlockIsVisited at field value k → buffer_of bits r ≢ victim
+
+-- a value's list: its record lies elsewhere, or its nodes on the ways to visited documents do, or what belongs to its
+-- visited blocks does
 abbrev pub ListIsCleared : ℕ → ℕ → PlanPlace → ℕ → Records → Value → ListForm → Type 0
 ListIsCleared bits victim at field m value (short ref) = IsVisited at field LISTS (plan.Pair value 0) → buffer_of bits ref ≢ victim
 ListIsCleared bits victim at field m value (tree root) =
     NodesAreCleared bits victim m (λ doc. IsVisited at field LISTS (plan.Pair value doc)) root
-ListIsCleared bits victim at field m value (vector root) = ⊥
+ListIsCleared bits victim at field m value (vector root) = VectorIsCleared bits victim at field m value root
 
 -- one attribute, by its number: its keys, its documents with what they refer to, its lists, and the nodes of its two
 -- trees

@@ -15,6 +15,10 @@ use Rattle.value_index.specs.Counts.{by_width}
 abbrev pub key_nodes : ℕ → ℕ
 key_nodes levels = 3 * levels + 1
 
+-- the nodes, whatever the trees: a list that is a bit vector gets at most two more than a tree of 8 levels
+abbrev pub most_nodes : ℕ
+most_nodes = 27
+
 abbrev pub one_record : ℕ → ℕ → ℕ
 one_record width w = if nat_eq w width then 1 else 0
 
@@ -24,10 +28,11 @@ pub record IsLowColumn (levels : ℕ) (column : Column) : Type 0 where
   pub values : (index : Index) → IsIndexOf column index → length index < 2 * 8 ^ levels
   pub documents : length column < 2 * 8 ^ levels
 
--- nodes are made, and one record of some width: for a value, a short list or a document's items. For an attribute of
--- kind single with long values that width is at most 16
-pub record MakesKey {H : Type 0} (kind : Kind) (type : ValueType) (column : Column) (old new : Ledger H) : Type 0 where
+-- nodes are made, and one record of some width: for a value, a short list, a block of a bit vector, or a document's items.
+-- If no list is a bit vector (`plain`), then nodes by the levels of trees, and for an attribute of kind single with long
+-- values that width is at most 16
+pub record MakesKey {H : Type 0} (plain : Type 0) (kind : Kind) (type : ValueType) (column : Column) (old new : Ledger H) : Type 0 where
   pub width : ℕ
-  pub narrow : kind ≡ Single → type ≡ Long → width ≤ 16
-  pub counts : MakesWithin old new (by_width (key_nodes 8) (one_record width))
-  pub low : (levels : ℕ) → IsLowColumn levels column → MakesWithin old new (by_width (key_nodes levels) (one_record width))
+  pub narrow : plain → kind ≡ Single → type ≡ Long → width ≤ 16
+  pub counts : MakesWithin old new (by_width most_nodes (one_record width))
+  pub low : plain → (levels : ℕ) → IsLowColumn levels column → MakesWithin old new (by_width (key_nodes levels) (one_record width))

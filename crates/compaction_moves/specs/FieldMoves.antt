@@ -13,13 +13,15 @@ use Rattle.attr_types.specs.declared.kind.Kind.{Kind}
 use Rattle.attr_types.specs.declared.kind.ValueType.{ValueType}
 use Rattle.compaction_moves.specs.IndexMoves.{IsKeyIn}
 use Rattle.attr_compaction.specs.PhaseKeys.{phase_keys}
+use Rattle.value_index.specs.Forms.{IsPlainIndex}
 use Rattle.value_index.specs.Indexes.{IsKey}
 
 -- a unit has just begun: what is in use was in use at its beginning
 pub record HasBegun {H : Type 0} (ledger : Ledger H) : Type 0 where
   pub each : (r : ℕ) → in_use (ledger.status r) ≡ true → in_use (ledger.back r) ≡ true
 
--- an attribute replaces another, with the same column and the same keys in all phases. It owns what that one owned,
+-- an attribute replaces another, with the same column and the same keys in all phases, and without bit vectors if the
+-- other had none. It owns what that one owned,
 -- except keys that lay in the buffer and now have copies: these stay in use, since documents may refer to them. A
 -- record to which documents refer is a key, such an old copy, or an older one
 pub record MovesField {H : Type 0} (bits buffer : ℕ) (kind : Kind) (type : ValueType) (old new : Ledger H) (m n : Records)
@@ -29,6 +31,7 @@ pub record MovesField {H : Type 0} (bits buffer : ℕ) (kind : Kind) (type : Val
   pub field_is : IsField kind type n next_documents next_dictionary
   pub column_is : column_at kind type n next_documents ≡ column_at kind type m documents
   pub keys_are : (phase : ℕ) → phase_keys type n next_documents next_dictionary phase ≡ phase_keys type m documents dictionary phase
+  pub plain : IsPlainIndex m dictionary → IsPlainIndex n next_dictionary
   pub refers : (r : ℕ) → Among r (documents_refer kind n next_documents)
       → IsKey n next_dictionary r ⊎ (Among r left
       ⊎ (Among r (documents_refer kind m documents) × (count_in r m (field_part kind documents dictionary ∷ []) < uses old r)))

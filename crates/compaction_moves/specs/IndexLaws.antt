@@ -15,9 +15,9 @@ use Rattle.attr_types.specs.Value.{type_of}
 use Rattle.attr_types.specs.declared.kind.Kind.{Kind}
 use Rattle.attr_types.specs.declared.kind.ValueType.{ValueType}
 use Rattle.attr_types.specs.declared.value.Value.{Value}
-use Rattle.compaction_moves.specs.IndexMoves.{MovesKey, MovesList, MovesNodes}
+use Rattle.compaction_moves.specs.IndexMoves.{lists_docs, MovesKey, MovesList, MovesNodes}
 use Rattle.attr_compaction.specs.PhaseKeys.{phase_keys}
-use Rattle.value_index.specs.Indexes.{index_part, IsIndex}
+use Rattle.value_index.specs.Indexes.{index_part}
 use Rattle.compaction_moves.specs.IndexTurns.{IsTurn, LeavesBuffer}
 use Rattle.compaction_moves.specs.Visits.{place_at_key}
 
@@ -47,10 +47,10 @@ NodeMoveClears H = (bits victim field next : ℕ) (at : PlanPlace) (value : Valu
     → IsClearedField bits victim at field m a
     → IsClearedField bits victim (place_at_key at (plan.Value value)) field n (record a { dictionary = next })
 
--- the keys of each phase are the same if the contents of the index and the column of the documents are the same:
--- whether a list is a single record follows from its length
+-- the keys of each phase are the same if the contents of the index, the form of each list, and the column of the documents
+-- are the same
 abbrev pub KeysAreSame : Type 0
 KeysAreSame = (kind : Kind) (type : ValueType) (m n : Records) (documents dictionary next_documents next_dictionary phase : ℕ)
-    → IsIndex type m dictionary → IsIndex type n next_dictionary → index_of type n next_dictionary ≡ index_of type m dictionary
+    → index_of type n next_dictionary ≡ index_of type m dictionary → lists_docs n next_dictionary ≡ lists_docs m dictionary
     → column_at kind type n next_documents ≡ column_at kind type m documents
     → phase_keys type n next_documents next_dictionary phase ≡ phase_keys type m documents dictionary phase

@@ -7,6 +7,7 @@ ghost use Rattle.attr_compaction.specs.declared.plan.TheConstants.{DOCUMENTS, NO
 ghost use Rattle.attr_compaction.specs.declared.plan.PlanKey.TheVariants as keys;
 ghost use Rattle.attr_images.specs.Documents.{column_at};
 ghost use Rattle.compaction_moves.specs.Counts.{MakesKey};
+ghost use Rattle.value_index.specs.Forms.{IsPlainIndex};
 ghost use Rattle.compaction_moves.specs.Steps.{CanMove, Moved};
 
 use crate::{can_law, items_law, keys_law, leaves_law, map_law, move_document_nodes, move_items};
@@ -31,7 +32,7 @@ pub fn move_document_items<const OFFSET_BITS: u32, S: Store<OFFSET_BITS>>(
         (keys.Doc doc) }
     ensures moved { IfOk result (λ next. Moved OFFSET_BITS plan.now (keys.Doc doc) (S.ledger store.old) (S.ledger store.new)
         (S.records store.old) (S.records store.new) (trees_of_roots field.now roots.entry) (trees_of_roots field.now next)) }
-    ensures counts { MakesKey field.now.kind field.now.value
+    ensures counts { MakesKey (IsPlainIndex (S.records store.old) roots.entry.dictionary) field.now.kind field.now.value
         (column_at field.now.kind field.now.value (S.records store.old) roots.entry.documents) (S.ledger store.old) (S.ledger store.new) }
     ensures refuses { IfErr result (RefusesOf (IsUsedWidth (S.ledger store.old) (S.records store.old)) (S.ledger store.old)
         (S.ledger store.new)) }
@@ -70,7 +71,7 @@ pub fn move_map_nodes<const OFFSET_BITS: u32, S: Store<OFFSET_BITS>>(
         (keys.Doc doc) }
     ensures moved { IfOk result (λ next. Moved OFFSET_BITS plan.now (keys.Doc doc) (S.ledger store.old) (S.ledger store.new)
         (S.records store.old) (S.records store.new) (trees_of_roots field.now roots.entry) (trees_of_roots field.now next)) }
-    ensures counts { MakesKey field.now.kind field.now.value
+    ensures counts { MakesKey (IsPlainIndex (S.records store.old) roots.entry.dictionary) field.now.kind field.now.value
         (column_at field.now.kind field.now.value (S.records store.old) roots.entry.documents) (S.ledger store.old) (S.ledger store.new) }
     ensures refuses { IfErr result (RefusesOf (IsUsedWidth (S.ledger store.old) (S.records store.old)) (S.ledger store.old)
         (S.ledger store.new)) }

@@ -8,6 +8,7 @@ ghost use Rattle.attr_compaction.specs.declared.plan.PlanKey.TheVariants as keys
 ghost use Rattle.attr_field.specs.Fields.{field_part, IsField, RefersBeside};
 ghost use Rattle.attr_images.specs.Documents.{column_at};
 ghost use Rattle.compaction_moves.specs.Counts.{MakesKey};
+ghost use Rattle.value_index.specs.Forms.{IsPlainIndex};
 ghost use Rattle.compaction_moves.specs.FieldMoves.{HasBegun, MovesField};
 ghost use Rattle.compaction_moves.specs.Steps.{CanMove, Moved};
 ghost use Rattle.attr_compaction.specs.PhaseKeys.{key_past, phase_keys};
@@ -34,7 +35,7 @@ fn move_by_value<const OFFSET_BITS: u32, S: Store<OFFSET_BITS>>(
         plan.now.place.stage.phase (keys.Value value.now) }
     ensures moved { IfOk result (λ next. Moved OFFSET_BITS plan.now (keys.Value value.now) (S.ledger store.old) (S.ledger store.new)
         (S.records store.old) (S.records store.new) (trees_of_roots field.now roots.entry) (trees_of_roots field.now next)) }
-    ensures counts { MakesKey field.now.kind field.now.value
+    ensures counts { MakesKey (IsPlainIndex (S.records store.old) roots.entry.dictionary) field.now.kind field.now.value
         (column_at field.now.kind field.now.value (S.records store.old) roots.entry.documents) (S.ledger store.old) (S.ledger store.new) }
     ensures refuses { IfErr result (RefusesOf (IsUsedWidth (S.ledger store.old) (S.records store.old)) (S.ledger store.old)
         (S.ledger store.new)) }
@@ -61,7 +62,7 @@ fn move_by_document<const OFFSET_BITS: u32, S: Store<OFFSET_BITS>>(
         plan.now.place.stage.phase (keys.Doc number) }
     ensures moved { IfOk result (λ next. Moved OFFSET_BITS plan.now (keys.Doc number) (S.ledger store.old) (S.ledger store.new)
         (S.records store.old) (S.records store.new) (trees_of_roots field.now roots.entry) (trees_of_roots field.now next)) }
-    ensures counts { MakesKey field.now.kind field.now.value
+    ensures counts { MakesKey (IsPlainIndex (S.records store.old) roots.entry.dictionary) field.now.kind field.now.value
         (column_at field.now.kind field.now.value (S.records store.old) roots.entry.documents) (S.ledger store.old) (S.ledger store.new) }
     ensures refuses { IfErr result (RefusesOf (IsUsedWidth (S.ledger store.old) (S.records store.old)) (S.ledger store.old)
         (S.ledger store.new)) }
@@ -102,7 +103,7 @@ pub fn move_one<const OFFSET_BITS: u32, S: Store<OFFSET_BITS>>(
     ensures cleared { IfOk result (λ next. IsClearedField OFFSET_BITS plan.now.victim
         (record { stage = plan.now.place.stage; key = key.now }) plan.now.place.stage.field (S.records store.new)
         (trees_of_roots field.now next)) }
-    ensures counts { MakesKey field.now.kind field.now.value
+    ensures counts { MakesKey (IsPlainIndex (S.records store.old) roots.entry.dictionary) field.now.kind field.now.value
         (column_at field.now.kind field.now.value (S.records store.old) roots.entry.documents) (S.ledger store.old) (S.ledger store.new) }
     ensures refuses { IfErr result (RefusesOf (IsUsedWidth (S.ledger store.old) (S.records store.old)) (S.ledger store.old)
         (S.ledger store.new)) }

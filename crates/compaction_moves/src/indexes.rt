@@ -7,6 +7,7 @@ ghost use Rattle.attr_compaction.specs.declared.plan.TheConstants.{KEYS, LISTS, 
 ghost use Rattle.attr_compaction.specs.declared.plan.PlanKey.TheVariants as keys;
 ghost use Rattle.attr_images.specs.Documents.{column_at};
 ghost use Rattle.compaction_moves.specs.Counts.{MakesKey};
+ghost use Rattle.value_index.specs.Forms.{IsPlainIndex};
 ghost use Rattle.compaction_moves.specs.Steps.{CanMove, Moved};
 
 use crate::{keys_law, leaves_law, move_key, move_list, move_nodes, moved_law};
@@ -28,7 +29,7 @@ pub fn move_value_key<const OFFSET_BITS: u32, S: Store<OFFSET_BITS>>(
         (keys.Value value.now) }
     ensures moved { IfOk result (λ next. Moved OFFSET_BITS plan.now (keys.Value value.now) (S.ledger store.old) (S.ledger store.new)
         (S.records store.old) (S.records store.new) (trees_of_roots field.now roots.entry) (trees_of_roots field.now next)) }
-    ensures counts { MakesKey field.now.kind field.now.value
+    ensures counts { MakesKey (IsPlainIndex (S.records store.old) roots.entry.dictionary) field.now.kind field.now.value
         (column_at field.now.kind field.now.value (S.records store.old) roots.entry.documents) (S.ledger store.old) (S.ledger store.new) }
     ensures refuses { IfErr result (RefusesOf (IsUsedWidth (S.ledger store.old) (S.records store.old)) (S.ledger store.old)
         (S.ledger store.new)) }
@@ -59,7 +60,7 @@ pub fn move_value_list<const OFFSET_BITS: u32, S: Store<OFFSET_BITS>>(
         (keys.Pair value.now doc) }
     ensures moved { IfOk result (λ next. Moved OFFSET_BITS plan.now (keys.Pair value.now doc) (S.ledger store.old) (S.ledger store.new)
         (S.records store.old) (S.records store.new) (trees_of_roots field.now roots.entry) (trees_of_roots field.now next)) }
-    ensures counts { MakesKey field.now.kind field.now.value
+    ensures counts { MakesKey (IsPlainIndex (S.records store.old) roots.entry.dictionary) field.now.kind field.now.value
         (column_at field.now.kind field.now.value (S.records store.old) roots.entry.documents) (S.ledger store.old) (S.ledger store.new) }
     ensures refuses { IfErr result (RefusesOf (IsUsedWidth (S.ledger store.old) (S.records store.old)) (S.ledger store.old)
         (S.ledger store.new)) }
@@ -90,7 +91,7 @@ pub fn move_value_nodes<const OFFSET_BITS: u32, S: Store<OFFSET_BITS>>(
         (keys.Value value.now) }
     ensures moved { IfOk result (λ next. Moved OFFSET_BITS plan.now (keys.Value value.now) (S.ledger store.old) (S.ledger store.new)
         (S.records store.old) (S.records store.new) (trees_of_roots field.now roots.entry) (trees_of_roots field.now next)) }
-    ensures counts { MakesKey field.now.kind field.now.value
+    ensures counts { MakesKey (IsPlainIndex (S.records store.old) roots.entry.dictionary) field.now.kind field.now.value
         (column_at field.now.kind field.now.value (S.records store.old) roots.entry.documents) (S.ledger store.old) (S.ledger store.new) }
     ensures refuses { IfErr result (RefusesOf (IsUsedWidth (S.ledger store.old) (S.records store.old)) (S.ledger store.old)
         (S.ledger store.new)) }

@@ -1,6 +1,7 @@
-ghost use Rattle.std.specs.Prelude.{◌≡◌, ◌+◌, ◌*◌, ◌/◌};
-ghost use Rattle.posting_store.specs.Lists.{IsPlain};
+ghost use Rattle.std.specs.Prelude.{◌≡◌, ◌+◌, ◌*◌, ◌/◌, true};
+ghost use Rattle.posting_store.specs.Lists.{is_vector, IsPlain};
 
+use attr_images::FIRST_VECTOR;
 use entry_ref::EntryRef;
 
 /// Returns the record of a short list or the root of a tree, from the word of a list.
@@ -25,4 +26,12 @@ pub fn tree_word<const OFFSET_BITS: u32>(root: EntryRef<OFFSET_BITS>) -> u64
     ensures plain { IsPlain result }
 {
     2 * root.raw() as u64 + 1
+}
+
+/// Returns the word of a list that is a bit vector.
+pub fn vector_word<const OFFSET_BITS: u32>(root: EntryRef<OFFSET_BITS>) -> u64
+    ensures word { result ≡ FIRST_VECTOR + root.entry }
+    ensures vector { is_vector result ≡ true }
+{
+    FIRST_VECTOR + root.raw() as u64
 }

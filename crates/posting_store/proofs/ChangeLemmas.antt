@@ -10,10 +10,12 @@ use Rattle.array_store.specs.Adding.{AddsRecord, MakesOneOf}
 use Rattle.attr_images.specs.Postings.{tree, list_form, IsPostingList}
 use Rattle.attr_images.specs.Words.{class_of, filled, stored_items, unpacked, IsStoredList}
 use Rattle.attr_types.specs.Lawful.{IsDocNumber}
-use Rattle.entry_ref.specs.Records.{Records}
+use Rattle.entry_ref.specs.Records.{Records, Among}
 use Rattle.store_api.specs.Ledgers.{Ledger, capacity}
 use Rattle.store_api.specs.Parts.{Part, count_in, times, entry, Owns, Turns, AllStay}
-use Rattle.store_api.specs.Units.{MakesAtMost}
+use Rattle.store_api.specs.Statuses.{in_use}
+use Rattle.store_api.specs.Units.{MakesAtMost, MayDo}
+use Rattle.store_api.proofs.Flows.{flow_part}
 use Rattle.store_api.proofs.Counts.{at_most-none, at_most-then, at_most-more}
 use Rattle.store_api.proofs.PartLemmas.{after, turns-as, turns-then, owns-some}
 use Rattle.tree_read.specs.Trees.{tree_pairs, by_number, IsTree}
@@ -22,7 +24,8 @@ use Rattle.frozen_btree.specs.Makes.{CountsNodes}
 use Rattle.posting_store.specs.Lists.{list_at, IsList, IsPlain, AreDocuments}
 use Rattle.posting_store.specs.ProofsForLists.{IsList-same, list_at-same}
 use Rattle.posting_store.specs.Changes.{list_part, list_most, IsListWidth, MakesList, MakesWithin}
-use Rattle.posting_store.proofs.FormLemmas.{form_short, form_tree, short_at, short_reach, tree_at, tree_reach}
+use Rattle.posting_store.proofs.FlowLemmas.{flows_fresh, flows_plain}
+use Rattle.posting_store.proofs.FormLemmas.{form_short, form_tree, no_vector, short_at, short_reach, tree_at, tree_reach}
 use Rattle.posting_store.proofs.PairLemmas.{weighed, weighed-length}
 
 nothing_ascends : IsStrictlySortedBy nat_cmp []
@@ -30,7 +33,7 @@ unfolding IsStrictlySortedBy
 nothing_ascends = tt
 
 -- a list in a form that reads as documents
-is_list : (n : Records) (word : ℕ) (docs : List (ℕ × ℤ)) → (0 < word → IsPostingList n (list_form word)) → list_at n word ≡ docs → AreDocuments docs → IsList n word
+pub is_list : (n : Records) (word : ℕ) (docs : List (ℕ × ℤ)) → (0 < word → IsPostingList n (list_form word)) → list_at n word ≡ docs → AreDocuments docs → IsList n word
 is_list n word docs form is are = record {
   form = form;
   ascends = subst (λ (es : List (ℕ × ℤ)). IsStrictlySortedBy nat_cmp (keys_of es)) (sym is) are.ascends;
@@ -39,12 +42,13 @@ is_list n word docs form is are = record {
 
 module _ {H : Type 0} (old new : Ledger H) (m n : Records) where
   -- nothing is made of no documents
-  pub makes_nothing : (next : ℕ) (items : List ℕ) → next ≡ 0 → old ≡ new → length items ≡ 0 → Turns old new m n [] [] → MakesList old new m n 0 (map unpacked items) next
-  makes_nothing next [] is same none turns = subst (MakesList old new m n 0 []) (sym is) (
+  pub makes_nothing : (next : ℕ) (items : List ℕ) → next ≡ 0 → old ≡ new → length items ≡ 0 → Turns old new m n [] [] → MakesList old new m n 0 (map unpacked items) false next
+  makes_nothing next [] is same none turns = subst (MakesList old new m n 0 [] false) (sym is) (
       record {
         list_is = is_list n 0 [] (λ some. absurd (omega arith)) refl (record { ascends = nothing_ascends; numbers = tt });
-        plain = omega arith;
+        form = refl;
         docs_are = refl;
+        flows = flows_plain (λ r. in_use (old.back r) ≡ true) m n 0 0 (omega arith) (omega arith);
         owns = record { each = λ r. omega arith };
         turns = turns-as old new m n [] [] (list_part 0 ∷ []) (list_part 0 ∷ []) turns (λ r. refl) (λ r. refl);
       }
@@ -53,7 +57,7 @@ module _ {H : Type 0} (old new : Ledger H) (m n : Records) where
 
   -- the record of a short list
   pub makes_short : (bits next ref : ℕ) (items : List ℕ) → next ≡ 2 * ref → IsPlain next → 0 < length items → length items ≤ 8 → AreDocuments (map unpacked items)
-      → stored_items (n ref) ≡ items → AddsRecord bits old new m n (length items ∷ items) ref → MakesList old new m n 0 (map unpacked items) next
+      → stored_items (n ref) ≡ items → AddsRecord bits old new m n (length items ∷ items) ref → MakesList old new m n 0 (map unpacked items) false next
   makes_short bits next ref items is plain some few are reads adds =
       let form = form_short next ref plain is in
       let docs = short_at n next ref plain is adds.some ∙ ap (map unpacked) reads in
@@ -67,18 +71,19 @@ module _ {H : Type 0} (old new : Ledger H) (m n : Records) where
       let counted : (r : ℕ) → count_in r n (list_part next ∷ []) ≡ count_in r n (entry ref ∷ []) = λ r. ap (λ rs. times r rs + 0) reach in
       record {
         list_is = is_list n next (map unpacked items) (λ more. subst (IsPostingList n) (sym form) stored) docs are;
-        plain = plain;
+        form = no_vector next plain;
         docs_are = docs;
+        flows = flows_plain (λ r. in_use (old.back r) ≡ true) m n 0 next (omega arith) plain;
         owns = record { each = λ r. let b = turns.balance r in let e = counted r in omega arith };
         turns = turns-as old new m n [] (entry ref ∷ []) (list_part 0 ∷ []) (list_part next ∷ []) turns (λ r. refl) counted;
       }
 
   -- a tree in place of other parts
-  pub makes_tree : (word next root : ℕ) (docs : List (ℕ × ℤ)) (parts : List Part) → next ≡ 2 * root + 1 → IsPlain next
+  pub makes_tree : (word next root : ℕ) (docs : List (ℕ × ℤ)) (parts : List Part) → next ≡ 2 * root + 1 → IsPlain next → IsPlain word
       → IsTree nat_cmp by_number n root → AllByRecursion (λ p. p.1 < 4294967296) (tree_pairs n root) → 8 < length docs → weighed (tree_pairs n root) ≡ docs → AreDocuments docs
       → Owns new n (tree_part root ∷ []) → Turns old new m n parts (tree_part root ∷ []) → ((r : ℕ) → count_in r m (list_part word ∷ []) ≡ count_in r m parts)
-      → MakesList old new m n word docs next
-  makes_tree word next root docs parts is plain tree_is small many reads are owns turns before =
+      → MakesList old new m n word docs false next
+  makes_tree word next root docs parts is plain was_plain tree_is small many reads are owns turns before =
       let form = form_tree next root plain is in
       let at = tree_at n next root plain is ∙ reads in
       let reach = tree_reach n next root plain is in
@@ -88,14 +93,15 @@ module _ {H : Type 0} (old new : Ledger H) (m n : Records) where
       let counted : (r : ℕ) → count_in r n (list_part next ∷ []) ≡ count_in r n (tree_part root ∷ []) = λ r. ap (λ rs. times r rs + 0) reach in
       record {
         list_is = is_list n next docs (λ more. subst (IsPostingList n) (sym form) posting) at are;
-        plain = plain;
+        form = no_vector next plain;
         docs_are = at;
+        flows = flows_plain (λ r. in_use (old.back r) ≡ true) m n word next was_plain plain;
         owns = record { each = λ r. let o = owns.each r in let e = counted r in omega arith };
         turns = turns-as old new m n parts (tree_part root ∷ []) (list_part word ∷ []) (list_part next ∷ []) turns before counted;
       }
 
 -- a new list, then the old one dropped
-module _ {H : Type 0} (a b c : Ledger H) (m n o : Records) (word next : ℕ) (docs : List (ℕ × ℤ)) (owns : Owns a m (list_part word ∷ [])) (makes : MakesList a b m n 0 docs next) where
+module _ {H : Type 0} (a b c : Ledger H) (m n o : Records) (word next : ℕ) (docs : List (ℕ × ℤ)) {dense : Bool} (owns : Owns a m (list_part word ∷ [])) (makes : MakesList a b m n 0 docs dense next) where
   made : Turns a b m n (list_part 0 ∷ []) (list_part next ∷ [])
   made = makes.turns
 
@@ -111,23 +117,25 @@ module _ {H : Type 0} (a b c : Ledger H) (m n o : Records) (word next : ℕ) (do
   pub old_owned : Owns b n (list_part word ∷ [])
   old_owned = owns-some b n (list_part next ∷ list_part word ∷ []) (list_part word ∷ []) first_owns (λ r. omega arith)
 
-  pub replaces : Turns b c n o (list_part word ∷ []) [] → MakesList a c m o word docs next
-  replaces dropped =
+  pub replaces : MayDo a b → Turns b c n o (list_part word ∷ []) [] → MakesList a c m o word docs dense next
+  replaces may dropped =
       let first = after a b m n (list_part 0 ∷ []) (list_part next ∷ []) (list_part word ∷ []) (list_part word ∷ []) (list_part next ∷ list_part word ∷ []) owns made (λ k r. omega arith) (λ k r. omega arith) in
       let second = after b c n o (list_part word ∷ []) [] (list_part next ∷ []) (list_part next ∷ list_part word ∷ []) (list_part next ∷ []) first.owns dropped (λ k r. omega arith) (λ k r. omega arith) in
       record {
         list_is = IsList-same n o next second.stay.0 makes.list_is;
-        plain = makes.plain;
+        form = makes.form;
         docs_are = list_at-same n o next second.stay.0 ∙ makes.docs_are;
+        flows = flows_fresh (λ r. in_use (a.back r) ≡ true) m o word next (λ r old among.
+            absurd (flow_part a b m n (list_part 0) (list_part next) may made r old (subst (λ (rs : List ℕ). Among r rs) ((list_part next).stays n o second.stay.0) among)));
         owns = second.owns;
         turns = turns-then a b c m n o (list_part word ∷ []) (list_part next ∷ list_part word ∷ []) (list_part next ∷ []) first.turns second.turns;
       }
 
 -- counts
-short_most : (levels count width : ℕ) → count ≤ 8 → list_most levels count width ≡ cond (nat_eq width (class_of (1 + count))) 1 0
+pub short_most : (levels count width : ℕ) → count ≤ 8 → list_most levels count width ≡ cond (nat_eq width (class_of (1 + count))) 1 0
 short_most levels count width few = ap (λ b. cond b (cond (nat_eq width (class_of (1 + count))) 1 0) (cond (nat_eq width 34) (2 * levels + 1) 0)) (le-leb count 8 few)
 
-tree_most : (levels count width : ℕ) → 8 < count → list_most levels count width ≡ cond (nat_eq width 34) (2 * levels + 1) 0
+pub tree_most : (levels count width : ℕ) → 8 < count → list_most levels count width ≡ cond (nat_eq width 34) (2 * levels + 1) 0
 tree_most levels count width many = ap (λ b. cond b (cond (nat_eq width (class_of (1 + count))) 1 0) (cond (nat_eq width 34) (2 * levels + 1) 0)) (too_many count 8 many)
 
 module _ {H : Type 0} (old new : Ledger H) where
@@ -179,6 +187,18 @@ module _ {H : Type 0} (old new : Ledger H) where
     each = λ width. subst (λ k. MakesAtMost (capacity old.work.sizes.words width) k (old.of_width width) (end.of_width width)) (let e : most width + 0 ≡ most width = omega arith in e)
         (at_most-then (capacity old.work.sizes.words width) (most width) 0 (old.of_width width) (new.of_width width) (end.of_width width) (made.each width) (none (capacity old.work.sizes.words width) width));
   }
+
+-- a larger bound, and two changes in a row
+pub counts_weaker : {H : Type 0} (a b : Ledger H) (f g : ℕ → ℕ) → ((w : ℕ) → f w ≤ g w) → MakesWithin a b f → MakesWithin a b g
+counts_weaker a b f g more made = record {
+  each = λ w. at_most-more (capacity a.work.sizes.words w) (f w) (g w) (a.of_width w) (b.of_width w) (more w) (made.each w);
+}
+
+pub counts_both : {H : Type 0} (a b c : Ledger H) (f g : ℕ → ℕ) → MayDo a b → MakesWithin a b f → MakesWithin b c g → MakesWithin a c (λ w. f w + g w)
+counts_both a b c f g may first second = record {
+  each = λ w. at_most-then (capacity a.work.sizes.words w) (f w) (g w) (a.of_width w) (b.of_width w) (c.of_width w) (first.each w)
+      (subst (λ sizes. MakesAtMost (capacity sizes.words w) (g w) (b.of_width w) (c.of_width w)) may.sizes (second.each w));
+}
 
 pub counts_none : {H : Type 0} (ledger : Ledger H) (most : ℕ → ℕ) → MakesWithin ledger ledger most
 counts_none ledger most = record {

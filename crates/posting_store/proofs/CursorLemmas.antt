@@ -1,8 +1,10 @@
 -- Places in a list.
-use Rattle.std.proofs.Common.{◌≡◌, ℕ, zero, suc, ◌+◌, ◌<◌, ◌≤◌, ◌/◌, ◌%◌, ◌^◌, ℤ, List, [], ◌∷◌, map, take, drop, refl, sym, ap, subst, ◌∙◌, arith}
+use Rattle.std.proofs.Common.{◌≡◌, ℕ, zero, suc, ◌+◌, ◌<◌, ◌≤◌, ◌/◌, ◌%◌, ◌^◌, ℤ, pos, Bool, true, false, cond, nat_eq, nat_le, ◌&&◌, ◌||◌, true≢false, List, [], ◌∷◌}
+use Rattle.std.proofs.Common.{◌++◌, map, filter, take, drop, length, refl, sym, ap, subst, ◌∙◌, arith}
+use Rattle.std.proofs.lemmas.Bool.{eq-eqb, eqb-true, le-leb}
 use Rattle.std.specs.Prelude.{slice_index}
 use Rattle.std.proofs.lemmas.List.{drop-map}
-use Rattle.std.specs.List.{AllByRecursion}
+use Rattle.std.specs.List.{flat_map, AllByRecursion}
 use Rattle.std.specs.Map.{keys_of}
 use Rattle.entry_ref.specs.Records.{Records}
 use Rattle.std.proofs.lemmas.Int.{of_z-to_z}
@@ -13,10 +15,17 @@ use Rattle.tree_read.proofs.PlaceLemmas.{pair-first}
 use Rattle.array_store.specs.Arrays.{IsArray}
 use Rattle.array_store.proofs.ArrayLemmas.{count_read, item_read}
 use Rattle.attr_types.specs.Lawful.{IsDocNumber}
+use Rattle.attr_images.proofs.BlockLemmas.{block_has_bits}
+use Rattle.attr_images.specs.Postings.{block_documents, vector_documents}
 use Rattle.attr_images.specs.Words.{unpacked, weight_in_bits, stored_items}
+use Rattle.bit_vector.specs.declared.cursor.VectorCursor.{VectorCursor}
+use Rattle.attr_index.specs.Sets.{has, in_words}
+use Rattle.bit_vector.specs.Walks.{documents_from, first_document, HasDocument, IsInBlock, IsVectorPlace}
+use Rattle.posting_store.specs.Lists.{list_at, IsList}
 use Rattle.posting_store.specs.declared.cursor.PostingCursor.{PostingCursor}
-use Rattle.posting_store.specs.declared.cursor.PostingCursor.TheVariants.{Short, Tree}
+use Rattle.posting_store.specs.declared.cursor.PostingCursor.TheVariants.{Short, Tree, Vector}
 use Rattle.posting_store.specs.Walks.{postings_from, first_doc, first_weight, HasPosting, StandsInList, IsListPlace}
+use Rattle.posting_store.proofs.VectorLemmas.{with_ones, vector_list_at}
 
 -- the first document of some is one
 pub first_is_doc : (es rest : List (ℕ × ℤ)) (e : ℕ × ℤ) → es ≡ e ∷ rest → AllByRecursion IsDocNumber (keys_of es) → IsDocNumber (first_doc es)
@@ -97,6 +106,87 @@ tree_doc {bits} m self at key is place some reads =
   where
     above : (ps rest : List (ℕ × ℕ)) (p : ℕ × ℕ) → ps ≡ p ∷ rest → AllByRecursion IsDocNumber (keys_of (map {B = ℕ × ℤ} (λ p. (p.0, weight_in_bits p.1)) ps)) → 1 ≤ first_key ps
     above ps rest p is all = subst (λ (ps : List (ℕ × ℕ)). AllByRecursion IsDocNumber (keys_of (map {B = ℕ × ℤ} (λ p. (p.0, weight_in_bits p.1)) ps)) → 1 ≤ first_key ps) (sym is) (λ all. all.0.0) all
+
+-- a place in a bit vector
+pub vector_place : {bits : ℕ} (m : Records) (word root : ℕ) (at : VectorCursor bits) → word ≡ 8589934592 + root → IsList m word → IsVectorPlace m at
+    → documents_from m at ≡ vector_documents m root → IsListPlace m (Vector at)
+vector_place m word root at is list place documents = record {
+  stands = place;
+  numbers = subst (λ (es : List (ℕ × ℤ)). AllByRecursion IsDocNumber (keys_of es)) (vector_list_at m word root is ∙ sym (ap with_ones documents)) list.numbers;
+}
+
+pub vector_postings : {bits : ℕ} (m : Records) (word root : ℕ) (at : VectorCursor bits) → word ≡ 8589934592 + root → documents_from m at ≡ vector_documents m root
+    → with_ones (documents_from m at) ≡ list_at m word
+vector_postings m word root at is documents = ap with_ones documents ∙ sym (vector_list_at m word root is)
+
+first_one : (docs : List ℕ) → first_document docs ≡ first_doc (with_ones docs)
+first_one [] = refl
+first_one (doc ∷ docs) = refl
+
+-- a document that is among some is among those of them from it on
+some_left : (t : ℕ → Bool) (d : ℕ) → t d ≡ true → (xs : List ℕ) → has xs d ≡ true → 0 < length (filter t xs)
+some_left t d pass [] is = absurd (true≢false (sym is))
+some_left t d pass (x ∷ xs) is = told (some_left t d pass xs) (nat_eq d x) refl is
+  where
+    told : (has xs d ≡ true → 0 < length (filter t xs)) → (b : Bool) → nat_eq d x ≡ b → (b || has xs d) ≡ true → 0 < length (cond (t x) (x ∷ filter t xs) (filter t xs))
+    told rest true same is = subst (λ k. 0 < length (cond k (x ∷ filter t xs) (filter t xs))) (sym (ap t (sym (eqb-true d x same)) ∙ pass)) (omega arith)
+    told rest false apart is = let some = rest is in elim (t x) as (λ k. 0 < length (cond k (x ∷ filter t xs) (filter t xs))) [
+      | true ↦ omega arith
+      | false ↦ some
+    ]
+
+has_in_first : (xs ys : List ℕ) (d : ℕ) → has xs d ≡ true → has (xs ++ ys) d ≡ true
+has_in_first [] ys d is = absurd (true≢false (sym is))
+has_in_first (x ∷ xs) ys d is = told (has_in_first xs ys d) (nat_eq d x) is
+  where
+    told : (has xs d ≡ true → has (xs ++ ys) d ≡ true) → (b : Bool) → (b || has xs d) ≡ true → (b || has (xs ++ ys) d) ≡ true
+    told rest true is = refl
+    told rest false is = rest is
+
+document_follows : {bits : ℕ} (m : Records) (at : VectorCursor bits) → IsVectorPlace m at → HasDocument at → 0 < length (documents_from m at)
+document_follows m at place some = by (pairs_from m at.blocks) _ _ (pair-first m at.blocks place.blocks.stands some) (place.document some)
+  where
+    by : (ps rest : List (ℕ × ℕ)) (p : ℕ × ℕ) → ps ≡ p ∷ rest → IsInBlock m at.doc ps
+        → 0 < length (filter (nat_le at.doc) (flat_map (λ q. block_documents q.0 (m q.1)) ps))
+    by ps rest p is inside =
+        let here : IsInBlock m at.doc (p ∷ rest) = subst (IsInBlock m at.doc) is inside in
+        let has_it = block_has_bits p.0 at.doc (m p.1) ∙ ap (λ b. b && in_words (m p.1) (at.doc % 4096)) (eq-eqb (at.doc / 4096) p.0 here.block) ∙ here.bit in
+        subst (λ qs. 0 < length (filter (nat_le at.doc) (flat_map (λ q. block_documents q.0 (m q.1)) qs))) (sym is)
+        (some_left (nat_le at.doc) at.doc (le-leb at.doc at.doc (omega arith)) (block_documents p.0 (m p.1) ++ flat_map (λ q. block_documents q.0 (m q.1)) rest)
+        (has_in_first (block_documents p.0 (m p.1)) (flat_map (λ q. block_documents q.0 (m q.1)) rest) at.doc has_it))
+
+first_is_one : (docs : List ℕ) → 0 < length docs → pos 1 ≡ first_weight (with_ones docs)
+first_is_one [] some = absurd (omega (arith, some))
+first_is_one (doc ∷ docs) some = refl
+
+-- a place in a bit vector that is seen as one of a list
+module _ {bits : ℕ} (m : Records) (self : PostingCursor bits) (at : VectorCursor bits) (is : self ≡ Vector at) (place : IsListPlace m self) where
+  here : PostingCursor bits
+  here = Vector at
+
+  pub vector_stands : IsVectorPlace m at
+  vector_stands = subst (StandsInList m) is place.stands
+
+  pub vector_has : HasPosting self → HasDocument at
+  vector_has some = subst HasPosting is some
+
+  pub vector_doc : (doc : ℕ) → ((m : Records) → IsVectorPlace m at → doc ≡ first_document (documents_from m at)) → doc ≡ first_doc (postings_from m self)
+  vector_doc doc reads = reads m vector_stands ∙ first_one (documents_from m at) ∙ ap (λ (s : PostingCursor bits). first_doc (postings_from m s)) (sym is)
+
+  pub vector_weight : HasPosting self → pos 1 ≡ first_weight (postings_from m self)
+  vector_weight some =
+      first_is_one (documents_from m at) (document_follows m at vector_stands (vector_has some))
+      ∙ ap (λ (s : PostingCursor bits). first_weight (postings_from m s)) (sym is)
+
+  pub vector_next_postings : (next : VectorCursor bits) → documents_from m next ≡ drop 1 (documents_from m at) → with_ones (documents_from m next) ≡ drop 1 (postings_from m self)
+  vector_next_postings next behind =
+      ap with_ones behind ∙ sym (drop-map (λ doc. (doc, pos 1)) 1 (documents_from m at)) ∙ ap (λ (s : PostingCursor bits). drop 1 (postings_from m s)) (sym is)
+
+  pub vector_next : (next : VectorCursor bits) → IsVectorPlace m next → documents_from m next ≡ drop 1 (documents_from m at) → IsListPlace m (Vector next)
+  vector_next next stands behind = record {
+    stands = stands;
+    numbers = numbers_next (postings_from m self) (with_ones (documents_from m next)) (vector_next_postings next behind) place.numbers;
+  }
 
 -- 32 bits read as a weight, written and read again
 pub weight_again : (bits : ℕ) (weight : ℤ) → weight ≡ weight_in_bits bits → bits < 2 ^ 32 → cast_signed w32 (cast_unsigned w32 weight) ≡ weight

@@ -1,5 +1,6 @@
 -- The form of a list by its word.
-use Rattle.std.proofs.Common.{◌≡◌, ℕ, zero, suc, ℤ, ◌+◌, ◌-◌, ◌*◌, ◌/◌, ◌%◌, ◌<◌, ◌≤◌, Bool, false, cond, nat_eq, [], ◌∷◌, map, length, refl, sym, ap, subst, ◌∙◌, arith}
+use Rattle.std.proofs.Common.{◌≡◌, ℕ, zero, suc, ℤ, ◌+◌, ◌-◌, ◌*◌, ◌/◌, ◌%◌, ◌<◌, ◌≤◌, Bool, true, false, cond, nat_eq, [], ◌∷◌, map, length, refl, sym, ap, subst, ◌∙◌, arith}
+use Rattle.std.proofs.lemmas.Bool.{le-leb, leb-true, leb-false}
 use Rattle.std.proofs.lemmas.List.{length-map}
 use Rattle.entry_ref.specs.Records.{Records}
 use Rattle.tree_read.specs.Trees.{tree_pairs, tree_nodes}
@@ -7,7 +8,7 @@ use Rattle.frozen_btree.specs.Changes.{levels}
 use Rattle.list_facts.proofs.Tests.{too_many}
 use Rattle.attr_images.specs.Postings.{ListForm, short, tree, vector, list_form, postings_at, postings_reach, IsPostingList}
 use Rattle.attr_images.specs.Words.{stored_items, unpacked, weight_in_bits}
-use Rattle.posting_store.specs.Lists.{list_at, list_reach, list_levels, form_levels, IsList, IsPlain}
+use Rattle.posting_store.specs.Lists.{list_at, list_reach, list_levels, form_levels, is_vector, IsList, IsPlain}
 
 form_by : Bool → Bool → ℕ → ListForm
 form_by dense even word = cond dense (vector (word - 8589934592)) (cond even (short (word / 2)) (tree (word / 2)))
@@ -30,6 +31,22 @@ form_short word ref plain is = form_even word plain (omega arith) ∙ ap short (
 
 pub form_tree : (word root : ℕ) → IsPlain word → word ≡ 2 * root + 1 → list_form word ≡ tree root
 form_tree word root plain is = form_odd word plain (omega arith) ∙ ap tree (let e : word / 2 ≡ root = omega arith in e)
+
+-- a bit vector is told by its word alone
+pub plain_of : (word : ℕ) → is_vector word ≡ false → IsPlain word
+plain_of word is = leb-false 8589934592 word is
+
+pub no_vector : (word : ℕ) → IsPlain word → is_vector word ≡ false
+no_vector word plain = too_many 8589934592 word plain
+
+pub vector_high : (word : ℕ) → is_vector word ≡ true → 8589934592 ≤ word
+vector_high word is = leb-true 8589934592 word is
+
+pub form_vector : (word root : ℕ) → word ≡ 8589934592 + root → list_form word ≡ vector root
+unfolding form_by
+form_vector word root is =
+    ap (λ b. form_by b (nat_eq (word % 2) 0) word) (le-leb 8589934592 word (omega arith))
+    ∙ ap vector (let e : word - 8589934592 ≡ root = omega arith in e)
 
 -- what is not empty is read by its form
 pub at_form : (m : Records) (word : ℕ) → 0 < word → list_at m word ≡ postings_at m (list_form word)

@@ -1,5 +1,5 @@
 -- The leaf of a list of nine documents, and a tree with a pair more or less.
-use Rattle.std.proofs.Common.{◌≡◌, ℕ, zero, suc, ℤ, ◌+◌, ◌*◌, ◌/◌, ◌%◌, ◌<◌, ◌≤◌, List, [], ◌∷◌, map, length, take, drop, get_or, set, refl, sym, ap, subst, ◌∙◌, arith}
+use Rattle.std.proofs.Common.{◌≡◌, ℕ, false, zero, suc, ℤ, ◌+◌, ◌*◌, ◌/◌, ◌%◌, ◌<◌, ◌≤◌, List, [], ◌∷◌, map, length, take, drop, get_or, set, refl, sym, ap, subst, ◌∙◌, arith}
 use Rattle.std.specs.Prelude.{IsSome}
 use Rattle.std.proofs.lemmas.List.{length-map, take_all}
 use Rattle.std.specs.BTreeMap.{insert_entry, is_at}
@@ -70,10 +70,10 @@ module _ (keys values items : List ℕ) (keys_are : keys ≡ map doc_word items)
   leaf_ascends are = subst (IsStrictlySortedBy nat_cmp) (sym (ap (map (λ p. p.0)) leaf_pairs ∙ zipped_keys items)) are.ascends
 
   pub makes_leaf : {H : Type 0} (old new : Ledger H) (m n : Records) (next root : ℕ) → length items ≡ 9 → AreDocuments (map unpacked items) → next ≡ 2 * root + 1 → IsPlain next
-      → IsTree nat_cmp by_number n root → tree_pairs n root ≡ zip keys values → Owns new n (tree root ∷ []) → Turns old new m n [] (tree root ∷ []) → MakesList old new m n 0 (map unpacked items) next
+      → IsTree nat_cmp by_number n root → tree_pairs n root ≡ zip keys values → Owns new n (tree root ∷ []) → Turns old new m n [] (tree root ∷ []) → MakesList old new m n 0 (map unpacked items) false next
   makes_leaf old new m n next root nine are is plain tree_is pairs owns turns =
       let whole = pairs ∙ leaf_pairs in
-      makes_tree old new m n 0 next root (map unpacked items) [] is plain tree_is (subst (AllByRecursion (λ p. p.1 < 4294967296)) (sym whole) (zipped_small items))
+      makes_tree old new m n 0 next root (map unpacked items) [] is plain (omega arith) tree_is (subst (AllByRecursion (λ p. p.1 < 4294967296)) (sym whole) (zipped_small items))
       (let size = length-map items unpacked in omega arith) (ap weighed whole ∙ zipped items) are owns turns (λ r. refl)
 
 pub length_in_least : (doc : ℕ) (weight : ℤ) (es : List (ℕ × ℤ)) → length es ≤ length (insert_entry nat_cmp es doc weight)
@@ -112,9 +112,9 @@ module _ {H : Type 0} (old new : Ledger H) (m n : Records) (word root : ℕ) (li
 
   module _ (doc bits : ℕ) (weight : ℤ) (number : IsDocNumber doc) (small : bits < 4294967296) (reads : weight_in_bits bits ≡ weight) where
     pub tree_added : (next top : ℕ) → next ≡ 2 * top + 1 → IsPlain next → IsTree nat_cmp by_number n top → tree_pairs n top ≡ put (against doc) (doc, bits) (tree_pairs m root)
-        → Owns new n (tree top ∷ []) → Turns old new m n (tree root ∷ []) (tree top ∷ []) → MakesList old new m n word (insert_entry nat_cmp (list_at m word) doc weight) next
+        → Owns new n (tree top ∷ []) → Turns old new m n (tree root ∷ []) (tree top ∷ []) → MakesList old new m n word (insert_entry nat_cmp (list_at m word) doc weight) false next
     tree_added next top made next_plain tree_is pairs owns turns =
-        makes_tree old new m n word next top (insert_entry nat_cmp (list_at m word) doc weight) (tree root ∷ []) made next_plain tree_is
+        makes_tree old new m n word next top (insert_entry nat_cmp (list_at m word) doc weight) (tree root ∷ []) made next_plain plain tree_is
         (subst (AllByRecursion (λ p. p.1 < 4294967296)) (sym pairs) (All-put (λ p. p.1 < 4294967296) (against doc) (doc, bits) (tree_pairs m root) small (tree_form m word root plain is list).2))
         (let least = length_in_least doc weight (list_at m word) in let before = many in omega arith)
         (ap weighed pairs ∙ weighed-put doc bits weight reads (tree_pairs m root) ∙ ap (λ es. insert_entry nat_cmp es doc weight) (sym (tree_at m word root plain is)))
@@ -141,9 +141,9 @@ module _ {H : Type 0} (old new : Ledger H) (m n : Records) (word root : ℕ) (li
     pair_there = weighed-there doc (tree_pairs m root) up (subst (λ es. IsSome (lookup_in (is_at (nat_cmp doc)) es)) (tree_at m word root plain is) there)
 
     pub tree_removed : (next top : ℕ) → next ≡ 2 * top + 1 → IsPlain next → IsTree nat_cmp by_number n top → tree_pairs n top ≡ take_out (against doc) (tree_pairs m root)
-        → Owns new n (tree top ∷ []) → Turns old new m n (tree root ∷ []) (tree top ∷ []) → MakesList old new m n word (remove_entry (is_at (nat_cmp doc)) (list_at m word)) next
+        → Owns new n (tree top ∷ []) → Turns old new m n (tree root ∷ []) (tree top ∷ []) → MakesList old new m n word (remove_entry (is_at (nat_cmp doc)) (list_at m word)) false next
     tree_removed next top made next_plain tree_is pairs owns turns =
-        makes_tree old new m n word next top (remove_entry (is_at (nat_cmp doc)) (list_at m word)) (tree root ∷ []) made next_plain tree_is
+        makes_tree old new m n word next top (remove_entry (is_at (nat_cmp doc)) (list_at m word)) (tree root ∷ []) made next_plain plain tree_is
         (subst (AllByRecursion (λ p. p.1 < 4294967296)) (sym pairs) (All-take_out (λ p. p.1 < 4294967296) (against doc) (tree_pairs m root) (tree_form m word root plain is list).2))
         left
         (ap weighed pairs ∙ weighed-take_out doc (tree_pairs m root) up ∙ ap (λ es. remove_entry (is_at (nat_cmp doc)) es) (sym (tree_at m word root plain is)))

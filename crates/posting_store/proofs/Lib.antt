@@ -2,7 +2,10 @@ pub mod ListLemmas
 pub mod CursorLemmas
 pub mod ItemLemmas
 pub mod FormLemmas
+pub mod FlowLemmas
 pub mod PairLemmas
 pub mod ChangeLemmas
 pub mod LeafLemmas
 pub mod RefusalLemmas
+pub mod VectorLemmas
+pub mod RuleLemmas

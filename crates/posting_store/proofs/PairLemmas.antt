@@ -1,5 +1,5 @@
 -- Pairs of a tree by document, and the postings that they are.
-use Rattle.std.proofs.Common.{◌≡◌, ℕ, suc, ℤ, ◌<◌, ◌≤◌, ◌/◌, ◌%◌, Bool, true, false, cond, List, [], ◌∷◌, map, length, Option, None, Some, refl, sym, ap, subst, ◌∙◌, arith}
+use Rattle.std.proofs.Common.{◌≡◌, ℕ, suc, ℤ, pos, ◌<◌, ◌≤◌, ◌/◌, ◌%◌, Bool, true, false, cond, List, [], ◌∷◌, map, length, Option, None, Some, refl, sym, ap, subst, ◌∙◌, arith}
 use Rattle.std.specs.Prelude.{IsSome}
 use Rattle.std.specs.BTreeMap.{insert_entry, is_at}
 use Rattle.std.specs.Cmp.{ranks}
@@ -13,7 +13,7 @@ use Rattle.std.specs.Ordering.{nat_cmp, match_ordering, is_eq, MatchOrdering}
 use Rattle.tree_read.specs.Pairs.{choose, lookup, put, take_out}
 use Rattle.attr_images.specs.Words.{unpacked, weight_in_bits}
 use Rattle.attr_types.specs.Lawful.{IsDocNumber}
-use Rattle.posting_store.specs.Lists.{AreDocuments}
+use Rattle.posting_store.specs.Lists.{AreDocuments, AreOnes}
 use Rattle.posting_store.proofs.ItemLemmas.{cmp_below, cmp_above, cmp_same, cmp_apart}
 
 -- a pair of a tree as a posting
@@ -182,6 +182,24 @@ sorted_out test (e ∷ es) up =
 
 pub documents_out : (test : ℕ → Bool) (es : List (ℕ × ℤ)) → AreDocuments es → AreDocuments (remove_entry test es)
 documents_out test es are = record { ascends = sorted_out test es are.ascends; numbers = all_out IsDocNumber test es are.numbers }
+
+-- weights of 1 stay so
+pub ones_in : (doc : ℕ) (weight : ℤ) (es : List (ℕ × ℤ)) → weight ≡ pos 1 → AreOnes es → AreOnes (insert_entry nat_cmp es doc weight)
+ones_in doc weight [] is all = (is, tt)
+ones_in doc weight (e ∷ es) is all =
+    elim (nat_cmp doc e.0) as (λ o. AreOnes (match_ordering o ((doc, weight) ∷ e ∷ es) ((e.0, weight) ∷ es) (e ∷ insert_entry nat_cmp es doc weight))) [
+      | Less ↦ (is, all)
+      | Equal ↦ (is, all.1)
+      | Greater ↦ (all.0, ones_in doc weight es is all.1)
+    ]
+
+pub ones_out : (test : ℕ → Bool) (es : List (ℕ × ℤ)) → AreOnes es → AreOnes (remove_entry test es)
+ones_out test [] all = tt
+ones_out test (e ∷ es) all =
+    elim (test e.0) as (λ b. AreOnes (cond b es (e ∷ remove_entry test es))) [
+      | true ↦ all.1
+      | false ↦ (all.0, ones_out test es all.1)
+    ]
 
 -- one document more at most, and one less
 pub length_in : (doc : ℕ) (weight : ℤ) (es : List (ℕ × ℤ)) → length (insert_entry nat_cmp es doc weight) ≤ suc (length es)

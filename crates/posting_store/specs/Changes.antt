@@ -1,44 +1,93 @@
 -- How a change of a list changes a store.
-use Rattle.std.specs.Prelude.{◌≡◌, ℕ, ℤ, ◌+◌, ◌*◌, ◌<◌, nat_eq, nat_le, if◌then◌else◌, List, [], ◌∷◌}
+use Rattle.std.specs.Prelude.{◌≡◌, ◌≢◌, ◌⊎◌, ℕ, ℤ, ◌+◌, ◌*◌, ◌<◌, Bool, true, false, nat_eq, nat_le, if◌then◌else◌, List, [], ◌∷◌, length}
+use Rattle.std.specs.Map.{keys_of}
 use Rattle.entry_ref.specs.Records.{Records}
-use Rattle.store_api.specs.Ledgers.{Ledger, capacity}
+use Rattle.store_api.specs.Ledgers.{Ledger}
 use Rattle.store_api.specs.Parts.{Part, Owns, Turns}
-use Rattle.store_api.specs.Units.{MakesAtMost}
+use Rattle.store_api.specs.Statuses.{in_use}
 use Rattle.tree_read.specs.declared.node_format.TheConstants.{NODE_WORDS}
+use Rattle.frozen_btree.specs.Builds.{nodes_of}
+use Rattle.attr_images.specs.Postings.{is_dense}
 use Rattle.attr_images.specs.declared.TheConstants.{MOST_SHORT}
 use Rattle.attr_images.specs.Words.{class_of}
-use Rattle.posting_store.specs.Lists.{list_at, list_reach, IsList, IsPlain}
+use Rattle.bit_vector.specs.Changes.{vector_most, IsVectorWidth}
+pub use Rattle.bit_vector.specs.Changes.{MakesWithin}
+use Rattle.bit_vector.specs.Vectors.{count_blocks}
+use Rattle.posting_store.specs.Keeps.{FlowsList}
+use Rattle.posting_store.specs.Lists.{list_at, list_reach, is_vector, IsList}
 use Rattle.posting_store.specs.ProofsForLists.{list_reach-same}
 
 -- a list as a part: it owns its records
 abbrev pub list_part : ℕ → Part
 list_part word = record { reach = λ m. list_reach m word; stays = λ m n same. list_reach-same m n word same }
 
--- a list of these documents was made, in place of another
-pub record MakesList {H : Type 0} (old new : Ledger H) (m n : Records) (word : ℕ) (docs : List (ℕ × ℤ)) (next : ℕ) : Type 0 where
+-- a list of these documents was made, in place of another; whether it is a bit vector. What was in use when the unit began
+-- is the same block of it
+pub record MakesList {H : Type 0} (old new : Ledger H) (m n : Records) (word : ℕ) (docs : List (ℕ × ℤ)) (dense : Bool) (next : ℕ)
+    : Type 0 where
   pub list_is : IsList n next
-  pub plain : IsPlain next
+  pub form : is_vector next ≡ dense
   pub docs_are : list_at n next ≡ docs
+  pub flows : FlowsList (λ r. in_use (old.back r) ≡ true) m n word next
   pub owns : Owns new n (list_part next ∷ [])
   pub turns : Turns old new m n (list_part word ∷ []) (list_part next ∷ [])
 
--- at most this many records of each width were made
-pub record MakesWithin {H : Type 0} (old new : Ledger H) (most : ℕ → ℕ) : Type 0 where
-  pub each : (width : ℕ) → MakesAtMost (capacity old.work.sizes.words width) (most width) (old.of_width width) (new.of_width width)
+-- the rule for a list that was changed: with `documents` documents in all, it is a bit vector exactly if it is dense. As
+-- a list, it is a record if it is short, and otherwise a tree
+abbrev pub MakesByRule : {H : Type 0} → Bool → ℕ → Ledger H → Ledger H → Records → Records → ℕ → List (ℕ × ℤ) → ℕ → Type 0
+MakesByRule dense documents old new m n word docs next = MakesList old new m n word docs (is_dense dense (length docs) documents) next
 
--- for a list that had this many levels of nodes, and then has this many documents: one record if it is now short,
--- otherwise only nodes
+-- ---- bounds on the records of each width
+-- for a list that had this many levels of nodes, and then has this many documents, if neither is a bit vector: one
+-- record if it is now short, otherwise only nodes
 abbrev pub list_most : ℕ → ℕ → ℕ → ℕ
 list_most levels count width =
     if nat_le count MOST_SHORT then (if nat_eq width (class_of (1 + count)) then 1 else 0)
     else if nat_eq width NODE_WORDS then 2 * levels + 1 else 0
 
--- the width of the records of a list of this many documents: that of its one record if it is short, otherwise that of
--- nodes
+-- for any list that then has these documents: whether it was a bit vector, and whether it is one now. A bit vector gets
+-- one block and nodes; a change of form makes besides at most one record for each block, and one tree
+abbrev pub list_change_most : Bool → Bool → ℕ → List (ℕ × ℤ) → ℕ → ℕ
+list_change_most false false levels docs width = list_most levels (length docs) width
+list_change_most true true levels docs width = vector_most 1 (2 * levels + 1) width
+list_change_most false true levels docs width =
+    vector_most (count_blocks (keys_of docs)) (2 * levels + 1 + nodes_of (count_blocks (keys_of docs))) width
+list_change_most true false levels docs width =
+    if nat_le (length docs) MOST_SHORT then list_most levels (length docs) width
+    else vector_most 1 (2 * levels + 1 + nodes_of (length docs)) width
+
+-- for a list with these documents whose form alone changes
+abbrev pub form_most : Bool → Bool → List (ℕ × ℤ) → ℕ → ℕ
+form_most false true docs width = vector_most (count_blocks (keys_of docs)) (nodes_of (count_blocks (keys_of docs))) width
+form_most true false docs width = vector_most 0 (nodes_of (length docs)) width
+form_most false false docs width = 0
+form_most true true docs width = 0
+
+-- ---- widths
+-- the width of the records of a list of this many documents that is no bit vector: that of its one record if it is
+-- short, otherwise that of nodes
 abbrev pub list_width : ℕ → ℕ
 list_width count = if nat_le count MOST_SHORT then class_of (1 + count) else NODE_WORDS
 
--- a width of a non-empty list of this many documents
+-- a width of a non-empty list of this many documents that is no bit vector
 pub record IsListWidth (count width : ℕ) : Type 0 where
   pub some : 0 < count
   pub width_is : width ≡ list_width count
+
+-- a width of a bit vector, which has more documents than a short list
+pub record IsLongWidth (count width : ℕ) : Type 0 where
+  pub many : MOST_SHORT < count
+  pub width_is : IsVectorWidth width
+
+-- a width for which the change of a list's form may be refused: it was a bit vector or not, and is to be one or not
+abbrev pub IsFormWidth : Bool → Bool → ℕ → Type 0
+IsFormWidth false true width = IsVectorWidth width
+IsFormWidth true false width = IsVectorWidth width
+IsFormWidth false false width = ⊥
+IsFormWidth true true width = ⊥
+
+-- a width for which the change of a list may be refused, by the documents that it has then; whether it was or is a bit
+-- vector
+abbrev pub IsListChangeWidth : Bool → ℕ → ℕ → Type 0
+IsListChangeWidth false count width = IsListWidth count width
+IsListChangeWidth true count width = IsListWidth count width ⊎ IsLongWidth count width

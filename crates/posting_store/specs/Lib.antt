@@ -3,3 +3,4 @@ pub mod ProofsForLists
 pub mod Changes
 pub mod Walks
 pub mod Laws
+pub mod Keeps

@@ -1,5 +1,5 @@
 -- A list of documents with weights, by the word that a dictionary stores for it: 0 is the empty list.
-use Rattle.std.specs.Prelude.{ℕ, zero, suc, ℤ, ◌<◌, List, []}
+use Rattle.std.specs.Prelude.{◌≡◌, ℕ, zero, suc, ℤ, pos, ◌<◌, Bool, nat_le, List, []}
 use Rattle.std.specs.List.{AllByRecursion}
 use Rattle.std.specs.List.Sorted.{IsStrictlySortedBy}
 use Rattle.std.specs.Map.{keys_of}
@@ -39,6 +39,14 @@ pub record IsList (m : Records) (word : ℕ) : Type 0 where
 pub record AreDocuments (docs : List (ℕ × ℤ)) : Type 0 where
   pub ascends : IsStrictlySortedBy nat_cmp (keys_of docs)
   pub numbers : AllByRecursion IsDocNumber (keys_of docs)
+
+-- each weight is 1, as in a bit vector
+abbrev pub AreOnes : List (ℕ × ℤ) → Type 0
+AreOnes docs = AllByRecursion (λ e. e.1 ≡ pos 1) docs
+
+-- it is a bit vector
+abbrev pub is_vector : ℕ → Bool
+is_vector word = nat_le FIRST_VECTOR word
 
 -- it is not a bit vector
 abbrev pub IsPlain : ℕ → Type 0

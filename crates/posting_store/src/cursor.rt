@@ -1,12 +1,13 @@
-ghost use Rattle.std.specs.Prelude.{◌≡◌, ◌↔◌, drop, length, [], false, IsTrue};
+ghost use Rattle.std.specs.Prelude.{◌≡◌, ◌↔◌, drop, length, [], true, false, IsTrue};
 ghost use Rattle.entry_ref.specs.Records.{Records};
-ghost use Rattle.posting_store.specs.Lists.{list_at, IsList, IsPlain};
+ghost use Rattle.posting_store.specs.Lists.{list_at, is_vector, IsList, IsPlain};
 ghost use Rattle.posting_store.specs.Walks.{postings_from, first_doc, first_weight, HasPosting, IsListPlace};
 
-use crate::posting::Posting;
+use crate::posting::{Posting, root_of};
 use arena_api::Frozen;
 use attr_images::WEIGHT_BASE;
 use attr_types::Doc;
+use bit_vector::{VectorCursor, count as count_documents};
 use entry_ref::EntryRef;
 use frozen_btree::{Cursor, total};
 
@@ -20,10 +21,11 @@ pub enum PostingCursor<const OFFSET_BITS: u32> {
         at: u32,
     },
     Tree(Cursor<OFFSET_BITS>),
+    Vector(VectorCursor<OFFSET_BITS>),
 }
 
-/// Returns a cursor before the first document of a list.
-pub fn walk<const OFFSET_BITS: u32, F: Frozen<OFFSET_BITS>>(
+/// Returns a cursor before the first document of a list that is no bit vector.
+fn walk_plain<const OFFSET_BITS: u32, F: Frozen<OFFSET_BITS>>(
     frozen: &mut F,
     list: Posting,
 ) -> PostingCursor<OFFSET_BITS>
@@ -49,8 +51,40 @@ pub fn walk<const OFFSET_BITS: u32, F: Frozen<OFFSET_BITS>>(
     }
 }
 
-/// Returns the number of documents of a list.
-pub fn count<const OFFSET_BITS: u32, F: Frozen<OFFSET_BITS>>(frozen: &mut F, list: Posting) -> u32
+/// Returns a cursor before the first document of a list that is a bit vector.
+fn walk_vector<const OFFSET_BITS: u32, F: Frozen<OFFSET_BITS>>(
+    frozen: &mut F,
+    list: Posting,
+) -> PostingCursor<OFFSET_BITS>
+    requires list { IsList (F.records frozen.old) list }
+    requires vector { is_vector list ≡ true }
+    ensures place { IsListPlace (F.records frozen.old) result }
+    ensures postings { postings_from (F.records frozen.old) result ≡ list_at (F.records frozen.old) list }
+    ensures same { frozen.new ≡ frozen.old }
+{
+    let root = root_of(frozen, list);
+    PostingCursor::Vector(VectorCursor::first(frozen, root))
+}
+
+/// Returns a cursor before the first document of a list.
+pub fn walk<const OFFSET_BITS: u32, F: Frozen<OFFSET_BITS>>(
+    frozen: &mut F,
+    list: Posting,
+) -> PostingCursor<OFFSET_BITS>
+    requires list { IsList (F.records frozen.old) list }
+    ensures place { IsListPlace (F.records frozen.old) result }
+    ensures postings { postings_from (F.records frozen.old) result ≡ list_at (F.records frozen.old) list }
+    ensures same { frozen.new ≡ frozen.old }
+{
+    if list.is_vector() {
+        walk_vector(frozen, list)
+    } else {
+        walk_plain(frozen, list)
+    }
+}
+
+/// Returns the number of documents of a list that is no bit vector.
+fn count_plain<const OFFSET_BITS: u32, F: Frozen<OFFSET_BITS>>(frozen: &mut F, list: Posting) -> u32
     requires list { IsList (F.records frozen.old) list }
     requires plain { IsPlain list }
     ensures count { result ≡ length (list_at (F.records frozen.old) list) }
@@ -67,6 +101,33 @@ pub fn count<const OFFSET_BITS: u32, F: Frozen<OFFSET_BITS>>(frozen: &mut F, lis
     }
 }
 
+/// Returns the number of documents of a list that is a bit vector.
+fn count_vector<const OFFSET_BITS: u32, F: Frozen<OFFSET_BITS>>(
+    frozen: &mut F,
+    list: Posting,
+) -> u32
+    requires list { IsList (F.records frozen.old) list }
+    requires vector { is_vector list ≡ true }
+    ensures count { result ≡ length (list_at (F.records frozen.old) list) }
+    ensures same { frozen.new ≡ frozen.old }
+{
+    let root = root_of(frozen, list);
+    count_documents(frozen, root)
+}
+
+/// Returns the number of documents of a list: in one read, or in one of each word of a bit vector.
+pub fn count<const OFFSET_BITS: u32, F: Frozen<OFFSET_BITS>>(frozen: &mut F, list: Posting) -> u32
+    requires list { IsList (F.records frozen.old) list }
+    ensures count { result ≡ length (list_at (F.records frozen.old) list) }
+    ensures same { frozen.new ≡ frozen.old }
+{
+    if list.is_vector() {
+        count_vector(frozen, list)
+    } else {
+        count_plain(frozen, list)
+    }
+}
+
 impl<const OFFSET_BITS: u32> PostingCursor<OFFSET_BITS> {
     /// Returns whether no document follows.
     pub fn at_end(&self) -> bool
@@ -77,6 +138,7 @@ impl<const OFFSET_BITS: u32> PostingCursor<OFFSET_BITS> {
         match self {
             PostingCursor::Short { count, at, .. } => *at >= *count,
             PostingCursor::Tree(cursor) => cursor.at_end(),
+            PostingCursor::Vector(cursor) => cursor.at_end(),
         }
     }
 
@@ -92,6 +154,7 @@ impl<const OFFSET_BITS: u32> PostingCursor<OFFSET_BITS> {
                 Doc::new((frozen.word(*list, 1 + *at) / WEIGHT_BASE) as u32)
             }
             PostingCursor::Tree(cursor) => Doc::new(cursor.key() as u32),
+            PostingCursor::Vector(cursor) => cursor.doc(),
         }
     }
 
@@ -107,6 +170,7 @@ impl<const OFFSET_BITS: u32> PostingCursor<OFFSET_BITS> {
                 ((frozen.word(*list, 1 + *at) % WEIGHT_BASE) as u32).cast_signed()
             }
             PostingCursor::Tree(cursor) => (cursor.value() as u32).cast_signed(),
+            PostingCursor::Vector(_) => 1,
         }
     }
 
@@ -121,6 +185,7 @@ impl<const OFFSET_BITS: u32> PostingCursor<OFFSET_BITS> {
         match self {
             PostingCursor::Short { at, .. } => *at += 1,
             PostingCursor::Tree(cursor) => cursor.next(frozen),
+            PostingCursor::Vector(cursor) => cursor.next(frozen),
         }
     }
 }

@@ -3,7 +3,7 @@ ghost use Rattle.std.specs.BTreeMap.{insert_entry, is_at};
 ghost use Rattle.std.specs.Map.{remove_entry};
 ghost use Rattle.std.specs.Ordering.{nat_cmp};
 ghost use Rattle.attr_images.specs.Words.{unpacked};
-ghost use Rattle.posting_store.specs.Lists.{list_at, IsList, IsPlain};
+ghost use Rattle.posting_store.specs.Lists.{list_at, IsList};
 
 use crate::cursor::walk;
 use crate::posting::Posting;
@@ -12,7 +12,7 @@ use arrayvec::ArrayVec;
 use attr_images::WEIGHT_BASE;
 use attr_types::Doc;
 
-/// The items of a short list, or of one with an additional document.
+/// The items of a short list, or of a list with one document more.
 pub type Items = ArrayVec<u64, 9>;
 
 /// Returns the item of a document with a weight.
@@ -36,7 +36,6 @@ pub fn items_of<const OFFSET_BITS: u32, F: Frozen<OFFSET_BITS>>(
     list: Posting,
 ) -> Items
     requires list { IsList (F.records frozen.old) list }
-    requires plain { IsPlain list }
     requires few { length (list_at (F.records frozen.old) list) ≤ 9 }
     ensures items { map unpacked result.items ≡ list_at (F.records frozen.old) list }
     ensures same { frozen.new ≡ frozen.old }

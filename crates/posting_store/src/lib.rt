@@ -1,10 +1,11 @@
 //! Posting lists, which are documents with weights, in a store. A short list is a record, a longer one a tree by
-//! document.
+//! document or a bit vector.
 #![tactic(auto)]
 
 mod adding;
 mod cursor;
 mod dropping;
+mod forming;
 mod items;
 mod laws;
 mod making;

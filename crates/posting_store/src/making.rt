@@ -1,4 +1,4 @@
-ghost use Rattle.std.specs.Prelude.{◌≡◌, ◌<◌, ◌≤◌, true, length, map, IfOk, IfErr};
+ghost use Rattle.std.specs.Prelude.{◌≡◌, ◌<◌, ◌≤◌, true, false, length, map, IfOk, IfErr};
 ghost use Rattle.std.specs.List.{AllByRecursion};
 ghost use Rattle.std.specs.List.Sorted.{IsStrictlySortedBy};
 ghost use Rattle.std.specs.Map.{keys_of};
@@ -26,7 +26,7 @@ fn make_short<const OFFSET_BITS: u32, S: Store<OFFSET_BITS>>(
     requires few { length items.now ≤ MOST_SHORT }
     requires documents { AreDocuments (map unpacked items.now) }
     ensures makes { IfOk result (MakesList (S.ledger store.old) (S.ledger store.new) (S.records store.old) (S.records store.new)
-        0 (map unpacked items.now)) }
+        0 (map unpacked items.now) false) }
     ensures counts { MakesWithin (S.ledger store.old) (S.ledger store.new) (list_most 0 (length items.now)) }
     ensures refuses { IfErr result (RefusesOf (IsListWidth (length items.now)) (S.ledger store.old) (S.ledger store.new)) }
     ensures may { MayDo (S.ledger store.old) (S.ledger store.new) }
@@ -44,7 +44,7 @@ fn make_leaf<const OFFSET_BITS: u32, S: Store<OFFSET_BITS>>(
     requires nine { length items.now ≡ 9 }
     requires documents { AreDocuments (map unpacked items.now) }
     ensures makes { IfOk result (MakesList (S.ledger store.old) (S.ledger store.new) (S.records store.old) (S.records store.new)
-        0 (map unpacked items.now)) }
+        0 (map unpacked items.now) false) }
     ensures counts { MakesWithin (S.ledger store.old) (S.ledger store.new) (list_most 0 (length items.now)) }
     ensures refuses { IfErr result (RefusesOf (IsListWidth (length items.now)) (S.ledger store.old) (S.ledger store.new)) }
     ensures may { MayDo (S.ledger store.old) (S.ledger store.new) }
@@ -59,7 +59,7 @@ fn make_leaf<const OFFSET_BITS: u32, S: Store<OFFSET_BITS>>(
     Ok(Posting::tree(root))
 }
 
-/// Makes a list of at most nine items with ascending documents.
+/// Makes a list of at most nine items with ascending documents, which is no bit vector.
 pub fn make_list<const OFFSET_BITS: u32, S: Store<OFFSET_BITS>>(
     store: &mut S,
     items: &[u64],
@@ -68,7 +68,7 @@ pub fn make_list<const OFFSET_BITS: u32, S: Store<OFFSET_BITS>>(
     requires few { length items.now ≤ 9 }
     requires documents { AreDocuments (map unpacked items.now) }
     ensures makes { IfOk result (MakesList (S.ledger store.old) (S.ledger store.new) (S.records store.old) (S.records store.new)
-        0 (map unpacked items.now)) }
+        0 (map unpacked items.now) false) }
     ensures counts { MakesWithin (S.ledger store.old) (S.ledger store.new) (list_most 0 (length items.now)) }
     ensures refuses { IfErr result (RefusesOf (IsListWidth (length items.now)) (S.ledger store.old) (S.ledger store.new)) }
     ensures may { MayDo (S.ledger store.old) (S.ledger store.new) }

@@ -1,6 +1,8 @@
-ghost use Rattle.std.specs.Prelude.{◌≡◌, ◌↔◌, ◌<◌, ◌+◌, ◌*◌, ◌/◌, ◌%◌, ◌^◌, IsTrue};
-ghost use Rattle.posting_store.specs.Lists.{IsPlain};
+ghost use Rattle.std.specs.Prelude.{◌≡◌, ◌↔◌, ◌<◌, ◌+◌, ◌*◌, ◌/◌, ◌%◌, ◌^◌, IsTrue, true, false};
+ghost use Rattle.posting_store.specs.Lists.{is_vector, IsList, IsPlain};
 
+use arena_api::Frozen;
+use attr_images::FIRST_VECTOR;
 use entry_ref::EntryRef;
 use std::marker::Model;
 
@@ -56,7 +58,25 @@ impl Posting {
         }
     }
 
-    /// Returns whether the list is a tree, not a record.
+    /// Returns the list that is the bit vector with this root.
+    pub(crate) fn vector<const OFFSET_BITS: u32>(root: EntryRef<OFFSET_BITS>) -> Posting
+        ensures word { result ≡ FIRST_VECTOR + root.entry }
+        ensures vector { is_vector result ≡ true }
+    {
+        Posting {
+            word: FIRST_VECTOR + root.raw() as u64,
+        }
+    }
+
+    /// Returns whether the list is a bit vector.
+    pub(crate) fn is_vector(self) -> bool
+        ensures vector { result ≡ is_vector self }
+        ensures plain { result ≡ false → IsPlain self }
+    {
+        self.word >= FIRST_VECTOR
+    }
+
+    /// Returns whether a list that is no bit vector is a tree, not a record.
     pub(crate) fn is_tree(self) -> bool
         ensures { IsTrue result ↔ (self % 2 ≡ 1) }
     {
@@ -70,4 +90,17 @@ impl Posting {
     {
         EntryRef::from_raw((self.word / 2) as u32)
     }
+}
+
+/// Returns the root of a list that is a bit vector.
+pub fn root_of<const OFFSET_BITS: u32, F: Frozen<OFFSET_BITS>>(
+    frozen: &F,
+    list: Posting,
+) -> EntryRef<OFFSET_BITS>
+    requires list { IsList (F.records frozen.now) list }
+    requires vector { is_vector list ≡ true }
+    ensures { list ≡ FIRST_VECTOR + result }
+{
+    let _ = frozen;
+    EntryRef::from_raw((list.word() - FIRST_VECTOR) as u32)
 }

@@ -12,6 +12,7 @@ pub holds_none : {H : Type 0} (type : ValueType) (ledger : Ledger H) (m : Record
 holds_none type ledger m zero none unit = record {
   unit = unit;
   index_is = (index_nothing type m).0;
+  plain = tt;
   owns = record { each = λ r. let reach = ap (times r) (index_nothing type m).2 in omega arith };
 }
 holds_none type ledger m (suc root) none unit = absurd (omega arith)

@@ -5,6 +5,7 @@ ghost use Rattle.test_indexes.specs.Holding.{HoldsValues};
 
 use attr_types::{Doc, Value};
 use entry_ref::EntryRef;
+use std::alloc::Global;
 use store_api::{Store, StoreError};
 use value_index::add;
 
@@ -20,6 +21,7 @@ pub fn is_like(value: &Value, like: &Value) -> bool
 
 /// Inserts a value into a dictionary of values of the same type, with a list of one document.
 fn put<const OFFSET_BITS: u32, S: Store<OFFSET_BITS>>(
+    alloc: Global,
     store: &mut S,
     root: EntryRef<OFFSET_BITS>,
     like: &Value,
@@ -29,12 +31,13 @@ fn put<const OFFSET_BITS: u32, S: Store<OFFSET_BITS>>(
     requires holds { HoldsValues (type_of like.now) (S.ledger store.old) (S.records store.old) root }
     ensures { IfOk result (HoldsValues (type_of like.now) (S.ledger store.new) (S.records store.new)) }
 {
-    let next = add(store, root, value, Doc::new(1), 1)?;
+    let next = add(alloc, store, root, value, Doc::new(1), 1, false, 0)?;
     Ok(next)
 }
 
 /// Makes the dictionary of these values, which all have the same type, in a unit.
 pub fn fill<const OFFSET_BITS: u32, S: Store<OFFSET_BITS>>(
+    alloc: Global,
     store: &mut S,
     like: &Value,
     values: &[Value],
@@ -46,7 +49,7 @@ pub fn fill<const OFFSET_BITS: u32, S: Store<OFFSET_BITS>>(
     let mut root = EntryRef::from_raw(0);
     for value in values {
         if is_like(value, like) {
-            root = put(store, root, like, value)?;
+            root = put(alloc, store, root, like, value)?;
         }
     }
     Ok(root)

@@ -122,7 +122,7 @@ fn fills_and_looks<const OFFSET_BITS: u32, S: Store<OFFSET_BITS>>(
 ) -> Result<bool, AllocError>
     requires { IsNew (S.ledger store.old) }
 {
-    match fill(store, asked.sought, asked.given) {
+    match fill(alloc, store, asked.sought, asked.given) {
         Ok(root) => looks(alloc, store, root, asked, wanted),
         Err(_) => Err(AllocError),
     }

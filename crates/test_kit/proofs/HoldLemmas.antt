@@ -1,5 +1,5 @@
 -- An index that is all that is in use stays so through a unit.
-use Rattle.std.proofs.Common.{◌≡◌, ℕ, [], ◌∷◌, true, sym, ap, subst, ◌∙◌, arith}
+use Rattle.std.proofs.Common.{◌≡◌, ℕ, [], ◌∷◌, true, false, refl, sym, ap, subst, ◌∙◌, arith, true≢false}
 use Rattle.entry_ref.specs.Records.{Records, SameAt}
 use Rattle.store_api.specs.Statuses.{in_use}
 use Rattle.store_api.specs.Ledgers.{Ledger, IsNew, IsSettled}
@@ -13,7 +13,9 @@ use Rattle.attr_images.specs.Postings.{index_of}
 use Rattle.attr_index.specs.Index.{Index}
 use Rattle.attr_types.specs.declared.kind.ValueType.{ValueType}
 use Rattle.value_index.specs.Changes.{MakesIndex}
+use Rattle.value_index.specs.Forms.{IsPlainIndex}
 use Rattle.value_index.specs.Indexes.{index_reach, index_part, IsIndex}
+use Rattle.value_index.proofs.FormLemmas.{form_stays}
 use Rattle.value_index.proofs.IndexLemmas.{index_nothing, index_stays}
 use Rattle.test_kit.specs.Holds.{HoldsIndex}
 
@@ -31,6 +33,9 @@ module _ {H : Type 0} (type : ValueType) (old begun mid new : Ledger H) (m k n o
   pub begun_index : IsIndex type k root
   begun_index = subst (λ f. IsIndex type f root) (sym records) holds.index_is
 
+  pub begun_plain : IsPlainIndex k root
+  begun_plain = subst (λ f. IsPlainIndex f root) (sym records) holds.plain
+
   -- a unit that is accepted
   module _ (next : ℕ) (index : Index) (makes : MakesIndex type begun mid k n root index next) (accepts : Accepts mid new n o) where
     done : After old new m o (index_part root ∷ []) (index_part next ∷ []) []
@@ -39,9 +44,10 @@ module _ {H : Type 0} (type : ValueType) (old begun mid new : Ledger H) (m k n o
     same_next : SameAt (index_reach n next) n o
     same_next = (accept-stays old begun mid new m k n o (index_part root ∷ []) (index_part next ∷ []) (all-owns old m (index_part root ∷ []) holds.owns) begins records makes.turns accepts).0
 
-    pub holds_next : HoldsIndex type new o next
-    holds_next = record {
+    pub holds_next : IsPlainIndex n next → HoldsIndex type new o next
+    holds_next plain = record {
       index_is = (index_stays type n o next same_next makes.index_is).0;
+      plain = (form_stays type n o next same_next false (record { ones = λ wanted. absurd (true≢false (sym wanted)); plain = λ off. plain })).plain refl;
       owns = all-then old new m o (index_part root ∷ []) (index_part next ∷ []) holds.owns done.turns;
       unit = accepts.unit;
     }
@@ -59,6 +65,7 @@ module _ {H : Type 0} (type : ValueType) (old begun mid new : Ledger H) (m k n o
         let both = undone old begun mid new m o settled begins may undoes in
         record {
           index_is = subst (λ f. IsIndex type f root) (sym both.0) holds.index_is;
+          plain = subst (λ f. IsPlainIndex f root) (sym both.0) holds.plain;
           owns = record { each = λ r. let all = holds.owns.each r in let used = both.1 r in let nodes = ap (λ (f : Records). times r (index_reach f root)) both.0 in omega arith };
           unit = undoes.unit;
         }
@@ -67,6 +74,7 @@ module _ {H : Type 0} (type : ValueType) (old begun mid new : Ledger H) (m k n o
 pub holds_nothing : {H : Type 0} (type : ValueType) (ledger : Ledger H) (m : Records) → IsNew ledger → HoldsIndex type ledger m 0
 holds_nothing type ledger m new = record {
   index_is = (index_nothing type m).0;
+  plain = tt;
   owns = record { each = λ r. let none = uses-out ledger r (ap in_use (new.status r)) in let reach = ap (times r) (index_nothing type m).2 in omega arith };
   unit = new.unit;
 }

@@ -8,9 +8,10 @@ use Rattle.attr_images.specs.Postings.{list_form, postings_at}
 use Rattle.attr_images.specs.Values.{stored_value, IsValueRecord}
 use Rattle.attr_types.specs.declared.kind.ValueType.{ValueType}
 use Rattle.attr_types.specs.declared.value.Value.{Value}
-use Rattle.posting_store.specs.Lists.{list_at}
+use Rattle.posting_store.specs.Lists.{list_at, IsPlain}
 use Rattle.posting_store.specs.Walks.{first_doc, first_weight}
 use Rattle.posting_store.proofs.FormLemmas.{at_form}
+use Rattle.value_index.specs.Forms.{IsPlainIndex}
 use Rattle.value_index.specs.Indexes.{IsIndex, IsValuePair}
 use Rattle.test_kit.specs.Holds.{as_listed}
 use Rattle.test_kit.specs.declared.reading.ValueList.{ValueList}
@@ -22,16 +23,18 @@ listed type m ps = map (λ p. (stored_value type m p.0, postings_at m (list_form
 pub record IsIndexPair (type : ValueType) (m : Records) (p : ℕ × ℕ) : Type 0 where
   pub record_is : IsValueRecord type (m p.0)
   pub pair_is : IsValuePair m p
+  pub plain : IsPlain p.1
 
 abbrev pub ArePairs : ValueType → Records → List (ℕ × ℕ) → Type 0
 ArePairs type m ps = AllByRecursion (IsIndexPair type m) ps
 
-both : (type : ValueType) (m : Records) (ps : List (ℕ × ℕ)) → AllByRecursion (λ p. IsValueRecord type (m p.0)) ps → AllByRecursion (IsValuePair m) ps → ArePairs type m ps
-both type m [] records pairs = tt
-both type m (p ∷ ps) records pairs = (record { record_is = records.0; pair_is = pairs.0 }, both type m ps records.1 pairs.1)
+both : (type : ValueType) (m : Records) (ps : List (ℕ × ℕ)) → AllByRecursion (λ p. IsValueRecord type (m p.0)) ps → AllByRecursion (IsValuePair m) ps
+    → AllByRecursion (λ p. IsPlain p.1) ps → ArePairs type m ps
+both type m [] records pairs plain = tt
+both type m (p ∷ ps) records pairs plain = (record { record_is = records.0; pair_is = pairs.0; plain = plain.0 }, both type m ps records.1 pairs.1 plain.1)
 
-pub index_pairs : (type : ValueType) (m : Records) (root : ℕ) → IsIndex type m root → ArePairs type m (tree_pairs m root)
-index_pairs type m root is = both type m (tree_pairs m root) is.dictionary_is.keys is.pairs
+pub index_pairs : (type : ValueType) (m : Records) (root : ℕ) → IsIndex type m root → IsPlainIndex m root → ArePairs type m (tree_pairs m root)
+index_pairs type m root is plain = both type m (tree_pairs m root) is.dictionary_is.keys is.pairs plain
 
 module _ (type : ValueType) (m : Records) where
   pub first_pair : (ps : List (ℕ × ℕ)) (key word : ℕ) → ps ≢ [] → key ≡ first_key ps → word ≡ first_value ps → ArePairs type m ps → IsIndexPair type m (key, word)

@@ -7,6 +7,7 @@ ghost use Rattle.attr_index.specs.Index.{list_of};
 ghost use Rattle.attr_types.specs.Value.{type_of};
 ghost use Rattle.posting_store.specs.Lists.{list_at, IsList, IsPlain};
 ghost use Rattle.posting_store.specs.Walks.{postings_from, first_doc, HasPosting, IsListPlace};
+ghost use Rattle.value_index.specs.Forms.{IsPlainIndex};
 ghost use Rattle.value_index.specs.Indexes.{IsIndex};
 
 use arena_api::Frozen;
@@ -96,7 +97,8 @@ pub fn has<const OFFSET_BITS: u32, F: Frozen<OFFSET_BITS>>(
     value: &Value,
     doc: Doc,
 ) -> bool
-    requires { IsIndex (type_of value.now) (F.records frozen.old) root }
+    requires index { IsIndex (type_of value.now) (F.records frozen.old) root }
+    requires plain { IsPlainIndex (F.records frozen.old) root }
     ensures has { IsTrue result → IsSome (lookup (is_at (nat_cmp doc))
         (list_of value.now (index_of (type_of value.now) (F.records frozen.old) root.entry))) }
     ensures same { frozen.new ≡ frozen.old }

@@ -4,6 +4,7 @@ ghost use Rattle.attr_images.specs.Values.{stored_value, IsValueRecord};
 ghost use Rattle.attr_index.specs.Index.{list_of};
 ghost use Rattle.attr_types.specs.Value.{type_of};
 ghost use Rattle.posting_store.specs.Lists.{list_at, IsList, IsPlain};
+ghost use Rattle.value_index.specs.Forms.{IsPlainIndex};
 ghost use Rattle.value_index.specs.Indexes.{IsIndex};
 ghost use Rattle.test_kit.specs.Holds.{as_listed};
 
@@ -52,7 +53,8 @@ pub fn documents_of<const OFFSET_BITS: u32, F: Frozen<OFFSET_BITS>>(
     root: EntryRef<OFFSET_BITS>,
     value: &Value,
 ) -> Result<Vec<(u32, i32)>, AllocError>
-    requires { IsIndex (type_of value.now) (F.records frozen.old) root }
+    requires index { IsIndex (type_of value.now) (F.records frozen.old) root }
+    requires plain { IsPlainIndex (F.records frozen.old) root }
     ensures documents { IfOk result (λ documents. documents.items
         ≡ list_of value.now (index_of (type_of value.now) (F.records frozen.old) root.entry)) }
     ensures same { frozen.new ≡ frozen.old }
@@ -90,7 +92,8 @@ pub fn all_lists<const OFFSET_BITS: u32, F: Frozen<OFFSET_BITS>>(
     root: EntryRef<OFFSET_BITS>,
     value_type: ValueType,
 ) -> Result<Vec<ValueList>, AllocError>
-    requires { IsIndex value_type (F.records frozen.old) root }
+    requires index { IsIndex value_type (F.records frozen.old) root }
+    requires plain { IsPlainIndex (F.records frozen.old) root }
     ensures lists { IfOk result (λ lists. map as_listed lists.items ≡ index_of value_type (F.records frozen.old) root.entry) }
     ensures same { frozen.new ≡ frozen.old }
 {
@@ -128,7 +131,8 @@ pub fn sum_of<const OFFSET_BITS: u32, F: Frozen<OFFSET_BITS>>(
     root: EntryRef<OFFSET_BITS>,
     value: &Value,
 ) -> u64
-    requires { IsIndex (type_of value.now) (F.records frozen.old) root }
+    requires index { IsIndex (type_of value.now) (F.records frozen.old) root }
+    requires plain { IsPlainIndex (F.records frozen.old) root }
     ensures same { frozen.new ≡ frozen.old }
 {
     match find(frozen, root, value) {

@@ -15,7 +15,7 @@ pub fn new_lists<const OFFSET_BITS: u32, W: Work<OFFSET_BITS> + Drop>(
     requires fresh { IsFresh (W.knows work) }
 {
     match EntryStore::create(alloc, work) {
-        Ok(store) => Ok(ValueLists::new(store, value_type)),
+        Ok(store) => Ok(ValueLists::new(alloc, store, value_type)),
         Err(_) => Err(AllocError),
     }
 }

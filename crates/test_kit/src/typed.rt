@@ -6,6 +6,7 @@ ghost use Rattle.std.specs.Ordering.{nat_cmp};
 ghost use Rattle.attr_images.specs.Postings.{index_of};
 ghost use Rattle.attr_index.specs.Index.{list_of, with_posting, without_posting};
 ghost use Rattle.attr_types.specs.Value.{type_of};
+ghost use Rattle.value_index.specs.Forms.{IsPlainIndex};
 ghost use Rattle.value_index.specs.Indexes.{IsIndex};
 ghost use Rattle.test_kit.specs.Holds.{HoldsIndex};
 
@@ -22,6 +23,7 @@ use value_index::key;
 /// Adds a document to the list of a value, in a unit of its own.
 #[tactic(none)]
 pub fn add_typed<const OFFSET_BITS: u32, S: Store<OFFSET_BITS>>(
+    alloc: Global,
     store: &mut S,
     root: EntryRef<OFFSET_BITS>,
     value_type: ValueType,
@@ -37,12 +39,13 @@ pub fn add_typed<const OFFSET_BITS: u32, S: Store<OFFSET_BITS>>(
     ensures still { OnErr result (HoldsIndex value_type (S.ledger store.new) (S.records store.new) root.entry) }
     ensures left { OnErr result (S.records store.new ≡ S.records store.old) }
 {
-    add_unit(store, root, value, doc, weight)
+    add_unit(alloc, store, root, value, doc, weight)
 }
 
 /// Removes a document that exists from the list of a value, in a unit of its own.
 #[tactic(none)]
 pub fn remove_typed<const OFFSET_BITS: u32, S: Store<OFFSET_BITS>>(
+    alloc: Global,
     store: &mut S,
     root: EntryRef<OFFSET_BITS>,
     value_type: ValueType,
@@ -58,7 +61,7 @@ pub fn remove_typed<const OFFSET_BITS: u32, S: Store<OFFSET_BITS>>(
     ensures still { OnErr result (HoldsIndex value_type (S.ledger store.new) (S.records store.new) root.entry) }
     ensures left { OnErr result (S.records store.new ≡ S.records store.old) }
 {
-    remove_unit(store, root, value, doc)
+    remove_unit(alloc, store, root, value, doc)
 }
 
 /// Returns whether a value has a document.
@@ -71,6 +74,7 @@ pub fn has_typed<const OFFSET_BITS: u32, F: Frozen<OFFSET_BITS>>(
 ) -> bool
     requires typed { type_of value.now ≡ value_type }
     requires index { IsIndex value_type (F.records frozen.old) root }
+    requires plain { IsPlainIndex (F.records frozen.old) root }
     ensures has { IsTrue result → IsSome (lookup (is_at (nat_cmp doc))
         (list_of value.now (index_of value_type (F.records frozen.old) root.entry))) }
     ensures same { frozen.new ≡ frozen.old }
@@ -102,6 +106,7 @@ pub fn documents_typed<const OFFSET_BITS: u32, F: Frozen<OFFSET_BITS>>(
 ) -> Result<Vec<(u32, i32)>, AllocError>
     requires typed { type_of value.now ≡ value_type }
     requires index { IsIndex value_type (F.records frozen.old) root }
+    requires plain { IsPlainIndex (F.records frozen.old) root }
     ensures documents { IfOk result (λ documents. documents.items
         ≡ list_of value.now (index_of value_type (F.records frozen.old) root.entry)) }
     ensures same { frozen.new ≡ frozen.old }
@@ -118,6 +123,7 @@ pub fn sum_typed<const OFFSET_BITS: u32, F: Frozen<OFFSET_BITS>>(
 ) -> u64
     requires typed { type_of value.now ≡ value_type }
     requires index { IsIndex value_type (F.records frozen.old) root }
+    requires plain { IsPlainIndex (F.records frozen.old) root }
     ensures same { frozen.new ≡ frozen.old }
 {
     sum_of(frozen, root, value)

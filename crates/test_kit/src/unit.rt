@@ -9,11 +9,13 @@ ghost use Rattle.test_kit.specs.Holds.{HoldsIndex};
 
 use attr_types::{Doc, Value};
 use entry_ref::EntryRef;
+use std::alloc::Global;
 use store_api::{Store, StoreError};
 use value_index::{add, remove};
 
 /// Adds a document to the list of a value, in a unit of its own.
 pub fn add_unit<const OFFSET_BITS: u32, S: Store<OFFSET_BITS>>(
+    alloc: Global,
     store: &mut S,
     root: EntryRef<OFFSET_BITS>,
     value: &Value,
@@ -28,7 +30,7 @@ pub fn add_unit<const OFFSET_BITS: u32, S: Store<OFFSET_BITS>>(
     ensures left { OnErr result (S.records store.new ≡ S.records store.old) }
 {
     store.begin();
-    match add(store, root, value, doc, weight) {
+    match add(alloc, store, root, value, doc, weight, false, 0) {
         Ok(next) => {
             store.accept();
             Ok(next)
@@ -42,6 +44,7 @@ pub fn add_unit<const OFFSET_BITS: u32, S: Store<OFFSET_BITS>>(
 
 /// Removes a document that exists from the list of a value, in a unit of its own.
 pub fn remove_unit<const OFFSET_BITS: u32, S: Store<OFFSET_BITS>>(
+    alloc: Global,
     store: &mut S,
     root: EntryRef<OFFSET_BITS>,
     value: &Value,
@@ -57,7 +60,7 @@ pub fn remove_unit<const OFFSET_BITS: u32, S: Store<OFFSET_BITS>>(
     ensures left { OnErr result (S.records store.new ≡ S.records store.old) }
 {
     store.begin();
-    match remove(store, root, value, doc) {
+    match remove(alloc, store, root, value, doc, false, 0) {
         Ok(rest) => {
             store.accept();
             Ok(rest)

@@ -19,6 +19,7 @@ use store_api::{Store, StoreError};
 /// change each.
 #[derive(Drop)]
 pub struct ValueLists<const OFFSET_BITS: u32, S: Store<OFFSET_BITS>> {
+    alloc: Global,
     store: S,
     root: EntryRef<OFFSET_BITS>,
     value_type: ValueType,
@@ -47,12 +48,13 @@ fn is_of(value: &Value, value_type: ValueType) -> bool
 
 impl<const OFFSET_BITS: u32, S: Store<OFFSET_BITS>> ValueLists<OFFSET_BITS, S> {
     /// Creates an empty map, in a store in which nothing was made.
-    pub fn new(store: S, value_type: ValueType) -> Self
+    pub fn new(alloc: Global, store: S, value_type: ValueType) -> Self
         requires { IsNew (S.ledger store) }
         ensures typed { result.value_type ≡ value_type }
         ensures index { result.index ≡ [] }
     {
         ValueLists {
+            alloc,
             store,
             root: EntryRef::from_raw(0),
             value_type,
@@ -81,6 +83,7 @@ impl<const OFFSET_BITS: u32, S: Store<OFFSET_BITS>> ValueLists<OFFSET_BITS, S> {
             return Ok(false);
         }
         let next = add_typed(
+            self.alloc,
             &mut self.store,
             self.root,
             self.value_type,
@@ -116,7 +119,14 @@ impl<const OFFSET_BITS: u32, S: Store<OFFSET_BITS>> ValueLists<OFFSET_BITS, S> {
         if !self.has(value, doc) {
             return Ok(false);
         }
-        self.root = remove_typed(&mut self.store, self.root, self.value_type, value, doc)?;
+        self.root = remove_typed(
+            self.alloc,
+            &mut self.store,
+            self.root,
+            self.value_type,
+            value,
+            doc,
+        )?;
         Ok(true)
     }
 

@@ -1,7 +1,7 @@
 ghost use Rattle.std.specs.Prelude.{◌≡◌, ◌≤◌};
 ghost use Rattle.store_api.specs.Ledgers.{IsNew};
 
-use crate::steps::{form_of, walk_of};
+use crate::steps::{dense_walk_of, form_of, walk_of};
 use crate::stores::new_store;
 use arena_api::Work;
 use entry_store::EntryStore;
@@ -11,6 +11,7 @@ use store_api::Store;
 
 /// Returns what the list of these documents is in a new store, and how many records of width 16 were made.
 fn made_in<const OFFSET_BITS: u32, W: Work<OFFSET_BITS>>(
+    alloc: Global,
     store: &mut EntryStore<OFFSET_BITS, W>,
     first: u32,
     last: u32,
@@ -21,7 +22,7 @@ fn made_in<const OFFSET_BITS: u32, W: Work<OFFSET_BITS>>(
     requires first { 1 ≤ first }
     requires last { last ≤ 1000 }
 {
-    let form = form_of(store, first, last, weight, again)?;
+    let form = form_of(alloc, store, first, last, weight, again)?;
     Ok((form, store.made(16)))
 }
 
@@ -37,7 +38,7 @@ fn made(
     requires last { last ≤ 1000 }
 {
     let mut store = new_store(alloc)?;
-    made_in::<22, _>(&mut store, first, last, weight, again)
+    made_in::<22, _>(alloc, &mut store, first, last, weight, again)
 }
 
 /// Returns whether the list of these documents is as expected; with `again`, the list after one more document was
@@ -133,6 +134,76 @@ fn a_walk_has_each_document_with_its_weight(rt: HostRuntime) -> Result<(), Fail>
     for (docs, weight, many, ends) in rows {
         let is_right = is_walked(alloc, docs, weight, many, ends)?;
         assert!(rt; is_right, "{many} documents");
+    }
+    Ok(())
+}
+
+/// Returns whether the list of these documents is a bit vector, and the documents, in a new store.
+fn dense_in<const OFFSET_BITS: u32, W: Work<OFFSET_BITS>>(
+    alloc: Global,
+    store: &mut EntryStore<OFFSET_BITS, W>,
+    first: u32,
+    last: u32,
+    documents: u32,
+    again: bool,
+) -> Result<(bool, Vec<(u32, i32)>), AllocError>
+    requires new { IsNew (⟦<EntryStore<OFFSET_BITS, W> as Store<OFFSET_BITS>>⟧.ledger store.old) }
+    requires first { 1 ≤ first }
+    requires last { last ≤ 1000 }
+{
+    dense_walk_of(alloc, store, first, last, documents, again)
+}
+
+/// The same in a store of its own.
+fn dense(
+    alloc: Global,
+    first: u32,
+    last: u32,
+    documents: u32,
+    again: bool,
+) -> Result<(bool, Vec<(u32, i32)>), AllocError>
+    requires first { 1 ≤ first }
+    requires last { last ≤ 1000 }
+{
+    let mut store = new_store(alloc)?;
+    dense_in::<22, _>(alloc, &mut store, first, last, documents, again)
+}
+
+/// Returns whether the list of the first documents is a bit vector as wanted, and has each of them with weight 1; with
+/// `again`, the list after one more document was added and removed.
+fn is_dense_as(
+    alloc: Global,
+    last: u32,
+    documents: u32,
+    again: bool,
+    wanted: bool,
+) -> Result<bool, AllocError> {
+    let (is_vector, docs) = dense(alloc, 1, last.min(1000), documents, again)?;
+    let ends = [docs.first().copied(), docs.last().copied()];
+    Ok(
+        is_vector == wanted
+            && docs.len() == last as usize
+            && ends == [Some((1, 1)), Some((last, 1))],
+    )
+}
+
+#[test]
+fn a_frequent_list_is_a_bit_vector(rt: HostRuntime) -> Result<(), Fail> {
+    let alloc = rt.alloc();
+    let rows = [
+        (8, 8, false, false),
+        (127, 127, false, false),
+        (128, 128, false, true),
+        // the document that makes a bit vector is removed again
+        (127, 128, true, false),
+        (128, 128, true, true),
+        (156, 5000, false, false),
+        (157, 5000, false, true),
+        (156, 5000, true, false),
+    ];
+    for (last, documents, again, wanted) in rows {
+        let is_right = is_dense_as(alloc, last, documents, again, wanted)?;
+        assert!(rt; is_right, "{last} of {documents}");
     }
     Ok(())
 }

@@ -1,5 +1,5 @@
 -- The index after a change of one value's list: the value's pair set in its dictionary, or taken out.
-use Rattle.std.proofs.Common.{◌≡◌, ℕ, ◌<◌, List, [], ◌∷◌, ◌++◌, map, length, Some, Option, option_map, IsSome, inl, inr, ◌⊎◌, refl, sym, ap, subst, ◌∙◌, arith}
+use Rattle.std.proofs.Common.{◌≡◌, ℕ, ℤ, ◌<◌, ◌≤◌, true, List, [], ◌∷◌, ◌++◌, map, length, Some, Option, option_map, IsSome, inl, inr, ◌⊎◌, refl, sym, ap, subst, ◌∙◌, arith}
 use Rattle.std.specs.BTreeMap.{insert_entry, is_at}
 use Rattle.std.specs.List.{flat_map, AllByRecursion}
 use Rattle.std.specs.Map.{remove_entry}
@@ -10,6 +10,7 @@ use Rattle.tree_read.specs.Pairs.{lookup, lookup_pair, put, take_out}
 use Rattle.tree_read.proofs.PairLemmas.{lookup-of_pair}
 use Rattle.store_api.specs.Ledgers.{Ledger}
 use Rattle.store_api.specs.Parts.{Part, After, Owns, Turns, count_in, entry, times}
+use Rattle.store_api.specs.Statuses.{in_use}
 use Rattle.store_api.specs.Units.{MayDo}
 use Rattle.store_api.proofs.PartLemmas.{after, owns-some, turns-as, turns-then}
 use Rattle.tree_read.specs.ProofsForTrees.{SameAt-right, all-same, tree_nodes-same}
@@ -18,6 +19,7 @@ use Rattle.frozen_btree.specs.Changes.{tree}
 use Rattle.attr_images.specs.Postings.{list_form, postings_reach, index_of}
 use Rattle.attr_images.specs.ProofsForImages.{postings_at-same}
 use Rattle.attr_images.specs.Values.{stored_value, value_of}
+use Rattle.attr_images.specs.declared.TheConstants.{LEAST_DENSE}
 use Rattle.attr_index.specs.Index.{list_of}
 use Rattle.attr_index.proofs.ListLemmas.{list_of-with_list_here}
 use Rattle.attr_types.specs.Value.{type_of, value_cmp}
@@ -26,11 +28,13 @@ use Rattle.attr_types.specs.declared.value.Value.{Value}
 use Rattle.enum_dictionary.specs.Dictionaries.{beside_value, IsDictionary, MakesDictionary}
 use Rattle.enum_dictionary.proofs.DictionaryLemmas.{dictionary_stays}
 use Rattle.posting_store.specs.Changes.{list_part}
-use Rattle.posting_store.specs.Lists.{list_at, list_reach}
+use Rattle.posting_store.specs.Lists.{list_at, list_reach, IsPlain}
 use Rattle.posting_store.specs.ProofsForLists.{IsList-same, list_at-same, list_reach-same}
+use Rattle.posting_store.proofs.FlowLemmas.{flows_on}
 use Rattle.posting_store.proofs.FormLemmas.{at_form}
 use Rattle.value_index.specs.Changes.{KeepsKeys, MakesIndex}
 use Rattle.value_index.specs.Flows.{list_word}
+use Rattle.value_index.specs.Forms.{IsPlainIndex}
 use Rattle.value_index.specs.Indexes.{index_part, IsIndex, IsKey, IsValuePair}
 use Rattle.store_api.specs.Flows.{ComesFrom}
 use Rattle.store_api.proofs.Flows.{began-then, flow_part}
@@ -118,7 +122,13 @@ module _ {H : Type 0} (value : Value) (a b : Ledger H) (m n : Records) (root key
       pairs_are = makes.pairs_are ∙ are ∙ open_put
 
       new_pair : IsValuePair o (key, word)
-      new_pair = record { key = is.key_some; some = some; list_is = IsList-same n o word tree_step.stay.1.0 is.list_is; plain = is.plain }
+      new_pair = record {
+        key = is.key_some;
+        some = some;
+        list_is = IsList-same n o word tree_step.stay.1.0 is.list_is;
+        long = λ vector. subst {A = List (ℕ × ℤ)} (λ ds. LEAST_DENSE ≤ length ds)
+            (sym (list_at-same n o word tree_step.stay.1.0)) (is.long vector);
+      }
 
       index_set : IsIndex type o next
       index_set = record {
@@ -162,6 +172,12 @@ module _ {H : Type 0} (value : Value) (a b : Ledger H) (m n : Records) (root key
           let one = pair_count o key word r some in
           omega arith
 
+      -- no list is a bit vector, if none was and this one is none
+      pub plain_set : IsPlain word → IsPlainIndex m root → IsPlainIndex o next
+      plain_set plain all =
+          subst (AllByRecursion (λ p. IsPlain p.1)) (sym pairs_are)
+          (all_put (beside_value value m) (λ p. IsPlain p.1) (key, word) (tree_pairs m root) plain (all_taken (beside_value value m) (λ p. IsPlain p.1) (tree_pairs m root) all))
+
       -- the list is as it was before the dictionary changed
       list_from : FlowsOpen value a b m n root key word → ComesFrom a (list_reach o word) (list_reach m (list_word value m root))
       list_from taken r began among = taken.from_list r began (subst (λ rs. Among r rs) (list_reach-same n o word tree_step.stay.1.0) among)
@@ -172,7 +188,8 @@ module _ {H : Type 0} (value : Value) (a b : Ledger H) (m n : Records) (root key
         index_is = index_set;
         reads_as = reads_set;
         keys = keys_set;
-        flows = flows_set value a m o root next (nodes_from taken.may may) rest_stays key word pairs_are (ap (value_of type) key_stays ∙ is.reads) taken.from_key (list_from taken);
+        flows = flows_set value a m o root next (nodes_from taken.may may) rest_stays key word pairs_are (ap (value_of type) key_stays ∙ is.reads) taken.from_key (list_from taken)
+            (flows_on (λ r. in_use (a.back r) ≡ true) m n o (list_word value m root) word tree_step.stay.1.0 taken.list_flows);
         owns = owns-some c o (parts next key word rest) (index_part next ∷ []) tree_step.owns (λ r. let e = set_count r in omega arith);
         turns = turns-as a c m o (index_part root ∷ []) (parts next key word rest) (index_part root ∷ []) (index_part next ∷ []) both (λ r. refl) set_count;
       }
@@ -243,6 +260,9 @@ module _ {H : Type 0} (value : Value) (a b : Ledger H) (m n : Records) (root key
         -- the nodes are as they were before the key was dropped
         nodes_left : MayDo a b → MayDo b c → ComesFrom a (tree_nodes p next) (tree_nodes m root)
         nodes_left first then r began among = nodes_from first then r began (subst (λ rs. Among r rs) (tree_nodes-same o p next drop_step.stay.0) among)
+
+        pub plain_out : IsPlainIndex m root → IsPlainIndex p next
+        plain_out all = subst (AllByRecursion (λ q. IsPlain q.1)) (sym pairs_left) (all_taken (beside_value value m) (λ q. IsPlain q.1) (tree_pairs m root) all)
 
         pub value_out : MayDo a b → MayDo b c → MakesIndex type a d m p root (remove_entry (is_at (value_cmp value)) (index_of type m root)) next
         value_out first then = record {

@@ -1,11 +1,10 @@
 -- How many records a change makes of each width.
-use Rattle.std.proofs.Common.{◌≡◌, ◌≢◌, ℕ, ◌+◌, ◌*◌, ◌≤◌, Bool, true, false, cond, inl, inr, length, nat_eq, nat_le, Option, None, Some, option_map, refl, sym, ap, subst, ◌∙◌, arith}
+use Rattle.std.proofs.Common.{◌≡◌, ◌≢◌, ℕ, ℤ, List, ◌+◌, ◌*◌, ◌≤◌, Bool, true, false, cond, inl, inr, length, nat_eq, nat_le, Option, None, Some, option_map, refl, sym, ap, subst, arith}
 use Rattle.std.proofs.lemmas.Bool.{eqb-true, eqb-false, leb-false}
-use Rattle.std.specs.Option.{is_some, unwrap_or}
+use Rattle.std.specs.Option.{is_some}
 use Rattle.frozen_btree.proofs.TopLemmas.{levels-same}
 use Rattle.entry_ref.specs.Records.{Records, SameAt}
-use Rattle.tree_read.specs.Pairs.{lookup, lookup_pair}
-use Rattle.tree_read.proofs.PairLemmas.{lookup-of_pair}
+use Rattle.tree_read.specs.Pairs.{lookup_pair}
 use Rattle.store_api.specs.Ledgers.{Ledger, capacity}
 use Rattle.store_api.specs.Units.{MayDo, MakesAtMost}
 use Rattle.store_api.proofs.Counts.{at_most-more, at_most-none, at_most-then}
@@ -18,8 +17,11 @@ use Rattle.attr_images.specs.Values.{value_words}
 use Rattle.attr_images.specs.Words.{class_of}
 use Rattle.attr_types.specs.declared.value.Value.{Value}
 use Rattle.enum_dictionary.specs.Dictionaries.{beside_value}
-use Rattle.posting_store.specs.Changes.{list_most, MakesWithin}
-use Rattle.posting_store.specs.Lists.{list_levels}
+use Rattle.attr_images.specs.Postings.{is_dense}
+use Rattle.posting_store.specs.Changes.{list_change_most, MakesWithin}
+use Rattle.posting_store.specs.Lists.{is_vector, list_levels}
+use Rattle.value_index.specs.Flows.{list_word}
+use Rattle.value_index.proofs.FormLemmas.{word_found, word_none}
 use Rattle.value_index.specs.Changes.{add_most, change_most, new_most, nodes_most, record_most}
 
 pub within_more : {H : Type 0} (a b : Ledger H) (f g : ℕ → ℕ) → ((w : ℕ) → f w ≤ g w) → MakesWithin a b f → MakesWithin a b g
@@ -84,32 +86,27 @@ within_tree a b m n root most same few counts =
     subst (λ h. MakesWithin a b (nodes_most h)) (levels-same m n root same) (within_nodes a b (levels n root) most few counts)
 
 -- ---- what a change makes, by what is found
-module _ (value : Value) (m : Records) (root : ℕ) where
-  pair_word : lookup (beside_value value m) (tree_pairs m root) ≡ option_map (λ p. p.1) (lookup_pair (beside_value value m) (tree_pairs m root))
-  pair_word = lookup-of_pair (beside_value value m) (tree_pairs m root)
+-- what a list makes that then has these documents, by the word that it had
+abbrev pub word_most : Records → Bool → ℕ → ℕ → List (ℕ × ℤ) → ℕ → ℕ
+word_most m dense documents word docs = list_change_most (is_vector word) (is_dense dense (length docs) documents) (list_levels m word) docs
 
-  change_by : (word count w : ℕ) → unwrap_or (lookup (beside_value value m) (tree_pairs m root)) 0 ≡ word
-      → change_most value m root count w ≡ list_most (list_levels m word) count w + nodes_most (levels m root) w
-  change_by word count w is = ap (λ x. list_most (list_levels m x) count w + nodes_most (levels m root) w) is
+module _ (value : Value) (m : Records) (root : ℕ) (dense : Bool) (documents : ℕ) (docs : List (ℕ × ℤ)) where
+  change_by : (word w : ℕ) → list_word value m root ≡ word
+      → change_most value m root dense documents docs w ≡ word_most m dense documents word docs w + nodes_most (levels m root) w
+  change_by word w is = ap (λ x. word_most m dense documents x docs w + nodes_most (levels m root) w) is
 
-  pub change_found : (key word count w : ℕ) → lookup_pair (beside_value value m) (tree_pairs m root) ≡ Some (key, word)
-      → list_most (list_levels m word) count w + nodes_most (levels m root) w ≤ change_most value m root count w
-  change_found key word count w found =
-      let word_is : unwrap_or (lookup (beside_value value m) (tree_pairs m root)) 0 ≡ word =
-      ap (λ (o : Option ℕ). unwrap_or o 0) (pair_word ∙ ap (λ (o : Option (ℕ × ℕ)). option_map (λ (p : ℕ × ℕ). p.1) o) found) in
-      let same = change_by word count w word_is in
-      omega arith
+  pub change_found : (key word w : ℕ) → lookup_pair (beside_value value m) (tree_pairs m root) ≡ Some (key, word)
+      → word_most m dense documents word docs w + nodes_most (levels m root) w ≤ change_most value m root dense documents docs w
+  change_found key word w found = let same = change_by word w (word_found value m root (key, word) found) in omega arith
 
-  pub add_found : (key word count w : ℕ) → lookup_pair (beside_value value m) (tree_pairs m root) ≡ Some (key, word)
-      → list_most (list_levels m word) count w + nodes_most (levels m root) w ≤ add_most value m root count w
-  add_found key word count w found = let few = change_found key word count w found in omega arith
+  pub add_found : (key word w : ℕ) → lookup_pair (beside_value value m) (tree_pairs m root) ≡ Some (key, word)
+      → word_most m dense documents word docs w + nodes_most (levels m root) w ≤ add_most value m root dense documents docs w
+  add_found key word w found = let few = change_found key word w found in omega arith
 
-  pub add_none : (count w : ℕ) → lookup_pair (beside_value value m) (tree_pairs m root) ≡ None
-      → new_most value w + (list_most 0 count w + nodes_most (levels m root) w) ≤ add_most value m root count w
-  add_none count w none =
-      let word_is : unwrap_or (lookup (beside_value value m) (tree_pairs m root)) 0 ≡ 0 =
-      ap (λ (o : Option ℕ). unwrap_or o 0) (pair_word ∙ ap (λ (o : Option (ℕ × ℕ)). option_map (λ (p : ℕ × ℕ). p.1) o) none) in
-      let same = change_by 0 count w word_is in
+  pub add_none : (w : ℕ) → lookup_pair (beside_value value m) (tree_pairs m root) ≡ None
+      → new_most value w + (word_most m dense documents 0 docs w + nodes_most (levels m root) w) ≤ add_most value m root dense documents docs w
+  add_none w none =
+      let same = change_by 0 w (word_none value m root none) in
       let fresh : cond (is_some (option_map (λ (p : ℕ × ℕ). p.0) (lookup_pair (beside_value value m) (tree_pairs m root)))) 0 (new_most value w) ≡ new_most value w =
       ap (λ (o : Option (ℕ × ℕ)). cond (is_some (option_map (λ (p : ℕ × ℕ). p.0) o)) 0 (new_most value w)) none in
       omega arith

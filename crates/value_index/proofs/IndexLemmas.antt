@@ -1,5 +1,5 @@
 -- What an index is: where it stays, and that an image may have it.
-use Rattle.std.proofs.Common.{◌≡◌, ℕ, ℤ, ◌<◌, List, [], ◌∷◌, map, length, refl, sym, subst}
+use Rattle.std.proofs.Common.{◌≡◌, ℕ, ℤ, ◌<◌, ◌≤◌, List, [], ◌∷◌, map, length, refl, sym, subst}
 use Rattle.std.specs.List.{flat_map, AllByRecursion}
 use Rattle.std.specs.List.Sorted.{IsStrictlySortedBy}
 use Rattle.std.specs.Map.{keys_of}
@@ -10,12 +10,13 @@ use Rattle.tree_read.specs.Trees.{tree_pairs, tree_nodes}
 use Rattle.attr_images.specs.Postings.{list_form, postings_at, postings_reach, dictionary_reach, index_of, IsDictionaryEntry}
 use Rattle.attr_images.specs.ProofsForImages.{trees_index-same}
 use Rattle.attr_images.specs.Values.{stored_value, IsValueRecord}
+use Rattle.attr_images.specs.declared.TheConstants.{LEAST_DENSE}
 use Rattle.attr_index.specs.Index.{IsFormed}
 use Rattle.attr_types.specs.Value.{value_cmp}
 use Rattle.attr_types.specs.declared.kind.Kind.TheVariants.{Single}
 use Rattle.attr_types.specs.declared.kind.ValueType.{ValueType}
 use Rattle.enum_dictionary.proofs.DictionaryLemmas.{dictionary_nothing, dictionary_stays}
-use Rattle.posting_store.specs.ProofsForLists.{IsList-same}
+use Rattle.posting_store.specs.ProofsForLists.{IsList-same, list_at-same}
 use Rattle.posting_store.proofs.FormLemmas.{at_form, reach_form}
 use Rattle.posting_store.proofs.ListLemmas.{list_filled}
 use Rattle.value_index.specs.Indexes.{index_reach, IsIndex, IsKey, IsValuePair}
@@ -39,7 +40,7 @@ pair_same m n p same is = record {
   key = is.key;
   some = is.some;
   list_is = IsList-same m n p.1 (subst (λ rs. SameAt rs m n) (sym (reach_form m p.1 is.some)) same.1) is.list_is;
-  plain = is.plain;
+  long = λ vector. subst {A = List (ℕ × ℤ)} (λ docs. LEAST_DENSE ≤ length docs) (sym (list_at-same m n p.1 (subst (λ rs. SameAt rs m n) (sym (reach_form m p.1 is.some)) same.1))) (is.long vector);
 }
 
 -- each key's record stays where all that the pairs reach does

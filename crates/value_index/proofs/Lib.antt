@@ -3,6 +3,8 @@ pub mod WordLemmas
 pub mod ShownLemmas
 pub mod IndexLemmas
 pub mod KeyLemmas
+pub mod FormLemmas
+pub mod FormCounts
 pub mod OpenLemmas
 pub mod IndexFlows
 pub mod OpenFlows

@@ -1,5 +1,5 @@
 -- An index while one value's list changes: its tree, the value's key, the list, and all other keys and lists.
-use Rattle.std.proofs.Common.{◌≡◌, ℕ, ℤ, ◌+◌, ◌<◌, List, [], ◌∷◌, None, Some, inl, inr, ◌⊎◌, refl, sym, ap, subst, ◌∙◌, arith}
+use Rattle.std.proofs.Common.{◌≡◌, ℕ, ℤ, ◌+◌, ◌<◌, ◌≤◌, Bool, true, length, true≢false, List, [], ◌∷◌, None, Some, inl, inr, ◌⊎◌, refl, sym, ap, subst, ◌∙◌, arith}
 use Rattle.std.specs.List.{flat_map}
 use Rattle.entry_ref.proofs.Among.{SameAt-then, SameAt-among}
 use Rattle.entry_ref.specs.Records.{Records, SameAt, Among}
@@ -15,11 +15,12 @@ use Rattle.array_store.specs.Adding.{AddsRecord}
 use Rattle.attr_images.specs.Postings.{list_form, postings_reach, dictionary_reach}
 use Rattle.attr_images.specs.ProofsForImages.{postings_reach-same}
 use Rattle.attr_images.specs.Values.{stored_value, value_of, IsValueRecord}
+use Rattle.attr_images.specs.declared.TheConstants.{LEAST_DENSE}
 use Rattle.attr_types.specs.Value.{type_of}
 use Rattle.attr_types.specs.declared.value.Value.{Value}
 use Rattle.enum_dictionary.specs.Dictionaries.{beside_value}
 use Rattle.posting_store.specs.Changes.{list_part, MakesList}
-use Rattle.posting_store.specs.Lists.{list_reach, IsList, IsPlain}
+use Rattle.posting_store.specs.Lists.{list_at, list_reach, is_vector, IsList}
 use Rattle.posting_store.proofs.FormLemmas.{reach_form}
 use Rattle.posting_store.proofs.ListLemmas.{nothing_is}
 use Rattle.value_index.specs.Indexes.{index_part, IsIndex, IsKey}
@@ -69,7 +70,7 @@ pub record IsOpen {H : Type 0} (value : Value) (old now : Ledger H) (m n : Recor
   pub record_is : IsValueRecord (type_of value) (n key)
   pub reads : stored_value (type_of value) n key ≡ value
   pub list_is : IsList n word
-  pub plain : IsPlain word
+  pub long : is_vector word ≡ true → LEAST_DENSE ≤ length (list_at n word)
 
 module _ {H : Type 0} (value : Value) (a : Ledger H) (m : Records) (root : ℕ) (is : IsIndex (type_of value) m root) (owns : Owns a m (index_part root ∷ [])) where
   -- a value that is there
@@ -93,7 +94,7 @@ module _ {H : Type 0} (value : Value) (a : Ledger H) (m : Records) (root : ℕ) 
         record_is = record_found value m root is (key, word) found;
         reads = reads_found value m (key, word) (tree_pairs m root) found;
         list_is = pair.list_is;
-        plain = pair.plain;
+        long = pair.long;
       }
 
   -- a value that is new, its record made
@@ -132,12 +133,13 @@ module _ {H : Type 0} (value : Value) (a : Ledger H) (m : Records) (root : ℕ) 
           record_is = record_is;
           reads = reads;
           list_is = nothing_is n;
-          plain = omega arith;
+          long = λ vector. absurd (true≢false (sym vector));
         }
 
 -- the list was changed
 module _ {H : Type 0} (value : Value) (a b c : Ledger H) (m n o : Records) (root key word next : ℕ) (docs : List (ℕ × ℤ))
-    (is : IsOpen value a b m n root key word) (makes : MakesList b c n o word docs next) where
+    (dense : Bool) (is : IsOpen value a b m n root key word) (makes : MakesList b c n o word docs dense next)
+    (long : is_vector next ≡ true → LEAST_DENSE ≤ length docs) where
   abbrev rest : List (ℕ × ℕ)
   rest = others value m root
 
@@ -163,7 +165,7 @@ module _ {H : Type 0} (value : Value) (a b c : Ledger H) (m n o : Records) (root
     record_is = subst (IsValueRecord (type_of value)) (sym key_stays) is.record_is;
     reads = ap (value_of (type_of value)) key_stays ∙ is.reads;
     list_is = makes.list_is;
-    plain = makes.plain;
+    long = λ vector. subst {A = List (ℕ × ℤ)} (λ ds. LEAST_DENSE ≤ length ds) (sym makes.docs_are) (long vector);
   }
     where
       stays : (ref : ℕ) → (ref ≡ key) ⊎ Among ref (keys rest) → o ref ≡ n ref

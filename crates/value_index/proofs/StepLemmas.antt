@@ -1,5 +1,6 @@
 -- A call's steps together: why it was refused, and the index that it makes.
-use Rattle.std.proofs.Common.{◌≡◌, ℕ, zero, suc, ℤ, ◌+◌, ◌<◌, ◌≤◌, Bool, true, false, cond, nat_le, [], ◌∷◌, length, None, Some, Option, option_map, IsSome, Result, Ok, Err, refl, sym, ap, subst, ◌∙◌, arith, inl, inr}
+use Rattle.std.proofs.Common.{◌≡◌, ℕ, zero, suc, ℤ, ◌+◌, ◌<◌, ◌≤◌, Bool, true, false, cond, nat_le, [], ◌∷◌, length, None, Some, Option, option_map, IsSome, Result, Ok, Err, refl, sym, ap, subst, ◌∙◌, arith, inl}
+use Rattle.std.proofs.Common.{inr, ◌⊎◌}
 use Rattle.std.proofs.lemmas.Bool.{leb-true}
 use Rattle.std.specs.Prelude.{IfOk}
 use Rattle.std.specs.BTreeMap.{insert_entry, is_at}
@@ -20,26 +21,28 @@ use Rattle.array_store.specs.Adding.{AddsRecord}
 use Rattle.attr_images.specs.Postings.{index_of}
 use Rattle.attr_images.specs.Values.{stored_value, value_words, IsValueRecord}
 use Rattle.attr_images.specs.Words.{class_of}
+use Rattle.attr_images.specs.declared.TheConstants.{LEAST_DENSE}
 use Rattle.attr_index.specs.Index.{list_of, with_list}
 use Rattle.attr_types.specs.Value.{type_of, value_cmp}
 use Rattle.attr_types.specs.declared.value.Value.{Value}
 use Rattle.enum_dictionary.specs.Dictionaries.{beside_value, entry_of, MakesDictionary}
 use Rattle.enum_dictionary.specs.declared.finding.DictEntry.{DictEntry}
-use Rattle.posting_store.specs.Changes.{list_part, IsListWidth, MakesList}
-use Rattle.posting_store.specs.Lists.{list_at, IsList}
+use Rattle.posting_store.specs.Changes.{list_part, IsListChangeWidth, IsListWidth, MakesList}
+use Rattle.posting_store.specs.Lists.{list_at, is_vector, IsList, IsPlain}
 use Rattle.posting_store.proofs.FormLemmas.{at_form}
 use Rattle.posting_store.proofs.ListLemmas.{list_filled}
 use Rattle.value_index.specs.Changes.{IsChangeWidth, MakesIndex}
+use Rattle.value_index.specs.Forms.{IsPlainIndex}
 use Rattle.value_index.specs.Indexes.{index_part, IsIndex}
-use Rattle.value_index.proofs.ChangeLemmas.{value_out, value_set}
+use Rattle.value_index.proofs.ChangeLemmas.{plain_out, plain_set, value_out, value_set}
 use Rattle.value_index.proofs.KeyLemmas.{list_found, list_none, pair_found}
 use Rattle.value_index.proofs.OpenFlows.{FlowsOpen}
 use Rattle.value_index.proofs.OpenLemmas.{IsOpen, open_found, open_list, open_made, others, parts}
 use Rattle.value_index.proofs.ShownLemmas.{Docs, with_some}
 
 -- ---- of which width
-pub list_change : (value : Value) (count width : ℕ) → IsListWidth count width → IsChangeWidth value count width
-list_change value count width is = inr (record { some = is.some; one = inr is.width_is; few = subst (λ w. w ≤ 256) (sym is.width_is) (told (nat_le count 8) refl) })
+plain_change : (dense : Bool) (value : Value) (count width : ℕ) → IsListWidth count width → IsChangeWidth dense value count width
+plain_change dense value count width is = inr (record { some = is.some; one = inr (inl is.width_is); few = subst (λ w. w ≤ 256) (sym is.width_is) (told (nat_le count 8) refl) })
   where
     told : (t : Bool) → nat_le count 8 ≡ t → cond t (class_of (1 + count)) 34 ≤ 256
     told true short =
@@ -48,15 +51,30 @@ list_change value count width is = inr (record { some = is.some; one = inr is.wi
         omega (arith, low)
     told false long = omega arith
 
-pub record_change : (value : Value) (count : ℕ) → 0 < count → length (value_words value) ≤ 129 → IsChangeWidth value count (class_of (length (value_words value)))
-record_change value count some short = inr (record {
+-- whether it was or is a bit vector: then bit vectors are wanted
+pub list_change : (dense vector : Bool) (value : Value) (count width : ℕ) → (vector ≡ true → dense ≡ true) → IsListChangeWidth vector count width
+    → IsChangeWidth dense value count width
+list_change dense false value count width wanted is = plain_change dense value count width is
+list_change dense true value count width wanted (inl is) = plain_change dense value count width is
+list_change dense true value count width wanted (inr long) = told long.width_is
+  where
+    told : (width ≡ 64) ⊎ (width ≡ 34) → IsChangeWidth dense value count width
+    told (inl block) = inr (record {
+      some = let many = long.many in omega (arith, many);
+      one = inr (inr (record { wanted = wanted refl; many = long.many; width_is = block }));
+      few = omega (arith, block);
+    })
+    told (inr node) = inl node
+
+pub record_change : (dense : Bool) (value : Value) (count : ℕ) → 0 < count → length (value_words value) ≤ 129 → IsChangeWidth dense value count (class_of (length (value_words value)))
+record_change dense value count some short = inr (record {
   some = some;
   one = inl refl;
   few = class_least (length (value_words value)) 256 (inr (inr (inr (inr (inr (inr (inr (inl refl)))))))) (omega (arith, short));
 })
 
-pub node_change : (value : Value) (count : ℕ) → IsChangeWidth value count 34
-node_change value count = inl refl
+pub node_change : (dense : Bool) (value : Value) (count : ℕ) → IsChangeWidth dense value count 34
+node_change dense value count = inl refl
 
 -- ---- what is found
 pub entry_found : (bits : ℕ) (o : Option (ℕ × ℕ)) (entry : DictEntry bits) (word : ℕ) → Some entry ≡ option_map (entry_of bits) o → word ≡ entry.posting
@@ -107,20 +125,20 @@ module _ (value : Value) (m : Records) (root : ℕ) (is : IsIndex (type_of value
       owns-some a m (parts root key word (others value m root)) (list_part word ∷ []) (open_found value a m root is owns key word found).owns (λ r. omega arith)
 
   -- its list was changed
-  pub open_next : {H : Type 0} (a b : Ledger H) (n : Records) (next : ℕ) (docs : Docs) → Owns a m (index_part root ∷ []) → MakesList a b m n word docs next
-      → IsOpen value a b m n root key next
-  open_next a b n next docs owns makes = open_list value a a b m m n root key word next docs (open_found value a m root is owns key word found) makes
+  pub open_next : {H : Type 0} (a b : Ledger H) (n : Records) (next : ℕ) (docs : Docs) (dense : Bool) → Owns a m (index_part root ∷ []) → MakesList a b m n word docs dense next
+      → (is_vector next ≡ true → LEAST_DENSE ≤ length docs) → IsOpen value a b m n root key next
+  open_next a b n next docs dense owns makes long = open_list value a a b m m n root key word next docs dense (open_found value a m root is owns key word found) makes long
 
   pub list_there : (doc : ℕ) → IsSome (lookup_in (is_at (nat_cmp doc)) (list_of value (index_of (type_of value) m root)))
       → IsSome (lookup_in (is_at (nat_cmp doc)) (list_at m word))
   list_there doc there = subst {A = Docs} (λ docs. IsSome (lookup_in (is_at (nat_cmp doc)) docs)) (sym list_is) there
 
 -- a new value's record and list were made
-pub open_new : {H : Type 0} (value : Value) (bits : ℕ) (a b c : Ledger H) (m n o : Records) (root key next : ℕ) (docs : Docs) → IsIndex (type_of value) m root
+pub open_new : {H : Type 0} (value : Value) (bits : ℕ) (a b c : Ledger H) (m n o : Records) (root key next : ℕ) (docs : Docs) (dense : Bool) → IsIndex (type_of value) m root
     → Owns a m (index_part root ∷ []) → lookup_pair (beside_value value m) (tree_pairs m root) ≡ None → AddsRecord bits a b m n (value_words value) key
-    → IsValueRecord (type_of value) (n key) → stored_value (type_of value) n key ≡ value → MakesList b c n o 0 docs next → IsOpen value a c m o root key next
-open_new value bits a b c m n o root key next docs is owns none adds record_is reads makes =
-    open_list value a b c m n o root key 0 next docs (open_made value a m root is owns bits b n (value_words value) key none adds record_is reads) makes
+    → IsValueRecord (type_of value) (n key) → stored_value (type_of value) n key ≡ value → MakesList b c n o 0 docs dense next → (is_vector next ≡ true → LEAST_DENSE ≤ length docs) → IsOpen value a c m o root key next
+open_new value bits a b c m n o root key next docs dense is owns none adds record_is reads makes long =
+    open_list value a b c m n o root key 0 next docs dense (open_made value a m root is owns bits b n (value_words value) key none adds record_is reads) makes long
 
 -- ---- the index that a call makes
 module _ {H : Type 0} (value : Value) (a b c : Ledger H) (m n o : Records) (root key word : ℕ) (start : IsIndex (type_of value) m root)
@@ -135,6 +153,23 @@ module _ {H : Type 0} (value : Value) (a b c : Ledger H) (m n o : Records) (root
       (ap (λ (w : ℕ). put (beside_value value n) (key, w) (tree_pairs n root)) same) taken may in
       subst (λ index. MakesIndex (type_of value) a c m o root index next)
       (ap (λ (ds : Docs). insert_entry value_cmp (index_of (type_of value) m root) value ds) reads ∙ sym (with_some value docs (index_of (type_of value) m root) some)) set
+
+  -- and if no list was a bit vector, and this one is none, none is
+  module _ (dense : Bool) where
+    pub set_plain : (answer : Result ℕ StoreError) (posting : ℕ) → posting ≡ word → 0 < length docs → (dense ≡ false → IsPlain word) → (dense ≡ false → IsPlainIndex m root)
+        → IfOk answer (MakesDictionary (type_of value) b c n o root (put (beside_value value n) (key, posting) (tree_pairs n root)))
+        → IfOk answer (λ next. dense ≡ false → IsPlainIndex o next)
+    set_plain (Err e) posting same some plain all makes = tt
+    set_plain (Ok next) posting same some plain all makes off =
+        plain_set value a b m n root key word start is c o next (put (beside_value value n) (key, posting) (tree_pairs n root)) makes
+        (word_some n word (subst {A = Docs} (λ ds. 0 < length ds) (sym reads) some)) (ap (λ (w : ℕ). put (beside_value value n) (key, w) (tree_pairs n root)) same)
+        (plain off) (all off)
+
+    pub out_plain : (next : ℕ) (d : Ledger H) (p : Records) → word ≡ 0 → (dense ≡ false → IsPlainIndex m root)
+        → MakesDictionary (type_of value) b c n o root (take_out (beside_value value n) (tree_pairs n root)) next → Turns c d o p (entry key ∷ []) []
+        → dense ≡ false → IsPlainIndex p next
+    out_plain next d p empty all makes dropped off =
+        plain_out value a b m n root key word start is c o next (take_out (beside_value value n) (tree_pairs n root)) makes empty refl d p dropped (all off)
 
   pub out_index : (next : ℕ) (d : Ledger H) (p : Records) → word ≡ 0
       → MakesDictionary (type_of value) b c n o root (take_out (beside_value value n) (tree_pairs n root)) next → Turns c d o p (entry key ∷ []) []

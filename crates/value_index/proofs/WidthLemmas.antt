@@ -1,5 +1,5 @@
 -- Of which width a walk was refused.
-use Rattle.std.proofs.Common.{◌≡◌, ℕ, ℤ, List, [], ◌∷◌, ◌++◌, length, Option, Some, None, nat_cmp, sym, ap, subst, ◌∙◌, inl, inr}
+use Rattle.std.proofs.Common.{◌≡◌, ℕ, ℤ, Bool, List, [], ◌∷◌, ◌++◌, length, Option, Some, None, nat_cmp, sym, ap, subst, ◌∙◌, inl, inr}
 use Rattle.std.specs.BTreeMap.{insert_entry, is_at}
 use Rattle.std.specs.List.{AllByRecursion}
 use Rattle.std.specs.List.Sorted.{IsStrictlySortedBy}
@@ -43,25 +43,25 @@ module _ (start : Index) (doc : ℕ) (entries rest more : List (Value × ℤ)) (
       p.between.lists value ∙ ap (λ (o : Option ℤ). settled o (lookup (is_at (value_cmp value)) p.done) doc (list_of value start)) gone
       ∙ ap (λ (o : Option ℤ). settled None o doc (list_of value start)) (lacks p.done p.joins))
 
-  pub put_width : (p : IsWalk start doc entries rest now) (w : ℕ) → IsChangeWidth value (length (insert_entry nat_cmp (list_of value now) doc weight)) w
-      → IsWalkWidth start doc (λ v. lookup (is_at (value_cmp v)) entries) (λ v. None) w
-  put_width p w (inl node) = inl node
-  put_width p w (inr one) =
+  pub put_width : (dense : Bool) (p : IsWalk start doc entries rest now) (w : ℕ) → IsChangeWidth dense value (length (insert_entry nat_cmp (list_of value now) doc weight)) w
+      → IsWalkWidth dense start doc (λ v. lookup (is_at (value_cmp v)) entries) (λ v. None) w
+  put_width dense p w (inl node) = inl node
+  put_width dense p w (inr one) =
       let there = found p.done p.joins in
       let was : list_of value now ≡ list_of value start = sym (put_list p) in
       let lists : insert_entry nat_cmp (list_of value now) doc weight ≡ settled (lookup (is_at (value_cmp value)) entries) None doc (list_of value start) =
       ap (λ (ds : List (ℕ × ℤ)). insert_entry nat_cmp ds doc weight) was ∙ ap (λ (o : Option ℤ). settled o None doc (list_of value start)) (sym there) in
-      inr (record { value = value; walked = inl (ap is_some there); is = subst (λ (ds : List (ℕ × ℤ)). IsValueWidth value (length ds) w) lists one })
+      inr (record { value = value; walked = inl (ap is_some there); is = subst (λ (ds : List (ℕ × ℤ)). IsValueWidth dense value (length ds) w) lists one })
 
-  pub take_width : (added : Value → Option ℤ) (p : IsWalkBack start doc added entries rest now) → added value ≡ None → (w : ℕ)
-      → IsChangeWidth value (length (remove_entry (is_at (nat_cmp doc)) (list_of value now))) w
-      → IsWalkWidth start doc added (λ v. lookup (is_at (value_cmp v)) entries) w
-  take_width added p gone w (inl node) = inl node
-  take_width added p gone w (inr one) =
+  pub take_width : (dense : Bool) (added : Value → Option ℤ) (p : IsWalkBack start doc added entries rest now) → added value ≡ None → (w : ℕ)
+      → IsChangeWidth dense value (length (remove_entry (is_at (nat_cmp doc)) (list_of value now))) w
+      → IsWalkWidth dense start doc added (λ v. lookup (is_at (value_cmp v)) entries) w
+  take_width dense added p gone w (inl node) = inl node
+  take_width dense added p gone w (inr one) =
       let there = found p.done p.joins in
       let was : list_of value now ≡ list_of value start = sym (take_list added p gone) in
       let lists : remove_entry (is_at (nat_cmp doc)) (list_of value now) ≡ settled (added value) (lookup (is_at (value_cmp value)) entries) doc (list_of value start) =
       ap (λ (ds : List (ℕ × ℤ)). remove_entry (is_at (nat_cmp doc)) ds) was
       ∙ ap (λ (o : Option ℤ). settled None o doc (list_of value start)) (sym there)
       ∙ ap (λ (o : Option ℤ). settled o (lookup (is_at (value_cmp value)) entries) doc (list_of value start)) (sym gone) in
-      inr (record { value = value; walked = inr (ap is_some there); is = subst (λ (ds : List (ℕ × ℤ)). IsValueWidth value (length ds) w) lists one })
+      inr (record { value = value; walked = inr (ap is_some there); is = subst (λ (ds : List (ℕ × ℤ)). IsValueWidth dense value (length ds) w) lists one })

@@ -1,13 +1,16 @@
 -- Bounds on the records that the walks make, by what they are and by width.
-use Rattle.std.specs.Prelude.{◌≡◌, ℕ, ℤ, ◌+◌, ◌*◌, ◌^◌, ◌<◌, Bool, not, nat_eq, nat_le, if◌then◌else◌, List, [], ◌∷◌, ◌++◌, length}
+use Rattle.std.specs.Prelude.{◌≡◌, ℕ, ℤ, ◌+◌, ◌*◌, ◌^◌, ◌<◌, Bool, not, ◌&&◌, nat_eq, nat_le, if◌then◌else◌, List, [], ◌∷◌, ◌++◌, length}
 use Rattle.std.specs.Prelude.{Option, None, is_some}
 use Rattle.std.specs.BTreeMap.{insert_entry, is_at}
 use Rattle.std.specs.List.{count_by, sum_by}
-use Rattle.std.specs.Map.{lookup, remove_entry}
+use Rattle.std.specs.Map.{keys_of, lookup, remove_entry}
 use Rattle.std.specs.Ordering.{nat_cmp}
 use Rattle.tree_read.specs.declared.node_format.TheConstants.{NODE_WORDS}
+use Rattle.frozen_btree.specs.Builds.{nodes_of}
 use Rattle.attr_images.specs.Words.{class_of}
-use Rattle.attr_images.specs.declared.TheConstants.{MOST_SHORT}
+use Rattle.attr_images.specs.declared.TheConstants.{LEAST_DENSE, MOST_SHORT}
+use Rattle.bit_vector.specs.Changes.{vector_most}
+use Rattle.bit_vector.specs.Vectors.{count_blocks}
 use Rattle.attr_index.specs.Changes.{is_weight, IsBetween}
 use Rattle.attr_index.specs.Index.{Index, list_of}
 use Rattle.attr_types.specs.Value.{value_cmp}
@@ -60,6 +63,30 @@ added_records lists doc old entries = walk_records (is_added old) (put_records l
 
 abbrev pub gone_records : (Value → List (ℕ × ℤ)) → ℕ → (Value → Option ℤ) → List (Value × ℤ) → ℕ → ℕ
 gone_records lists doc new entries = walk_records (is_gone new) (taken_records lists doc) entries
+
+-- ---- with bit vectors
+-- what a list may need besides that had and has these documents, if it may be a bit vector before or then: a block, and
+-- for a change of form at most one record for each block, and one tree
+abbrev pub form_records : Bool → List (ℕ × ℤ) → List (ℕ × ℤ) → ℕ → ℕ
+form_records dense had docs width =
+    if dense && nat_le LEAST_DENSE (1 + length had) then vector_most (1 + count_blocks (keys_of docs)) (nodes_of (length docs)) width else 0
+
+-- for a value that the document gets, and for one that it loses
+abbrev pub put_forms : Bool → (Value → List (ℕ × ℤ)) → ℕ → Value × ℤ → ℕ → ℕ
+put_forms dense lists doc entry = form_records dense (lists entry.0) (insert_entry nat_cmp (lists entry.0) doc entry.1)
+
+abbrev pub taken_forms : Bool → (Value → List (ℕ × ℤ)) → ℕ → Value × ℤ → ℕ → ℕ
+taken_forms dense lists doc entry = form_records dense (lists entry.0) (remove_entry (is_at (nat_cmp doc)) (lists entry.0))
+
+abbrev pub added_forms : Bool → (Value → List (ℕ × ℤ)) → ℕ → (Value → Option ℤ) → List (Value × ℤ) → ℕ → ℕ
+added_forms dense lists doc old entries = walk_records (is_added old) (put_forms dense lists doc) entries
+
+abbrev pub gone_forms : Bool → (Value → List (ℕ × ℤ)) → ℕ → (Value → Option ℤ) → List (Value × ℤ) → ℕ → ℕ
+gone_forms dense lists doc new entries = walk_records (is_gone new) (taken_forms dense lists doc) entries
+
+-- so many of each width, and these besides
+abbrev pub besides : (ℕ → ℕ) → (ℕ → ℕ) → ℕ → ℕ
+besides most more width = most width + more width
 
 -- ---- by their sum, for a change that makes a record of some width
 -- the sum over all widths but that of nodes

@@ -1,5 +1,5 @@
 -- An index in a store: a dictionary by value. Each value has a record of its own, its key, and a list of documents.
-use Rattle.std.specs.Prelude.{ℕ, ◌<◌, List, ◌++◌, map, Option}
+use Rattle.std.specs.Prelude.{◌≡◌, ℕ, ◌<◌, ◌≤◌, true, List, ◌++◌, map, length, Option}
 use Rattle.std.specs.List.{AllByRecursion}
 use Rattle.std.specs.Option.{option_map}
 use Rattle.entry_ref.specs.Records.{Records, Among}
@@ -7,18 +7,19 @@ use Rattle.store_api.specs.Parts.{Part}
 use Rattle.tree_read.specs.Trees.{tree_pairs, tree_nodes}
 use Rattle.tree_read.specs.Pairs.{lookup_pair}
 use Rattle.attr_images.specs.Postings.{dictionary_reach}
+use Rattle.attr_images.specs.declared.TheConstants.{LEAST_DENSE}
 use Rattle.attr_types.specs.declared.kind.ValueType.{ValueType}
 use Rattle.attr_types.specs.declared.value.Value.{Value}
 use Rattle.enum_dictionary.specs.Dictionaries.{IsDictionary, beside_value}
-use Rattle.posting_store.specs.Lists.{IsList, IsPlain}
+use Rattle.posting_store.specs.Lists.{list_at, is_vector, IsList}
 use Rattle.value_index.specs.ProofsForIndexes.{index_reach-same}
 
--- a key with its list, which is neither empty nor a bit vector
+-- a key with its list, which is not empty; a bit vector is long
 pub record IsValuePair (m : Records) (p : ℕ × ℕ) : Type 0 where
   pub key : 0 < p.0
   pub some : 0 < p.1
   pub list_is : IsList m p.1
-  pub plain : IsPlain p.1
+  pub long : is_vector p.1 ≡ true → LEAST_DENSE ≤ length (list_at m p.1)
 
 -- the root of an index whose values have this type; its contents are `index_of` of attr_images
 pub record IsIndex (type : ValueType) (m : Records) (root : ℕ) : Type 0 where

@@ -1,5 +1,5 @@
 -- An index and its keys, as laws.
-use Rattle.std.specs.Prelude.{◌≡◌, ℕ, ◌<◌, [], length, Some}
+use Rattle.std.specs.Prelude.{◌≡◌, ℕ, ◌<◌, Bool, [], length, Some}
 use Rattle.std.specs.List.{AllByRecursion}
 use Rattle.entry_ref.specs.Records.{Records, SameAt, Among}
 use Rattle.tree_read.specs.Trees.{tree_pairs, IsTree}
@@ -9,6 +9,7 @@ use Rattle.attr_index.specs.Index.{IsFormed, list_of}
 use Rattle.attr_types.specs.Value.{type_of, value_cmp}
 use Rattle.attr_types.specs.declared.kind.ValueType.{ValueType}
 use Rattle.attr_types.specs.declared.value.Value.{Value}
+use Rattle.value_index.specs.Forms.{IsOfForm, KeepsForm}
 use Rattle.value_index.specs.Indexes.{index_reach, key_at, IsIndex, IsKey}
 
 -- root 0 is the index without values, and owns nothing
@@ -19,6 +20,14 @@ NothingIsIndex = (type : ValueType) (m : Records) → IsIndex type m 0 × (index
 abbrev pub IndexStays : Type 0
 IndexStays = (type : ValueType) (m n : Records) (root : ℕ) → SameAt (index_reach m root) m n → IsIndex type m root
     → IsIndex type n root × (index_of type n root ≡ index_of type m root) × ((ref : ℕ) → IsKey m root ref → IsKey n root ref)
+
+-- root 0 is of each form
+abbrev pub NothingIsOfForm : Type 0
+NothingIsOfForm = (dense : Bool) (type : ValueType) (m : Records) → IsOfForm dense type m 0
+
+-- an index stays of its form while its records stay the same
+abbrev pub FormStays : Type 0
+FormStays = (type : ValueType) (m n : Records) (root : ℕ) → SameAt (index_reach m root) m n → KeepsForm type m n root
 
 -- it is a dictionary as in an image, and its contents are an index: values ascend, and the documents of each value
 -- ascend

@@ -1,5 +1,6 @@
 pub mod ProofsForIndexes
 pub mod Indexes
+pub mod Forms
 pub mod Flows
 pub mod Changes
 pub mod Laws

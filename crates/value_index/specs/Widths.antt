@@ -1,5 +1,5 @@
 -- The widths for which a walk may be refused.
-use Rattle.std.specs.Prelude.{◌≡◌, ◌⊎◌, ℕ, ℤ, length, Option, IsSome}
+use Rattle.std.specs.Prelude.{◌≡◌, ◌⊎◌, ℕ, ℤ, Bool, length, Option, IsSome}
 use Rattle.tree_read.specs.declared.node_format.TheConstants.{NODE_WORDS}
 use Rattle.attr_index.specs.Changes.{settled}
 use Rattle.attr_index.specs.Index.{Index, list_of}
@@ -7,11 +7,11 @@ use Rattle.attr_types.specs.declared.value.Value.{Value}
 use Rattle.value_index.specs.Changes.{IsValueWidth}
 
 -- the width of a record that the index has after the walks, for a value whose weight is added or removed
-pub record IsWalkedWidth (start : Index) (doc : ℕ) (added removed : Value → Option ℤ) (width : ℕ) : Type 0 where
+pub record IsWalkedWidth (dense : Bool) (start : Index) (doc : ℕ) (added removed : Value → Option ℤ) (width : ℕ) : Type 0 where
   pub value : Value
   pub walked : IsSome (added value) ⊎ IsSome (removed value)
-  pub is : IsValueWidth value (length (settled (added value) (removed value) doc (list_of value start))) width
+  pub is : IsValueWidth dense value (length (settled (added value) (removed value) doc (list_of value start))) width
 
 -- such a width, or that of nodes
-abbrev pub IsWalkWidth : Index → ℕ → (Value → Option ℤ) → (Value → Option ℤ) → ℕ → Type 0
-IsWalkWidth start doc added removed width = (width ≡ NODE_WORDS) ⊎ IsWalkedWidth start doc added removed width
+abbrev pub IsWalkWidth : Bool → Index → ℕ → (Value → Option ℤ) → (Value → Option ℤ) → ℕ → Type 0
+IsWalkWidth dense start doc added removed width = (width ≡ NODE_WORDS) ⊎ IsWalkedWidth dense start doc added removed width

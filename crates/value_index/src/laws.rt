@@ -1,5 +1,6 @@
 //! Laws of indexes. Each function does nothing; its contract is the law.
-ghost use Rattle.value_index.specs.Laws.{NothingIsIndex, IndexStays, IndexIsLawful, KeyIsRead, FoundIsKey, ValueHasKey};
+ghost use Rattle.value_index.specs.Laws.{NothingIsIndex, IndexStays, IndexIsLawful, NothingIsOfForm, FormStays};
+ghost use Rattle.value_index.specs.Laws.{KeyIsRead, FoundIsKey, ValueHasKey};
 
 /// Root 0 is the index without values. An index stays the same while its records stay the same, and is a lawful index
 /// of an image.
@@ -7,6 +8,8 @@ pub fn index_law()
     ensures nothing { NothingIsIndex }
     ensures stays { IndexStays }
     ensures lawful { IndexIsLawful }
+    ensures plain { NothingIsOfForm }
+    ensures form { FormStays }
 {}
 
 /// The record of a key reads as its value, and the index owns it. Each value that has documents has a key.

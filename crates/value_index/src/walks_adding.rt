@@ -11,14 +11,16 @@ ghost use Rattle.attr_index.specs.Index.{list_of};
 ghost use Rattle.attr_types.specs.Value.{value_cmp, AreOfType};
 ghost use Rattle.attr_types.specs.declared.value.Value.{Value as OneValue};
 ghost use Rattle.posting_store.specs.Changes.{MakesWithin};
+ghost use Rattle.value_index.specs.Forms.{IsOfForm, WeighOnes};
 ghost use Rattle.value_index.specs.Indexes.{index_part, IsIndex};
-ghost use Rattle.value_index.specs.Counts.{added_count, added_records, by_width, value_nodes, AddsLow};
+ghost use Rattle.value_index.specs.Counts.{added_count, added_forms, added_records, besides, by_width, value_nodes, AddsLow};
 ghost use Rattle.value_index.specs.Walks.{WalksIndex};
 ghost use Rattle.value_index.specs.Widths.{IsWalkWidth};
 
 use crate::{add, index_law, key_law};
 use attr_types::{Doc, Value, ValueType};
 use entry_ref::EntryRef;
+use std::alloc::Global;
 use std::collections::BTreeMap;
 use store_api::{Store, StoreError};
 
@@ -33,35 +35,46 @@ fn has_weight(weights: &BTreeMap<Value, i32>, value: &Value, weight: i32) -> boo
 }
 
 /// Adds a document to the lists of its new values, unless the old ones include the value with the same weight.
-/// Returns the root of the new index.
+/// Returns the root of the new index. With `dense` long lists become bit vectors, for `documents` documents in all; then
+/// each weight has to be 1.
 #[tactic(none)]
 pub fn add_all<const OFFSET_BITS: u32, S: Store<OFFSET_BITS>>(
+    alloc: Global,
     store: &mut S,
     value_type: ValueType,
     root: EntryRef<OFFSET_BITS>,
     doc: Doc,
     old: &BTreeMap<Value, i32>,
     new: &BTreeMap<Value, i32>,
+    dense: bool,
+    documents: u32,
 ) -> Result<EntryRef<OFFSET_BITS>, StoreError>
     requires unit { (S.ledger store.old).unit ≡ true }
     requires index { IsIndex value_type (S.records store.old) root }
     requires owns { Owns (S.ledger store.old) (S.records store.old) (index_part root ∷ []) }
+    requires form { IsOfForm dense value_type (S.records store.old) root }
+    requires ones { WeighOnes dense new.now.entries }
     requires typed { AreOfType value_type (keys_of new.now.entries) }
     requires has { (value : OneValue) → lookup (is_at (nat_cmp doc)) (list_of value (index_of value_type (S.records store.old) root))
         ≡ get value_cmp old.now value }
     ensures makes { IfOk result (WalksIndex value_type (S.ledger store.old) (S.ledger store.new) (S.records store.old) (S.records store.new)
         root.entry doc (get value_cmp new.now) (λ value. None)) }
-    ensures counts { MakesWithin (S.ledger store.old) (S.ledger store.new)
+    ensures form { IfOk result (IsOfForm dense value_type (S.records store.new)) }
+    ensures counts { MakesWithin (S.ledger store.old) (S.ledger store.new) (besides
         (by_width (34 * added_count (get value_cmp old.now) new.now.entries)
         (added_records (λ value. list_of value (index_of value_type (S.records store.old) root.entry)) doc (get value_cmp old.now)
+        new.now.entries))
+        (added_forms dense (λ value. list_of value (index_of value_type (S.records store.old) root.entry)) doc (get value_cmp old.now)
         new.now.entries)) }
     ensures low { (levels : ℕ) → AddsLow levels (index_of value_type (S.records store.old) root.entry) doc new.now.entries
-        → MakesWithin (S.ledger store.old) (S.ledger store.new)
+        → MakesWithin (S.ledger store.old) (S.ledger store.new) (besides
         (by_width (value_nodes levels * added_count (get value_cmp old.now) new.now.entries)
         (added_records (λ value. list_of value (index_of value_type (S.records store.old) root.entry)) doc (get value_cmp old.now)
+        new.now.entries))
+        (added_forms dense (λ value. list_of value (index_of value_type (S.records store.old) root.entry)) doc (get value_cmp old.now)
         new.now.entries)) }
     ensures refuses { IfErr result (RefusesOf
-        (IsWalkWidth (index_of value_type (S.records store.old) root.entry) doc (get value_cmp new.now) (λ value. None))
+        (IsWalkWidth dense (index_of value_type (S.records store.old) root.entry) doc (get value_cmp new.now) (λ value. None))
         (S.ledger store.old) (S.ledger store.new)) }
     ensures may { MayDo (S.ledger store.old) (S.ledger store.new) }
 {
@@ -71,7 +84,7 @@ pub fn add_all<const OFFSET_BITS: u32, S: Store<OFFSET_BITS>>(
     let mut next = root;
     for (value, weight) in new.iter() {
         if !has_weight(old, value, *weight) {
-            next = add(store, next, value, doc, *weight)?;
+            next = add(alloc, store, next, value, doc, *weight, dense, documents)?;
         }
     }
     Ok(next)

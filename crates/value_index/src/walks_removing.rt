@@ -11,48 +11,59 @@ ghost use Rattle.attr_index.specs.Index.{list_of};
 ghost use Rattle.attr_types.specs.Value.{value_cmp, AreOfType};
 ghost use Rattle.attr_types.specs.declared.value.Value.{Value as OneValue};
 ghost use Rattle.posting_store.specs.Changes.{MakesWithin};
+ghost use Rattle.value_index.specs.Forms.{IsOfForm};
 ghost use Rattle.value_index.specs.Indexes.{index_part, IsIndex};
-ghost use Rattle.value_index.specs.Counts.{by_width, gone_count, gone_records, value_nodes, RemovesLow};
+ghost use Rattle.value_index.specs.Counts.{besides, by_width, gone_count, gone_forms, gone_records, value_nodes, RemovesLow};
 ghost use Rattle.value_index.specs.Walks.{WalksIndex};
 ghost use Rattle.value_index.specs.Widths.{IsWalkWidth};
 
 use crate::{index_law, remove};
 use attr_types::{Doc, Value, ValueType};
 use entry_ref::EntryRef;
+use std::alloc::Global;
 use std::collections::BTreeMap;
 use store_api::{Store, StoreError};
 
 /// Removes a document from the lists of its old values that are not among the new ones. Returns the root of the new
-/// index.
+/// index. With `dense` long lists become or remain bit vectors, for `documents` documents in all.
 #[tactic(none)]
 pub fn remove_all<const OFFSET_BITS: u32, S: Store<OFFSET_BITS>>(
+    alloc: Global,
     store: &mut S,
     value_type: ValueType,
     root: EntryRef<OFFSET_BITS>,
     doc: Doc,
     old: &BTreeMap<Value, i32>,
     new: &BTreeMap<Value, i32>,
+    dense: bool,
+    documents: u32,
 ) -> Result<EntryRef<OFFSET_BITS>, StoreError>
     requires unit { (S.ledger store.old).unit ≡ true }
     requires index { IsIndex value_type (S.records store.old) root }
     requires owns { Owns (S.ledger store.old) (S.records store.old) (index_part root ∷ []) }
+    requires form { IsOfForm dense value_type (S.records store.old) root }
     requires typed { AreOfType value_type (keys_of old.now.entries) }
     requires has { (value : OneValue) → lookup (is_at (nat_cmp doc)) (list_of value (index_of value_type (S.records store.old) root))
         ≡ first_given (get value_cmp new.now value) (get value_cmp old.now value) }
     ensures makes { IfOk result (WalksIndex value_type (S.ledger store.old) (S.ledger store.new) (S.records store.old) (S.records store.new)
         root.entry doc (get value_cmp new.now) (get value_cmp old.now)) }
-    ensures counts { MakesWithin (S.ledger store.old) (S.ledger store.new)
+    ensures form { IfOk result (IsOfForm dense value_type (S.records store.new)) }
+    ensures counts { MakesWithin (S.ledger store.old) (S.ledger store.new) (besides
         (by_width (34 * gone_count (get value_cmp new.now) old.now.entries)
         (gone_records (λ value. list_of value (index_of value_type (S.records store.old) root.entry)) doc (get value_cmp new.now)
+        old.now.entries))
+        (gone_forms dense (λ value. list_of value (index_of value_type (S.records store.old) root.entry)) doc (get value_cmp new.now)
         old.now.entries)) }
     ensures low { (levels : ℕ)
         → RemovesLow levels (index_of value_type (S.records store.old) root.entry) doc (get value_cmp new.now) old.now.entries
-        → MakesWithin (S.ledger store.old) (S.ledger store.new)
+        → MakesWithin (S.ledger store.old) (S.ledger store.new) (besides
         (by_width (value_nodes levels * gone_count (get value_cmp new.now) old.now.entries)
         (gone_records (λ value. list_of value (index_of value_type (S.records store.old) root.entry)) doc (get value_cmp new.now)
+        old.now.entries))
+        (gone_forms dense (λ value. list_of value (index_of value_type (S.records store.old) root.entry)) doc (get value_cmp new.now)
         old.now.entries)) }
     ensures refuses { IfErr result (RefusesOf
-        (IsWalkWidth (index_of value_type (S.records store.old) root.entry) doc (get value_cmp new.now) (get value_cmp old.now))
+        (IsWalkWidth dense (index_of value_type (S.records store.old) root.entry) doc (get value_cmp new.now) (get value_cmp old.now))
         (S.ledger store.old) (S.ledger store.new)) }
     ensures may { MayDo (S.ledger store.old) (S.ledger store.new) }
 {
@@ -61,7 +72,7 @@ pub fn remove_all<const OFFSET_BITS: u32, S: Store<OFFSET_BITS>>(
     let mut next = root;
     for (value, _) in old.iter() {
         if !new.contains_key(value) {
-            next = remove(store, next, value, doc)?;
+            next = remove(alloc, store, next, value, doc, dense, documents)?;
         }
     }
     Ok(next)

@@ -1,8 +1,7 @@
-use Rattle.std.proofs.Common.{◌≡◌, ℕ, sym, ap, subst, ◌∙◌, arith}
+use Rattle.std.proofs.Common.{◌≡◌, ◌<◌, ◌^◌, ℕ, sym, ap, subst, ◌∙◌, arith}
 use Rattle.std.specs.List.{AllByRecursion}
 use Rattle.std.specs.Option.{option_map}
 use Rattle.tree_read.specs.SearchPlaces.{pairs_from, IsAt}
-use Rattle.attr_types.specs.Lawful.{IsDocNumber}
 use Rattle.attr_compaction.specs.PhaseKeys.{first_item}
 use Rattle.attr_compaction.proofs.numbers.first_number.Goals as goal
 
@@ -17,8 +16,8 @@ number_at-requires g c =
       omega arith,
       (
         subst (λ f. IsAt (records f) cursor) back c.first-cursor.ensures.at,
-        subst (λ f. AllByRecursion (λ p. IsDocNumber p.0) (pairs_from (records f) cursor)) back
-            (subst (AllByRecursion (λ p. IsDocNumber p.0)) (sym c.first-cursor.ensures.pairs) c.requires.numbers),
+        subst (λ f. AllByRecursion (λ p. p.0 < 2 ^ 32) (pairs_from (records f) cursor)) back
+            (subst (AllByRecursion (λ p. p.0 < 2 ^ 32)) (sym c.first-cursor.ensures.pairs) c.requires.few),
       ),
     )
 

@@ -1,7 +1,6 @@
-use Rattle.std.proofs.Common.{◌≡◌, ◌≢◌, ℕ, [], true≢false, Some, Option, option_map, sym, ap, ◌∙◌, arith}
+use Rattle.std.proofs.Common.{◌≡◌, ◌<◌, ◌^◌, ◌≢◌, ℕ, [], true≢false, Some, Option, option_map, sym, ap, ◌∙◌, arith}
 use Rattle.tree_read.proofs.PlaceLemmas.{first_pair}
 use Rattle.tree_read.specs.SearchPlaces.{pairs_from}
-use Rattle.attr_types.specs.Lawful.{IsDocNumber}
 use Rattle.attr_compaction.proofs.NextLemmas.{pair_first, pair_none}
 use Rattle.attr_compaction.proofs.numbers.number_at.Goals as goal
 
@@ -17,8 +16,7 @@ overflow_cast-number g c =
     let m = g.F.Frozen.records c.args.frozen.now in
     let ps = pairs_from m c.args.cursor.now in
     let some : ps ≢ [] = λ none. true≢false (sym ((c.at_end.ensures.pairs m c.requires.at).1 none) ∙ c.if-at_end.false) in
-    let is : IsDocNumber _ = first_pair (λ p. IsDocNumber p.0) ps some c.requires.numbers in
-    let last = is.1 in
+    let few = first_pair (λ p. p.0 < 2 ^ 32) ps some c.requires.few in
     let at = c.key-number.ensures m c.requires.at in
     omega arith
 

@@ -1,9 +1,8 @@
-use Rattle.std.proofs.Common.{◌≡◌, ◌+◌, ℕ, nat_cmp, sym, ap, subst, ◌∙◌, arith}
+use Rattle.std.proofs.Common.{◌≡◌, ◌<◌, ◌^◌, ◌+◌, ℕ, nat_cmp, sym, ap, subst, ◌∙◌, arith}
 use Rattle.std.specs.List.{AllByRecursion}
 use Rattle.std.specs.Option.{option_map}
 use Rattle.tree_read.specs.Trees.{tree_pairs}
 use Rattle.tree_read.specs.SearchPlaces.{pairs_from, IsAt}
-use Rattle.attr_types.specs.Lawful.{IsDocNumber}
 use Rattle.enum_dictionary.proofs.BehindLemmas.{All-seek}
 use Rattle.attr_compaction.specs.PhaseKeys.{first_item}
 use Rattle.attr_compaction.proofs.NextLemmas.{unit_all}
@@ -20,8 +19,8 @@ number_at-requires g c =
       omega arith,
       (
         subst (λ f. IsAt (records f) cursor) back c.seek-cursor.ensures.at,
-        subst (λ f. AllByRecursion (λ p. IsDocNumber p.0) (pairs_from (records f) cursor)) back (subst (AllByRecursion (λ p. IsDocNumber p.0)) (sym c.seek-cursor.ensures.pairs)
-            (All-seek (λ p. IsDocNumber p.0) (λ key. nat_cmp key (c.args.after + 1)) (tree_pairs (records c.args.frozen.now) c.args.root) c.requires.numbers)),
+        subst (λ f. AllByRecursion (λ p. p.0 < 2 ^ 32) (pairs_from (records f) cursor)) back (subst (AllByRecursion (λ p. p.0 < 2 ^ 32)) (sym c.seek-cursor.ensures.pairs)
+            (All-seek (λ p. p.0 < 2 ^ 32) (λ key. nat_cmp key (c.args.after + 1)) (tree_pairs (records c.args.frozen.now) c.args.root) c.requires.few)),
       ),
     )
 

@@ -8,9 +8,6 @@ use Rattle.attr_compaction.proofs.pairs.next_in.Goals as goal
 pub past_in_list-requires-clause-list : goal.past_in_list-requires-clause-list
 past_in_list-requires-clause-list g c = c.requires.pair_is.list_is
 
-pub past_in_list-requires-clause-plain : goal.past_in_list-requires-clause-plain
-past_in_list-requires-clause-plain g c = c.requires.pair_is.plain
-
 pub past_in_list-requires-clause-some : goal.past_in_list-requires-clause-some
 past_in_list-requires-clause-some g c = c.requires.pair_is.some
 

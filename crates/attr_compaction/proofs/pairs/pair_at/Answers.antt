@@ -5,7 +5,7 @@ use Rattle.tree_read.specs.SearchPlaces.{pairs_from}
 use Rattle.attr_images.specs.Values.{stored_value, IsValueRecord}
 use Rattle.attr_compaction.specs.declared.plan.PlanKey.{PlanKey}
 use Rattle.attr_compaction.specs.declared.plan.PlanKey.TheVariants.{Pair}
-use Rattle.posting_store.specs.Lists.{IsList, IsPlain}
+use Rattle.posting_store.specs.Lists.{IsList}
 use Rattle.unique_store.proofs.RecordLemmas.{value_there}
 use Rattle.attr_compaction.specs.PhaseKeys.{IsListPair}
 use Rattle.attr_compaction.proofs.ListLemmas.{first_pair_is, no_pairs}
@@ -33,13 +33,6 @@ first_in_list-requires-clause-list g c =
     let ps = pairs_from m c.args.cursor.now in
     let some : ps ≢ [] = λ none. true≢false (sym ((c.at_end.ensures.pairs m c.requires.at).1 none) ∙ c.if-at_end.false) in
     subst (IsList m) (sym (c.value-list.ensures m c.requires.at)) (first_pair (IsListPair c.args.value_type m) ps some c.requires.pairs).pair_is.list_is
-
-pub first_in_list-requires-clause-plain : goal.first_in_list-requires-clause-plain
-first_in_list-requires-clause-plain g c =
-    let m = g.F.Frozen.records c.args.frozen.now in
-    let ps = pairs_from m c.args.cursor.now in
-    let some : ps ≢ [] = λ none. true≢false (sym ((c.at_end.ensures.pairs m c.requires.at).1 none) ∙ c.if-at_end.false) in
-    subst IsPlain (sym (c.value-list.ensures m c.requires.at)) (first_pair (IsListPair c.args.value_type m) ps some c.requires.pairs).pair_is.plain
 
 pub first_in_list-requires-clause-some : goal.first_in_list-requires-clause-some
 first_in_list-requires-clause-some g c =

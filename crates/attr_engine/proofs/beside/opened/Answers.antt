@@ -19,3 +19,6 @@ returns-clause-nothing g c = record { counts = c.in-Ok.ensures.counts }
 
 pub returns-clause-plan : goal.returns-clause-plan
 returns-clause-plan g c = c.in-Ok.ensures.plan
+
+pub returns-clause-dense : goal.returns-clause-dense
+returns-clause-dense g c = c.in-Ok.ensures.dense

@@ -1,20 +1,23 @@
-use Rattle.std.proofs.Common.{◌≡◌, ℤ, List, [], ◌∷◌, length, Some, sym, ap, subst, ◌∙◌, arith, true, true≢false}
+use Rattle.std.proofs.Common.{◌≡◌, Bool, ℤ, List, [], ◌∷◌, length, Some, sym, ap, subst, ◌∙◌, arith, true, true≢false}
 use Rattle.std.specs.Prelude.{IfOk, IfErr}
 use Rattle.store_api.specs.Parts.{Owns}
 use Rattle.store_api.specs.Units.{MayDo}
 use Rattle.store_api.proofs.May.{may_do-same}
 use Rattle.attr_images.specs.Documents.{column_at}
 use Rattle.attr_index.specs.Changes.{first_weights}
-use Rattle.attr_index.specs.Columns.{items_of, with_change}
+use Rattle.attr_index.specs.Columns.{Column, items_of, with_change}
 use Rattle.attr_types.specs.declared.value.Value.{Value}
 use Rattle.store_api.specs.Calls.{RefusesOf}
 use Rattle.attr_types.specs.declared.items.Item.{Item}
 use Rattle.attr_field.specs.Widths.{IsFieldWidth}
 use Rattle.posting_store.specs.Changes.{MakesWithin}
-use Rattle.value_index.specs.Counts.{by_width}
+use Rattle.value_index.specs.Counts.{besides, by_width}
+use Rattle.value_index.specs.Forms.{IsOfForm, WeighOnes}
+use Rattle.attr_field.specs.Forms.{wants}
+use Rattle.attr_field.proofs.WeightLemmas.{weigh_ones}
 use Rattle.value_index.proofs.CountLemmas.{within_none}
 use Rattle.attr_field.specs.Changes.{MakesField}
-use Rattle.attr_field.specs.Counts.{change_records, field_nodes, field_records, low_nodes, StaysLow}
+use Rattle.attr_field.specs.Counts.{change_forms, change_records, field_forms, field_nodes, field_records, low_nodes, StaysLow}
 use Rattle.attr_field.specs.Fields.{field_part, IsField, RefersBeside}
 use Rattle.attr_field.specs.declared.roots.FieldRoots.{FieldRoots}
 use Rattle.attr_field.proofs.ChangeLemmas.{same_field}
@@ -74,6 +77,7 @@ put_weighed-requires g c =
     let type = c.args.value_type in
     let D = c.args.roots.documents in
     let I = c.args.roots.dictionary in
+    let wanted = sym c.wants-wanted.ensures in
     let same = sym c.has_already.ensures.same in (
       omega arith,
       (
@@ -85,11 +89,18 @@ put_weighed-requires g c =
             (
               subst (λ s. RefersBeside (ledger s) kind (records s) D I (field_part kind D I ∷ [])) same c.requires.refers,
               (
-                c.requires.fits,
+                subst (λ (b : Bool). IsOfForm b type (records c.has_already.new.frozen) I) wanted (subst (λ s. IsOfForm (wants c.args.dense kind) type (records s) I) same c.requires.form),
                 (
-                  subst (λ s. c.in-Ok-weights_of.before.entries ≡ first_weights [] (items_of (column_at kind type (records s) D) c.args.doc)) same
-                      (c.in-Ok-weights_of.ensures.weights ∙ ap (first_weights []) c.requires.was),
-                  c.in-Ok-weights_of-2.ensures.weights,
+                  subst (λ (b : Bool). WeighOnes b c.in-Ok-weights_of-2.after.entries) wanted
+                      (weigh_ones c.args.dense kind c.args.new.now c.in-Ok-weights_of-2.after.entries c.requires.fits.0 c.in-Ok-weights_of-2.ensures.weights),
+                  (
+                    c.requires.fits,
+                    (
+                      subst (λ s. c.in-Ok-weights_of.before.entries ≡ first_weights [] (items_of (column_at kind type (records s) D) c.args.doc)) same
+                          (c.in-Ok-weights_of.ensures.weights ∙ ap (first_weights []) c.requires.was),
+                      c.in-Ok-weights_of-2.ensures.weights,
+                    ),
+                  ),
                 ),
               ),
             ),
@@ -121,16 +132,18 @@ returns-clause-refuses g c =
     let items = c.args.new.now in
     let new = ledger c.put_weighed.new.store in
     let column = column_at kind type (records c.args.store.now) D in
-    subst (λ (old : List Item). IfErr c.put_weighed.result (RefusesOf (IsFieldWidth kind (with_change column doc (Some items)) old items) (ledger c.args.store.now) new)) (sym c.requires.was)
-    (subst (λ s. IfErr c.put_weighed.result (RefusesOf (IsFieldWidth kind (with_change (column_at kind type (records s) D) doc (Some items)) (items_of (column_at kind type (records s) D) doc) items)
-    (ledger s) new)) c.has_already.ensures.same c.put_weighed.ensures.refuses)
+    subst (λ (b : Bool). IfErr c.put_weighed.result (RefusesOf (IsFieldWidth b kind (with_change column doc (Some items)) c.args.old.now items) (ledger c.args.store.now) new)) c.wants-wanted.ensures
+    (subst (λ (old : List Item). IfErr c.put_weighed.result (RefusesOf (IsFieldWidth c.wants-wanted.result kind (with_change column doc (Some items)) old items) (ledger c.args.store.now) new)) (sym c.requires.was)
+    (subst (λ s. IfErr c.put_weighed.result (RefusesOf (IsFieldWidth c.wants-wanted.result kind (with_change (column_at kind type (records s) D) doc (Some items)) (items_of (column_at kind type (records s) D) doc) items)
+    (ledger s) new)) c.has_already.ensures.same c.put_weighed.ensures.refuses))
 
 pub returns-in_default-clause-counts : goal.returns-in_default-clause-counts
 returns-in_default-clause-counts g c =
     let ledger = g.S.Store.ledger in
     let column = column_at c.args.kind c.args.value_type (g.S.Frozen.records c.args.store.now) c.args.roots.documents in
     let records = change_records c.args.kind column c.args.doc c.args.old.now c.args.new.now in
-    let most = by_width (field_nodes (first_weights [] c.args.old.now) (first_weights [] c.args.new.now)) records in
+    let most = besides (by_width (field_nodes (first_weights [] c.args.old.now) (first_weights [] c.args.new.now)) records)
+    (change_forms (wants c.args.dense c.args.kind) column c.args.doc c.args.old.now c.args.new.now) in
     subst (λ s. MakesWithin (ledger c.args.store.now) (ledger s) most) (sym c.has_already.ensures.same) (within_none (ledger c.args.store.now) most)
 
 pub returns-then-same-clause-counts : goal.returns-then-same-clause-counts
@@ -138,7 +151,8 @@ returns-then-same-clause-counts g c =
     let ledger = g.S.Store.ledger in
     let column = column_at c.args.kind c.args.value_type (g.S.Frozen.records c.args.store.now) c.args.roots.documents in
     let records = change_records c.args.kind column c.args.doc c.args.old.now c.args.new.now in
-    let most = by_width (field_nodes (first_weights [] c.args.old.now) (first_weights [] c.args.new.now)) records in
+    let most = besides (by_width (field_nodes (first_weights [] c.args.old.now) (first_weights [] c.args.new.now)) records)
+    (change_forms (wants c.args.dense c.args.kind) column c.args.doc c.args.old.now c.args.new.now) in
     subst (λ s. MakesWithin (ledger c.args.store.now) (ledger s) most) (sym c.has_already.ensures.same) (within_none (ledger c.args.store.now) most)
 
 pub returns-in_default-weights_of-clause-counts : goal.returns-in_default-weights_of-clause-counts
@@ -146,7 +160,8 @@ returns-in_default-weights_of-clause-counts g c =
     let ledger = g.S.Store.ledger in
     let column = column_at c.args.kind c.args.value_type (g.S.Frozen.records c.args.store.now) c.args.roots.documents in
     let records = change_records c.args.kind column c.args.doc c.args.old.now c.args.new.now in
-    let most = by_width (field_nodes (first_weights [] c.args.old.now) (first_weights [] c.args.new.now)) records in
+    let most = besides (by_width (field_nodes (first_weights [] c.args.old.now) (first_weights [] c.args.new.now)) records)
+    (change_forms (wants c.args.dense c.args.kind) column c.args.doc c.args.old.now c.args.new.now) in
     subst (λ s. MakesWithin (ledger c.args.store.now) (ledger s) most) (sym c.has_already.ensures.same) (within_none (ledger c.args.store.now) most)
 
 pub returns-in_default-weights_of-2-clause-counts : goal.returns-in_default-weights_of-2-clause-counts
@@ -154,7 +169,8 @@ returns-in_default-weights_of-2-clause-counts g c =
     let ledger = g.S.Store.ledger in
     let column = column_at c.args.kind c.args.value_type (g.S.Frozen.records c.args.store.now) c.args.roots.documents in
     let records = change_records c.args.kind column c.args.doc c.args.old.now c.args.new.now in
-    let most = by_width (field_nodes (first_weights [] c.args.old.now) (first_weights [] c.args.new.now)) records in
+    let most = besides (by_width (field_nodes (first_weights [] c.args.old.now) (first_weights [] c.args.new.now)) records)
+    (change_forms (wants c.args.dense c.args.kind) column c.args.doc c.args.old.now c.args.new.now) in
     subst (λ s. MakesWithin (ledger c.args.store.now) (ledger s) most) (sym c.has_already.ensures.same) (within_none (ledger c.args.store.now) most)
 
 pub returns-clause-counts : goal.returns-clause-counts
@@ -168,11 +184,18 @@ returns-clause-counts g c =
     let was = c.in-Ok-weights_of.before.entries in
     let is = c.in-Ok-weights_of-2.after.entries in
     let first = first_weights [] c.args.old.now in
+    let last = first_weights [] c.args.new.now in
+    let form = λ (cs : Column) (old new : List (Value × ℤ)). field_forms c.wants-wanted.result cs doc old new in
     let column = column_at kind c.args.value_type (records c.args.store.now) c.args.roots.documents in
-    subst (λ (es : List (Value × ℤ)). MakesWithin (ledger c.args.store.now) new (by_width (field_nodes first es) (field_records kind column doc count first es))) c.in-Ok-weights_of-2.ensures.weights
-    (subst (λ (es : List (Value × ℤ)). MakesWithin (ledger c.args.store.now) new (by_width (field_nodes es is) (field_records kind column doc count es is))) c.in-Ok-weights_of.ensures.weights
-    (subst (λ s. MakesWithin (ledger s) new (by_width (field_nodes was is) (field_records kind (column_at kind c.args.value_type (records s) c.args.roots.documents) doc count was is)))
-    c.has_already.ensures.same c.put_weighed.ensures.counts))
+    subst (λ (b : Bool). MakesWithin (ledger c.args.store.now) new (besides (by_width (field_nodes first last) (field_records kind column doc count first last)) (field_forms b column doc first last)))
+    c.wants-wanted.ensures
+    (subst (λ (es : List (Value × ℤ)). MakesWithin (ledger c.args.store.now) new (besides (by_width (field_nodes first es) (field_records kind column doc count first es)) (form column first es)))
+    c.in-Ok-weights_of-2.ensures.weights
+    (subst (λ (es : List (Value × ℤ)). MakesWithin (ledger c.args.store.now) new (besides (by_width (field_nodes es is) (field_records kind column doc count es is)) (form column es is)))
+    c.in-Ok-weights_of.ensures.weights
+    (subst (λ s. MakesWithin (ledger s) new (besides (by_width (field_nodes was is) (field_records kind (column_at kind c.args.value_type (records s) c.args.roots.documents) doc count was is))
+    (form (column_at kind c.args.value_type (records s) c.args.roots.documents) was is)))
+    c.has_already.ensures.same c.put_weighed.ensures.counts)))
 
 pub returns-clause-may : goal.returns-clause-may
 returns-clause-may g c =
@@ -185,7 +208,8 @@ returns-in_default-clause-low g c =
     let column = column_at c.args.kind c.args.value_type (g.S.Frozen.records c.args.store.now) c.args.roots.documents in
     let records = change_records c.args.kind column c.args.doc c.args.old.now c.args.new.now in
     λ levels stays.
-    let most = by_width (low_nodes levels (first_weights [] c.args.old.now) (first_weights [] c.args.new.now)) records in
+    let most = besides (by_width (low_nodes levels (first_weights [] c.args.old.now) (first_weights [] c.args.new.now)) records)
+    (change_forms (wants c.args.dense c.args.kind) column c.args.doc c.args.old.now c.args.new.now) in
     subst (λ s. MakesWithin (ledger c.args.store.now) (ledger s) most) (sym c.has_already.ensures.same) (within_none (ledger c.args.store.now) most)
 
 pub returns-then-same-clause-low : goal.returns-then-same-clause-low
@@ -194,7 +218,8 @@ returns-then-same-clause-low g c =
     let column = column_at c.args.kind c.args.value_type (g.S.Frozen.records c.args.store.now) c.args.roots.documents in
     let records = change_records c.args.kind column c.args.doc c.args.old.now c.args.new.now in
     λ levels stays.
-    let most = by_width (low_nodes levels (first_weights [] c.args.old.now) (first_weights [] c.args.new.now)) records in
+    let most = besides (by_width (low_nodes levels (first_weights [] c.args.old.now) (first_weights [] c.args.new.now)) records)
+    (change_forms (wants c.args.dense c.args.kind) column c.args.doc c.args.old.now c.args.new.now) in
     subst (λ s. MakesWithin (ledger c.args.store.now) (ledger s) most) (sym c.has_already.ensures.same) (within_none (ledger c.args.store.now) most)
 
 pub returns-in_default-weights_of-clause-low : goal.returns-in_default-weights_of-clause-low
@@ -203,7 +228,8 @@ returns-in_default-weights_of-clause-low g c =
     let column = column_at c.args.kind c.args.value_type (g.S.Frozen.records c.args.store.now) c.args.roots.documents in
     let records = change_records c.args.kind column c.args.doc c.args.old.now c.args.new.now in
     λ levels stays.
-    let most = by_width (low_nodes levels (first_weights [] c.args.old.now) (first_weights [] c.args.new.now)) records in
+    let most = besides (by_width (low_nodes levels (first_weights [] c.args.old.now) (first_weights [] c.args.new.now)) records)
+    (change_forms (wants c.args.dense c.args.kind) column c.args.doc c.args.old.now c.args.new.now) in
     subst (λ s. MakesWithin (ledger c.args.store.now) (ledger s) most) (sym c.has_already.ensures.same) (within_none (ledger c.args.store.now) most)
 
 pub returns-in_default-weights_of-2-clause-low : goal.returns-in_default-weights_of-2-clause-low
@@ -212,7 +238,8 @@ returns-in_default-weights_of-2-clause-low g c =
     let column = column_at c.args.kind c.args.value_type (g.S.Frozen.records c.args.store.now) c.args.roots.documents in
     let records = change_records c.args.kind column c.args.doc c.args.old.now c.args.new.now in
     λ levels stays.
-    let most = by_width (low_nodes levels (first_weights [] c.args.old.now) (first_weights [] c.args.new.now)) records in
+    let most = besides (by_width (low_nodes levels (first_weights [] c.args.old.now) (first_weights [] c.args.new.now)) records)
+    (change_forms (wants c.args.dense c.args.kind) column c.args.doc c.args.old.now c.args.new.now) in
     subst (λ s. MakesWithin (ledger c.args.store.now) (ledger s) most) (sym c.has_already.ensures.same) (within_none (ledger c.args.store.now) most)
 
 pub returns-clause-low : goal.returns-clause-low
@@ -226,14 +253,21 @@ returns-clause-low g c =
     let was = c.in-Ok-weights_of.before.entries in
     let is = c.in-Ok-weights_of-2.after.entries in
     let first = first_weights [] c.args.old.now in
+    let last = first_weights [] c.args.new.now in
+    let form = λ (cs : Column) (old new : List (Value × ℤ)). field_forms c.wants-wanted.result cs doc old new in
     let column = column_at kind c.args.value_type (records c.args.store.now) c.args.roots.documents in
     λ levels stays.
     let here = subst (λ s. StaysLow levels (column_at c.args.kind c.args.value_type (records s) c.args.roots.documents) is) (sym c.has_already.ensures.same)
     (subst (λ (es : List (Value × ℤ)). StaysLow levels column es) (sym c.in-Ok-weights_of-2.ensures.weights) stays) in
-    subst (λ (es : List (Value × ℤ)). MakesWithin (ledger c.args.store.now) new (by_width (low_nodes levels first es) (field_records kind column doc count first es))) c.in-Ok-weights_of-2.ensures.weights
-    (subst (λ (es : List (Value × ℤ)). MakesWithin (ledger c.args.store.now) new (by_width (low_nodes levels es is) (field_records kind column doc count es is))) c.in-Ok-weights_of.ensures.weights
-    (subst (λ s. MakesWithin (ledger s) new (by_width (low_nodes levels was is) (field_records kind (column_at kind c.args.value_type (records s) c.args.roots.documents) doc count was is)))
-    c.has_already.ensures.same (c.put_weighed.ensures.low levels here)))
+    subst (λ (b : Bool). MakesWithin (ledger c.args.store.now) new (besides (by_width (low_nodes levels first last) (field_records kind column doc count first last)) (field_forms b column doc first last)))
+    c.wants-wanted.ensures
+    (subst (λ (es : List (Value × ℤ)). MakesWithin (ledger c.args.store.now) new (besides (by_width (low_nodes levels first es) (field_records kind column doc count first es)) (form column first es)))
+    c.in-Ok-weights_of-2.ensures.weights
+    (subst (λ (es : List (Value × ℤ)). MakesWithin (ledger c.args.store.now) new (besides (by_width (low_nodes levels es is) (field_records kind column doc count es is)) (form column es is)))
+    c.in-Ok-weights_of.ensures.weights
+    (subst (λ s. MakesWithin (ledger s) new (besides (by_width (low_nodes levels was is) (field_records kind (column_at kind c.args.value_type (records s) c.args.roots.documents) doc count was is))
+    (form (column_at kind c.args.value_type (records s) c.args.roots.documents) was is)))
+    c.has_already.ensures.same (c.put_weighed.ensures.low levels here))))
 
 pub returns-in_default-clause-same : goal.returns-in_default-clause-same
 returns-in_default-clause-same g c = λ is. c.has_already.ensures.same
@@ -249,3 +283,12 @@ returns-in_default-weights_of-2-clause-same g c = λ is. c.has_already.ensures.s
 
 pub returns-clause-same : goal.returns-clause-same
 returns-clause-same g c = λ is. absurd (true≢false (sym (c.in-Ok.ensures.has.1 is) ∙ c.if-same.false))
+
+pub returns-then-same-clause-form : goal.returns-then-same-clause-form
+returns-then-same-clause-form g c =
+    subst (λ s. IsOfForm (wants c.args.dense c.args.kind) c.args.value_type (g.S.Frozen.records s) c.args.roots.dictionary) (sym c.has_already.ensures.same) c.requires.form
+
+pub returns-clause-form : goal.returns-clause-form
+returns-clause-form g c =
+    subst (λ (b : Bool). IfOk c.put_weighed.result (λ (next : FieldRoots g.row.OFFSET_BITS). IsOfForm b c.args.value_type (g.S.Frozen.records c.put_weighed.new.store) next.dictionary)) c.wants-wanted.ensures
+    c.put_weighed.ensures.form

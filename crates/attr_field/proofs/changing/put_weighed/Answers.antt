@@ -33,10 +33,16 @@ add_values-requires g c =
         (
           field_stands kind type begun k documents dictionary c.args.doc c.requires.field c.requires.owns c.requires.refers,
           (
-            c.requires.field.index_of_documents,
+            c.requires.form,
             (
-              weights_typed type c.args.new.now.entries c.args.items.now c.requires.after c.requires.fits.1,
-              has_before kind type begun k documents dictionary c.args.doc c.requires.field c.documents_law.ensures.lawful c.args.old.now.entries c.requires.before,
+              c.requires.ones,
+              (
+                c.requires.field.index_of_documents,
+                (
+                  weights_typed type c.args.new.now.entries c.args.items.now c.requires.after c.requires.fits.1,
+                  has_before kind type begun k documents dictionary c.args.doc c.requires.field c.documents_law.ensures.lawful c.args.old.now.entries c.requires.before,
+                ),
+              ),
             ),
           ),
         ),
@@ -64,10 +70,10 @@ returns-in_err-added-clause-refuses g c =
     let items = c.args.items.now in
     let old = c.args.old.now.entries in
     let new = c.args.new.now.entries in
-    let among = IsFieldWidth kind (with_change column doc (Some items)) (items_of column doc) items in
+    let among = IsFieldWidth c.args.dense kind (with_change column doc (Some items)) (items_of column doc) items in
     let p = err_from_is_err_and c.from_residual.result c.from_residual.ensures.1 in
-    rw (p.1, p.2) (of_more (IsWalkWidth start doc (weights new) (λ v. None)) among a a (ledger c.add_values.new.store) _ (may_do-same a)
-    (added_width kind column start doc (Some items) up of old new c.requires.before c.requires.after) c.in_err-added.ensures.refuses)
+    rw (p.1, p.2) (of_more (IsWalkWidth c.args.dense start doc (weights new) (λ v. None)) among a a (ledger c.add_values.new.store) _ (may_do-same a)
+    (added_width c.args.dense kind column start doc (Some items) up of old new c.requires.before c.requires.after) c.in_err-added.ensures.refuses)
 
 pub returns-in_err-added-clause-may : goal.returns-in_err-added-clause-may
 returns-in_err-added-clause-may g c = c.add_values.ensures.may
@@ -113,7 +119,7 @@ returns-in_err-documents-clause-refuses g c =
     let items = c.args.items.now in
     let old = c.args.old.now.entries in
     let new = c.args.new.now.entries in
-    let among = IsFieldWidth kind (with_change column doc (Some items)) (items_of column doc) items in
+    let among = IsFieldWidth c.args.dense kind (with_change column doc (Some items)) (items_of column doc) items in
     let p = err_from_is_err_and c.from_residual-in_err-documents.result c.from_residual-in_err-documents.ensures.1 in
     rw (p.1, p.2) (of_more (IsDocumentWidth kind (length items)) among a (ledger c.add_values.new.store) (ledger c.set_items.new.store) _ c.add_values.ensures.may (λ w is. inl is)
     c.in_err-documents.ensures.refuses)
@@ -151,11 +157,14 @@ remove_values-requires g c =
         (
           c.in_ok-documents.ensures.steps.stands,
           (
-            weights_typed type old (items_of (column_at kind type k D) doc) c.requires.before (items_typed kind type k D doc),
+            c.in_ok-documents.ensures.form c.args.dense c.in_ok-added.ensures.form,
             (
-              has_middle kind type begun k D I doc c.requires.field lawful old c.requires.before (Some items) new c.requires.after (index_of type n root) between,
-              λ index ends. subst (λ (column : Column). IsIndexOf column index) (sym both.column_is)
-                  (index_ends kind type begun k D I doc c.requires.field lawful old c.requires.before (Some items) new c.requires.after (index_of type n root) between index ends),
+              weights_typed type old (items_of (column_at kind type k D) doc) c.requires.before (items_typed kind type k D doc),
+              (
+                has_middle kind type begun k D I doc c.requires.field lawful old c.requires.before (Some items) new c.requires.after (index_of type n root) between,
+                λ index ends. subst (λ (column : Column). IsIndexOf column index) (sym both.column_is)
+                    (index_ends kind type begun k D I doc c.requires.field lawful old c.requires.before (Some items) new c.requires.after (index_of type n root) between index ends),
+              ),
             ),
           ),
         ),
@@ -184,14 +193,14 @@ returns-in_err-dictionary-clause-refuses g c =
     let items = c.args.items.now in
     let old = c.args.old.now.entries in
     let new = c.args.new.now.entries in
-    let among = IsFieldWidth kind (with_change column doc (Some items)) (items_of column doc) items in
+    let among = IsFieldWidth c.args.dense kind (with_change column doc (Some items)) (items_of column doc) items in
     let n = records c.set_items.new.store in
     let root = c.in_ok-added.added in
     let between = subst (λ (i : Index). IsBetween start doc (weights new) (λ v. None) i) (sym c.in_ok-documents.ensures.index) c.in_ok-added.ensures.between in
     let may = may_do-then a (ledger c.add_values.new.store) (ledger c.set_items.new.store) c.add_values.ensures.may c.set_items.ensures.may in
     let p = err_from_is_err_and c.from_residual-in_err-dictionary.result c.from_residual-in_err-dictionary.ensures.1 in
-    rw (p.1, p.2) (of_more (IsWalkWidth (index_of type n root) doc (weights new) (weights old)) among a (ledger c.set_items.new.store) (ledger c.remove_values.new.store) _ may
-    (removed_width kind column start doc (Some items) up of old new c.requires.before c.requires.after (index_of type n root) between) c.in_err-dictionary.ensures.refuses)
+    rw (p.1, p.2) (of_more (IsWalkWidth c.args.dense (index_of type n root) doc (weights new) (weights old)) among a (ledger c.set_items.new.store) (ledger c.remove_values.new.store) _ may
+    (removed_width c.args.dense kind column start doc (Some items) up of old new c.requires.before c.requires.after (index_of type n root) between) c.in_err-dictionary.ensures.refuses)
 
 pub returns-in_err-dictionary-clause-may : goal.returns-in_err-dictionary-clause-may
 returns-in_err-dictionary-clause-may g c =
@@ -240,7 +249,7 @@ returns-in_err-added-clause-counts g c =
     let start = index_of type k I in
     let of = c.requires.field.index_of_documents in
     let last = ledger c.add_values.new.store in
-    put_one kind column start doc count of old new (34 * new_values old new) 17 (34 * lost_values old new) (ledger c.args.store.now) last last last c.add_values.ensures.counts
+    put_one kind column start doc count of old new c.args.dense (34 * new_values old new) 17 (34 * lost_values old new) (ledger c.args.store.now) last last last c.add_values.ensures.counts
 
 pub returns-in_err-documents-clause-counts : goal.returns-in_err-documents-clause-counts
 returns-in_err-documents-clause-counts g c =
@@ -259,7 +268,7 @@ returns-in_err-documents-clause-counts g c =
     let start = index_of type k I in
     let of = c.requires.field.index_of_documents in
     let last = ledger c.set_items.new.store in
-    put_two kind column start doc count of old new (34 * new_values old new) 17 (34 * lost_values old new) (ledger c.args.store.now) (ledger c.add_values.new.store) last last
+    put_two kind column start doc count of old new c.args.dense (34 * new_values old new) 17 (34 * lost_values old new) (ledger c.args.store.now) (ledger c.add_values.new.store) last last
     c.add_values.ensures.may c.add_values.ensures.counts c.set_items.ensures.counts
 
 pub returns-in_err-dictionary-clause-counts : goal.returns-in_err-dictionary-clause-counts
@@ -280,7 +289,7 @@ returns-in_err-dictionary-clause-counts g c =
     let of = c.requires.field.index_of_documents in
     let middle = index_of type (records c.set_items.new.store) c.in_ok-added.added in
     let between = subst (λ (i : Index). IsBetween start doc (weights new) (λ v. None) i) (sym c.in_ok-documents.ensures.index) c.in_ok-added.ensures.between in
-    put_three kind column start doc count of old new (34 * new_values old new) 17 (34 * lost_values old new)
+    put_three kind column start doc count of old new c.args.dense (34 * new_values old new) 17 (34 * lost_values old new)
     (ledger c.args.store.now) (ledger c.add_values.new.store) (ledger c.set_items.new.store) (ledger c.remove_values.new.store) middle between
     c.add_values.ensures.may c.set_items.ensures.may c.add_values.ensures.counts c.set_items.ensures.counts c.remove_values.ensures.counts
 
@@ -302,7 +311,7 @@ returns-clause-counts g c =
     let of = c.requires.field.index_of_documents in
     let middle = index_of type (records c.set_items.new.store) c.in_ok-added.added in
     let between = subst (λ (i : Index). IsBetween start doc (weights new) (λ v. None) i) (sym c.in_ok-documents.ensures.index) c.in_ok-added.ensures.between in
-    put_three kind column start doc count of old new (34 * new_values old new) 17 (34 * lost_values old new)
+    put_three kind column start doc count of old new c.args.dense (34 * new_values old new) 17 (34 * lost_values old new)
     (ledger c.args.store.now) (ledger c.add_values.new.store) (ledger c.set_items.new.store) (ledger c.remove_values.new.store) middle between
     c.add_values.ensures.may c.set_items.ensures.may c.add_values.ensures.counts c.set_items.ensures.counts c.remove_values.ensures.counts
 
@@ -331,7 +340,7 @@ returns-in_err-added-clause-low g c =
     λ levels stays.
     let added = c.add_values.ensures.low levels (adds_low column start doc levels new of stays) in
     let last = ledger c.add_values.new.store in
-    put_one kind column start doc count of old new (value_nodes levels * new_values old new) (2 * levels + 1) (value_nodes levels * lost_values old new) (ledger c.args.store.now) last last last added
+    put_one kind column start doc count of old new c.args.dense (value_nodes levels * new_values old new) (2 * levels + 1) (value_nodes levels * lost_values old new) (ledger c.args.store.now) last last last added
 
 pub returns-in_err-documents-clause-low : goal.returns-in_err-documents-clause-low
 returns-in_err-documents-clause-low g c =
@@ -354,7 +363,8 @@ returns-in_err-documents-clause-low g c =
     let few = subst (λ (cl : Column). length cl < 2 * 8 ^ levels) (sym c.in_ok-added.ensures.steps.column_is) (let low = stays.documents in let less : length column < 2 * 8 ^ levels = omega arith in less) in
     let entry = c.set_items.ensures.low levels stays.some few in
     let last = ledger c.set_items.new.store in
-    put_two kind column start doc count of old new (value_nodes levels * new_values old new) (2 * levels + 1) (value_nodes levels * lost_values old new) (ledger c.args.store.now) (ledger c.add_values.new.store) last last c.add_values.ensures.may added entry
+    put_two kind column start doc count of old new c.args.dense (value_nodes levels * new_values old new) (2 * levels + 1) (value_nodes levels * lost_values old new) (ledger c.args.store.now)
+    (ledger c.add_values.new.store) last last c.add_values.ensures.may added entry
 
 pub returns-in_err-dictionary-clause-low : goal.returns-in_err-dictionary-clause-low
 returns-in_err-dictionary-clause-low g c =
@@ -379,7 +389,7 @@ returns-in_err-dictionary-clause-low g c =
     let few = subst (λ (cl : Column). length cl < 2 * 8 ^ levels) (sym c.in_ok-added.ensures.steps.column_is) (let low = stays.documents in let less : length column < 2 * 8 ^ levels = omega arith in less) in
     let entry = c.set_items.ensures.low levels stays.some few in
     let gone = c.remove_values.ensures.low levels (removes_low column start doc levels new of stays middle old between) in
-    put_three kind column start doc count of old new (value_nodes levels * new_values old new) (2 * levels + 1) (value_nodes levels * lost_values old new)
+    put_three kind column start doc count of old new c.args.dense (value_nodes levels * new_values old new) (2 * levels + 1) (value_nodes levels * lost_values old new)
     (ledger c.args.store.now) (ledger c.add_values.new.store) (ledger c.set_items.new.store) (ledger c.remove_values.new.store) middle between
     c.add_values.ensures.may c.set_items.ensures.may added entry gone
 
@@ -406,6 +416,20 @@ returns-clause-low g c =
     let few = subst (λ (cl : Column). length cl < 2 * 8 ^ levels) (sym c.in_ok-added.ensures.steps.column_is) (let low = stays.documents in let less : length column < 2 * 8 ^ levels = omega arith in less) in
     let entry = c.set_items.ensures.low levels stays.some few in
     let gone = c.remove_values.ensures.low levels (removes_low column start doc levels new of stays middle old between) in
-    put_three kind column start doc count of old new (value_nodes levels * new_values old new) (2 * levels + 1) (value_nodes levels * lost_values old new)
+    put_three kind column start doc count of old new c.args.dense (value_nodes levels * new_values old new) (2 * levels + 1) (value_nodes levels * lost_values old new)
     (ledger c.args.store.now) (ledger c.add_values.new.store) (ledger c.set_items.new.store) (ledger c.remove_values.new.store) middle between
     c.add_values.ensures.may c.set_items.ensures.may added entry gone
+
+pub returns-in_err-added-clause-form : goal.returns-in_err-added-clause-form
+returns-in_err-added-clause-form g c = let p = err_from_is_err_and c.from_residual.result c.from_residual.ensures.1 in rw p.1 tt
+
+pub returns-in_err-documents-clause-form : goal.returns-in_err-documents-clause-form
+returns-in_err-documents-clause-form g c =
+    let p = err_from_is_err_and c.from_residual-in_err-documents.result c.from_residual-in_err-documents.ensures.1 in rw p.1 tt
+
+pub returns-in_err-dictionary-clause-form : goal.returns-in_err-dictionary-clause-form
+returns-in_err-dictionary-clause-form g c =
+    let p = err_from_is_err_and c.from_residual-in_err-dictionary.result c.from_residual-in_err-dictionary.ensures.1 in rw p.1 tt
+
+pub returns-clause-form : goal.returns-clause-form
+returns-clause-form g c = c.in_ok-dictionary.ensures.form

@@ -1,5 +1,5 @@
-use Rattle.std.proofs.Common.{ℤ, List, [], None, sym, ap, subst, ◌∙◌, arith}
-use Rattle.std.specs.Prelude.{IfErr}
+use Rattle.std.proofs.Common.{Bool, ℤ, List, [], None, sym, ap, subst, ◌∙◌, arith}
+use Rattle.std.specs.Prelude.{IfErr, IfOk}
 use Rattle.store_api.specs.Calls.{RefusesOf}
 use Rattle.store_api.proofs.May.{may_do-same}
 use Rattle.attr_images.specs.Documents.{column_at}
@@ -9,9 +9,12 @@ use Rattle.attr_field.specs.Widths.{IsFieldWidth}
 use Rattle.attr_index.specs.Changes.{first_weights}
 use Rattle.attr_types.specs.declared.value.Value.{Value}
 use Rattle.posting_store.specs.Changes.{MakesWithin}
-use Rattle.value_index.specs.Counts.{by_width}
+use Rattle.value_index.specs.Counts.{besides, by_width}
+use Rattle.value_index.specs.Forms.{IsOfForm}
+use Rattle.attr_field.specs.Forms.{wants}
+use Rattle.attr_field.specs.declared.roots.FieldRoots.{FieldRoots}
 use Rattle.value_index.proofs.CountLemmas.{within_none}
-use Rattle.attr_field.specs.Counts.{change_records, field_nodes, field_records, low_nodes}
+use Rattle.attr_field.specs.Counts.{change_forms, change_records, field_forms, field_nodes, field_records, low_nodes}
 use Rattle.attr_field.proofs.changing.remove.Goals as goal
 
 pub returns-in_default-clause-refuses : goal.returns-in_default-clause-refuses
@@ -32,8 +35,11 @@ remove_weighed-requires g c = (
         (
           c.requires.refers,
           (
-            c.requires.there,
-            c.in-Ok.ensures.weights ∙ ap (first_weights []) c.requires.was,
+            subst (λ (b : Bool). IsOfForm b c.args.value_type (g.S.Frozen.records c.args.store.now) c.args.roots.dictionary) (sym c.wants-wanted.ensures) c.requires.form,
+            (
+              c.requires.there,
+              c.in-Ok.ensures.weights ∙ ap (first_weights []) c.requires.was,
+            ),
           ),
         ),
       ),
@@ -49,20 +55,28 @@ returns-clause-refuses g c =
     let ledger = g.S.Store.ledger in
     let kind = c.args.kind in
     let column = column_at kind c.args.value_type (g.S.Frozen.records c.args.store.now) c.args.roots.documents in
-    subst (λ (old : List Item). IfErr c.remove_weighed.result (RefusesOf (IsFieldWidth kind (with_change column c.args.doc None) old []) (ledger c.args.store.now) (ledger c.remove_weighed.new.store)))
-    (sym c.requires.was) c.remove_weighed.ensures.refuses
+    subst (λ (b : Bool). IfErr c.remove_weighed.result (RefusesOf (IsFieldWidth b kind (with_change column c.args.doc None) c.args.old.now []) (ledger c.args.store.now) (ledger c.remove_weighed.new.store)))
+    c.wants-wanted.ensures
+    (subst (λ (old : List Item). IfErr c.remove_weighed.result (RefusesOf (IsFieldWidth c.wants-wanted.result kind (with_change column c.args.doc None) old []) (ledger c.args.store.now)
+    (ledger c.remove_weighed.new.store)))
+    (sym c.requires.was) c.remove_weighed.ensures.refuses)
 
 pub returns-in_default-clause-counts : goal.returns-in_default-clause-counts
 returns-in_default-clause-counts g c =
     let column = column_at c.args.kind c.args.value_type (g.S.Frozen.records c.args.store.now) c.args.roots.documents in
-    within_none (g.S.Store.ledger c.args.store.now) (by_width (field_nodes (first_weights [] c.args.old.now) []) (change_records c.args.kind column c.args.doc c.args.old.now []))
+    within_none (g.S.Store.ledger c.args.store.now) (besides (by_width (field_nodes (first_weights [] c.args.old.now) []) (change_records c.args.kind column c.args.doc c.args.old.now []))
+    (change_forms (wants c.args.dense c.args.kind) column c.args.doc c.args.old.now []))
 
 pub returns-clause-counts : goal.returns-clause-counts
 returns-clause-counts g c =
     let ledger = g.S.Store.ledger in
     let column = column_at c.args.kind c.args.value_type (g.S.Frozen.records c.args.store.now) c.args.roots.documents in
-    subst (λ (es : List (Value × ℤ)). MakesWithin (ledger c.args.store.now) (ledger c.remove_weighed.new.store) (by_width (field_nodes es []) (field_records c.args.kind column c.args.doc 0 es [])))
-    c.in-Ok.ensures.weights c.remove_weighed.ensures.counts
+    let first = first_weights [] c.args.old.now in
+    subst (λ (b : Bool). MakesWithin (ledger c.args.store.now) (ledger c.remove_weighed.new.store) (besides (by_width (field_nodes first []) (field_records c.args.kind column c.args.doc 0 first []))
+    (field_forms b column c.args.doc first []))) c.wants-wanted.ensures
+    (subst (λ (es : List (Value × ℤ)). MakesWithin (ledger c.args.store.now) (ledger c.remove_weighed.new.store) (besides (by_width (field_nodes es []) (field_records c.args.kind column c.args.doc 0 es []))
+    (field_forms c.wants-wanted.result column c.args.doc es [])))
+    c.in-Ok.ensures.weights c.remove_weighed.ensures.counts)
 
 pub returns-clause-may : goal.returns-clause-may
 returns-clause-may g c = c.remove_weighed.ensures.may
@@ -71,12 +85,22 @@ pub returns-in_default-clause-low : goal.returns-in_default-clause-low
 returns-in_default-clause-low g c =
     let column = column_at c.args.kind c.args.value_type (g.S.Frozen.records c.args.store.now) c.args.roots.documents in
     λ levels stays.
-    within_none (g.S.Store.ledger c.args.store.now) (by_width (low_nodes levels (first_weights [] c.args.old.now) []) (change_records c.args.kind column c.args.doc c.args.old.now []))
+    within_none (g.S.Store.ledger c.args.store.now) (besides (by_width (low_nodes levels (first_weights [] c.args.old.now) []) (change_records c.args.kind column c.args.doc c.args.old.now []))
+    (change_forms (wants c.args.dense c.args.kind) column c.args.doc c.args.old.now []))
 
 pub returns-clause-low : goal.returns-clause-low
 returns-clause-low g c =
     let ledger = g.S.Store.ledger in
     let column = column_at c.args.kind c.args.value_type (g.S.Frozen.records c.args.store.now) c.args.roots.documents in
     λ levels stays.
-    subst (λ (es : List (Value × ℤ)). MakesWithin (ledger c.args.store.now) (ledger c.remove_weighed.new.store) (by_width (low_nodes levels es []) (field_records c.args.kind column c.args.doc 0 es [])))
-    c.in-Ok.ensures.weights (c.remove_weighed.ensures.low levels stays)
+    let first = first_weights [] c.args.old.now in
+    subst (λ (b : Bool). MakesWithin (ledger c.args.store.now) (ledger c.remove_weighed.new.store) (besides (by_width (low_nodes levels first []) (field_records c.args.kind column c.args.doc 0 first []))
+    (field_forms b column c.args.doc first []))) c.wants-wanted.ensures
+    (subst (λ (es : List (Value × ℤ)). MakesWithin (ledger c.args.store.now) (ledger c.remove_weighed.new.store) (besides (by_width (low_nodes levels es []) (field_records c.args.kind column c.args.doc 0 es []))
+    (field_forms c.wants-wanted.result column c.args.doc es [])))
+    c.in-Ok.ensures.weights (c.remove_weighed.ensures.low levels stays))
+
+pub returns-clause-form : goal.returns-clause-form
+returns-clause-form g c =
+    subst (λ (b : Bool). IfOk c.remove_weighed.result (λ (next : FieldRoots g.row.OFFSET_BITS). IsOfForm b c.args.value_type (g.S.Frozen.records c.remove_weighed.new.store) next.dictionary)) c.wants-wanted.ensures
+    c.remove_weighed.ensures.form

@@ -49,7 +49,7 @@ returns-in_err-documents-clause-refuses g c =
     let up = (c.documents_law.ensures.lawful kind type k D c.requires.field.documents_are).2.ascends in
     let of = c.requires.field.index_of_documents in
     let old = c.args.old.now.entries in
-    let among = IsFieldWidth kind (with_change column doc None) (items_of column doc) [] in
+    let among = IsFieldWidth c.args.dense kind (with_change column doc None) (items_of column doc) [] in
     let p = err_from_is_err_and c.from_residual.result c.from_residual.ensures.1 in
     rw (p.1, p.2) (of_one among a a (ledger c.take_out.new.store) 34 _ (may_do-same a) refl (inl (inl refl)) c.in_err-documents.ensures.refuses)
 
@@ -79,11 +79,14 @@ remove_values-requires g c =
         (
           c.in_ok-documents.ensures.steps.stands,
           (
-            weights_typed type old (items_of (column_at kind type k D) doc) c.requires.before (items_typed kind type k D doc),
+            c.in_ok-documents.ensures.form c.args.dense c.requires.form,
             (
-              has_middle kind type begun k D I doc c.requires.field lawful old c.requires.before None new c.no_weights-none.ensures (index_of type m I) between,
-              λ index ends. subst (λ (column : Column). IsIndexOf column index) (sym c.in_ok-documents.ensures.steps.column_is)
-                  (index_ends kind type begun k D I doc c.requires.field lawful old c.requires.before None new c.no_weights-none.ensures (index_of type m I) between index ends),
+              weights_typed type old (items_of (column_at kind type k D) doc) c.requires.before (items_typed kind type k D doc),
+              (
+                has_middle kind type begun k D I doc c.requires.field lawful old c.requires.before None new c.no_weights-none.ensures (index_of type m I) between,
+                λ index ends. subst (λ (column : Column). IsIndexOf column index) (sym c.in_ok-documents.ensures.steps.column_is)
+                    (index_ends kind type begun k D I doc c.requires.field lawful old c.requires.before None new c.no_weights-none.ensures (index_of type m I) between index ends),
+              ),
             ),
           ),
         ),
@@ -110,14 +113,14 @@ returns-in_err-dictionary-clause-refuses g c =
     let up = (c.documents_law.ensures.lawful kind type k D c.requires.field.documents_are).2.ascends in
     let of = c.requires.field.index_of_documents in
     let old = c.args.old.now.entries in
-    let among = IsFieldWidth kind (with_change column doc None) (items_of column doc) [] in
+    let among = IsFieldWidth c.args.dense kind (with_change column doc None) (items_of column doc) [] in
     let m = records c.take_out.new.store in
     let new = c.no_weights-none.result.entries in
     let between = subst (λ (i : Index). IsBetween start doc (weights new) (λ v. None) i) (sym c.in_ok-documents.ensures.index)
     (subst (λ (es : List (Value × ℤ)). IsBetween start doc (weights es) (λ v. None) start) (sym c.no_weights-none.ensures) (none_added kind type a k D I doc c.requires.field)) in
     let p = err_from_is_err_and c.from_residual-in_err-dictionary.result c.from_residual-in_err-dictionary.ensures.1 in
-    rw (p.1, p.2) (of_more (IsWalkWidth (index_of type m I) doc (weights new) (weights old)) among a (ledger c.take_out.new.store) (ledger c.remove_values.new.store) _ c.take_out.ensures.may
-    (removed_width kind column start doc None up of old new c.requires.before c.no_weights-none.ensures (index_of type m I) between) c.in_err-dictionary.ensures.refuses)
+    rw (p.1, p.2) (of_more (IsWalkWidth c.args.dense (index_of type m I) doc (weights new) (weights old)) among a (ledger c.take_out.new.store) (ledger c.remove_values.new.store) _ c.take_out.ensures.may
+    (removed_width c.args.dense kind column start doc None up of old new c.requires.before c.no_weights-none.ensures (index_of type m I) between) c.in_err-dictionary.ensures.refuses)
 
 pub returns-in_err-dictionary-clause-may : goal.returns-in_err-dictionary-clause-may
 returns-in_err-dictionary-clause-may g c =
@@ -153,7 +156,7 @@ returns-in_err-documents-clause-counts g c =
     let start = index_of type k I in
     let of = c.requires.field.index_of_documents in
     let last = ledger c.take_out.new.store in
-    out_one kind column start doc 0 of old [] (34 * new_values old []) 17 (34 * lost_values old []) begun begun last last c.take_out.ensures.counts
+    out_one kind column start doc 0 of old [] c.args.dense (34 * new_values old []) 17 (34 * lost_values old []) begun begun last last c.take_out.ensures.counts
 
 pub returns-in_err-dictionary-clause-counts : goal.returns-in_err-dictionary-clause-counts
 returns-in_err-dictionary-clause-counts g c =
@@ -174,7 +177,7 @@ returns-in_err-dictionary-clause-counts g c =
     let middle = index_of type (records c.take_out.new.store) I in
     let between = subst (λ (i : Index). IsBetween start doc (weights none) (λ v. None) i) (sym c.in_ok-documents.ensures.index)
     (subst (λ (es : List (Value × ℤ)). IsBetween start doc (weights es) (λ v. None) start) (sym c.no_weights-none.ensures) (none_added kind type begun k D I doc c.requires.field)) in
-    out_counts kind column start doc of old none c.no_weights-none.ensures begun (ledger c.take_out.new.store) (ledger c.remove_values.new.store) middle between c.take_out.ensures.may
+    out_counts kind column start doc of old none c.no_weights-none.ensures c.args.dense begun (ledger c.take_out.new.store) (ledger c.remove_values.new.store) middle between c.take_out.ensures.may
     c.take_out.ensures.counts c.remove_values.ensures.counts
 
 pub returns-clause-counts : goal.returns-clause-counts
@@ -196,7 +199,7 @@ returns-clause-counts g c =
     let middle = index_of type (records c.take_out.new.store) I in
     let between = subst (λ (i : Index). IsBetween start doc (weights none) (λ v. None) i) (sym c.in_ok-documents.ensures.index)
     (subst (λ (es : List (Value × ℤ)). IsBetween start doc (weights es) (λ v. None) start) (sym c.no_weights-none.ensures) (none_added kind type begun k D I doc c.requires.field)) in
-    out_counts kind column start doc of old none c.no_weights-none.ensures begun (ledger c.take_out.new.store) (ledger c.remove_values.new.store) middle between c.take_out.ensures.may
+    out_counts kind column start doc of old none c.no_weights-none.ensures c.args.dense begun (ledger c.take_out.new.store) (ledger c.remove_values.new.store) middle between c.take_out.ensures.may
     c.take_out.ensures.counts c.remove_values.ensures.counts
 
 pub returns-clause-may : goal.returns-clause-may
@@ -222,7 +225,7 @@ returns-in_err-documents-clause-low g c =
     λ levels stays.
     let entry = c.take_out.ensures.low levels stays.some (let low = stays.documents in let less : length column < 2 * 8 ^ levels = omega arith in less) in
     let last = ledger c.take_out.new.store in
-    out_one kind column start doc 0 of old [] (value_nodes levels * new_values old []) (2 * levels + 1) (value_nodes levels * lost_values old []) begun begun last last entry
+    out_one kind column start doc 0 of old [] c.args.dense (value_nodes levels * new_values old []) (2 * levels + 1) (value_nodes levels * lost_values old []) begun begun last last entry
 
 pub returns-in_err-dictionary-clause-low : goal.returns-in_err-dictionary-clause-low
 returns-in_err-dictionary-clause-low g c =
@@ -247,7 +250,7 @@ returns-in_err-dictionary-clause-low g c =
     let entry = c.take_out.ensures.low levels stays.some (let low = stays.documents in let less : length column < 2 * 8 ^ levels = omega arith in less) in
     let stays_none = subst (λ (es : List (Value × ℤ)). StaysLow levels column es) (sym c.no_weights-none.ensures) stays in
     let gone = c.remove_values.ensures.low levels (removes_low column start doc levels none of stays_none middle old between) in
-    out_low kind column start doc of old none c.no_weights-none.ensures levels begun (ledger c.take_out.new.store) (ledger c.remove_values.new.store) middle between c.take_out.ensures.may entry gone
+    out_low kind column start doc of old none c.no_weights-none.ensures c.args.dense levels begun (ledger c.take_out.new.store) (ledger c.remove_values.new.store) middle between c.take_out.ensures.may entry gone
 
 pub returns-clause-low : goal.returns-clause-low
 returns-clause-low g c =
@@ -272,4 +275,14 @@ returns-clause-low g c =
     let entry = c.take_out.ensures.low levels stays.some (let low = stays.documents in let less : length column < 2 * 8 ^ levels = omega arith in less) in
     let stays_none = subst (λ (es : List (Value × ℤ)). StaysLow levels column es) (sym c.no_weights-none.ensures) stays in
     let gone = c.remove_values.ensures.low levels (removes_low column start doc levels none of stays_none middle old between) in
-    out_low kind column start doc of old none c.no_weights-none.ensures levels begun (ledger c.take_out.new.store) (ledger c.remove_values.new.store) middle between c.take_out.ensures.may entry gone
+    out_low kind column start doc of old none c.no_weights-none.ensures c.args.dense levels begun (ledger c.take_out.new.store) (ledger c.remove_values.new.store) middle between c.take_out.ensures.may entry gone
+
+pub returns-in_err-documents-clause-form : goal.returns-in_err-documents-clause-form
+returns-in_err-documents-clause-form g c = let p = err_from_is_err_and c.from_residual.result c.from_residual.ensures.1 in rw p.1 tt
+
+pub returns-in_err-dictionary-clause-form : goal.returns-in_err-dictionary-clause-form
+returns-in_err-dictionary-clause-form g c =
+    let p = err_from_is_err_and c.from_residual-in_err-dictionary.result c.from_residual-in_err-dictionary.ensures.1 in rw p.1 tt
+
+pub returns-clause-form : goal.returns-clause-form
+returns-clause-form g c = c.in_ok-dictionary.ensures.form

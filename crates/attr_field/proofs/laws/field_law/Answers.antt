@@ -5,7 +5,7 @@ pub returns-clause-nothing : goal.returns-clause-nothing
 returns-clause-nothing c = field_nothing c.documents_law.ensures.nothing c.index_law.ensures.nothing
 
 pub returns-clause-stays : goal.returns-clause-stays
-returns-clause-stays c = field_stays c.documents_law.ensures.stays c.index_law.ensures.stays
+returns-clause-stays c = field_stays c.documents_law.ensures.stays c.index_law.ensures.stays c.index_law.ensures.form
 
 pub returns-clause-lawful : goal.returns-clause-lawful
 returns-clause-lawful c = field_lawful c.documents_law.ensures.lawful c.index_law.ensures.lawful
@@ -18,3 +18,9 @@ returns-clause-keys c = field_owns_keys c.key_law.ensures.read
 
 pub returns-clause-own : goal.returns-clause-own
 returns-clause-own c = field_reaches_own c.documents_law.ensures.reaches c.key_law.ensures.read
+
+pub returns-clause-plain : goal.returns-clause-plain
+returns-clause-plain c = c.index_law.ensures.plain
+
+pub returns-clause-form : goal.returns-clause-form
+returns-clause-form c = c.index_law.ensures.form

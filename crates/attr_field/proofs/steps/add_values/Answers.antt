@@ -19,7 +19,10 @@ add_all-requires g c =
         c.requires.unit,
         (
           c.requires.stands.index_is,
-          (owns_index ledger m c.args.kind c.args.documents c.args.dictionary c.requires.stands.owns, (c.requires.typed, c.requires.has)),
+          (
+            owns_index ledger m c.args.kind c.args.documents c.args.dictionary c.requires.stands.owns,
+            (c.requires.form, (c.requires.ones, (c.requires.typed, c.requires.has))),
+          ),
         ),
       ),
     )
@@ -63,3 +66,6 @@ returns-clause-may g c = c.add_all.ensures.may
 
 pub returns-clause-low : goal.returns-clause-low
 returns-clause-low g c = c.add_all.ensures.low
+
+pub returns-clause-form : goal.returns-clause-form
+returns-clause-form g c = c.add_all.ensures.form

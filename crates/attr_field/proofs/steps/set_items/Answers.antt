@@ -16,7 +16,8 @@ use Rattle.attr_field.specs.Steps.{StepsField}
 use Rattle.value_index.proofs.CountLemmas.{within_none}
 use Rattle.attr_field.proofs.CountLemmas.{documents_low, few_entry, low_entry}
 use Rattle.attr_field.proofs.RefLemmas.{owns_documents, if_ok}
-use Rattle.attr_field.proofs.StepLemmas.{documents_steps, documents_index_same, refer_beside, keys_beside}
+use Rattle.value_index.specs.Forms.{KeepsForm}
+use Rattle.attr_field.proofs.StepLemmas.{documents_form, documents_steps, documents_index_same, refer_beside, keys_beside}
 use Rattle.attr_field.proofs.steps.set_items.Goals as goal
 
 pub keys_of-requires : goal.keys_of-requires
@@ -112,6 +113,30 @@ returns-clause-index g c =
     (λ next. index_of type n dictionary ≡ index_of type m dictionary) c.set_document.result c.set_document.ensures.makes
     (λ next makes. documents_index_same c.index_law.ensures.stays kind type old new m n documents dictionary next keys column c.requires.stands
     (subst (λ s. MakesDocuments kind type (ledger s) new (records s) n documents keys (with_change (column_at kind type (records s) documents) doc (Some items)) next) c.keys_of.ensures.same makes) kept)
+
+pub returns-clause-form : goal.returns-clause-form
+returns-clause-form g c =
+    let ledger = g.S.Store.ledger in
+    let records = g.S.Frozen.records in
+    let old = ledger c.args.store.now in
+    let new = ledger c.set_document.new.store in
+    let m = records c.args.store.now in
+    let n = records c.set_document.new.store in
+    let kind = c.args.kind in
+    let type = c.args.value_type in
+    let documents = c.args.documents in
+    let dictionary = c.args.dictionary in
+    let doc = c.args.doc in
+    let items = c.args.items.now in
+    let keys = c.as_slice.result.now in
+    let column = with_change (column_at kind type m documents) doc (Some items) in
+    let kept = subst (AllByRecursion (IsKey m dictionary)) (sym c.as_slice.ensures.value) c.in-Ok.ensures.kept in
+    if_ok (λ next. MakesDocuments kind type (ledger c.keys_of.new.frozen) new (records c.keys_of.new.frozen) n documents keys
+    (with_change (column_at kind type (records c.keys_of.new.frozen) documents) doc (Some items)) next)
+    (λ next. KeepsForm type m n dictionary) c.set_document.result c.set_document.ensures.makes
+    (λ next makes. documents_form c.index_law.ensures.stays kind type old new m n documents dictionary next keys column c.requires.stands
+    (subst (λ s. MakesDocuments kind type (ledger s) new (records s) n documents keys (with_change (column_at kind type (records s) documents) doc (Some items)) next) c.keys_of.ensures.same makes) kept
+    c.index_law.ensures.form)
 
 pub returns-clause-refuses : goal.returns-clause-refuses
 returns-clause-refuses g c =

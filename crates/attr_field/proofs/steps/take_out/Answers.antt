@@ -6,7 +6,8 @@ use Rattle.attr_index.specs.Columns.{with_change}
 use Rattle.attr_field.specs.Steps.{StepsField}
 use Rattle.attr_field.proofs.CountLemmas.{documents_low, few_taken, low_taken}
 use Rattle.attr_field.proofs.RefLemmas.{owns_documents, if_ok}
-use Rattle.attr_field.proofs.StepLemmas.{documents_steps, documents_index_same, refer_beside}
+use Rattle.value_index.specs.Forms.{KeepsForm}
+use Rattle.attr_field.proofs.StepLemmas.{documents_form, documents_steps, documents_index_same, refer_beside}
 use Rattle.attr_field.proofs.steps.take_out.Goals as goal
 
 pub remove_document-requires : goal.remove_document-requires
@@ -55,6 +56,21 @@ returns-clause-index g c =
     if_ok (λ next. MakesDocuments kind type old new m n documents [] column next) (λ next. index_of type n dictionary ≡ index_of type m dictionary)
     c.remove_document.result c.remove_document.ensures.makes
     (λ next makes. documents_index_same c.index_law.ensures.stays kind type old new m n documents dictionary next [] column c.requires.stands makes tt)
+
+pub returns-clause-form : goal.returns-clause-form
+returns-clause-form g c =
+    let old = g.S.Store.ledger c.args.store.now in
+    let new = g.S.Store.ledger c.remove_document.new.store in
+    let m = g.S.Frozen.records c.args.store.now in
+    let n = g.S.Frozen.records c.remove_document.new.store in
+    let kind = c.args.kind in
+    let type = c.args.value_type in
+    let documents = c.args.documents in
+    let dictionary = c.args.dictionary in
+    let column = with_change (column_at kind type m documents) c.args.doc None in
+    if_ok (λ next. MakesDocuments kind type old new m n documents [] column next) (λ next. KeepsForm type m n dictionary)
+    c.remove_document.result c.remove_document.ensures.makes
+    (λ next makes. documents_form c.index_law.ensures.stays kind type old new m n documents dictionary next [] column c.requires.stands makes tt c.index_law.ensures.form)
 
 pub returns-clause-refuses : goal.returns-clause-refuses
 returns-clause-refuses g c = c.remove_document.ensures.refuses

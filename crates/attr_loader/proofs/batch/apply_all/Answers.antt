@@ -21,7 +21,7 @@ loop-op-preserved g c =
     let ledger = g.S.Store.ledger in
     let start = c.args.attribute.now in
     let ops = c.args.ops.now in
-    let keeps = keeps_of ledger c.loop-op.attribute c.apply.new.self h.keeps h.fields h.committed h.published in
+    let keeps = keeps_of ledger c.loop-op.attribute c.apply.new.self h.keeps h.fields h.dense h.committed h.published in
     let more = one_more ledger start c.loop-op.attribute c.apply.new.self (take c.loop-op.op-index ops) c.op-item.result c.loop-op.skipped i.applies keeps h.table h.operations c.in-Ok.applied h.applied in
     let front = take_more ops c.loop-op.op-index c.op-item.result c.loop-op-test.true ∙ ap (λ x. take c.loop-op.op-index ops ++ x ∷ []) (sym c.op-item.is) in
     let done = i.done in
@@ -34,9 +34,10 @@ loop-op-preserved g c =
       done = omega (arith, done);
       plan = h.plan ∙ i.plan;
       room = subst (λ (list : List Op). AddsSteps ledger start c.apply.new.self (λ steps. after_values steps (values_of start.fields start.table list))) (sym front)
-          (room_on ledger start c.loop-op.attribute (λ steps. IsMade (ledger c.apply.new.self.store) c.apply.new.self.fields c.apply.new.self.table steps) (take c.loop-op.op-index ops) c.op-item.result
+          (room_on ledger start c.loop-op.attribute (λ steps. IsMade c.apply.new.self.dense (ledger c.apply.new.self.store) c.apply.new.self.fields c.apply.new.self.table steps)
+          (take c.loop-op.op-index ops) c.op-item.result
           i.room i.applies.table i.applies.keeps.stays.fields
-          (room_applied ledger c.loop-op.attribute c.apply.new.self c.op-item.result h.fields h.table
+          (room_applied ledger c.loop-op.attribute c.apply.new.self c.op-item.result h.fields h.table h.dense
           (subst (λ (fs : List Field). OpFits fs c.op-item.result) (sym i.applies.keeps.stays.fields)
           (AllByRecursion-slice_get (OpFits start.fields) ops c.loop-op.op-index c.op-item.result c.requires.fit
           (slice_get_read ops (length ops) c.loop-op.op-index c.op-item.result refl c.loop-op-test.true c.op-item.is)))
@@ -62,7 +63,7 @@ returns-in-Err-Full-clause-room g c =
     let ops = c.args.ops.now in
     let before = c.loop-op.attribute in
     let refused = subst (RefusesOperation (ledger before.store) (ledger new.store)) c.in-Err-Full.field-0-is c.in-Err-Full.ensures.refused in
-    let names = subst (NamesWidth before.fields before.table c.op-item.result) c.in-Err-Full.field-0-is c.in-Err-Full.ensures.widths in
+    let names = subst (NamesWidth before.dense before.fields before.table c.op-item.result) c.in-Err-Full.field-0-is c.in-Err-Full.ensures.widths in
     let width = c.in-Err-Full.field-0-0 in
     let front = take_more ops c.loop-op.op-index c.op-item.result c.loop-op-test.true ∙ ap (λ x. take c.loop-op.op-index ops ++ x ∷ []) (sym c.op-item.is) in
     let done = i.done in
@@ -72,10 +73,10 @@ returns-in-Err-Full-clause-room g c =
       is = refused.is_width_of;
       whole = refused.made;
       adds = λ steps made.
-          subst (λ (list : List Op). IsRefusedBy (ledger new.store) new.fields new.table (after_values steps (values_of start.fields start.table list)) width) (sym here)
-          (room_on ledger start c.loop-op.attribute (λ s. IsRefusedBy (ledger new.store) new.fields new.table s width) (take c.loop-op.op-index ops) c.op-item.result i.room
+          subst (λ (list : List Op). IsRefusedBy new.dense (ledger new.store) new.fields new.table (after_values steps (values_of start.fields start.table list)) width) (sym here)
+          (room_on ledger start c.loop-op.attribute (λ s. IsRefusedBy new.dense (ledger new.store) new.fields new.table s width) (take c.loop-op.op-index ops) c.op-item.result i.room
           i.applies.table i.applies.keeps.stays.fields
-          (room_refused ledger c.loop-op.attribute new c.op-item.result width (ap (λ v. v.fields) c.in-Err-Full.ensures.left) (ap (λ v. v.table) c.in-Err-Full.ensures.left)
+          (room_refused ledger c.loop-op.attribute new c.op-item.result width (ap (λ v. v.fields) c.in-Err-Full.ensures.left) (ap (λ v. v.table) c.in-Err-Full.ensures.left) (ap (λ v. v.dense) c.in-Err-Full.ensures.left)
           (subst (λ (fs : List Field). OpFits fs c.op-item.result) (sym i.applies.keeps.stays.fields)
           (AllByRecursion-slice_get (OpFits start.fields) ops c.loop-op.op-index c.op-item.result c.requires.fit
           (slice_get_read ops (length ops) c.loop-op.op-index c.op-item.result refl c.loop-op-test.true c.op-item.is)))

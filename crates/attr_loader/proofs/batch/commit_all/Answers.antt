@@ -18,7 +18,7 @@ returns-in_ok-compact_after-in-Done-clause-room g c =
     let made = subst (CommitsBatch ledger c.args.attribute.now mid c.args.count c.args.skipped) c.in-Done.is c.in_ok-more.ensures.commits in
     let root = subst (CommitsRoot ledger c.args.attribute.now mid) c.in-Done.is c.in_ok-more.ensures.room in (
       λ steps start. c.compact_after.ensures.room (after_root steps) (root.1 steps start),
-      quiet_then ledger c.args.attribute.now mid c.compact_after.new.attribute after_root (λ steps. steps) root made.1.stays.sizes made.1.stays.fields c.compact_after.ensures.quiet,
+      quiet_then ledger c.args.attribute.now mid c.compact_after.new.attribute after_root (λ steps. steps) root made.1.stays.sizes made.1.stays.fields made.1.stays.dense c.compact_after.ensures.quiet,
     )
 
 pub returns-in-Full-clause-room : goal.returns-in-Full-clause-room

@@ -18,6 +18,7 @@ returns-in-Ok-clause-commits g c =
           sizes = search rules;
           readers = commit_readers (ledger old.store) (ledger new.store) _ _ _ made;
           fields = c.commit.ensures.fields;
+          dense = c.commit.ensures.dense;
         };
         table = c.commit.ensures.table;
         operations = c.commit.ensures.operations;
@@ -35,7 +36,7 @@ returns-in-Ok-clause-commits g c =
 pub returns-in-Ok-clause-room : goal.returns-in-Ok-clause-room
 returns-in-Ok-clause-room g c =
     let ledger = g.S.Store.ledger in
-    (c.commit.ensures.plan, room_root ledger c.args.attribute.now c.commit.new.self c.commit.ensures.fields c.commit.ensures.table c.commit.ensures.makes)
+    (c.commit.ensures.plan, room_root ledger c.args.attribute.now c.commit.new.self c.commit.ensures.fields c.commit.ensures.table c.commit.ensures.dense c.commit.ensures.makes)
 
 pub returns-in-Err-Full-clause-room : goal.returns-in-Err-Full-clause-room
 returns-in-Err-Full-clause-room g c =
@@ -44,4 +45,4 @@ returns-in-Err-Full-clause-room g c =
     let new = c.commit.new.self in
     let refused = subst (RefusesCommit (ledger old.store) (ledger new.store)) c.in-Err-Full.field-0-is c.in-Err-Full.ensures.refused in
     let for_root = subst (IsForRoot old.fields) c.in-Err-Full.field-0-is c.in-Err-Full.ensures.width in
-    root_refused ledger old new c.in-Err-Full.field-0-0 c.commit.ensures.fields c.commit.ensures.table c.commit.ensures.makes for_root refused.room.is_width_of refused.room.made
+    root_refused ledger old new c.in-Err-Full.field-0-0 c.commit.ensures.fields c.commit.ensures.table c.commit.ensures.dense c.commit.ensures.makes for_root refused.room.is_width_of refused.room.made

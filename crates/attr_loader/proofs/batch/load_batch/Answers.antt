@@ -16,7 +16,7 @@ returns-in-Done-clause-room g c =
     let room = subst (AppliesRoom ledger c.args.attribute.now c.apply_all.new.attribute c.args.ops.now) c.in-Done.is c.in_ok-skipped.ensures.room in
     let applies = subst (AppliesBatch ledger c.args.attribute.now c.apply_all.new.attribute c.args.ops.now) c.in-Done.is c.in_ok-skipped.ensures.applies in
     room_of ledger c.args.attribute.now c.apply_all.new.attribute c.commit_all.new.attribute c.args.ops.now c.in-Done.skipped _ c.commit_all.result refl room
-    applies.keeps.stays.sizes applies.keeps.stays.fields
+    applies.keeps.stays.sizes applies.keeps.stays.fields applies.keeps.stays.dense
     (named_of ledger c.apply_all.new.attribute c.commit_all.new.attribute _ c.in-Done.skipped c.commit_all.result c.commit_all.ensures.commits) c.commit_all.ensures.room
 
 pub returns-in-Full-clause-room : goal.returns-in-Full-clause-room

@@ -1,4 +1,4 @@
-use Rattle.std.proofs.Common.{◌≡◌, ◌<◌, ◌≤◌, ◌∙◌, ◌++◌, List, length, length-take, None, refl, sym, ap, subst, arith, Err}
+use Rattle.std.proofs.Common.{◌≡◌, false, ◌<◌, ◌≤◌, ◌∙◌, ◌++◌, List, length, length-take, None, refl, sym, ap, subst, arith, Err}
 use Rattle.std.proofs.lemmas.Result.{err_from_is_err_and}
 use Rattle.std.specs.Prelude.{take, drop}
 use Rattle.std.proofs.lemmas.List.{length-drop, drop-drop}
@@ -82,14 +82,14 @@ returns-in-Full-clause-loads g c =
     let long = ap length i.rest ∙ length-drop c.loop-rest.operations c.args.ops.now in
     let below : c.loop-rest.operations < length c.args.ops.now = omega (arith, some, long) in
     let new = c.load_batch.new.attribute in
-    let owed = λ (one : length c.args.attribute.now.fields ≡ 1) (nothing : HasMadeNothing (ledger c.args.attribute.now.store)).
+    let owed = λ (off : c.args.attribute.now.dense ≡ false) (one : length c.args.attribute.now.fields ≡ 1) (nothing : HasMadeNothing (ledger c.args.attribute.now.store)).
     owed_at ledger c.args.batch c.args.ops.now c.args.attribute.now c.loop-rest.attribute new c.loop-rest.operations (i.room one nothing) part c.in-Full.before c.in-Full.active c.in-Full.held
     i.stands.stays.fields i.stands.table
     (front_of ledger c.args.batch c.args.ops.now c.args.attribute.now c.loop-rest.attribute c.loop-rest.operations c.loop-rest.skipped i.stands c.loop-rest.rest.now part i.rest part_is below
     c.in-Full.before full.most)
     (subst (LoadsRoom ledger c.loop-rest.attribute new part) c.in-Full.is c.in_ok-more.ensures.room) c.requires.some below
-    (full.keeps.stays.fields ∙ i.stands.stays.fields) (full.keeps.stays.sizes ∙ i.stands.stays.sizes) full.full.free (g.met.S.Store.limits new.store).some_words
-    (g.met.S.Store.counted new.store) (g.met.S.Store.few_buffers new.store) in
+    (full.keeps.stays.fields ∙ i.stands.stays.fields) (full.keeps.stays.dense ∙ i.stands.stays.dense ∙ off) (full.keeps.stays.sizes ∙ i.stands.stays.sizes) full.full.free
+    (g.met.S.Store.limits new.store).some_words (g.met.S.Store.counted new.store) (g.met.S.Store.few_buffers new.store) in
     let small = λ (one : length c.args.attribute.now.fields ≡ 1) (nothing : HasMadeNothing (ledger c.args.attribute.now.store)) (plan : c.args.attribute.now.plan ≡ None)
     (many : 8 ≤ (ledger c.args.attribute.now.store).work.sizes.buffers)
     (is : IsSmall (load_of (ledger c.args.attribute.now.store).work.sizes.buffers (ledger c.args.attribute.now.store).work.sizes.words c.args.attribute.now.fields c.args.batch c.args.ops.now)).

@@ -15,7 +15,7 @@ returns-in_default-clause-refuses g c = tt
 
 pub returns-in_default-clause-counts : goal.returns-in_default-clause-counts
 returns-in_default-clause-counts g c =
-    makes_none c.args.fields.now (table_at (g.S.Frozen.records c.args.store.now) (trees_of c.args.fields.now c.args.roots.now)) c.args.doc (option_copied c.args.old) (option_copied c.args.new)
+    makes_none c.args.dense c.args.fields.now (table_at (g.S.Frozen.records c.args.store.now) (trees_of c.args.fields.now c.args.roots.now)) c.args.doc (option_copied c.args.old) (option_copied c.args.new)
     (g.S.Store.ledger c.args.store.now) (length c.args.fields.now)
 
 pub returns-in_err-change_each-clause-counts : goal.returns-in_err-change_each-clause-counts

@@ -13,7 +13,8 @@ use Rattle.attr_steps.proofs.TreeLists.{set_length}
 use Rattle.attr_steps.proofs.Columns.{trees_sound}
 use Rattle.attr_steps.proofs.Flowing.{words_kept}
 use Rattle.attr_steps.proofs.Walk.{IsPartway, way_begins, way_ends}
-use Rattle.attr_steps.proofs.FieldSteps.{column_is, laws_of, found_size, fit_size, can_change, changed_width, way_on}
+use Rattle.attr_field.specs.Forms.{wants}
+use Rattle.attr_steps.proofs.FieldSteps.{column_is, form_at, forms_on, laws_of, found_size, fit_size, can_change, changed_width, way_on}
 use Rattle.attr_steps.proofs.CountLemmas.{counts_on, counts_all, makes_none}
 use Rattle.attr_steps.proofs.document.change_each.Goals as goal
 
@@ -26,7 +27,8 @@ loop-i-init g c =
       unit = c.requires.unit;
       sized = c.requires.sized;
       way = way_begins ledger m c.args.fields.now trees (table_with (table_at m trees) c.args.doc (option_copied c.args.new)) c.requires.fields c.requires.owns;
-      counts = makes_none c.args.fields.now (table_at m trees) c.args.doc (option_copied c.args.old) (option_copied c.args.new) ledger 0;
+      forms = c.requires.forms;
+      counts = makes_none c.args.dense c.args.fields.now (table_at m trees) c.args.doc (option_copied c.args.old) (option_copied c.args.new) ledger 0;
       may = c.may_do_law.ensures.same c.args.store.now;
     }
 
@@ -64,7 +66,11 @@ change_field-requires g c =
     (slice_get_read c.args.fields.now (length c.args.fields.now) c.loop-i.i c.index-fields-i.result refl below c.index-fields-i.is)
     (slice_get_read c.loop-i.roots (length c.args.fields.now) c.loop-i.i c.index-roots-i.result (sym same) below c.index-roots-i.is)
     c.requires.there c.requires.gone c.requires.fits c.items_before-before.result.now (option_copied c.items_after-after.result) c.items_before-before.ensures c.items_after-after.ensures in
-    (omega arith, (c.loop-i.invariant.unit, (can.is_field, (can.owns, (can.refers, (can.there, (can.was, can.fits)))))))
+    let form = form_at (ledger c.args.store.now) (ledger c.loop-i.store) (records c.args.store.now) (records c.loop-i.store) c.args.fields.now c.args.roots.now c.loop-i.roots
+    c.args.doc c.loop-i.i (option_copied c.args.old) (option_copied c.args.new) c.index-fields-i.result c.index-roots-i.result c.loop-i.invariant.way
+    (slice_get_read c.args.fields.now (length c.args.fields.now) c.loop-i.i c.index-fields-i.result refl below c.index-fields-i.is)
+    (slice_get_read c.loop-i.roots (length c.args.fields.now) c.loop-i.i c.index-roots-i.result (sym same) below c.index-roots-i.is) c.args.dense c.loop-i.invariant.forms in
+    (omega arith, (c.loop-i.invariant.unit, (can.is_field, (can.owns, (can.refers, (form, (can.there, (can.was, can.fits))))))))
 
 pub returns-in_err-roots-clause-sized : goal.returns-in_err-roots-clause-sized
 returns-in_err-roots-clause-sized g c = let p = err_from_is_err_and c.from_residual.result c.from_residual.ensures.1 in rw p.1 tt
@@ -92,10 +98,10 @@ returns-in_err-roots-clause-counts g c =
     let at = slice_get_read fields (length fields) c.loop-i.i field refl below c.index-fields-i.is in
     let reads = column_is begun now k m fields c.args.roots.now c.loop-i.roots c.args.doc c.loop-i.i old new field root c.loop-i.invariant.way at
     (slice_get_read c.loop-i.roots (length fields) c.loop-i.i root (sym same) below c.index-roots-i.is) in
-    let made = counts_on fields table c.args.doc old new begun now c.loop-i.i later field (column_at field.kind field.value m root.documents) at reads
+    let made = counts_on c.args.dense fields table c.args.doc old new begun now c.loop-i.i later field (column_at field.kind field.value m root.documents) at reads
     c.items_before-before.result.now (option_copied c.items_after-after.result) c.items_before-before.ensures c.items_after-after.ensures
     c.loop-i.invariant.may c.loop-i.invariant.counts c.change_field.ensures.counts c.change_field.ensures.low in
-    counts_all fields table c.args.doc old new begun later (c.loop-i.i + 1) (length fields) (omega arith) made
+    counts_all c.args.dense fields table c.args.doc old new begun later (c.loop-i.i + 1) (length fields) (omega arith) made
 
 pub returns-in_err-roots-clause-refuses : goal.returns-in_err-roots-clause-refuses
 returns-in_err-roots-clause-refuses g c =
@@ -118,11 +124,11 @@ returns-in_err-roots-clause-refuses g c =
     let same = c.loop-i.invariant.sized in
     let sound = trees_sound k (laws_of c.field_law.ensures.stays c.field_law.ensures.lawful c.field_law.ensures.keys) fields c.args.roots.now c.requires.sized c.requires.fields in
     let p = err_from_is_err_and c.from_residual.result c.from_residual.ensures.1 in
-    rw (p.1, p.2) (of_more (IsFieldWidth field.kind (with_change (column_at field.kind field.value m root.documents) doc after) before (unwrap_or after []))
-    (IsChangedWidth fields (table_with (table_at k (trees_of fields c.args.roots.now)) doc new) old new) begun now (ledger c.change_field.new.store) _ c.loop-i.invariant.may
+    rw (p.1, p.2) (of_more (IsFieldWidth (wants c.args.dense field.kind) field.kind (with_change (column_at field.kind field.value m root.documents) doc after) before (unwrap_or after []))
+    (IsChangedWidth c.args.dense fields (table_with (table_at k (trees_of fields c.args.roots.now)) doc new) old new) begun now (ledger c.change_field.new.store) _ c.loop-i.invariant.may
     (changed_width begun now k m fields c.args.roots.now c.loop-i.roots doc i old new field root c.loop-i.invariant.way
     (slice_get_read fields (length fields) i field refl below c.index-fields-i.is) (slice_get_read c.loop-i.roots (length fields) i root (sym same) below c.index-roots-i.is)
-    sound before after c.items_before-before.ensures c.items_after-after.ensures) c.in_err-roots.ensures.refuses)
+    c.args.dense sound before after c.items_before-before.ensures c.items_after-after.ensures) c.in_err-roots.ensures.refuses)
 
 pub returns-in_err-roots-clause-may : goal.returns-in_err-roots-clause-may
 returns-in_err-roots-clause-may g c = c.may_do_law.ensures.then c.args.store.now c.loop-i.store c.change_field.new.store c.loop-i.invariant.may c.change_field.ensures.may
@@ -153,7 +159,7 @@ loop-i-preserved g c =
     let at = slice_get_read fields (length fields) c.loop-i.i field refl below c.index-fields-i.is in
     let reads = column_is begun now k m fields c.args.roots.now c.loop-i.roots c.args.doc c.loop-i.i old new field root c.loop-i.invariant.way at
     (slice_get_read c.loop-i.roots (length fields) c.loop-i.i root (sym same) below c.index-roots-i.is) in
-    let made = counts_on fields table c.args.doc old new begun now c.loop-i.i later field (column_at field.kind field.value m root.documents) at reads
+    let made = counts_on c.args.dense fields table c.args.doc old new begun now c.loop-i.i later field (column_at field.kind field.value m root.documents) at reads
     c.items_before-before.result.now (option_copied c.items_after-after.result) c.items_before-before.ensures c.items_after-after.ensures
     c.loop-i.invariant.may c.loop-i.invariant.counts c.change_field.ensures.counts c.change_field.ensures.low in
     let laws = laws_of c.field_law.ensures.stays c.field_law.ensures.lawful c.field_law.ensures.keys in
@@ -167,6 +173,13 @@ loop-i-preserved g c =
           laws (trees_sound (records c.args.store.now) laws c.args.fields.now c.args.roots.now c.requires.sized c.requires.fields)
           (option_copied c.items_after-after.result) c.items_after-after.ensures (ledger c.change_field.new.store)
           (records c.change_field.new.store) c.in_ok-roots.field-0 c.in_ok-roots.ensures.makes c.loop-i.invariant.may;
+      forms = forms_on (ledger c.args.store.now) (ledger c.loop-i.store) (records c.args.store.now) (records c.loop-i.store) c.args.fields.now c.args.roots.now c.loop-i.roots
+          c.args.doc c.loop-i.i (option_copied c.args.old) (option_copied c.args.new) c.index-fields-i.result c.index-roots-i.result c.loop-i.invariant.way
+          (slice_get_read c.args.fields.now (length c.args.fields.now) c.loop-i.i c.index-fields-i.result refl below c.index-fields-i.is)
+          (slice_get_read c.loop-i.roots (length c.args.fields.now) c.loop-i.i c.index-roots-i.result (sym same) below c.index-roots-i.is)
+          laws (trees_sound (records c.args.store.now) laws c.args.fields.now c.args.roots.now c.requires.sized c.requires.fields)
+          (option_copied c.items_after-after.result) c.items_after-after.ensures (ledger c.change_field.new.store)
+          (records c.change_field.new.store) c.in_ok-roots.field-0 c.in_ok-roots.ensures.makes c.args.dense c.loop-i.invariant.forms c.in_ok-roots.ensures.form;
       counts = made;
       may = c.may_do_law.ensures.then c.args.store.now c.loop-i.store c.change_field.new.store c.loop-i.invariant.may c.change_field.ensures.may;
     }
@@ -193,8 +206,14 @@ pub returns-clause-counts : goal.returns-clause-counts
 returns-clause-counts g c =
     let ledger = g.S.Store.ledger in
     let most = c.loop-i.auto.i-end in
-    counts_all c.args.fields.now (table_at (g.S.Frozen.records c.args.store.now) (trees_of c.args.fields.now c.args.roots.now)) c.args.doc (option_copied c.args.old) (option_copied c.args.new)
+    counts_all c.args.dense c.args.fields.now (table_at (g.S.Frozen.records c.args.store.now) (trees_of c.args.fields.now c.args.roots.now)) c.args.doc (option_copied c.args.old) (option_copied c.args.new)
     (ledger c.args.store.now) (ledger c.loop-i.store) c.loop-i.i (length c.args.fields.now) (omega arith) c.loop-i.invariant.counts
 
 pub returns-clause-may : goal.returns-clause-may
 returns-clause-may g c = c.loop-i.invariant.may
+
+pub returns-in_err-roots-clause-forms : goal.returns-in_err-roots-clause-forms
+returns-in_err-roots-clause-forms g c = let p = err_from_is_err_and c.from_residual.result c.from_residual.ensures.1 in rw p.1 tt
+
+pub returns-clause-forms : goal.returns-clause-forms
+returns-clause-forms g c = c.loop-i.invariant.forms

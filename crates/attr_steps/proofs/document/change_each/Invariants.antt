@@ -2,7 +2,7 @@ use Rattle.std.proofs.Common.{◌≡◌, true, length}
 use Rattle.store_api.specs.Units.{MayDo}
 use Rattle.std.specs.Option.{option_copied}
 use Rattle.attr_steps.specs.Counts.{MakesDocument}
-use Rattle.attr_steps.specs.Fields.{table_with, trees_of}
+use Rattle.attr_steps.specs.Fields.{HaveForms, table_with, trees_of}
 use Rattle.attr_steps.specs.Views.{table_at}
 use Rattle.attr_steps.proofs.Walk.{IsPartway}
 use Rattle.attr_steps.proofs.document.change_each.Given as goal
@@ -18,6 +18,7 @@ invariant-loop-i g l =
       sized : length l.roots ≡ length l.fields;
       way : IsPartway (ledger l.fn.store) (ledger l.store) (records l.fn.store) (records l.store) l.fields trees (trees_of l.fields l.roots)
           (table_with (table_at (records l.fn.store) trees) l.doc (option_copied l.new)) l.i;
-      counts : MakesDocument (ledger l.fn.store) (ledger l.store) l.fields (table_at (records l.fn.store) trees) l.doc (option_copied l.old) (option_copied l.new) l.i;
+      forms : HaveForms l.dense (records l.store) (trees_of l.fields l.roots);
+      counts : MakesDocument l.dense (ledger l.fn.store) (ledger l.store) l.fields (table_at (records l.fn.store) trees) l.doc (option_copied l.old) (option_copied l.new) l.i;
       may : MayDo (ledger l.fn.store) (ledger l.store);
     }

@@ -17,3 +17,9 @@ returns-in-Some-clause-refuses g c = rw c.in-Some.is c.put.ensures.refuses
 
 pub returns-in-None-clause-refuses : goal.returns-in-None-clause-refuses
 returns-in-None-clause-refuses g c = rw c.in-None.is c.remove.ensures.refuses
+
+pub returns-in-Some-clause-form : goal.returns-in-Some-clause-form
+returns-in-Some-clause-form g c = c.put.ensures.form
+
+pub returns-in-None-clause-form : goal.returns-in-None-clause-form
+returns-in-None-clause-form g c = c.remove.ensures.form

@@ -3,8 +3,8 @@ use Rattle.std.proofs.lemmas.Result.{err_from_is_err_and}
 use Rattle.std.specs.Option.{option_copied}
 use Rattle.attr_types.specs.declared.op.Op.TheVariants.{Put}
 use Rattle.attr_types.specs.Table.{with_document}
-use Rattle.value_index.specs.Counts.{by_width}
-use Rattle.attr_steps.specs.Counts.{SparesAtMost, document_nodes, document_records, MakesDocument}
+use Rattle.value_index.specs.Counts.{besides, by_width}
+use Rattle.attr_steps.specs.Counts.{SparesAtMost, document_forms, document_nodes, document_records, MakesDocument}
 use Rattle.attr_steps.specs.Fields.{trees_of}
 use Rattle.attr_steps.specs.Views.{table_at}
 use Rattle.attr_steps.proofs.AfterLemmas.{of_operation, width_after, put_after}
@@ -21,14 +21,17 @@ change_unit-requires g c = (
       (
         c.requires.fields,
         (
-          c.requires.owns,
+          c.requires.forms,
           (
-            c.requires.fits.0,
+            c.requires.owns,
             (
-              c.requires.there,
+              c.requires.fits.0,
               (
-                tt,
-                document_fits_fields c.args.fields.now c.args.items.now c.requires.fits.1,
+                c.requires.there,
+                (
+                  tt,
+                  document_fits_fields c.args.fields.now c.args.items.now c.requires.fits.1,
+                ),
               ),
             ),
           ),
@@ -63,14 +66,15 @@ returns-in_err-next-clause-counts g c =
     let fields = c.args.fields.now in
     let table = table_at (g.S.Frozen.records c.args.store.now) (trees_of fields c.args.roots.now) in
     of_operation fields table (Put c.args.doc c.args.items.now) (option_copied c.args.old) (Some c.args.items.now) c.requires.there (put_after fields table c.args.doc c.args.items.now)
-    (λ was is. MakesDocument (g.S.Store.ledger c.args.store.now) (g.S.Store.ledger c.change_unit.new.store) fields table c.args.doc was is (length fields)) c.change_unit.ensures.counts
+    (λ was is. MakesDocument c.args.dense (g.S.Store.ledger c.args.store.now) (g.S.Store.ledger c.change_unit.new.store) fields table c.args.doc was is (length fields)) c.change_unit.ensures.counts
 
 pub returns-in_err-next-clause-spares : goal.returns-in_err-next-clause-spares
 returns-in_err-next-clause-spares g c =
     let fields = c.args.fields.now in
     let table = table_at (g.S.Frozen.records c.args.store.now) (trees_of fields c.args.roots.now) in
     let spares = of_operation fields table (Put c.args.doc c.args.items.now) (option_copied c.args.old) (Some c.args.items.now) c.requires.there (put_after fields table c.args.doc c.args.items.now)
-    (λ was is. SparesAtMost (g.S.Store.ledger c.change_unit.new.store) (by_width (document_nodes was is (length fields)) (document_records fields table c.args.doc was is (length fields))) c.in_err-next.field-0.0) c.in_err-next.ensures.spares in
+    (λ was is. SparesAtMost (g.S.Store.ledger c.change_unit.new.store) (besides (by_width (document_nodes was is (length fields)) (document_records fields table c.args.doc was is (length fields)))
+    (document_forms c.args.dense fields table c.args.doc was is (length fields))) c.in_err-next.field-0.0) c.in_err-next.ensures.spares in
     let p = err_from_is_err_and c.from_residual.result c.from_residual.ensures.1 in rw (p.1, p.2) spares
 
 pub returns-clause-counts : goal.returns-clause-counts
@@ -78,12 +82,18 @@ returns-clause-counts g c =
     let fields = c.args.fields.now in
     let table = table_at (g.S.Frozen.records c.args.store.now) (trees_of fields c.args.roots.now) in
     of_operation fields table (Put c.args.doc c.args.items.now) (option_copied c.args.old) (Some c.args.items.now) c.requires.there (put_after fields table c.args.doc c.args.items.now)
-    (λ was is. MakesDocument (g.S.Store.ledger c.args.store.now) (g.S.Store.ledger c.change_unit.new.store) fields table c.args.doc was is (length fields)) c.change_unit.ensures.counts
+    (λ was is. MakesDocument c.args.dense (g.S.Store.ledger c.args.store.now) (g.S.Store.ledger c.change_unit.new.store) fields table c.args.doc was is (length fields)) c.change_unit.ensures.counts
 
 pub returns-in_err-next-clause-widths : goal.returns-in_err-next-clause-widths
 returns-in_err-next-clause-widths g c =
     let fields = c.args.fields.now in
     let table = table_at (g.S.Frozen.records c.args.store.now) (trees_of fields c.args.roots.now) in
     let widths = width_after fields table (Put c.args.doc c.args.items.now) (option_copied c.args.old) (Some c.args.items.now) c.requires.there (put_after fields table c.args.doc c.args.items.now)
-    (with_document table c.args.doc c.args.items.now) c.in_err-next.field-0.0 refl c.in_err-next.ensures.widths in
+    c.args.dense (with_document table c.args.doc c.args.items.now) c.in_err-next.field-0.0 refl c.in_err-next.ensures.widths in
     let p = err_from_is_err_and c.from_residual.result c.from_residual.ensures.1 in rw (p.1, p.2) widths
+
+pub returns-in_err-next-clause-forms : goal.returns-in_err-next-clause-forms
+returns-in_err-next-clause-forms g c = let p = err_from_is_err_and c.from_residual.result c.from_residual.ensures.1 in rw p.1 tt
+
+pub returns-clause-forms : goal.returns-clause-forms
+returns-clause-forms g c = c.in_ok-next.ensures.forms

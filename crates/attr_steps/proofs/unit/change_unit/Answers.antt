@@ -4,14 +4,14 @@ use Rattle.std.specs.Option.{option_copied}
 use Rattle.store_api.specs.Units.{MayDo}
 use Rattle.store_api.specs.Calls.{RefusesOf}
 use Rattle.attr_types.specs.Table.{document_at}
-use Rattle.attr_steps.specs.Counts.{document_nodes, document_records, MakesDocument}
-use Rattle.attr_steps.specs.Fields.{AreFields, table_with, trees_of}
+use Rattle.attr_steps.specs.Counts.{document_forms, document_nodes, document_records, MakesDocument}
+use Rattle.attr_steps.specs.Fields.{AreFields, HaveForms, table_with, trees_of}
 use Rattle.attr_steps.specs.Views.{table_at}
 use Rattle.attr_steps.specs.Widths.{IsChangedWidth, IsFullAmong}
 use Rattle.attr_steps.proofs.FieldSteps.{laws_of}
-use Rattle.value_index.specs.Counts.{by_width}
+use Rattle.value_index.specs.Counts.{besides, by_width}
 use Rattle.attr_steps.proofs.CountLemmas.{document_unit, spares_among}
-use Rattle.attr_steps.proofs.Units.{begun_owns, unit_changes, left_unit, refused_among, full_among, keeps_unit}
+use Rattle.attr_steps.proofs.Units.{begun_owns, unit_changes, unit_forms, left_unit, refused_among, full_among, keeps_unit}
 use Rattle.attr_steps.proofs.unit.change_unit.Goals as goal
 
 pub begin-requires : goal.begin-requires
@@ -37,12 +37,15 @@ change_document-requires g c =
           (
             subst (λ f. AreFields f fields trees) (sym c.begin.ensures.records) c.requires.fields,
             (
-              owns,
+              subst (λ f. HaveForms c.args.dense f trees) (sym c.begin.ensures.records) c.requires.forms,
               (
-                c.requires.number,
+                owns,
                 (
-                  subst (λ f. option_copied c.args.old ≡ document_at (table_at f trees) c.args.doc) (sym c.begin.ensures.records) c.requires.there,
-                  (c.requires.gone, c.requires.fits),
+                  c.requires.number,
+                  (
+                    subst (λ f. option_copied c.args.old ≡ document_at (table_at f trees) c.args.doc) (sym c.begin.ensures.records) c.requires.there,
+                    (c.requires.gone, c.requires.fits),
+                  ),
                 ),
               ),
             ),
@@ -73,9 +76,10 @@ pub returns-in-Ok-clause-counts : goal.returns-in-Ok-clause-counts
 returns-in-Ok-clause-counts g c =
     let ledger = g.S.Store.ledger in
     let trees = trees_of c.args.fields.now c.args.roots.now in
-    let made = subst (λ f. MakesDocument (ledger c.begin.new.self) (ledger c.change_document.new.store) c.args.fields.now (table_at f trees) c.args.doc (option_copied c.args.old) (option_copied c.args.new) (length c.args.fields.now))
+    let made = subst (λ f. MakesDocument c.args.dense (ledger c.begin.new.self) (ledger c.change_document.new.store) c.args.fields.now (table_at f trees) c.args.doc (option_copied c.args.old)
+    (option_copied c.args.new) (length c.args.fields.now))
     c.begin.ensures.records c.change_document.ensures.counts in
-    document_unit (ledger c.args.store.now) (ledger c.begin.new.self) (ledger c.change_document.new.store) (ledger c.accept.new.self) c.args.fields.now (table_at (g.S.Frozen.records c.args.store.now) trees)
+    document_unit c.args.dense (ledger c.args.store.now) (ledger c.begin.new.self) (ledger c.change_document.new.store) (ledger c.accept.new.self) c.args.fields.now (table_at (g.S.Frozen.records c.args.store.now) trees)
     c.args.doc (option_copied c.args.old) (option_copied c.args.new) (length c.args.fields.now) c.begin.ensures.ledger made (g.S.Frozen.records c.accept.new.self) c.accept.ensures.counts
     (g.met.S.Store.settled c.accept.new.self c.accept.ensures.unit)
 
@@ -98,7 +102,8 @@ pub returns-in-Err-clause-refused : goal.returns-in-Err-clause-refused
 returns-in-Err-clause-refused g c =
     let ledger = g.S.Store.ledger in
     let mid = ledger c.change_document.new.store in
-    let among : Records → ℕ → Type 0 = λ f. IsChangedWidth c.args.fields.now (table_with (table_at f (trees_of c.args.fields.now c.args.roots.now)) c.args.doc (option_copied c.args.new)) (option_copied c.args.old)
+    let among : Records → ℕ → Type 0 = λ f. IsChangedWidth c.args.dense c.args.fields.now (table_with (table_at f (trees_of c.args.fields.now c.args.roots.now)) c.args.doc (option_copied c.args.new))
+    (option_copied c.args.old)
     (option_copied c.args.new) in
     refused_among (among (g.S.Frozen.records c.begin.new.self)) (ledger c.args.store.now) mid (ledger c.undo.new.self) c.in-Err.error c.undo.ensures.work c.undo.ensures.counts
     (subst (λ l. RefusesOf (among (g.S.Frozen.records c.begin.new.self)) l mid c.in-Err.error) c.begin.ensures.ledger c.in-Err.ensures.refuses)
@@ -107,25 +112,28 @@ pub returns-in-Err-clause-counts : goal.returns-in-Err-clause-counts
 returns-in-Err-clause-counts g c =
     let ledger = g.S.Store.ledger in
     let trees = trees_of c.args.fields.now c.args.roots.now in
-    let made = subst (λ f. MakesDocument (ledger c.begin.new.self) (ledger c.change_document.new.store) c.args.fields.now (table_at f trees) c.args.doc (option_copied c.args.old) (option_copied c.args.new) (length c.args.fields.now))
+    let made = subst (λ f. MakesDocument c.args.dense (ledger c.begin.new.self) (ledger c.change_document.new.store) c.args.fields.now (table_at f trees) c.args.doc (option_copied c.args.old)
+    (option_copied c.args.new) (length c.args.fields.now))
     c.begin.ensures.records c.change_document.ensures.counts in
-    document_unit (ledger c.args.store.now) (ledger c.begin.new.self) (ledger c.change_document.new.store) (ledger c.undo.new.self) c.args.fields.now (table_at (g.S.Frozen.records c.args.store.now) trees)
+    document_unit c.args.dense (ledger c.args.store.now) (ledger c.begin.new.self) (ledger c.change_document.new.store) (ledger c.undo.new.self) c.args.fields.now (table_at (g.S.Frozen.records c.args.store.now) trees)
     c.args.doc (option_copied c.args.old) (option_copied c.args.new) (length c.args.fields.now) c.begin.ensures.ledger made (g.S.Frozen.records c.undo.new.self) c.undo.ensures.counts
     (g.met.S.Store.settled c.undo.new.self c.undo.ensures.unit)
 
 pub returns-in-Err-clause-spares : goal.returns-in-Err-clause-spares
 returns-in-Err-clause-spares g c =
     let ledger = g.S.Store.ledger in
-    let among : Records → ℕ → Type 0 = λ f. IsChangedWidth c.args.fields.now (table_with (table_at f (trees_of c.args.fields.now c.args.roots.now)) c.args.doc (option_copied c.args.new)) (option_copied c.args.old)
+    let among : Records → ℕ → Type 0 = λ f. IsChangedWidth c.args.dense c.args.fields.now (table_with (table_at f (trees_of c.args.fields.now c.args.roots.now)) c.args.doc (option_copied c.args.new))
+    (option_copied c.args.old)
     (option_copied c.args.new) in
     let trees = trees_of c.args.fields.now c.args.roots.now in
     let old = option_copied c.args.old in
     let new = option_copied c.args.new in
     let count = length c.args.fields.now in
-    let made = subst (λ f. MakesDocument (ledger c.begin.new.self) (ledger c.change_document.new.store) c.args.fields.now (table_at f trees) c.args.doc old new count)
+    let made = subst (λ f. MakesDocument c.args.dense (ledger c.begin.new.self) (ledger c.change_document.new.store) c.args.fields.now (table_at f trees) c.args.doc old new count)
     c.begin.ensures.records c.change_document.ensures.counts in
     spares_among (ledger c.args.store.now) (ledger c.begin.new.self) (ledger c.change_document.new.store) (ledger c.undo.new.self)
-    (by_width (document_nodes old new count) (document_records c.args.fields.now (table_at (g.S.Frozen.records c.args.store.now) trees) c.args.doc old new count))
+    (besides (by_width (document_nodes old new count) (document_records c.args.fields.now (table_at (g.S.Frozen.records c.args.store.now) trees) c.args.doc old new count))
+    (document_forms c.args.dense c.args.fields.now (table_at (g.S.Frozen.records c.args.store.now) trees) c.args.doc old new count))
     c.begin.ensures.ledger made.few (among (g.S.Frozen.records c.begin.new.self)) (g.S.Frozen.records c.args.store.now) (g.S.Frozen.records c.undo.new.self) c.in-Err.error
     (g.met.S.Store.settled c.args.store.now c.requires.unit) c.in-Err.ensures.refuses c.undo.ensures
 
@@ -140,7 +148,17 @@ pub returns-in-Err-clause-widths : goal.returns-in-Err-clause-widths
 returns-in-Err-clause-widths g c =
     let ledger = g.S.Store.ledger in
     let records = g.S.Frozen.records in
-    let among : Records → ℕ → Type 0 = λ f. IsChangedWidth c.args.fields.now (table_with (table_at f (trees_of c.args.fields.now c.args.roots.now)) c.args.doc (option_copied c.args.new)) (option_copied c.args.old)
+    let among : Records → ℕ → Type 0 = λ f. IsChangedWidth c.args.dense c.args.fields.now (table_with (table_at f (trees_of c.args.fields.now c.args.roots.now)) c.args.doc (option_copied c.args.new))
+    (option_copied c.args.old)
     (option_copied c.args.new) in
     subst (λ f. IsFullAmong (among f) c.in-Err.error) c.begin.ensures.records
     (full_among (among (records c.begin.new.self)) (ledger c.begin.new.self) (ledger c.change_document.new.store) c.in-Err.error c.in-Err.ensures.refuses)
+
+pub returns-in-Ok-clause-forms : goal.returns-in-Ok-clause-forms
+returns-in-Ok-clause-forms g c =
+    let ledger = g.S.Store.ledger in
+    let records = g.S.Frozen.records in
+    let fields = c.args.fields.now in
+    unit_forms (laws_of c.field_law.ensures.stays c.field_law.ensures.lawful c.field_law.ensures.keys) (ledger c.args.store.now) (ledger c.begin.new.self) (ledger c.change_document.new.store) (ledger c.accept.new.self)
+    (records c.args.store.now) (records c.begin.new.self) (records c.change_document.new.store) (records c.accept.new.self) fields (trees_of fields c.args.roots.now) (trees_of fields c.in-Ok.next.items)
+    c.args.doc (option_copied c.args.new) c.begin.ensures.ledger c.begin.ensures.records c.requires.owns c.change_document.ensures.may c.in-Ok.ensures.changes c.accept.ensures c.args.dense c.in-Ok.ensures.forms

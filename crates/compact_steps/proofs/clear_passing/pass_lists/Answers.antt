@@ -1,5 +1,4 @@
 use Rattle.std.proofs.Common.{◌≡◌, ℕ, sym, ap, subst, ◌∙◌, arith}
-use Rattle.std.specs.List.{AllByRecursion}
 use Rattle.tree_read.specs.Trees.{tree_pairs}
 use Rattle.compaction_moves.specs.Cleared.{trees_of_roots}
 use Rattle.tree_read.specs.SearchPlaces.{pairs_from, IsAt}
@@ -8,29 +7,27 @@ use Rattle.attr_images.specs.Values.{stored_value, IsValueRecord}
 use Rattle.attr_types.specs.Value.{type_of}
 use Rattle.attr_types.specs.declared.kind.ValueType.{ValueType}
 use Rattle.enum_dictionary.specs.Dictionaries.{behind, beside_value, IsDictionary}
-use Rattle.attr_compaction.proofs.NextLemmas.{all_behind}
-use Rattle.posting_store.specs.Lists.{IsPlain}
+use Rattle.attr_compaction.proofs.NextLemmas.{all_behind, unit_all}
 use Rattle.compact_steps.specs.Passes.{Passes}
 use Rattle.compact_steps.specs.Sights.{StandsApart, IsRun}
 use Rattle.compact_steps.specs.declared.sights.Sight.TheVariants as sights
-use Rattle.compact_steps.proofs.PairLemmas.{all_plain}
 use Rattle.compact_steps.proofs.ClearPassLemmas.{lists_pass}
 use Rattle.compact_steps.proofs.RunLemmas.{last_has}
 use Rattle.compact_steps.proofs.clear_passing.pass_lists.Goals as goal
 
-pub has_tree-requires : goal.has_tree-requires
-has_tree-requires g c =
+pub has_long-requires : goal.has_long-requires
+has_long-requires g c =
     (omega arith, subst (λ (t : ValueType). IsDictionary t (g.F.Frozen.records c.args.frozen.now) c.args.roots.dictionary) (sym c.requires.typed) c.requires.index_is.dictionary_is)
 
-pub returns-then-has_tree-clause-same : goal.returns-then-has_tree-clause-same
-returns-then-has_tree-clause-same g c = c.has_tree.ensures.same
+pub returns-then-has_long-clause-same : goal.returns-then-has_long-clause-same
+returns-then-has_long-clause-same g c = c.has_long.ensures.same
 
 pub upper-cursor-requires : goal.upper-cursor-requires
 upper-cursor-requires g c = (
   omega arith,
   (
     omega arith,
-    subst (λ (f : g.row.F.Denot). IsDictionary (type_of c.args.value.now) (g.F.Frozen.records f) c.args.roots.dictionary) (sym c.has_tree.ensures.same)
+    subst (λ (f : g.row.F.Denot). IsDictionary (type_of c.args.value.now) (g.F.Frozen.records f) c.args.roots.dictionary) (sym c.has_long.ensures.same)
         (subst (λ (t : ValueType). IsDictionary t (g.F.Frozen.records c.args.frozen.now) c.args.roots.dictionary) (sym c.requires.typed) c.requires.index_is.dictionary_is),
   ),
 )
@@ -38,23 +35,16 @@ upper-cursor-requires g c = (
 pub run_from-run-requires : goal.run_from-run-requires
 run_from-run-requires g c =
     let records = g.F.Frozen.records in
-    let type = c.args.field.now.value in
-    let m = records c.args.frozen.now in
-    let cursor = c.upper-cursor.result in
-    let same = c.has_tree.ensures.same in
-    let back = sym c.upper-cursor.ensures.same in
-    let pairs = subst (λ (f : g.row.F.Denot). pairs_from (records f) cursor ≡ behind (beside_value c.args.value.now (records f)) (tree_pairs (records f) c.args.roots.dictionary)) same c.upper-cursor.ensures.pairs in (
+    let cursor = c.upper-cursor.result in (
       omega arith,
       (
-        subst (λ (f : g.row.F.Denot). IsAt (records f) cursor) back c.upper-cursor.ensures.at,
-        subst (λ (f : g.row.F.Denot). AllByRecursion (λ p. IsPlain p.1) (pairs_from (records f) cursor)) (sym (c.upper-cursor.ensures.same ∙ same))
-            (subst (AllByRecursion (λ p. IsPlain p.1)) (sym pairs)
-            (all_behind (λ p. IsPlain p.1) (beside_value c.args.value.now m) (tree_pairs m c.args.roots.dictionary) (all_plain type m c.args.roots.dictionary c.requires.index_is))),
+        subst (λ (f : g.row.F.Denot). IsAt (records f) cursor) (sym c.upper-cursor.ensures.same) c.upper-cursor.ensures.at,
+        unit_all (pairs_from (records c.upper-cursor.new.frozen) cursor),
       ),
     )
 
 pub returns-then-run-eq0-clause-same : goal.returns-then-run-eq0-clause-same
-returns-then-run-eq0-clause-same g c = c.run_from-run.ensures.same ∙ c.upper-cursor.ensures.same ∙ c.has_tree.ensures.same
+returns-then-run-eq0-clause-same g c = c.run_from-run.ensures.same ∙ c.upper-cursor.ensures.same ∙ c.has_long.ensures.same
 
 pub value_at-requires : goal.value_at-requires
 value_at-requires g c =
@@ -64,9 +54,9 @@ value_at-requires g c =
     let m = records c.args.frozen.now in
     let count = c.run_from-run.result.pairs in
     let last = c.run_from-run.result.last in
-    let same = c.upper-cursor.ensures.same ∙ c.has_tree.ensures.same in
+    let same = c.upper-cursor.ensures.same ∙ c.has_long.ensures.same in
     let pairs = subst (λ (f : g.row.F.Denot). pairs_from (records f) c.upper-cursor.result ≡ behind (beside_value c.args.value.now (records f)) (tree_pairs (records f) c.args.roots.dictionary))
-    c.has_tree.ensures.same c.upper-cursor.ensures.pairs in
+    c.has_long.ensures.same c.upper-cursor.ensures.pairs in
     let ps = behind (beside_value c.args.value.now m) (tree_pairs m c.args.roots.dictionary) in
     let run = subst (λ qs. IsRun (StandsApart g.row.OFFSET_BITS c.victim.result kind m sights.List) qs count last) pairs
     (subst (λ (f : g.row.F.Denot). IsRun (StandsApart g.row.OFFSET_BITS c.victim.result kind (records f) sights.List) (pairs_from (records f) c.upper-cursor.result) count last) same c.run_from-run.ensures.run) in
@@ -87,21 +77,22 @@ returns-in-Some-clause-passes g c =
     let at = c.args.plan.now.place in
     let count = c.run_from-run.result.pairs in
     let last = c.run_from-run.result.last in
-    let same = c.upper-cursor.ensures.same ∙ c.has_tree.ensures.same in
+    let same = c.upper-cursor.ensures.same ∙ c.has_long.ensures.same in
     let pairs = subst (λ (f : g.row.F.Denot). pairs_from (records f) c.upper-cursor.result ≡ behind (beside_value c.args.value.now (records f)) (tree_pairs (records f) c.args.roots.dictionary))
-    c.has_tree.ensures.same c.upper-cursor.ensures.pairs in
+    c.has_long.ensures.same c.upper-cursor.ensures.pairs in
     let run = subst (λ (v : ℕ). IsRun (StandsApart bits v kind m sights.List) (behind (beside_value c.args.value.now m) (tree_pairs m c.args.roots.dictionary)) count last) c.victim.ensures
     (subst (λ qs. IsRun (StandsApart bits c.victim.result kind m sights.List) qs count last) pairs
     (subst (λ (f : g.row.F.Denot). IsRun (StandsApart bits c.victim.result kind (records f) sights.List) (pairs_from (records f) c.upper-cursor.result) count last) same c.run_from-run.ensures.run)) in
     let read = c.in-Some.ensures.value ∙ ap (λ (f : g.row.F.Denot). stored_value type (records f) last) (c.run_from-run.ensures.same ∙ same) in
     subst (λ v. Passes bits c.args.plan.now.victim at m a (Pair v 0) count) (sym read)
-    (lists_pass bits c.args.plan.now.victim at m a count last (let some = c.if-run-eq0.false in omega arith) c.args.value.now c.args.doc c.requires (c.has_tree.ensures.even c.if-has_tree.false) run)
+    (lists_pass bits c.args.plan.now.victim at m a count last (let some = c.if-run-eq0.false in omega arith) c.args.value.now c.args.doc c.requires
+    (c.has_long.ensures.plain c.if-has_long.false) (c.has_long.ensures.even c.if-has_long.false) run)
 
 pub returns-in-Some-clause-few : goal.returns-in-Some-clause-few
 returns-in-Some-clause-few g c = c.run_from-run.ensures.few
 
 pub returns-in-Some-clause-same : goal.returns-in-Some-clause-same
-returns-in-Some-clause-same g c = c.in-Some.ensures.same ∙ c.run_from-run.ensures.same ∙ c.upper-cursor.ensures.same ∙ c.has_tree.ensures.same
+returns-in-Some-clause-same g c = c.in-Some.ensures.same ∙ c.run_from-run.ensures.same ∙ c.upper-cursor.ensures.same ∙ c.has_long.ensures.same
 
 pub returns-in-None-clause-same : goal.returns-in-None-clause-same
-returns-in-None-clause-same g c = c.in-None.ensures.same ∙ c.run_from-run.ensures.same ∙ c.upper-cursor.ensures.same ∙ c.has_tree.ensures.same
+returns-in-None-clause-same g c = c.in-None.ensures.same ∙ c.run_from-run.ensures.same ∙ c.upper-cursor.ensures.same ∙ c.has_long.ensures.same

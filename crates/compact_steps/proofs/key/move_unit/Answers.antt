@@ -8,6 +8,7 @@ use Rattle.attr_steps.proofs.FieldSteps.{laws_of}
 use Rattle.attr_steps.proofs.Units.{left_unit, refused_among, keeps_unit}
 use Rattle.attr_images.specs.Documents.{column_at}
 use Rattle.compaction_moves.specs.Counts.{MakesKey}
+use Rattle.value_index.specs.Forms.{IsPlainIndex}
 use Rattle.compact_steps.specs.Units.{keys_at}
 use Rattle.compact_steps.proofs.KeyCounts.{key_unit}
 use Rattle.compact_steps.proofs.UnitSteps.{active_begun, meets_begun, part_begun, spares_begun, unit_compacts}
@@ -42,6 +43,9 @@ returns-in-Ok-clause-moves g c =
     let new = ledger c.accept.new.self in
     let a = trees_of_field c.args.field.now c.args.own in
     let b = trees_of_field c.args.field.now c.in-Ok.next in
+    let meets = meets_begun _ old (records c.args.store.now) c.args.fields.now (trees_of c.args.fields.now c.args.roots.now) c.args.root c.args.plan.now a
+    c.requires.holds c.requires.under_way c.requires.at (g.met.S.Store.settled c.args.store.now c.requires.holds.unit)
+    (ledger c.begin.new.self) (records c.begin.new.self) c.begin.ensures.ledger c.begin.ensures.records in
     let keeps = keeps_unit old mid new c.requires.holds.unit (subst (λ l. MayDo l mid) c.begin.ensures.ledger c.move_one.ensures.may)
     c.accept.ensures.unit c.accept.ensures.work c.accept.ensures.shape c.accept.ensures.sealed c.accept.ensures.finished in
     unit_compacts _ old (records c.args.store.now) c.args.fields.now (trees_of c.args.fields.now c.args.roots.now) c.args.root c.args.plan.now a
@@ -49,7 +53,7 @@ returns-in-Ok-clause-moves g c =
     (laws_of c.field_law.ensures.stays c.field_law.ensures.lawful c.field_law.ensures.keys) c.same_law.ensures.one c.stage_law.ensures.others mid new (records c.move_one.new.store) (records c.accept.new.self)
     c.args.key.now b refl c.requires.phase c.requires.next
     (part_begun _ c.args.plan.now.victim old (ledger c.begin.new.self) mid (records c.args.store.now) (records c.begin.new.self) (records c.move_one.new.store) a b refl refl
-    c.begin.ensures.ledger c.begin.ensures.records c.in-Ok.ensures.moves)
+    c.begin.ensures.ledger c.begin.ensures.records meets.field c.in-Ok.ensures.moves)
     c.in-Ok.ensures.cleared c.accept.ensures keeps
 
 pub returns-in-Ok-clause-keeps : goal.returns-in-Ok-clause-keeps
@@ -80,7 +84,8 @@ returns-in-Err-clause-spares g c =
     let ledger = g.S.Store.ledger in
     let among = IsUsedWidth (ledger c.begin.new.self) (g.S.Frozen.records c.begin.new.self) in
     let a = trees_of_field c.args.field.now c.args.own in
-    spares_begun among a.kind a.type (column_at a.kind a.type (g.S.Frozen.records c.begin.new.self) a.documents) (ledger c.args.store.now) (ledger c.begin.new.self) (ledger c.move_one.new.store) (ledger c.undo.new.self) c.begin.ensures.ledger c.move_one.ensures.counts
+    spares_begun among a.kind a.type (column_at a.kind a.type (g.S.Frozen.records c.begin.new.self) a.documents) (ledger c.args.store.now)
+    (ledger c.begin.new.self) (ledger c.move_one.new.store) (ledger c.undo.new.self) c.begin.ensures.ledger c.move_one.ensures.counts
     (g.S.Frozen.records c.args.store.now) (g.S.Frozen.records c.undo.new.self) c.in-Err.error (g.met.S.Store.settled c.args.store.now c.requires.holds.unit)
     c.in-Err.ensures.refuses c.undo.ensures
 
@@ -107,7 +112,8 @@ returns-in-Ok-clause-counts g c =
     let ledger = g.S.Store.ledger in
     let records = g.S.Frozen.records in
     let a = trees_of_field c.args.field.now c.args.own in
-    let made = subst (λ (f : Records). MakesKey a.kind a.type (column_at a.kind a.type f a.documents) (ledger c.begin.new.self) (ledger c.move_one.new.store)) c.begin.ensures.records c.move_one.ensures.counts in
+    let made = subst (λ (f : Records). MakesKey (IsPlainIndex f a.dictionary) a.kind a.type (column_at a.kind a.type f a.documents) (ledger c.begin.new.self) (ledger c.move_one.new.store))
+    c.begin.ensures.records c.move_one.ensures.counts in
     key_unit a.kind a.type (column_at a.kind a.type (records c.args.store.now) a.documents) (ledger c.args.store.now) (ledger c.begin.new.self) (ledger c.move_one.new.store) (ledger c.accept.new.self)
     c.begin.ensures.ledger made (records c.accept.new.self) c.accept.ensures.counts (g.met.S.Store.settled c.accept.new.self c.accept.ensures.unit)
 
@@ -116,6 +122,7 @@ returns-in-Err-clause-counts g c =
     let ledger = g.S.Store.ledger in
     let records = g.S.Frozen.records in
     let a = trees_of_field c.args.field.now c.args.own in
-    let made = subst (λ (f : Records). MakesKey a.kind a.type (column_at a.kind a.type f a.documents) (ledger c.begin.new.self) (ledger c.move_one.new.store)) c.begin.ensures.records c.move_one.ensures.counts in
+    let made = subst (λ (f : Records). MakesKey (IsPlainIndex f a.dictionary) a.kind a.type (column_at a.kind a.type f a.documents) (ledger c.begin.new.self) (ledger c.move_one.new.store))
+    c.begin.ensures.records c.move_one.ensures.counts in
     key_unit a.kind a.type (column_at a.kind a.type (records c.args.store.now) a.documents) (ledger c.args.store.now) (ledger c.begin.new.self) (ledger c.move_one.new.store) (ledger c.undo.new.self)
     c.begin.ensures.ledger made (records c.undo.new.self) c.undo.ensures.counts (g.met.S.Store.settled c.undo.new.self c.undo.ensures.unit)

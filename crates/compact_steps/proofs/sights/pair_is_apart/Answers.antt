@@ -1,6 +1,5 @@
 use Rattle.std.proofs.Common.{refl, sym, subst, arith}
 use Rattle.attr_images.specs.Values.{IsValueRecord}
-use Rattle.posting_store.specs.Lists.{IsPlain}
 use Rattle.unique_store.proofs.RecordLemmas.{value_there}
 use Rattle.compact_steps.specs.Sights.{HasItemRecords, StandsApart, IsPairOf}
 use Rattle.compact_steps.specs.declared.sights.Sight.{Sight}
@@ -26,12 +25,6 @@ items_are_apart-requires-clause-records g c =
     let is : HasItemRecords c.args.kind c.args.value_type m (c.args.key, c.args.word) =
     subst (λ (s : Sight). IsPairOf c.args.kind c.args.value_type m s (c.args.key, c.args.word)) c.in-Items.is c.requires.pair in
     is.records
-
-pub list_is_apart-requires : goal.list_is_apart-requires
-list_is_apart-requires g c =
-    let m = g.F.Frozen.records c.args.frozen.now in
-    let is : IsPlain c.args.word = subst (λ (s : Sight). IsPairOf c.args.kind c.args.value_type m s (c.args.key, c.args.word)) c.in-List.is c.requires.pair in
-    is
 
 pub returns-in-Key-clause-apart : goal.returns-in-Key-clause-apart
 returns-in-Key-clause-apart g c told =

@@ -11,8 +11,11 @@ use Rattle.attr_images.specs.Documents.{column_at}
 use Rattle.attr_steps.proofs.Columns.{column_at_tree}
 use Rattle.compaction_moves.specs.Counts.{MakesKey}
 use Rattle.compact_steps.specs.Counts.{MakesKeys}
-use Rattle.compact_steps.proofs.KeyCounts.{key_among, keys_none}
-use Rattle.compact_steps.specs.Units.{keys_at, plan_at, CompactsTo, IsUnderWay, KeepKeys}
+use Rattle.compact_steps.proofs.KeyCounts.{key_among, keys_none, keys_plain}
+use Rattle.attr_images.specs.Tables.{AttributeTrees}
+use Rattle.list_facts.proofs.Each.{AllByRecursion-slice_get}
+use Rattle.value_index.specs.Forms.{IsPlainIndex}
+use Rattle.compact_steps.specs.Units.{keys_at, plan_at, ArePlain, CompactsTo, IsUnderWay, KeepKeys}
 use Rattle.compact_steps.proofs.KeyLemmas.{next_fits, same_keys}
 use Rattle.compact_steps.proofs.TurnLemmas.{at_place, below_fields, goes_on, left_all, moved_roots, moved_way, next_is, over_way, past_next}
 use Rattle.compact_steps.proofs.unit.compact_one.Goals as goal
@@ -448,7 +451,7 @@ returns-in_default-clause-counts g c =
     let old = c.args.store.now in
     let fields = c.args.fields.now in
     let table = table_at (g.S.Frozen.records old) (trees_of fields c.args.roots.now) in
-    subst (λ s. MakesKeys fields table (ledger old) (ledger s) 1) (sym c.next_of.ensures.same) (keys_none fields table (ledger old) 1)
+    subst (λ s. MakesKeys (ArePlain (g.S.Frozen.records old) (trees_of fields c.args.roots.now)) fields table (ledger old) (ledger s) 1) (sym c.next_of.ensures.same) (keys_none fields table (ledger old) 1)
 
 pub returns-in_default-next-clause-counts : goal.returns-in_default-next-clause-counts
 returns-in_default-next-clause-counts g c =
@@ -456,7 +459,7 @@ returns-in_default-next-clause-counts g c =
     let old = c.args.store.now in
     let fields = c.args.fields.now in
     let table = table_at (g.S.Frozen.records old) (trees_of fields c.args.roots.now) in
-    subst (λ s. MakesKeys fields table (ledger old) (ledger s) 1) (sym c.next_of.ensures.same) (keys_none fields table (ledger old) 1)
+    subst (λ s. MakesKeys (ArePlain (g.S.Frozen.records old) (trees_of fields c.args.roots.now)) fields table (ledger old) (ledger s) 1) (sym c.next_of.ensures.same) (keys_none fields table (ledger old) 1)
 
 pub returns-in_err-roots-clause-counts : goal.returns-in_err-roots-clause-counts
 returns-in_err-roots-clause-counts g c =
@@ -473,9 +476,13 @@ returns-in_err-roots-clause-counts g c =
     let below = below_fields (ledger c.args.store.now) m fields c.args.roots.now c.args.root plan c.field-i.result c.requires.under_way c.requires.sized c.field-i.ensures.below in
     let reads = column_at_tree m trees c.field-i.result a c.requires.holds.are_fields.documents
     (subst (λ (j : ℕ). slice_get trees j ≡ Some a) (sym c.field-i.ensures.field) here.at) in
-    key_among fields (table_at m trees) c.field-i.result field (column_at field.kind field.value m a.documents) (ledger c.args.store.now) (ledger c.move_unit.new.store)
+    let at : slice_get trees c.field-i.result ≡ Some a = subst (λ (j : ℕ). slice_get trees j ≡ Some a) (sym c.field-i.ensures.field) here.at in
+    keys_plain fields (table_at m trees) (ledger c.args.store.now) (ledger c.move_unit.new.store) 1
+    (λ plain. AllByRecursion-slice_get (λ (x : AttributeTrees). IsPlainIndex m x.dictionary) trees c.field-i.result a plain at)
+    (key_among fields (table_at m trees) c.field-i.result field (column_at field.kind field.value m a.documents) (ledger c.args.store.now) (ledger c.move_unit.new.store)
     here.at_field below reads
-    (subst (λ s. MakesKey field.kind field.value (column_at field.kind field.value (records s) a.documents) (ledger s) (ledger c.move_unit.new.store)) c.next_of.ensures.same c.move_unit.ensures.counts)
+    (subst (λ s. MakesKey (IsPlainIndex (records s) a.dictionary) field.kind field.value (column_at field.kind field.value (records s) a.documents) (ledger s) (ledger c.move_unit.new.store))
+    c.next_of.ensures.same c.move_unit.ensures.counts))
 
 pub returns-clause-counts : goal.returns-clause-counts
 returns-clause-counts g c =
@@ -492,6 +499,10 @@ returns-clause-counts g c =
     let below = below_fields (ledger c.args.store.now) m fields c.args.roots.now c.args.root plan c.field-i.result c.requires.under_way c.requires.sized c.field-i.ensures.below in
     let reads = column_at_tree m trees c.field-i.result a c.requires.holds.are_fields.documents
     (subst (λ (j : ℕ). slice_get trees j ≡ Some a) (sym c.field-i.ensures.field) here.at) in
-    key_among fields (table_at m trees) c.field-i.result field (column_at field.kind field.value m a.documents) (ledger c.args.store.now) (ledger c.move_unit.new.store)
+    let at : slice_get trees c.field-i.result ≡ Some a = subst (λ (j : ℕ). slice_get trees j ≡ Some a) (sym c.field-i.ensures.field) here.at in
+    keys_plain fields (table_at m trees) (ledger c.args.store.now) (ledger c.move_unit.new.store) 1
+    (λ plain. AllByRecursion-slice_get (λ (x : AttributeTrees). IsPlainIndex m x.dictionary) trees c.field-i.result a plain at)
+    (key_among fields (table_at m trees) c.field-i.result field (column_at field.kind field.value m a.documents) (ledger c.args.store.now) (ledger c.move_unit.new.store)
     here.at_field below reads
-    (subst (λ s. MakesKey field.kind field.value (column_at field.kind field.value (records s) a.documents) (ledger s) (ledger c.move_unit.new.store)) c.next_of.ensures.same c.move_unit.ensures.counts)
+    (subst (λ s. MakesKey (IsPlainIndex (records s) a.dictionary) field.kind field.value (column_at field.kind field.value (records s) a.documents) (ledger s) (ledger c.move_unit.new.store))
+    c.next_of.ensures.same c.move_unit.ensures.counts))

@@ -6,8 +6,9 @@ use Rattle.attr_steps.specs.Fields.{trees_of}
 use Rattle.attr_steps.specs.Views.{table_at}
 use Rattle.attr_types.specs.Table.{Table}
 use Rattle.compact_steps.specs.Counts.{MakesKeys}
-use Rattle.compact_steps.proofs.KeyCounts.{keys_more, keys_none, keys_then}
-use Rattle.compact_steps.specs.Units.{next_at, GoesOn, LeavesAtEnd}
+use Rattle.compact_steps.proofs.KeyCounts.{keys_more, keys_none, keys_plain, keys_then}
+use Rattle.compact_steps.proofs.KeyLemmas.{plain_kept}
+use Rattle.compact_steps.specs.Units.{next_at, ArePlain, GoesOn, LeavesAtEnd}
 use Rattle.compact_steps.specs.Walks.{Visits, Walks}
 use Rattle.compact_steps.proofs.PassLemmas.{left_passed, visits_passed}
 use Rattle.compact_steps.proofs.WalkLemmas.{left_moved, refused_since, refused_walks, stages_left, visits_moved, visits_none, visits_over, visits_still}
@@ -163,8 +164,9 @@ loop-done-preserved-in-Ok-Moved g c =
     let not_all = c.if-done-keys.false in
     let table = table_at (records start) trees in
     let so_far = keys_more fields table (ledger start) (ledger was) c.loop-done.done count (omega arith)
-    (subst (λ s. MakesKeys fields table (ledger start) (ledger s) c.loop-done.done) (sym c.pass_keys-passed.ensures.same) c.loop-done.invariant.counts) in
-    let one = subst (λ (t : Table). MakesKeys fields t (ledger was) (ledger now) 1) visits.table c.compact_one.ensures.counts in
+    (subst (λ s. MakesKeys (ArePlain (records start) trees) fields table (ledger start) (ledger s) c.loop-done.done) (sym c.pass_keys-passed.ensures.same) c.loop-done.invariant.counts) in
+    let one = keys_plain fields table (ledger was) (ledger now) 1 (plain_kept (records start) (records was) trees between visits.keep)
+    (subst (λ (t : Table). MakesKeys (ArePlain (records was) between) fields t (ledger was) (ledger now) 1) visits.table c.compact_one.ensures.counts) in
     record {
       sized = c.in-Ok-Moved.ensures.sized;
       few = omega arith;
@@ -233,14 +235,14 @@ loop-done-preserved g c =
     let over = subst (λ t. LeavesAtEnd (now ≡ was) (c.compact_one.new.roots ≡ c.loop-done.roots) t) c.in-Ok-PhaseOver.field-0-is c.in-Ok-PhaseOver.ensures.over in
     let table = table_at (records start) trees in
     let so_far = keys_more fields table (ledger start) (ledger was) c.loop-done.done count (omega arith)
-    (subst (λ s. MakesKeys fields table (ledger start) (ledger s) c.loop-done.done) (sym c.pass_keys-passed.ensures.same) c.loop-done.invariant.counts) in
+    (subst (λ s. MakesKeys (ArePlain (records start) trees) fields table (ledger start) (ledger s) c.loop-done.done) (sym c.pass_keys-passed.ensures.same) c.loop-done.invariant.counts) in
     record {
       sized = c.in-Ok-PhaseOver.ensures.sized;
       few = omega arith;
       visits = (visits_over g.row.OFFSET_BITS c.args.root fields (ledger start) (ledger was) (ledger now) (records start) (records was) (records now) trees between after c.args.plan.now to c.compact_one.new.plan
           count visits c.in-Ok-PhaseOver.ensures.holds c.in-Ok-PhaseOver.ensures.under_way c.in-Ok-PhaseOver.ensures.table c.in-Ok-PhaseOver.ensures.keys c.in-Ok-PhaseOver.ensures.keeps low within
           (subst (λ t. GoesOn to c.compact_one.new.plan (next_at (records was) between to.place) t) c.in-Ok-PhaseOver.field-0-is c.in-Ok-PhaseOver.ensures.goes_on)).0;
-      counts = subst (λ s. MakesKeys fields table (ledger start) (ledger s) count) (sym over.0) so_far;
+      counts = subst (λ s. MakesKeys (ArePlain (records start) trees) fields table (ledger start) (ledger s) count) (sym over.0) so_far;
       first = λ none. let is = c.loop-done.invariant.first (omega arith) in (over.0 ∙ c.pass_keys-passed.ensures.same ∙ is.0, over.1 ∙ is.1);
     }
 
@@ -306,8 +308,9 @@ returns-in-Err-clause-counts g c =
     let not_all = c.if-done-keys.false in
     let table = table_at (records start) trees in
     let so_far = keys_more fields table (ledger start) (ledger was) c.loop-done.done count (omega arith)
-    (subst (λ s. MakesKeys fields table (ledger start) (ledger s) c.loop-done.done) (sym c.pass_keys-passed.ensures.same) c.loop-done.invariant.counts) in
-    let one = subst (λ (t : Table). MakesKeys fields t (ledger was) (ledger now) 1) visits.table c.compact_one.ensures.counts in
+    (subst (λ s. MakesKeys (ArePlain (records start) trees) fields table (ledger start) (ledger s) c.loop-done.done) (sym c.pass_keys-passed.ensures.same) c.loop-done.invariant.counts) in
+    let one = keys_plain fields table (ledger was) (ledger now) 1 (plain_kept (records start) (records was) trees between visits.keep)
+    (subst (λ (t : Table). MakesKeys (ArePlain (records was) between) fields t (ledger was) (ledger now) 1) visits.table c.compact_one.ensures.counts) in
     keys_more fields table (ledger start) (ledger now) (count + 1) c.args.keys (omega arith) (keys_then fields table (ledger start) (ledger was) (ledger now) count so_far one)
 
 pub returns-then-phase-eq-PHASES-clause-counts : goal.returns-then-phase-eq-PHASES-clause-counts
@@ -325,7 +328,7 @@ returns-then-done-keys-clause-counts g c =
     let table = table_at (g.S.Frozen.records c.args.store.now) (trees_of fields c.args.roots.now) in
     let start = ledger c.args.store.now in
     let few = c.loop-done.invariant.few in
-    subst (λ s. MakesKeys fields table start (ledger s) c.args.keys) (sym c.pass_keys-passed.ensures.same)
+    subst (λ s. MakesKeys (ArePlain (g.S.Frozen.records c.args.store.now) (trees_of fields c.args.roots.now)) fields table start (ledger s) c.args.keys) (sym c.pass_keys-passed.ensures.same)
     (keys_more fields table start (ledger c.loop-done.store) c.loop-done.done c.args.keys few c.loop-done.invariant.counts)
 
 pub returns-clause-counts : goal.returns-clause-counts

@@ -2,6 +2,7 @@ use Rattle.std.proofs.Common.{◌≡◌, ◌+◌, ◌-◌, ◌≤◌, length}
 use Rattle.attr_steps.specs.Fields.{trees_of}
 use Rattle.attr_steps.specs.Views.{table_at}
 use Rattle.compact_steps.specs.Counts.{MakesKeys}
+use Rattle.compact_steps.specs.Units.{ArePlain}
 use Rattle.compact_steps.specs.Walks.{Visits}
 use Rattle.compact_steps.proofs.WalkLemmas.{stages_left}
 use Rattle.compact_steps.proofs.walk.visit_keys.Given as goal
@@ -16,7 +17,7 @@ invariant-loop-done g l =
       few : l.done ≤ l.keys;
       visits : Visits g.row.OFFSET_BITS l.root (ledger l.fn.store) (ledger l.store) (records l.fn.store) (records l.store) l.fields (trees_of l.fields l.fn.roots) (trees_of l.fields l.roots)
           l.fn.plan l.plan l.done;
-      counts : MakesKeys l.fields (table_at (records l.fn.store) (trees_of l.fields l.fn.roots)) (ledger l.fn.store) (ledger l.store) l.done;
+      counts : MakesKeys (ArePlain (records l.fn.store) (trees_of l.fields l.fn.roots)) l.fields (table_at (records l.fn.store) (trees_of l.fields l.fn.roots)) (ledger l.fn.store) (ledger l.store) l.done;
       first : l.done ≡ 0 → (l.store ≡ l.fn.store) × (l.roots ≡ l.fn.roots);
     }
 

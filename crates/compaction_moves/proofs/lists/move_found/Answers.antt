@@ -4,7 +4,7 @@ use Rattle.attr_images.specs.Postings.{index_of}
 use Rattle.attr_index.specs.Index.{list_of}
 use Rattle.attr_types.specs.Value.{type_of}
 use Rattle.posting_store.specs.Changes.{MakesWithin}
-use Rattle.posting_store.specs.Lists.{list_levels}
+use Rattle.posting_store.specs.Lists.{is_vector, list_levels}
 use Rattle.posting_store.proofs.RefusalLemmas.{if_one}
 use Rattle.store_api.specs.Calls.{IsUsedWidth}
 use Rattle.store_api.proofs.May.{may_do-then}
@@ -24,10 +24,6 @@ use Rattle.compaction_moves.proofs.lists.move_found.Goals as goal
 pub move_word-requires-clause-list : goal.move_word-requires-clause-list
 move_word-requires-clause-list g c =
     (pair_found c.args.value.now (g.S.Frozen.records c.args.store.now) c.args.root c.requires.index (c.args.key, c.args.list) c.requires.found).list_is
-
-pub move_word-requires-clause-plain : goal.move_word-requires-clause-plain
-move_word-requires-clause-plain g c =
-    (pair_found c.args.value.now (g.S.Frozen.records c.args.store.now) c.args.root c.requires.index (c.args.key, c.args.list) c.requires.found).plain
 
 pub move_word-requires-clause-some : goal.move_word-requires-clause-some
 move_word-requires-clause-some g c =
@@ -57,8 +53,9 @@ returns-in_err-next-clause-counts g c =
     let a = g.S.Store.ledger c.args.store.now in
     let b = g.S.Store.ledger c.move_word.new.store in
     let count : ℕ = length (list_of value (index_of (type_of value) m root)) in
-    let made = subst (λ k. MakesWithin a b (word_most (list_levels m list) k)) (ap (λ (ds : Docs). length ds) (list_is value m root c.requires.index c.args.key list c.requires.found)) c.move_word.ensures.counts in
-    within_more a b (word_most (list_levels m list) count) (move_most value m root count)
+    let made = subst (λ k. MakesWithin a b (word_most (is_vector list) (list_levels m list) k))
+    (ap (λ (ds : Docs). length ds) (list_is value m root c.requires.index c.args.key list c.requires.found)) c.move_word.ensures.counts in
+    within_more a b (word_most (is_vector list) (list_levels m list) count) (move_most value m root count)
     (λ w. let e = most_found value m root c.args.key list count w c.requires.found in omega arith) made
 
 pub returns-then-next-list-clause-moves : goal.returns-then-next-list-clause-moves
@@ -72,9 +69,9 @@ returns-then-next-list-clause-moves g c =
     let n = records c.move_word.new.store in
     let next = c.in_ok-next.next in
     list_set g.row.OFFSET_BITS c.args.buffer c.args.doc value a b m n c.args.root c.args.key c.args.list next c.requires.index c.requires.owns c.requires.found
-    c.in_ok-next.ensures.makes b n c.in_ok-next.ensures.apart c.args.root
+    c.in_ok-next.ensures.moves b n c.args.root
     (dictionary_same g.row.OFFSET_BITS c.args.buffer c.args.doc value a b m n c.args.root c.args.key c.args.list next c.requires.index c.requires.owns c.requires.found
-    c.in_ok-next.ensures.makes c.if-next-list.true)
+    c.in_ok-next.ensures.moves c.if-next-list.true)
 
 pub returns-then-next-list-clause-counts : goal.returns-then-next-list-clause-counts
 returns-then-next-list-clause-counts g c =
@@ -85,8 +82,9 @@ returns-then-next-list-clause-counts g c =
     let a = g.S.Store.ledger c.args.store.now in
     let b = g.S.Store.ledger c.move_word.new.store in
     let count : ℕ = length (list_of value (index_of (type_of value) m root)) in
-    let made = subst (λ k. MakesWithin a b (word_most (list_levels m list) k)) (ap (λ (ds : Docs). length ds) (list_is value m root c.requires.index c.args.key list c.requires.found)) c.move_word.ensures.counts in
-    within_more a b (word_most (list_levels m list) count) (move_most value m root count)
+    let made = subst (λ k. MakesWithin a b (word_most (is_vector list) (list_levels m list) k))
+    (ap (λ (ds : Docs). length ds) (list_is value m root c.requires.index c.args.key list c.requires.found)) c.move_word.ensures.counts in
+    within_more a b (word_most (is_vector list) (list_levels m list) count) (move_most value m root count)
     (λ w. let e = most_found value m root c.args.key list count w c.requires.found in omega arith) made
 
 pub set-requires : goal.set-requires
@@ -102,12 +100,12 @@ set-requires g c =
     let m = records c.args.store.now in
     let n = records c.move_word.new.store in
     let next = c.in_ok-next.next in
-    let ready = list_ready g.row.OFFSET_BITS c.args.buffer c.args.doc value a b m n root key list next c.requires.index c.requires.owns c.requires.found c.in_ok-next.ensures.makes in (
+    let ready = list_ready g.row.OFFSET_BITS c.args.buffer c.args.doc value a b m n root key list next c.requires.index c.requires.owns c.requires.found c.in_ok-next.ensures.moves in (
       omega arith,
       (
         c.move_word.ensures.may.unit ∙ c.requires.unit,
         (
-          list_dictionary g.row.OFFSET_BITS c.args.buffer c.args.doc value a b m n root key list next c.requires.index c.requires.owns c.requires.found c.in_ok-next.ensures.makes,
+          list_dictionary g.row.OFFSET_BITS c.args.buffer c.args.doc value a b m n root key list next c.requires.index c.requires.owns c.requires.found c.in_ok-next.ensures.moves,
           (
             ready.record_is,
             (
@@ -129,7 +127,7 @@ returns-clause-moves g c =
     let m = records c.args.store.now in
     let n = records c.move_word.new.store in
     list_set_by g.row.OFFSET_BITS c.args.buffer c.args.doc value a b m n c.args.root c.args.key c.args.list c.in_ok-next.next c.requires.index c.requires.owns c.requires.found
-    c.in_ok-next.ensures.makes (ledger c.set.new.store) (records c.set.new.store) c.in_ok-next.ensures.apart c.set.result c.set.ensures.makes
+    c.in_ok-next.ensures.moves (ledger c.set.new.store) (records c.set.new.store) c.set.result c.set.ensures.makes
 
 pub returns-clause-refuses : goal.returns-clause-refuses
 returns-clause-refuses g c =
@@ -159,9 +157,10 @@ returns-clause-counts g c =
     let n = records c.move_word.new.store in
     let next = c.in_ok-next.next in
     let count : ℕ = length (list_of value (index_of (type_of value) m root)) in
-    let made = subst (λ k. MakesWithin a b (word_most (list_levels m list) k)) (ap (λ (ds : Docs). length ds) (list_is value m root c.requires.index key list c.requires.found)) c.move_word.ensures.counts in
-    let ready = list_ready g.row.OFFSET_BITS c.args.buffer c.args.doc value a b m n root key list next c.requires.index c.requires.owns c.requires.found c.in_ok-next.ensures.makes in
+    let made = subst (λ k. MakesWithin a b (word_most (is_vector list) (list_levels m list) k))
+    (ap (λ (ds : Docs). length ds) (list_is value m root c.requires.index key list c.requires.found)) c.move_word.ensures.counts in
+    let ready = list_ready g.row.OFFSET_BITS c.args.buffer c.args.doc value a b m n root key list next c.requires.index c.requires.owns c.requires.found c.in_ok-next.ensures.moves in
     let nodes = within_tree b d m n root (2 * levels n root + 1) ready.nodes (omega arith) c.set.ensures.counts in
-    within_more a d (λ w. word_most (list_levels m list) count w + nodes_most (levels m root) w) (move_most value m root count)
+    within_more a d (λ w. word_most (is_vector list) (list_levels m list) count w + nodes_most (levels m root) w) (move_most value m root count)
     (λ w. let e = most_found value m root key list count w c.requires.found in omega arith)
-    (within_then a b d (word_most (list_levels m list) count) (nodes_most (levels m root)) c.move_word.ensures.may made nodes)
+    (within_then a b d (word_most (is_vector list) (list_levels m list) count) (nodes_most (levels m root)) c.move_word.ensures.may made nodes)

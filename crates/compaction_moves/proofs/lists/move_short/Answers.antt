@@ -3,31 +3,28 @@ use Rattle.std.proofs.lemmas.Result.{err_from_is_err_and}
 use Rattle.entry_ref.specs.References.{buffer_of}
 use Rattle.array_store.proofs.ClassLemmas.{class_width}
 use Rattle.attr_images.specs.Words.{stored_items}
-use Rattle.posting_store.specs.Lists.{list_at, list_levels}
+use Rattle.posting_store.specs.Lists.{is_vector, list_at, list_levels}
 use Rattle.posting_store.proofs.RefusalLemmas.{of_one}
 use Rattle.store_api.specs.Calls.{IsUsedWidth}
 use Rattle.store_api.proofs.May.{may_do-same, may_do-then}
 use Rattle.value_index.proofs.CountLemmas.{within_dropped, within_none}
 use Rattle.compaction_moves.specs.IndexMoves.{word_most}
 use Rattle.compaction_moves.proofs.IndexUsedLemmas.{short_used}
-use Rattle.compaction_moves.proofs.WordLemmas.{copy_apart, list_kept, old_record, short_apart, short_counts, short_moved, short_stored}
+use Rattle.compaction_moves.proofs.WordLemmas.{old_record, short_apart, short_counts, short_moved, short_stored, word_kept}
 use Rattle.compaction_moves.proofs.lists.move_short.Goals as goal
 
-pub returns-then-buffer-clause-makes : goal.returns-then-buffer-clause-makes
-returns-then-buffer-clause-makes g c =
-    list_kept (g.S.Store.ledger c.args.store.now) (g.S.Frozen.records c.args.store.now) c.args.list c.requires.list c.requires.plain c.requires.owns
-
-pub returns-then-buffer-clause-apart : goal.returns-then-buffer-clause-apart
-returns-then-buffer-clause-apart g c =
+pub returns-then-buffer-clause-moves : goal.returns-then-buffer-clause-moves
+returns-then-buffer-clause-moves g c =
     let ref = c.record_of-record.result in
+    let m = g.S.Frozen.records c.args.store.now in
     let apart : buffer_of g.row.OFFSET_BITS ref ≡ c.args.buffer → ⊥ = (λ e. let is = c.buffer.ensures.value in let other = c.if-buffer.true in absurd (omega arith)) in
-    λ doc. short_apart (g.S.Frozen.records c.args.store.now) c.args.list ref c.requires.list c.requires.plain c.requires.some c.requires.short c.record_of-record.ensures
-    g.row.OFFSET_BITS c.args.buffer doc apart
+    λ doc. word_kept g.row.OFFSET_BITS c.args.buffer doc (g.S.Store.ledger c.args.store.now) m c.args.list c.requires.list c.requires.owns
+    (short_apart m c.args.list ref c.requires.list c.requires.plain c.requires.some c.requires.short c.record_of-record.ensures g.row.OFFSET_BITS c.args.buffer doc apart)
 
 pub returns-then-buffer-clause-counts : goal.returns-then-buffer-clause-counts
 returns-then-buffer-clause-counts g c =
     let m = g.S.Frozen.records c.args.store.now in
-    within_none (g.S.Store.ledger c.args.store.now) (word_most (list_levels m c.args.list) (length (list_at m c.args.list)))
+    within_none (g.S.Store.ledger c.args.store.now) (word_most (is_vector c.args.list) (list_levels m c.args.list) (length (list_at m c.args.list)))
 
 pub copy_record-requires : goal.copy_record-requires
 copy_record-requires g c = (
@@ -67,25 +64,14 @@ drop_one-requires g c =
       ),
     )
 
-pub returns-clause-makes : goal.returns-clause-makes
-returns-clause-makes g c =
+pub returns-clause-moves : goal.returns-clause-moves
+returns-clause-moves g c =
     let ledger = g.S.Store.ledger in
     let records = g.S.Frozen.records in
     let s = c.args.store.now in
     let t = c.copy_record.new.store in
     let u = c.drop_one.new.store in
-    short_moved (records s) c.args.list c.record_of-record.result c.requires.list c.requires.plain c.requires.some c.requires.short c.record_of-record.ensures
-    g.row.OFFSET_BITS (ledger s) (ledger t) (records t) c.in_ok-copy.copy c.requires.owns c.in_ok-copy.ensures.adds c.in_ok-copy.ensures.items
-    (ledger u) (records u) c.drop_one.ensures.turns c.short_word.result c.short_word.ensures.word c.short_word.ensures.plain
-
-pub returns-clause-apart : goal.returns-clause-apart
-returns-clause-apart g c =
-    let ledger = g.S.Store.ledger in
-    let records = g.S.Frozen.records in
-    let s = c.args.store.now in
-    let t = c.copy_record.new.store in
-    let u = c.drop_one.new.store in
-    λ doc. copy_apart (records s) c.args.list c.record_of-record.result c.requires.list c.requires.plain c.requires.some c.requires.short c.record_of-record.ensures
+    λ doc. short_moved (records s) c.args.list c.record_of-record.result c.requires.list c.requires.plain c.requires.some c.requires.short c.record_of-record.ensures
     g.row.OFFSET_BITS (ledger s) (ledger t) (records t) c.in_ok-copy.copy c.requires.owns c.in_ok-copy.ensures.adds c.in_ok-copy.ensures.items
     (ledger u) (records u) c.drop_one.ensures.turns c.args.buffer doc c.short_word.result c.short_word.ensures.word c.short_word.ensures.plain
     c.copy_record.ensures.may c.requires.sealed
@@ -96,7 +82,7 @@ returns-clause-counts g c =
     let m = g.S.Frozen.records c.args.store.now in
     let a = ledger c.args.store.now in
     let b = ledger c.copy_record.new.store in
-    within_dropped a b (ledger c.drop_one.new.store) (word_most (list_levels m c.args.list) (length (list_at m c.args.list))) c.copy_record.ensures.may
+    within_dropped a b (ledger c.drop_one.new.store) (word_most (is_vector c.args.list) (list_levels m c.args.list) (length (list_at m c.args.list))) c.copy_record.ensures.may
     (short_counts m c.args.list c.record_of-record.result c.requires.list c.requires.plain c.requires.some c.requires.short c.record_of-record.ensures
     a b c.copy_record.ensures.counts) c.drop_one.ensures.none_made
 

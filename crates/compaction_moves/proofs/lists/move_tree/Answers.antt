@@ -5,7 +5,7 @@ use Rattle.store_api.proofs.May.{may_do-same}
 use Rattle.posting_store.proofs.LeafLemmas.{tree_keyed, tree_owned}
 use Rattle.posting_store.proofs.RefusalLemmas.{of_one}
 use Rattle.compaction_moves.proofs.IndexUsedLemmas.{tree_used}
-use Rattle.compaction_moves.proofs.WordLemmas.{tree_apart, tree_counts, tree_moved}
+use Rattle.compaction_moves.proofs.WordLemmas.{tree_counts, tree_moved}
 use Rattle.compaction_moves.proofs.lists.move_tree.Goals as goal
 
 pub touch-requires : goal.touch-requires
@@ -45,20 +45,15 @@ returns-in_err-root-clause-refuses g c =
     let p = err_from_is_err_and c.from_residual.result c.from_residual.ensures.1 in
     rw (p.1, p.2) (of_one (IsUsedWidth a m) a a (ledger c.touch.new.store) 34 _ (may_do-same a) refl used c.in_err-root.ensures.refuses)
 
-pub returns-clause-makes : goal.returns-clause-makes
-returns-clause-makes g c =
+pub returns-clause-moves : goal.returns-clause-moves
+returns-clause-moves g c =
     let ledger = g.S.Store.ledger in
     let records = g.S.Frozen.records in
     let s = c.args.store.now in
     let t = c.touch.new.store in
     tree_moved (ledger s) (ledger t) (records s) (records t) c.args.list c.record_of.result c.requires.list c.requires.plain c.requires.tree c.record_of.ensures
-    c.tree_word.result c.in_ok-root.root c.tree_word.ensures.word c.tree_word.ensures.plain c.in_ok-root.ensures.keyed.tree c.in_ok-root.ensures.pairs
-    c.in_ok-root.ensures.owns c.in_ok-root.ensures.turns
-
-pub returns-clause-apart : goal.returns-clause-apart
-returns-clause-apart g c =
-    tree_apart g.row.OFFSET_BITS c.args.buffer c.args.doc (g.S.Frozen.records c.touch.new.store) c.tree_word.result c.in_ok-root.root
-    c.tree_word.ensures.word c.tree_word.ensures.plain c.in_ok-root.ensures.apart
+    g.row.OFFSET_BITS c.args.buffer c.args.doc c.tree_word.result c.in_ok-root.root c.tree_word.ensures.word c.tree_word.ensures.plain c.in_ok-root.ensures.keyed.tree c.in_ok-root.ensures.pairs
+    c.in_ok-root.ensures.owns c.in_ok-root.ensures.turns c.in_ok-root.ensures.apart
 
 pub returns-clause-counts : goal.returns-clause-counts
 returns-clause-counts g c =

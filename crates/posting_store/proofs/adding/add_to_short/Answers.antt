@@ -1,4 +1,4 @@
-use Rattle.std.proofs.Common.{◌≡◌, ◌∷◌, [], true, ℕ, ℤ, List, w32, map, length, sym, ap, subst, ◌∙◌, arith}
+use Rattle.std.proofs.Common.{◌≡◌, ◌∷◌, [], true, false, ℕ, ℤ, List, w32, map, length, sym, ap, subst, ◌∙◌, arith}
 use Rattle.std.specs.Prelude.{IfOk, IfErr}
 use Rattle.std.proofs.lemmas.Int.{to_z-of_z}
 use Rattle.std.specs.BTreeMap.{insert_entry}
@@ -68,8 +68,8 @@ returns-clause-makes g c =
     let docs = (insert_entry nat_cmp es c.args.doc c.args.weight) in
     let read = (ap (map unpacked) c.as_slice.ensures.value ∙ c.put_item.ensures ∙ ap (λ (w : ℤ). insert_entry nat_cmp (map unpacked c.items_of-items.result.items) c.args.doc w)
     (to_z-of_z w32 c.args.weight c.ranges.weight) ∙ ap (λ (ds : List (ℕ × ℤ)). insert_entry nat_cmp ds c.args.doc c.args.weight) c.items_of-items.ensures.items) in
-    subst (λ (ds : List (ℕ × ℤ)). IfOk c.replace_list.result (MakesList (ledger c.args.store.now) (ledger t) m (records t) c.args.list ds)) read
-    (subst (λ s. IfOk c.replace_list.result (MakesList (ledger s) (ledger t) (records s) (records t) c.args.list (map unpacked c.as_slice.result.now))) c.items_of-items.ensures.same c.replace_list.ensures.makes)
+    subst (λ (ds : List (ℕ × ℤ)). IfOk c.replace_list.result (MakesList (ledger c.args.store.now) (ledger t) m (records t) c.args.list ds false)) read
+    (subst (λ s. IfOk c.replace_list.result (MakesList (ledger s) (ledger t) (records s) (records t) c.args.list (map unpacked c.as_slice.result.now) false)) c.items_of-items.ensures.same c.replace_list.ensures.makes)
 
 pub returns-clause-counts : goal.returns-clause-counts
 returns-clause-counts g c =

@@ -1,4 +1,4 @@
-use Rattle.std.proofs.Common.{◌≡◌, ◌+◌, ◌*◌, ℕ, ℤ, length, w32, ap, subst, ◌∙◌, refl, arith}
+use Rattle.std.proofs.Common.{◌≡◌, false, ◌+◌, ◌*◌, ℕ, ℤ, length, w32, ap, subst, ◌∙◌, refl, arith}
 use Rattle.std.proofs.lemmas.Int.{to_z-of_z}
 use Rattle.std.specs.BTreeMap.{insert_entry}
 use Rattle.std.specs.Int.{cast_unsigned}
@@ -52,7 +52,7 @@ returns-clause-makes g c =
     let is : c.args.list ≡ 2 * c.entry.result + 1 = let e = c.entry.ensures in let odd = c.requires.tree in omega arith in
     let reads : weight_in_bits bits.result ≡ c.args.weight =
     let again = to_z-of_z w32 c.args.weight c.ranges.weight in ap weight_in_bits bits.ensures ∙ ap (λ (w : ℤ). weight_in_bits (cast_unsigned w32 w)) again ∙ again in
-    subst (λ (doc : ℕ). MakesList (ledger s) (ledger t) (records s) (records t) c.args.list (insert_entry nat_cmp (list_at (records s) c.args.list) doc c.args.weight) c.tree.result) number.ensures.number
+    subst (λ (doc : ℕ). MakesList (ledger s) (ledger t) (records s) (records t) c.args.list (insert_entry nat_cmp (list_at (records s) c.args.list) doc c.args.weight) false c.tree.result) number.ensures.number
     (tree_added (ledger s) (ledger t) (records s) (records t) c.args.list c.entry.result c.requires.list c.requires.plain is
     number.result bits.result c.args.weight (number.ensures.first, number.ensures.last) bits.type_inv reads
     c.tree.result c.in_ok-root.root c.tree.ensures.word c.tree.ensures.plain c.in_ok-root.ensures.keyed.tree c.in_ok-root.ensures.pairs c.in_ok-root.ensures.owns c.in_ok-root.ensures.turns)

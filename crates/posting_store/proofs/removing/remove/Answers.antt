@@ -1,37 +1,114 @@
-use Rattle.std.proofs.Common.{length, subst}
-use Rattle.std.specs.Prelude.{IfErr}
+use Rattle.std.proofs.Common.{◌≡◌, ◌∷◌, [], true, false, ℕ, ℤ, List, length, refl, sym, ap, subst, ◌∙◌, ◌<◌, ◌≤◌, ◌||◌, arith}
+use Rattle.std.specs.Prelude.{IfOk, IfErr, IsSome}
+use Rattle.std.proofs.lemmas.Result.{err_from_is_err_and}
 use Rattle.std.specs.BTreeMap.{is_at}
-use Rattle.std.specs.Map.{remove_entry}
+use Rattle.std.specs.Map.{lookup, remove_entry}
 use Rattle.std.specs.Ordering.{nat_cmp}
+use Rattle.attr_images.specs.Postings.{is_dense}
+use Rattle.bit_vector.specs.Changes.{MakesWithin}
 use Rattle.store_api.specs.Calls.{RefusesOf}
-use Rattle.posting_store.specs.Lists.{list_at, list_levels}
-use Rattle.posting_store.specs.Changes.{list_most, IsListWidth, MakesWithin}
+use Rattle.store_api.specs.Parts.{Owns}
+use Rattle.store_api.specs.Units.{MayDo}
+use Rattle.store_api.proofs.May.{may_do-same, may_do-then}
+use Rattle.posting_store.specs.Lists.{list_at, list_levels, is_vector, AreOnes, IsList}
+use Rattle.posting_store.specs.Changes.{list_part, list_most, list_change_most, IsListWidth, IsListChangeWidth, MakesByRule, MakesList}
+use Rattle.posting_store.proofs.PairLemmas.{length_out_some}
+use Rattle.posting_store.proofs.RefusalLemmas.{if_more}
+use Rattle.posting_store.proofs.RuleLemmas.{changed_list, short_counts, short_sparse}
 use Rattle.posting_store.proofs.removing.remove.Goals as goal
+
+pub remove_from_long-requires-clause-list : goal.remove_from_long-requires-clause-list
+remove_from_long-requires-clause-list g c = subst (λ s. IsList (g.S.Frozen.records s) c.args.list) (sym c.count.ensures.same) c.requires.list
+
+pub remove_from_long-requires-clause-unit : goal.remove_from_long-requires-clause-unit
+remove_from_long-requires-clause-unit g c = subst (λ s. (g.S.Store.ledger s).unit ≡ true) (sym c.count.ensures.same) c.requires.unit
+
+pub remove_from_long-requires-clause-owns : goal.remove_from_long-requires-clause-owns
+remove_from_long-requires-clause-owns g c = subst (λ s. Owns (g.S.Store.ledger s) (g.S.Frozen.records s) (list_part c.args.list ∷ [])) (sym c.count.ensures.same) c.requires.owns
+
+pub remove_from_long-requires-clause-there : goal.remove_from_long-requires-clause-there
+remove_from_long-requires-clause-there g c = subst (λ s. IsSome (lookup (is_at (nat_cmp c.args.doc)) (list_at (g.S.Frozen.records s) c.args.list))) (sym c.count.ensures.same) c.requires.there
+
+pub remove_from_long-requires-clause-ones : goal.remove_from_long-requires-clause-ones
+remove_from_long-requires-clause-ones g c = subst (λ s. (c.args.dense ≡ true → AreOnes (list_at (g.S.Frozen.records s) c.args.list))) (sym c.count.ensures.same) c.requires.ones
+
+pub returns-then-count-gt9-clause-makes : goal.returns-then-count-gt9-clause-makes
+returns-then-count-gt9-clause-makes g c =
+    let ledger = g.S.Store.ledger in
+    let records = g.S.Frozen.records in
+    let s = c.args.store.now in
+    let t = c.remove_from_long.new.store in
+    let docs = remove_entry (is_at (nat_cmp c.args.doc)) (list_at (records s) c.args.list) in
+    subst (λ s. IfOk c.remove_from_long.result (MakesByRule c.args.dense c.args.documents (ledger s) (ledger t) (records s) (records t) c.args.list (remove_entry (is_at (nat_cmp c.args.doc)) (list_at
+    (records s) c.args.list)))) c.count.ensures.same c.remove_from_long.ensures.makes
 
 pub returns-then-count-gt9-clause-counts : goal.returns-then-count-gt9-clause-counts
 returns-then-count-gt9-clause-counts g c =
     let ledger = g.S.Store.ledger in
     let records = g.S.Frozen.records in
-    subst (λ s. MakesWithin (ledger s) (ledger c.remove_from_tree.new.store) (list_most (list_levels (records s) c.args.list) (length (remove_entry (is_at (nat_cmp c.args.doc)) (list_at (records s) c.args.list)))))
-    c.count.ensures.same c.remove_from_tree.ensures.counts
-
-pub returns-else-count-gt9-clause-counts : goal.returns-else-count-gt9-clause-counts
-returns-else-count-gt9-clause-counts g c =
-    let ledger = g.S.Store.ledger in
-    let records = g.S.Frozen.records in
-    subst (λ s. MakesWithin (ledger s) (ledger c.remove_from_short.new.store) (list_most (list_levels (records s) c.args.list) (length (remove_entry (is_at (nat_cmp c.args.doc)) (list_at (records s) c.args.list)))))
-    c.count.ensures.same c.remove_from_short.ensures.counts
+    let s = c.args.store.now in
+    let t = c.remove_from_long.new.store in
+    let docs = remove_entry (is_at (nat_cmp c.args.doc)) (list_at (records s) c.args.list) in
+    subst (λ s. MakesWithin (ledger s) (ledger t) (list_change_most (is_vector c.args.list) (is_dense c.args.dense (length (remove_entry (is_at (nat_cmp c.args.doc)) (list_at (records s)
+    c.args.list))) c.args.documents) (list_levels (records s) c.args.list) (remove_entry (is_at (nat_cmp c.args.doc)) (list_at (records s) c.args.list)))) c.count.ensures.same
+    c.remove_from_long.ensures.counts
 
 pub returns-then-count-gt9-clause-refuses : goal.returns-then-count-gt9-clause-refuses
 returns-then-count-gt9-clause-refuses g c =
     let ledger = g.S.Store.ledger in
     let records = g.S.Frozen.records in
-    subst (λ s. IfErr c.remove_from_tree.result (RefusesOf (IsListWidth (length (remove_entry (is_at (nat_cmp c.args.doc)) (list_at (records s) c.args.list)))) (ledger s) (ledger c.remove_from_tree.new.store)))
-    c.count.ensures.same c.remove_from_tree.ensures.refuses
+    let s = c.args.store.now in
+    let t = c.remove_from_long.new.store in
+    let docs = remove_entry (is_at (nat_cmp c.args.doc)) (list_at (records s) c.args.list) in
+    subst (λ s. IfErr c.remove_from_long.result (RefusesOf (IsListChangeWidth (is_vector c.args.list || is_dense c.args.dense (length (remove_entry (is_at (nat_cmp c.args.doc)) (list_at (records s)
+    c.args.list))) c.args.documents) (length (remove_entry (is_at (nat_cmp c.args.doc)) (list_at (records s) c.args.list)))) (ledger s) (ledger t))) c.count.ensures.same
+    c.remove_from_long.ensures.refuses
+
+pub returns-then-count-gt9-clause-may : goal.returns-then-count-gt9-clause-may
+returns-then-count-gt9-clause-may g c =
+    let ledger = g.S.Store.ledger in
+    let records = g.S.Frozen.records in
+    let s = c.args.store.now in
+    let t = c.remove_from_long.new.store in
+    let docs = remove_entry (is_at (nat_cmp c.args.doc)) (list_at (records s) c.args.list) in
+    subst (λ s. MayDo (ledger s) (ledger t)) c.count.ensures.same c.remove_from_long.ensures.may
+
+pub returns-else-count-gt9-clause-makes : goal.returns-else-count-gt9-clause-makes
+returns-else-count-gt9-clause-makes g c =
+    let ledger = g.S.Store.ledger in
+    let records = g.S.Frozen.records in
+    let s = c.args.store.now in
+    let t = c.remove_from_short.new.store in
+    let docs = remove_entry (is_at (nat_cmp c.args.doc)) (list_at (records s) c.args.list) in
+    let few : length docs ≤ 8 = let less = length_out_some (is_at (nat_cmp c.args.doc)) (list_at (records s) c.args.list) c.requires.there in omega arith in
+    subst (λ d. IfOk c.remove_from_short.result (MakesList (ledger s) (ledger t) (records s) (records t) c.args.list docs d)) (sym (short_sparse c.args.dense (length docs) c.args.documents few))
+    (subst (λ s. IfOk c.remove_from_short.result (MakesList (ledger s) (ledger t) (records s) (records t) c.args.list (remove_entry (is_at (nat_cmp c.args.doc)) (list_at (records s) c.args.list))
+    false)) c.count.ensures.same c.remove_from_short.ensures.makes)
+
+pub returns-else-count-gt9-clause-counts : goal.returns-else-count-gt9-clause-counts
+returns-else-count-gt9-clause-counts g c =
+    let ledger = g.S.Store.ledger in
+    let records = g.S.Frozen.records in
+    let s = c.args.store.now in
+    let t = c.remove_from_short.new.store in
+    let docs = remove_entry (is_at (nat_cmp c.args.doc)) (list_at (records s) c.args.list) in
+    let few : length docs ≤ 8 = let less = length_out_some (is_at (nat_cmp c.args.doc)) (list_at (records s) c.args.list) c.requires.there in omega arith in
+    short_counts (ledger s) (ledger t) (is_vector c.args.list) c.args.dense c.args.documents (list_levels (records s) c.args.list) docs few
+    (subst (λ s. MakesWithin (ledger s) (ledger t) (list_most (list_levels (records s) c.args.list) (length (remove_entry (is_at (nat_cmp c.args.doc)) (list_at (records s) c.args.list)))))
+    c.count.ensures.same c.remove_from_short.ensures.counts)
 
 pub returns-else-count-gt9-clause-refuses : goal.returns-else-count-gt9-clause-refuses
 returns-else-count-gt9-clause-refuses g c =
     let ledger = g.S.Store.ledger in
     let records = g.S.Frozen.records in
-    subst (λ s. IfErr c.remove_from_short.result (RefusesOf (IsListWidth (length (remove_entry (is_at (nat_cmp c.args.doc)) (list_at (records s) c.args.list)))) (ledger s) (ledger c.remove_from_short.new.store)))
-    c.count.ensures.same c.remove_from_short.ensures.refuses
+    let s = c.args.store.now in
+    let t = c.remove_from_short.new.store in
+    let docs = remove_entry (is_at (nat_cmp c.args.doc)) (list_at (records s) c.args.list) in
+    let few : length docs ≤ 8 = let less = length_out_some (is_at (nat_cmp c.args.doc)) (list_at (records s) c.args.list) c.requires.there in omega arith in
+    let either = is_vector c.args.list || is_dense c.args.dense (length docs) c.args.documents in
+    if_more (IsListWidth (length docs)) (IsListChangeWidth either (length docs)) (ledger s) (ledger s) (ledger t) c.remove_from_short.result (may_do-same (ledger s)) (λ w one. changed_list either (length docs) w one)
+    (subst (λ s. IfErr c.remove_from_short.result (RefusesOf (IsListWidth (length (remove_entry (is_at (nat_cmp c.args.doc)) (list_at (records s) c.args.list)))) (ledger s) (ledger t)))
+    c.count.ensures.same c.remove_from_short.ensures.refuses)
+
+pub returns-else-count-gt9-clause-may : goal.returns-else-count-gt9-clause-may
+returns-else-count-gt9-clause-may g c = subst (λ s. MayDo (g.S.Store.ledger s) (g.S.Store.ledger c.remove_from_short.new.store)) c.count.ensures.same c.remove_from_short.ensures.may

@@ -1,4 +1,4 @@
-use Rattle.std.proofs.Common.{◌≡◌, ◌∷◌, [], true, ℕ, ℤ, List, map, length, sym, ap, subst, ◌∙◌, arith}
+use Rattle.std.proofs.Common.{◌≡◌, ◌∷◌, [], true, false, ℕ, ℤ, List, map, length, sym, ap, subst, ◌∙◌, arith}
 use Rattle.std.specs.Prelude.{IfOk, IfErr}
 use Rattle.std.specs.BTreeMap.{is_at}
 use Rattle.std.specs.Map.{remove_entry}
@@ -54,8 +54,8 @@ returns-clause-makes g c =
     let es = list_at m c.args.list in
     let docs = (remove_entry (is_at (nat_cmp c.args.doc)) es) in
     let read = (ap (map unpacked) c.as_slice.ensures.value ∙ c.take_item.ensures ∙ ap (λ (ds : List (ℕ × ℤ)). remove_entry (is_at (nat_cmp c.args.doc)) ds) c.items_of-items.ensures.items) in
-    subst (λ (ds : List (ℕ × ℤ)). IfOk c.replace_list.result (MakesList (ledger c.args.store.now) (ledger t) m (records t) c.args.list ds)) read
-    (subst (λ s. IfOk c.replace_list.result (MakesList (ledger s) (ledger t) (records s) (records t) c.args.list (map unpacked c.as_slice.result.now))) c.items_of-items.ensures.same c.replace_list.ensures.makes)
+    subst (λ (ds : List (ℕ × ℤ)). IfOk c.replace_list.result (MakesList (ledger c.args.store.now) (ledger t) m (records t) c.args.list ds false)) read
+    (subst (λ s. IfOk c.replace_list.result (MakesList (ledger s) (ledger t) (records s) (records t) c.args.list (map unpacked c.as_slice.result.now) false)) c.items_of-items.ensures.same c.replace_list.ensures.makes)
 
 pub returns-clause-counts : goal.returns-clause-counts
 returns-clause-counts g c =

@@ -1,4 +1,4 @@
-use Rattle.std.proofs.Common.{◌≡◌, ◌+◌, ◌*◌, ℕ, length, refl, sym, subst, arith}
+use Rattle.std.proofs.Common.{◌≡◌, false, ◌+◌, ◌*◌, ℕ, length, refl, sym, subst, arith}
 use Rattle.std.specs.Prelude.{IsSome}
 use Rattle.std.specs.BTreeMap.{is_at}
 use Rattle.std.specs.Map.{lookup, remove_entry}
@@ -55,7 +55,7 @@ returns-clause-makes g c =
     let is : c.args.list ≡ 2 * c.entry.result + 1 = let e = c.entry.ensures in omega arith in
     let there : IsSome (lookup (is_at (nat_cmp c.number.result)) (list_at m c.args.list))
     = subst (λ (doc : ℕ). IsSome (lookup (is_at (nat_cmp doc)) (list_at m c.args.list))) (sym c.number.ensures.number) c.requires.there in
-    subst (λ (doc : ℕ). MakesList (ledger s) (ledger t) m (records t) c.args.list (remove_entry (is_at (nat_cmp doc)) (list_at m c.args.list)) c.tree.result) c.number.ensures.number
+    subst (λ (doc : ℕ). MakesList (ledger s) (ledger t) m (records t) c.args.list (remove_entry (is_at (nat_cmp doc)) (list_at m c.args.list)) false c.tree.result) c.number.ensures.number
     (tree_removed (ledger s) (ledger t) m (records t) c.args.list c.entry.result c.requires.list c.requires.plain is c.number.result there c.requires.many
     c.tree.result c.in_ok-root.root c.tree.ensures.word c.tree.ensures.plain c.in_ok-root.ensures.keyed.tree c.in_ok-root.ensures.pairs c.in_ok-root.ensures.owns c.in_ok-root.ensures.turns)
 

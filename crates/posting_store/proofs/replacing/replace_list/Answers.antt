@@ -28,7 +28,8 @@ returns-clause-makes g c =
     let s = c.args.store.now in
     let t = c.make_list.new.store in
     let u = c.drop_list.new.store in
-    replaces (ledger s) (ledger t) (ledger u) (records s) (records t) (records u) c.args.list c.in_ok-next.next (map unpacked c.args.items.now) c.requires.owns c.in_ok-next.ensures.makes c.drop_list.ensures.turns
+    replaces (ledger s) (ledger t) (ledger u) (records s) (records t) (records u) c.args.list c.in_ok-next.next (map unpacked c.args.items.now)
+    c.requires.owns c.in_ok-next.ensures.makes c.make_list.ensures.may c.drop_list.ensures.turns
 
 pub returns-clause-counts : goal.returns-clause-counts
 returns-clause-counts g c =

@@ -8,7 +8,7 @@ use Rattle.test_kit.proofs.PairLemmas.{first_pair, later_pairs, listed, one_list
 use Rattle.test_kit.proofs.reading.all_lists.Goals as goal
 
 pub first-cursor-requires : goal.first-cursor-requires
-first-cursor-requires g c = (omega arith, (omega arith, c.requires.dictionary_is.tree_is.node))
+first-cursor-requires g c = (omega arith, (omega arith, c.requires.index.dictionary_is.tree_is.node))
 
 pub value_list-requires-clause-record : goal.value_list-requires-clause-record
 value_list-requires-clause-record g c =
@@ -35,7 +35,7 @@ value_list-requires-clause-plain g c =
     let ps = pairs_from m c.loop-alloc.cursor in
     let some : ps ≢ [] = λ none. true≢false (sym ((c.at_end.ensures.pairs m before.at).1 none) ∙ c.loop-alloc-test.true) in
     let pair = first_pair c.args.value_type m ps c.key-key.result c.value-word.result some (c.key-key.ensures m before.at) (c.value-word.ensures m before.at) before.pairs in
-    pair.pair_is.plain
+    pair.plain
 
 pub loop-alloc-preserved : goal.loop-alloc-preserved
 loop-alloc-preserved g c =

@@ -7,7 +7,7 @@ use Rattle.test_kit.proofs.typed.documents_typed.Goals as goal
 
 pub documents_of-requires : goal.documents_of-requires
 documents_of-requires g c =
-    (omega arith, subst (λ t. IsIndex t (g.F.Frozen.records c.args.frozen.now) c.args.root) (sym c.requires.typed) c.requires.index)
+    (omega arith, (subst (λ t. IsIndex t (g.F.Frozen.records c.args.frozen.now) c.args.root) (sym c.requires.typed) c.requires.index, c.requires.plain))
 
 pub returns-clause-documents : goal.returns-clause-documents
 returns-clause-documents g c =

@@ -10,7 +10,7 @@ use Rattle.test_kit.proofs.typed.has_typed.Goals as goal
 
 pub has-requires : goal.has-requires
 has-requires g c =
-    (omega arith, subst (λ t. IsIndex t (g.F.Frozen.records c.args.frozen.now) c.args.root) (sym c.requires.typed) c.requires.index)
+    (omega arith, (subst (λ t. IsIndex t (g.F.Frozen.records c.args.frozen.now) c.args.root) (sym c.requires.typed) c.requires.index, c.requires.plain))
 
 pub returns-clause-has : goal.returns-clause-has
 returns-clause-has g c =

@@ -1,10 +1,10 @@
-use Rattle.std.proofs.Common.{ℤ, w32, arith, ap, subst, ◌∙◌}
+use Rattle.std.proofs.Common.{ℤ, w32, arith, ap, refl, sym, subst, ◌∙◌, true≢false}
 use Rattle.std.proofs.lemmas.Int.{to_z-of_z}
 use Rattle.attr_images.specs.Postings.{index_of}
 use Rattle.attr_index.specs.Index.{with_posting}
 use Rattle.attr_types.specs.Value.{type_of}
 use Rattle.value_index.specs.Changes.{MakesIndex}
-use Rattle.test_kit.proofs.HoldLemmas.{begun_owns, begun_index, holds_next, index_next, left_same, holds_still}
+use Rattle.test_kit.proofs.HoldLemmas.{begun_owns, begun_index, begun_plain, holds_next, index_next, left_same, holds_still}
 use Rattle.test_kit.proofs.unit.add_unit.Goals as goal
 
 pub add-requires : goal.add-requires
@@ -20,8 +20,15 @@ add-requires g c =
         (
           begun_index type (ledger s) (ledger b) (ledger b) (ledger b) (records s) (records b) (records b)
               (records b) c.args.root c.requires c.begin.ensures.ledger c.begin.ensures.records,
-          begun_owns type (ledger s) (ledger b) (ledger b) (ledger b) (records s) (records b) (records b)
-              (records b) c.args.root c.requires c.begin.ensures.ledger c.begin.ensures.records,
+          (
+            begun_owns type (ledger s) (ledger b) (ledger b) (ledger b) (records s) (records b) (records b)
+                (records b) c.args.root c.requires c.begin.ensures.ledger c.begin.ensures.records,
+            (
+              λ off. begun_plain type (ledger s) (ledger b) (ledger b) (ledger b) (records s) (records b) (records b)
+                  (records b) c.args.root c.requires c.begin.ensures.ledger c.begin.ensures.records,
+              (λ wanted. absurd (true≢false (sym wanted)), λ wanted. absurd (true≢false (sym wanted))),
+            ),
+          ),
         ),
       ),
     )
@@ -38,7 +45,7 @@ returns-in-Ok-clause-holds g c =
     let makes = subst (λ (w : ℤ). MakesIndex type (ledger b) (ledger t) (records b) (records t) c.args.root
     (with_posting c.args.value.now c.args.doc w (index_of type (records b) c.args.root)) c.in-Ok.next) (to_z-of_z w32 c.args.weight c.ranges.weight) c.in-Ok.ensures.makes in
     holds_next type (ledger s) (ledger b) (ledger t) (ledger u) (records s) (records b) (records t) (records u) c.args.root c.requires c.begin.ensures.ledger c.begin.ensures.records c.in-Ok.next
-    (with_posting c.args.value.now c.args.doc c.args.weight (index_of type (records b) c.args.root)) makes c.accept.ensures
+    (with_posting c.args.value.now c.args.doc c.args.weight (index_of type (records b) c.args.root)) makes c.accept.ensures (c.in-Ok.ensures.plain refl)
 
 pub returns-in-Ok-clause-index : goal.returns-in-Ok-clause-index
 returns-in-Ok-clause-index g c =

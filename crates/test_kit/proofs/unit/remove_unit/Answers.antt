@@ -1,4 +1,4 @@
-use Rattle.std.proofs.Common.{arith, ap, sym, subst, ◌∙◌}
+use Rattle.std.proofs.Common.{arith, ap, refl, sym, subst, ◌∙◌, true≢false}
 use Rattle.std.specs.Prelude.{IsSome}
 use Rattle.std.specs.BTreeMap.{is_at}
 use Rattle.std.specs.Map.{lookup}
@@ -6,7 +6,7 @@ use Rattle.std.specs.Ordering.{nat_cmp}
 use Rattle.attr_images.specs.Postings.{index_of}
 use Rattle.attr_index.specs.Index.{without_posting, list_of}
 use Rattle.attr_types.specs.Value.{type_of}
-use Rattle.test_kit.proofs.HoldLemmas.{begun_owns, begun_index, holds_next, index_next, left_same, holds_still}
+use Rattle.test_kit.proofs.HoldLemmas.{begun_owns, begun_index, begun_plain, holds_next, index_next, left_same, holds_still}
 use Rattle.test_kit.proofs.unit.remove_unit.Goals as goal
 
 pub remove-requires : goal.remove-requires
@@ -23,7 +23,15 @@ remove-requires g c =
         (
           begun_index type (ledger s) (ledger b) (ledger b) (ledger b) (records s) (records b) (records b)
               (records b) c.args.root c.requires.holds c.begin.ensures.ledger c.begin.ensures.records,
-          (begun_owns type (ledger s) (ledger b) (ledger b) (ledger b) (records s) (records b) (records b) (records b) c.args.root c.requires.holds c.begin.ensures.ledger c.begin.ensures.records, there),
+          (
+            begun_owns type (ledger s) (ledger b) (ledger b) (ledger b) (records s) (records b) (records b)
+                (records b) c.args.root c.requires.holds c.begin.ensures.ledger c.begin.ensures.records,
+            (
+              λ off. begun_plain type (ledger s) (ledger b) (ledger b) (ledger b) (records s) (records b) (records b)
+                  (records b) c.args.root c.requires.holds c.begin.ensures.ledger c.begin.ensures.records,
+              (λ wanted. absurd (true≢false (sym wanted)), there),
+            ),
+          ),
         ),
       ),
     )
@@ -38,7 +46,7 @@ returns-in-Ok-clause-holds g c =
     let t = c.remove.new.store in
     let u = c.accept.new.self in
     holds_next type (ledger s) (ledger b) (ledger t) (ledger u) (records s) (records b) (records t) (records u) c.args.root c.requires.holds c.begin.ensures.ledger c.begin.ensures.records c.in-Ok.rest
-    (without_posting c.args.value.now c.args.doc (index_of type (records b) c.args.root)) c.in-Ok.ensures.makes c.accept.ensures
+    (without_posting c.args.value.now c.args.doc (index_of type (records b) c.args.root)) c.in-Ok.ensures.makes c.accept.ensures (c.in-Ok.ensures.plain refl)
 
 pub returns-in-Ok-clause-index : goal.returns-in-Ok-clause-index
 returns-in-Ok-clause-index g c =

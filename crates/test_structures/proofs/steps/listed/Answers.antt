@@ -5,6 +5,7 @@ pub loop-number-init : goal.loop-number-init
 loop-number-init g c = record {
   unit = c.requires.unit;
   list = c.list_law.ensures.nothing (g.S.Frozen.records c.args.store.now);
-  plain = omega arith;
+  plain = λ none. omega arith;
+  ones = λ dense. tt;
   owns = record { each = λ r. omega arith };
 }

@@ -1,4 +1,4 @@
-use Rattle.std.proofs.Common.{◌≡◌, ◌∷◌, [], ℤ, w32, true, Some, None, to_z, of_z, sym, subst, ◌∙◌, arith}
+use Rattle.std.proofs.Common.{◌≡◌, ◌∷◌, [], ℤ, pos, w32, true, false, Some, None, to_z, of_z, sym, subst, ◌∙◌, arith}
 use Rattle.std.proofs.lemmas.Int.{to_z-of_z}
 use Rattle.std.specs.Prelude.{IfOk, IfErr, length}
 use Rattle.std.specs.BTreeMap.{insert_entry}
@@ -14,6 +14,8 @@ use Rattle.store_api.specs.Calls.{RefusesOf}
 use Rattle.store_api.specs.Parts.{Owns}
 use Rattle.store_api.specs.Units.{MayDo}
 use Rattle.value_index.specs.Changes.{add_most, IsChangeWidth, MakesIndex}
+use Rattle.posting_store.specs.Lists.{AreOnes}
+use Rattle.value_index.specs.Forms.{IsPlainIndex}
 use Rattle.value_index.specs.Indexes.{index_part, IsIndex}
 use Rattle.value_index.proofs.StepLemmas.{entry_found, entry_none}
 use Rattle.value_index.proofs.adding.add.Goals as goal
@@ -37,7 +39,16 @@ add_more-requires g c =
           subst (λ s. IsIndex (type_of value) (records s) root) back c.requires.index,
           (
             subst (λ s. Owns (ledger s) (records s) (index_part root ∷ [])) back c.requires.owns,
-            subst (λ s. lookup_pair (beside_value value (records s)) (tree_pairs (records s) root) ≡ Some (c.in-Some.entry.key, c.from_word.result)) back found,
+            (
+              subst (λ s. c.args.dense ≡ false → IsPlainIndex (records s) root) back c.requires.plain,
+              (
+                subst (λ s. c.args.dense ≡ true → AreOnes (list_of value (index_of (type_of value) (records s) root))) back c.requires.ones,
+                (
+                  subst (λ (w : ℤ). c.args.dense ≡ true → w ≡ pos 1) (sym (to_z-of_z w32 c.args.weight c.ranges.weight)) c.requires.one,
+                  subst (λ s. lookup_pair (beside_value value (records s)) (tree_pairs (records s) root) ≡ Some (c.in-Some.entry.key, c.from_word.result)) back found,
+                ),
+              ),
+            ),
           ),
         ),
       ),
@@ -59,7 +70,13 @@ add_new-requires g c =
           subst (λ s. IsIndex (type_of value) (records s) root) back c.requires.index,
           (
             subst (λ s. Owns (ledger s) (records s) (index_part root ∷ [])) back c.requires.owns,
-            subst (λ s. lookup_pair (beside_value value (records s)) (tree_pairs (records s) root) ≡ None) back none,
+            (
+              subst (λ s. c.args.dense ≡ false → IsPlainIndex (records s) root) back c.requires.plain,
+              (
+                subst (λ (w : ℤ). c.args.dense ≡ true → w ≡ pos 1) (sym (to_z-of_z w32 c.args.weight c.ranges.weight)) c.requires.one,
+                subst (λ s. lookup_pair (beside_value value (records s)) (tree_pairs (records s) root) ≡ None) back none,
+              ),
+            ),
           ),
         ),
       ),
@@ -83,9 +100,9 @@ returns-in-Some-clause-refuses g c =
     let value = c.args.value.now in
     let root = c.args.root in
     let t = c.add_more.new.store in
-    subst (λ (w : ℤ). IfErr c.add_more.result (RefusesOf (IsChangeWidth value
+    subst (λ (w : ℤ). IfErr c.add_more.result (RefusesOf (IsChangeWidth c.args.dense value
     (length (insert_entry nat_cmp (list_of value (index_of (type_of value) (records c.args.store.now) root)) c.args.doc w))) (ledger c.args.store.now) (ledger t))) (to_z-of_z w32 c.args.weight c.ranges.weight)
-    (subst (λ s. IfErr c.add_more.result (RefusesOf (IsChangeWidth value
+    (subst (λ s. IfErr c.add_more.result (RefusesOf (IsChangeWidth c.args.dense value
     (length (insert_entry nat_cmp (list_of value (index_of (type_of value) (records s) root)) c.args.doc (to_z w32 (of_z w32 c.args.weight))))) (ledger s) (ledger t))) c.find.ensures.same c.add_more.ensures.refuses)
 
 pub returns-in-Some-clause-may : goal.returns-in-Some-clause-may
@@ -109,9 +126,9 @@ returns-in-None-clause-refuses g c =
     let value = c.args.value.now in
     let root = c.args.root in
     let t = c.add_new.new.store in
-    subst (λ (w : ℤ). IfErr c.add_new.result (RefusesOf (IsChangeWidth value
+    subst (λ (w : ℤ). IfErr c.add_new.result (RefusesOf (IsChangeWidth c.args.dense value
     (length (insert_entry nat_cmp (list_of value (index_of (type_of value) (records c.args.store.now) root)) c.args.doc w))) (ledger c.args.store.now) (ledger t))) (to_z-of_z w32 c.args.weight c.ranges.weight)
-    (subst (λ s. IfErr c.add_new.result (RefusesOf (IsChangeWidth value
+    (subst (λ s. IfErr c.add_new.result (RefusesOf (IsChangeWidth c.args.dense value
     (length (insert_entry nat_cmp (list_of value (index_of (type_of value) (records s) root)) c.args.doc (to_z w32 (of_z w32 c.args.weight))))) (ledger s) (ledger t))) c.find.ensures.same c.add_new.ensures.refuses)
 
 pub returns-in-None-clause-may : goal.returns-in-None-clause-may
@@ -124,10 +141,10 @@ returns-in-Some-clause-counts g c =
     let value = c.args.value.now in
     let root = c.args.root in
     let t = c.add_more.new.store in
-    subst (λ (w : ℤ). MakesWithin (ledger c.args.store.now) (ledger t) (add_most value (records c.args.store.now) root
-    (length (insert_entry nat_cmp (list_of value (index_of (type_of value) (records c.args.store.now) root)) c.args.doc w)))) (to_z-of_z w32 c.args.weight c.ranges.weight)
-    (subst (λ s. MakesWithin (ledger s) (ledger t) (add_most value (records s) root
-    (length (insert_entry nat_cmp (list_of value (index_of (type_of value) (records s) root)) c.args.doc (to_z w32 (of_z w32 c.args.weight)))))) c.find.ensures.same c.add_more.ensures.counts)
+    subst (λ (w : ℤ). MakesWithin (ledger c.args.store.now) (ledger t) (add_most value (records c.args.store.now) root c.args.dense c.args.documents
+    (insert_entry nat_cmp (list_of value (index_of (type_of value) (records c.args.store.now) root)) c.args.doc w))) (to_z-of_z w32 c.args.weight c.ranges.weight)
+    (subst (λ s. MakesWithin (ledger s) (ledger t) (add_most value (records s) root c.args.dense c.args.documents
+    (insert_entry nat_cmp (list_of value (index_of (type_of value) (records s) root)) c.args.doc (to_z w32 (of_z w32 c.args.weight))))) c.find.ensures.same c.add_more.ensures.counts)
 
 pub returns-in-None-clause-counts : goal.returns-in-None-clause-counts
 returns-in-None-clause-counts g c =
@@ -136,7 +153,13 @@ returns-in-None-clause-counts g c =
     let value = c.args.value.now in
     let root = c.args.root in
     let t = c.add_new.new.store in
-    subst (λ (w : ℤ). MakesWithin (ledger c.args.store.now) (ledger t) (add_most value (records c.args.store.now) root
-    (length (insert_entry nat_cmp (list_of value (index_of (type_of value) (records c.args.store.now) root)) c.args.doc w)))) (to_z-of_z w32 c.args.weight c.ranges.weight)
-    (subst (λ s. MakesWithin (ledger s) (ledger t) (add_most value (records s) root
-    (length (insert_entry nat_cmp (list_of value (index_of (type_of value) (records s) root)) c.args.doc (to_z w32 (of_z w32 c.args.weight)))))) c.find.ensures.same c.add_new.ensures.counts)
+    subst (λ (w : ℤ). MakesWithin (ledger c.args.store.now) (ledger t) (add_most value (records c.args.store.now) root c.args.dense c.args.documents
+    (insert_entry nat_cmp (list_of value (index_of (type_of value) (records c.args.store.now) root)) c.args.doc w))) (to_z-of_z w32 c.args.weight c.ranges.weight)
+    (subst (λ s. MakesWithin (ledger s) (ledger t) (add_most value (records s) root c.args.dense c.args.documents
+    (insert_entry nat_cmp (list_of value (index_of (type_of value) (records s) root)) c.args.doc (to_z w32 (of_z w32 c.args.weight))))) c.find.ensures.same c.add_new.ensures.counts)
+
+pub returns-in-Some-clause-plain : goal.returns-in-Some-clause-plain
+returns-in-Some-clause-plain g c = c.add_more.ensures.plain
+
+pub returns-in-None-clause-plain : goal.returns-in-None-clause-plain
+returns-in-None-clause-plain g c = c.add_new.ensures.plain

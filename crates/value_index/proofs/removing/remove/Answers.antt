@@ -1,4 +1,4 @@
-use Rattle.std.proofs.Common.{◌≡◌, ◌∷◌, [], true, Some, IsSome, sym, subst, ◌∙◌, arith}
+use Rattle.std.proofs.Common.{◌≡◌, ◌∷◌, [], true, false, Some, IsSome, sym, subst, ◌∙◌, arith}
 use Rattle.std.specs.Prelude.{IfOk, IfErr, length}
 use Rattle.std.specs.BTreeMap.{is_at}
 use Rattle.std.specs.Map.{lookup as lookup_in, remove_entry}
@@ -14,6 +14,8 @@ use Rattle.store_api.specs.Calls.{RefusesOf}
 use Rattle.store_api.specs.Parts.{Owns}
 use Rattle.store_api.specs.Units.{MayDo}
 use Rattle.value_index.specs.Changes.{change_most, IsChangeWidth, MakesIndex}
+use Rattle.posting_store.specs.Lists.{AreOnes}
+use Rattle.value_index.specs.Forms.{IsPlainIndex}
 use Rattle.value_index.specs.Indexes.{index_part, IsIndex}
 use Rattle.value_index.proofs.StepLemmas.{entry_found, entry_none, value_found}
 use Rattle.value_index.proofs.removing.remove.Goals as goal
@@ -38,8 +40,14 @@ remove_from-requires g c =
           (
             subst (λ s. Owns (ledger s) (records s) (index_part root ∷ [])) back c.requires.owns,
             (
-              subst (λ s. lookup_pair (beside_value value (records s)) (tree_pairs (records s) root) ≡ Some (c.in-Some.entry.key, c.from_word.result)) back found,
-              subst (λ s. IsSome (lookup_in (is_at (nat_cmp c.args.doc)) (list_of value (index_of (type_of value) (records s) root)))) back c.requires.there,
+              subst (λ s. c.args.dense ≡ false → IsPlainIndex (records s) root) back c.requires.plain,
+              (
+                subst (λ s. c.args.dense ≡ true → AreOnes (list_of value (index_of (type_of value) (records s) root))) back c.requires.ones,
+                (
+                  subst (λ s. lookup_pair (beside_value value (records s)) (tree_pairs (records s) root) ≡ Some (c.in-Some.entry.key, c.from_word.result)) back found,
+                  subst (λ s. IsSome (lookup_in (is_at (nat_cmp c.args.doc)) (list_of value (index_of (type_of value) (records s) root)))) back c.requires.there,
+                ),
+              ),
             ),
           ),
         ),
@@ -69,7 +77,7 @@ returns-clause-refuses g c =
     let value = c.args.value.now in
     let root = c.args.root in
     let t = c.remove_from.new.store in
-    subst (λ s. IfErr c.remove_from.result (RefusesOf (IsChangeWidth value
+    subst (λ s. IfErr c.remove_from.result (RefusesOf (IsChangeWidth c.args.dense value
     (length (remove_entry (is_at (nat_cmp c.args.doc)) (list_of value (index_of (type_of value) (records s) root))))) (ledger s) (ledger t))) c.find.ensures.same c.remove_from.ensures.refuses
 
 pub returns-clause-may : goal.returns-clause-may
@@ -82,5 +90,8 @@ returns-clause-counts g c =
     let value = c.args.value.now in
     let root = c.args.root in
     let t = c.remove_from.new.store in
-    subst (λ s. MakesWithin (ledger s) (ledger t) (change_most value (records s) root
-    (length (remove_entry (is_at (nat_cmp c.args.doc)) (list_of value (index_of (type_of value) (records s) root)))))) c.find.ensures.same c.remove_from.ensures.counts
+    subst (λ s. MakesWithin (ledger s) (ledger t) (change_most value (records s) root c.args.dense c.args.documents
+    (remove_entry (is_at (nat_cmp c.args.doc)) (list_of value (index_of (type_of value) (records s) root))))) c.find.ensures.same c.remove_from.ensures.counts
+
+pub returns-clause-plain : goal.returns-clause-plain
+returns-clause-plain g c = c.remove_from.ensures.plain

@@ -1,9 +1,11 @@
-use Rattle.std.specs.Prelude.{ℕ}
+use Rattle.std.specs.Prelude.{◌≡◌, ℕ, false}
 use Rattle.std.specs.BTreeMap.{get}
 use Rattle.attr_images.specs.Postings.{index_of}
 use Rattle.attr_types.specs.Value.{value_cmp}
 use Rattle.attr_index.specs.Index.{list_of}
-use Rattle.value_index.specs.Counts.{is_added, put_records, value_nodes, AddsLow}
+use Rattle.attr_types.specs.declared.value.Value.{Value}
+use Rattle.value_index.specs.Counts.{is_added, put_forms, put_records, value_nodes, AddsLow}
+use Rattle.value_index.specs.Forms.{IsPlainIndex}
 use Rattle.value_index.proofs.AddLemmas.{AddsSoFar}
 use Rattle.value_index.proofs.WalksCountLemmas.{CountsSoFar}
 use Rattle.value_index.proofs.walks_adding.add_all.Given as goal
@@ -13,10 +15,13 @@ abbrev pub invariant-loop-value : goal.invariant-loop-value
 invariant-loop-value g l =
     let ledger = g.S.Store.ledger in
     let records = g.S.Frozen.records in
-    let each = put_records (λ value. list_of value (index_of l.fn.value_type (records l.fn.store) l.fn.root)) l.doc in
+    let lists = λ (value : Value). list_of value (index_of l.fn.value_type (records l.fn.store) l.fn.root) in
+    let each = put_records lists l.doc in
+    let form = put_forms l.dense lists l.doc in
     record {
       adds : AddsSoFar l.fn.value_type (ledger l.fn.store) (ledger l.store) (records l.fn.store) (records l.store) l.fn.root l.next l.doc l.new.entries l.value-iterator;
-      counts : CountsSoFar 34 each (ledger l.fn.store) (ledger l.store) (is_added (get value_cmp l.old)) l.new.entries l.value-iterator;
+      plain : l.dense ≡ false → IsPlainIndex (records l.store) l.next;
+      counts : CountsSoFar 34 each form (ledger l.fn.store) (ledger l.store) (is_added (get value_cmp l.old)) l.new.entries l.value-iterator;
       low : (levels : ℕ) → AddsLow levels (index_of l.fn.value_type (records l.fn.store) l.fn.root) l.doc l.new.entries
-          → CountsSoFar (value_nodes levels) each (ledger l.fn.store) (ledger l.store) (is_added (get value_cmp l.old)) l.new.entries l.value-iterator;
+          → CountsSoFar (value_nodes levels) each form (ledger l.fn.store) (ledger l.store) (is_added (get value_cmp l.old)) l.new.entries l.value-iterator;
     }

@@ -3,7 +3,7 @@ use Rattle.std.specs.Prelude.{is_some}
 use Rattle.std.proofs.lemmas.Result.{err_from_is_err_and}
 use Rattle.attr_images.specs.Shapes.{shape_of, types_of}
 use Rattle.attr_types.specs.declared.field.TheConstants.{MOST_FIELDS}
-use Rattle.attribute_kinds.proofs.Opening.{stands_made, table_made}
+use Rattle.attribute_kinds.proofs.Opening.{forms_made, stands_made, table_made}
 use Rattle.attribute_kinds.proofs.attribute.Attribute+OFFSET_BITS+EntryStore+OFFSET_BITS+W.create.Goals as goal
 
 pub returns-in_default-clause-left : goal.returns-in_default-clause-left
@@ -51,6 +51,7 @@ invariant_of-result g c =
           (c.len.ensures ∙ sym (ap length is)) c.from_raw.ensures
           (subst (λ fs. 0 < length fs) (sym is) c.requires.some) (subst (λ fs. length fs ≤ MOST_FIELDS) (sym is) c.requires.few)
           (c.in_ok-store.ensures.shape ∙ c.requires.shape ∙ sym (ap (λ fs. shape_of (types_of fs)) is)) c.in_ok-store.ensures.new c.in_ok-store.ensures.work c.requires.fresh;
+      forms = forms_made c.field_law.ensures.plain g.row.OFFSET_BITS _ c.args.dense own c.in-Ok-empty_roots.roots.items c.len.result c.in-Ok-empty_roots.ensures (c.len.ensures ∙ sym (ap length is));
       plan_is = tt;
       last_is = tt;
       waits_is = sym (ap is_some c.in_ok-store.ensures.new.finished);
@@ -83,3 +84,9 @@ returns-in_err-store-clause-counts g c = let p = err_from_is_err_and c.from_resi
 
 pub returns-clause-counts : goal.returns-clause-counts
 returns-clause-counts g c = c.in_ok-store.ensures.new.counts
+
+pub returns-in_err-store-clause-dense : goal.returns-in_err-store-clause-dense
+returns-in_err-store-clause-dense g c = let p = err_from_is_err_and c.from_residual.result c.from_residual.ensures.1 in rw p.1 tt
+
+pub returns-clause-dense : goal.returns-clause-dense
+returns-clause-dense g c = refl

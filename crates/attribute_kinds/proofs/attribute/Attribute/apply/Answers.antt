@@ -1,5 +1,7 @@
-use Rattle.std.proofs.Common.{◌≡◌, ◌+◌, Ok, length, sym, ap, ap₂, subst, ◌∙◌, arith}
-use Rattle.std.specs.Prelude.{is_some}
+use Rattle.std.proofs.Common.{◌≡◌, ◌+◌, Option, Result, Ok, length, sym, ap, ap₂, subst, ◌∙◌, arith}
+use Rattle.std.specs.Prelude.{is_some, IfOk, Vec}
+use Rattle.std.specs.Option.{IfSome}
+use Rattle.std.specs.declared.alloc.Global.{Global}
 use Rattle.entry_ref.specs.Images.{words_at}
 use Rattle.entry_ref.specs.declared.images.Image.{Image}
 use Rattle.arena_api.specs.Works.{last_image}
@@ -12,7 +14,9 @@ use Rattle.attribute_kinds.specs.Calls.{RefusesOperation, applied_to}
 use Rattle.attr_steps.specs.Counts.{MakesOperation, SparesOperation}
 use Rattle.attr_steps.specs.Widths.{IsFullAmong, IsOperationWidth}
 use Rattle.attribute_kinds.specs.Counts.{LacksBuffers, NamesWidth, SparesOf}
-use Rattle.attr_steps.specs.Fields.{AreFields, OwnsFields, trees_of}
+use Rattle.attr_field.specs.declared.roots.FieldRoots.{FieldRoots}
+use Rattle.store_api.specs.declared.store.StoreError.{StoreError}
+use Rattle.attr_steps.specs.Fields.{AreFields, HaveForms, OwnsFields, trees_of}
 use Rattle.attr_steps.specs.Steps.{Stepped}
 use Rattle.attr_steps.specs.Views.{table_at}
 use Rattle.attribute_kinds.specs.Views.{AttributeView}
@@ -46,9 +50,12 @@ step-requires g c =
           (
             subst (λ xs. AreFields (records old) xs (trees_of xs c.deref.result.now)) fs (subst (λ xs. AreFields (records old) fields (trees_of fields xs)) rs holds.are_fields),
             (
-              subst (λ xs. OwnsFields (ledger old) (records old) (trees_of xs c.deref.result.now)) fs
-                  (subst (λ xs. OwnsFields (ledger old) (records old) (trees_of fields xs)) rs (holds_owns g.row.OFFSET_BITS (ledger old) (records old) fields trees inside.last.root holds)),
-              subst (λ xs. OpFits xs c.args.op.now) fs (subst (λ (v : AttributeView g.row.S.Denot). OpFits v.fields c.args.op.now) (sym c.self.view_is) c.requires.fits),
+              subst (λ xs. HaveForms inside.dense (records old) (trees_of xs c.deref.result.now)) fs (subst (λ xs. HaveForms inside.dense (records old) (trees_of fields xs)) rs c.self.invariant.forms),
+              (
+                subst (λ xs. OwnsFields (ledger old) (records old) (trees_of xs c.deref.result.now)) fs
+                    (subst (λ xs. OwnsFields (ledger old) (records old) (trees_of fields xs)) rs (holds_owns g.row.OFFSET_BITS (ledger old) (records old) fields trees inside.last.root holds)),
+                subst (λ xs. OpFits xs c.args.op.now) fs (subst (λ (v : AttributeView g.row.S.Denot). OpFits v.fields c.args.op.now) (sym c.self.view_is) c.requires.fits),
+              ),
             ),
           ),
         ),
@@ -78,8 +85,14 @@ invariant_of-self g c =
     (laws_of c.field_law.ensures.stays c.field_law.ensures.lawful c.field_law.ensures.keys) c.field_law.ensures.reaches (record { bits_are = g.met.S.Store.sized old; sealed = g.met.S.Store.finished old }) in
     let next = trees_of fields c.in-Ok-Some.roots.items in
     let settled = (g.met.S.Store.settled old c.self.invariant.stands.holds.unit).back in
+    let forms1 = subst (λ fs. IfOk c.step.result (λ made. IfSome made (λ (next : Vec (FieldRoots g.row.OFFSET_BITS) Global). HaveForms inside.dense (records new) (trees_of fs next.items)))) c.as_slice.ensures
+    c.step.ensures.forms in
+    let forms = subst (λ (r : Result (Option (Vec (FieldRoots g.row.OFFSET_BITS) Global)) StoreError). IfOk r (λ made. IfSome made
+    (λ (next : Vec (FieldRoots g.row.OFFSET_BITS) Global). HaveForms inside.dense (records new) (trees_of fields next.items))))
+    (c.in-Ok-Some.is ∙ ap Ok c.in-Ok-Some.field-0-is) forms1 in
     record {
       stands = now;
+      forms = forms;
       plan_is = if_some_map (IsUnderWay g.row.OFFSET_BITS (ledger old) (records old) trees) (IsUnderWay g.row.OFFSET_BITS (ledger new) (records new) next) inside.plan
           (λ plan under. under_stepped g.row.OFFSET_BITS (ledger old) (ledger new) (records old) (records new) fields trees next c.args.op.now inside.last.root plan c.step_law.ensures settled (g.met.S.Store.sized old)
           c.self.invariant.stands.holds now.holds c.step.ensures.keeps is.steps under) c.self.invariant.plan_is;
@@ -109,6 +122,7 @@ invariant_of-self-in-Ok-None g c =
       stands = stands_left (ledger old) (ledger new) (records old)
           (records new) fields inside.roots.items inside.roots.items inside.last.root inside.last.commit inside.last.operations c.self.invariant.stands c.step.ensures.keeps
           (subst (λ s. LeavesEntries (ledger old) (ledger s) (records old) (records s)) (sym is.store_is) (leaves_same (ledger old) (records old)));
+      forms = subst (λ s. HaveForms inside.dense (records s) trees) (sym is.store_is) c.self.invariant.forms;
       plan_is = if_some_map (IsUnderWay g.row.OFFSET_BITS (ledger old) (records old) trees) (IsUnderWay g.row.OFFSET_BITS (ledger new) (records new) trees) inside.plan
           (λ plan under. under_same g.row.OFFSET_BITS (ledger old) (ledger new) (records old) (records new) trees plan c.step.ensures.keeps (ap records is.store_is) under) c.self.invariant.plan_is;
       last_is = c.self.invariant.last_is;
@@ -131,6 +145,7 @@ invariant_of-self-in-Err g c =
     record {
       stands = stands_left (ledger old) (ledger new) (records old)
           (records new) fields inside.roots.items inside.roots.items inside.last.root inside.last.commit inside.last.operations c.self.invariant.stands c.step.ensures.keeps is.left;
+      forms = subst (λ f. HaveForms inside.dense f trees) (sym is.left.records) c.self.invariant.forms;
       plan_is = if_some_map (IsUnderWay g.row.OFFSET_BITS (ledger old) (records old) trees) (IsUnderWay g.row.OFFSET_BITS (ledger new) (records new) trees) inside.plan
           (λ plan under. under_same g.row.OFFSET_BITS (ledger old) (ledger new) (records old) (records new) trees plan c.step.ensures.keeps (is.left.records) under) c.self.invariant.plan_is;
       last_is = c.self.invariant.last_is;
@@ -262,6 +277,7 @@ returns-in-Ok-None-clause-skips g c =
     let seen : g.row.S.Denot → AttributeView g.row.S.Denot = λ s. record {
       store = s;
       fields = fields;
+      dense = inside.dense;
       trees = trees;
       table = table_at (records s) trees;
       operations = inside.operations + 1;
@@ -328,6 +344,7 @@ returns-in-Err-clause-left g c =
     let seen : _ → _ → AttributeView g.row.S.Denot = λ t k. record {
       store = new;
       fields = fields;
+      dense = inside.dense;
       trees = trees;
       table = t;
       operations = inside.operations;
@@ -413,9 +430,9 @@ returns-in-Ok-Some-clause-counts g c =
     let fields = inside.fields in
     let trees = trees_of fields inside.roots.items in
     let op = c.args.op.now in
-    let made = subst (λ fs. MakesOperation (ledger old) (ledger new) fs (table_at (records old) (trees_of fs inside.roots.items)) op) c.as_slice.ensures
-    (subst (λ rs. MakesOperation (ledger old) (ledger new) c.as_slice.result.now (table_at (records old) (trees_of c.as_slice.result.now rs)) op) c.deref.ensures.value c.step.ensures.counts) in
-    subst (λ (v : AttributeView g.row.S.Denot). MakesOperation (ledger v.store) (ledger new) v.fields v.table op) c.self.view_is made
+    let made = subst (λ fs. MakesOperation inside.dense (ledger old) (ledger new) fs (table_at (records old) (trees_of fs inside.roots.items)) op) c.as_slice.ensures
+    (subst (λ rs. MakesOperation inside.dense (ledger old) (ledger new) c.as_slice.result.now (table_at (records old) (trees_of c.as_slice.result.now rs)) op) c.deref.ensures.value c.step.ensures.counts) in
+    subst (λ (v : AttributeView g.row.S.Denot). MakesOperation v.dense (ledger v.store) (ledger new) v.fields v.table op) c.self.view_is made
 
 pub returns-in-Ok-None-clause-counts : goal.returns-in-Ok-None-clause-counts
 returns-in-Ok-None-clause-counts g c =
@@ -427,9 +444,9 @@ returns-in-Ok-None-clause-counts g c =
     let fields = inside.fields in
     let trees = trees_of fields inside.roots.items in
     let op = c.args.op.now in
-    let made = subst (λ fs. MakesOperation (ledger old) (ledger new) fs (table_at (records old) (trees_of fs inside.roots.items)) op) c.as_slice.ensures
-    (subst (λ rs. MakesOperation (ledger old) (ledger new) c.as_slice.result.now (table_at (records old) (trees_of c.as_slice.result.now rs)) op) c.deref.ensures.value c.step.ensures.counts) in
-    subst (λ (v : AttributeView g.row.S.Denot). MakesOperation (ledger v.store) (ledger new) v.fields v.table op) c.self.view_is made
+    let made = subst (λ fs. MakesOperation inside.dense (ledger old) (ledger new) fs (table_at (records old) (trees_of fs inside.roots.items)) op) c.as_slice.ensures
+    (subst (λ rs. MakesOperation inside.dense (ledger old) (ledger new) c.as_slice.result.now (table_at (records old) (trees_of c.as_slice.result.now rs)) op) c.deref.ensures.value c.step.ensures.counts) in
+    subst (λ (v : AttributeView g.row.S.Denot). MakesOperation v.dense (ledger v.store) (ledger new) v.fields v.table op) c.self.view_is made
 
 pub returns-in-Err-clause-counts : goal.returns-in-Err-clause-counts
 returns-in-Err-clause-counts g c =
@@ -441,9 +458,9 @@ returns-in-Err-clause-counts g c =
     let fields = inside.fields in
     let trees = trees_of fields inside.roots.items in
     let op = c.args.op.now in
-    let made = subst (λ fs. MakesOperation (ledger old) (ledger new) fs (table_at (records old) (trees_of fs inside.roots.items)) op) c.as_slice.ensures
-    (subst (λ rs. MakesOperation (ledger old) (ledger new) c.as_slice.result.now (table_at (records old) (trees_of c.as_slice.result.now rs)) op) c.deref.ensures.value c.step.ensures.counts) in
-    subst (λ (v : AttributeView g.row.S.Denot). MakesOperation (ledger v.store) (ledger new) v.fields v.table op) c.self.view_is made
+    let made = subst (λ fs. MakesOperation inside.dense (ledger old) (ledger new) fs (table_at (records old) (trees_of fs inside.roots.items)) op) c.as_slice.ensures
+    (subst (λ rs. MakesOperation inside.dense (ledger old) (ledger new) c.as_slice.result.now (table_at (records old) (trees_of c.as_slice.result.now rs)) op) c.deref.ensures.value c.step.ensures.counts) in
+    subst (λ (v : AttributeView g.row.S.Denot). MakesOperation v.dense (ledger v.store) (ledger new) v.fields v.table op) c.self.view_is made
 
 pub returns-in-Err-clause-spares : goal.returns-in-Err-clause-spares
 returns-in-Err-clause-spares g c =
@@ -455,11 +472,11 @@ returns-in-Err-clause-spares g c =
     let fields = inside.fields in
     let trees = trees_of fields inside.roots.items in
     let op = c.args.op.now in
-    let few = subst (λ fs. SparesOperation (ledger new) fs (table_at (records old) (trees_of fs inside.roots.items)) op c.in-Err.error) c.as_slice.ensures
-    (subst (λ rs. SparesOperation (ledger new) c.as_slice.result.now (table_at (records old) (trees_of c.as_slice.result.now rs)) op c.in-Err.error) c.deref.ensures.value c.in-Err.ensures.spares) in
-    let spares = spares_operation (ledger new) fields (table_at (records old) trees) op c.in-Err.error few in
-    subst (λ (v : AttributeView g.row.S.Denot). SparesOf (ledger new) v.fields v.table op c.refusal.result) c.self.view_is
-    (subst (λ a. SparesOf (ledger new) fields (table_at (records old) trees) op a) (sym c.refusal.ensures) spares)
+    let few = subst (λ fs. SparesOperation inside.dense (ledger new) fs (table_at (records old) (trees_of fs inside.roots.items)) op c.in-Err.error) c.as_slice.ensures
+    (subst (λ rs. SparesOperation inside.dense (ledger new) c.as_slice.result.now (table_at (records old) (trees_of c.as_slice.result.now rs)) op c.in-Err.error) c.deref.ensures.value c.in-Err.ensures.spares) in
+    let spares = spares_operation inside.dense (ledger new) fields (table_at (records old) trees) op c.in-Err.error few in
+    subst (λ (v : AttributeView g.row.S.Denot). SparesOf v.dense (ledger new) v.fields v.table op c.refusal.result) c.self.view_is
+    (subst (λ a. SparesOf inside.dense (ledger new) fields (table_at (records old) trees) op a) (sym c.refusal.ensures) spares)
 
 pub returns-in-Err-clause-widths : goal.returns-in-Err-clause-widths
 returns-in-Err-clause-widths g c =
@@ -469,10 +486,10 @@ returns-in-Err-clause-widths g c =
     let fields = inside.fields in
     let trees = trees_of fields inside.roots.items in
     let op = c.args.op.now in
-    let full = subst (λ fs. IsFullAmong (IsOperationWidth fs (table_at (records old) (trees_of fs inside.roots.items)) op) c.in-Err.error) c.as_slice.ensures
-    (subst (λ rs. IsFullAmong (IsOperationWidth c.as_slice.result.now (table_at (records old) (trees_of c.as_slice.result.now rs)) op) c.in-Err.error) c.deref.ensures.value c.in-Err.ensures.widths) in
-    subst (λ (v : AttributeView g.row.S.Denot). NamesWidth v.fields v.table op c.refusal.result) c.self.view_is
-    (subst (λ a. NamesWidth fields (table_at (records old) trees) op a) (sym c.refusal.ensures) (names_width fields (table_at (records old) trees) op c.in-Err.error full))
+    let full = subst (λ fs. IsFullAmong (IsOperationWidth inside.dense fs (table_at (records old) (trees_of fs inside.roots.items)) op) c.in-Err.error) c.as_slice.ensures
+    (subst (λ rs. IsFullAmong (IsOperationWidth inside.dense c.as_slice.result.now (table_at (records old) (trees_of c.as_slice.result.now rs)) op) c.in-Err.error) c.deref.ensures.value c.in-Err.ensures.widths) in
+    subst (λ (v : AttributeView g.row.S.Denot). NamesWidth v.dense v.fields v.table op c.refusal.result) c.self.view_is
+    (subst (λ a. NamesWidth inside.dense fields (table_at (records old) trees) op a) (sym c.refusal.ensures) (names_width inside.dense fields (table_at (records old) trees) op c.in-Err.error full))
 
 pub returns-in-Err-clause-room : goal.returns-in-Err-clause-room
 returns-in-Err-clause-room g c =
@@ -484,8 +501,8 @@ returns-in-Err-clause-room g c =
     let fields = inside.fields in
     let trees = trees_of fields inside.roots.items in
     let op = c.args.op.now in
-    let made = subst (λ fs. MakesOperation (ledger old) (ledger new) fs (table_at (records old) (trees_of fs inside.roots.items)) op) c.as_slice.ensures
-    (subst (λ rs. MakesOperation (ledger old) (ledger new) c.as_slice.result.now (table_at (records old) (trees_of c.as_slice.result.now rs)) op) c.deref.ensures.value c.step.ensures.counts) in
+    let made = subst (λ fs. MakesOperation inside.dense (ledger old) (ledger new) fs (table_at (records old) (trees_of fs inside.roots.items)) op) c.as_slice.ensures
+    (subst (λ rs. MakesOperation inside.dense (ledger old) (ledger new) c.as_slice.result.now (table_at (records old) (trees_of c.as_slice.result.now rs)) op) c.deref.ensures.value c.step.ensures.counts) in
     let first = subst (λ rs. Stepped c.as_slice.result.now (ledger old) (ledger new) (records old) (records new) (trees_of c.as_slice.result.now rs) op (new ≡ old) c.step.result)
     c.deref.ensures.value c.step.ensures.steps in
     let steps = subst (λ fs. Stepped fs (ledger old) (ledger new) (records old) (records new) (trees_of fs inside.roots.items) op (new ≡ old) c.step.result) c.as_slice.ensures first in
@@ -493,10 +510,10 @@ returns-in-Err-clause-room g c =
     let sound = trees_sound (records old) (laws_of c.field_law.ensures.stays c.field_law.ensures.lawful c.field_law.ensures.keys) fields inside.roots.items c.self.invariant.stands.sized
     c.self.invariant.stands.holds.are_fields in
     let fits = subst (λ (v : AttributeView g.row.S.Denot). OpFits v.fields op) (sym c.self.view_is) c.requires.fits in
-    let lacks = lacks_buffers (ledger old) (ledger new) fields (table_at (records old) trees) op c.in-Err.error sound fits (g.met.S.Store.counted old) (g.met.S.Store.counted new)
+    let lacks = lacks_buffers inside.dense (ledger old) (ledger new) fields (table_at (records old) trees) op c.in-Err.error sound fits (g.met.S.Store.counted old) (g.met.S.Store.counted new)
     (g.met.S.Store.limits old).some_words c.step.ensures.keeps is.refused made in
-    subst (λ (v : AttributeView g.row.S.Denot). LacksBuffers (ledger v.store) v.fields c.refusal.result) c.self.view_is
-    (subst (λ a. LacksBuffers (ledger old) fields a) (sym c.refusal.ensures) lacks)
+    subst (λ (v : AttributeView g.row.S.Denot). LacksBuffers v.dense (ledger v.store) v.fields v.table op c.refusal.result) c.self.view_is
+    (subst (λ a. LacksBuffers inside.dense (ledger old) fields (table_at (records old) trees) op a) (sym c.refusal.ensures) lacks)
 
 pub returns-in-Ok-Some-clause-plan : goal.returns-in-Ok-Some-clause-plan
 returns-in-Ok-Some-clause-plan g c =
@@ -509,3 +526,12 @@ returns-in-Ok-None-clause-plan g c =
 pub returns-in-Err-clause-plan : goal.returns-in-Err-clause-plan
 returns-in-Err-clause-plan g c =
     ap (λ (v : AttributeView g.row.S.Denot). v.plan) c.self.view_is
+
+pub returns-in-Ok-Some-clause-dense : goal.returns-in-Ok-Some-clause-dense
+returns-in-Ok-Some-clause-dense g c = ap (λ (v : AttributeView g.row.S.Denot). v.dense) c.self.view_is
+
+pub returns-in-Ok-None-clause-dense : goal.returns-in-Ok-None-clause-dense
+returns-in-Ok-None-clause-dense g c = ap (λ (v : AttributeView g.row.S.Denot). v.dense) c.self.view_is
+
+pub returns-in-Err-clause-dense : goal.returns-in-Err-clause-dense
+returns-in-Err-clause-dense g c = ap (λ (v : AttributeView g.row.S.Denot). v.dense) c.self.view_is

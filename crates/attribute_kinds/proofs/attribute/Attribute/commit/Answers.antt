@@ -11,7 +11,8 @@ use Rattle.attr_types.specs.declared.field.TheConstants.{MOST_FIELDS}
 use Rattle.attr_steps.specs.Calls.{KeepsStore, LeavesEntries}
 use Rattle.attribute_kinds.specs.Calls.{CommitsImage, IsForRoot, HasNoCommitLeft, RefusesCommit}
 use Rattle.attr_steps.specs.Commits.{CommitsAttributes, IsForWidth}
-use Rattle.attr_steps.specs.Fields.{HoldsAttributes, trees_of}
+use Rattle.attr_steps.proofs.Referring.{forms_stay}
+use Rattle.attr_steps.specs.Fields.{HaveForms, HoldsAttributes, trees_of}
 use Rattle.attr_steps.specs.Views.{table_at}
 use Rattle.attribute_kinds.specs.Views.{AttributeView}
 use Rattle.attribute_kinds.proofs.CommitViews.{for_root, image_committed, refuses_commit, spent_same, stands_committed, table_committed}
@@ -118,6 +119,7 @@ invariant_of-self g c =
     record {
       stands = stands_committed (ledger old) (ledger new) (records old) (records new) fields inside.roots.items inside.operations inside.last.root inside.last.commit inside.last.operations c.in-Ok.made.0 c.in-Ok.made.1
           c.self.invariant.stands made;
+      forms = forms_stay c.field_law.ensures.form inside.dense (records old) (records new) trees made.stay c.self.invariant.forms;
       plan_is = if_some_map (IsUnderWay g.row.OFFSET_BITS (ledger old) (records old) trees) (IsUnderWay g.row.OFFSET_BITS (ledger new) (records new) trees) inside.plan
           (λ plan under. under_committed g.row.OFFSET_BITS (ledger old) (ledger new) (records old)
           (records new) fields trees inside.operations inside.last.root c.in-Ok.made.0 c.in-Ok.made.1 plan c.same_law.ensures.all c.self.invariant.stands.holds made under) c.self.invariant.plan_is;
@@ -137,6 +139,7 @@ invariant_of-self-in-Err g c =
     record {
       stands = stands_left (ledger old) (ledger new) (records old)
           (records new) fields inside.roots.items inside.roots.items inside.last.root inside.last.commit inside.last.operations c.self.invariant.stands c.in-Err.ensures.keeps c.in-Err.ensures.left;
+      forms = subst (λ f. HaveForms inside.dense f trees) (sym c.in-Err.ensures.left.records) c.self.invariant.forms;
       plan_is = if_some_map (IsUnderWay g.row.OFFSET_BITS (ledger old) (records old) trees) (IsUnderWay g.row.OFFSET_BITS (ledger new) (records new) trees) inside.plan
           (λ plan under. under_same g.row.OFFSET_BITS (ledger old) (ledger new) (records old) (records new) trees plan c.in-Err.ensures.keeps c.in-Err.ensures.left.records under) c.self.invariant.plan_is;
       last_is = c.self.invariant.last_is;
@@ -291,6 +294,7 @@ returns-in-Err-clause-left g c =
     let seen : _ → _ → AttributeView g.row.S.Denot = λ t k. record {
       store = new;
       fields = fields;
+      dense = inside.dense;
       trees = trees;
       table = t;
       operations = inside.operations;
@@ -393,3 +397,12 @@ returns-in-Err-clause-makes g c =
 
 pub returns-in-Err-clause-trees : goal.returns-in-Err-clause-trees
 returns-in-Err-clause-trees g c = ap (λ (v : AttributeView g.row.S.Denot). v.trees) c.self.view_is
+
+pub returns-then-commits_left-eq0-clause-dense : goal.returns-then-commits_left-eq0-clause-dense
+returns-then-commits_left-eq0-clause-dense g c = refl
+
+pub returns-in-Ok-clause-dense : goal.returns-in-Ok-clause-dense
+returns-in-Ok-clause-dense g c = ap (λ (v : AttributeView g.row.S.Denot). v.dense) c.self.view_is
+
+pub returns-in-Err-clause-dense : goal.returns-in-Err-clause-dense
+returns-in-Err-clause-dense g c = ap (λ (v : AttributeView g.row.S.Denot). v.dense) c.self.view_is

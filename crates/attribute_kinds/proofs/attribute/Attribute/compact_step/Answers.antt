@@ -12,13 +12,15 @@ use Rattle.attr_images.specs.Shapes.{shape_of, types_of}
 use Rattle.attr_types.specs.declared.field.Field.{Field}
 use Rattle.attr_types.specs.declared.field.TheConstants.{MOST_FIELDS}
 use Rattle.attr_steps.proofs.StepLemmas.{keeps_same}
-use Rattle.attr_steps.specs.Fields.{HoldsAttributes, trees_of}
-use Rattle.compact_steps.specs.Units.{IsUnderWay}
+use Rattle.attr_steps.specs.Fields.{HaveForms, HoldsAttributes, KeepForms, trees_of}
+use Rattle.compact_steps.specs.Units.{ArePlain, IsUnderWay}
 use Rattle.attr_steps.specs.Views.{table_at}
-use Rattle.compact_steps.proofs.KeyCounts.{keys_none}
+use Rattle.compact_steps.proofs.KeyCounts.{keys_none, keys_plain}
+use Rattle.compact_steps.proofs.PlainLemmas.{plain_by}
 use Rattle.compact_steps.specs.Counts.{MakesKeys}
 use Rattle.compact_steps.specs.Compactions.{Compacts, KeepsStoreBut}
 use Rattle.compact_steps.specs.Walks.{HasLastField}
+use Rattle.attribute_kinds.specs.Counts.{HasNoVectors}
 use Rattle.attribute_kinds.specs.Compacting.{CompactsTo, IsIdle, RefusesStep}
 use Rattle.attribute_kinds.specs.Standing.{IsAttribute}
 use Rattle.attribute_kinds.specs.Views.{AttributeView}
@@ -126,10 +128,15 @@ invariant_of-self g c =
     let made = subst (λ (xs : List (FieldRoots g.row.OFFSET_BITS)). Compacts g.row.OFFSET_BITS inside.last.root (ledger old) (ledger new) (records old) (records new) fields trees
     (trees_of fields xs) inside.plan c.compact-plan.result.0 (new ≡ old) c.args.keys c.compact-plan.result.1)
     (sym rs) made3 in
-    subst (λ w. IsAttribute (ledger new) (records new) fields others inside.last.root inside.last.commit inside.last.operations c.compact-plan.result.0 w) (sym c.has_finished-self-inside.ensures)
-    (attribute_told g.row.OFFSET_BITS ledger records fields inside.operations inside.last.root inside.last.operations old new inside.roots.items others inside.plan c.compact-plan.result.0 c.args.keys inside.last.commit
+    let forms1 = subst (λ (fs : List Field). KeepForms (records old) (records new) (trees_of fs c.deref_mut.result.now) (trees_of fs c.compact-plan.new.roots)) c.as_slice.ensures c.compact-plan.ensures.forms in
+    let forms = subst (λ (xs : List (FieldRoots g.row.OFFSET_BITS)). KeepForms (records old) (records new) (trees_of fields xs) (trees_of fields c.compact-plan.new.roots)) c.deref_mut.ensures.value forms1 in
+    subst (λ w. IsAttribute inside.dense (ledger new) (records new) fields others inside.last.root inside.last.commit inside.last.operations c.compact-plan.result.0 w) (sym c.has_finished-self-inside.ensures)
+    (attribute_told g.row.OFFSET_BITS ledger records fields inside.dense inside.operations inside.last.root inside.last.operations old new inside.roots.items others inside.plan c.compact-plan.result.0 c.args.keys
+    inside.last.commit
     c.compact-plan.result.1 c.self.invariant.stands unfinished
-    (ap length rs ∙ sized) made)
+    (ap length rs ∙ sized) made
+    (subst (λ (xs : List (FieldRoots g.row.OFFSET_BITS)). HaveForms inside.dense (records new) (trees_of fields xs)) (sym rs)
+    (forms inside.dense c.self.invariant.forms)))
 
 pub returns-clause-steps : goal.returns-clause-steps
 returns-clause-steps g c =
@@ -158,11 +165,12 @@ returns-clause-steps g c =
     (trees_of fields xs) inside.plan c.compact-plan.result.0 (new ≡ old) c.args.keys c.compact-plan.result.1)
     (sym rs) made3 in
     subst (λ (v : AttributeView g.row.S.Denot). IfOk c.told.result
-    (CompactsTo g.row.OFFSET_BITS ledger records v (seen g.row.OFFSET_BITS ledger records fields inside.operations inside.last.root inside.last.operations new next c.compact-plan.result.0) c.args.keys))
+    (CompactsTo g.row.OFFSET_BITS ledger records v (seen g.row.OFFSET_BITS ledger records fields inside.dense inside.operations inside.last.root inside.last.operations new next c.compact-plan.result.0) c.args.keys))
     c.self.view_is
-    (subst (λ r. IfOk r (CompactsTo g.row.OFFSET_BITS ledger records (seen g.row.OFFSET_BITS ledger records fields inside.operations inside.last.root inside.last.operations old trees inside.plan)
-    (seen g.row.OFFSET_BITS ledger records fields inside.operations inside.last.root inside.last.operations new next c.compact-plan.result.0) c.args.keys)) (sym c.told.ensures)
-    (steps_told g.row.OFFSET_BITS ledger records fields inside.operations inside.last.root inside.last.operations old new trees next inside.plan c.compact-plan.result.0 c.args.keys c.compact-plan.result.1 made))
+    (subst (λ r. IfOk r (CompactsTo g.row.OFFSET_BITS ledger records (seen g.row.OFFSET_BITS ledger records fields inside.dense inside.operations inside.last.root inside.last.operations old trees inside.plan)
+    (seen g.row.OFFSET_BITS ledger records fields inside.dense inside.operations inside.last.root inside.last.operations new next c.compact-plan.result.0) c.args.keys)) (sym c.told.ensures)
+    (steps_told g.row.OFFSET_BITS ledger records fields inside.dense inside.operations inside.last.root inside.last.operations old new trees next inside.plan c.compact-plan.result.0 c.args.keys
+    c.compact-plan.result.1 made))
 
 pub returns-clause-refuses : goal.returns-clause-refuses
 returns-clause-refuses g c =
@@ -191,10 +199,11 @@ returns-clause-refuses g c =
     (trees_of fields xs) inside.plan c.compact-plan.result.0 (new ≡ old) c.args.keys c.compact-plan.result.1)
     (sym rs) made3 in
     subst (λ (v : AttributeView g.row.S.Denot). IfErr c.told.result
-    (RefusesStep g.row.OFFSET_BITS ledger records v (seen g.row.OFFSET_BITS ledger records fields inside.operations inside.last.root inside.last.operations new next c.compact-plan.result.0))) c.self.view_is
-    (subst (λ r. IfErr r (RefusesStep g.row.OFFSET_BITS ledger records (seen g.row.OFFSET_BITS ledger records fields inside.operations inside.last.root inside.last.operations old trees inside.plan)
-    (seen g.row.OFFSET_BITS ledger records fields inside.operations inside.last.root inside.last.operations new next c.compact-plan.result.0))) (sym c.told.ensures)
-    (refuses_told g.row.OFFSET_BITS ledger records fields inside.operations inside.last.root inside.last.operations old new trees next inside.plan c.compact-plan.result.0 c.args.keys c.compact-plan.result.1 made))
+    (RefusesStep g.row.OFFSET_BITS ledger records v (seen g.row.OFFSET_BITS ledger records fields inside.dense inside.operations inside.last.root inside.last.operations new next c.compact-plan.result.0))) c.self.view_is
+    (subst (λ r. IfErr r (RefusesStep g.row.OFFSET_BITS ledger records (seen g.row.OFFSET_BITS ledger records fields inside.dense inside.operations inside.last.root inside.last.operations old trees inside.plan)
+    (seen g.row.OFFSET_BITS ledger records fields inside.dense inside.operations inside.last.root inside.last.operations new next c.compact-plan.result.0))) (sym c.told.ensures)
+    (refuses_told g.row.OFFSET_BITS ledger records fields inside.dense inside.operations inside.last.root inside.last.operations old new trees next inside.plan c.compact-plan.result.0 c.args.keys
+    c.compact-plan.result.1 made))
 
 pub returns-clause-idle : goal.returns-clause-idle
 returns-clause-idle g c =
@@ -222,7 +231,7 @@ returns-clause-idle g c =
     let made = subst (λ (xs : List (FieldRoots g.row.OFFSET_BITS)). Compacts g.row.OFFSET_BITS inside.last.root (ledger old) (ledger new) (records old) (records new) fields trees
     (trees_of fields xs) inside.plan c.compact-plan.result.0 (new ≡ old) c.args.keys c.compact-plan.result.1)
     (sym rs) made3 in
-    λ idle. c.told.ensures ∙ idle_told g.row.OFFSET_BITS ledger records fields inside.operations inside.last.root inside.last.operations old new trees next inside.plan c.compact-plan.result.0 c.args.keys
+    λ idle. c.told.ensures ∙ idle_told g.row.OFFSET_BITS ledger records fields inside.dense inside.operations inside.last.root inside.last.operations old new trees next inside.plan c.compact-plan.result.0 c.args.keys
     c.compact-plan.result.1 made unfinished
     (subst (λ (v : AttributeView g.row.S.Denot). IsIdle g.row.OFFSET_BITS (ledger v.store) v.plan) (sym c.self.view_is) idle)
 
@@ -253,7 +262,8 @@ returns-clause-keeps g c =
     (trees_of fields xs) inside.plan c.compact-plan.result.0 (new ≡ old) c.args.keys c.compact-plan.result.1)
     (sym rs) made3 in
     subst (λ (v : AttributeView g.row.S.Denot). KeepsStoreBut (ledger v.store) (ledger new)) c.self.view_is
-    (keeps_told g.row.OFFSET_BITS ledger records fields inside.operations inside.last.root inside.last.operations old new trees next inside.plan c.compact-plan.result.0 c.args.keys c.compact-plan.result.1 made)
+    (keeps_told g.row.OFFSET_BITS ledger records fields inside.dense inside.operations inside.last.root inside.last.operations old new trees next inside.plan c.compact-plan.result.0 c.args.keys
+    c.compact-plan.result.1 made)
 
 pub returns-clause-table : goal.returns-clause-table
 returns-clause-table g c =
@@ -281,7 +291,8 @@ returns-clause-table g c =
     let made = subst (λ (xs : List (FieldRoots g.row.OFFSET_BITS)). Compacts g.row.OFFSET_BITS inside.last.root (ledger old) (ledger new) (records old) (records new) fields trees
     (trees_of fields xs) inside.plan c.compact-plan.result.0 (new ≡ old) c.args.keys c.compact-plan.result.1)
     (sym rs) made3 in
-    table_told g.row.OFFSET_BITS ledger records fields inside.operations inside.last.root inside.last.operations old new trees next inside.plan c.compact-plan.result.0 c.args.keys c.compact-plan.result.1 made
+    table_told g.row.OFFSET_BITS ledger records fields inside.dense inside.operations inside.last.root inside.last.operations old new trees next inside.plan c.compact-plan.result.0 c.args.keys c.compact-plan.result.1
+    made
     ∙ ap (λ (v : AttributeView g.row.S.Denot). v.table) c.self.view_is
 
 pub returns-clause-operations : goal.returns-clause-operations
@@ -322,7 +333,8 @@ returns-clause-committed g c =
     let made = subst (λ (xs : List (FieldRoots g.row.OFFSET_BITS)). Compacts g.row.OFFSET_BITS inside.last.root (ledger old) (ledger new) (records old) (records new) fields trees
     (trees_of fields xs) inside.plan c.compact-plan.result.0 (new ≡ old) c.args.keys c.compact-plan.result.1)
     (sym rs) made3 in
-    let keeps = keeps_told g.row.OFFSET_BITS ledger records fields inside.operations inside.last.root inside.last.operations old new trees next inside.plan c.compact-plan.result.0 c.args.keys c.compact-plan.result.1
+    let keeps = keeps_told g.row.OFFSET_BITS ledger records fields inside.dense inside.operations inside.last.root inside.last.operations old new trees next inside.plan c.compact-plan.result.0 c.args.keys
+    c.compact-plan.result.1
     made in
     ap (λ (i : Image). table_of (shape_of (types_of fields)) (words_at i) inside.last.root) keeps.commits.image ∙ ap (λ (v : AttributeView g.row.S.Denot). v.committed) c.self.view_is
 
@@ -337,6 +349,17 @@ returns-clause-makes g c =
     let old = inside.store in
     let new = c.compact-plan.new.store in
     let fields = inside.fields in
-    let first = subst (λ (fs : List Field). MakesKeys fs (table_at (records old) (trees_of fs c.deref_mut.result.now)) (ledger old) (ledger new) c.args.keys) c.as_slice.ensures c.compact-plan.ensures.counts in
-    let made = subst (λ (xs : List (FieldRoots g.row.OFFSET_BITS)). MakesKeys fields (table_at (records old) (trees_of fields xs)) (ledger old) (ledger new) c.args.keys) c.deref_mut.ensures.value first in
-    subst (λ (v : AttributeView g.row.S.Denot). MakesKeys v.fields v.table (ledger v.store) (ledger new) c.args.keys) c.self.view_is made
+    let trees = trees_of fields inside.roots.items in
+    let first = subst (λ (fs : List Field). MakesKeys (ArePlain (records old) (trees_of fs c.deref_mut.result.now)) fs (table_at (records old) (trees_of fs c.deref_mut.result.now)) (ledger old) (ledger new) c.args.keys)
+    c.as_slice.ensures c.compact-plan.ensures.counts in
+    let made = subst (λ (xs : List (FieldRoots g.row.OFFSET_BITS)). MakesKeys (ArePlain (records old) (trees_of fields xs)) fields (table_at (records old) (trees_of fields xs)) (ledger old) (ledger new) c.args.keys)
+    c.deref_mut.ensures.value first in
+    let plain = keys_plain fields (table_at (records old) trees) (ledger old) (ledger new) c.args.keys
+    (plain_by inside.dense (records old) fields trees c.self.invariant.stands.holds.are_fields c.self.invariant.forms) made in
+    subst (λ (v : AttributeView g.row.S.Denot). MakesKeys (HasNoVectors v.dense v.table) v.fields v.table (ledger v.store) (ledger new) c.args.keys) c.self.view_is plain
+
+pub returns-then-self-clause-dense : goal.returns-then-self-clause-dense
+returns-then-self-clause-dense g c = refl
+
+pub returns-clause-dense : goal.returns-clause-dense
+returns-clause-dense g c = ap (λ (v : AttributeView g.row.S.Denot). v.dense) c.self.view_is

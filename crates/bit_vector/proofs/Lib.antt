@@ -1,0 +1,13 @@
+pub mod DocumentLemmas
+pub mod BitLemmas
+pub mod VectorLemmas
+pub mod KeepLemmas
+pub mod TurnLemmas
+pub mod CountLemmas
+pub mod WalkLemmas
+pub mod SetLemmas
+pub mod OnesLemmas
+pub mod FillLemmas
+pub mod DropLemmas
+pub mod GatherLemmas
+pub mod MoveLemmas

@@ -1,0 +1,54 @@
+use Rattle.std.proofs.Common.{◌≡◌, ◌++◌, [], ◌∷◌, ℕ, List, length, drop, sym, ap, subst, ◌∙◌, arith}
+use Rattle.std.proofs.lemmas.List.{append-nil}
+use Rattle.attr_images.specs.Postings.{vector_documents}
+use Rattle.bit_vector.specs.Walks.{documents_from, first_document, IsVectorPlace}
+use Rattle.bit_vector.proofs.DropLemmas.{not_end}
+use Rattle.bit_vector.proofs.WalkLemmas.{fewer_documents, more_documents}
+use Rattle.bit_vector.proofs.converting.documents_of.Goals as goal
+
+pub loop-cursor-init : goal.loop-cursor-init
+loop-cursor-init g c =
+    let m = g.F.Frozen.records c.args.frozen.now in
+    record {
+      same = c.first-cursor.ensures.same;
+      place = c.first-cursor.ensures.place;
+      done = ap (λ (xs : List ℕ). xs ++ documents_from m c.first-cursor.result) c.new-docs.ensures.items ∙ c.first-cursor.ensures.documents;
+    }
+
+pub next-requires : goal.next-requires
+next-requires g c =
+    let records = g.F.Frozen.records in
+    let inv = c.loop-cursor.invariant in
+    (omega arith, (subst (λ f. IsVectorPlace (records f) c.loop-cursor.cursor) (sym inv.same) inv.place, c.at_end.ensures.follows c.loop-cursor-test.true))
+
+pub loop-cursor-smaller : goal.loop-cursor-smaller
+loop-cursor-smaller g c =
+    let records = g.F.Frozen.records in
+    let m = records c.args.frozen.now in
+    let inv = c.loop-cursor.invariant in
+    let rest = documents_from m c.loop-cursor.cursor in
+    let some = not_end rest c.at_end.result (c.at_end.ensures.documents m inv.place).1 c.loop-cursor-test.true in
+    let behind = subst (λ f. documents_from (records f) c.next.new.self ≡ drop 1 (documents_from (records f) c.loop-cursor.cursor)) inv.same c.next.ensures.documents in
+    fewer_documents rest (documents_from m c.next.new.self) some behind
+
+pub loop-cursor-preserved : goal.loop-cursor-preserved
+loop-cursor-preserved g c =
+    let records = g.F.Frozen.records in
+    let m = records c.args.frozen.now in
+    let inv = c.loop-cursor.invariant in
+    let rest = documents_from m c.loop-cursor.cursor in
+    let some = not_end rest c.at_end.result (c.at_end.ensures.documents m inv.place).1 c.loop-cursor-test.true in
+    let behind = subst (λ f. documents_from (records f) c.next.new.self ≡ drop 1 (documents_from (records f) c.loop-cursor.cursor)) inv.same c.next.ensures.documents in
+    record {
+      same = c.next.ensures.same ∙ inv.same;
+      place = subst (λ f. IsVectorPlace (records f) c.next.new.self) inv.same c.next.ensures.place;
+      done = more_documents c.loop-cursor.docs.items c.push.new.self.items rest (documents_from m c.next.new.self) (vector_documents m c.args.root) c.number.result some
+          (c.number.ensures.number ∙ c.doc.ensures m inv.place) behind c.in_ok-push.ensures.items inv.done;
+    }
+
+pub returns-clause-documents : goal.returns-clause-documents
+returns-clause-documents g c =
+    let m = g.F.Frozen.records c.args.frozen.now in
+    let inv = c.loop-cursor.invariant in
+    let none = (c.at_end.ensures.documents m inv.place).0 c.loop-cursor-test.false in
+    sym (append-nil c.loop-cursor.docs.items) ∙ ap (λ (ds : List ℕ). c.loop-cursor.docs.items ++ ds) (sym none) ∙ inv.done
