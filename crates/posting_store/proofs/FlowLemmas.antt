@@ -1,5 +1,5 @@
 -- Where the old records of a list come from: blocks from the same blocks, and none where the form changed.
-use Rattle.std.proofs.Common.{◌≡◌, ◌≢◌, ℕ, zero, suc, ◌+◌, ◌-◌, ◌%◌, ◌<◌, ◌≤◌, Bool, true, false, true≢false, List, [], ◌∷◌, map, length, Option, None, Some, inl, inr, ◌⊎◌, refl, sym, ap, subst, ◌∙◌, arith}
+use Rattle.std.proofs.Common.{◌≡◌, ◌≢◌, ℕ, zero, suc, ◌+◌, ◌-◌, ◌%◌, Bool, true, false, true≢false, List, [], ◌∷◌, map, length, Option, None, Some, inl, inr, ◌⊎◌, refl, sym, ap, subst, ◌∙◌, arith}
 use Rattle.entry_ref.specs.Records.{Records, SameAt, Among}
 use Rattle.tree_read.specs.Pairs.{lookup}
 use Rattle.tree_read.specs.ProofsForTrees.{SameAt-left, tree_pairs-same}
