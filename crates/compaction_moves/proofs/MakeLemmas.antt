@@ -171,6 +171,7 @@ module _ {H : Type 0} (a b : Ledger H) (m : Records) (kind : Kind) (type : Value
     width = width;
     narrow = λ plain. narrow;
     counts = within_more a b (by_width (key_nodes 8) (one_record width)) (by_width most_nodes (one_record width)) (λ w. few_most (nat_eq w 34) (one_record width w)) (makes 8 few);
+    trees = λ plain. makes 8 few;
     low = λ plain most is. makes most (low most is);
   }
 
@@ -206,6 +207,7 @@ module _ {H : Type 0} (a b : Ledger H) (m : Records) (kind : Kind) (type : Value
     narrow = λ plain. absurd (not_plain plain);
     counts = within_more a b (λ w. vector_most 1 moved_nodes w + nodes_most (levels m dictionary) w) (by_width most_nodes (one_record 64))
         (λ w. vector_nodes (levels m dictionary) w (levels_few m dictionary)) made;
+    trees = λ plain. absurd (not_plain plain);
     low = λ plain. absurd (not_plain plain);
   }
     where

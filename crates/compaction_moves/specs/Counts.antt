@@ -29,10 +29,11 @@ pub record IsLowColumn (levels : ℕ) (column : Column) : Type 0 where
   pub documents : length column < 2 * 8 ^ levels
 
 -- nodes are made, and one record of some width: for a value, a short list, a block of a bit vector, or a document's items.
--- If no list is a bit vector (`plain`), then nodes by the levels of trees, and for an attribute of kind single with long
--- values that width is at most 16
+-- If no list is a bit vector (`plain`), then the nodes are those of trees of 8 levels, or fewer by their levels, and for
+-- an attribute of kind single with long values that width is at most 16
 pub record MakesKey {H : Type 0} (plain : Type 0) (kind : Kind) (type : ValueType) (column : Column) (old new : Ledger H) : Type 0 where
   pub width : ℕ
   pub narrow : plain → kind ≡ Single → type ≡ Long → width ≤ 16
   pub counts : MakesWithin old new (by_width most_nodes (one_record width))
+  pub trees : plain → MakesWithin old new (by_width (key_nodes 8) (one_record width))
   pub low : plain → (levels : ℕ) → IsLowColumn levels column → MakesWithin old new (by_width (key_nodes levels) (one_record width))
