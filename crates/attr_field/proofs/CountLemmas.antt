@@ -226,7 +226,7 @@ module _ {H : Type 0} (kind : Kind) (column : Column) (start : Index) (doc count
   out_one entry = entry_step x e y made_added (items_record kind count) made_gone formed_added formed_gone b c d entry
 
 -- no weights were given
-module _ {H : Type 0} (kind : Kind) (column : Column) (start : Index) (doc : ℕ) (of : IsIndexOf column start) (old none : List (Value × ℤ)) (empty : none ≡ []) (dense : Bool) where
+module _ (kind : Kind) (column : Column) (start : Index) (doc : ℕ) (of : IsIndexOf column start) (old none : List (Value × ℤ)) (empty : none ≡ []) (dense : Bool) where
   abbrev gone_from : ℕ → Index → ℕ → ℕ
   gone_from per middle = besides (by_width (per * gone_count (entry_weight none) old) (gone_records (λ v. list_of v middle) doc (entry_weight none) old))
       (gone_forms dense (λ v. list_of v middle) doc (entry_weight none) old)
@@ -234,17 +234,18 @@ module _ {H : Type 0} (kind : Kind) (column : Column) (start : Index) (doc : ℕ
   abbrev out_most : ℕ → ℕ → ℕ
   out_most nodes = besides (by_width nodes (field_records kind column doc 0 old [])) (field_forms dense column doc old [])
 
-  out_empty : (per e : ℕ) (b c d : Ledger H) (middle : Index) → IsBetween start doc (entry_weight none) (λ v. None) middle → MayDo b c → MakesWithin b c (by_width e (λ w. 0))
-      → MakesWithin c d (gone_from per middle) → MakesWithin b d (out_most (per * new_values old [] + e + per * lost_values old []))
-  out_empty per e b c d middle between may entry gone =
-      subst (λ (es : List (Value × ℤ)). MakesWithin b d (besides (by_width (per * new_values old es + e + per * lost_values old es) (field_records kind column doc 0 old es))
-      (field_forms dense column doc old es))) empty
-      (out_two kind column start doc 0 of old none dense (per * new_values old none) e (per * lost_values old none) b b c d middle between may entry gone)
+  module _ {H : Type 0} where
+    out_empty : (per e : ℕ) (b c d : Ledger H) (middle : Index) → IsBetween start doc (entry_weight none) (λ v. None) middle → MayDo b c → MakesWithin b c (by_width e (λ w. 0))
+        → MakesWithin c d (gone_from per middle) → MakesWithin b d (out_most (per * new_values old [] + e + per * lost_values old []))
+    out_empty per e b c d middle between may entry gone =
+        subst (λ (es : List (Value × ℤ)). MakesWithin b d (besides (by_width (per * new_values old es + e + per * lost_values old es) (field_records kind column doc 0 old es))
+        (field_forms dense column doc old es))) empty
+        (out_two kind column start doc 0 of old none dense (per * new_values old none) e (per * lost_values old none) b b c d middle between may entry gone)
 
-  module _ (b c d : Ledger H) (middle : Index) (between : IsBetween start doc (entry_weight none) (λ v. None) middle) (may : MayDo b c) where
-    pub out_counts : MakesWithin b c (by_width 17 (λ w. 0)) → MakesWithin c d (gone_from 34 middle) → MakesWithin b d (out_most (field_nodes old []))
-    out_counts entry gone = out_empty 34 17 b c d middle between may entry gone
+    module _ (b c d : Ledger H) (middle : Index) (between : IsBetween start doc (entry_weight none) (λ v. None) middle) (may : MayDo b c) where
+      pub out_counts : MakesWithin b c (by_width 17 (λ w. 0)) → MakesWithin c d (gone_from 34 middle) → MakesWithin b d (out_most (field_nodes old []))
+      out_counts entry gone = out_empty 34 17 b c d middle between may entry gone
 
-  pub out_low : (levels : ℕ) (b c d : Ledger H) (middle : Index) → IsBetween start doc (entry_weight none) (λ v. None) middle → MayDo b c → MakesWithin b c (by_width (2 * levels + 1) (λ w. 0))
-      → MakesWithin c d (gone_from (value_nodes levels) middle) → MakesWithin b d (out_most (low_nodes levels old []))
-  out_low levels b c d middle between may entry gone = out_empty (value_nodes levels) (2 * levels + 1) b c d middle between may entry gone
+    pub out_low : (levels : ℕ) (b c d : Ledger H) (middle : Index) → IsBetween start doc (entry_weight none) (λ v. None) middle → MayDo b c → MakesWithin b c (by_width (2 * levels + 1) (λ w. 0))
+        → MakesWithin c d (gone_from (value_nodes levels) middle) → MakesWithin b d (out_most (low_nodes levels old []))
+    out_low levels b c d middle between may entry gone = out_empty (value_nodes levels) (2 * levels + 1) b c d middle between may entry gone

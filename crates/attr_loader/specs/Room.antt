@@ -64,8 +64,8 @@ pub record HasMadeNothing {H : Type 0} (ledger : Ledger H) : Type 0 where
 abbrev pub AreSparse : Bool → Steps → Type 0
 AreSparse dense steps = dense ≡ true → steps.operations < LEAST_DENSE
 
--- the store of one attribute has made at most what these steps allow if they are sparse, and its table has at most as many values and
--- documents; without a compaction, it has made entries of these widths alone
+-- the store of one attribute has made at most what these steps allow, if they are sparse, and its table has at most as
+-- many values and documents; without a compaction, it has made entries of these widths alone
 pub record IsMade {H : Type 0} (dense : Bool) (ledger : Ledger H) (fields : List Field) (table : Table) (steps : Steps) : Type 0 where
   pub one : length fields ≡ 1
   pub most : ℕ → ℕ

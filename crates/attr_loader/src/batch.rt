@@ -2,8 +2,8 @@
 ghost use Rattle.std.specs.Prelude.{◌≡◌, ◌<◌, ◌+◌, ◌^◌, length, IfOk, IfErr, OnOk};
 ghost use Rattle.std.specs.List.{AllByRecursion};
 ghost use Rattle.attr_types.specs.Lawful.{OpFits};
-ghost use Rattle.attr_loader.specs.Batches.{skips_of, AddsQuietly, AddsSteps, AppliesBatch, AppliesRoom, CommitsBatch, CommitsRoom, CommitsRoot};
-ghost use Rattle.attr_loader.specs.Batches.{HasNoCommit, KeepsTable, LoadsBatch, LoadsRoom};
+ghost use Rattle.attr_loader.specs.Batches.{skips_of, AddsQuietly, AddsSteps, AppliesBatch, AppliesRoom};
+ghost use Rattle.attr_loader.specs.Batches.{CommitsBatch, CommitsRoom, CommitsRoot, HasNoCommit, KeepsTable, LoadsBatch, LoadsRoom};
 ghost use Rattle.attr_room.specs.Made.{after_keys};
 ghost use Rattle.attr_room.specs.Runs.{step_keys};
 
