@@ -82,6 +82,7 @@ module _ {H : Type 0} {plain : Type 0} (fields : List Field) (table : Table) whe
     few = omega arith;
     narrow = λ is long w wide. refl;
     counts = rises_none a (by_width (most_nodes * n) (λ w. 0));
+    trees = λ is. rises_none a (by_width (key_nodes 8 * n) (λ w. 0));
     low = λ is levels stay. rises_none a (by_width (key_nodes levels * n) (λ w. 0));
   }
 
@@ -91,7 +92,9 @@ module _ {H : Type 0} {plain : Type 0} (fields : List Field) (table : Table) whe
     few = let few = made.few in omega (arith, few);
     narrow = made.narrow;
     counts = rises_more a b (by_width (most_nodes * n) made.records) (by_width (most_nodes * k) made.records)
-        (width_more (most_nodes * n) (most_nodes * k) made.records made.records (mul-le-mul_left (most_nodes) more) (λ w. omega arith)) made.counts;
+        (width_more (most_nodes * n) (most_nodes * k) made.records made.records (mul-le-mul_left most_nodes more) (λ w. omega arith)) made.counts;
+    trees = λ is. rises_more a b (by_width (key_nodes 8 * n) made.records) (by_width (key_nodes 8 * k) made.records)
+        (width_more (key_nodes 8 * n) (key_nodes 8 * k) made.records made.records (mul-le-mul_left (key_nodes 8) more) (λ w. omega arith)) (made.trees is);
     low = λ is levels stay. rises_more a b (by_width (key_nodes levels * n) made.records) (by_width (key_nodes levels * k) made.records)
         (width_more (key_nodes levels * n) (key_nodes levels * k) made.records made.records (mul-le-mul_left (key_nodes levels) more) (λ w. omega arith)) (made.low is levels stay);
   }
@@ -103,8 +106,13 @@ module _ {H : Type 0} {plain : Type 0} (fields : List Field) (table : Table) whe
     narrow = λ is long w wide. let one = first.narrow is long w wide in let two = second.narrow is long w wide in omega (arith, one, two);
     counts = rises_more a c (λ w. by_width (most_nodes * n) first.records w + by_width (most_nodes * 1) second.records w)
         (by_width (most_nodes * (n + 1)) (λ w. first.records w + second.records w))
-        (width_then (most_nodes * n) (most_nodes * 1) (most_nodes * (n + 1)) first.records second.records (one_more (most_nodes) n))
+        (width_then (most_nodes * n) (most_nodes * 1) (most_nodes * (n + 1)) first.records second.records (one_more most_nodes n))
         (rises_then a b c (by_width (most_nodes * n) first.records) (by_width (most_nodes * 1) second.records) first.counts second.counts);
+    trees = λ is.
+        rises_more a c (λ w. by_width (key_nodes 8 * n) first.records w + by_width (key_nodes 8 * 1) second.records w)
+        (by_width (key_nodes 8 * (n + 1)) (λ w. first.records w + second.records w))
+        (width_then (key_nodes 8 * n) (key_nodes 8 * 1) (key_nodes 8 * (n + 1)) first.records second.records (one_more (key_nodes 8) n))
+        (rises_then a b c (by_width (key_nodes 8 * n) first.records) (by_width (key_nodes 8 * 1) second.records) (first.trees is) (second.trees is));
     low = λ is levels stay.
         rises_more a c (λ w. by_width (key_nodes levels * n) first.records w + by_width (key_nodes levels * 1) second.records w)
         (by_width (key_nodes levels * (n + 1)) (λ w. first.records w + second.records w))
@@ -119,6 +127,7 @@ module _ {H : Type 0} {plain : Type 0} (fields : List Field) (table : Table) whe
     few = made.few;
     narrow = made.narrow;
     counts = rises_from a b c (by_width (most_nodes * n) made.records) none made.counts;
+    trees = λ is. rises_from a b c (by_width (key_nodes 8 * n) made.records) none (made.trees is);
     low = λ is levels stay. rises_from a b c (by_width (key_nodes levels * n) made.records) none (made.low is levels stay);
   }
 
@@ -129,6 +138,7 @@ module _ {H : Type 0} {plain : Type 0} (fields : List Field) (table : Table) whe
     few = made.few;
     narrow = made.narrow;
     counts = record { made = made.counts.made; buffers = made.counts.buffers };
+    trees = λ is. let trees = made.trees is in record { made = trees.made; buffers = trees.buffers };
     low = λ is levels stay. let low = made.low is levels stay in record { made = low.made; buffers = low.buffers };
   }
 
@@ -140,12 +150,9 @@ keys_plain fields table a b n so made = record {
   few = made.few;
   narrow = λ is. made.narrow (so is);
   counts = made.counts;
+  trees = λ is. made.trees (so is);
   low = λ is. made.low (so is);
 }
-
-pub key_plain : {H : Type 0} {plain more : Type 0} (kind : Kind) (type : ValueType) (column : Column) (a b : Ledger H) → (more → plain) → MakesKey plain kind type column a b
-    → MakesKey more kind type column a b
-key_plain kind type column a b so made = record { width = made.width; narrow = λ is. made.narrow (so is); counts = made.counts; low = λ is. made.low (so is) }
 
 -- ---- a unit
 pub key_unit : {H : Type 0} {plain : Type 0} (kind : Kind) (type : ValueType) (column : Column) (old begun mid new : Ledger H) → begun ≡ record old { unit = true } → MakesKey plain kind type column begun mid
@@ -153,7 +160,8 @@ pub key_unit : {H : Type 0} {plain : Type 0} (kind : Kind) (type : ValueType) (c
 key_unit kind type column old begun mid new begins made o ends settled = record {
   width = made.width;
   narrow = made.narrow;
-  counts = counts_unit old begun mid new (by_width (most_nodes) (one_record made.width)) begins made.counts o ends settled;
+  counts = counts_unit old begun mid new (by_width most_nodes (one_record made.width)) begins made.counts o ends settled;
+  trees = λ is. counts_unit old begun mid new (by_width (key_nodes 8) (one_record made.width)) begins (made.trees is) o ends settled;
   low = λ is levels stays. counts_unit old begun mid new (by_width (key_nodes levels) (one_record made.width)) begins (made.low is levels stays) o ends settled;
 }
 
@@ -173,9 +181,12 @@ key_among fields table i field column old new at below reads made = record {
   narrow = λ is long w wide.
       let own = AllByRecursion-slice_get (λ (f : Field). (f.kind ≡ Single) × (f.value ≡ Long)) fields i field long at in
       wide_none made.width w (made.narrow is own.0 own.1) wide;
-  counts = rises_more old new (by_width (most_nodes) (one_record made.width)) (by_width (most_nodes * 1) (one_record made.width))
-      (width_more (most_nodes) (most_nodes * 1) (one_record made.width) (one_record made.width) (omega arith) (λ w. omega arith))
-      (rises_within old new (by_width (most_nodes) (one_record made.width)) made.counts);
+  counts = rises_more old new (by_width most_nodes (one_record made.width)) (by_width (most_nodes * 1) (one_record made.width))
+      (width_more most_nodes (most_nodes * 1) (one_record made.width) (one_record made.width) (omega arith) (λ w. omega arith))
+      (rises_within old new (by_width most_nodes (one_record made.width)) made.counts);
+  trees = λ is. rises_more old new (by_width (key_nodes 8) (one_record made.width)) (by_width (key_nodes 8 * 1) (one_record made.width))
+      (width_more (key_nodes 8) (key_nodes 8 * 1) (one_record made.width) (one_record made.width) (omega arith) (λ w. omega arith))
+      (rises_within old new (by_width (key_nodes 8) (one_record made.width)) (made.trees is));
   low = λ is levels stay.
       let low : IsLowColumn levels column = subst (λ (cl : Column). IsLowColumn levels cl) (sym reads) (stay i below) in
       rises_more old new (by_width (key_nodes levels) (one_record made.width)) (by_width (key_nodes levels * 1) (one_record made.width))

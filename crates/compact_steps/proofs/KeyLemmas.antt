@@ -147,8 +147,8 @@ keeps_stay m n a same =
       form = λ dense is. form_stays a.type m n a.dictionary index (wants dense a.kind) is;
     }
 
-pub keeps_then : (m n o : Records) (a b d : AttributeTrees) → KeepsKeys m n a b → KeepsKeys n o b d → KeepsKeys m o a d
-keeps_then m n o a b d first second = record {
+pub one_keeps_then : (m n o : Records) (a b d : AttributeTrees) → KeepsKeys m n a b → KeepsKeys n o b d → KeepsKeys m o a d
+one_keeps_then m n o a b d first second = record {
   keys = λ phase. second.keys phase ∙ first.keys phase;
   plain = λ plain. second.plain (first.plain plain);
   form = λ dense is. second.form dense (first.form dense is);

@@ -52,7 +52,7 @@ use Rattle.attr_steps.proofs.Referring.{RefersAt, all_weaker}
 use Rattle.attr_steps.proofs.TreeLists.{get_set-same, set_length}
 use Rattle.compaction_moves.specs.FieldMoves.{HasBegun, MovesField}
 use Rattle.compact_steps.specs.Units.{keys_at, CompactsTo, HasActive, IsUnderWay, KeepsKeys, SparesBelow}
-use Rattle.compact_steps.proofs.KeyLemmas.{all_keep, keeps_stay, keeps_then, next_fits}
+use Rattle.compact_steps.proofs.KeyLemmas.{all_keep, keeps_stay, one_keeps_then, next_fits}
 use Rattle.compact_steps.proofs.Moving.{MovesPart, all_stay, mid_are, new_holds, new_table, other_stays}
 
 -- what the move of one key asks for
@@ -168,7 +168,7 @@ module _ {H : Type 0} (bits : ℕ) (old : Ledger H) (m : Records) (fields : List
         cleared = new_cleared;
       };
       table = new_table laws bits plan.victim (record old { unit = true }) mid m n fields trees root i a b at holds.are_fields begun_owns begun_refer part new o accepts;
-      keys = all_keep m o trees after (set_length trees i b) (λ j c d here there. keeps_then m n o c d d (mid_keys j c d here there) (keeps_stay n o d (one_stays after parts_stay j d there)));
+      keys = all_keep m o trees after (set_length trees i b) (λ j c d here there. one_keeps_then m n o c d d (mid_keys j c d here there) (keeps_stay n o d (one_stays after parts_stay j d there)));
     }
 
 -- ---- what the move says, as of the state before the unit

@@ -25,7 +25,7 @@ use Rattle.attr_steps.proofs.StepLemmas.{keeps_same}
 use Rattle.attr_steps.specs.Calls.{KeepsStore, LeavesEntries, RefusesUnit}
 use Rattle.attr_steps.specs.Fields.{HoldsAttributes, IsFieldAt}
 use Rattle.attr_steps.specs.Views.{table_at}
-use Rattle.compact_steps.proofs.KeyLemmas.{keeps_then, keys_of_all, same_keys}
+use Rattle.compact_steps.proofs.KeyLemmas.{one_keeps_then, keys_of_all, same_keys}
 use Rattle.compact_steps.specs.Units.{keys_at, next_at, GoesOn, IsUnderWay, KeepKeys}
 use Rattle.compact_steps.specs.declared.unit.Turn.{Turn}
 use Rattle.compact_steps.specs.declared.unit.Turn.TheVariants.{Moved, PhaseOver}
@@ -72,7 +72,7 @@ refused_since old mid new Memory fewer room = tt
 
 keys_then : (m k n : Records) (trees next after : List AttributeTrees) → KeepKeys m k trees next → KeepKeys k n next after → KeepKeys m n trees after
 keys_then m k n [] [] [] one two = tt
-keys_then m k n (a ∷ trees) (b ∷ next) (d ∷ after) one two = (keeps_then m k n a b d one.0 two.0, keys_then m k n trees next after one.1 two.1)
+keys_then m k n (a ∷ trees) (b ∷ next) (d ∷ after) one two = (one_keeps_then m k n a b d one.0 two.0, keys_then m k n trees next after one.1 two.1)
 keys_then m k n [] [] (d ∷ after) one two = absurd two
 keys_then m k n [] (b ∷ next) after one two = absurd one
 keys_then m k n (a ∷ trees) [] after one two = absurd one

@@ -24,11 +24,12 @@ abbrev pub AreLow : ℕ → List Field → Table → Type 0
 AreLow levels fields table = (field : ℕ) → field < length fields → IsLowColumn levels (column_of field table)
 
 -- bounds for this many keys of attributes with this table: for each key the nodes of its move and one other record. If no
--- list is a bit vector (`plain`), then nodes by the levels of trees, and records of at most 16 words for attributes of kind
--- single with long values
+-- list is a bit vector (`plain`), then the nodes are those of trees of 8 levels, or fewer by their levels, and attributes
+-- of kind single with long values make no other record of more than 16 words
 pub record MakesKeys {H : Type 0} (plain : Type 0) (fields : List Field) (table : Table) (old new : Ledger H) (keys : ℕ) : Type 0 where
   pub records : ℕ → ℕ
   pub few : record_sum records ≤ keys
   pub narrow : plain → AreSingleLong fields → (width : ℕ) → 16 < width → records width ≡ 0
   pub counts : RisesBy old new (by_width (most_nodes * keys) records)
+  pub trees : plain → RisesBy old new (by_width (key_nodes 8 * keys) records)
   pub low : plain → (levels : ℕ) → AreLow levels fields table → RisesBy old new (by_width (key_nodes levels * keys) records)
