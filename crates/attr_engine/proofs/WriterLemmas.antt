@@ -77,7 +77,7 @@ module _ {S : Type 0} (ledger : S → Ledger TableId) (fields : List Field) (bat
 
   pub loads_into : v.sizes.shape ≡ shape_of (types_of b.fields) → IsNewWriter fields home w → length ops < 2 ^ 32 → slice_get v.commits 0 ≡ Some no_image → HasMadeNothing (ledger a.store)
       → (dense : Bool) → a.dense ≡ dense → a.plan ≡ None → LoadsInto fields dense batch ops w v loaded
-  loads_into shape_now new few first nothing dense as plan =
+  loads_into shape_now new few first nothing dense dense_is plan =
       let are : AreCommits fields batch ops loads.last v.commits =
       subst (AreCommits fields batch ops loads.last) told_is (subst (λ fs. AreCommits fs batch ops loads.last ((ledger b.store).work.told)) fields_are loads.told) in
       let long = are.count (slice_get_within v.commits 0 no_image first) in
@@ -92,7 +92,7 @@ module _ {S : Type 0} (ledger : S → Ledger TableId) (fields : List Field) (bat
         full = IfSome_then loaded.full loads.full (λ room at.
             let here = subst (λ (x : WorkView TableId). CountsFull x room) (sym to) (at.free, at.active_is, at.held_is) in
             record { free = here.0; active_is = here.1; held_is = here.2 });
-        owed = λ off. owed_into nothing (as ∙ off);
+        owed = λ off. owed_into nothing (dense_is ∙ off);
         small = small_into nothing plan;
         unheld = unheld_into new few;
       }
