@@ -3,8 +3,8 @@
 //! the number by BY in place of each `%`; and at last the expected result of the run:
 //!
 //! - `said LINE`: what it must answer and write. A run with a short feed is repeated with wide references and
-//! `--dense`, which change nothing but the sizes that a store may have, also if it is refused; if it had no readers,
-//! also with two readers after the loading, whose rounds have the last answers.
+//! `--dense`, which change no answer, also if it is refused; if it had no readers, also with two readers after the
+//! loading, whose rounds have the last answers.
 //! - `saved LINE`: the same with the written bytes in hexadecimal, and no other run.
 //! - `room OPERATION ACTIVE HELD`: the operation that ran out of space, and how many buffers were in use and held.
 //! - `beside READERS ROUNDS LINE`: what it must answer and write, except the rounds of its readers, which ran beside
