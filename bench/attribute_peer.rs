@@ -1,6 +1,7 @@
 //! What `bench/attribute` compares with, by the same operations and queries in the same order: std's `BTreeMap<u32, Vec<(Value, i32)>>` of
 //! the documents and `BTreeMap<Value, BTreeMap<u32, i32>>` of the values, in plain Rust. It proves nothing, and has no commits.
-//! Usage: attribute_peer KIND long|text OPERATIONS APPLIED BATCH BUFFERS, or queries none|term|terms|range|wide DOCUMENTS ROUNDS BUFFERS
+//! Usage: attribute_peer KIND long|text OPERATIONS APPLIED BATCH BUFFERS, or
+//! queries none|term|terms|range|wide|quarters DOCUMENTS ROUNDS BUFFERS
 
 use std::collections::BTreeMap;
 use std::ops::RangeInclusive;
@@ -156,6 +157,7 @@ fn ask(table: &Table, question: &str, documents: u32, round: u32) -> Vec<u32> {
             table.between(first..=first + 10)
         }
         "wide" => both(table.between(0..=19), table.between(15..=1_000_000_000)),
+        "quarters" => both(table.is(round % 4), table.is(round / 4 % 4 + 10)),
         _ => Vec::new(),
     }
 }
@@ -163,7 +165,9 @@ fn ask(table: &Table, question: &str, documents: u32, round: u32) -> Vec<u32> {
 fn queries(question: &str, documents: u32, rounds: u32) {
     let mut table = Table::default();
     for number in 1..=documents.min(1_000_000) {
-        let numbers = [number % 3, number % 10 + 10, number / 9 + 1000];
+        let thirds = [number % 3, number % 10 + 10, number / 9 + 1000];
+        let quarters = [number % 4, number / 4 % 4 + 10];
+        let numbers = if question == "quarters" { &quarters[..] } else { &thirds[..] };
         table.put(number, numbers.iter().map(|number| (Value::Long(i64::from(*number)), 1)).collect());
     }
     let mut sum: u64 = 0;
@@ -178,7 +182,7 @@ fn queries(question: &str, documents: u32, rounds: u32) {
 fn main() {
     let words: Vec<String> = std::env::args().skip(1).collect();
     let [name, of, counts @ ..] = words.as_slice() else { panic!("attribute_peer NAME OF and numbers") };
-    let counts: Vec<u32> = counts.iter().map(|word| word.parse().expect("a number")).collect();
+    let counts: Vec<u32> = counts.iter().filter(|word| *word != "dense").map(|word| word.parse().expect("a number")).collect();
     if name == "queries" {
         queries(of, counts[0], counts[1]);
     } else {

@@ -11,7 +11,7 @@ class _Handle(ctypes.Structure):
 
 
 class Sizes(ctypes.Structure):
-    _fields_ = [(name, ctypes.c_uint32) for name in ("buffers", "words", "readers", "wide")]
+    _fields_ = [(name, ctypes.c_uint32) for name in ("buffers", "words", "readers", "wide", "dense")]
 
 
 class Told(ctypes.Structure):
@@ -74,9 +74,9 @@ def _must(code, told=None):
 class Engine:
     """The writer: one thread's."""
 
-    def __init__(self, attributes, buffers=256, words=8192, readers=4, wide=False):
+    def __init__(self, attributes, buffers=256, words=8192, readers=4, wide=False, dense=False):
         self._at, place, text = _Handle(), ctypes.c_uint64(), attributes.encode()
-        _must(_lib.attr_open(text, len(text), ctypes.byref(Sizes(buffers, words, readers, wide)), ctypes.byref(self._at), ctypes.byref(place)), place)
+        _must(_lib.attr_open(text, len(text), ctypes.byref(Sizes(buffers, words, readers, wide, dense)), ctypes.byref(self._at), ctypes.byref(place)), place)
 
     def feed(self, lines):
         told, data = Told(), lines if isinstance(lines, bytes) else lines.encode()

@@ -23,7 +23,7 @@ std::map<std::int64_t, std::vector<std::uint32_t>> by_decade(attr::reader &reade
 }
 
 int main() {
-    attr::engine engine("year:single:long,plays:single:long", attr_sizes{128, 8192, 2, 0});
+    attr::engine engine("year:single:long,plays:single:long", attr_sizes{128, 8192, 2, 0, 0});
     for (unsigned document = 1; document <= 40; document++) engine.feed(put(document, 1949 + (int)document, (int)(document * 7 % 40)));
     engine.commit();
 

@@ -39,7 +39,7 @@ int main(int count, char **words) {
         "{\"remove\":\"id:n:t::6\"}", "{\"put\":\"id:n:t::1048575\",\"fields\":{\"n\":-9223372036854775808,\"tags\":{\"\\u00e9\":-5}}}", "   "};
     static const char *const queries[] = {"[1;9]", "or(1,2,<3)", "and(tags:\"a\",n:>0)", "tags:\"a\"*", "tags:dot(\"a\":1,\"b\":-2)", "[;]"};
     unsigned long total = count > 1 ? strtoul(words[1], NULL, 10) : 20000, codes[40] = {0};
-    struct attr_sizes sizes = {512, 8192, 1, 0};
+    struct attr_sizes sizes = {512, 8192, 1, 0, 0};
     attr_engine engine;
     attr_reader reader;
     uint64_t place;

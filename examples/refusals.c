@@ -23,7 +23,7 @@ static int32_t opens(const char *text, struct attr_sizes sizes, uint64_t *place)
 }
 
 static void openings(void) {
-    struct attr_sizes good = {64, 8192, 1, 0}, sizes;
+    struct attr_sizes good = {64, 8192, 1, 0, 0}, sizes;
     uint64_t place;
     want("good", opens("a:single:long", good, &place), ATTR_OK);
     want("eight", opens("a:single:long,b:array:long,c:array:string,d:weightedset:long,e:single:string,f:single:long,g:single:long,h:single:long", good, &place), ATTR_OK);
@@ -57,7 +57,7 @@ static void memory(void) {
     pid_t child = fork();
     if (child == 0) {
         struct rlimit limit = {256u << 20, 256u << 20};
-        struct attr_sizes sizes = {1023, 65536, 1, 0};
+        struct attr_sizes sizes = {1023, 65536, 1, 0, 0};
         uint64_t place;
         if (setrlimit(RLIMIT_AS, &limit)) _exit(2);
         _exit(opens("a:single:long", sizes, &place) != ATTR_MEMORY);
@@ -158,7 +158,7 @@ static void saves(attr_engine *engine, attr_reader *reader) {
     if (attr_saved(reader, half, bytes + half, length) + half != length) failed = 1;
     static const char *attributes[] = {"tags:array:string", "tags:array:long", "tags:array:string,other:single:long"};
     for (int i = 0; i < 3; i++) {
-        struct attr_sizes sizes = {64, 8192, 1, 1};
+        struct attr_sizes sizes = {64, 8192, 1, 1, 0};
         attr_engine other;
         attr_reader seat;
         uint64_t place;
@@ -182,7 +182,7 @@ static void saves(attr_engine *engine, attr_reader *reader) {
 
 /* A reader that keeps its guard until nothing is left: the refusal tells which commit is held, and the release brings room. */
 static void full(void) {
-    struct attr_sizes sizes = {24, 8192, 2, 0};
+    struct attr_sizes sizes = {24, 8192, 2, 0, 0};
     attr_engine engine;
     attr_reader reader;
     uint64_t place;
@@ -225,7 +225,7 @@ static void full(void) {
 }
 
 int main(void) {
-    struct attr_sizes sizes = {64, 8192, 2, 0};
+    struct attr_sizes sizes = {64, 8192, 2, 0, 0};
     attr_engine engine;
     attr_reader reader;
     uint64_t place;

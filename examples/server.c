@@ -128,7 +128,7 @@ static void write_one(attr_engine *engine, unsigned long number, const char *com
 
 int main(int count, char **words) {
     const char *attributes = count > 1 ? words[1] : "year:single:long";
-    struct attr_sizes sizes = {256, 8192, POOL, 0};
+    struct attr_sizes sizes = {256, 8192, POOL, 0, 0};
     attr_engine engine;
     attr_reader readers[POOL];
     pthread_t threads[POOL];

@@ -1,6 +1,7 @@
 /*
- * threads OPERATIONS: one thread feeds and commits, four others ask. Each reader keeps a plain table in C of its own, takes it to the
- * commit that it holds, and compares every answer with it: hits, counts, scores and items.
+ * threads OPERATIONS [dense]: one thread feeds and commits, four others ask. Each reader keeps a plain table in C of its own, takes it to
+ * the commit that it holds, and compares every answer with it: hits, counts, scores and items. With dense the years are few, so that
+ * each has many documents, and frequent years are bit vectors.
  */
 #include "attr.h"
 #include "table.h"
@@ -10,6 +11,15 @@
 enum { READERS = 4, BATCH = 100, LINE = 256 };
 
 static uint64_t total;
+static int dense;
+
+/* Operation i; with dense, of few years. */
+static struct operation next(uint64_t i) {
+    struct operation op = operation(i);
+    if (dense && op.kind == PUT) op.year = 1900 + op.year % 4;
+    if (dense && op.kind == MOVE) op.year = 1;
+    return op;
+}
 
 static void fail(const char *what, int32_t code) {
     uint8_t text[128];
@@ -115,11 +125,11 @@ static void *reads(void *argument) {
         if (held.commit > seat->last) seat->commits++;
         seat->last = held.commit;
         while (done < held.operations) {
-            struct operation op = operation(++done);
+            struct operation op = next(++done);
             apply(table, &op);
         }
         uint64_t r = mixed(rounds++ ^ 0x5eed);
-        int64_t low = 1890 + (int64_t)(r % 220);
+        int64_t low = 1890 + (int64_t)(r % (dense ? 20 : 220));
         check_years(&seat->reader, table, low, low + (int64_t)((r >> 16) % 30), held.commit);
         check_scores(&seat->reader, table, (int32_t)((r >> 24) % 9) - 4, 3);
         for (int i = 0; i < 4; i++) check_items(&seat->reader, table, 1 + (uint32_t)(mixed(r + (uint64_t)i) % DOCUMENTS));
@@ -155,8 +165,9 @@ static void feed(attr_engine *engine, const char *lines, size_t length) {
 
 int main(int count, char **words) {
     total = count > 1 ? strtoull(words[1], NULL, 10) : 20000;
+    dense = count > 2 && !strcmp(words[2], "dense");
     const char *attributes = "year:single:long,tags:weightedset:string";
-    const struct attr_sizes sizes = {.buffers = 512, .words = 8192, .readers = READERS, .wide = 0};
+    const struct attr_sizes sizes = {.buffers = 512, .words = 8192, .readers = READERS, .dense = (uint32_t)dense};
     attr_engine engine;
     uint64_t place;
     must("open", attr_open((const uint8_t *)attributes, strlen(attributes), &sizes, &engine.at, &place));
@@ -173,7 +184,7 @@ int main(int count, char **words) {
     for (uint64_t done = 0; done < total;) {
         size_t length = 0;
         for (int i = 0; i < BATCH && done < total; i++) {
-            struct operation op = operation(++done);
+            struct operation op = next(++done);
             length += write_line(lines + length, &op);
         }
         feed(&engine, lines, length);

@@ -35,7 +35,7 @@ extern "C" {
 #endif
 
 /* 1,000,000 times the major version, 1,000 times the minor one, and the patch. */
-#define ATTR_VERSION 1000u
+#define ATTR_VERSION 2000u
 
 /* The writer's handle, and a reader's. The pointer is the library's own: C copies it, and looks at nothing behind it. */
 typedef struct attr_engine { void *at; } attr_engine;
@@ -88,9 +88,11 @@ uint32_t attr_version(void);
  *   words     of each buffer, from 8,192 to 65,536; buffers * words is at most 67,108,864
  *   readers   from 0 to 64. A reader that is returned is handed out again; no more can be made later
  *   wide      0, or 1 for more and smaller buffers
+ *   dense     0, or 1 to keep the documents of a frequent value as a bit vector: at least 128 documents, and at least one of 32 of
+ *             all. It changes no answer; docs/QUERIES.md says when it pays. Weighted sets have no bit vectors
  *
  * 256 buffers of 8,192 words (16 MiB) hold some 25,000 documents of one small attribute beside the commits that readers hold. */
-struct attr_sizes { uint32_t buffers, words, readers, wide; };
+struct attr_sizes { uint32_t buffers, words, readers, wide, dense; };
 
 /* Opens an engine without a document, of the attributes that the text names: name:kind:value each, with commas between them. The
  * kinds are single, array and weightedset, the value types long and string; names are letters, digits and _, no digit first, and

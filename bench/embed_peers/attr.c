@@ -7,7 +7,7 @@ static attr_engine engine;
 static void must(int32_t code) { if (code) { fprintf(stderr, "attr: code %d\n", code); exit(1); } }
 
 static void store_open(int readers) {
-    struct attr_sizes sizes = {1023, 65536, (uint32_t)readers, 0};
+    struct attr_sizes sizes = {1023, 65536, (uint32_t)readers, 0, 0};
     uint64_t place;
     must(attr_open((const uint8_t *)"n:single:long", 13, &sizes, &engine.at, &place));
 }

@@ -47,7 +47,7 @@ static double best(void (*call)(void), int rounds) {
 
 int main(int count, char **words) {
     int rounds = count > 1 ? atoi(words[1]) : 50;
-    struct attr_sizes sizes = {64, 8192, 1, 0};
+    struct attr_sizes sizes = {64, 8192, 1, 0, 0};
     struct attr_told told;
     struct attr_answer answer;
     uint64_t place;

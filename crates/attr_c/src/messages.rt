@@ -71,5 +71,5 @@ pub extern "C" fn attr_message(code: i32, into: &mut [u8]) -> usize {
 /// Returns 1,000,000 times the version, plus 1,000 times its second part, plus its last part.
 #[unsafe(no_mangle)]
 pub extern "C" fn attr_version() -> u32 {
-    1_000
+    2_000
 }

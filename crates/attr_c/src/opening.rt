@@ -65,11 +65,12 @@ fn waiting<const OFFSET_BITS: u32>(
     Ok(pool)
 }
 
-/// Returns attributes without documents.
+/// Returns attributes without documents, which keep the documents of a frequent value as a bit vector if that is wanted.
 fn running<const OFFSET_BITS: u32>(
     alloc: Global,
     writer: Writer<'static, OFFSET_BITS, AttrLayout>,
     fields: &Fields,
+    dense: bool,
 ) -> Result<
     Attribute<OFFSET_BITS, EntryStore<OFFSET_BITS, Writer<'static, OFFSET_BITS, AttrLayout>>>,
     AllocError,
@@ -79,9 +80,10 @@ fn running<const OFFSET_BITS: u32>(
     requires shape { (writer_of writer.place.me.0).sizes.shape ≡ shape_of (types_of fields.now) }
     requires fresh { IsFresh (view_of writer.place.table_id (writer_of writer.place.me.0)) }
     ensures fields { IfOk result (λ a. a.fields ≡ fields.now) }
+    ensures dense { IfOk result (λ a. a.dense ≡ dense) }
     ensures nothing { IfOk result (λ a. HasNothing a.table a.committed a.operations a.committed_operations) }
 {
-    match Attribute::create(alloc, writer, fields, false) {
+    match Attribute::create(alloc, writer, fields, dense) {
         Ok(attribute) => {
             let _ = attribute.operations();
             Ok(attribute)
@@ -177,7 +179,7 @@ fn narrow_open(
 {
     let mut writer = narrow_writer(alloc, config)?;
     let pool = waiting(alloc, &mut writer, &fields, sizes.readers)?;
-    let attribute = running(alloc, writer, &fields)?;
+    let attribute = running(alloc, writer, &fields, sizes.dense != 0)?;
     Ok(Open {
         fields,
         attribute,
@@ -208,7 +210,7 @@ fn wide_open(
 {
     let mut writer = wide_writer(alloc, config)?;
     let pool = waiting(alloc, &mut writer, &fields, sizes.readers)?;
-    let attribute = running(alloc, writer, &fields)?;
+    let attribute = running(alloc, writer, &fields, sizes.dense != 0)?;
     Ok(Open {
         fields,
         attribute,

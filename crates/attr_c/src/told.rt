@@ -12,6 +12,8 @@ pub struct Sizes {
     pub readers: u32,
     /// 1 for references of 19 and 13 bits instead of 22 and 10.
     pub wide: u32,
+    /// 1 to keep the documents of a frequent value as a bit vector, except in weighted sets.
+    pub dense: u32,
 }
 
 /// The results of the writer's calls.

@@ -97,13 +97,13 @@ alone run quiet = elim quiet [
     none_beside false readers save few unsaved = ap₂ (λ n s. n + one_if s) few unsaved
 
 justified_by : (run : Run) (ops : List Op) (loaded : ℕ) (full : Option NoRoom)
-    → (length run.fields ≡ 1 → IfSome full (λ f. IsOwed (load_in run ops) f.operation loaded)) → (IsQuiet (readers_of run) → IfSome full (λ f. f.held ≡ 0))
+    → (run.dense ≡ false → length run.fields ≡ 1 → IfSome full (λ f. IsOwed (load_in run ops) f.operation loaded)) → (IsQuiet (readers_of run) → IfSome full (λ f. f.held ≡ 0))
     → (length run.fields ≡ 1 → 8 ≤ run.buffers → IsSmall (load_in run ops) → full ≡ None) → IfSome full (IsJustified run ops loaded)
 justified_by run ops loaded None owed quiet small = tt
 justified_by run ops loaded (Some full) owed quiet small = record { owed = owed; large = λ one many is. absurd (let e : Some full ≡ None = small one many is in cc); quiet = quiet }
 
 -- what a run came to, by the writer before and after the loading
-module _ (run : Run) (ops : List Op) (w v : WriterView) (loaded : Loaded) (loads : LoadsInto run.fields run.batch ops w v loaded) (buffers : w.sizes.buffers ≡ run.buffers) (words : w.sizes.words ≡ run.words)
+module _ (run : Run) (ops : List Op) (w v : WriterView) (loaded : Loaded) (loads : LoadsInto run.fields run.dense run.batch ops w v loaded) (buffers : w.sizes.buffers ≡ run.buffers) (words : w.sizes.words ≡ run.words)
     (made : v.made ≡ (parts run.after run.readers).0 + one_if (save_parts run.after run.save).0) (shape : w.sizes.shape ≡ shape_of (types_of run.fields)) (none : w.commits ≡ no_image ∷ []) where
   abbrev counted : Bool
   counted = is_some run.make
@@ -146,8 +146,8 @@ module _ (run : Run) (ops : List Op) (w v : WriterView) (loaded : Loaded) (loads
         skips = loads.skips;
         room = ends.1;
         justified = justified_by run ops loaded.operations loaded.full
-            (λ one. subst (λ n. IfSome loaded.full (λ (f : NoRoom). IsOwed (load_of run.buffers n run.fields run.batch ops) f.operation loaded.operations)) words
-            (subst (λ n. IfSome loaded.full (λ (f : NoRoom). IsOwed (load_of n w.sizes.words run.fields run.batch ops) f.operation loaded.operations)) buffers (loads.owed one)))
+            (λ off one. subst (λ n. IfSome loaded.full (λ (f : NoRoom). IsOwed (load_of run.buffers n run.fields run.batch ops) f.operation loaded.operations)) words
+            (subst (λ n. IfSome loaded.full (λ (f : NoRoom). IsOwed (load_of n w.sizes.words run.fields run.batch ops) f.operation loaded.operations)) buffers (loads.owed off one)))
             (λ quiet. loads.unheld (made ∙ alone run quiet))
             (λ one many is. loads.small one (subst (λ n. 8 ≤ n) (sym buffers) many)
             (subst (λ n. IsSmall (load_of n w.sizes.words run.fields run.batch ops)) (sym buffers) (subst (λ n. IsSmall (load_of run.buffers n run.fields run.batch ops)) (sym words) is)));

@@ -1,6 +1,6 @@
 -- What stays of a writer, and what a loading makes of it.
 use Rattle.std.proofs.Common.{◌≡◌, ◌<◌, ◌≤◌, ◌+◌, ℕ, zero, suc, List, [], ◌∷◌, length, None, Some, refl, sym, ap, subst, ◌∙◌, arith, false}
-use Rattle.std.specs.Prelude.{slice_get, All, IfSome, ◌^◌}
+use Rattle.std.specs.Prelude.{slice_get, All, Bool, IfSome, ◌^◌}
 use Rattle.std.specs.List.{AllByRecursion}
 use Rattle.std.proofs.lemmas.Option.{slice_get_within, IfSome_then}
 use Rattle.atomic_table.specs.Seated.{TableId}
@@ -76,8 +76,8 @@ module _ {S : Type 0} (ledger : S → Ledger TableId) (fields : List Field) (bat
       loads.unheld (ap (λ (x : WorkView TableId). x.made) from ∙ sym made_stays ∙ none) (omega (arith, last, generations, few))
 
   pub loads_into : v.sizes.shape ≡ shape_of (types_of b.fields) → IsNewWriter fields home w → length ops < 2 ^ 32 → slice_get v.commits 0 ≡ Some no_image → HasMadeNothing (ledger a.store)
-      → a.dense ≡ false → a.plan ≡ None → LoadsInto fields batch ops w v loaded
-  loads_into shape_now new few first nothing off plan =
+      → (dense : Bool) → a.dense ≡ dense → a.plan ≡ None → LoadsInto fields dense batch ops w v loaded
+  loads_into shape_now new few first nothing dense dense_is plan =
       let are : AreCommits fields batch ops loads.last v.commits =
       subst (AreCommits fields batch ops loads.last) told_is (subst (λ fs. AreCommits fs batch ops loads.last ((ledger b.store).work.told)) fields_are loads.told) in
       let long = are.count (slice_get_within v.commits 0 no_image first) in
@@ -92,7 +92,7 @@ module _ {S : Type 0} (ledger : S → Ledger TableId) (fields : List Field) (bat
         full = IfSome_then loaded.full loads.full (λ room at.
             let here = subst (λ (x : WorkView TableId). CountsFull x room) (sym to) (at.free, at.active_is, at.held_is) in
             record { free = here.0; active_is = here.1; held_is = here.2 });
-        owed = owed_into nothing off;
+        owed = λ off. owed_into nothing (dense_is ∙ off);
         small = small_into nothing plan;
         unheld = unheld_into new few;
       }
@@ -110,9 +110,10 @@ new_on fields home z w v keeps same is =
     }))
 
 -- a loading into a writer that had got readers before is one into the writer that it was
-pub loads_from : (fields : List Field) (batch : ℕ) (ops : List Op) (w v x : WriterView) (loaded : Loaded) → KeepsWriter w v → LoadsInto fields batch ops v x loaded → LoadsInto fields batch ops w x loaded
-loads_from fields batch ops w v x loaded keeps is =
-    let moved = subst (λ (y : WriterView). LoadsInto fields batch ops y x loaded) keeps is in
+pub loads_from : (fields : List Field) (dense : Bool) (batch : ℕ) (ops : List Op) (w v x : WriterView) (loaded : Loaded) → KeepsWriter w v → LoadsInto fields dense batch ops v x loaded
+    → LoadsInto fields dense batch ops w x loaded
+loads_from fields dense batch ops w v x loaded keeps is =
+    let moved = subst (λ (y : WriterView). LoadsInto fields dense batch ops y x loaded) keeps is in
     record {
       shape_is = moved.shape_is;
       last = moved.last;
@@ -128,10 +129,10 @@ loads_from fields batch ops w v x loaded keeps is =
     }
 
 -- and one into a writer that then took readers in
-pub loads_kept : (fields : List Field) (batch : ℕ) (ops : List Op) (w v x : WriterView) (loaded : Loaded) → KeepsWriter v x → x.made ≡ v.made
-    → LoadsInto fields batch ops w v loaded → LoadsInto fields batch ops w x loaded
-loads_kept fields batch ops w v x loaded keeps made is =
-    subst (λ (y : WriterView). LoadsInto fields batch ops w y loaded) (sym keeps)
+pub loads_kept : (fields : List Field) (dense : Bool) (batch : ℕ) (ops : List Op) (w v x : WriterView) (loaded : Loaded) → KeepsWriter v x → x.made ≡ v.made
+    → LoadsInto fields dense batch ops w v loaded → LoadsInto fields dense batch ops w x loaded
+loads_kept fields dense batch ops w v x loaded keeps made is =
+    subst (λ (y : WriterView). LoadsInto fields dense batch ops w y loaded) (sym keeps)
     (record {
       shape_is = is.shape_is;
       last = is.last;

@@ -61,7 +61,8 @@ pub record IsFullWriter (w : WriterView) (room : NoRoom) : Type 0 where
 
 -- how a loading changes a writer: its commits are those of the operations; if one ran out of space, the buffers are
 -- counted
-pub record LoadsInto (fields : List Field) (batch : ℕ) (ops : List Op) (old new : WriterView) (loaded : Loaded) : Type 0 where
+pub record LoadsInto (fields : List Field) (dense : Bool) (batch : ℕ) (ops : List Op) (old new : WriterView) (loaded : Loaded)
+    : Type 0 where
   pub shape_is : new.sizes.shape ≡ old.sizes.shape
   pub last : ℕ
   pub commits : AreCommits fields batch ops last new.commits
@@ -70,9 +71,9 @@ pub record LoadsInto (fields : List Field) (batch : ℕ) (ops : List Op) (old ne
   pub skips : loaded.skipped ≡ skipped fields ops loaded.operations
   pub ends : EndsAt batch (length ops) old.sizes.buffers loaded.operations loaded.full
   pub full : IfSome loaded.full (IsFullWriter new)
-  -- with one attribute, a full store is owed to what was made, and the operations are not a small run; and without
-  -- readers nothing is held
-  pub owed : length fields ≡ 1
+  -- with one attribute, a full store is owed to what was made if bit vectors are not wanted, and the operations are not a
+  -- small run; and without readers nothing is held
+  pub owed : dense ≡ false → length fields ≡ 1
       → IfSome loaded.full (λ full. IsOwed (load_of old.sizes.buffers old.sizes.words fields batch ops) full.operation loaded.operations)
   pub small : length fields ≡ 1 → 8 ≤ old.sizes.buffers → IsSmall (load_of old.sizes.buffers old.sizes.words fields batch ops)
       → loaded.full ≡ None

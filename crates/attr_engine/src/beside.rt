@@ -1,5 +1,5 @@
 //! The loading, beside other tasks.
-ghost use Rattle.std.specs.Prelude.{◌≡◌, ◌<◌, ◌≤◌, ◌+◌, ◌^◌, false, length, map, is_some, None, IfOk, IfSome, All};
+ghost use Rattle.std.specs.Prelude.{◌≡◌, ◌<◌, ◌≤◌, ◌+◌, ◌^◌, length, map, is_some, None, IfOk, IfSome, All};
 ghost use Rattle.std.specs.List.{AllByRecursion, AllZip};
 ghost use Rattle.word_arena.specs.Knows.{view_of};
 ghost use Rattle.word_arena.specs.Ruled.{reader_of, writer_of};
@@ -40,13 +40,14 @@ fn opened<'a, const OFFSET_BITS: u32>(
     alloc: Global,
     writer: Writer<'a, OFFSET_BITS, AttrLayout>,
     fields: &Fields,
+    dense: bool,
 ) -> Result<
     Attribute<OFFSET_BITS, EntryStore<OFFSET_BITS, Writer<'a, OFFSET_BITS, AttrLayout>>>,
     AllocError,
 >
     requires new { IsNewWriter fields.now writer.place.table_id (writer_of writer.place.me.0) }
     ensures fields { IfOk result (λ a. a.fields ≡ fields.now) }
-    ensures dense { IfOk result (λ a. a.dense ≡ false) }
+    ensures dense { IfOk result (λ a. a.dense ≡ dense) }
     ensures start { IfOk result (IsAtStart ⟦<EntryStore<OFFSET_BITS, Writer<'a, OFFSET_BITS, AttrLayout>> as Store<OFFSET_BITS>>⟧.ledger) }
     ensures work { IfOk result (λ a. (⟦<EntryStore<OFFSET_BITS, Writer<'a, OFFSET_BITS, AttrLayout>> as Store<OFFSET_BITS>>⟧.ledger
         a.store).work
@@ -56,7 +57,7 @@ fn opened<'a, const OFFSET_BITS: u32>(
         a.store)) }
 {
     image_law();
-    let attribute = match Attribute::create(alloc, writer, fields, false) {
+    let attribute = match Attribute::create(alloc, writer, fields, dense) {
         Ok(attribute) => attribute,
         Err(_) => return Err(AllocError),
     };
@@ -126,6 +127,7 @@ fn load_at<
     alloc: Global,
     writer: Writer<'a, OFFSET_BITS, AttrLayout>,
     fields: &Fields,
+    dense: bool,
     ops: &'a [Op],
     batch: u32,
     gate: &'a G,
@@ -147,13 +149,13 @@ fn load_at<
     requires others { All T.can_run others.items }
     requires aside { IfSome aside U.can_run }
     ensures table { IfOk result (λ r. r.0.place.table_id ≡ writer.entry.place.table_id) }
-    ensures loads { IfOk result (λ r. LoadsInto fields.now batch ops.now (writer_of writer.entry.place.me.0)
+    ensures loads { IfOk result (λ r. LoadsInto fields.now dense batch ops.now (writer_of writer.entry.place.me.0)
         (writer_of r.0.place.me.0) r.1) }
     ensures made { IfOk result (λ r. (writer_of r.0.place.me.0).made ≡ (writer_of writer.entry.place.me.0).made) }
     ensures others { IfOk result (λ r. AllZip T.run_gives others.items r.2.items) }
     ensures aside { IfOk result (λ r. GivesAside U.run_gives aside r.3) }
 {
-    let attribute = opened(alloc, writer, fields)?;
+    let attribute = opened(alloc, writer, fields, dense)?;
     let loading = Loading {
         alloc,
         attribute,
@@ -172,6 +174,7 @@ pub fn load_beside<'a, const OFFSET_BITS: u32, R: Threads + Sync, G: Gate + Sync
     alloc: Global,
     writer: Writer<'a, OFFSET_BITS, AttrLayout>,
     ops: &'a [Op],
+    dense: bool,
     batch: u32,
     readers: u32,
     rounds: u32,
@@ -188,7 +191,7 @@ pub fn load_beside<'a, const OFFSET_BITS: u32, R: Threads + Sync, G: Gate + Sync
     requires few { length ops.now < 2 ^ 32 }
     requires fit { AllByRecursion (OpFits question.now.fields.now) ops.now }
     ensures table { IfOk result (λ r. r.writer.place.table_id ≡ writer.entry.place.table_id) }
-    ensures loads { IfOk result (λ r. LoadsInto question.now.fields.now batch ops.now (writer_of writer.entry.place.me.0)
+    ensures loads { IfOk result (λ r. LoadsInto question.now.fields.now dense batch ops.now (writer_of writer.entry.place.me.0)
         (writer_of r.writer.place.me.0) r.loaded) }
     ensures made { IfOk result (λ r. (writer_of r.writer.place.me.0).made
         ≡ (writer_of writer.entry.place.me.0).made + readers + one_if save) }
@@ -210,6 +213,7 @@ pub fn load_beside<'a, const OFFSET_BITS: u32, R: Threads + Sync, G: Gate + Sync
         alloc,
         writer,
         question.fields,
+        dense,
         ops,
         batch,
         gate,

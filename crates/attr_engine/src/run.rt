@@ -77,6 +77,7 @@ fn load_first<'a, const OFFSET_BITS: u32, R: Threads + Sync, G: Gate + Sync + 's
     alloc: Global,
     writer: Writer<'a, OFFSET_BITS, AttrLayout>,
     ops: &'a [Op],
+    dense: bool,
     batch: u32,
     readers: u32,
     rounds: u32,
@@ -92,7 +93,7 @@ fn load_first<'a, const OFFSET_BITS: u32, R: Threads + Sync, G: Gate + Sync + 's
     requires some { 0 < batch }
     requires few { length ops.now < 2 ^ 32 }
     requires fit { AllByRecursion (OpFits question.now.fields.now) ops.now }
-    ensures loads { IfOk result (λ r. LoadsInto question.now.fields.now batch ops.now (writer_of writer.entry.place.me.0)
+    ensures loads { IfOk result (λ r. LoadsInto question.now.fields.now dense batch ops.now (writer_of writer.entry.place.me.0)
         (writer_of r.writer.place.me.0) r.loaded) }
     ensures made { IfOk result (λ r. (writer_of r.writer.place.me.0).made
         ≡ (writer_of writer.entry.place.me.0).made + readers + one_if save) }
@@ -104,7 +105,7 @@ fn load_first<'a, const OFFSET_BITS: u32, R: Threads + Sync, G: Gate + Sync + 's
     ensures saved { IfOk result (λ r. IfSome r.saved (IsSaveIn saving.now.field.now (writer_of r.writer.place.me.0))) }
 {
     let beside = load_beside(
-        rt, alloc, writer, ops, batch, readers, rounds, question, saving, save, gate,
+        rt, alloc, writer, ops, dense, batch, readers, rounds, question, saving, save, gate,
     )?;
     let mut writer = beside.writer;
     let first = take_all(alloc, &mut writer, beside.readings, question)?;
@@ -159,6 +160,7 @@ fn run_over<'a, const OFFSET_BITS: u32, R: Threads + Sync, G: Gate + Sync + 'sta
         alloc,
         writer,
         ops,
+        request.dense,
         request.batch,
         beside,
         request.rounds,

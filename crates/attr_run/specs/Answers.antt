@@ -1,5 +1,5 @@
 -- When each answer of a call occurs, and what it leaves.
-use Rattle.std.specs.Prelude.{◌≡◌, ◌≢◌, ℕ, ◌+◌, ◌≤◌, ◌⊎◌, List, [], length, Option, Some, None}
+use Rattle.std.specs.Prelude.{◌≡◌, ◌≢◌, ℕ, ◌+◌, ◌≤◌, ◌⊎◌, false, List, [], length, Option, Some, None}
 use Rattle.std.specs.Prelude.{Err, IsOkAnd}
 use Rattle.std.specs.Io.KnownBytes.{IsAtEnd}
 use Rattle.clap.specs.Walk.{Text}
@@ -120,7 +120,7 @@ pub record IsRunUntil (progress : Progress) (full : Option ℕ) (text : List ℕ
 pub record IsFullRun (progress : Progress) (operation active held : ℕ) (text : List ℕ) (run : Run) (ops : List Op) : Type 0 where
   pub until : IsRunUntil progress (Some operation) text run ops
   pub room : active + held ≡ run.buffers
-  pub owed : length run.fields ≡ 1 → IsOwed (load_in run ops) operation progress.loaded
+  pub owed : run.dense ≡ false → length run.fields ≡ 1 → IsOwed (load_in run ops) operation progress.loaded
   pub large : ¬ IsSmallRun run ops
   pub quiet : IsQuiet (readers_of run) → held ≡ 0
 

@@ -283,11 +283,11 @@ pub fn attr_main<R: Threads + Sync, S: Source, K: Sink, G: Gate + Sync + 'static
     // If an operation ran out of space, each buffer is in use, or held for readers.
     ensures room { (operation active held : ℕ) → result.status ≡ Status.Full operation active held
         → OfRun words.now (S.left source.old) (λ run ops. active + held ≡ run.buffers) }
-    // With one attribute, the entries made up to that operation can fill all buffers, and the run is not small. If no
-    // reader is active while operations are loaded, no buffer is held.
+    // With one attribute, the run is not small; and without `--dense`, the entries made up to that operation can fill all
+    // buffers. If no reader is active while operations are loaded, no buffer is held.
     ensures owed { (operation active held : ℕ) → result.status ≡ Status.Full operation active held
         → OfRun words.now (S.left source.old) (λ run ops.
-        length run.fields ≡ 1 → IsOwed (load_in run ops) operation result.loaded) }
+        run.dense ≡ false → length run.fields ≡ 1 → IsOwed (load_in run ops) operation result.loaded) }
     ensures large { (operation active held : ℕ) → result.status ≡ Status.Full operation active held
         → OfRun words.now (S.left source.old) (λ run ops. ¬ IsSmallRun run ops) }
     ensures quiet { (operation active held : ℕ) → result.status ≡ Status.Full operation active held

@@ -57,7 +57,7 @@ struct Told {
 }
 
 /// Creates a memory of `buffers` buffers with 8,192 words each.
-fn new_memory(
+pub fn new_memory(
     alloc: Global,
     fields: &Fields,
     buffers: u32,
@@ -72,12 +72,14 @@ fn new_memory(
     Ok(work)
 }
 
-/// Creates attributes without documents, over a work that keeps a copy of the words of each record, or not.
-fn noted_attribute<const OFFSET_BITS: u32, W: Work<OFFSET_BITS, Layout = AttrLayout> + Drop>(
+/// Creates attributes without documents, over a work that keeps a copy of the words of each record, or not; with or
+/// without bit vectors.
+pub fn noted_attribute<const OFFSET_BITS: u32, W: Work<OFFSET_BITS, Layout = AttrLayout> + Drop>(
     alloc: Global,
     work: W,
     fields: &Fields,
     noting: bool,
+    dense: bool,
 ) -> Result<Attribute<OFFSET_BITS, EntryStore<OFFSET_BITS, NotedWork<OFFSET_BITS, W>>>, AllocError>
     requires some { 0 < length fields.now }
     requires few { length fields.now ≤ MOST_FIELDS }
@@ -85,7 +87,7 @@ fn noted_attribute<const OFFSET_BITS: u32, W: Work<OFFSET_BITS, Layout = AttrLay
     requires fresh { IsFresh (W.knows work) }
     ensures fields { IfOk result (λ a. a.fields ≡ fields.now) }
 {
-    match Attribute::create(alloc, NotedWork::new(alloc, work, noting), fields, false) {
+    match Attribute::create(alloc, NotedWork::new(alloc, work, noting), fields, dense) {
         Ok(attribute) => Ok(attribute),
         Err(_) => Err(AllocError),
     }
@@ -260,7 +262,7 @@ fn line_of(alloc: Global, told: Told, held: u64, live: u64) -> Result<String, Al
 }
 
 /// Returns the memory of attributes, with all that was committed, and the root of the last commit.
-fn close(attribute: Kinds, fields: &Fields) -> (Memory, EntryRef<22>)
+pub fn close(attribute: Kinds, fields: &Fields) -> (Memory, EntryRef<22>)
     requires same { attribute.fields ≡ fields.now }
 {
     let (store, published) = attribute.into_store();
@@ -288,7 +290,7 @@ fn told_of(alloc: Global, fields: &Fields, load: Updates) -> Result<String, Allo
     requires few { length fields.now ≤ MOST_FIELDS }
 {
     let work = new_memory(alloc, fields, load.buffers.max(1).min(1000))?;
-    let mut attribute = noted_attribute(alloc, work, fields, load.counts)?;
+    let mut attribute = noted_attribute(alloc, work, fields, load.counts, false)?;
     let mut told = Told {
         operations: 0,
         commits: 0,

@@ -1,4 +1,5 @@
 //! The words of the records that an image reaches.
+use attr_images::FIRST_VECTOR;
 use attr_types::{Field, Kind};
 use check_images::{CheckFault, Keys, check_tree};
 use entry_ref::{word_in, words_at};
@@ -47,14 +48,48 @@ fn document_words(kind: Kind, records: &BTreeMap<u32, Vec<u64>>, reference: u64)
     }
 }
 
-/// Returns the number of words of a value and its list.
-fn value_words(records: &BTreeMap<u32, Vec<u64>>, key: u64, list: u64) -> u64 {
-    let own = words_of(records, key);
-    if list % 2 == 1 {
-        own.saturating_add(tree_words(records, list / 2))
-    } else {
-        own.saturating_add(words_of(records, list / 2))
+/// Returns the number of words of a bit vector: its nodes and its blocks.
+fn vector_words(
+    alloc: Global,
+    records: &BTreeMap<u32, Vec<u64>>,
+    root: u64,
+) -> Result<u64, CheckFault> {
+    let mut sum = tree_words(records, root);
+    for pair in &check_tree(alloc, Keys::Numbers, records, root)? {
+        sum = sum.saturating_add(words_of(records, pair.1));
     }
+    Ok(sum)
+}
+
+/// Returns the number of words of a list.
+fn list_words(
+    alloc: Global,
+    records: &BTreeMap<u32, Vec<u64>>,
+    list: u64,
+) -> Result<u64, CheckFault> {
+    if list >= FIRST_VECTOR {
+        return vector_words(alloc, records, list - FIRST_VECTOR);
+    }
+    if list % 2 == 1 {
+        return Ok(tree_words(records, list / 2));
+    }
+    Ok(words_of(records, list / 2))
+}
+
+/// Returns the number of lists of an image of one attribute, and the number of their words.
+pub fn lists_words(
+    alloc: Global,
+    field: &Field,
+    records: &BTreeMap<u32, Vec<u64>>,
+    root: u64,
+) -> Result<(usize, u64), CheckFault> {
+    let dictionary = word_in(words_at(records, root), 2);
+    let entries = check_tree(alloc, Keys::Values(field.value), records, dictionary)?;
+    let mut sum: u64 = 0;
+    for entry in &entries {
+        sum = sum.saturating_add(list_words(alloc, records, entry.1)?);
+    }
+    Ok((entries.len(), sum))
 }
 
 /// Returns the number of words of all that the root record of one attribute reaches, including itself.
@@ -71,7 +106,8 @@ pub fn live_words(
         sum = sum.saturating_add(document_words(field.kind, records, pair.1));
     }
     for pair in &check_tree(alloc, Keys::Values(field.value), records, dictionary)? {
-        sum = sum.saturating_add(value_words(records, pair.0, pair.1));
+        sum = sum.saturating_add(words_of(records, pair.0));
+        sum = sum.saturating_add(list_words(alloc, records, pair.1)?);
     }
     sum = sum.saturating_add(tree_words(records, documents));
     Ok(sum.saturating_add(tree_words(records, dictionary)))

@@ -6,6 +6,7 @@ mod commit;
 mod compaction;
 mod index_run;
 mod items;
+mod lists;
 mod live;
 mod memory;
 mod operations;
@@ -19,6 +20,7 @@ mod words;
 
 use crate::compaction::updates_told;
 use crate::index_run::{changes_told, reads_told};
+use crate::lists::lists_told;
 use crate::operations::apply_told;
 use crate::queries::asked_told;
 use crate::store_run::store_told;
@@ -37,6 +39,7 @@ fn told(alloc: Global, workload: Workload) -> Result<String, AllocError> {
         Workload::Reads(load) => reads_told(alloc, load),
         Workload::Operations(load) => apply_told(alloc, load),
         Workload::Queries(asks) => asked_told(alloc, asks),
+        Workload::Lists(load) => lists_told(alloc, load),
         Workload::Updates(load) => updates_told(alloc, load),
     }
 }
@@ -47,11 +50,12 @@ fn print_usage(rt: &HostRuntime) -> io::Result<()> {
     println!(rt; "bench_engine index uniform|zipf long|text VALUES POSTINGS ADDS REMOVES")?;
     println!(rt; "bench_engine index reads long|text VALUES DOCUMENTS ROUNDS")?;
     println!(rt;
-        "bench_engine attribute single|array|weightedset long|text OPERATIONS APPLIED BATCH BUFFERS"
+        "bench_engine attribute single|array|weightedset long|text OPERATIONS APPLIED BATCH BUFFERS [dense]"
     )?;
     println!(rt;
-        "bench_engine attribute queries none|term|terms|range|wide DOCUMENTS ROUNDS BUFFERS"
+        "bench_engine attribute queries none|term|terms|range|wide|quarters DOCUMENTS ROUNDS BUFFERS [dense]"
     )?;
+    println!(rt; "bench_engine attribute lists DOCUMENTS BUFFERS [dense]")?;
     println!(rt;
         "bench_engine compaction KIND long|text DOCUMENTS UPDATES LEFT BATCH BUFFERS uniform|zipf APPLIES KEYS COUNTS"
     )

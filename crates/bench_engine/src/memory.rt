@@ -39,11 +39,12 @@ pub fn new_memory(alloc: Global, fields: &Fields, buffers: u32) -> Result<Memory
     Ok(work)
 }
 
-/// Creates attributes without documents, over a memory without contents.
+/// Creates attributes without documents, over a memory without contents, with or without bit vectors.
 pub fn new_attribute<const OFFSET_BITS: u32, W: Work<OFFSET_BITS, Layout = AttrLayout> + Drop>(
     alloc: Global,
     work: W,
     fields: &Fields,
+    dense: bool,
 ) -> Result<Attribute<OFFSET_BITS, EntryStore<OFFSET_BITS, W>>, AllocError>
     requires some { 0 < length fields.now }
     requires few { length fields.now ≤ MOST_FIELDS }
@@ -51,7 +52,7 @@ pub fn new_attribute<const OFFSET_BITS: u32, W: Work<OFFSET_BITS, Layout = AttrL
     requires fresh { IsFresh (W.knows work) }
     ensures fields { IfOk result (λ a. a.fields ≡ fields.now) }
 {
-    match Attribute::create(alloc, work, fields, false) {
+    match Attribute::create(alloc, work, fields, dense) {
         Ok(attribute) => Ok(attribute),
         Err(_) => Err(AllocError),
     }

@@ -23,6 +23,8 @@ pub struct Load {
     pub applied: u32,
     pub batch: u32,
     pub buffers: u32,
+    /// Frequent values have bit vectors.
+    pub dense: bool,
 }
 
 /// Returns operation `i`: a put to one of half as many documents as operations; each eighth operation is a remove.
@@ -93,7 +95,7 @@ fn told_of(alloc: Global, fields: &Fields, load: Load) -> Result<String, AllocEr
     requires few { length fields.now ≤ MOST_FIELDS }
 {
     let work = new_memory(alloc, fields, load.buffers.max(1).min(1000))?;
-    let mut attribute = new_attribute(alloc, work, fields)?;
+    let mut attribute = new_attribute(alloc, work, fields, load.dense)?;
     let changed = apply_all(alloc, &mut attribute, fields, load)?;
     line_of(alloc, attribute, changed)
 }

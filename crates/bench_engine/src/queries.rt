@@ -1,4 +1,5 @@
-//! Queries on an array of numbers. Each document has three: one of 3, one of 10, and one that 9 documents have.
+//! Queries on an array of numbers. Each document has three: one of 3, one of 10, and one that 9 documents have; or two
+//! of 4, so that each is held by a quarter of the documents.
 ghost use Rattle.std.specs.Prelude.{◌≡◌, ◌<◌, ◌≤◌, length};
 ghost use Rattle.attr_images.specs.Images.{IsLawfulImage};
 ghost use Rattle.attr_images.specs.Shapes.{shape_of, types_of};
@@ -29,6 +30,8 @@ pub enum Question {
     Range,
     /// All values of the first two kinds, and half of the second with all of the third.
     Wide,
+    /// Two values of a quarter each.
+    Quarters,
 }
 
 /// The number of documents, the question, and how often it is asked.
@@ -38,6 +41,8 @@ pub struct Asks {
     pub documents: u32,
     pub rounds: u32,
     pub buffers: u32,
+    /// Frequent values have bit vectors.
+    pub dense: bool,
 }
 
 fn push_number(items: &mut Items, number: u32) -> Result<(), AllocError> {
@@ -46,11 +51,30 @@ fn push_number(items: &mut Items, number: u32) -> Result<(), AllocError> {
     Ok(())
 }
 
-fn put_of(alloc: Global, number: u32) -> Result<Op, AllocError> {
+fn thirds_of(alloc: Global, number: u32) -> Result<Items, AllocError> {
     let mut items = Items::new(alloc);
     push_number(&mut items, number % 3)?;
     push_number(&mut items, number % 10 + 10)?;
     push_number(&mut items, number / 9 + 1000)?;
+    Ok(items)
+}
+
+fn quarters_of(alloc: Global, number: u32) -> Result<Items, AllocError> {
+    let mut items = Items::new(alloc);
+    push_number(&mut items, number % 4)?;
+    push_number(&mut items, number / 4 % 4 + 10)?;
+    Ok(items)
+}
+
+fn items_for(alloc: Global, question: Question, number: u32) -> Result<Items, AllocError> {
+    match question {
+        Question::Quarters => quarters_of(alloc, number),
+        _ => thirds_of(alloc, number),
+    }
+}
+
+fn put_of(alloc: Global, question: Question, number: u32) -> Result<Op, AllocError> {
+    let items = items_for(alloc, question, number)?;
     let items = FieldItems::of_one(alloc, items)?;
     let doc = doc_at(number);
     Ok(Op::Put { doc, items })
@@ -61,12 +85,13 @@ fn put_one<const OFFSET_BITS: u32, S: Store<OFFSET_BITS, Layout = AttrLayout>>(
     alloc: Global,
     attribute: &mut Attribute<OFFSET_BITS, S>,
     fields: &Fields,
+    question: Question,
     i: u32,
 ) -> Result<(), AllocError>
     requires same { attribute.old.fields ≡ fields.now }
     ensures same { attribute.new.fields ≡ fields.now }
 {
-    let put = put_of(alloc, i.saturating_add(1))?;
+    let put = put_of(alloc, question, i.saturating_add(1))?;
     apply_one(alloc, attribute, fields, &put)?;
     if i % 1000 == 999 {
         return commit_one(attribute, fields);
@@ -74,17 +99,19 @@ fn put_one<const OFFSET_BITS: u32, S: Store<OFFSET_BITS, Layout = AttrLayout>>(
     Ok(())
 }
 
-fn fill<const OFFSET_BITS: u32, W: Work<OFFSET_BITS, Layout = AttrLayout>>(
+/// Puts the documents of a question, and commits.
+pub fn fill<const OFFSET_BITS: u32, W: Work<OFFSET_BITS, Layout = AttrLayout>>(
     alloc: Global,
     attribute: &mut Attribute<OFFSET_BITS, EntryStore<OFFSET_BITS, W>>,
     fields: &Fields,
+    question: Question,
     documents: u32,
 ) -> Result<(), AllocError>
     requires same { attribute.old.fields ≡ fields.now }
     ensures same { attribute.new.fields ≡ fields.now }
 {
     for i in 0..documents {
-        put_one(alloc, attribute, fields, i)?;
+        put_one(alloc, attribute, fields, question, i)?;
     }
     commit_one(attribute, fields)
 }
@@ -121,6 +148,7 @@ fn query_of(alloc: Global, asks: Asks, round: u32) -> Result<Query, AllocError> 
             Ok(between(first, first + 10))
         }
         Question::Wide => both(alloc, between(0, 19), between(15, 1_000_000_000)),
+        Question::Quarters => both(alloc, is(round % 4), is(round / 4 % 4 + 10)),
     }
 }
 
@@ -216,8 +244,9 @@ fn told_of(alloc: Global, fields: &Fields, asks: Asks) -> Result<String, AllocEr
     requires few { length fields.now ≤ MOST_FIELDS }
 {
     let work = new_memory(alloc, fields, asks.buffers.max(1).min(1000))?;
-    let mut attribute = new_attribute(alloc, work, fields)?;
-    fill(alloc, &mut attribute, fields, asks.documents.min(1_000_000))?;
+    let mut attribute = new_attribute(alloc, work, fields, asks.dense)?;
+    let documents = asks.documents.min(1_000_000);
+    fill(alloc, &mut attribute, fields, asks.question, documents)?;
     line_of(alloc, attribute, fields, asks)
 }
 

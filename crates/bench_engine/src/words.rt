@@ -1,6 +1,7 @@
 //! The workload that words select.
 use crate::compaction::Updates;
 use crate::index_run::{Changes, Reads};
+use crate::lists::Frequent;
 use crate::operations::Load;
 use crate::queries::{Asks, Question};
 use crate::store_run::StoreLoad;
@@ -22,6 +23,8 @@ pub enum Workload {
     Operations(Load),
     /// Queries of one attribute.
     Queries(Asks),
+    /// The lists of frequent values.
+    Lists(Frequent),
     /// Updates of one attribute, with steps of a compaction.
     Updates(Updates),
 }
@@ -59,6 +62,7 @@ fn question_of(name: &str) -> Option<Question> {
         "terms" => Some(Question::Terms),
         "range" => Some(Question::Range),
         "wide" => Some(Question::Wide),
+        "quarters" => Some(Question::Quarters),
         _ => None,
     }
 }
@@ -81,6 +85,14 @@ fn order_at(words: &[String], place: usize) -> Option<Order> {
 
 fn is_at(words: &[String], place: usize, wanted: &str) -> Option<bool> {
     Some(words.get(place)?.as_str() == wanted)
+}
+
+/// Returns whether there is a word at a place, and it is this one.
+fn has_at(words: &[String], place: usize, wanted: &str) -> bool {
+    match words.get(place) {
+        Some(word) => word.as_str() == wanted,
+        None => false,
+    }
 }
 
 fn number_at(words: &[String], place: usize) -> Option<u32> {
@@ -152,7 +164,7 @@ fn changes_in(words: &[String]) -> Option<Workload> {
     }))
 }
 
-/// `attribute queries none|term|terms|range|wide DOCUMENTS ROUNDS BUFFERS`.
+/// `attribute queries none|term|terms|range|wide|quarters DOCUMENTS ROUNDS BUFFERS [dense]`.
 fn queries_in(words: &[String]) -> Option<Workload> {
     let [documents, rounds, buffers, ..] = numbers_at(words, 3, 3)?;
     Some(Workload::Queries(Asks {
@@ -160,10 +172,21 @@ fn queries_in(words: &[String]) -> Option<Workload> {
         documents,
         rounds,
         buffers,
+        dense: has_at(words, 6, "dense"),
     }))
 }
 
-/// `attribute KIND long|text OPERATIONS APPLIED BATCH BUFFERS`.
+/// `attribute lists DOCUMENTS BUFFERS [dense]`.
+fn lists_in(words: &[String]) -> Option<Workload> {
+    let [documents, buffers, ..] = numbers_at(words, 2, 2)?;
+    Some(Workload::Lists(Frequent {
+        documents,
+        buffers,
+        dense: has_at(words, 4, "dense"),
+    }))
+}
+
+/// `attribute KIND long|text OPERATIONS APPLIED BATCH BUFFERS [dense]`.
 fn operations_in(words: &[String]) -> Option<Workload> {
     let [operations, applied, batch, buffers, _] = numbers_at(words, 3, 4)?;
     Some(Workload::Operations(Load {
@@ -173,6 +196,7 @@ fn operations_in(words: &[String]) -> Option<Workload> {
         applied,
         batch,
         buffers,
+        dense: has_at(words, 7, "dense"),
     }))
 }
 
@@ -205,6 +229,7 @@ pub fn workload_in(words: &[String]) -> Option<Workload> {
         },
         "attribute" => match words.get(1)?.as_str() {
             "queries" => queries_in(words),
+            "lists" => lists_in(words),
             _ => operations_in(words),
         },
         "compaction" => updates_in(words),

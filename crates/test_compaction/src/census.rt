@@ -1,4 +1,5 @@
 //! Which records the attributes reach in each buffer, by role.
+use attr_images::FIRST_VECTOR;
 use attr_types::{Field, Kind, ValueType};
 use check_images::{CheckFault, Keys, check_tree};
 use entry_ref::{word_in, words_at};
@@ -10,8 +11,9 @@ use tree_read::FIRST_VALUE;
 const BUFFERS: usize = 1024;
 
 /// The roles of records, each of which is moved in one phase of a compaction: keys of dictionaries, records of
-/// documents, posting lists, and nodes of dictionaries and of document trees.
-pub const ROLES: usize = 4;
+/// documents, posting lists (of a bit vector, its nodes), nodes of dictionaries and of document trees, and blocks of
+/// bit vectors, which are moved with the lists.
+pub const ROLES: usize = 5;
 
 const KEYS: usize = 0;
 
@@ -20,6 +22,8 @@ const DOCUMENTS: usize = 1;
 const LISTS: usize = 2;
 
 const NODES: usize = 3;
+
+const BLOCKS: usize = 4;
 
 /// The number of records of each role in each buffer, and which records these are.
 #[derive(Drop)]
@@ -142,17 +146,37 @@ fn add_document(
     Ok(())
 }
 
+/// Adds the nodes and the blocks of a bit vector.
+fn add_vector(
+    alloc: Global,
+    census: &mut Census,
+    records: &BTreeMap<u32, Vec<u64>>,
+    root: u64,
+) -> Result<(), CheckFault> {
+    let blocks = check_tree(alloc, Keys::Numbers, records, root)?;
+    for pair in blocks.as_slice() {
+        census.note(BLOCKS, pair.1)?;
+    }
+    add_tree(census, LISTS, records, root)?;
+    Ok(())
+}
+
 /// Adds a value's list.
 fn add_list(
+    alloc: Global,
     census: &mut Census,
     records: &BTreeMap<u32, Vec<u64>>,
     word: u64,
-) -> Result<(), AllocError> {
-    if word % 2 == 1 {
-        add_tree(census, LISTS, records, word / 2)
-    } else {
-        census.note(LISTS, word / 2)
+) -> Result<(), CheckFault> {
+    if word >= FIRST_VECTOR {
+        return add_vector(alloc, census, records, word - FIRST_VECTOR);
     }
+    if word % 2 == 1 {
+        add_tree(census, LISTS, records, word / 2)?;
+    } else {
+        census.note(LISTS, word / 2)?;
+    }
+    Ok(())
 }
 
 /// Adds the documents of an attribute.
@@ -181,7 +205,7 @@ fn add_values(
     let values = check_tree(alloc, Keys::Values(value), records, root)?;
     for pair in values.as_slice() {
         census.note(KEYS, pair.0)?;
-        add_list(census, records, pair.1)?;
+        add_list(alloc, census, records, pair.1)?;
     }
     Ok(())
 }

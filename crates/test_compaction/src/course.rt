@@ -30,6 +30,8 @@ pub struct Load {
     pub waits: bool,
     /// This many readers keep guards, each over a compaction and all later ones; 0 if the memory has no readers.
     pub guards: u32,
+    /// Frequent values have bit vectors.
+    pub dense: bool,
 }
 
 /// The result of a run.

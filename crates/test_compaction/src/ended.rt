@@ -23,6 +23,7 @@ pub struct Copied {
     pub fours: u32,
     pub sixteens: u32,
     pub nodes: u32,
+    pub blocks: u32,
 }
 
 /// Returns the commit with this number, counted from 1.
@@ -49,6 +50,7 @@ fn add_width(copied: &mut Copied, width: u32) {
         4 => copied.fours = copied.fours.saturating_add(1),
         16 => copied.sixteens = copied.sixteens.saturating_add(1),
         34 => copied.nodes = copied.nodes.saturating_add(1),
+        64 => copied.blocks = copied.blocks.saturating_add(1),
         _ => {}
     }
 }
@@ -77,6 +79,7 @@ pub fn look_back(watch: &Watch, all: &[Ended], commits: usize) -> Copied {
         fours: 0,
         sixteens: 0,
         nodes: 0,
+        blocks: 0,
     };
     match watch.seen() {
         Some(seen) => {

@@ -1,7 +1,7 @@
 //! Rows of standard input: `run FIELDS BUFFERS PUTS VALUES LAST KEEP COMMITS KEYS FINISHES CHECKS EACH REMOVES PARTS
-//! WAITS`, followed by GUARDS if readers keep guards; then `said LINE`, how much it must have done, and `met WORDS`,
-//! what must have occurred. `tell` prints all of it. FIELDS are `KIND:TYPE`, separated by commas. Other lines are
-//! comments.
+//! WAITS`, followed by GUARDS if readers keep guards, and by DENSE and DROPS; then `said LINE`, how much it must have
+//! done, and `met WORDS`, what must have occurred. `tell` prints all of it. FIELDS are `KIND:TYPE`, separated by commas.
+//! Other lines are comments.
 use crate::course::Load;
 use crate::memory::run;
 use crate::outcome::Outcome;
@@ -22,6 +22,7 @@ fn load_in(row: &str) -> Load {
             values: count_at(row, 3),
             last: count_at(row, 4),
             keep: count_at(row, 5),
+            drops: count_at(row, 16) != 0,
         },
         commits: count_at(row, 6),
         keys: count_at(row, 7),
@@ -32,6 +33,7 @@ fn load_in(row: &str) -> Load {
         parts: count_at(row, 12),
         waits: count_at(row, 13) != 0,
         guards: count_at(row, 14),
+        dense: count_at(row, 15) != 0,
     }
 }
 
@@ -65,10 +67,12 @@ fn has_met(outcome: Outcome, word: &str) -> bool {
         "documents" => copied.counts[1] > 0,
         "lists" => copied.counts[2] > 0,
         "nodes" => copied.counts[3] > 0,
+        "blocks" => copied.counts[4] > 0,
         "width 2" => copied.twos > 0,
         "width 4" => copied.fours > 0,
         "width 16" => copied.sixteens > 0,
         "width 34" => copied.nodes > 0,
+        "width 64" => copied.blocks > 0,
         "refused" => told.refused > 0,
         "stopped" => told.stopped > 0,
         "went on" => told.resumed > 0,
@@ -124,7 +128,13 @@ fn described(alloc: Global, outcome: Option<Outcome>) -> Result<String, AllocErr
     ];
     let (idle, full) = (told.idle, told.full);
     let moved = copied.counts;
-    let widths = [copied.twos, copied.fours, copied.sixteens, copied.nodes];
+    let widths = [
+        copied.twos,
+        copied.fours,
+        copied.sixteens,
+        copied.nodes,
+        copied.blocks,
+    ];
     let guards = [outcome.kept, outcome.back];
     format!(in alloc;
         "{counts}; operations, commits, steps {done:?}; refused, stopped, short, cut, resumed {broken:?}; idle {idle} full {full}; copied {moved:?}; widths {widths:?}; guards, back {guards:?}"

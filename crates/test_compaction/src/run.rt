@@ -34,7 +34,7 @@ pub fn open<const OFFSET_BITS: u32, W: Work<OFFSET_BITS, Layout = AttrLayout> + 
     ensures fields { IfOk result (λ a. a.fields ≡ fields.now) }
 {
     let watch = Watch::new(alloc, fields, load)?;
-    match Attribute::create(alloc, Watched::new(alloc, work, watch), fields, false) {
+    match Attribute::create(alloc, Watched::new(alloc, work, watch), fields, load.dense) {
         Ok(attribute) => Ok(attribute),
         Err(_) => Err(AllocError),
     }

@@ -5,13 +5,14 @@ use attr_types::{Doc, Field, Op, fits};
 use std::alloc::{AllocError, Global};
 
 /// The operations are puts to the documents 1 to `puts`; removes of those from 1 to `last` that `keep` does not
-/// divide, or of all if it is 0; and then removes of the lowest document.
+/// divide, or of all if it is 0, or with `drops` of those that it divides; and then removes of the lowest document.
 #[derive(Clone, Copy)]
 pub struct Script {
     pub puts: u32,
     pub values: u32,
     pub last: u32,
     pub keep: u32,
+    pub drops: bool,
 }
 
 impl Script {
@@ -24,7 +25,19 @@ impl Script {
         if self.keep == 0 {
             return self.last;
         }
-        self.last.saturating_sub(self.last / self.keep)
+        let divided = self.last / self.keep;
+        if self.drops {
+            return divided;
+        }
+        self.last.saturating_sub(divided)
+    }
+
+    /// Returns the number of the document that this remove, counted from 0, removes.
+    fn gone(self, number: u32) -> u32 {
+        if self.drops && self.keep > 0 {
+            return number.saturating_add(1).saturating_mul(self.keep);
+        }
+        removed(self.keep, number)
     }
 }
 
@@ -32,7 +45,7 @@ fn doc_of(number: u32) -> Doc {
     Doc::new(number.max(1).min(Doc::LAST))
 }
 
-/// Returns the number of the document that this remove, counted from 0, removes.
+/// Returns the number of the document that this remove, counted from 0, removes if those that `keep` divides stay.
 fn removed(keep: u32, number: u32) -> u32 {
     if keep < 2 {
         return number.saturating_add(1);
@@ -67,7 +80,7 @@ pub fn op_at(
         });
     }
     if number < script.load() {
-        let doc = doc_of(removed(script.keep, number.saturating_sub(script.puts)));
+        let doc = doc_of(script.gone(number.saturating_sub(script.puts)));
         return Ok(Op::Remove { doc });
     }
     match lowest(plain) {

@@ -1,24 +1,26 @@
 //! The lines of a worked row.
-use crate::worked::told_of;
+use crate::worked::{forms_of, told_of};
 use std::alloc::{AllocError, Global};
 use test_kit::{fields_in, number_at};
 
-/// The attributes and the number of buffers; the operations and commits, one in each line; and the queries, one in
-/// each line.
+/// The attributes and the number of buffers; the operations and commits, one in each line; the queries, one in each
+/// line; and whether only the forms of the lists are wanted.
 #[derive(Drop)]
 pub struct Lines {
     row: String,
     turns: String,
     queries: String,
+    forms: bool,
 }
 
 impl Lines {
     /// Returns a row with its attributes and its number of buffers.
-    pub fn new(alloc: Global, row: &str) -> Result<Lines, AllocError> {
+    pub fn new(alloc: Global, row: &str, forms: bool) -> Result<Lines, AllocError> {
         Ok(Lines {
             row: String::from_str(alloc, row)?,
             turns: String::new(alloc),
             queries: String::new(alloc),
+            forms,
         })
     }
 
@@ -32,6 +34,38 @@ impl Lines {
         self.turns.push_str("]}}\n")
     }
 
+    /// Takes puts of a value to documents from one to another, or puts without a value.
+    fn take_puts(&mut self, first: u32, last: u32, value: Option<&str>) -> Result<(), AllocError> {
+        for doc in first..last.saturating_add(1) {
+            write!(self.turns, "{{\"put\":\"id:n:t::{doc}\",\"fields\":{{")?;
+            if let Some(value) = value {
+                write!(self.turns, "\"f\":{value}")?;
+            }
+            self.turns.push_str("}}\n")?;
+        }
+        Ok(())
+    }
+
+    /// Takes removes of documents from one to another.
+    fn take_removes(&mut self, first: u32, last: u32) -> Result<(), AllocError> {
+        for doc in first..last.saturating_add(1) {
+            write!(self.turns, "{{\"remove\":\"id:n:t::{doc}\"}}\n")?;
+        }
+        Ok(())
+    }
+
+    /// Takes a line that stands for several operations. Another one is a comment, and is skipped.
+    fn take_many(&mut self, line: &str) -> Result<(), AllocError> {
+        let first = number_at(line, 1);
+        let last = number_at(line, 2);
+        match line.split(' ').next() {
+            Some("fives") => self.take_fives(first),
+            Some("puts") => self.take_puts(first, last, line.split(' ').skip(3).next()),
+            Some("removes") => self.take_removes(first, last),
+            _ => Ok(()),
+        }
+    }
+
     /// Takes one more line. A comment is skipped.
     pub fn take(&mut self, line: &str) -> Result<(), AllocError> {
         if line == "commit" || line.starts_with('{') {
@@ -42,17 +76,20 @@ impl Lines {
             self.queries.push_str(query)?;
             return self.queries.push_str("\n");
         }
-        if let Some(count) = line.strip_prefix("fives ") {
-            return self.take_fives(number_at(count, 0));
-        }
-        Ok(())
+        self.take_many(line)
     }
 
     /// Returns the result of the row, if it names one to eight attributes.
     pub fn answer(&self, alloc: Global) -> Result<String, AllocError> {
         let buffers = number_at(&self.row, 1);
         match fields_in(alloc, &self.row)? {
-            Some(fields) => told_of(alloc, &fields, buffers, &self.turns, &self.queries),
+            Some(fields) => {
+                if self.forms {
+                    let dense = number_at(&self.row, 2) != 0;
+                    return forms_of(alloc, &fields, buffers, dense, &self.turns);
+                }
+                told_of(alloc, &fields, buffers, &self.turns, &self.queries)
+            }
             None => String::from_str(alloc, "no attribute"),
         }
     }

@@ -1,7 +1,8 @@
 //! Rows of standard input: `run FIELDS SEED EPISODES OPERATIONS DOCUMENTS VALUES ITEMS PERIOD COMMITS BUFFERS QUERIES
-//! CHECKS`; then `said LINE`, how much it must have done, and `met WORDS`, what must have occurred often enough.
+//! CHECKS DENSE`; then `said LINE`, how much it must have done, and `met WORDS`, what must have occurred often enough.
 //! FIELDS are `KIND:TYPE`, separated by commas. Or `on FIELDS BUFFERS`; then an operation of a feed or `commit` in
-//! each line, `ask QUERY` for each query, and `answers LINE`, the expected result. Other lines are comments.
+//! each line, `ask QUERY` for each query, and `answers LINE`, the expected result. Or `forms FIELDS BUFFERS DENSE`, with
+//! such lines, and `answers LINE`, the forms of lists. Other lines are comments.
 use crate::lines::Lines;
 use crate::make::Sizes;
 use crate::run::{Load, Told, run};
@@ -24,6 +25,7 @@ fn load_in(row: &str) -> Load {
         buffers: number_at(row, 9),
         queries: number_at(row, 10),
         checks: number_at(row, 11) != 0,
+        dense: number_at(row, 12) != 0,
     }
 }
 
@@ -95,7 +97,7 @@ impl Rows {
         Ok(Rows {
             case: String::new(alloc),
             told: None,
-            worked: Lines::new(alloc, "")?,
+            worked: Lines::new(alloc, "", false)?,
             tally: Tally::default(),
         })
     }
@@ -106,9 +108,9 @@ impl Rows {
         Ok(())
     }
 
-    fn begin_worked(&mut self, alloc: Global, row: &str) -> Result<(), AllocError> {
+    fn begin_worked(&mut self, alloc: Global, row: &str, forms: bool) -> Result<(), AllocError> {
         self.told = None;
-        self.worked = Lines::new(alloc, row)?;
+        self.worked = Lines::new(alloc, row, forms)?;
         self.case = String::from_str(alloc, row)?;
         Ok(())
     }
@@ -149,7 +151,10 @@ impl Rows {
             return Ok(self.begin_run(rt.alloc(), row)?);
         }
         if let Some(row) = line.strip_prefix("on ") {
-            return Ok(self.begin_worked(rt.alloc(), row)?);
+            return Ok(self.begin_worked(rt.alloc(), row, false)?);
+        }
+        if let Some(row) = line.strip_prefix("forms ") {
+            return Ok(self.begin_worked(rt.alloc(), row, true)?);
         }
         if let Some(wanted) = line.strip_prefix("answers") {
             return self.compare_worked(rt, wanted);

@@ -33,6 +33,8 @@ pub struct Load {
     pub queries: u32,
     /// Whether the slow checker reads the image at the end of each episode.
     pub checks: bool,
+    /// Whether frequent values have bit vectors.
+    pub dense: bool,
 }
 
 /// The result of a run.
@@ -344,7 +346,8 @@ fn episode(
     requires few { length fields.now ≤ MOST_FIELDS }
 {
     let start = *random;
-    let mut attribute = new_attribute(alloc, fields, load.buffers.max(1).min(1000), load.checks)?;
+    let buffers = load.buffers.max(1).min(1000);
+    let mut attribute = new_attribute(alloc, fields, buffers, load.checks, load.dense)?;
     play(alloc, &mut attribute, fields, load, random, told)?;
     let (mut work, last) = close(attribute, fields);
     ask_last(alloc, &mut work, last, fields, load, start, random, told)

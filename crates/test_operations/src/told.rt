@@ -12,6 +12,17 @@ pub fn push_answer(told: &mut String, answer: Answer) -> Result<(), AllocError> 
     }
 }
 
+/// Writes how many of the answers are that something changed.
+pub fn push_changed(told: &mut String, answers: &str) -> Result<(), AllocError> {
+    let mut count: u32 = 0;
+    for word in answers.split(' ') {
+        if word == "changed" {
+            count = count.saturating_add(1);
+        }
+    }
+    write!(told, " {count} changed")
+}
+
 pub fn push_commit(told: &mut String, committed: Committed) -> Result<(), AllocError> {
     match committed {
         Committed::At { number, operations } => write!(told, " commit {number}/{operations}"),

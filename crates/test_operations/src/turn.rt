@@ -73,12 +73,13 @@ fn new_memory(
     Ok(NotedWork::new(alloc, work, noting))
 }
 
-/// Creates attributes without documents, in `buffers` buffers of 8,192 words.
+/// Creates attributes without documents, in `buffers` buffers of 8,192 words, with or without bit vectors.
 pub fn new_attribute(
     alloc: Global,
     fields: &Fields,
     buffers: u32,
     noting: bool,
+    dense: bool,
 ) -> Result<Kinds, AllocError>
     requires some { 0 < length fields.now }
     requires few { length fields.now ≤ MOST_FIELDS }
@@ -87,7 +88,7 @@ pub fn new_attribute(
     ensures fields { IfOk result (λ a. a.fields ≡ fields.now) }
 {
     let work = new_memory(alloc, fields, buffers, noting)?;
-    match Attribute::create(alloc, work, fields, false) {
+    match Attribute::create(alloc, work, fields, dense) {
         Ok(attribute) => Ok(attribute),
         Err(_) => Err(AllocError),
     }

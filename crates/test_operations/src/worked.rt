@@ -5,7 +5,8 @@ ghost use Rattle.attr_images.specs.Images.{IsLawfulImage};
 ghost use Rattle.attr_images.specs.Shapes.{shape_of, types_of};
 ghost use Rattle.attr_types.specs.declared.field.TheConstants.{MOST_FIELDS};
 
-use crate::told::{push_answer, push_commit, push_documents, push_table};
+use crate::forms::push_forms;
+use crate::told::{push_answer, push_changed, push_commit, push_documents, push_table};
 use crate::turn::{Noted, apply_one, close, commit_one, new_attribute};
 use arena_api::{Frozen, Work};
 use attr_images::AttrLayout;
@@ -218,7 +219,7 @@ fn tell_all(
     requires buffers { 1 ≤ buffers }
     requires fit { buffers ≤ 1000 }
 {
-    let mut attribute = new_attribute(alloc, fields, buffers, true)?;
+    let mut attribute = new_attribute(alloc, fields, buffers, true, false)?;
     take_lines(alloc, &mut attribute, fields, lines, told)?;
     let (mut work, last) = close(attribute, fields);
     tell_last(alloc, &mut work, last, fields, queries, told)
@@ -238,5 +239,47 @@ pub fn told_of(
     let mut told = String::new(alloc);
     let most = buffers.max(1).min(1000);
     tell_all(alloc, fields, most, lines, queries, &mut told)?;
+    Ok(told)
+}
+
+/// Writes how many operations changed something, and the forms of the lists of the last commit.
+fn tell_forms(
+    alloc: Global,
+    fields: &Fields,
+    buffers: u32,
+    dense: bool,
+    lines: &str,
+    told: &mut String,
+) -> Result<(), AllocError>
+    requires some { 0 < length fields.now }
+    requires few { length fields.now ≤ MOST_FIELDS }
+    requires buffers { 1 ≤ buffers }
+    requires fit { buffers ≤ 1000 }
+{
+    let mut said = String::new(alloc);
+    let mut attribute = new_attribute(alloc, fields, buffers, true, dense)?;
+    take_lines(alloc, &mut attribute, fields, lines, &mut said)?;
+    let (work, last) = close(attribute, fields);
+    push_changed(told, &said)?;
+    match work.notes() {
+        Some(records) => push_forms(alloc, fields.as_slice(), records, u64::from(last.root.raw()), told),
+        None => Err(AllocError),
+    }
+}
+
+/// Returns how many operations of the lines changed something, and the forms of the lists of the last commit.
+pub fn forms_of(
+    alloc: Global,
+    fields: &Fields,
+    buffers: u32,
+    dense: bool,
+    lines: &str,
+) -> Result<String, AllocError>
+    requires some { 0 < length fields.now }
+    requires few { length fields.now ≤ MOST_FIELDS }
+{
+    let mut told = String::new(alloc);
+    let most = buffers.max(1).min(1000);
+    tell_forms(alloc, fields, most, dense, lines, &mut told)?;
     Ok(told)
 }

@@ -1,9 +1,10 @@
 //! Rows of standard input: `words LINE`, then `feed LINE` for each line of the feed, or `each FIRST LAST LINE` for
-//! one line for each number, which replaces `#` in the line; and at last the expected result of the run:
+//! one line for each number, which replaces `#` in the line, or `rests FIRST LAST BY LINE` for the same with the rest of
+//! the number by BY in place of each `%`; and at last the expected result of the run:
 //!
 //! - `said LINE`: what it must answer and write. A run with a short feed is repeated with wide references and
-//! `--dense`, which change nothing but the sizes that a store may have, also if it is refused; if it had no readers,
-//! also with two readers after the loading, whose rounds have the last answers.
+//! `--dense`, which change no answer, also if it is refused; if it had no readers, also with two readers after the
+//! loading, whose rounds have the last answers.
 //! - `saved LINE`: the same with the written bytes in hexadecimal, and no other run.
 //! - `room OPERATION ACTIVE HELD`: the operation that ran out of space, and how many buffers were in use and held.
 //! - `beside READERS ROUNDS LINE`: what it must answer and write, except the rounds of its readers, which ran beside
@@ -58,6 +59,10 @@ impl Row {
             push_each(alloc, &mut self.feed, asked)?;
             return Ok(true);
         }
+        if let Some(asked) = line.strip_prefix("rests ") {
+            push_rests(alloc, &mut self.feed, asked)?;
+            return Ok(true);
+        }
         if let Some(lines) = line.strip_prefix("point ") {
             self.points.push(String::from_str(alloc, lines)?)?;
             return Ok(true);
@@ -99,6 +104,32 @@ fn push_numbered(feed: &mut String, line: &str, number: &str) -> Result<(), Allo
         feed.push_str(part)?;
     }
     feed.push_str("\n")
+}
+
+/// Returns a line with a number in place of each `%`.
+fn with_rest(alloc: Global, line: &str, rest: u32) -> Result<String, AllocError> {
+    let mut whole = String::new(alloc);
+    for (at, part) in line.split('%').enumerate() {
+        if at > 0 {
+            write!(whole, "{rest}")?;
+        }
+        whole.push_str(part)?;
+    }
+    Ok(whole)
+}
+
+fn push_rests(alloc: Global, feed: &mut String, asked: &str) -> Result<(), AllocError> {
+    let mut parts = asked.splitn(4, ' ');
+    let first = parts.next().unwrap_or("").parse::<u32>().unwrap_or(0);
+    let last = parts.next().unwrap_or("").parse::<u32>().unwrap_or(0);
+    let by = parts.next().unwrap_or("").parse::<u32>().unwrap_or(0);
+    let line = parts.next().unwrap_or("");
+    for number in first..=last {
+        let line = with_rest(alloc, line, number % by.max(1))?;
+        let number = format!(in alloc; "{number}")?;
+        push_numbered(feed, &line, &number)?;
+    }
+    Ok(())
 }
 
 fn push_each(alloc: Global, feed: &mut String, asked: &str) -> Result<(), AllocError> {
@@ -164,7 +195,7 @@ fn compare_wide<R: Threads + Sync>(
     row: &Row,
     wanted: &str,
 ) -> io::Result<()> {
-    if row.words.contains("--wide") {
+    if row.words.contains("--wide") || row.words.contains("--dense") {
         return Ok(());
     }
     let words = format!(in rt.alloc(); "--wide --dense {}", row.words.as_str())?;

@@ -33,7 +33,8 @@ returns-clause-loads g c =
     loads_into _ c.args.fields.now c.args.batch c.args.ops.now c.in_ok-attribute.attribute c.in_ok-attribute-2.attribute c.in_ok-attribute-2.loaded
     c.args.writer.place.table_id c.closed-writer.result.place.table_id (writer_of c.args.writer.place.me.0) (writer_of c.closed-writer.result.place.me.0)
     c.in_ok-attribute-2.ensures.loads c.in_ok-attribute.ensures.fields c.in_ok-attribute.ensures.work c.closed-writer.ensures.knows
-    c.closed-writer.ensures.shape c.requires.new c.requires.few c.closed-writer.result.stands.good.empty c.in_ok-attribute.ensures.nothing c.in_ok-attribute.ensures.dense c.in_ok-attribute.ensures.plan
+    c.closed-writer.ensures.shape c.requires.new c.requires.few c.closed-writer.result.stands.good.empty c.in_ok-attribute.ensures.nothing
+    c.args.dense c.in_ok-attribute.ensures.dense c.in_ok-attribute.ensures.plan
 
 pub returns-clause-made : goal.returns-clause-made
 returns-clause-made g c =

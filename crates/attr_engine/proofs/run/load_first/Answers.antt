@@ -24,7 +24,7 @@ take_all-requires g c =
 
 pub returns-clause-loads : goal.returns-clause-loads
 returns-clause-loads g c =
-    loads_kept c.args.question.now.fields.now c.args.batch c.args.ops.now (writer_of c.args.writer.place.me.0) (writer_of c.in_ok-beside.beside.writer.place.me.0)
+    loads_kept c.args.question.now.fields.now c.args.dense c.args.batch c.args.ops.now (writer_of c.args.writer.place.me.0) (writer_of c.in_ok-beside.beside.writer.place.me.0)
     (writer_of c.take_saved.new.writer.place.me.0) c.in_ok-beside.beside.loaded
     (keeps_on (writer_of c.in_ok-beside.beside.writer.place.me.0) (writer_of c.take_all.new.writer.place.me.0) (writer_of c.take_saved.new.writer.place.me.0)
     c.in_ok-first.ensures.keeps c.in_ok-saved.ensures.keeps) (c.in_ok-saved.ensures.made ∙ c.in_ok-first.ensures.made) c.in_ok-beside.ensures.loads

@@ -1,4 +1,4 @@
-use Rattle.std.proofs.Common.{refl, arith}
+use Rattle.std.proofs.Common.{arith}
 use Rattle.test_refusals.proofs.run.new_attribute.Goals as goal
 
 pub create-requires : goal.create-requires
@@ -12,7 +12,7 @@ create-requires c = (
         c.requires.few,
         (
           c.in_ok-work.ensures.shape,
-          (c.in_ok-work.ensures.fresh, refl),
+          c.in_ok-work.ensures.fresh,
         ),
       ),
     ),
