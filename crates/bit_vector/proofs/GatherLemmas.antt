@@ -1,20 +1,19 @@
 -- A bit vector made of blocks that were made of documents.
-use Rattle.std.proofs.Common.{◌≡◌, ◌≢◌, ℕ, ℤ, pos, zero, suc, ◌+◌, ◌-◌, ◌*◌, ◌/◌, ◌%◌, ◌<◌, ◌≤◌, Bool, true, false, ◌||◌, ◌&&◌, cond, List, [], ◌∷◌, ◌++◌, map, filter, length, length-append, nat_eq, Result, Ok, Err, refl, sym, ap, ap₂, subst, ◌∙◌, arith}
+use Rattle.std.proofs.Common.{◌≡◌, ℕ, ℤ, pos, zero, suc, ◌+◌, ◌-◌, ◌*◌, ◌/◌, ◌%◌, ◌<◌, ◌≤◌, Bool, true, false, ◌||◌, ◌&&◌, cond, List, [], ◌∷◌, ◌++◌, map, filter, length, length-append, nat_eq, Result, Ok, Err, refl, sym, ap, ap₂, subst, ◌∙◌, arith}
 use Rattle.std.specs.Prelude.{IfOk}
 use Rattle.std.specs.List.{zip, range_with_len, AllZip, AllByRecursion}
 use Rattle.std.specs.List.Sorted.{IsStrictlySortedBy}
 use Rattle.std.specs.Ordering.{nat_cmp}
-use Rattle.std.proofs.lemmas.Bool.{eqb-true, eqb-false, eq-eqb, ne_eqb}
+use Rattle.std.proofs.lemmas.Bool.{eqb-true, eqb-false, eq-eqb}
 use Rattle.std.proofs.lemmas.List.{append-nil}
 use Rattle.entry_ref.specs.Records.{Records, SameAt}
 use Rattle.store_api.specs.Ledgers.{Ledger}
-use Rattle.store_api.specs.Parts.{Part, After, Owns, Turns, count_in, entry, entries, times, uses}
-use Rattle.store_api.specs.Units.{MayDo}
+use Rattle.store_api.specs.Parts.{After, Owns, Turns, entry, entries, times}
 use Rattle.store_api.specs.declared.store.StoreError.{StoreError}
 use Rattle.store_api.proofs.PartLemmas.{after, owns-some, owns-then, turns-as, turns-then}
 use Rattle.store_api.proofs.Times.{times-append}
 use Rattle.tree_read.specs.ProofsForTrees.{tree_nodes-same}
-use Rattle.tree_read.specs.Trees.{tree_nodes, tree_pairs, by_number}
+use Rattle.tree_read.specs.Trees.{tree_nodes, tree_pairs}
 use Rattle.frozen_btree.specs.Changes.{tree}
 use Rattle.attr_types.specs.Lawful.{IsDocNumber}
 use Rattle.attr_images.proofs.BlockLemmas.{block_has_bits}
@@ -24,9 +23,9 @@ use Rattle.attr_index.proofs.DocLemmas.{kept_has, same_ascending, ascends_from_s
 use Rattle.attr_index.specs.Sets.{has, in_words, IsAscending}
 use Rattle.bit_vector.specs.Changes.{vector_part, MakesVector}
 use Rattle.bit_vector.specs.Fillings.{IsBlockOf, MakesBlock, MakesBlocks}
-use Rattle.bit_vector.specs.Vectors.{blocks_documents, is_block_of, IsVector}
+use Rattle.bit_vector.specs.Vectors.{blocks_documents, is_block_of}
 use Rattle.bit_vector.specs.declared.filling.Blocks.{Blocks}
-use Rattle.bit_vector.proofs.DocumentLemmas.{and_false, all_has, has_all, has_append, ones, or_false, sorted}
+use Rattle.bit_vector.proofs.DocumentLemmas.{and_false, all_has, has_append, ones, sorted}
 use Rattle.bit_vector.proofs.FillLemmas.{block_of, keys}
 use Rattle.bit_vector.proofs.OnesLemmas.{passing, passing_few, passing_one, passing_split}
 use Rattle.bit_vector.proofs.SetLemmas.{block_is}
@@ -178,15 +177,16 @@ module _ (o : Records) (docs : List ℕ) where
   are_blocks (k ∷ ks) [] some all = absurd all
   are_blocks (k ∷ ks) (r ∷ rs) some all = (
     one docs some.0.1 (λ d there at.
-    let place : 4096 * k + d % 4096 ≡ d = omega (arith, at) in
-    block_is k (o r) (d % 4096) (let few : k ≤ 255 = some.0.0 in omega (arith, few)) all.0.size (omega arith)
-    (all.0.bits (d % 4096) (omega arith) ∙ ap (has docs) place ∙ there)),
+        let place : 4096 * k + d % 4096 ≡ d = omega (arith, at) in
+        block_is k (o r) (d % 4096) (let few : k ≤ 255 = some.0.0 in omega (arith, few)) all.0.size (omega arith)
+        (all.0.bits (d % 4096) (omega arith) ∙ ap (has docs) place ∙ there)),
     are_blocks ks rs some.1 all.1,
   )
     where
       or_yes : (x : Bool) → (x || true) ≡ true
       or_yes true = refl
       or_yes false = refl
+
       one : {G : Type 0} (ds : List ℕ) → is_block_of ds k ≡ true → ((d : ℕ) → has ds d ≡ true → d / 4096 ≡ k → G) → G
       one [] is found = absurd (grind (arith, is))
       one (x ∷ ds) is found = by_cases (nat_eq (x / 4096) k)

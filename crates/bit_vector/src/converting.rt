@@ -1,3 +1,4 @@
+//! A bit vector made of a tree of documents, and such a tree made of a bit vector.
 ghost use Rattle.std.specs.Prelude.{◌≡◌, ◌+◌, ◌∷◌, [], pos, true, map, length, replicate, IfOk, IfErr};
 ghost use Rattle.std.specs.List.{AllByRecursion};
 ghost use Rattle.std.specs.Ordering.{nat_cmp};

@@ -1,15 +1,15 @@
-use Rattle.std.proofs.Common.{◌≡◌, ◌∷◌, [], ℕ, List, length, map, rules, refl, inl, inr, sym, ap, subst, ◌∙◌, arith}
+use Rattle.std.proofs.Common.{◌≡◌, ℕ, List, length, refl, inr, ap, subst, ◌∙◌, arith}
 use Rattle.std.specs.List.{zip}
 use Rattle.std.specs.Prelude.{IfOk}
 use Rattle.std.proofs.lemmas.Result.{err_from_is_err_and}
 use Rattle.list_facts.proofs.Each.{AllByRecursion-each}
-use Rattle.store_api.proofs.May.{may_do-same, may_do-then}
+use Rattle.store_api.proofs.May.{may_do-then}
 use Rattle.tree_read.specs.Trees.{tree_pairs}
 use Rattle.frozen_btree.specs.Builds.{nodes_of}
 use Rattle.frozen_btree.specs.Makes.{CountsNodes}
 use Rattle.bit_vector.specs.Changes.{IsVectorWidth}
 use Rattle.bit_vector.specs.Vectors.{count_blocks}
-use Rattle.bit_vector.proofs.CountLemmas.{if_one, of_one, within_both, within_wider}
+use Rattle.bit_vector.proofs.CountLemmas.{if_one, within_both, within_wider}
 use Rattle.bit_vector.proofs.FillLemmas.{keys}
 use Rattle.bit_vector.proofs.GatherLemmas.{makes_vector_if, slices_ascend, slices_even, slices_pairs}
 use Rattle.bit_vector.proofs.converting.from_tree.Goals as goal
@@ -68,7 +68,7 @@ returns-clause-makes g c =
     let t = c.make_blocks.new.store in
     let u = c.build.new.store in
     let pairs = slices_pairs (ledger s) (ledger t) (ledger t) (records s) (records t) (records t) (tree_pairs (records s) c.args.root) c.in_ok-blocks.blocks c.requires.tree.ascends c.requires.numbers
-        c.in_ok-blocks.ensures.makes c.as_slice.result.now c.as_slice-2.result.now c.as_slice.ensures.value c.as_slice-2.ensures.value in
+    c.in_ok-blocks.ensures.makes c.as_slice.result.now c.as_slice-2.result.now c.as_slice.ensures.value c.as_slice-2.ensures.value in
     makes_vector_if (ledger s) (ledger t) (ledger u) (records s) (records t) (records u) (tree_pairs (records s) c.args.root) c.in_ok-blocks.blocks c.requires.tree.ascends c.requires.numbers
     c.in_ok-blocks.ensures.makes c.build.result c.build.ensures.keyed
     (subst (λ (qs : List (ℕ × ℕ)). IfOk c.build.result (λ r. tree_pairs (records u) r ≡ qs)) pairs c.build.ensures.pairs) c.build.ensures.turns

@@ -1,4 +1,4 @@
-use Rattle.std.proofs.Common.{◌≡◌, ◌∷◌, [], ℕ, List, true, length, map, sym, ap, subst, ◌∙◌, arith}
+use Rattle.std.proofs.Common.{◌≡◌, ℕ, List, true, length, map, sym, ap, subst, ◌∙◌, arith}
 use Rattle.std.specs.Prelude.{IfOk, IfErr}
 use Rattle.std.specs.List.{zip}
 use Rattle.std.specs.List.Sorted.{IsStrictlySortedBy}
@@ -51,7 +51,7 @@ returns-clause-makes g c =
     let docs = c.in-Ok.docs.items in
     let size : c.len.result ≡ length docs = c.len.ensures ∙ c.in-Ok.docs.ok.0 in
     let pairs = ones_pairs docs c.in-Ok-ones.values.items c.as_slice.result.now c.as_slice-2.result.now c.len.result c.as_slice.ensures.value c.as_slice-2.ensures.value c.in-Ok-ones.ensures size
-        ∙ ap (map (λ (doc : ℕ). (doc, 1))) c.in-Ok.ensures.documents in
+    ∙ ap (map (λ (doc : ℕ). (doc, 1))) c.in-Ok.ensures.documents in
     let ps = map (λ (doc : ℕ). (doc, 1)) (vector_documents (records s) root) in
     subst (λ (f : g.row.S.Denot). IfOk c.build.result (MakesTree (ledger f) (ledger u) (records f) (records u) ps)) c.documents_of.ensures.same
     (makes_tree_if (ledger t) (ledger u) (records t) (records u) ps c.build.result c.build.ensures.keyed

@@ -1,4 +1,4 @@
-use Rattle.std.proofs.Common.{◌≡◌, ◌∷◌, [], ℕ, Bool, refl, ap, ◌∙◌, ◌+◌, ◌*◌, arith}
+use Rattle.std.proofs.Common.{ℕ, Bool, refl, ap, ◌∙◌, ◌+◌, ◌*◌, arith}
 use Rattle.std.proofs.lemmas.Result.{err_from_is_err_and}
 use Rattle.store_api.specs.Calls.{IsUsedWidth}
 use Rattle.store_api.proofs.May.{may_do-same, may_do-then}
