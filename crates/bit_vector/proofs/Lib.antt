@@ -11,3 +11,4 @@ pub mod FillLemmas
 pub mod DropLemmas
 pub mod GatherLemmas
 pub mod MoveLemmas
+pub mod KernelLemmas

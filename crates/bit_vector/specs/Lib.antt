@@ -6,3 +6,4 @@ pub mod Walks
 pub mod Laws
 pub mod Keeps
 pub mod Moves
+pub mod Kernels

@@ -12,7 +12,6 @@ pub mod VectorLemmas
 pub mod WeightLemmas
 pub mod ScoreListLemmas
 pub mod TreeLemmas
-pub mod KernelLemmas
 pub mod BitLemmas
 pub mod ListLemmas
 pub mod JoinLemmas

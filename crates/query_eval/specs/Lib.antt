@@ -4,6 +4,5 @@ pub mod Blocks
 pub mod Takers
 pub mod ProofsForTakers
 pub mod Weights
-pub mod Kernels
 pub mod Lists
 pub mod Vectors

@@ -11,7 +11,6 @@ mod common;
 mod dictionary;
 mod image;
 mod kept;
-mod kernels;
 mod lists;
 mod marks;
 mod members;
@@ -27,5 +26,5 @@ mod weights;
 mod words;
 
 pub use answers::{hits, scores};
+pub use bit_vector::{block_and, block_or};
 pub use image::documents;
-pub use kernels::{block_and, block_or};

@@ -11,11 +11,11 @@ ghost use Rattle.query_eval.specs.Lists.{list_has, all_have, some_has, IsVectorW
 ghost use Rattle.query_eval.specs.Vectors.{IsInHand};
 
 use crate::blocks::{BLOCK_SIZE, has_bit, push_block};
-use crate::kernels::{block_and, block_or};
 use arena_api::Frozen;
 use attr_images::{BLOCK_WORDS, FIRST_VECTOR};
 use attr_index::Gathered;
 use attr_types::{Doc, DocList};
+use bit_vector::{block_and, block_or};
 use entry_ref::EntryRef;
 use frozen_btree::{Cursor, NumberKey, find};
 use std::alloc::{AllocError, Global};

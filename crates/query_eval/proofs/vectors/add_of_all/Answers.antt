@@ -3,7 +3,7 @@ use Rattle.std.proofs.lemmas.Simd.{length-zip2}
 use Rattle.attr_index.specs.Sets.{in_words}
 use Rattle.query_eval.specs.Lists.{list_has, IsVectorWord}
 use Rattle.query_eval.proofs.JoinLemmas.{all_after, some_more}
-use Rattle.query_eval.proofs.KernelLemmas.{either_bit}
+use Rattle.bit_vector.proofs.KernelLemmas.{either_bit}
 use Rattle.query_eval.proofs.vectors.add_of_all.Goals as goal
 
 pub loop-list-preserved : goal.loop-list-preserved

@@ -3,7 +3,7 @@ use Rattle.std.proofs.lemmas.Simd.{length-zip2}
 use Rattle.attr_index.specs.Sets.{in_words}
 use Rattle.query_eval.specs.Lists.{list_has, IsVectorWord}
 use Rattle.query_eval.proofs.JoinLemmas.{all_after, all_more}
-use Rattle.query_eval.proofs.KernelLemmas.{both_bits}
+use Rattle.bit_vector.proofs.KernelLemmas.{both_bits}
 use Rattle.query_eval.proofs.vectors.keep_in_all.Goals as goal
 
 pub loop-list-preserved : goal.loop-list-preserved

@@ -1,9 +1,9 @@
 use Rattle.std.proofs.Common.{◌≡◌, ◌+◌, ℕ, List, length, arith, refl, ap, ◌∙◌, bit_or}
 use Rattle.std.proofs.lemmas.Simd.{length-put_chunk}
 use Rattle.std.specs.Simd.Lanes.{chunk, zip2}
-use Rattle.query_eval.specs.Kernels.{joined_from}
-use Rattle.query_eval.proofs.KernelLemmas.{lanes_more}
-use Rattle.query_eval.proofs.kernels.or_most.Goals as goal
+use Rattle.bit_vector.specs.Kernels.{joined_from}
+use Rattle.bit_vector.proofs.KernelLemmas.{lanes_more}
+use Rattle.bit_vector.proofs.kernels.or_most.Goals as goal
 
 pub loop-into-preserved : goal.loop-into-preserved
 loop-into-preserved c =

@@ -4,7 +4,7 @@ use Rattle.std.proofs.lemmas.Nat.Bits.{bit_at_and, bit_at_or, bit_at-lt}
 use Rattle.std.specs.Int.{bit_at}
 use Rattle.std.specs.Simd.Lanes.{chunk, put_chunk, zip2}
 use Rattle.attr_index.specs.Sets.{in_words}
-use Rattle.query_eval.specs.Kernels.{joined_from}
+use Rattle.bit_vector.specs.Kernels.{joined_from}
 
 module _ (f : ℕ → ℕ → ℕ) where
   first_lanes : (n : ℕ) (xs ys : List ℕ) → n ≤ length xs → length xs ≡ length ys

@@ -2,7 +2,7 @@
 ghost use Rattle.std.specs.Prelude.{◌≡◌, ◌+◌, ◌≤◌, length, bit_and};
 ghost use Rattle.std.specs.Int.RustNames.{bit_or};
 ghost use Rattle.std.specs.Simd.Lanes.{chunk, put_chunk, zip2};
-ghost use Rattle.query_eval.specs.Kernels.{joined_from};
+ghost use Rattle.bit_vector.specs.Kernels.{joined_from};
 
 use std::simd::prelude::*;
 

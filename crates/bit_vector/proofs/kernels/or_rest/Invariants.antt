@@ -1,6 +1,6 @@
 use Rattle.std.proofs.Common.{◌≡◌, ◌≤◌, length, bit_or}
-use Rattle.query_eval.specs.Kernels.{joined_from}
-use Rattle.query_eval.proofs.kernels.or_rest.Given as goal
+use Rattle.bit_vector.specs.Kernels.{joined_from}
+use Rattle.bit_vector.proofs.kernels.or_rest.Given as goal
 
 abbrev pub invariant-loop-at : goal.invariant-loop-at
 invariant-loop-at l = record {
