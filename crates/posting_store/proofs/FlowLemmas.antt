@@ -1,5 +1,5 @@
 -- Where the old records of a list come from: blocks from the same blocks, and none where the form changed.
-use Rattle.std.proofs.Common.{◌≡◌, ◌≢◌, ℕ, zero, suc, ◌+◌, ◌-◌, ◌%◌, ◌<◌, ◌≤◌, Bool, true, false, true≢false, List, [], ◌∷◌, map, length, Option, None, Some, inl, inr, ◌⊎◌, refl, sym, ap, subst, ◌∙◌, arith}
+use Rattle.std.proofs.Common.{◌≡◌, ◌≢◌, ℕ, zero, suc, ◌+◌, ◌-◌, ◌%◌, Bool, true, false, true≢false, List, [], ◌∷◌, map, length, Option, None, Some, inl, inr, ◌⊎◌, refl, sym, ap, subst, ◌∙◌, arith}
 use Rattle.entry_ref.specs.Records.{Records, SameAt, Among}
 use Rattle.tree_read.specs.Pairs.{lookup}
 use Rattle.tree_read.specs.ProofsForTrees.{SameAt-left, tree_pairs-same}
@@ -119,7 +119,7 @@ flows_vector a b m n word next was root is next_is may turns keeps = record {
     each = λ k r there old.
         vector_block m word was k is
         ∙ keeps.each k r (sym (vector_block n next root k next_is) ∙ there)
-            (subst (λ rs. Among r rs) (reach_is m word was is) (flow_part a b m n (list_part word) (list_part next) may turns r old (list_block_among n next k r there)));
+        (subst (λ rs. Among r rs) (reach_is m word was is) (flow_part a b m n (list_part word) (list_part next) may turns r old (list_block_among n next k r there)));
   };
   anew = λ apart r old among. apart (le-leb 8589934592 next (omega (arith, next_is)) ∙ sym (le-leb 8589934592 word (omega (arith, is))));
 }

@@ -1,5 +1,5 @@
 -- A list that is a bit vector.
-use Rattle.std.proofs.Common.{◌≡◌, ℕ, zero, suc, ℤ, pos, ◌+◌, ◌-◌, ◌*◌, ◌<◌, Bool, true, false, cond, nat_eq, List, [], ◌∷◌, inr, map, length, refl, sym, ap, subst, ◌∙◌, arith}
+use Rattle.std.proofs.Common.{◌≡◌, ℕ, zero, suc, ℤ, pos, ◌+◌, ◌-◌, ◌*◌, ◌<◌, Bool, true, false, cond, nat_eq, List, [], ◌∷◌, map, length, refl, sym, ap, subst, ◌∙◌, arith}
 use Rattle.std.specs.Prelude.{IsSome}
 use Rattle.std.proofs.lemmas.Bool.{eqb-true, eqb-false}
 use Rattle.std.specs.BTreeMap.{insert_entry, is_at}
@@ -8,7 +8,7 @@ use Rattle.std.specs.Map.{keys_of, remove_entry}
 use Rattle.std.specs.Map.{lookup as lookup_in}
 use Rattle.std.specs.Ordering.{nat_cmp}
 use Rattle.entry_ref.specs.Records.{Records}
-use Rattle.tree_read.specs.Trees.{tree_pairs, by_number, root_level, root_least, IsTree, IsRootNode}
+use Rattle.tree_read.specs.Trees.{tree_pairs, root_level, root_least, IsRootNode}
 use Rattle.store_api.specs.Ledgers.{Ledger, capacity}
 use Rattle.store_api.specs.Parts.{count_in, times, Owns, Turns}
 use Rattle.store_api.specs.Statuses.{in_use}
@@ -16,16 +16,14 @@ use Rattle.store_api.specs.Units.{MakesAtMost, MayDo}
 use Rattle.store_api.proofs.PartLemmas.{turns-as}
 use Rattle.frozen_btree.specs.Builds.{nodes_of}
 use Rattle.frozen_btree.specs.Changes.{levels}
-use Rattle.frozen_btree.specs.Changes.{tree as tree_part}
 use Rattle.frozen_btree.specs.Makes.{CountsNodes}
 use Rattle.attr_images.proofs.ImageLemmas.{node_there}
-use Rattle.attr_images.specs.Postings.{vector, list_form, block_documents, vector_documents, postings_at, postings_reach, IsPostingList}
-use Rattle.attr_images.specs.Words.{weight_in_bits}
+use Rattle.attr_images.specs.Postings.{vector, block_documents, vector_documents, postings_at, postings_reach, IsPostingList}
 use Rattle.attr_types.specs.Lawful.{IsDocNumber}
 use Rattle.bit_vector.specs.Changes.{vector_most, vector_part, MakesTree, MakesVector, MakesWithin}
 use Rattle.bit_vector.specs.Vectors.{count_blocks, vector_at, vector_reach, IsVector}
 use Rattle.posting_store.specs.Lists.{list_at, list_levels, list_reach, form_levels, is_vector, AreDocuments, AreOnes, IsList, IsPlain}
-use Rattle.posting_store.specs.Changes.{list_part, list_change_most, form_most, IsLongWidth, MakesList}
+use Rattle.posting_store.specs.Changes.{list_part, list_change_most, form_most, MakesList}
 use Rattle.posting_store.specs.Keeps.{FlowsList}
 use Rattle.posting_store.proofs.FlowLemmas.{flows_made, flows_vector}
 use Rattle.posting_store.proofs.ChangeLemmas.{is_list, makes_tree}

@@ -39,20 +39,20 @@ filter_or p q (x ∷ xs) = told (filter_or p q xs) (p x) (q x)
 
 past_block : (k a n : ℕ) → k < a → length (filter (λ x. nat_eq k x) (range_with_len a n)) ≤ 0
 past_block k a zero below = omega arith
-past_block k a (suc n) below = told (past_block k (suc a) n (omega (arith, below))) (nat_eq k a) refl
+past_block k a (suc n) below = told (past_block k (a + 1) n (omega (arith, below))) (nat_eq k a) refl
   where
-    told : length (filter (λ x. nat_eq k x) (range_with_len (suc a) n)) ≤ 0 → (t : Bool) → nat_eq k a ≡ t → length
-        (cond t (a ∷ filter (λ x. nat_eq k x) (range_with_len (suc a) n)) (filter (λ x. nat_eq k x) (range_with_len (suc a) n))) ≤ 0
+    told : length (filter (λ x. nat_eq k x) (range_with_len (a + 1) n)) ≤ 0 → (t : Bool) → nat_eq k a ≡ t → length
+        (cond t (a ∷ filter (λ x. nat_eq k x) (range_with_len (a + 1) n)) (filter (λ x. nat_eq k x) (range_with_len (a + 1) n))) ≤ 0
     told rest true is = absurd (let same = eqb-true k a is in omega (arith, same, below))
     told rest false is = rest
 
 one_block : (k a n : ℕ) → length (filter (λ x. nat_eq k x) (range_with_len a n)) ≤ 1
 one_block k a zero = omega arith
-one_block k a (suc n) = told (one_block k (suc a) n) (nat_eq k a) refl
+one_block k a (suc n) = told (one_block k (a + 1) n) (nat_eq k a) refl
   where
-    told : length (filter (λ x. nat_eq k x) (range_with_len (suc a) n)) ≤ 1 → (t : Bool) → nat_eq k a ≡ t → length
-        (cond t (a ∷ filter (λ x. nat_eq k x) (range_with_len (suc a) n)) (filter (λ x. nat_eq k x) (range_with_len (suc a) n))) ≤ 1
-    told rest true is = let none = past_block k (suc a) n (let same = eqb-true k a is in omega (arith, same)) in omega (arith, none)
+    told : length (filter (λ x. nat_eq k x) (range_with_len (a + 1) n)) ≤ 1 → (t : Bool) → nat_eq k a ≡ t → length
+        (cond t (a ∷ filter (λ x. nat_eq k x) (range_with_len (a + 1) n)) (filter (λ x. nat_eq k x) (range_with_len (a + 1) n))) ≤ 1
+    told rest true is = let none = past_block k (a + 1) n (let same = eqb-true k a is in omega (arith, same)) in omega (arith, none)
     told rest false is = rest
 
 module _ (xs : List ℕ) (once : (k : ℕ) → length (filter (λ x. nat_eq k x) xs) ≤ 1) where

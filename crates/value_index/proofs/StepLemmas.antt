@@ -160,7 +160,7 @@ module _ {H : Type 0} (value : Value) (a b c : Ledger H) (m n o : Records) (root
         → IfOk answer (MakesDictionary (type_of value) b c n o root (put (beside_value value n) (key, posting) (tree_pairs n root)))
         → IfOk answer (λ next. dense ≡ false → IsPlainIndex o next)
     set_plain (Err e) posting same some plain all makes = tt
-    set_plain (Ok next) posting same some plain all makes off =
+    set_plain (Ok next) posting same some plain all makes = λ off.
         plain_set value a b m n root key word start is c o next (put (beside_value value n) (key, posting) (tree_pairs n root)) makes
         (word_some n word (subst {A = Docs} (λ ds. 0 < length ds) (sym reads) some)) (ap (λ (w : ℕ). put (beside_value value n) (key, w) (tree_pairs n root)) same)
         (plain off) (all off)

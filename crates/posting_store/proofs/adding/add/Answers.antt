@@ -1,12 +1,10 @@
-use Rattle.std.proofs.Common.{◌≡◌, ◌∷◌, [], true, false, ℕ, ℤ, pos, List, w32, to_z, of_z, length, refl, sym, ap, subst, ◌∙◌, ◌<◌, ◌||◌, arith}
-use Rattle.std.specs.Prelude.{IfOk, IfErr}
+use Rattle.std.proofs.Common.{ℤ, w32, to_z, of_z, length, refl, sym, subst, ◌∙◌, ◌||◌, arith}
 use Rattle.std.proofs.lemmas.Int.{to_z-of_z}
 use Rattle.std.proofs.lemmas.Result.{err_from_is_err_and}
 use Rattle.std.specs.BTreeMap.{insert_entry}
 use Rattle.std.specs.Ordering.{nat_cmp}
 use Rattle.attr_images.specs.Postings.{is_dense}
 use Rattle.bit_vector.specs.Changes.{MakesWithin}
-use Rattle.store_api.specs.Calls.{RefusesOf}
 use Rattle.store_api.proofs.May.{may_do-same, may_do-then}
 use Rattle.posting_store.specs.Lists.{list_at, list_levels, is_vector, AreOnes}
 use Rattle.posting_store.specs.Changes.{list_change_most, IsListChangeWidth, MakesList}

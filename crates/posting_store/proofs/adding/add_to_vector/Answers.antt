@@ -1,13 +1,8 @@
-use Rattle.std.proofs.Common.{◌≡◌, ◌∷◌, [], true, false, ℕ, ℤ, pos, List, w32, length, refl, sym, ap, subst, ◌∙◌, ◌<◌, ◌||◌, arith}
-use Rattle.std.specs.Prelude.{IfOk, IfErr}
-use Rattle.std.proofs.lemmas.Int.{to_z-of_z}
+use Rattle.std.proofs.Common.{true, pos, length, arith}
 use Rattle.std.proofs.lemmas.Result.{err_from_is_err_and}
 use Rattle.std.specs.BTreeMap.{insert_entry}
 use Rattle.std.specs.Ordering.{nat_cmp}
-use Rattle.attr_images.specs.Postings.{is_dense}
-use Rattle.bit_vector.specs.Changes.{MakesWithin}
-use Rattle.store_api.specs.Calls.{RefusesOf}
-use Rattle.store_api.proofs.May.{may_do-same, may_do-then}
+use Rattle.store_api.proofs.May.{may_do-same}
 use Rattle.attr_types.specs.Lawful.{IsDocNumber}
 use Rattle.posting_store.specs.Lists.{list_at}
 use Rattle.bit_vector.specs.Changes.{IsVectorWidth}

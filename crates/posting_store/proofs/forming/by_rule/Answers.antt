@@ -1,4 +1,4 @@
-use Rattle.std.proofs.Common.{◌≡◌, ◌∷◌, [], true, false, ℕ, ℤ, List, length, sym, ap, subst, ◌∙◌, ◌<◌}
+use Rattle.std.proofs.Common.{◌≡◌, ◌∷◌, [], true, false, length, sym, ap, subst, ◌∙◌, ◌<◌}
 use Rattle.std.specs.Prelude.{IfOk, IfErr}
 use Rattle.attr_images.specs.Postings.{is_dense}
 use Rattle.bit_vector.specs.Changes.{MakesWithin}

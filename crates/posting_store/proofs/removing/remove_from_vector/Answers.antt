@@ -1,15 +1,9 @@
-use Rattle.std.proofs.Common.{◌≡◌, ◌∷◌, [], true, false, ℕ, ℤ, List, length, refl, sym, ap, subst, ◌∙◌, ◌<◌, ◌≤◌, ◌||◌, arith}
-use Rattle.std.specs.Prelude.{IfOk, IfErr, IsSome}
+use Rattle.std.proofs.Common.{true, length, arith}
 use Rattle.std.proofs.lemmas.Result.{err_from_is_err_and}
 use Rattle.std.specs.BTreeMap.{is_at}
-use Rattle.std.specs.Map.{lookup, remove_entry}
+use Rattle.std.specs.Map.{remove_entry}
 use Rattle.std.specs.Ordering.{nat_cmp}
-use Rattle.attr_images.specs.Postings.{is_dense}
-use Rattle.bit_vector.specs.Changes.{MakesWithin}
-use Rattle.store_api.specs.Calls.{RefusesOf}
-use Rattle.store_api.specs.Parts.{Owns}
-use Rattle.store_api.specs.Units.{MayDo}
-use Rattle.store_api.proofs.May.{may_do-same, may_do-then}
+use Rattle.store_api.proofs.May.{may_do-same}
 use Rattle.posting_store.specs.Lists.{list_at}
 use Rattle.bit_vector.specs.Changes.{IsVectorWidth}
 use Rattle.posting_store.specs.Changes.{IsListChangeWidth}

@@ -1,15 +1,10 @@
-use Rattle.std.proofs.Common.{◌≡◌, ◌∷◌, [], true, false, ℕ, ℤ, List, length, refl, sym, ap, subst, ◌∙◌, ◌<◌, ◌≤◌, ◌||◌, arith}
-use Rattle.std.specs.Prelude.{IfOk, IfErr, IsSome}
-use Rattle.std.proofs.lemmas.Result.{err_from_is_err_and}
+use Rattle.std.proofs.Common.{◌≡◌, true, false, length, sym, subst, ◌∙◌}
+use Rattle.std.specs.Prelude.{IfOk, IfErr}
 use Rattle.std.specs.BTreeMap.{is_at}
-use Rattle.std.specs.Map.{lookup, remove_entry}
+use Rattle.std.specs.Map.{remove_entry}
 use Rattle.std.specs.Ordering.{nat_cmp}
-use Rattle.attr_images.specs.Postings.{is_dense}
 use Rattle.bit_vector.specs.Changes.{MakesWithin}
 use Rattle.store_api.specs.Calls.{RefusesOf}
-use Rattle.store_api.specs.Parts.{Owns}
-use Rattle.store_api.specs.Units.{MayDo}
-use Rattle.store_api.proofs.May.{may_do-same, may_do-then}
 use Rattle.posting_store.specs.Lists.{list_at, list_levels, is_vector}
 use Rattle.posting_store.specs.Changes.{list_change_most, IsListChangeWidth, MakesList}
 use Rattle.posting_store.proofs.removing.remove_in_form.Goals as goal
