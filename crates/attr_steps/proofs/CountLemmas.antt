@@ -53,73 +53,74 @@ rises sum step i n below =
 more_of : (a b : ℕ) → a ≤ a + b
 more_of a b = omega arith
 
-module _ {H : Type 0} (dense : Bool) (fields : List Field) (table : Table) (doc : ℕ) (old new : Option Document) where
+module _ (dense : Bool) (fields : List Field) (table : Table) (doc : ℕ) (old new : Option Document) where
   abbrev forms_to : ℕ → ℕ → ℕ
   forms_to n = document_forms dense fields table doc old new n
 
   abbrev records_to : ℕ → ℕ → ℕ
   records_to n = document_records fields table doc old new n
 
-  pub makes_none : (ledger : Ledger H) (n : ℕ) → MakesDocument dense ledger ledger fields table doc old new n
-  makes_none ledger n = record {
-    few = within_none ledger (besides (by_width (document_nodes old new n) (records_to n)) (forms_to n));
-    low = λ levels stay. within_none ledger (besides (by_width (low_document levels old new n) (records_to n)) (forms_to n));
-  }
+  module _ {H : Type 0} where
+    pub makes_none : (ledger : Ledger H) (n : ℕ) → MakesDocument dense ledger ledger fields table doc old new n
+    makes_none ledger n = record {
+      few = within_none ledger (besides (by_width (document_nodes old new n) (records_to n)) (forms_to n));
+      low = λ levels stay. within_none ledger (besides (by_width (low_document levels old new n) (records_to n)) (forms_to n));
+    }
 
-  module _ (begun now : Ledger H) (i : ℕ) where
-    pub counts_all : (n : ℕ) → i ≤ n → MakesDocument dense begun now fields table doc old new i → MakesDocument dense begun now fields table doc old new n
-    counts_all n below made =
-        let records : (w : ℕ) → records_to i w ≤ records_to n w =
-        λ w. rises (λ k. records_to k w)
-        (λ k. more_of (records_to k w)
-        (change_records (kind_at fields k) (column_of k table) doc (items_if_there old k) (items_if_there new k) w)) i n below in
-        let forms : (w : ℕ) → forms_to i w ≤ forms_to n w =
-        λ w. rises (λ k. forms_to k w)
-        (λ k. more_of (forms_to k w)
-        (change_forms (wants dense (kind_at fields k)) (column_of k table) doc (items_if_there old k) (items_if_there new k) w)) i n below in
-        record {
-          few = besides_more begun now (document_nodes old new i) (document_nodes old new n) (records_to i) (records_to n) (forms_to i) (forms_to n)
-              (rises (document_nodes old new) (λ k. omega arith) i n below) records forms made.few;
-          low = λ levels stay. besides_more begun now (low_document levels old new i) (low_document levels old new n) (records_to i) (records_to n) (forms_to i) (forms_to n)
-              (rises (low_document levels old new) (λ k. more_of (low_document levels old new k) (low_nodes levels (weights_at old k) (weights_at new k))) i n below) records forms
-              (made.low levels (λ field less. stay field (omega arith)));
-        }
+    module _ (begun now : Ledger H) (i : ℕ) where
+      pub counts_all : (n : ℕ) → i ≤ n → MakesDocument dense begun now fields table doc old new i → MakesDocument dense begun now fields table doc old new n
+      counts_all n below made =
+          let records : (w : ℕ) → records_to i w ≤ records_to n w =
+          λ w. rises (λ k. records_to k w)
+          (λ k. more_of (records_to k w)
+          (change_records (kind_at fields k) (column_of k table) doc (items_if_there old k) (items_if_there new k) w)) i n below in
+          let forms : (w : ℕ) → forms_to i w ≤ forms_to n w =
+          λ w. rises (λ k. forms_to k w)
+          (λ k. more_of (forms_to k w)
+          (change_forms (wants dense (kind_at fields k)) (column_of k table) doc (items_if_there old k) (items_if_there new k) w)) i n below in
+          record {
+            few = besides_more begun now (document_nodes old new i) (document_nodes old new n) (records_to i) (records_to n) (forms_to i) (forms_to n)
+                (rises (document_nodes old new) (λ k. omega arith) i n below) records forms made.few;
+            low = λ levels stay. besides_more begun now (low_document levels old new i) (low_document levels old new n) (records_to i) (records_to n) (forms_to i) (forms_to n)
+                (rises (low_document levels old new) (λ k. more_of (low_document levels old new k) (low_nodes levels (weights_at old k) (weights_at new k))) i n below) records forms
+                (made.low levels (λ field less. stay field (omega arith)));
+          }
 
-    -- one attribute more, of this kind and column
-    module _ (later : Ledger H) (field : Field) (column : Column) (at : slice_get fields i ≡ Some field) (reads : column ≡ column_of i table)
-        (before : List Item) (after : Option (List Item)) (was : before ≡ items_if_there old i) (is : after ≡ option_map (λ d. items_in d i) new) where
-      kind_is : field.kind ≡ kind_at fields i
-      kind_is = sym (ap (λ (o : Option Field). unwrap_or (option_map (λ (f : Field). f.kind) o) Single) at)
+      -- one attribute more, of this kind and column
+      module _ (later : Ledger H) (field : Field) (column : Column) (at : slice_get fields i ≡ Some field) (reads : column ≡ column_of i table)
+          (before : List Item) (after : Option (List Item)) (was : before ≡ items_if_there old i) (is : after ≡ option_map (λ d. items_in d i) new) where
+        kind_is : field.kind ≡ kind_at fields i
+        kind_is = sym (ap (λ (o : Option Field). unwrap_or (option_map (λ (f : Field). f.kind) o) Single) at)
 
-      abbrev Makes : (List (Value × ℤ) → List (Value × ℤ) → ℕ) → Kind → Column → List Item → List Item → Type 0
-      Makes nodes kind cl had has =
-          MakesWithin now later (besides (by_width (nodes (first_weights [] had) (first_weights [] has)) (change_records kind cl doc had has)) (change_forms (wants dense kind) cl doc had has))
+        abbrev Makes : (List (Value × ℤ) → List (Value × ℤ) → ℕ) → Kind → Column → List Item → List Item → Type 0
+        Makes nodes kind cl had has =
+            MakesWithin now later (besides (by_width (nodes (first_weights [] had) (first_weights [] has)) (change_records kind cl doc had has)) (change_forms (wants dense kind) cl doc had has))
 
-      at_items : (nodes : List (Value × ℤ) → List (Value × ℤ) → ℕ) → Makes nodes field.kind column before (unwrap_or after [])
-          → Makes nodes (kind_at fields i) (column_of i table) (items_if_there old i) (items_if_there new i)
-      at_items nodes more =
-          subst (λ (kind : Kind). Makes nodes kind (column_of i table) (items_if_there old i) (items_if_there new i)) kind_is
-          (subst (λ (cl : Column). Makes nodes field.kind cl (items_if_there old i) (items_if_there new i)) reads
-          (subst (λ (items : List Item). Makes nodes field.kind column items (items_if_there new i)) was
-          (subst (λ (o : Option (List Item)). Makes nodes field.kind column before (unwrap_or o [])) is more)))
+        at_items : (nodes : List (Value × ℤ) → List (Value × ℤ) → ℕ) → Makes nodes field.kind column before (unwrap_or after [])
+            → Makes nodes (kind_at fields i) (column_of i table) (items_if_there old i) (items_if_there new i)
+        at_items nodes more =
+            subst (λ (kind : Kind). Makes nodes kind (column_of i table) (items_if_there old i) (items_if_there new i)) kind_is
+            (subst (λ (cl : Column). Makes nodes field.kind cl (items_if_there old i) (items_if_there new i)) reads
+            (subst (λ (items : List Item). Makes nodes field.kind column items (items_if_there new i)) was
+            (subst (λ (o : Option (List Item)). Makes nodes field.kind column before (unwrap_or o [])) is more)))
 
-      pub counts_on : MayDo begun now → MakesDocument dense begun now fields table doc old new i
-          → Makes field_nodes field.kind column before (unwrap_or after [])
-          → ((levels : ℕ) → StaysLow levels column (first_weights [] (unwrap_or after [])) → Makes (low_nodes levels) field.kind column before (unwrap_or after []))
-          → MakesDocument dense begun later fields table doc old new (i + 1)
-      counts_on may made more low =
-          let next : suc i ≡ i + 1 = omega arith in
-          let records = change_records (kind_at fields i) (column_of i table) doc (items_if_there old i) (items_if_there new i) in
-          let forms = change_forms (wants dense (kind_at fields i)) (column_of i table) doc (items_if_there old i) (items_if_there new i) in
-          subst (λ n. MakesDocument dense begun later fields table doc old new n) next (record {
-            few = besides_then begun now later (document_nodes old new i) (field_nodes (weights_at old i) (weights_at new i)) (records_to i) records (forms_to i) forms may made.few
-                (at_items field_nodes more);
-            low = λ levels stay. besides_then begun now later (low_document levels old new i) (low_nodes levels (weights_at old i) (weights_at new i)) (records_to i) records (forms_to i) forms may
-                (made.low levels (λ number less. stay number (omega arith)))
-                (at_items (low_nodes levels) (low levels
-                (subst (λ (cl : Column). StaysLow levels cl (first_weights [] (unwrap_or after []))) (sym reads)
-                (subst (λ (o : Option (List Item)). StaysLow levels (column_of i table) (first_weights [] (unwrap_or o []))) (sym is) (stay i (omega arith))))));
-          })
+        pub counts_on : MayDo begun now → MakesDocument dense begun now fields table doc old new i
+            → Makes field_nodes field.kind column before (unwrap_or after [])
+            → ((levels : ℕ) → StaysLow levels column (first_weights [] (unwrap_or after [])) → Makes (low_nodes levels) field.kind column before (unwrap_or after []))
+            → MakesDocument dense begun later fields table doc old new (i + 1)
+        counts_on may made more low =
+            let next : suc i ≡ i + 1 = omega arith in
+            let records = change_records (kind_at fields i) (column_of i table) doc (items_if_there old i) (items_if_there new i) in
+            let forms = change_forms (wants dense (kind_at fields i)) (column_of i table) doc (items_if_there old i) (items_if_there new i) in
+            subst (λ n. MakesDocument dense begun later fields table doc old new n) next (record {
+              few = besides_then begun now later (document_nodes old new i) (field_nodes (weights_at old i) (weights_at new i)) (records_to i) records (forms_to i) forms may made.few
+                  (at_items field_nodes more);
+              low = λ levels stay. besides_then begun now later (low_document levels old new i) (low_nodes levels (weights_at old i) (weights_at new i)) (records_to i) records (forms_to i) forms may
+                  (made.low levels (λ number less. stay number (omega arith)))
+                  (at_items (low_nodes levels) (low levels
+                  (subst (λ (cl : Column). StaysLow levels cl (first_weights [] (unwrap_or after []))) (sym reads)
+                  (subst (λ (o : Option (List Item)). StaysLow levels (column_of i table) (first_weights [] (unwrap_or o []))) (sym is) (stay i (omega arith))))));
+            })
 
 -- ---- a unit ends
 min-more : (a b c : ℕ) → a ≤ b → min a c ≤ min b c

@@ -61,6 +61,10 @@ module _ {H : Type 0} (begun : Ledger H) where
             keys = λ r began among. f.index.keys r (back r began) among;
             nodes = λ r began among. f.index.nodes r (back r began) among;
             lists = λ value typed r began among. f.index.lists value typed r (back r began) among;
+            blocks = λ value typed. record {
+              blocks = record { each = λ k r there began. (f.index.blocks value typed).blocks.each k r there (back r began) };
+              anew = λ changed r began among. (f.index.blocks value typed).anew changed r (back r began) among;
+            };
           };
           nodes = λ r began among. f.nodes r (back r began) among;
           own = λ doc r began among. f.own doc r (back r began) among;

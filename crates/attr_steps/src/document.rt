@@ -61,7 +61,6 @@ pub fn read_document<const OFFSET_BITS: u32, F: Frozen<OFFSET_BITS>>(
 }
 
 /// Returns the number of documents.
-#[tactic(none)]
 pub fn count_documents<const OFFSET_BITS: u32, F: Frozen<OFFSET_BITS>>(
     frozen: &mut F,
     fields: &[Field],

@@ -1,16 +1,12 @@
-use Rattle.std.proofs.Common.{length, sym, refl, arith, rules}
+use Rattle.std.proofs.Common.{◌<◌, length, sym, refl, subst, arith}
 use Rattle.std.proofs.lemmas.Option.{slice_get_read}
+use Rattle.tree_read.specs.Trees.{IsRootNode}
+use Rattle.attr_field.specs.declared.roots.FieldRoots.{FieldRoots}
 use Rattle.attr_steps.proofs.Reading.{reads_field}
 use Rattle.attr_steps.proofs.document.count_documents.Goals as goal
 
-pub offset_bounds-fields-0 : goal.offset_bounds-fields-0
-offset_bounds-fields-0 g c = search rules
-
 pub bounds-fields-0 : goal.bounds-fields-0
 bounds-fields-0 g c = c.requires.fields.some
-
-pub offset_bounds-roots-0 : goal.offset_bounds-roots-0
-offset_bounds-roots-0 g c = search rules
 
 pub bounds-roots-0 : goal.bounds-roots-0
 bounds-roots-0 g c = let same = c.requires.sized in let some = c.requires.fields.some in omega arith
@@ -23,7 +19,5 @@ total-requires g c =
     let some = c.requires.fields.some in
     let at_field = slice_get_read fields (length fields) 0 c.index-fields-0.result refl some c.index-fields-0.is in
     let at_root = slice_get_read roots (length fields) 0 c.index-roots-0.result (sym c.requires.sized) some c.index-roots-0.is in
-    (omega arith, (reads_field m fields roots c.requires.fields 0 c.index-fields-0.result c.index-roots-0.result at_field at_root).documents_are.map_is.tree_is.node)
-
-pub returns-clause-same : goal.returns-clause-same
-returns-clause-same g c = c.total.ensures.same
+    let here = reads_field m fields roots c.requires.fields 0 c.index-fields-0.result c.index-roots-0.result at_field at_root in
+    (omega arith, subst (λ (r : FieldRoots g.row.OFFSET_BITS). 0 < r.documents → IsRootNode m r.documents) c.index-roots-0.is here.documents_are.map_is.tree_is.node)
