@@ -49,3 +49,9 @@ returns-clause-counts g c =
     let ledger = g.S.Store.ledger in
     one_dropped (class_of (length (c.args.operations ∷ roots_listed c.args.roots.now))) (ledger c.args.store.now) (ledger c.make_root.new.store) (ledger c.drop_root.new.store)
     c.make_root.ensures.counts c.drop_root.ensures.none_made
+
+-- (place 1: an edit of must-fail/ puts an answer of its own here)
+-- (place 2: an edit of must-fail/ puts an answer of its own here)
+
+-- (place 3: an edit of must-fail/ puts an answer of its own here)
+-- (place 4: an edit of must-fail/ puts an answer of its own here)

@@ -38,3 +38,15 @@ returns-clause-counts g c =
 
 pub returns-clause-may : goal.returns-clause-may
 returns-clause-may g c = may_do-then _ _ _ c.make_list.ensures.may c.drop_list.ensures.may
+
+-- (place 1: an edit of must-fail/ puts an answer of its own here)
+-- (place 2: an edit of must-fail/ puts an answer of its own here)
+
+-- (place 3: an edit of must-fail/ puts an answer of its own here)
+-- (place 4: an edit of must-fail/ puts an answer of its own here)
+
+-- (place 5: an edit of must-fail/ puts an answer of its own here)
+-- (place 6: an edit of must-fail/ puts an answer of its own here)
+
+-- (place 7: an edit of must-fail/ puts an answer of its own here)
+-- (place 8: an edit of must-fail/ puts an answer of its own here)
