@@ -1,7 +1,7 @@
 -- How many records a change of a bit vector makes, and for which width it is refused.
-use Rattle.std.proofs.Common.{◌≡◌, ◌≢◌, ℕ, ◌+◌, ◌*◌, ◌≤◌, Bool, true, false, cond, nat_eq, ◌⊎◌, inl, inr, Result, Ok, Err, refl, sym, ap, subst, ◌∙◌, arith}
+use Rattle.std.proofs.Common.{◌≡◌, ◌≢◌, ℕ, ◌+◌, ◌≤◌, Bool, true, false, cond, nat_eq, Result, Ok, Err, refl, sym, subst, arith}
 use Rattle.std.specs.Prelude.{IfErr}
-use Rattle.std.proofs.lemmas.Bool.{eqb-true, eqb-false, eq-eqb, ne_eqb}
+use Rattle.std.proofs.lemmas.Bool.{eqb-true, eqb-false}
 use Rattle.store_api.specs.Calls.{Refuses, RefusesOf, IsFull}
 use Rattle.store_api.specs.Ledgers.{Ledger, capacity, is_width}
 use Rattle.store_api.specs.Units.{MakesAtMost, MayDo}
@@ -9,7 +9,7 @@ use Rattle.store_api.specs.declared.store.StoreError.{StoreError}
 use Rattle.store_api.specs.declared.store.StoreError.TheVariants.{Full, Memory}
 use Rattle.store_api.proofs.Counts.{at_most-none, at_most-then, at_most-more}
 use Rattle.frozen_btree.specs.Makes.{CountsNodes}
-use Rattle.bit_vector.specs.Changes.{vector_most, IsVectorWidth, MakesWithin}
+use Rattle.bit_vector.specs.Changes.{vector_most, MakesWithin}
 use Rattle.bit_vector.specs.Fillings.{block_most}
 
 -- nothing
@@ -37,6 +37,7 @@ within_blocks a b blocks here others = record { each = λ w. told w (nat_eq w 64
     none : (t : Bool) → cond {A = ℕ} t 0 0 ≡ 0
     none true = refl
     none false = refl
+
     told : (w : ℕ) (t : Bool) → nat_eq w 64 ≡ t → MakesAtMost (capacity a.work.sizes.words w) (cond t blocks (cond (nat_eq w 34) 0 0)) (a.of_width w) (b.of_width w)
     told w true is = subst (λ v. MakesAtMost (capacity a.work.sizes.words v) blocks (a.of_width v) (b.of_width v)) (sym (eqb-true w 64 is)) here
     told w false is = subst (λ k. MakesAtMost (capacity a.work.sizes.words w) k (a.of_width w) (b.of_width w)) (sym (none (nat_eq w 34)))

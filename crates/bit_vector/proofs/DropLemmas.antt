@@ -1,6 +1,7 @@
 -- A bit vector dropped, and the tree of its documents.
-use Rattle.std.proofs.Common.{◌≡◌, ℕ, zero, suc, ◌+◌, ◌*◌, ◌/◌, ◌%◌, ◌<◌, ◌≤◌, List, [], ◌∷◌, ◌++◌, map, length, length-append, drop, replicate, Bool, true, false, Result, Ok, Err, refl, sym, ap, subst, ◌∙◌, arith}
+use Rattle.std.proofs.Common.{◌≡◌, ℕ, zero, suc, ◌+◌, ◌/◌, ◌<◌, ◌≤◌, List, [], ◌∷◌, ◌++◌, map, length, length-append, drop, replicate, Bool, true, false, Result, Ok, Err, refl, sym, ap, subst, ◌∙◌, arith}
 use Rattle.std.specs.Prelude.{IfOk}
+use Rattle.std.proofs.lemmas.List.{length-replicate}
 use Rattle.std.specs.List.{zip, AllByRecursion}
 use Rattle.std.specs.List.Sorted.{IsStrictlySortedBy}
 use Rattle.std.specs.Ordering.{nat_cmp}
@@ -102,6 +103,17 @@ ones_sorted docs up = subst (IsStrictlySortedBy nat_cmp) (sym (back docs)) up
     back : (ds : List ℕ) → map (λ (p : ℕ × ℕ). p.0) (map (λ (doc : ℕ). (doc, 1)) ds) ≡ ds
     back [] = refl
     back (d ∷ ds) = ap (λ ks. d ∷ ks) (back ds)
+
+-- slices of documents and of ones
+module _ (docs ones xs ys : List ℕ) (n : ℕ) (are : xs ≡ docs) (values : ys ≡ ones) (all : ones ≡ units n) (size : n ≡ length docs) where
+  pub ones_pairs : zip xs ys ≡ map (λ (doc : ℕ). (doc, 1)) docs
+  ones_pairs = ap (λ (ks : List ℕ). zip ks ys) are ∙ ap (zip docs) (values ∙ all) ∙ ones_zip n docs size
+
+  pub ones_even : length xs ≡ length ys
+  ones_even = ap length are ∙ sym size ∙ sym (length-replicate n 1) ∙ sym (ap length (values ∙ all))
+
+  pub ones_ascend : IsStrictlySortedBy nat_cmp docs → IsStrictlySortedBy nat_cmp (map (λ (p : ℕ × ℕ). p.0) (zip xs ys))
+  ones_ascend up = subst (λ (ps : List (ℕ × ℕ)). IsStrictlySortedBy nat_cmp (map (λ (p : ℕ × ℕ). p.0) ps)) (sym ones_pairs) (ones_sorted docs up)
 
 -- a walk over the pairs
 pub walked : (done next : List ℕ) (rest left : List (ℕ × ℕ)) (whole : List ℕ) (value : ℕ) → (rest ≡ [] → ⊥) → value ≡ first_value rest → left ≡ drop 1 rest → next ≡ done ++ value ∷ []

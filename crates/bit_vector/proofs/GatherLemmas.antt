@@ -1,21 +1,19 @@
 -- A bit vector made of blocks that were made of documents.
-use Rattle.std.proofs.Common.{◌≡◌, ◌≢◌, ℕ, ℤ, pos, zero, suc, ◌+◌, ◌-◌, ◌*◌, ◌/◌, ◌%◌, ◌<◌, ◌≤◌, Bool, true, false, ◌||◌, ◌&&◌, cond, List, [], ◌∷◌, ◌++◌, map, filter, length, length-append, nat_eq, Result, Ok, Err, refl, sym, ap, ap₂, subst, ◌∙◌, arith}
+use Rattle.std.proofs.Common.{◌≡◌, ℕ, ℤ, pos, zero, suc, ◌+◌, ◌-◌, ◌*◌, ◌/◌, ◌%◌, ◌<◌, ◌≤◌, Bool, true, false, ◌||◌, ◌&&◌, cond, List, [], ◌∷◌, ◌++◌, map, filter, length, length-append, nat_eq, Result, Ok, Err, refl, sym, ap, ap₂, subst, ◌∙◌, arith}
 use Rattle.std.specs.Prelude.{IfOk}
 use Rattle.std.specs.List.{zip, range_with_len, AllZip, AllByRecursion}
 use Rattle.std.specs.List.Sorted.{IsStrictlySortedBy}
 use Rattle.std.specs.Ordering.{nat_cmp}
-use Rattle.std.proofs.lemmas.Bool.{eqb-true, eqb-false, eq-eqb, ne_eqb}
+use Rattle.std.proofs.lemmas.Bool.{eqb-true, eqb-false, eq-eqb}
 use Rattle.std.proofs.lemmas.List.{append-nil}
-use Rattle.list_facts.proofs.Each.{AllByRecursion-each}
 use Rattle.entry_ref.specs.Records.{Records, SameAt}
 use Rattle.store_api.specs.Ledgers.{Ledger}
-use Rattle.store_api.specs.Parts.{Part, After, Owns, Turns, count_in, entry, entries, times, uses}
-use Rattle.store_api.specs.Units.{MayDo}
+use Rattle.store_api.specs.Parts.{After, Owns, Turns, entry, entries, times}
 use Rattle.store_api.specs.declared.store.StoreError.{StoreError}
 use Rattle.store_api.proofs.PartLemmas.{after, owns-some, owns-then, turns-as, turns-then}
 use Rattle.store_api.proofs.Times.{times-append}
 use Rattle.tree_read.specs.ProofsForTrees.{tree_nodes-same}
-use Rattle.tree_read.specs.Trees.{tree_nodes, tree_pairs, by_number}
+use Rattle.tree_read.specs.Trees.{tree_nodes, tree_pairs}
 use Rattle.frozen_btree.specs.Changes.{tree}
 use Rattle.attr_types.specs.Lawful.{IsDocNumber}
 use Rattle.attr_images.proofs.BlockLemmas.{block_has_bits}
@@ -25,9 +23,9 @@ use Rattle.attr_index.proofs.DocLemmas.{kept_has, same_ascending, ascends_from_s
 use Rattle.attr_index.specs.Sets.{has, in_words, IsAscending}
 use Rattle.bit_vector.specs.Changes.{vector_part, MakesVector}
 use Rattle.bit_vector.specs.Fillings.{IsBlockOf, MakesBlock, MakesBlocks}
-use Rattle.bit_vector.specs.Vectors.{blocks_documents, is_block_of, IsVector}
+use Rattle.bit_vector.specs.Vectors.{blocks_documents, is_block_of}
 use Rattle.bit_vector.specs.declared.filling.Blocks.{Blocks}
-use Rattle.bit_vector.proofs.DocumentLemmas.{and_false, all_has, has_all, has_append, ones, or_false, sorted}
+use Rattle.bit_vector.proofs.DocumentLemmas.{and_false, all_has, has_append, ones, sorted}
 use Rattle.bit_vector.proofs.FillLemmas.{block_of, keys}
 use Rattle.bit_vector.proofs.OnesLemmas.{passing, passing_few, passing_one, passing_split}
 use Rattle.bit_vector.proofs.SetLemmas.{block_is}
@@ -59,17 +57,19 @@ in_range s (suc n) x low high = by_cases (nat_eq x s)
     (λ yes. ap (λ b. b || has (range_with_len (s + 1) n) x) yes)
     (λ no. let apart = eqb-false x s no in ap (λ b. b || has (range_with_len (s + 1) n) x) no ∙ in_range (s + 1) n x (omega (arith, low, apart)) (omega (arith, high)))
 
-pub filter_more : (t : ℕ → Bool) (s n : ℕ) → filter t (range_with_len s (suc n)) ≡ filter t (range_with_len s n) ++ cond (t (s + n)) ((s + n) ∷ []) []
+filter_more : (t : ℕ → Bool) (s n : ℕ) → filter t (range_with_len s (suc n)) ≡ filter t (range_with_len s n) ++ cond (t (s + n)) ((s + n) ∷ []) []
 filter_more t s zero = ap (λ x. cond (t x) (x ∷ []) []) (let e : s ≡ s + 0 = omega arith in e)
 filter_more t s (suc n) =
+    let rest : filter t (range_with_len (s + 1) (suc n)) ≡ filter t (range_with_len (s + 1) n) ++ cond (t (s + suc n)) ((s + suc n) ∷ []) [] =
+    filter_more t (s + 1) n ∙ ap (λ x. filter t (range_with_len (s + 1) n) ++ cond (t x) (x ∷ []) []) (let e : s + 1 + n ≡ s + suc n = omega arith in e) in
     elim (t s) as (λ b. cond b (s ∷ filter t (range_with_len (s + 1) (suc n))) (filter t (range_with_len (s + 1) (suc n)))
     ≡ cond b (s ∷ filter t (range_with_len (s + 1) n)) (filter t (range_with_len (s + 1) n)) ++ cond (t (s + suc n)) ((s + suc n) ∷ []) []) [
       | true ↦ ap (λ xs. s ∷ xs) rest
       | false ↦ rest
     ]
-  where
-    rest : filter t (range_with_len (s + 1) (suc n)) ≡ filter t (range_with_len (s + 1) n) ++ cond (t (s + suc n)) ((s + suc n) ∷ []) []
-    rest = filter_more t (s + 1) n ∙ ap (λ x. filter t (range_with_len (s + 1) n) ++ cond (t x) (x ∷ []) []) (let e : s + 1 + n ≡ s + suc n = omega arith in e)
+
+filter_next : (t : ℕ → Bool) (n : ℕ) → filter t (range_with_len 0 (suc n)) ≡ filter t (range_with_len 0 n) ++ cond (t n) (n ∷ []) []
+filter_next t n = filter_more t 0 n ∙ ap (λ x. filter t (range_with_len 0 n) ++ cond (t x) (x ∷ []) []) (let e : 0 + n ≡ n = omega arith in e)
 
 -- pairs of blocks
 zip_keys : (P : ℕ → ℕ → Type 0) (ks rs : List ℕ) → AllZip P ks rs → map (λ p. p.0) (zip ks rs) ≡ ks
@@ -139,7 +139,7 @@ module _ {H : Type 0} (a b c : Ledger H) (m n o : Records) (docs : List ℕ) (ro
 
   pub makes_next : MakesBlocks a c m o docs (suc k) next
   makes_next = record {
-    numbers = more.numbers ∙ ap (λ (xs : List ℕ). xs ++ cond (is_block_of docs k) (k ∷ []) []) makes.numbers ∙ sym (filter_more (is_block_of docs) 0 k);
+    numbers = more.numbers ∙ ap (λ (xs : List ℕ). xs ++ cond (is_block_of docs k) (k ∷ []) []) makes.numbers ∙ sym (filter_next (is_block_of docs) k);
     each = subst (λ (xs : List ℕ). AllZip (λ number ref. IsBlockOf docs number (o ref)) xs next.records.items) (sym more.numbers)
         (subst (λ (ys : List ℕ). AllZip (λ number ref. IsBlockOf docs number (o ref)) (before.numbers.items ++ cond (is_block_of docs k) (k ∷ []) []) ys) (sym more.records)
         (zip_both (λ number ref. IsBlockOf docs number (o ref)) before.numbers.items old (cond (is_block_of docs k) (k ∷ []) []) new (zip_same n o docs before.numbers.items old old_stay makes.each) more.each));
@@ -177,15 +177,16 @@ module _ (o : Records) (docs : List ℕ) where
   are_blocks (k ∷ ks) [] some all = absurd all
   are_blocks (k ∷ ks) (r ∷ rs) some all = (
     one docs some.0.1 (λ d there at.
-    let place : 4096 * k + d % 4096 ≡ d = omega (arith, at) in
-    block_is k (o r) (d % 4096) (let few : k ≤ 255 = some.0.0 in omega (arith, few)) all.0.size (omega arith)
-    (all.0.bits (d % 4096) (omega arith) ∙ ap (has docs) place ∙ there)),
+        let place : 4096 * k + d % 4096 ≡ d = omega (arith, at) in
+        block_is k (o r) (d % 4096) (let few : k ≤ 255 = some.0.0 in omega (arith, few)) all.0.size (omega arith)
+        (all.0.bits (d % 4096) (omega arith) ∙ ap (has docs) place ∙ there)),
     are_blocks ks rs some.1 all.1,
   )
     where
       or_yes : (x : Bool) → (x || true) ≡ true
       or_yes true = refl
       or_yes false = refl
+
       one : {G : Type 0} (ds : List ℕ) → is_block_of ds k ≡ true → ((d : ℕ) → has ds d ≡ true → d / 4096 ≡ k → G) → G
       one [] is found = absurd (grind (arith, is))
       one (x ∷ ds) is found = by_cases (nat_eq (x / 4096) k)
@@ -213,15 +214,23 @@ module _ {H : Type 0} (a b c : Ledger H) (m n o : Records) (ps : List (ℕ × �
   abbrev rs : List ℕ
   rs = blocks.records.items
 
-  pub even : length ks ≡ length rs
+  even : length ks ≡ length rs
   even = zip_even (λ k r. IsBlockOf (keys ps) k (n r)) ks rs makes.each
 
-  pub numbers_ascend : IsStrictlySortedBy nat_cmp (map (λ p. p.0) (zip ks rs))
+  numbers_ascend : IsStrictlySortedBy nat_cmp (map (λ p. p.0) (zip ks rs))
   numbers_ascend = subst (IsStrictlySortedBy nat_cmp) (sym (zip_keys (λ k r. IsBlockOf (keys ps) k (n r)) ks rs makes.each))
       (subst (IsStrictlySortedBy nat_cmp) (sym makes.numbers) (sorted (filter (is_block_of (keys ps)) (range_with_len 0 256)) (filter_ascends (is_block_of (keys ps)) 0 256)))
 
-  pub each_pair : AllByRecursion (λ (p : ℕ × ℕ). Unit {0}) (zip ks rs)
-  each_pair = AllByRecursion-each (λ (p : ℕ × ℕ). Unit {0}) (λ p. tt) (zip ks rs)
+  -- slices of both
+  module _ (xs ys : List ℕ) (are : xs ≡ ks) (values : ys ≡ rs) where
+    pub slices_even : length xs ≡ length ys
+    slices_even = ap length are ∙ even ∙ sym (ap length values)
+
+    pub slices_pairs : zip xs ys ≡ zip ks rs
+    slices_pairs = ap (λ (qs : List ℕ). zip qs ys) are ∙ ap (zip ks) values
+
+    pub slices_ascend : IsStrictlySortedBy nat_cmp (map (λ p. p.0) (zip xs ys))
+    slices_ascend = subst (λ (qs : List (ℕ × ℕ)). IsStrictlySortedBy nat_cmp (map (λ p. p.0) qs)) (sym slices_pairs) numbers_ascend
 
   module _ (next : ℕ) (keyed : IsNumberTree o next) (pairs : tree_pairs o next ≡ zip ks rs) (turns : Turns b c n o [] (tree next ∷ [])) where
     owns_blocks : Owns b n (entries rs ∷ [])

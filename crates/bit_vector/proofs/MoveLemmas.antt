@@ -22,7 +22,7 @@ use Rattle.store_api.specs.Statuses.{in_use}
 use Rattle.store_api.specs.Units.{MayDo}
 use Rattle.store_api.specs.declared.store.StoreError.{StoreError}
 use Rattle.store_api.proofs.PartLemmas.{after, owns-some, turns-as, turns-then}
-use Rattle.store_api.proofs.Times.{times-append}
+use Rattle.store_api.proofs.Times.{times-append, times-same}
 use Rattle.store_api.proofs.Uses.{uses-few, uses-in}
 use Rattle.tree_read.proofs.PairLemmas.{lookup-put}
 use Rattle.tree_read.proofs.TreeLemmas.{many_pairs}
@@ -194,6 +194,7 @@ module _ {H : Type 0} (bits buffer k : ℕ) (a b c d : Ledger H) (m n o p : Reco
   not_old : in_use (a.status copy) ≡ true → ⊥
   not_old used =
       let t = copies.turns.balance copy in
+      let own = times-same copy copy [] refl in
       let was = uses-in a copy used in
       let few = uses-few b copy in
       omega arith

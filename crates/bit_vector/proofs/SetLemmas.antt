@@ -1,5 +1,5 @@
 -- One document of a bit vector put in or taken out, by the words of its block.
-use Rattle.std.proofs.Common.{◌≡◌, ◌≢◌, ℕ, pos, zero, suc, ◌+◌, ◌*◌, ◌/◌, ◌%◌, ◌<◌, ◌≤◌, Bool, true, false, ◌||◌, ◌&&◌, not, cond, List, [], ◌∷◌, length, nat_eq, None, Result, Ok, Err, refl, sym, ap, ap₂, subst, ◌∙◌, arith}
+use Rattle.std.proofs.Common.{◌≡◌, ◌≢◌, ℕ, pos, ◌+◌, ◌*◌, ◌/◌, ◌%◌, ◌<◌, ◌≤◌, Bool, true, false, ◌||◌, ◌&&◌, not, cond, List, [], ◌∷◌, length, nat_eq, None, Result, Ok, Err, refl, sym, ap, ap₂, subst, ◌∙◌, arith}
 use Rattle.std.specs.Prelude.{IfOk}
 use Rattle.std.specs.BTreeMap.{insert_entry, is_at}
 use Rattle.std.specs.List.{AllByRecursion}
@@ -8,7 +8,7 @@ use Rattle.std.specs.Ordering.{nat_cmp}
 use Rattle.std.proofs.lemmas.Bool.{eqb-true, eqb-false, eq-eqb, ne_eqb}
 use Rattle.entry_ref.specs.Records.{Records}
 use Rattle.store_api.specs.Ledgers.{Ledger}
-use Rattle.store_api.specs.Parts.{Owns, Turns}
+use Rattle.store_api.specs.Parts.{Owns}
 use Rattle.store_api.specs.declared.store.StoreError.{StoreError}
 use Rattle.tree_read.specs.Pairs.{lookup}
 use Rattle.tree_read.specs.Trees.{tree_pairs}
@@ -19,7 +19,7 @@ use Rattle.attr_index.specs.Sets.{has, in_words}
 use Rattle.bit_vector.specs.Blocks.{beside_block, HasBit, SetsBlock}
 use Rattle.bit_vector.specs.Changes.{vector_part, MakesVector}
 use Rattle.bit_vector.specs.Vectors.{vector_at, IsVector}
-use Rattle.bit_vector.proofs.DocumentLemmas.{and_false, all_has, has_all, inserted, or_false, removed, unchanged}
+use Rattle.bit_vector.proofs.DocumentLemmas.{all_has, has_all, inserted, or_false, removed, unchanged}
 use Rattle.bit_vector.proofs.VectorLemmas.{bit_lacking, in_block, own_block, vector_ascends}
 
 and_true : (a : Bool) → a ≡ (a && true)

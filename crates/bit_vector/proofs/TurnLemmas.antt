@@ -1,5 +1,5 @@
 -- One block of a bit vector put in or taken out, in a store.
-use Rattle.std.proofs.Common.{◌≡◌, ℕ, ◌+◌, ◌*◌, ◌/◌, ◌%◌, ◌<◌, ◌≤◌, cond, nat_eq, replicate, ◌-◌, List, [], ◌∷◌, ◌++◌, map, length, Option, None, Some, Result, Ok, Err, refl, sym, ap, ap₂, subst, ◌∙◌, arith}
+use Rattle.std.proofs.Common.{◌≡◌, ℕ, ◌+◌, ◌/◌, ◌%◌, cond, nat_eq, replicate, ◌-◌, List, [], ◌∷◌, ◌++◌, map, length, Option, None, Some, Result, Ok, Err, refl, sym, ap, ap₂, subst, ◌∙◌, arith}
 use Rattle.std.specs.Prelude.{IfOk}
 use Rattle.std.specs.declared.cmp.Ordering.{Ordering}
 use Rattle.std.specs.declared.cmp.Ordering.TheVariants.{Less, Equal, Greater}
@@ -10,7 +10,7 @@ use Rattle.list_facts.proofs.Each.{AllByRecursion-each}
 use Rattle.entry_ref.specs.Records.{Records, SameAt, Among}
 use Rattle.arena_api.specs.Calls.{padded}
 use Rattle.store_api.specs.Ledgers.{Ledger}
-use Rattle.store_api.specs.Parts.{Part, After, AllStay, Owns, Turns, count_in, entry, entries, times, uses}
+use Rattle.store_api.specs.Parts.{Part, After, AllStay, Owns, Turns, count_in, entry, entries, times}
 use Rattle.store_api.specs.declared.store.StoreError.{StoreError}
 use Rattle.store_api.proofs.PartLemmas.{after, owns-some, owns-then, turns-as, turns-then}
 use Rattle.store_api.proofs.Times.{among-times, times-append, times-same}
@@ -26,7 +26,7 @@ use Rattle.attr_images.specs.Postings.{block_documents, vector_documents, IsBloc
 use Rattle.attr_index.specs.Sets.{has, in_words}
 use Rattle.bit_vector.specs.Blocks.{beside_block, SetsBlock}
 use Rattle.bit_vector.specs.Changes.{vector_part}
-use Rattle.bit_vector.specs.Vectors.{blocks_documents, vector_reach, IsVector}
+use Rattle.bit_vector.specs.Vectors.{vector_reach, IsVector}
 use Rattle.bit_vector.proofs.KeepLemmas.{out_keeps, put_keeps}
 use Rattle.bit_vector.proofs.VectorLemmas.{numbers_from, out_documents, put_documents, same_blocks, vector_stays, vector_documents-same}
 

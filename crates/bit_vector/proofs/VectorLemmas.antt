@@ -1,22 +1,21 @@
 -- The documents of a bit vector are those of its blocks' bits, and one block determines those in it.
-use Rattle.std.proofs.Common.{◌≡◌, ◌≢◌, ℕ, zero, suc, ◌+◌, ◌*◌, ◌/◌, ◌%◌, ◌<◌, ◌≤◌, ◌^◌, Bool, true, false, ◌||◌, ◌&&◌, cond, List, [], ◌∷◌, ◌++◌, map, length, Option, None, Some, nat_eq, refl, sym, ap, ap₂, subst, ◌∙◌, arith}
+use Rattle.std.proofs.Common.{◌≡◌, ◌≢◌, ℕ, zero, suc, ◌+◌, ◌*◌, ◌/◌, ◌%◌, ◌<◌, ◌≤◌, Bool, true, false, ◌||◌, ◌&&◌, cond, List, [], ◌∷◌, ◌++◌, map, length, Option, None, Some, nat_eq, refl, sym, ap, ap₂, subst, ◌∙◌, arith}
 use Rattle.std.specs.Cmp.{ranks}
 use Rattle.std.specs.declared.cmp.Ordering.{Ordering}
 use Rattle.std.specs.declared.cmp.Ordering.TheVariants.{Less, Equal, Greater}
-use Rattle.std.specs.List.{flat_map, AllByRecursion}
+use Rattle.std.specs.List.{AllByRecursion}
 use Rattle.std.specs.List.Sorted.{IsStrictlySortedBy}
 use Rattle.std.specs.Map.{keys_of}
-use Rattle.std.specs.Ordering.{nat_cmp, ordering_reverse, MatchOrdering}
+use Rattle.std.specs.Ordering.{nat_cmp, MatchOrdering}
 use Rattle.std.proofs.lemmas.Bool.{eqb-true, eqb-false, eq-eqb, ne_eqb}
-use Rattle.std.proofs.lemmas.Cmp.{tied_itself, nat_cmp_total}
-use Rattle.std.proofs.lemmas.Map.Lookups.{exact_unsigned}
+use Rattle.std.proofs.lemmas.Cmp.{nat_cmp_total}
 use Rattle.list_facts.proofs.Each.{AllByRecursion-append, AllByRecursion-weaker}
 use Rattle.entry_ref.specs.Records.{Records, SameAt, AllThere}
 use Rattle.tree_read.specs.Pairs.{choose, lookup, put, take_out}
 use Rattle.tree_read.specs.ProofsForTrees.{SameAt-left, SameAt-right, tree_pairs-same, IsTree-same, there-both, tree_there}
-use Rattle.tree_read.specs.Trees.{tree_nodes, tree_pairs, by_number, root_least, root_level, IsTree}
+use Rattle.tree_read.specs.Trees.{tree_nodes, tree_pairs, by_number, root_least, root_level}
 use Rattle.tree_read.proofs.ChildLemmas.{pairs-some}
-use Rattle.tree_read.proofs.PairLemmas.{All-take_out, lookup-put}
+use Rattle.tree_read.proofs.PairLemmas.{lookup-put}
 use Rattle.doc_vector.proofs.DocumentLemmas.{same_number, other_number}
 use Rattle.doc_vector.proofs.MapLemmas.{put_others, take_out_others, take_out_gone}
 use Rattle.attr_types.specs.Lawful.{IsDocNumber}
@@ -27,7 +26,7 @@ use Rattle.attr_index.proofs.BitLemmas.{by_cases, no_bits}
 use Rattle.attr_index.specs.Sets.{has, in_words, IsAscending}
 use Rattle.bit_vector.specs.Blocks.{beside_block}
 use Rattle.bit_vector.specs.Vectors.{blocks_documents, vector_at, vector_reach, IsVector}
-use Rattle.bit_vector.proofs.DocumentLemmas.{ones-keys, ones-length, or_false, and_false, sorted, all_has, has_all, has_append, ascends_append}
+use Rattle.bit_vector.proofs.DocumentLemmas.{ones-keys, ones-length, or_false, sorted, all_has, has_all, has_append, ascends_append}
 
 and_left : (a b : Bool) → (a && b) ≡ true → a ≡ true
 and_left true b is = refl

@@ -1,12 +1,12 @@
 -- A walk through the documents of a bit vector.
-use Rattle.std.proofs.Common.{◌≡◌, ◌≢◌, ◌⊎◌, inl, inr, ℕ, zero, suc, ◌+◌, ◌*◌, ◌/◌, ◌%◌, ◌<◌, ◌≤◌, ◌^◌, Bool, true, false, ◌||◌, ◌&&◌, cond, List, [], ◌∷◌, ◌++◌, map, filter, drop, length, nat_eq, nat_le, refl, sym, ap, ap₂, subst, ◌∙◌, arith}
+use Rattle.std.proofs.Common.{◌≡◌, ◌⊎◌, inl, inr, ℕ, suc, ◌+◌, ◌*◌, ◌/◌, ◌%◌, ◌<◌, ◌≤◌, Bool, true, false, ◌||◌, cond, List, [], ◌∷◌, ◌++◌, map, filter, drop, length, nat_eq, nat_le, refl, sym, ap, ap₂, subst, ◌∙◌, arith}
 use Rattle.std.specs.Prelude.{◌↔◌}
 use Rattle.std.specs.List.{AllByRecursion}
 use Rattle.std.specs.List.Sorted.{IsStrictlySortedBy}
 use Rattle.std.specs.Ordering.{nat_cmp}
-use Rattle.std.proofs.lemmas.Bool.{eqb-true, eqb-false, eq-eqb, ne_eqb, le-leb, cases_lt}
+use Rattle.std.proofs.lemmas.Bool.{eqb-true, eq-eqb, le-leb, cases_lt}
 use Rattle.std.proofs.lemmas.List.Elements.{filter-append}
-use Rattle.list_facts.proofs.Each.{AllByRecursion-left, AllByRecursion-right}
+use Rattle.list_facts.proofs.Each.{AllByRecursion-right}
 use Rattle.list_facts.proofs.Tests.{too_many}
 use Rattle.entry_ref.specs.Records.{Records}
 use Rattle.tree_read.specs.SearchPlaces.{Place, IsAt, pairs_from, first_key, first_value}
@@ -19,7 +19,7 @@ use Rattle.bit_vector.specs.Blocks.{IsNextBit}
 use Rattle.bit_vector.specs.Vectors.{blocks_documents, IsVector}
 use Rattle.bit_vector.specs.Walks.{documents_from, first_document, HasDocument, IsBlockPlace, IsInBlock, IsVectorPlace}
 use Rattle.bit_vector.specs.declared.cursor.VectorCursor.{VectorCursor}
-use Rattle.bit_vector.proofs.DocumentLemmas.{absent, all_has, has_all, has_append, or_false}
+use Rattle.bit_vector.proofs.DocumentLemmas.{all_has, has_all, has_append}
 use Rattle.bit_vector.proofs.VectorLemmas.{blocks_ascend, in_block, later, own_block}
 
 -- filters of documents

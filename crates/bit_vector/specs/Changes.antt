@@ -8,14 +8,15 @@ use Rattle.store_api.specs.Units.{MakesAtMost}
 use Rattle.tree_read.specs.Trees.{tree_pairs, by_number, IsTree}
 use Rattle.tree_read.specs.declared.node_format.TheConstants.{NODE_WORDS}
 use Rattle.frozen_btree.specs.Changes.{tree}
+use Rattle.attr_images.specs.Postings.{vector}
+use Rattle.attr_images.specs.ProofsForImages.{postings_reach-same}
 use Rattle.attr_images.specs.declared.TheConstants.{BLOCK_WORDS}
 use Rattle.bit_vector.specs.Keeps.{KeepsBlocks}
-use Rattle.bit_vector.specs.ProofsForVectors.{vector_reach-same}
 use Rattle.bit_vector.specs.Vectors.{vector_at, vector_reach, IsVector}
 
 -- a bit vector as a part: it owns its nodes and its blocks
 abbrev pub vector_part : ℕ → Part
-vector_part root = record { reach = λ m. vector_reach m root; stays = λ m n same. vector_reach-same m n root same }
+vector_part root = record { reach = λ m. vector_reach m root; stays = λ m n same. postings_reach-same m n (vector root) same }
 
 -- a bit vector of these documents was made, in place of another. A block whose record that one had was this block of it
 pub record MakesVector {H : Type 0} (old new : Ledger H) (m n : Records) (root : ℕ) (docs : List (ℕ × ℤ)) (next : ℕ) : Type 0 where

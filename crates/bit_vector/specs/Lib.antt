@@ -1,4 +1,3 @@
-pub mod ProofsForVectors
 pub mod Vectors
 pub mod Changes
 pub mod Blocks

@@ -1,3 +1,4 @@
+//! A document put into a bit vector, or taken out of it.
 ghost use Rattle.std.specs.Prelude.{◌≡◌, ◌<◌, ◌≤◌, ◌+◌, ◌*◌, ℕ, pos, ◌∷◌, [], true, false, None, Some, Ok, length, IfOk, IfErr};
 ghost use Rattle.std.specs.BTreeMap.{insert_entry, is_at};
 ghost use Rattle.std.specs.List.{AllByRecursion};

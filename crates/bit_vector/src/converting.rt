@@ -1,3 +1,4 @@
+//! A bit vector made of a tree of documents, and such a tree made of a bit vector.
 ghost use Rattle.std.specs.Prelude.{◌≡◌, ◌+◌, ◌∷◌, [], pos, true, map, length, replicate, IfOk, IfErr};
 ghost use Rattle.std.specs.List.{AllByRecursion};
 ghost use Rattle.std.specs.Ordering.{nat_cmp};
@@ -76,7 +77,6 @@ fn ones(alloc: Global, size: usize) -> Result<Vec<u64>, AllocError>
 }
 
 /// Makes a tree by number of the documents of a bit vector, each with the value 1. The bit vector stays.
-#[tactic(none)]
 pub fn to_tree<const OFFSET_BITS: u32, S: Store<OFFSET_BITS>>(
     alloc: Global,
     store: &mut S,

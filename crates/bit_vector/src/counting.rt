@@ -1,3 +1,4 @@
+//! The number of documents of a bit vector.
 ghost use Rattle.std.specs.Prelude.{◌≡◌, ◌<◌, ◌≤◌, ◌+◌, ◌*◌, ℕ, length};
 ghost use Rattle.attr_images.specs.Postings.{block_documents, vector_documents};
 ghost use Rattle.bit_vector.specs.Vectors.{IsVector};

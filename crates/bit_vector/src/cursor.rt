@@ -1,3 +1,4 @@
+//! A walk over the documents of a bit vector.
 ghost use Rattle.std.specs.Prelude.{◌≡◌, ◌↔◌, ℕ, drop, [], false, IsTrue};
 ghost use Rattle.attr_images.specs.Postings.{vector_documents};
 ghost use Rattle.bit_vector.specs.Vectors.{blocks_documents, IsVector};

@@ -1,3 +1,4 @@
+//! A bit vector dropped, with its blocks.
 ghost use Rattle.std.specs.Prelude.{◌≡◌, ◌≤◌, ◌∷◌, [], ℕ, true, map, length};
 ghost use Rattle.bit_vector.specs.Changes.{vector_part};
 ghost use Rattle.bit_vector.specs.Vectors.{IsVector};

@@ -1,3 +1,4 @@
+//! The laws of bit vectors.
 ghost use Rattle.bit_vector.specs.Laws.{NothingIsVector, VectorStays, VectorAscends, VectorHasDocuments, VectorIsThere};
 
 /// Root 0 is the empty set, and every other bit vector has a document. The documents ascend. The records of a bit vector exist, and it

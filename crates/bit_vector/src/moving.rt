@@ -1,3 +1,4 @@
+//! A block of a bit vector moved out of a buffer.
 ghost use Rattle.std.specs.Prelude.{◌≡◌, ◌+◌, ◌*◌, ◌∷◌, [], true, length, None, Some, IfOk, IfErr};
 ghost use Rattle.bit_vector.specs.Changes.{vector_most, vector_part, MakesWithin};
 ghost use Rattle.bit_vector.specs.Keeps.{block_at};

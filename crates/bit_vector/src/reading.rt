@@ -1,3 +1,4 @@
+//! A document sought in a bit vector.
 ghost use Rattle.std.specs.Prelude.{◌≡◌, ◌<◌, length};
 ghost use Rattle.attr_images.specs.Postings.{vector_documents};
 ghost use Rattle.attr_index.specs.Sets.{has, in_words};

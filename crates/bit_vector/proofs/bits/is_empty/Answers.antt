@@ -1,4 +1,4 @@
-use Rattle.std.proofs.Common.{◌<◌, ◌+◌, sym, arith}
+use Rattle.std.proofs.Common.{arith}
 use Rattle.bit_vector.proofs.BitLemmas.{none_set, some_set, zero_more}
 use Rattle.bit_vector.proofs.bits.is_empty.Goals as goal
 

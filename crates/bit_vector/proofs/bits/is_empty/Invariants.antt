@@ -1,4 +1,4 @@
-use Rattle.std.proofs.Common.{◌≡◌, ◌<◌, ℕ, get_or, length}
+use Rattle.std.proofs.Common.{◌≡◌, ◌<◌, ℕ, get_or}
 use Rattle.bit_vector.proofs.bits.is_empty.Given as goal
 
 abbrev pub invariant-loop-i : goal.invariant-loop-i

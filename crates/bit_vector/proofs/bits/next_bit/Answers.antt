@@ -1,6 +1,6 @@
-use Rattle.std.proofs.Common.{◌≡◌, ◌<◌, ◌≤◌, ◌+◌, ◌*◌, ◌/◌, ◌%◌, ◌^◌, ℕ, get_or, w64, refl, sym, ap, ◌∙◌, arith}
+use Rattle.std.proofs.Common.{◌≡◌, ◌+◌, ◌/◌, ◌%◌, ◌^◌, get_or, w64, refl, sym, ap, ◌∙◌, arith}
 use Rattle.std.specs.Int.{trailing_zeros}
-use Rattle.bit_vector.proofs.BitLemmas.{next_none, next_set, passes_more, within_word}
+use Rattle.bit_vector.proofs.BitLemmas.{next_none, next_set, passes_more}
 use Rattle.bit_vector.proofs.bits.next_bit.Goals as goal
 
 pub loop-i-init : goal.loop-i-init

@@ -1,4 +1,4 @@
-use Rattle.std.proofs.Common.{◌≡◌, ℕ, List, Some, length, sym, ap, subst, ◌∙◌, arith}
+use Rattle.std.proofs.Common.{ℕ, List, length, sym, ap, ◌∙◌, arith}
 use Rattle.tree_read.specs.Trees.{tree_pairs}
 use Rattle.attr_images.specs.Postings.{IsBlock}
 use Rattle.attr_index.specs.Sets.{in_words}

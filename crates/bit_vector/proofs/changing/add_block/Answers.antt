@@ -1,4 +1,4 @@
-use Rattle.std.proofs.Common.{◌∷◌, [], ℕ, ap, arith}
+use Rattle.std.proofs.Common.{◌∷◌, [], ap, arith}
 use Rattle.store_api.specs.Parts.{entry}
 use Rattle.doc_vector.proofs.DocumentLemmas.{same_number}
 use Rattle.bit_vector.proofs.TurnLemmas.{adds_block, listed, number_keyed, owns_tree}

@@ -1,4 +1,4 @@
-use Rattle.std.proofs.Common.{◌≡◌, ◌∷◌, [], ℕ, None, Some, true, sym, ap, subst, arith, refl, inr, ◌∙◌, ◌+◌, ◌*◌}
+use Rattle.std.proofs.Common.{◌≡◌, ◌∷◌, [], Some, true, sym, subst, arith, refl, inr, ◌∙◌, ◌+◌, ◌*◌}
 use Rattle.std.specs.Prelude.{IfOk, IfErr}
 use Rattle.store_api.specs.Calls.{RefusesOf}
 use Rattle.store_api.specs.Parts.{Owns}

@@ -1,4 +1,4 @@
-use Rattle.std.proofs.Common.{◌≡◌, ◌||◌, ◌<◌, ◌+◌, ◌*◌, ◌/◌, ◌%◌, ◌∷◌, [], ℕ, List, pos, true, length, nat_eq, rules, refl, sym, ap, subst, ◌∙◌, arith}
+use Rattle.std.proofs.Common.{◌≡◌, ◌+◌, ◌*◌, ◌/◌, ◌∷◌, [], ℕ, pos, true, length, rules, refl, sym, subst, ◌∙◌, arith}
 use Rattle.std.specs.BTreeMap.{insert_entry}
 use Rattle.std.specs.Ordering.{nat_cmp}
 use Rattle.std.specs.Prelude.{IfOk, IfErr}
@@ -8,7 +8,7 @@ use Rattle.store_api.specs.Units.{MayDo}
 use Rattle.store_api.proofs.May.{may_do-same}
 use Rattle.frozen_btree.specs.Changes.{levels}
 use Rattle.attr_images.specs.Postings.{vector_documents}
-use Rattle.attr_index.specs.Sets.{has, in_words}
+use Rattle.attr_index.specs.Sets.{has}
 use Rattle.attr_types.specs.Lawful.{IsDocNumber}
 use Rattle.bit_vector.specs.Blocks.{SetsBlock}
 use Rattle.bit_vector.specs.Changes.{vector_most, vector_part, IsVectorWidth, MakesVector, MakesWithin}

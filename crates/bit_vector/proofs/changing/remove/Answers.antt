@@ -1,7 +1,4 @@
-use Rattle.std.proofs.Common.{◌≡◌, ◌&&◌, ◌<◌, ◌+◌, ◌*◌, ◌/◌, ◌%◌, ◌∷◌, [], ℕ, List, true, not, length, nat_eq, rules, refl, sym, ap, subst, ◌∙◌, arith}
-use Rattle.std.specs.BTreeMap.{is_at}
-use Rattle.std.specs.Map.{remove_entry}
-use Rattle.std.specs.Ordering.{nat_cmp}
+use Rattle.std.proofs.Common.{◌≡◌, ◌+◌, ◌*◌, ◌/◌, ◌∷◌, [], ℕ, true, length, rules, refl, sym, ap, subst, ◌∙◌, arith}
 use Rattle.std.specs.Prelude.{IfOk, IfErr}
 use Rattle.store_api.specs.Calls.{RefusesOf}
 use Rattle.store_api.specs.Parts.{Owns}
@@ -57,7 +54,8 @@ returns-then-is_empty-clause-makes g c =
     let place = c.number-place.result in
     let bits = cleared_bits (records s) c.args.root c.args.doc place c.block_words-words.result c.clear_bit.new.words c.number-place.ensures.number c.block_words-words.ensures.bits
     c.clear_bit.ensures.bits in
-    removes_if (ledger s) (ledger t) (records s) (records t) c.args.root c.args.doc c.requires.vector [] (none_left (records s) c.args.root c.args.doc c.clear_bit.new.words (c.if-is_empty.ensures.none refl) bits) c.clear_block.result
+    removes_if (ledger s) (ledger t) (records s) (records t) c.args.root c.args.doc c.requires.vector []
+    (none_left (records s) c.args.root c.args.doc c.clear_bit.new.words (c.if-is_empty.ensures.none refl) bits) c.clear_block.result
     (subst (λ (k : ℕ). IfOk c.clear_block.result (SetsBlock (ledger s) (ledger t) (records s) (records t) c.args.root (vector_part c.args.root ∷ []) k []))
     (ap (λ (n : ℕ). n / 4096) c.number-place.ensures.number)
     (subst (λ (f : g.row.S.Denot). IfOk c.clear_block.result (SetsBlock (ledger f) (ledger t) (records f) (records t) c.args.root (vector_part c.args.root ∷ []) (place / 4096) []))

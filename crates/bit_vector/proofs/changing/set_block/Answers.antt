@@ -1,4 +1,4 @@
-use Rattle.std.proofs.Common.{◌≡◌, ◌∷◌, [], ℕ, List, true, sym, ap, subst, arith, refl, inl, inr, ◌∙◌, ◌+◌, ◌*◌}
+use Rattle.std.proofs.Common.{ℕ, List, sym, subst, arith, refl, inl, inr, ◌∙◌, ◌+◌, ◌*◌}
 use Rattle.std.specs.List.{AllByRecursion}
 use Rattle.std.proofs.lemmas.Result.{err_from_is_err_and}
 use Rattle.store_api.proofs.May.{may_do-same, may_do-then}

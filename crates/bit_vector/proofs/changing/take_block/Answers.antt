@@ -1,4 +1,4 @@
-use Rattle.std.proofs.Common.{◌≡◌, ◌∷◌, [], ℕ, Some, rules, sym, ap, subst, arith, refl, ◌+◌, ◌*◌}
+use Rattle.std.proofs.Common.{◌∷◌, [], rules, sym, ap, subst, arith, refl, ◌+◌, ◌*◌}
 use Rattle.std.specs.Prelude.{IsSome}
 use Rattle.store_api.proofs.May.{may_do-then}
 use Rattle.frozen_btree.specs.Changes.{levels}

@@ -1,7 +1,7 @@
-use Rattle.std.proofs.Common.{◌≡◌, ◌++◌, [], ◌∷◌, ℕ, List, length, drop, sym, ap, subst, ◌∙◌, arith}
+use Rattle.std.proofs.Common.{◌≡◌, ◌++◌, ℕ, List, drop, sym, ap, subst, ◌∙◌, arith}
 use Rattle.std.proofs.lemmas.List.{append-nil}
 use Rattle.attr_images.specs.Postings.{vector_documents}
-use Rattle.bit_vector.specs.Walks.{documents_from, first_document, IsVectorPlace}
+use Rattle.bit_vector.specs.Walks.{documents_from, IsVectorPlace}
 use Rattle.bit_vector.proofs.DropLemmas.{not_end}
 use Rattle.bit_vector.proofs.WalkLemmas.{fewer_documents, more_documents}
 use Rattle.bit_vector.proofs.converting.documents_of.Goals as goal

@@ -1,15 +1,17 @@
-use Rattle.std.proofs.Common.{◌≡◌, ◌∷◌, [], ℕ, List, length, map, rules, refl, inl, inr, sym, ap, subst, ◌∙◌, arith}
+use Rattle.std.proofs.Common.{◌≡◌, ℕ, List, length, refl, inr, ap, subst, ◌∙◌, arith}
 use Rattle.std.specs.List.{zip}
+use Rattle.std.specs.Prelude.{IfOk}
 use Rattle.std.proofs.lemmas.Result.{err_from_is_err_and}
-use Rattle.store_api.proofs.May.{may_do-same, may_do-then}
+use Rattle.list_facts.proofs.Each.{AllByRecursion-each}
+use Rattle.store_api.proofs.May.{may_do-then}
 use Rattle.tree_read.specs.Trees.{tree_pairs}
 use Rattle.frozen_btree.specs.Builds.{nodes_of}
 use Rattle.frozen_btree.specs.Makes.{CountsNodes}
 use Rattle.bit_vector.specs.Changes.{IsVectorWidth}
 use Rattle.bit_vector.specs.Vectors.{count_blocks}
-use Rattle.bit_vector.proofs.CountLemmas.{if_one, of_one, within_both, within_wider}
+use Rattle.bit_vector.proofs.CountLemmas.{if_one, within_both, within_wider}
 use Rattle.bit_vector.proofs.FillLemmas.{keys}
-use Rattle.bit_vector.proofs.GatherLemmas.{each_pair, even, makes_vector_if, numbers_ascend}
+use Rattle.bit_vector.proofs.GatherLemmas.{makes_vector_if, slices_ascend, slices_even, slices_pairs}
 use Rattle.bit_vector.proofs.converting.from_tree.Goals as goal
 
 pub returns-in_err-blocks-clause-counts : goal.returns-in_err-blocks-clause-counts
@@ -42,18 +44,17 @@ build-requires g c =
     let makes = c.in_ok-blocks.ensures.makes in
     let up = c.requires.tree.ascends in
     let l = ledger s in
-    let n = ledger t in (
+    let n = ledger t in
+    let xs = c.as_slice.result.now in
+    let ys = c.as_slice-2.result.now in (
       omega arith,
       (
         c.make_blocks.ensures.may.unit ∙ c.requires.unit,
         (
-          ap length c.as_slice.ensures.value ∙ even l n n (records s) (records t) (records t) ps blocks up c.requires.numbers makes ∙ ap length (sym c.as_slice-2.ensures.value),
+          slices_even l n n (records s) (records t) (records t) ps blocks up c.requires.numbers makes xs ys c.as_slice.ensures.value c.as_slice-2.ensures.value,
           (
-            numbers_ascend l n n (records s) (records t) (records t) ps blocks up c.requires.numbers makes,
-            (
-              each_pair l n n (records s) (records t) (records t) ps blocks up c.requires.numbers makes,
-              each_pair l n n (records s) (records t) (records t) ps blocks up c.requires.numbers makes,
-            ),
+            slices_ascend l n n (records s) (records t) (records t) ps blocks up c.requires.numbers makes xs ys c.as_slice.ensures.value c.as_slice-2.ensures.value,
+            (AllByRecursion-each (λ (p : ℕ × ℕ). Unit {0}) (λ p. tt) (zip xs ys), AllByRecursion-each (λ (p : ℕ × ℕ). Unit {0}) (λ p. tt) (zip xs ys)),
           ),
         ),
       ),
@@ -66,14 +67,17 @@ returns-clause-makes g c =
     let s = c.args.store.now in
     let t = c.make_blocks.new.store in
     let u = c.build.new.store in
+    let pairs = slices_pairs (ledger s) (ledger t) (ledger t) (records s) (records t) (records t) (tree_pairs (records s) c.args.root) c.in_ok-blocks.blocks c.requires.tree.ascends c.requires.numbers
+    c.in_ok-blocks.ensures.makes c.as_slice.result.now c.as_slice-2.result.now c.as_slice.ensures.value c.as_slice-2.ensures.value in
     makes_vector_if (ledger s) (ledger t) (ledger u) (records s) (records t) (records u) (tree_pairs (records s) c.args.root) c.in_ok-blocks.blocks c.requires.tree.ascends c.requires.numbers
-    c.in_ok-blocks.ensures.makes c.build.result c.build.ensures.keyed c.build.ensures.pairs c.build.ensures.turns
+    c.in_ok-blocks.ensures.makes c.build.result c.build.ensures.keyed
+    (subst (λ (qs : List (ℕ × ℕ)). IfOk c.build.result (λ r. tree_pairs (records u) r ≡ qs)) pairs c.build.ensures.pairs) c.build.ensures.turns
 
 pub returns-clause-counts : goal.returns-clause-counts
 returns-clause-counts g c =
     let ledger = g.S.Store.ledger in
     let s = c.args.store.now in
     let n = count_blocks (keys (tree_pairs (g.S.Frozen.records s) c.args.root)) in
-    let size = ap length c.in_ok-blocks.ensures.makes.numbers in
+    let size = ap length (c.as_slice.ensures.value ∙ c.in_ok-blocks.ensures.makes.numbers) in
     within_both (ledger s) (ledger c.make_blocks.new.store) (ledger c.build.new.store) n (nodes_of n) c.make_blocks.ensures.may c.make_blocks.ensures.counts
     (subst (λ (k : ℕ). CountsNodes (ledger c.make_blocks.new.store) (ledger c.build.new.store) (nodes_of k)) size c.build.ensures.counts)

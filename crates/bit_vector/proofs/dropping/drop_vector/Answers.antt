@@ -1,9 +1,9 @@
-use Rattle.std.proofs.Common.{◌≡◌, ◌∷◌, [], ℕ, List, true, map, rules, sym, ap, subst, ◌∙◌, arith}
+use Rattle.std.proofs.Common.{◌≡◌, ◌∷◌, [], ℕ, List, true, map, sym, subst, ◌∙◌, arith}
 use Rattle.store_api.specs.Parts.{Owns, Turns, entries}
 use Rattle.store_api.specs.Units.{MayDo, MakesAtMost}
 use Rattle.store_api.proofs.Counts.{at_most-then}
 use Rattle.store_api.proofs.May.{may_do-then}
-use Rattle.tree_read.specs.Trees.{tree_pairs, IsRootNode}
+use Rattle.tree_read.specs.Trees.{tree_pairs}
 use Rattle.frozen_btree.specs.Changes.{tree}
 use Rattle.bit_vector.specs.Changes.{vector_part}
 use Rattle.bit_vector.specs.Vectors.{IsVector}

@@ -1,19 +1,22 @@
-use Rattle.std.proofs.Common.{◌≡◌, ◌+◌, ◌*◌, ◌/◌, ◌<◌, ◌++◌, ◌∷◌, [], ℕ, List, true, false, length, rules, refl, sym, ap, subst, ◌∙◌, arith}
+use Rattle.std.proofs.Common.{◌≡◌, ◌++◌, ◌∷◌, [], ℕ, List, true, length, rules, refl, sym, ap, subst, ◌∙◌, arith}
 use Rattle.store_api.specs.Units.{MayDo}
 use Rattle.store_api.proofs.May.{may_do-same}
 use Rattle.tree_read.specs.Trees.{tree_pairs}
-use Rattle.attr_index.specs.Sets.{has, in_words}
+use Rattle.attr_index.specs.Sets.{in_words}
 use Rattle.bit_vector.specs.Changes.{MakesWithin}
-use Rattle.bit_vector.specs.Fillings.{block_most, MakesBlock}
+use Rattle.bit_vector.specs.Fillings.{block_most, IsBlockOf, MakesBlock}
 use Rattle.bit_vector.specs.Vectors.{is_block_of}
+use Rattle.bit_vector.specs.declared.filling.Blocks.{Blocks}
 use Rattle.bit_vector.proofs.CountLemmas.{within_none, within_one}
 use Rattle.bit_vector.proofs.FillLemmas.{keys, no_block_of, some_block_of}
 use Rattle.bit_vector.proofs.GatherLemmas.{makes_no_block, makes_one_block}
 use Rattle.bit_vector.proofs.TurnLemmas.{padded_same}
 use Rattle.bit_vector.proofs.filling.make_block.Goals as goal
 
-pub make_entry-requires-clause-unit : goal.make_entry-requires-clause-unit
-make_entry-requires-clause-unit g c = subst (λ f. (g.S.Store.ledger f).unit ≡ true) (sym c.words_of_tree-words.ensures.same) c.requires.unit
+pub make_entry-requires : goal.make_entry-requires
+make_entry-requires g c =
+    let own : length c.words_of_tree-words.result ≡ 64 = search rules in
+    (omega arith, (subst (λ f. (g.S.Store.ledger f).unit ≡ true) (sym c.words_of_tree-words.ensures.same) c.requires.unit, (refl, omega (arith, own))))
 
 pub returns-then-is_empty-clause-makes : goal.returns-then-is_empty-clause-makes
 returns-then-is_empty-clause-makes g c =
@@ -71,12 +74,13 @@ returns-clause-makes g c =
     let own : length words ≡ 64 = search rules in
     let some = some_block_of docs c.args.number words own (c.if-is_empty.ensures.some refl) c.words_of_tree-words.ensures.bits in
     let stored = c.in_ok-block.ensures.words ∙ padded_same words own in
-    let is = record {
+    let is : IsBlockOf docs c.args.number (records t c.in_ok-block.block) = record {
       size = ap length stored ∙ own;
       bits = λ i low. ap (λ (ws : List ℕ). in_words ws i) stored ∙ c.words_of_tree-words.ensures.bits i low;
     } in
-    subst (λ (f : g.row.S.Denot). MakesBlock (ledger f) (ledger t) (records f) (records t) docs c.args.number c.args.blocks.now _) c.words_of_tree-words.ensures.same
-    (makes_one_block (ledger s) (ledger t) (records s) (records t) docs c.args.number c.in_ok-block.block c.args.blocks.now _ some is c.in_ok-block.ensures.turns c.push.ensures.items
+    let next : Blocks = record { numbers = c.push.new.self; records = c.push-2.new.self } in
+    subst (λ (f : g.row.S.Denot). MakesBlock (ledger f) (ledger t) (records f) (records t) docs c.args.number c.args.blocks.now next) c.words_of_tree-words.ensures.same
+    (makes_one_block (ledger s) (ledger t) (records s) (records t) docs c.args.number c.in_ok-block.block c.args.blocks.now next some is c.in_ok-block.ensures.turns c.push.ensures.items
     (c.push-2.ensures.items ∙ ap (λ (r : ℕ). c.args.blocks.now.records.items ++ r ∷ []) c.raw.ensures))
 
 pub returns-clause-may : goal.returns-clause-may

@@ -1,12 +1,10 @@
-use Rattle.std.proofs.Common.{◌≡◌, ◌∷◌, [], ◌+◌, ◌<◌, ◌≤◌, suc, ℕ, List, length, cond, refl, inl, sym, ap, subst, ◌∙◌, arith}
+use Rattle.std.proofs.Common.{◌≡◌, ◌+◌, suc, ℕ, List, length, refl, inl, sym, ap, subst, ◌∙◌, arith}
 use Rattle.std.specs.Ordering.{nat_cmp}
 use Rattle.std.proofs.lemmas.Result.{err_from_is_err_and}
-use Rattle.store_api.specs.Parts.{Owns, entries, times}
+use Rattle.store_api.specs.Parts.{times}
 use Rattle.store_api.proofs.May.{may_do-same, may_do-then}
-use Rattle.store_api.proofs.PartLemmas.{owns-some}
 use Rattle.tree_read.specs.Trees.{tree_nodes, tree_pairs, by_number}
 use Rattle.tree_read.specs.ProofsForTrees.{tree_pairs-same, IsTree-same}
-use Rattle.frozen_btree.specs.Changes.{tree}
 use Rattle.bit_vector.specs.Changes.{vector_most, IsVectorWidth, MakesWithin}
 use Rattle.bit_vector.specs.Fillings.{block_most, IsBlockOf, MakesBlock, MakesBlocks}
 use Rattle.bit_vector.specs.Vectors.{count_blocks, is_block_of}

@@ -1,8 +1,8 @@
-use Rattle.std.proofs.Common.{◌≡◌, ◌+◌, ◌*◌, ◌/◌, ◌%◌, ◌<◌, ℕ, List, length, drop, replicate, rules, refl, sym, ap, subst, ◌∙◌, arith}
+use Rattle.std.proofs.Common.{◌≡◌, ◌*◌, drop, replicate, refl, subst, ◌∙◌, arith}
 use Rattle.tree_read.specs.SearchPlaces.{IsAt, pairs_from}
 use Rattle.tree_read.specs.Trees.{tree_pairs}
 use Rattle.bit_vector.proofs.BitLemmas.{zero_bits}
-use Rattle.bit_vector.proofs.DropLemmas.{not_end, shorter}
+use Rattle.bit_vector.proofs.DropLemmas.{not_end}
 use Rattle.bit_vector.proofs.FillLemmas.{fills_end, fills_first, fills_more, fills_past, keys}
 use Rattle.bit_vector.proofs.filling.words_of_tree.Goals as goal
 

@@ -1,4 +1,4 @@
-use Rattle.std.proofs.Common.{◌≡◌, ◌∷◌, [], ℕ, Bool, refl, ap, ◌∙◌, ◌+◌, ◌*◌, arith}
+use Rattle.std.proofs.Common.{ℕ, Bool, refl, ap, ◌∙◌, ◌+◌, ◌*◌, arith}
 use Rattle.std.proofs.lemmas.Result.{err_from_is_err_and}
 use Rattle.store_api.specs.Calls.{IsUsedWidth}
 use Rattle.store_api.proofs.May.{may_do-same, may_do-then}
@@ -71,7 +71,7 @@ pub returns-in_err-copy-clause-may : goal.returns-in_err-copy-clause-may
 returns-in_err-copy-clause-may g c = c.copy_block.ensures.may
 
 pub returns-in_err-next-clause-moves : goal.returns-in_err-next-clause-moves
-returns-in_err-next-clause-moves g c = let p = err_from_is_err_and c.from_residual.result c.from_residual.ensures.1 in rw p.1 tt
+returns-in_err-next-clause-moves g c = let p = err_from_is_err_and c.from_residual-in_err-next.result c.from_residual-in_err-next.ensures.1 in rw p.1 tt
 
 pub returns-in_err-next-clause-counts : goal.returns-in_err-next-clause-counts
 returns-in_err-next-clause-counts g c =
@@ -90,7 +90,7 @@ returns-in_err-next-clause-refuses g c =
     let a = g.S.Store.ledger c.args.store.now in
     let m = g.S.Frozen.records c.args.store.now in
     let used = way_used a m c.args.root c.requires.vector c.requires.owns (root_some m c.args.root c.args.number c.args.block c.requires.has) in
-    let p = err_from_is_err_and c.from_residual-2.result c.from_residual-2.ensures.1 in
+    let p = err_from_is_err_and c.from_residual-in_err-next.result c.from_residual-in_err-next.ensures.1 in
     rw (p.1, p.2) (of_one (IsUsedWidth a m) a (g.S.Store.ledger c.copy_block.new.store) (g.S.Store.ledger c.put_copy.new.store) 34 _ c.copy_block.ensures.may refl used c.in_err-next.ensures.refuses)
 
 pub returns-in_err-next-clause-may : goal.returns-in_err-next-clause-may

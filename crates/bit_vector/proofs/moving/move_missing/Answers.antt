@@ -1,4 +1,4 @@
-use Rattle.std.proofs.Common.{◌<◌, refl, arith}
+use Rattle.std.proofs.Common.{refl, arith}
 use Rattle.store_api.specs.Calls.{IsUsedWidth}
 use Rattle.store_api.proofs.May.{may_do-same}
 use Rattle.frozen_btree.specs.Changes.{levels}

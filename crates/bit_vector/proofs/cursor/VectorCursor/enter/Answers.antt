@@ -1,12 +1,10 @@
-use Rattle.std.proofs.Common.{◌≡◌, ◌+◌, ◌*◌, ◌<◌, ◌≤◌, [], ℕ, List, filter, length, nat_le, false, refl, sym, ap, subst, ◌∙◌, arith}
-use Rattle.tree_read.specs.SearchPlaces.{IsAt, pairs_from, first_key, first_value}
+use Rattle.std.proofs.Common.{◌+◌, ◌*◌, ◌≤◌, ℕ, List, filter, length, nat_le, false, refl, sym, ap, ◌∙◌, arith}
+use Rattle.tree_read.specs.SearchPlaces.{pairs_from}
 use Rattle.attr_images.specs.Postings.{IsBlock}
-use Rattle.attr_types.specs.Lawful.{IsDocNumber}
-use Rattle.bit_vector.specs.Blocks.{IsNextBit}
 use Rattle.bit_vector.specs.Vectors.{blocks_documents}
 use Rattle.bit_vector.specs.Walks.{IsBlockPlace}
 use Rattle.bit_vector.proofs.DropLemmas.{blocks_small, first_all, not_end}
-use Rattle.bit_vector.proofs.WalkLemmas.{enter_below, enter_documents, enter_number, enter_place}
+use Rattle.bit_vector.proofs.WalkLemmas.{enter_documents, enter_number, enter_place}
 use Rattle.bit_vector.proofs.cursor.VectorCursor.enter.Goals as goal
 
 pub returns-then-at_end-clause-place : goal.returns-then-at_end-clause-place

@@ -1,7 +1,5 @@
 use Rattle.std.proofs.Common.{◌≡◌, ℕ, List, sym, ap, subst, ◌∙◌, arith}
-use Rattle.tree_read.specs.SearchPlaces.{IsAt, pairs_from}
-use Rattle.tree_read.specs.Trees.{tree_pairs}
-use Rattle.attr_images.specs.Postings.{vector_documents}
+use Rattle.tree_read.specs.SearchPlaces.{pairs_from}
 use Rattle.bit_vector.specs.Vectors.{blocks_documents}
 use Rattle.bit_vector.specs.Walks.{documents_from, IsBlockPlace, IsVectorPlace}
 use Rattle.bit_vector.proofs.WalkLemmas.{first_blocks}
