@@ -1,9 +1,12 @@
 //! What `bench/guard` compares with, in plain Rust. Each run prints the nanoseconds that it took.
-//! Usage: guard_peer add LOOPS | copy LOOPS | own READERS LOOPS | KIND READERS LOOPS COMMITS. By `own` each thread loads a word that no other
-//! thread has, so it shows what the processors give to so many threads. KIND is rwlock, arc, or one of six that do what the running
+//! Usage: guard_peer add LOOPS | copy LOOPS | own READERS LOOPS | full READERS LOOPS | chain READERS LOOPS | KIND READERS LOOPS COMMITS. By
+//! `own` each thread loads a word that no other thread has. By `full` and `chain` threads add numbers in registers and touch no memory:
+//! four additions that do not wait for one another, which fill a processor, or four that do, which leave most of it free. These three show
+//! what the processors give to so many threads. KIND is rwlock, arc, or one of six that do what the running
 //! memory does: packed and padded make guards, packed-again and padded-again load the root under a hold that is kept, and packed-again-64 and
 //! padded-again-64 take a new hold after 64 loads. Packed words stand side by side, as the formats have them, so that the root, the newest
 //! hold's name and eight holds share what a processor takes in at once. Padded words do not.
+use std::arch::asm;
 use std::collections::VecDeque;
 use std::hint::black_box;
 use std::sync::atomic::{AtomicBool, AtomicU64, Ordering::SeqCst};
@@ -71,6 +74,30 @@ fn owns(readers: u64, loops: u64) -> u64 {
                     seen = seen.wrapping_add(word.load(SeqCst));
                 }
                 black_box(seen);
+            });
+        }
+    });
+    readers * loops
+}
+
+/// Threads that each make four additions in registers so often, independent ones or each after the other.
+fn sums(readers: u64, loops: u64, independent: bool) -> u64 {
+    thread::scope(|scope| {
+        for _ in 0..readers {
+            scope.spawn(|| {
+                let (mut a, mut b, mut c, mut d) = (0u64, 0u64, 0u64, 0u64);
+                for _ in 0..loops {
+                    // SAFETY: the instructions change these registers alone.
+                    unsafe {
+                        if independent {
+                            asm!("add {a}, 1", "add {b}, 1", "add {c}, 1", "add {d}, 1",
+                                a = inout(reg) a, b = inout(reg) b, c = inout(reg) c, d = inout(reg) d, options(nomem, nostack));
+                        } else {
+                            asm!("add {a}, 1", "add {a}, 1", "add {a}, 1", "add {a}, 1", a = inout(reg) a, options(nomem, nostack));
+                        }
+                    }
+                }
+                black_box(a + b + c + d);
             });
         }
     });
@@ -166,6 +193,8 @@ fn main() {
             number(1)
         }
         Some("own") => owns(number(1), number(2)),
+        Some("full") => sums(number(1), number(2), true),
+        Some("chain") => sums(number(1), number(2), false),
         Some("rwlock") => {
             let root = RwLock::new(0u64);
             beside(number(1), number(2), number(3), || *root.read().unwrap(), |n| *root.write().unwrap() = n)

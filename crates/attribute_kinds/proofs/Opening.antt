@@ -117,7 +117,7 @@ module _ (laws : NothingIsField) (bits : ℕ) (m : Records) where
 
 -- and no list is there
 module _ (nothing : NothingIsOfForm) (bits : ℕ) (m : Records) (dense : Bool) where
-  forms_opened : (fields : List Field) → HaveForms dense m (trees_of {bits} fields (replicate (length fields) no_roots))
+  forms_opened : (fields : List Field) → HaveForms dense m (trees_of {bits = bits} fields (replicate (length fields) no_roots))
   forms_opened [] = tt
   forms_opened (field ∷ fields) = (nothing (wants dense field.kind) field.value m, forms_opened fields)
 

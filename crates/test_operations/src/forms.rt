@@ -85,7 +85,11 @@ fn push_form(
     if word % 2 != 0 {
         return push_tree(alloc, records, word / 2, told);
     }
-    write!(told, "short list of {}", word_in(words_at(records, word / 2), 0))
+    write!(
+        told,
+        "short list of {}",
+        word_in(words_at(records, word / 2), 0)
+    )
 }
 
 /// Writes a value.
@@ -97,7 +101,11 @@ fn push_value(
 ) -> Result<(), AllocError> {
     match value_type {
         ValueType::Long => write!(told, "; {}: ", stored_long(words)),
-        ValueType::Text => write!(told, "; text of {} bytes: ", stored_text(alloc, words)?.len()),
+        ValueType::Text => write!(
+            told,
+            "; text of {} bytes: ",
+            stored_text(alloc, words)?.len()
+        ),
     }
 }
 
@@ -130,5 +138,11 @@ pub fn push_forms(
     let [field, ..] = fields else {
         return Ok(());
     };
-    push_lists(alloc, field.value, records, word_in(words_at(records, root), 2), told)
+    push_lists(
+        alloc,
+        field.value,
+        records,
+        word_in(words_at(records, root), 2),
+        told,
+    )
 }

@@ -262,7 +262,13 @@ fn tell_forms(
     let (work, last) = close(attribute, fields);
     push_changed(told, &said)?;
     match work.notes() {
-        Some(records) => push_forms(alloc, fields.as_slice(), records, u64::from(last.root.raw()), told),
+        Some(records) => push_forms(
+            alloc,
+            fields.as_slice(),
+            records,
+            u64::from(last.root.raw()),
+            told,
+        ),
         None => Err(AllocError),
     }
 }
