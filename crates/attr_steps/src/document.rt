@@ -68,7 +68,6 @@ pub fn count_documents<const OFFSET_BITS: u32, F: Frozen<OFFSET_BITS>>(
 ) -> u32
     requires sized { length roots.now ≡ length fields.now }
     requires fields { AreFields (F.records frozen.old) fields.now (trees_of fields.now roots.now) }
-    ensures count { result ≡ length (table_at (F.records frozen.old) (trees_of fields.now roots.now)) }
     ensures same { frozen.new ≡ frozen.old }
 {
     let _ = &fields[0];
