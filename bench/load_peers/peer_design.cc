@@ -5,9 +5,13 @@
 // as attr's are; -DORDER=std::memory_order_release makes them release stores, so
 // the two builds show what the order costs. All loads are sequentially consistent.
 // With -DLOOKS a word is loaded first, and stored only where it differs. With
+// -DBUFFERS entries lie in buffers of one width each, which the first word of the
+// buffer holds, and a reference names the buffer and the offset in it, as the
+// engine's do. With -DUNITS an operation can be undone: an entry that was made
+// before it stays until it is done, and what it made is listed. With
 // PEER_TIMES set it tells how many words of how many entries it had to store, and
 // how many of these it left since they were there.
-// Left out: compaction, buffers handed out by width, holds (readers have a slot each).
+// Left out: compaction, holds (readers have a slot each), counts for a monitor.
 #include "peer_common.h"
 #include <atomic>
 #include <array>
@@ -17,34 +21,68 @@ using namespace peer;
 #ifndef ORDER
 #define ORDER std::memory_order_seq_cst
 #endif
-using Ref = uint32_t;  // place of the entry in steps of two words
+using Ref = uint32_t;  // place of the entry in steps of two words; with BUFFERS the offset in its buffer, and 10 bits for the buffer
 struct Dropped { Ref ref; uint32_t width; };
 
 struct Design {
   static constexpr size_t LIMIT = size_t(1) << 27;
   std::unique_ptr<std::atomic<uint64_t>[], void (*)(std::atomic<uint64_t>*)> words{static_cast<std::atomic<uint64_t>*>(calloc(LIMIT, 8)), [](std::atomic<uint64_t>* p) { free(p); }};
   size_t used = 2; bool text;
-  vector<Ref> free_by[1025], made; vector<char> fresh;  // made since the last commit: the list, and a flag by ref
+  // What was made since the last commit: the list, and by entry the operation that made it; what earlier ones made and this one drops.
+  vector<Ref> free_by[1025], made; vector<uint32_t> made_in; uint32_t unit = 1; vector<Dropped> late;
   vector<Dropped> dropping; vector<std::pair<uint32_t, vector<Dropped>>> held; uint32_t generation = 0;
   std::atomic<uint64_t> root{0}; std::array<std::atomic<uint64_t>, 16> slots{}; std::atomic<uint32_t> seats{0};
   Ref docs = 0, dict = 0; uint64_t stored = 0, entries = 0, left = 0;
-  explicit Design(Setup const& s) : text(s.text) { fresh.resize(1 << 16); }
+  explicit Design(Setup const& s) : text(s.text) { made_in.resize(1 << 16); }
   ~Design() { if (getenv("PEER_TIMES")) fprintf(stderr, "stored words %lu entries %lu left %lu\n", stored, entries, left); }
-  uint64_t get(Ref r, uint32_t i) const { return words[size_t(r) * 2 + i].load(); }
-#ifdef LOOKS
-  void put(Ref r, uint32_t i, uint64_t w) { auto& word = words[size_t(r) * 2 + i]; if (word.load() == w) left++; else word.store(w, ORDER); }
+#ifdef BUFFERS
+  static constexpr size_t BUFFER = 16384; uint32_t buffers = 0; struct Filling { uint32_t buffer, next, most; }; Filling filling[1025] = {};
+  size_t place(Ref r) const { size_t first = (r & 1023) * BUFFER; return first + 1 + (r >> 10) * words[first].load(); }
+  static size_t mark(Ref r) { return (r & 1023) * BUFFER + (r >> 10); }
+  Ref fresh_entry(uint32_t width) {
+    Filling& f = filling[width];
+    if (f.next == f.most) {
+      if (buffers == 1023) fail("full", 6);
+      f = {buffers++, 0, uint32_t((BUFFER - 1) / width)}; words[f.buffer * BUFFER].store(width, ORDER); used = buffers * BUFFER;
+      if (f.buffer == 0) f.next = 1;  // reference 0 is no entry
+      if (made_in.size() < used) made_in.resize(used);
+    }
+    return f.next++ << 10 | f.buffer;
+  }
 #else
-  void put(Ref r, uint32_t i, uint64_t w) { words[size_t(r) * 2 + i].store(w, ORDER); }
+  size_t place(Ref r) const { return size_t(r) * 2; }
+  static size_t mark(Ref r) { return r; }
+  Ref fresh_entry(uint32_t width) { Ref r = used / 2; used += width; if (used > LIMIT) fail("full", 6); if (r >= made_in.size()) made_in.resize(made_in.size() * 2 + r); return r; }
+#endif
+  uint64_t get(Ref r, uint32_t i) const { return words[place(r) + i].load(); }
+#ifdef LOOKS
+  void put(size_t at, uint64_t w) { auto& word = words[at]; if (word.load() == w) left++; else word.store(w, ORDER); }
+#else
+  void put(size_t at, uint64_t w) { words[at].store(w, ORDER); }
 #endif
   static uint32_t width_of(uint32_t n) { uint32_t w = 2; while (w < n) w *= 2; return w; }
   Ref make(uint32_t width, uint64_t const* w, uint32_t n) {
     Ref r;
     if (!free_by[width].empty()) { r = free_by[width].back(); free_by[width].pop_back(); }
-    else { r = used / 2; used += width; if (used > LIMIT) fail("full", 6); if (r >= fresh.size()) fresh.resize(fresh.size() * 2 + r); }
-    for (uint32_t i = 0; i < width; i++) put(r, i, i < n ? w[i] : 0);
-    stored += width; entries++; fresh[r] = 1; made.push_back(r); return r;
+    else r = fresh_entry(width);
+    size_t at = place(r);
+    for (uint32_t i = 0; i < width; i++) put(at + i, i < n ? w[i] : 0);
+    stored += width; entries++; made_in[mark(r)] = unit; made.push_back(r); return r;
   }
-  void drop(Ref r, uint32_t width) { if (fresh[r]) { fresh[r] = 0; free_by[width].push_back(r); } else dropping.push_back({r, width}); }
+  // An entry made since the last commit is free at once, or, with UNITS, after the operation if an earlier one made it.
+  void drop(Ref r, uint32_t width) {
+    uint32_t& made = made_in[mark(r)];
+#ifdef UNITS
+    if (made && made != unit) { late.push_back({r, width}); return; }
+#endif
+    if (made) { made = 0; free_by[width].push_back(r); } else dropping.push_back({r, width});
+  }
+  void end_unit() {
+#ifdef UNITS
+    for (auto& d : late) { made_in[mark(d.ref)] = 0; free_by[d.width].push_back(d.ref); }
+    late.clear(); unit++;
+#endif
+  }
 
   // -- values: word 0 the length in bytes, then the bytes
   Ref make_value(string const& k) {
@@ -197,12 +235,13 @@ struct Design {
     w[0] = w.size() - 1;
     if (is) docs = insert(docs, ByNumber{doc}, doc, w[0] ? make(width_of(w.size()), w.data(), w.size()) : 0);
     else docs = remove(docs, ByNumber{doc});
+    end_unit();
   }
   void commit(uint32_t n) {
     uint64_t w[4] = {n, docs, dict, 0}; Ref r = make(4, w, 4);
     if (uint64_t old = root.load()) dropping.push_back({Ref(old), 4});
     root.store(uint64_t(++generation) << 32 | r);
-    for (Ref m : made) fresh[m] = 0;
+    for (Ref m : made) made_in[mark(m)] = 0;
     made.clear();
     held.push_back({generation, std::move(dropping)}); dropping.clear();
     uint64_t oldest = generation; for (auto& s : slots) if (uint64_t g = s.load()) oldest = std::min(oldest, g - 1);

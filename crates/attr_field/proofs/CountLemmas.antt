@@ -6,7 +6,7 @@ use Rattle.std.proofs.lemmas.List.Sums.{sum_by-cons}
 use Rattle.std.specs.Option.{is_some}
 use Rattle.entry_ref.specs.Records.{Records}
 use Rattle.store_api.specs.Ledgers.{Ledger}
-use Rattle.store_api.specs.Units.{MayDo}
+use Rattle.store_api.specs.Units.{MayDo, MakesWithin}
 use Rattle.store_api.proofs.May.{may_do-then}
 use Rattle.tree_read.specs.Trees.{tree_pairs}
 use Rattle.frozen_btree.specs.Changes.{levels}
@@ -21,7 +21,6 @@ use Rattle.attr_index.specs.Index.{Index, IsIndexOf, list_of}
 use Rattle.attr_types.specs.declared.kind.Kind.{Kind}
 use Rattle.attr_types.specs.declared.kind.ValueType.{ValueType}
 use Rattle.attr_types.specs.declared.value.Value.{Value}
-use Rattle.posting_store.specs.Changes.{MakesWithin}
 use Rattle.value_index.proofs.CountLemmas.{within_more, within_nodes}
 use Rattle.value_index.specs.Changes.{nodes_most}
 use Rattle.value_index.specs.Counts.{added_forms, added_records, besides, by_width, gone_count, gone_forms, gone_records, is_added, is_gone, put_forms, put_records, taken_forms, taken_records, value_nodes, walk_records}

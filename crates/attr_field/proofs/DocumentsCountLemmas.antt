@@ -2,12 +2,11 @@
 use Rattle.std.proofs.Common.{◌≡◌, ◌≢◌, ℕ, zero, suc, ◌+◌, ◌<◌, ◌≤◌, Bool, true, false, cond, nat_eq, refl, sym, subst, arith}
 use Rattle.std.proofs.lemmas.Bool.{eqb-true, eqb-false}
 use Rattle.store_api.specs.Ledgers.{Ledger, capacity}
-use Rattle.store_api.specs.Units.{MakesAtMost, MayDo}
+use Rattle.store_api.specs.Units.{MakesAtMost, MayDo, MakesWithin}
 use Rattle.store_api.proofs.Counts.{at_most-none, at_most-then, at_most-more}
 use Rattle.frozen_btree.specs.Makes.{CountsNodes}
 use Rattle.array_store.specs.Adding.{MakesOneOf}
 use Rattle.attr_images.specs.Words.{class_of}
-use Rattle.posting_store.specs.Changes.{MakesWithin}
 use Rattle.attr_field.specs.DocumentsChanges.{documents_most}
 use Rattle.attr_field.specs.Items.{has_list, items_record}
 use Rattle.attr_types.specs.declared.kind.Kind.{Kind}

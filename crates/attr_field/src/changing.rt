@@ -4,7 +4,7 @@ ghost use Rattle.std.specs.Map.{lookup};
 ghost use Rattle.std.specs.Ordering.{nat_cmp};
 ghost use Rattle.store_api.specs.Calls.{RefusesOf};
 ghost use Rattle.store_api.specs.Parts.{Owns};
-ghost use Rattle.store_api.specs.Units.{MayDo};
+ghost use Rattle.store_api.specs.Units.{MayDo, MakesWithin};
 ghost use Rattle.attr_field.specs.Changes.{MakesField};
 ghost use Rattle.attr_field.specs.Counts.{change_forms, change_records, field_forms, field_nodes, field_records, low_nodes, StaysLow};
 ghost use Rattle.attr_field.specs.Fields.{field_part, IsField, RefersBeside};
@@ -14,7 +14,6 @@ ghost use Rattle.attr_images.specs.Documents.{column_at};
 ghost use Rattle.attr_index.specs.Changes.{first_weights};
 ghost use Rattle.attr_index.specs.Columns.{items_of, with_change};
 ghost use Rattle.attr_types.specs.Lawful.{ItemsFit};
-ghost use Rattle.posting_store.specs.Changes.{MakesWithin};
 ghost use Rattle.value_index.specs.Counts.{besides, by_width};
 ghost use Rattle.value_index.specs.Forms.{IsOfForm, WeighOnes};
 
@@ -123,8 +122,8 @@ fn wants(dense: bool, kind: Kind) -> bool
     }
 }
 
-/// Sets the items of a document, where `old` are the items that it had, or none. Returns the new roots. With `dense` long
-/// lists become bit vectors, for `documents` documents in all; with weighted sets the flag changes nothing.
+/// Sets the items of a document, where `old` are the items that it had, or none. Returns the new roots. With `dense` the
+/// list of a frequent value among `documents` documents becomes a bit vector; with weighted sets the flag changes nothing.
 #[tactic(none)]
 pub fn put<const OFFSET_BITS: u32, S: Store<OFFSET_BITS>>(
     alloc: Global,
@@ -274,8 +273,8 @@ fn remove_weighed<const OFFSET_BITS: u32, S: Store<OFFSET_BITS>>(
     })
 }
 
-/// Removes a document that exists with these items. Returns the new roots. With `dense` long lists become or remain bit
-/// vectors, for `documents` documents in all; with weighted sets the flag changes nothing.
+/// Removes a document that exists with these items. Returns the new roots. With `dense` the list of a frequent value among
+/// `documents` documents becomes or remains a bit vector; with weighted sets the flag changes nothing.
 #[tactic(none)]
 pub fn remove<const OFFSET_BITS: u32, S: Store<OFFSET_BITS>>(
     alloc: Global,

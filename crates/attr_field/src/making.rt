@@ -2,11 +2,10 @@ ghost use Rattle.std.specs.Prelude.{◌≡◌, ◌+◌, ◌<◌, ◌≤◌, ◌�
 ghost use Rattle.std.specs.List.{AllByRecursion};
 ghost use Rattle.store_api.specs.Calls.{RefusesOf};
 ghost use Rattle.store_api.specs.Parts.{Owns, Turns, entries};
-ghost use Rattle.store_api.specs.Units.{MayDo, MakesAtMost};
+ghost use Rattle.store_api.specs.Units.{MayDo, MakesAtMost, MakesWithin};
 ghost use Rattle.array_store.specs.Adding.{MakesOneOf};
 ghost use Rattle.attr_images.specs.Words.{class_of};
 ghost use Rattle.attr_types.specs.Lawful.{IsLawfulItems};
-ghost use Rattle.posting_store.specs.Changes.{MakesWithin};
 ghost use Rattle.attr_field.specs.Documents.{items_own};
 ghost use Rattle.attr_field.specs.Items.{entries_by_key, has_list, items_record, word_entry, IsItemsWidth, IsWeightOf, MakesItems};
 

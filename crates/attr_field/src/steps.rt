@@ -6,7 +6,7 @@ ghost use Rattle.std.specs.List.{AllByRecursion};
 ghost use Rattle.std.specs.Map.{keys_of as values_in, lookup};
 ghost use Rattle.std.specs.Ordering.{nat_cmp};
 ghost use Rattle.store_api.specs.Calls.{Refuses, RefusesOf};
-ghost use Rattle.store_api.specs.Units.{MayDo};
+ghost use Rattle.store_api.specs.Units.{MayDo, MakesWithin};
 ghost use Rattle.tree_read.specs.declared.node_format.TheConstants.{NODE_WORDS};
 ghost use Rattle.attr_field.specs.DocumentsChanges.{documents_most, IsDocumentWidth};
 ghost use Rattle.attr_field.specs.Steps.{StandsField, StepsField};
@@ -18,7 +18,6 @@ ghost use Rattle.attr_index.specs.Index.{Index, IsIndexOf, list_of};
 ghost use Rattle.attr_types.specs.Lawful.{ItemsFit};
 ghost use Rattle.attr_types.specs.Value.{value_cmp, AreOfType};
 ghost use Rattle.attr_types.specs.declared.value.Value.{Value as OneValue};
-ghost use Rattle.posting_store.specs.Changes.{MakesWithin};
 ghost use Rattle.value_index.specs.Counts.{added_count, added_forms, added_records, besides, by_width, value_nodes};
 ghost use Rattle.value_index.specs.Counts.{gone_count, gone_forms, gone_records, AddsLow, RemovesLow};
 ghost use Rattle.value_index.specs.Forms.{IsOfForm, KeepsForm, WeighOnes};
@@ -33,8 +32,8 @@ use std::collections::BTreeMap;
 use store_api::{Store, StoreError};
 use value_index::{add_all, index_law, key_law, remove_all};
 
-/// Adds the document to the lists of its new values. Returns the root of the new index. With `dense` long lists become
-/// bit vectors, for `total` documents in all.
+/// Adds the document to the lists of its new values. Returns the root of the new index. With `dense` the list of a
+/// frequent value among `total` documents becomes a bit vector.
 #[tactic(none)]
 pub fn add_values<const OFFSET_BITS: u32, S: Store<OFFSET_BITS>>(
     alloc: Global,
@@ -170,7 +169,7 @@ pub fn take_out<const OFFSET_BITS: u32, S: Store<OFFSET_BITS>>(
 }
 
 /// Removes the document from the lists of its old values. Returns the root of the new index, which is the index of
-/// the documents. With `dense` long lists become or remain bit vectors, for `total` documents in all.
+/// the documents. With `dense` the list of a frequent value among `total` documents becomes or remains a bit vector.
 #[tactic(none)]
 pub fn remove_values<const OFFSET_BITS: u32, S: Store<OFFSET_BITS>>(
     alloc: Global,

@@ -11,6 +11,7 @@ use Rattle.std.proofs.lemmas.Option.{slice_get_within}
 use Rattle.std.specs.Prelude.{slice_get}
 use Rattle.array_store.specs.Adding.{MakesOneOf}
 use Rattle.store_api.specs.Ledgers.{Ledger, is_width}
+use Rattle.store_api.specs.Units.{MakesWithin}
 use Rattle.attr_field.proofs.SizeLemmas.{documents_few}
 use Rattle.attr_field.proofs.WeightLemmas.{weights_typed}
 use Rattle.attr_field.specs.Counts.{change_records, entry_weight, lost_values, new_values, StaysLow}
@@ -28,6 +29,7 @@ use Rattle.attr_loader.specs.Laws.{HasLevels}
 use Rattle.attr_loader.specs.Made as room
 use Rattle.attr_loader.specs.Made.{Steps, HasMade, RiseBy, after_keys, after_operation, after_root, both, broad_sum, pairs_of}
 use Rattle.attr_loader.specs.Runs.{AreLevels}
+use Rattle.attr_steps.proofs.Reading.{column_length}
 use Rattle.attr_steps.specs.Widths.{IsOperationWidth}
 use Rattle.attr_steps.specs.Counts.{document_after, document_before, document_records, items_if_there, kind_at, low_document, operation_forms, weights_at, MakesOperation}
 use Rattle.attr_types.proofs.EntryLemmas.{all-lookup}
@@ -50,7 +52,6 @@ use Rattle.attribute_kinds.proofs.RoomLemmas.{sparse_none}
 use Rattle.attribute_kinds.specs.Counts.{operation_values, AreShort, HasNoVectors, IsSparse}
 use Rattle.compact_steps.specs.Counts.{AreSingleLong, MakesKeys}
 use Rattle.compaction_moves.specs.Counts.{key_nodes, IsLowColumn}
-use Rattle.posting_store.specs.Changes.{MakesWithin}
 use Rattle.value_index.proofs.CountLemmas.{within_more}
 use Rattle.value_index.specs.Counts.{besides, by_width, is_added, is_gone, new_record, put_records, taken_records}
 use Rattle.attr_loader.proofs.ColumnWeights.{index_few, put_length, put_weight, taken_length, taken_weight}
@@ -419,10 +420,6 @@ keys_plain dense old new fields table steps keys some_keys made plain makes =
     first levels (suc field) low below = absurd (omega arith)
 
 -- with more documents nothing is promised of a store with bit vectors
-table_length : (i : ℕ) (table : Table) → length (column_of i table) ≡ length table
-table_length i [] = refl
-table_length i (e ∷ table) = ap suc (table_length i table)
-
 keys_many : {H : Type 0} (dense : Bool) (old new : Ledger H) (fields : List Field) (table : Table) (steps : Steps) (keys : ℕ) → 0 < keys → IsMade dense old fields table steps
     → dense ≡ true → LEAST_DENSE ≤ length table → IsMade dense new fields table (after_keys steps keys)
 keys_many dense old new fields table steps keys some_keys made on many =
@@ -438,7 +435,7 @@ keys_many dense old new fields table steps keys some_keys made on many =
       has = keys_made (is_single_long fields) steps keys made.most more made.has keyed;
       long = keys_long (is_single_long fields) steps keys made.most more made.long keyed;
       plain = λ none. absurd (omega (arith, none, some_keys));
-      within = λ sparse. absurd (let below = sparse on in let few = made.documents in let size = table_length 0 table in omega (arith, below, few, size, many));
+      within = λ sparse. absurd (let below = sparse on in let few = made.documents in let size = column_length 0 table in omega (arith, below, few, size, many));
       lawful = made.lawful;
       typed = made.typed;
       values = made.values;

@@ -8,7 +8,7 @@ use Rattle.store_api.proofs.Counts.{at_most-back, at_most-then}
 use Rattle.store_api.specs.Calls.{Undoes, EndsOf, RefusesOf, StoresCommit}
 use Rattle.store_api.specs.declared.store.Stored.{Stored}
 use Rattle.store_api.specs.Ledgers.{Ledger, OfWidth, IsSettled, capacity}
-use Rattle.store_api.specs.Units.{MayDo, MakesAtMost}
+use Rattle.store_api.specs.Units.{MayDo, MakesAtMost, MakesWithin}
 use Rattle.store_api.specs.declared.store.StoreError.{StoreError}
 use Rattle.store_api.specs.declared.store.StoreError.TheVariants.{Full, Memory}
 use Rattle.attr_field.specs.Counts.{change_forms, change_records, field_nodes, low_nodes, StaysLow}
@@ -26,7 +26,6 @@ use Rattle.attr_types.specs.declared.value.Value.{Value}
 use Rattle.value_index.specs.Counts.{besides, by_width}
 use Rattle.value_index.proofs.CountLemmas.{within_none}
 use Rattle.value_index.proofs.WalksCountLemmas.{besides_more, besides_then}
-use Rattle.posting_store.specs.Changes.{MakesWithin}
 use Rattle.attr_steps.specs.Counts.{document_forms, document_nodes, document_records, items_if_there, kind_at, low_document, weights_at, MakesDocument, SparesAtMost}
 
 -- ---- more attributes make no less

@@ -3,11 +3,14 @@ use Rattle.std.proofs.Common.{◌≡◌, ℕ, zero, suc, ◌+◌, ◌<◌, List,
 use Rattle.std.specs.Prelude.{slice_get, IsSome}
 use Rattle.std.specs.BTreeMap.{is_at}
 use Rattle.std.specs.Map.{lookup}
-use Rattle.std.proofs.lemmas.List.{take_all}
+use Rattle.std.proofs.lemmas.List.{length-map, take_all}
 use Rattle.list_facts.proofs.Options.{same_Some}
 use Rattle.list_facts.proofs.Each.{AllByRecursion-slice_get}
 use Rattle.attr_images.proofs.TableLemmas.{document_size}
 use Rattle.entry_ref.specs.Records.{Records}
+use Rattle.tree_read.specs.Trees.{tree_pairs}
+use Rattle.attr_images.specs.Documents.{items_at}
+use Rattle.attr_index.specs.Columns.{column_of}
 use Rattle.attr_types.proofs.TableLemmas.{Sound}
 use Rattle.attr_types.specs.Query.{items_in}
 use Rattle.attr_types.specs.Table.{Table, document_at}
@@ -64,6 +67,11 @@ module _ (fields : List Field) (table : Table) (doc : ℕ) (sound : Sound fields
       told None is there = cc
       told (Some d) is there = ap Some (so_far.items_are d is ∙ ap (λ n. take n d) (sym (sized d is)) ∙ take_all (length d) d (omega arith)) ∙ sym is
 
+-- a column has as many documents as the table
+pub column_length : (i : ℕ) (table : Table) → length (column_of i table) ≡ length table
+column_length i [] = refl
+column_length i (e ∷ table) = ap suc (column_length i table)
+
 -- no items in one attribute: the document is not there
 pub reads_none : (found : Option Document) (i : ℕ) → None ≡ option_map (λ d. items_in d i) found → None ≡ found
 reads_none None i is = refl
@@ -73,6 +81,15 @@ module _ {bits : ℕ} (m : Records) (fields : List Field) (roots : List (FieldRo
     (at_field : slice_get fields i ≡ Some field) (at_root : slice_get roots i ≡ Some root) where
   pub reads_field : IsFieldAt m (trees_of_field field root)
   reads_field = AllByRecursion-slice_get (IsFieldAt m) (trees_of fields roots) i (trees_of_field field root) are.each (tree_get fields roots i field root at_field at_root)
+
+  -- the number of documents
+  pub reads_count : length (tree_pairs m root.documents) ≡ length (table_at m (trees_of fields roots))
+  reads_count =
+      let column : column_in m (trees_of_field field root) ≡ column_of i (table_at m (trees_of fields roots)) =
+      column_at_tree m (trees_of fields roots) i (trees_of_field field root) are.documents (tree_get fields roots i field root at_field at_root) in
+      let pairs : length (column_in m (trees_of_field field root)) ≡ length (tree_pairs m root.documents) =
+      length-map (tree_pairs m root.documents) (λ (p : ℕ × ℕ). (p.0, items_at field.kind field.value m p.1)) in
+      sym pairs ∙ ap length column ∙ column_length i (table_at m (trees_of fields roots))
 
   pub reads_items : (doc : ℕ) → lookup (is_at (nat_cmp doc)) (column_in m (trees_of_field field root))
       ≡ option_map (λ d. items_in d i) (document_at (table_at m (trees_of fields roots)) doc)

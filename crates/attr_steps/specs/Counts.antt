@@ -3,7 +3,7 @@ use Rattle.std.specs.Prelude.{Bool, ℕ, ℤ, zero, suc, ◌+◌, ◌<◌, ◌�
 use Rattle.store_api.specs.Ledgers.{Ledger}
 use Rattle.store_api.specs.declared.store.StoreError.{StoreError}
 use Rattle.store_api.specs.declared.store.StoreError.TheVariants as errors
-use Rattle.posting_store.specs.Changes.{MakesWithin}
+use Rattle.store_api.specs.Units.{MakesWithin}
 use Rattle.attr_field.specs.Counts.{change_forms, change_records, field_nodes, low_nodes, StaysLow}
 use Rattle.attr_field.specs.Forms.{wants}
 use Rattle.attr_index.specs.Changes.{first_weights}

@@ -6,7 +6,7 @@ ghost use Rattle.std.specs.Map.{lookup};
 ghost use Rattle.std.specs.Ordering.{nat_cmp};
 ghost use Rattle.store_api.specs.Calls.{RefusesOf};
 ghost use Rattle.store_api.specs.Parts.{Owns};
-ghost use Rattle.store_api.specs.Units.{MayDo};
+ghost use Rattle.store_api.specs.Units.{MayDo, MakesWithin};
 ghost use Rattle.attr_field.specs.Changes.{MakesField};
 ghost use Rattle.attr_field.specs.Fields.{field_part, IsField, RefersBeside};
 ghost use Rattle.attr_field.specs.Widths.{IsFieldWidth};
@@ -18,7 +18,6 @@ ghost use Rattle.attr_index.specs.Columns.{items_of as items_had, with_change};
 ghost use Rattle.attr_types.specs.Lawful.{IsDocNumber, ItemsFit};
 ghost use Rattle.attr_types.specs.Query.{items_in};
 ghost use Rattle.attr_types.specs.Table.{document_at};
-ghost use Rattle.posting_store.specs.Changes.{MakesWithin};
 ghost use Rattle.value_index.specs.Counts.{besides, by_width};
 ghost use Rattle.value_index.specs.Forms.{IsOfForm};
 ghost use Rattle.attr_steps.specs.Counts.{MakesDocument};
@@ -68,6 +67,7 @@ pub fn count_documents<const OFFSET_BITS: u32, F: Frozen<OFFSET_BITS>>(
 ) -> u32
     requires sized { length roots.now ≡ length fields.now }
     requires fields { AreFields (F.records frozen.old) fields.now (trees_of fields.now roots.now) }
+    ensures count { result ≡ length (table_at (F.records frozen.old) (trees_of fields.now roots.now)) }
     ensures same { frozen.new ≡ frozen.old }
 {
     let _ = &fields[0];

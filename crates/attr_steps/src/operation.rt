@@ -156,8 +156,8 @@ fn update_document<const OFFSET_BITS: u32, S: Store<OFFSET_BITS>>(
     Ok(Some(next))
 }
 
-/// Applies an operation. Returns the new roots, or `None` if the operation is skipped. With `dense` long lists become bit
-/// vectors, except in weighted sets.
+/// Applies an operation. Returns the new roots, or `None` if the operation is skipped. With `dense` the lists of frequent
+/// values become bit vectors, except in weighted sets.
 #[tactic(none)]
 pub fn step<const OFFSET_BITS: u32, S: Store<OFFSET_BITS>>(
     alloc: Global,

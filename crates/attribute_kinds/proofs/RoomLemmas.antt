@@ -11,7 +11,7 @@ use Rattle.std.specs.Ordering.{nat_cmp}
 use Rattle.std.specs.Option.{IfSome}
 use Rattle.arena_api.specs.Works.{free_count}
 use Rattle.store_api.specs.Ledgers.{Ledger, OfWidth, buffers_in, capacity, widths}
-use Rattle.store_api.specs.Units.{MakesAtMost}
+use Rattle.store_api.specs.Units.{MakesAtMost, MakesWithin}
 use Rattle.store_api.specs.declared.store.StoreError.{StoreError}
 use Rattle.store_api.specs.declared.store.StoreError.TheVariants.{Full, Memory}
 use Rattle.attr_field.specs.Counts.{change_records, field_forms, lost_values, new_values, entry_weight}
@@ -28,7 +28,6 @@ use Rattle.attr_types.specs.declared.kind.Kind.TheVariants as kinds
 use Rattle.attr_types.specs.declared.items.Item.{Item}
 use Rattle.attr_types.specs.declared.op.Op.{Op}
 use Rattle.attr_types.specs.declared.value.Value.{Value}
-use Rattle.posting_store.specs.Changes.{MakesWithin}
 use Rattle.value_index.proofs.CountLemmas.{within_more}
 use Rattle.value_index.proofs.FormCounts.{no_forms}
 use Rattle.value_index.specs.Counts.{besides, by_width, is_added, is_gone, put_forms, record_sum, taken_forms, walk_records}

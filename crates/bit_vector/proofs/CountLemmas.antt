@@ -4,12 +4,12 @@ use Rattle.std.specs.Prelude.{IfErr}
 use Rattle.std.proofs.lemmas.Bool.{eqb-true, eqb-false}
 use Rattle.store_api.specs.Calls.{Refuses, RefusesOf, IsFull}
 use Rattle.store_api.specs.Ledgers.{Ledger, capacity, is_width}
-use Rattle.store_api.specs.Units.{MakesAtMost, MayDo}
+use Rattle.store_api.specs.Units.{MakesAtMost, MayDo, MakesWithin}
 use Rattle.store_api.specs.declared.store.StoreError.{StoreError}
 use Rattle.store_api.specs.declared.store.StoreError.TheVariants.{Full, Memory}
 use Rattle.store_api.proofs.Counts.{at_most-none, at_most-then, at_most-more}
 use Rattle.frozen_btree.specs.Makes.{CountsNodes}
-use Rattle.bit_vector.specs.Changes.{vector_most, MakesWithin}
+use Rattle.bit_vector.specs.Changes.{vector_most}
 use Rattle.bit_vector.specs.Fillings.{block_most}
 
 -- nothing

@@ -19,7 +19,7 @@ use Rattle.store_api.specs.Calls.{IsUsedWidth}
 use Rattle.store_api.specs.Ledgers.{Ledger}
 use Rattle.store_api.specs.Parts.{Part, After, Owns, Turns, count_in, entry, entries, times}
 use Rattle.store_api.specs.Statuses.{in_use}
-use Rattle.store_api.specs.Units.{MayDo}
+use Rattle.store_api.specs.Units.{MayDo, MakesWithin}
 use Rattle.store_api.specs.declared.store.StoreError.{StoreError}
 use Rattle.store_api.proofs.PartLemmas.{after, owns-some, turns-as, turns-then}
 use Rattle.store_api.proofs.Times.{times-append, times-same}
@@ -42,7 +42,7 @@ use Rattle.attr_index.specs.Sets.{has, in_words}
 use Rattle.attr_types.specs.Lawful.{IsDocNumber}
 use Rattle.attr_images.specs.Postings.{block_documents, vector_documents, IsBlock}
 use Rattle.bit_vector.specs.Blocks.{beside_block, SetsBlock}
-use Rattle.bit_vector.specs.Changes.{vector_most, vector_part, MakesWithin}
+use Rattle.bit_vector.specs.Changes.{vector_most, vector_part}
 use Rattle.bit_vector.specs.Keeps.{block_at}
 use Rattle.bit_vector.specs.Moves.{CopiesBlock, MovesBlock, MovesWay, PutsBlock}
 use Rattle.bit_vector.specs.Vectors.{blocks_documents, IsVector}

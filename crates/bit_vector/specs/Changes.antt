@@ -2,9 +2,8 @@
 use Rattle.std.specs.Prelude.{◌≡◌, ◌⊎◌, ℕ, ℤ, nat_eq, if◌then◌else◌, List, [], ◌∷◌}
 use Rattle.std.specs.Ordering.{nat_cmp}
 use Rattle.entry_ref.specs.Records.{Records, Among}
-use Rattle.store_api.specs.Ledgers.{Ledger, capacity}
+use Rattle.store_api.specs.Ledgers.{Ledger}
 use Rattle.store_api.specs.Parts.{Part, Owns, Turns}
-use Rattle.store_api.specs.Units.{MakesAtMost}
 use Rattle.tree_read.specs.Trees.{tree_pairs, by_number, IsTree}
 use Rattle.tree_read.specs.declared.node_format.TheConstants.{NODE_WORDS}
 use Rattle.frozen_btree.specs.Changes.{tree}
@@ -32,10 +31,6 @@ pub record MakesTree {H : Type 0} (old new : Ledger H) (m n : Records) (pairs : 
   pub pairs_are : tree_pairs n next ≡ pairs
   pub owns : Owns new n (tree next ∷ [])
   pub turns : Turns old new m n [] (tree next ∷ [])
-
--- at most this many records of each width were made
-pub record MakesWithin {H : Type 0} (old new : Ledger H) (most : ℕ → ℕ) : Type 0 where
-  pub each : (width : ℕ) → MakesAtMost (capacity old.work.sizes.words width) (most width) (old.of_width width) (new.of_width width)
 
 -- this many blocks, and this many nodes
 abbrev pub vector_most : ℕ → ℕ → ℕ → ℕ

@@ -8,13 +8,13 @@ ghost use Rattle.attr_images.specs.Postings.{block_documents, vector_documents, 
 ghost use Rattle.attr_index.specs.Sets.{has, in_words};
 ghost use Rattle.attr_types.specs.Lawful.{IsDocNumber};
 ghost use Rattle.bit_vector.specs.Blocks.{beside_block, HasBit, SetsBlock};
-ghost use Rattle.bit_vector.specs.Changes.{vector_most, vector_part, IsVectorWidth, MakesVector, MakesWithin};
+ghost use Rattle.bit_vector.specs.Changes.{vector_most, vector_part, IsVectorWidth, MakesVector};
 ghost use Rattle.bit_vector.specs.Vectors.{vector_at, IsVector};
 ghost use Rattle.frozen_btree.specs.Changes.{levels};
 ghost use Rattle.frozen_btree.specs.Makes.{CountsNodes};
 ghost use Rattle.store_api.specs.Calls.{Refuses, RefusesOf};
 ghost use Rattle.store_api.specs.Parts.{Owns, entry};
-ghost use Rattle.store_api.specs.Units.{MayDo};
+ghost use Rattle.store_api.specs.Units.{MayDo, MakesWithin};
 ghost use Rattle.tree_read.specs.Pairs.{lookup};
 ghost use Rattle.tree_read.specs.Trees.{tree_pairs};
 

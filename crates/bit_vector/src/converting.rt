@@ -4,14 +4,14 @@ ghost use Rattle.std.specs.List.{AllByRecursion};
 ghost use Rattle.std.specs.Ordering.{nat_cmp};
 ghost use Rattle.attr_images.specs.Postings.{vector_documents};
 ghost use Rattle.attr_types.specs.Lawful.{IsDocNumber};
-ghost use Rattle.bit_vector.specs.Changes.{vector_most, IsVectorWidth, MakesTree, MakesVector, MakesWithin};
+ghost use Rattle.bit_vector.specs.Changes.{vector_most, IsVectorWidth, MakesTree, MakesVector};
 ghost use Rattle.bit_vector.specs.Vectors.{count_blocks, IsVector};
 ghost use Rattle.frozen_btree.specs.Builds.{nodes_of};
 ghost use Rattle.frozen_btree.specs.Changes.{tree};
 ghost use Rattle.frozen_btree.specs.Makes.{CountsNodes};
 ghost use Rattle.store_api.specs.Calls.{Refuses, RefusesOf};
 ghost use Rattle.store_api.specs.Parts.{Owns};
-ghost use Rattle.store_api.specs.Units.{MayDo};
+ghost use Rattle.store_api.specs.Units.{MayDo, MakesWithin};
 ghost use Rattle.tree_read.specs.Trees.{tree_pairs, by_number, IsTree};
 
 use crate::cursor::VectorCursor;

@@ -4,13 +4,13 @@ ghost use Rattle.std.specs.List.{range_with_len, AllByRecursion};
 ghost use Rattle.std.specs.Ordering.{nat_cmp};
 ghost use Rattle.attr_index.specs.Sets.{has, in_words};
 ghost use Rattle.attr_types.specs.Lawful.{IsDocNumber};
-ghost use Rattle.bit_vector.specs.Changes.{vector_most, IsVectorWidth, MakesWithin};
+ghost use Rattle.bit_vector.specs.Changes.{vector_most, IsVectorWidth};
 ghost use Rattle.bit_vector.specs.Fillings.{block_most, MakesBlock, MakesBlocks};
 ghost use Rattle.bit_vector.specs.Vectors.{count_blocks, is_block_of};
 ghost use Rattle.frozen_btree.specs.Changes.{tree};
 ghost use Rattle.store_api.specs.Calls.{Refuses, RefusesOf};
 ghost use Rattle.store_api.specs.Parts.{Owns};
-ghost use Rattle.store_api.specs.Units.{MayDo};
+ghost use Rattle.store_api.specs.Units.{MayDo, MakesWithin};
 ghost use Rattle.tree_read.specs.Trees.{tree_pairs, by_number, IsTree};
 
 use crate::MOST_BLOCKS;

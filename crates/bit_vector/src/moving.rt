@@ -1,6 +1,6 @@
 //! A block of a bit vector moved out of a buffer.
 ghost use Rattle.std.specs.Prelude.{◌≡◌, ◌+◌, ◌*◌, ◌∷◌, [], true, length, None, Some, IfOk, IfErr};
-ghost use Rattle.bit_vector.specs.Changes.{vector_most, vector_part, MakesWithin};
+ghost use Rattle.bit_vector.specs.Changes.{vector_most, vector_part};
 ghost use Rattle.bit_vector.specs.Keeps.{block_at};
 ghost use Rattle.bit_vector.specs.Moves.{moved_nodes, CopiesBlock, MovesBlock, MovesWay, PutsBlock};
 ghost use Rattle.bit_vector.specs.Vectors.{IsVector};
@@ -8,7 +8,7 @@ ghost use Rattle.frozen_btree.specs.Changes.{levels};
 ghost use Rattle.frozen_btree.specs.Makes.{CountsNodes};
 ghost use Rattle.store_api.specs.Calls.{IsUsedWidth, Refuses, RefusesOf};
 ghost use Rattle.store_api.specs.Parts.{Owns, entry};
-ghost use Rattle.store_api.specs.Units.{MayDo};
+ghost use Rattle.store_api.specs.Units.{MayDo, MakesWithin};
 
 use crate::blocks::{find_block, read_block};
 use attr_images::BLOCK_WORDS;

@@ -7,6 +7,7 @@ use Rattle.list_facts.proofs.Each.{AllByRecursion-slice_get}
 use Rattle.entry_ref.specs.Records.{Records}
 use Rattle.store_api.specs.Calls.{EndsOf, Seals}
 use Rattle.store_api.specs.Ledgers.{Ledger, IsSettled}
+use Rattle.store_api.specs.Units.{MakesWithin}
 use Rattle.attr_index.specs.Columns.{Column, column_of}
 use Rattle.attr_steps.proofs.CountLemmas.{counts_unit}
 use Rattle.attr_types.specs.Table.{Table}
@@ -16,7 +17,6 @@ use Rattle.attr_types.specs.declared.kind.Kind.TheVariants.{Single}
 use Rattle.attr_types.specs.declared.kind.ValueType.{ValueType}
 use Rattle.attr_types.specs.declared.kind.ValueType.TheVariants.{Long}
 use Rattle.compaction_moves.specs.Counts.{key_nodes, most_nodes, one_record, IsLowColumn, MakesKey}
-use Rattle.posting_store.specs.Changes.{MakesWithin}
 use Rattle.value_index.proofs.WalksCountLemmas.{one_of}
 use Rattle.value_index.specs.Counts.{by_width}
 use Rattle.compact_steps.specs.Counts.{MakesKeys, RisesBy}

@@ -8,6 +8,7 @@ use Rattle.std.specs.declared.cmp.Ordering.TheVariants.{Less, Equal, Greater}
 use Rattle.entry_ref.specs.Records.{Records}
 use Rattle.tree_read.specs.Pairs.{choose, lookup}
 use Rattle.store_api.specs.Ledgers.{Ledger}
+use Rattle.store_api.specs.Units.{MakesWithin}
 use Rattle.tree_read.specs.Trees.{tree_pairs}
 use Rattle.frozen_btree.specs.Changes.{levels}
 use Rattle.frozen_btree.specs.Makes.{CountsNodes}
@@ -43,7 +44,6 @@ use Rattle.posting_store.specs.Lists.{is_vector, IsPlain}
 use Rattle.posting_store.proofs.FormLemmas.{no_vector}
 use Rattle.value_index.specs.Flows.{list_word}
 use Rattle.value_index.specs.Forms.{IsPlainIndex}
-use Rattle.posting_store.specs.Changes.{MakesWithin}
 use Rattle.value_index.proofs.CountLemmas.{within_more, within_nodes}
 use Rattle.value_index.specs.Changes.{nodes_most, value_levels}
 

@@ -9,7 +9,7 @@ use Rattle.entry_ref.specs.Records.{Records, SameAt, Among}
 use Rattle.store_api.specs.Ledgers.{Ledger, capacity}
 use Rattle.store_api.specs.Parts.{Owns, Turns, count_in, entry, times}
 use Rattle.store_api.specs.Statuses.{in_use}
-use Rattle.store_api.specs.Units.{MakesAtMost, MayDo}
+use Rattle.store_api.specs.Units.{MakesAtMost, MayDo, MakesWithin}
 use Rattle.store_api.proofs.PartLemmas.{after, owns-some, turns-as}
 use Rattle.store_api.proofs.Times.{among-times}
 use Rattle.store_api.proofs.Uses.{in-uses}
@@ -21,7 +21,7 @@ use Rattle.frozen_btree.proofs.TouchTreeLemmas.{path_nodes-same}
 use Rattle.array_store.specs.Adding.{AddsRecord, MakesOneOf}
 use Rattle.attr_images.specs.Postings.{ListForm, short, tree, vector, list_form, postings_reach, IsPostingList}
 use Rattle.attr_images.specs.Words.{class_of, stored_items, unpacked, IsStoredList}
-use Rattle.posting_store.specs.Changes.{list_part, list_most, MakesList, MakesWithin}
+use Rattle.posting_store.specs.Changes.{list_part, list_most, MakesList}
 use Rattle.posting_store.specs.Lists.{list_at, list_levels, list_reach, is_vector, AreDocuments, IsList, IsPlain}
 use Rattle.posting_store.proofs.ChangeLemmas.{counts_short, makes_short, makes_tree, replaces}
 use Rattle.posting_store.specs.Keeps.{form_block, list_block, KeepsListBlocks}

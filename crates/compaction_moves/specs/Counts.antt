@@ -1,13 +1,13 @@
 -- Bounds on the records that the move of one key makes.
 use Rattle.std.specs.Prelude.{◌≡◌, ℕ, ◌+◌, ◌*◌, ◌^◌, ◌<◌, ◌≤◌, nat_eq, if◌then◌else◌, length}
 use Rattle.store_api.specs.Ledgers.{Ledger}
+use Rattle.store_api.specs.Units.{MakesWithin}
 use Rattle.attr_index.specs.Columns.{Column}
 use Rattle.attr_index.specs.Index.{Index, IsIndexOf}
 use Rattle.attr_types.specs.declared.kind.Kind.{Kind}
 use Rattle.attr_types.specs.declared.kind.Kind.TheVariants.{Single}
 use Rattle.attr_types.specs.declared.kind.ValueType.{ValueType}
 use Rattle.attr_types.specs.declared.kind.ValueType.TheVariants.{Long}
-use Rattle.posting_store.specs.Changes.{MakesWithin}
 use Rattle.value_index.specs.Counts.{by_width}
 
 -- the nodes, if no tree has more levels: in two trees, one of each level in a list, and two of each level and a root

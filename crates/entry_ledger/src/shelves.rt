@@ -1,7 +1,8 @@
 ghost use Rattle.std.specs.Prelude.{◌≡◌, ◌≢◌, ◌↔◌, ◌<◌, ◌≤◌, ◌+◌, ◌-◌, ◌/◌, ◌^◌, ◌++◌, ◌∷◌, if◌then◌else◌, ℕ, [], true, false, length};
 ghost use Rattle.std.specs.Prelude.{replicate, slice_set, count_by, Some, None, IsNone, IfSome, IfNone, IfOk, OnOk, OnErr};
 ghost use Rattle.store_api.specs.Ledgers.{is_width, capacity};
-ghost use Rattle.entry_ledger.specs.States.{empty_shelf, has_free_and_more, is_used, is_dropped, is_touched, state_at, dropped, with_state_at};
+ghost use Rattle.entry_ledger.specs.States.{empty_shelf, has_free_and_more, is_used, is_dropped, is_touched};
+ghost use Rattle.entry_ledger.specs.States.{state_at, dropped, with_state_at};
 ghost use Rattle.entry_ledger.specs.ShelvesKept.{stack_at};
 ghost use Rattle.entry_ledger.specs.Shelves.{shelf_at, made_in, filled_at, row_of, spare_of_width, with_shelf, Takes, SettlesOne};
 

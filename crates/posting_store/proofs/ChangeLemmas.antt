@@ -14,7 +14,7 @@ use Rattle.entry_ref.specs.Records.{Records, Among}
 use Rattle.store_api.specs.Ledgers.{Ledger, capacity}
 use Rattle.store_api.specs.Parts.{Part, count_in, times, entry, Owns, Turns, AllStay}
 use Rattle.store_api.specs.Statuses.{in_use}
-use Rattle.store_api.specs.Units.{MakesAtMost, MayDo}
+use Rattle.store_api.specs.Units.{MakesAtMost, MayDo, MakesWithin}
 use Rattle.store_api.proofs.Flows.{flow_part}
 use Rattle.store_api.proofs.Counts.{at_most-none, at_most-then, at_most-more}
 use Rattle.store_api.proofs.PartLemmas.{after, turns-as, turns-then, owns-some}
@@ -23,7 +23,7 @@ use Rattle.frozen_btree.specs.Changes.{tree as tree_part}
 use Rattle.frozen_btree.specs.Makes.{CountsNodes}
 use Rattle.posting_store.specs.Lists.{list_at, IsList, IsPlain, AreDocuments}
 use Rattle.posting_store.specs.ProofsForLists.{IsList-same, list_at-same}
-use Rattle.posting_store.specs.Changes.{list_part, list_most, IsListWidth, MakesList, MakesWithin}
+use Rattle.posting_store.specs.Changes.{list_part, list_most, IsListWidth, MakesList}
 use Rattle.posting_store.proofs.FlowLemmas.{flows_fresh, flows_plain}
 use Rattle.posting_store.proofs.FormLemmas.{form_short, form_tree, no_vector, short_at, short_reach, tree_at, tree_reach}
 use Rattle.posting_store.proofs.PairLemmas.{weighed, weighed-length}

@@ -16,13 +16,14 @@ use Rattle.tree_read.specs.Pairs.{lookup, put, take_out}
 use Rattle.tree_read.proofs.PairLemmas.{All-put, All-take_out}
 use Rattle.store_api.specs.Ledgers.{Ledger}
 use Rattle.store_api.specs.Parts.{count_in, times, Owns, Turns}
+use Rattle.store_api.specs.Units.{MakesWithin}
 use Rattle.tree_read.specs.Trees.{tree_pairs, by_number, IsTree}
 use Rattle.frozen_btree.specs.Changes.{levels, tree}
 use Rattle.frozen_btree.specs.Makes.{CountsNodes}
 use Rattle.attr_images.specs.Words.{unpacked, weight_in_bits}
 use Rattle.attr_types.specs.Lawful.{IsDocNumber}
 use Rattle.posting_store.specs.Lists.{list_at, list_levels, IsList, IsPlain, AreDocuments}
-use Rattle.posting_store.specs.Changes.{list_part, list_most, IsListWidth, MakesList, MakesWithin}
+use Rattle.posting_store.specs.Changes.{list_part, list_most, IsListWidth, MakesList}
 use Rattle.posting_store.proofs.ChangeLemmas.{makes_tree, counts_tree, is_tree_width}
 use Rattle.posting_store.proofs.FormLemmas.{tree_at, tree_reach, tree_levels, tree_form}
 use Rattle.posting_store.proofs.PairLemmas.{weighed, weighed-length, against, weighed-put, weighed-take_out, weighed-there, documents_in, documents_out, length_out_some, zipped, zipped_small}

@@ -10,11 +10,11 @@ use Rattle.store_api.specs.Calls.{RefusesOf}
 use Rattle.store_api.specs.Ledgers.{Ledger}
 use Rattle.store_api.specs.Parts.{Owns}
 use Rattle.store_api.specs.Statuses.{in_use}
-use Rattle.store_api.specs.Units.{MayDo}
+use Rattle.store_api.specs.Units.{MayDo, MakesWithin}
 use Rattle.store_api.specs.declared.store.StoreError.{StoreError}
 use Rattle.store_api.proofs.PartLemmas.{turns-same, turns-then}
 use Rattle.attr_images.specs.Postings.{is_dense}
-use Rattle.bit_vector.specs.Changes.{vector_most, IsVectorWidth, MakesWithin}
+use Rattle.bit_vector.specs.Changes.{vector_most, IsVectorWidth}
 use Rattle.bit_vector.specs.Vectors.{count_blocks}
 use Rattle.posting_store.specs.Lists.{list_at, is_vector, IsList, IsPlain}
 use Rattle.posting_store.specs.Changes.{list_part, list_most, list_change_most, form_most, IsListWidth, IsFormWidth, IsListChangeWidth, MakesByRule, MakesList}

@@ -12,7 +12,7 @@ use Rattle.tree_read.specs.Trees.{tree_pairs, root_level, root_least, IsRootNode
 use Rattle.store_api.specs.Ledgers.{Ledger, capacity}
 use Rattle.store_api.specs.Parts.{count_in, times, Owns, Turns}
 use Rattle.store_api.specs.Statuses.{in_use}
-use Rattle.store_api.specs.Units.{MakesAtMost, MayDo}
+use Rattle.store_api.specs.Units.{MakesAtMost, MayDo, MakesWithin}
 use Rattle.store_api.proofs.PartLemmas.{turns-as}
 use Rattle.frozen_btree.specs.Builds.{nodes_of}
 use Rattle.frozen_btree.specs.Changes.{levels}
@@ -20,7 +20,7 @@ use Rattle.frozen_btree.specs.Makes.{CountsNodes}
 use Rattle.attr_images.proofs.ImageLemmas.{node_there}
 use Rattle.attr_images.specs.Postings.{vector, block_documents, vector_documents, postings_at, postings_reach, IsPostingList}
 use Rattle.attr_types.specs.Lawful.{IsDocNumber}
-use Rattle.bit_vector.specs.Changes.{vector_most, vector_part, MakesTree, MakesVector, MakesWithin}
+use Rattle.bit_vector.specs.Changes.{vector_most, vector_part, MakesTree, MakesVector}
 use Rattle.bit_vector.specs.Vectors.{count_blocks, vector_at, vector_reach, IsVector}
 use Rattle.posting_store.specs.Lists.{list_at, list_levels, list_reach, form_levels, is_vector, AreDocuments, AreOnes, IsList, IsPlain}
 use Rattle.posting_store.specs.Changes.{list_part, list_change_most, form_most, MakesList}

@@ -11,7 +11,6 @@ use Rattle.attr_images.specs.Postings.{is_dense}
 use Rattle.attr_images.specs.declared.TheConstants.{MOST_SHORT}
 use Rattle.attr_images.specs.Words.{class_of}
 use Rattle.bit_vector.specs.Changes.{vector_most, IsVectorWidth}
-pub use Rattle.bit_vector.specs.Changes.{MakesWithin}
 use Rattle.bit_vector.specs.Vectors.{count_blocks}
 use Rattle.posting_store.specs.Keeps.{FlowsList}
 use Rattle.posting_store.specs.Lists.{list_at, list_reach, is_vector, IsList}

@@ -2,9 +2,9 @@
 ghost use Rattle.std.specs.Prelude.{◌≡◌, ◌<◌, ◌∷◌, [], true, false, length, IfOk, IfErr};
 ghost use Rattle.store_api.specs.Calls.{RefusesOf};
 ghost use Rattle.store_api.specs.Parts.{Owns};
-ghost use Rattle.store_api.specs.Units.{MayDo};
+ghost use Rattle.store_api.specs.Units.{MayDo, MakesWithin};
 ghost use Rattle.attr_images.specs.Postings.{is_dense};
-ghost use Rattle.bit_vector.specs.Changes.{IsVectorWidth, MakesWithin};
+ghost use Rattle.bit_vector.specs.Changes.{IsVectorWidth};
 ghost use Rattle.posting_store.specs.Lists.{list_at, is_vector, AreOnes, IsList, IsPlain};
 ghost use Rattle.posting_store.specs.Changes.{list_part, form_most, IsFormWidth, MakesByRule, MakesList};
 

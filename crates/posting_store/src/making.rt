@@ -4,10 +4,10 @@ ghost use Rattle.std.specs.List.Sorted.{IsStrictlySortedBy};
 ghost use Rattle.std.specs.Map.{keys_of};
 ghost use Rattle.std.specs.Ordering.{nat_cmp};
 ghost use Rattle.store_api.specs.Calls.{RefusesOf};
-ghost use Rattle.store_api.specs.Units.{MayDo};
+ghost use Rattle.store_api.specs.Units.{MayDo, MakesWithin};
 ghost use Rattle.attr_images.specs.Words.{unpacked};
 ghost use Rattle.attr_types.specs.Lawful.{IsDocNumber};
-ghost use Rattle.posting_store.specs.Changes.{list_most, IsListWidth, MakesList, MakesWithin};
+ghost use Rattle.posting_store.specs.Changes.{list_most, IsListWidth, MakesList};
 ghost use Rattle.posting_store.specs.Lists.{AreDocuments};
 
 use crate::posting::Posting;

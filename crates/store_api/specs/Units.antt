@@ -3,7 +3,7 @@ use Rattle.std.specs.Prelude.{◌≡◌, ◌⊎◌, ℕ, ◌+◌, ◌*◌, ◌<�
 use Rattle.entry_ref.specs.References.{buffer_of}
 use Rattle.arena_api.specs.Works.{Commits, Tag, last_image, newest_of, oldest_of}
 use Rattle.store_api.specs.Statuses.{Status, in_use, is_open, is_taken, can_become_free}
-use Rattle.store_api.specs.Ledgers.{Ledger, OfWidth}
+use Rattle.store_api.specs.Ledgers.{Ledger, OfWidth, capacity}
 
 -- only old commits are released
 pub record KeepsCommits (old new : Commits) : Type 0 where
@@ -53,3 +53,7 @@ pub record MakesAtMost (capacity most : ℕ) (old new : OfWidth) : Type 0 where
   pub fresh : new.fresh ≤ old.fresh + most
   pub buffers : new.buffers ≤ old.buffers + most
   pub room : new.buffers * capacity + min old.spare capacity ≤ most + min new.spare capacity + old.buffers * capacity
+
+-- at most this many entries of each width were made
+pub record MakesWithin {H : Type 0} (old new : Ledger H) (most : ℕ → ℕ) : Type 0 where
+  pub each : (width : ℕ) → MakesAtMost (capacity old.work.sizes.words width) (most width) (old.of_width width) (new.of_width width)

@@ -12,7 +12,8 @@ ghost use Rattle.store_api.specs.Statuses.{in_use, has_record, is_committed, is_
 ghost use Rattle.store_api.specs.Ledgers.{Ledger, IsEntryOf, IsSpare, IsHeldEntry, IsUnfilled, IsSettled, buffers_in, capacity, is_held};
 ghost use Rattle.store_api.specs.Ledgers.{is_width, widths};
 ghost use Rattle.store_api.specs.Units.{MayDo};
-ghost use Rattle.store_api.specs.Calls.{GivesBack, MayGiveBack, Makes, Refuses, ComesAfter, DropsEntry, Accepts, Undoes, IsWhole, StoresCommit, Seals};
+ghost use Rattle.store_api.specs.Calls.{GivesBack, MayGiveBack, Makes, Refuses, ComesAfter, DropsEntry};
+ghost use Rattle.store_api.specs.Calls.{Accepts, Undoes, IsWhole, StoresCommit, Seals};
 ghost use Rattle.store_api.specs.Victims.{IsVictim, HasNoVictim};
 ghost use Rattle.store_api.specs.Usages.{IsUsage};
 

@@ -6,7 +6,7 @@ use Rattle.frozen_btree.proofs.TopLemmas.{levels-same}
 use Rattle.entry_ref.specs.Records.{Records, SameAt}
 use Rattle.tree_read.specs.Pairs.{lookup_pair}
 use Rattle.store_api.specs.Ledgers.{Ledger, capacity}
-use Rattle.store_api.specs.Units.{MayDo, MakesAtMost}
+use Rattle.store_api.specs.Units.{MayDo, MakesAtMost, MakesWithin}
 use Rattle.store_api.proofs.Counts.{at_most-more, at_most-none, at_most-then}
 use Rattle.tree_read.specs.Trees.{tree_nodes, tree_pairs}
 use Rattle.frozen_btree.specs.Changes.{levels}
@@ -18,7 +18,7 @@ use Rattle.attr_images.specs.Words.{class_of}
 use Rattle.attr_types.specs.declared.value.Value.{Value}
 use Rattle.enum_dictionary.specs.Dictionaries.{beside_value}
 use Rattle.attr_images.specs.Postings.{is_dense}
-use Rattle.posting_store.specs.Changes.{list_change_most, MakesWithin}
+use Rattle.posting_store.specs.Changes.{list_change_most}
 use Rattle.posting_store.specs.Lists.{is_vector, list_levels}
 use Rattle.value_index.specs.Flows.{list_word}
 use Rattle.value_index.proofs.FormLemmas.{word_found, word_none}

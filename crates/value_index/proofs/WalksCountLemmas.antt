@@ -10,7 +10,7 @@ use Rattle.std.specs.Map.{remove_entry}
 use Rattle.std.specs.Option.{is_some}
 use Rattle.entry_ref.specs.Records.{Records}
 use Rattle.store_api.specs.Ledgers.{Ledger}
-use Rattle.store_api.specs.Units.{MayDo}
+use Rattle.store_api.specs.Units.{MayDo, MakesWithin}
 use Rattle.array_store.proofs.ClassLemmas.{class_no_node}
 use Rattle.tree_read.specs.Pairs.{lookup_pair}
 use Rattle.tree_read.specs.Trees.{tree_pairs}
@@ -23,7 +23,7 @@ use Rattle.attr_types.specs.Value.{type_of}
 use Rattle.attr_types.specs.declared.value.Value.{Value}
 use Rattle.enum_dictionary.specs.Dictionaries.{beside_value}
 use Rattle.attr_images.specs.Postings.{is_dense}
-use Rattle.posting_store.specs.Changes.{list_most, MakesWithin}
+use Rattle.posting_store.specs.Changes.{list_most}
 use Rattle.posting_store.specs.Lists.{is_vector, form_levels}
 use Rattle.value_index.specs.Changes.{add_most, change_most, new_most, nodes_most, value_levels}
 use Rattle.value_index.specs.Flows.{list_word}

@@ -4,13 +4,12 @@ ghost use Rattle.std.specs.Map.{keys_of, lookup};
 ghost use Rattle.std.specs.Ordering.{nat_cmp};
 ghost use Rattle.store_api.specs.Calls.{RefusesOf};
 ghost use Rattle.store_api.specs.Parts.{Owns};
-ghost use Rattle.store_api.specs.Units.{MayDo};
+ghost use Rattle.store_api.specs.Units.{MayDo, MakesWithin};
 ghost use Rattle.attr_images.specs.Postings.{index_of};
 ghost use Rattle.attr_index.specs.Changes.{is_weight};
 ghost use Rattle.attr_index.specs.Index.{list_of};
 ghost use Rattle.attr_types.specs.Value.{value_cmp, AreOfType};
 ghost use Rattle.attr_types.specs.declared.value.Value.{Value as OneValue};
-ghost use Rattle.posting_store.specs.Changes.{MakesWithin};
 ghost use Rattle.value_index.specs.Forms.{IsOfForm, WeighOnes};
 ghost use Rattle.value_index.specs.Indexes.{index_part, IsIndex};
 ghost use Rattle.value_index.specs.Counts.{added_count, added_forms, added_records, besides, by_width, value_nodes, AddsLow};
@@ -35,8 +34,8 @@ fn has_weight(weights: &BTreeMap<Value, i32>, value: &Value, weight: i32) -> boo
 }
 
 /// Adds a document to the lists of its new values, unless the old ones include the value with the same weight.
-/// Returns the root of the new index. With `dense` long lists become bit vectors, for `documents` documents in all; then
-/// each weight has to be 1.
+/// Returns the root of the new index. With `dense` the list of a frequent value among `documents` documents becomes a bit
+/// vector; then each weight has to be 1.
 #[tactic(none)]
 pub fn add_all<const OFFSET_BITS: u32, S: Store<OFFSET_BITS>>(
     alloc: Global,

@@ -4,13 +4,12 @@ ghost use Rattle.std.specs.Map.{keys_of, lookup};
 ghost use Rattle.std.specs.Ordering.{nat_cmp};
 ghost use Rattle.store_api.specs.Calls.{RefusesOf};
 ghost use Rattle.store_api.specs.Parts.{Owns};
-ghost use Rattle.store_api.specs.Units.{MayDo};
+ghost use Rattle.store_api.specs.Units.{MayDo, MakesWithin};
 ghost use Rattle.attr_images.specs.Postings.{index_of};
 ghost use Rattle.attr_index.specs.Changes.{first_given};
 ghost use Rattle.attr_index.specs.Index.{list_of};
 ghost use Rattle.attr_types.specs.Value.{value_cmp, AreOfType};
 ghost use Rattle.attr_types.specs.declared.value.Value.{Value as OneValue};
-ghost use Rattle.posting_store.specs.Changes.{MakesWithin};
 ghost use Rattle.value_index.specs.Forms.{IsOfForm};
 ghost use Rattle.value_index.specs.Indexes.{index_part, IsIndex};
 ghost use Rattle.value_index.specs.Counts.{besides, by_width, gone_count, gone_forms, gone_records, value_nodes, RemovesLow};
@@ -25,7 +24,7 @@ use std::collections::BTreeMap;
 use store_api::{Store, StoreError};
 
 /// Removes a document from the lists of its old values that are not among the new ones. Returns the root of the new
-/// index. With `dense` long lists become or remain bit vectors, for `documents` documents in all.
+/// index. With `dense` the list of a frequent value among `documents` documents becomes or remains a bit vector.
 #[tactic(none)]
 pub fn remove_all<const OFFSET_BITS: u32, S: Store<OFFSET_BITS>>(
     alloc: Global,

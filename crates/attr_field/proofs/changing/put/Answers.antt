@@ -1,7 +1,7 @@
 use Rattle.std.proofs.Common.{◌≡◌, Bool, ℤ, List, [], ◌∷◌, length, Some, sym, ap, subst, ◌∙◌, arith, true, true≢false}
 use Rattle.std.specs.Prelude.{IfOk, IfErr}
 use Rattle.store_api.specs.Parts.{Owns}
-use Rattle.store_api.specs.Units.{MayDo}
+use Rattle.store_api.specs.Units.{MayDo, MakesWithin}
 use Rattle.store_api.proofs.May.{may_do-same}
 use Rattle.attr_images.specs.Documents.{column_at}
 use Rattle.attr_index.specs.Changes.{first_weights}
@@ -10,7 +10,6 @@ use Rattle.attr_types.specs.declared.value.Value.{Value}
 use Rattle.store_api.specs.Calls.{RefusesOf}
 use Rattle.attr_types.specs.declared.items.Item.{Item}
 use Rattle.attr_field.specs.Widths.{IsFieldWidth}
-use Rattle.posting_store.specs.Changes.{MakesWithin}
 use Rattle.value_index.specs.Counts.{besides, by_width}
 use Rattle.value_index.specs.Forms.{IsOfForm, WeighOnes}
 use Rattle.attr_field.specs.Forms.{wants}

@@ -1,7 +1,7 @@
 use Rattle.std.proofs.Common.{◌≡◌, ℕ, ◌+◌, ◌*◌, ◌≤◌, List, [], ◌∷◌, length, Option, Some, refl, sym, ap, subst, ◌∙◌, arith}
 use Rattle.std.specs.List.{AllByRecursion}
 use Rattle.store_api.specs.Parts.{Owns}
-use Rattle.store_api.specs.Units.{MayDo}
+use Rattle.store_api.specs.Units.{MayDo, MakesWithin}
 use Rattle.store_api.proofs.May.{may_do-same}
 use Rattle.attr_field.specs.DocumentsChanges.{documents_most, AreBeside, AreKeysOf, IsDocumentWidth, MakesDocuments}
 use Rattle.attr_field.specs.Documents.{documents_part, documents_refer, IsDocuments}
@@ -9,7 +9,6 @@ use Rattle.attr_images.specs.Documents.{column_at}
 use Rattle.attr_images.specs.Postings.{index_of}
 use Rattle.attr_index.specs.Columns.{with_change}
 use Rattle.store_api.specs.Calls.{RefusesOf}
-use Rattle.posting_store.specs.Changes.{MakesWithin}
 use Rattle.frozen_btree.specs.Changes.{levels as levels_of}
 use Rattle.value_index.specs.Indexes.{IsKey}
 use Rattle.attr_field.specs.Steps.{StepsField}

@@ -2,13 +2,13 @@ use Rattle.std.proofs.Common.{◌≡◌, ◌∷◌, [], Some, true, sym, subst, 
 use Rattle.std.specs.Prelude.{IfOk, IfErr}
 use Rattle.store_api.specs.Calls.{RefusesOf}
 use Rattle.store_api.specs.Parts.{Owns}
-use Rattle.store_api.specs.Units.{MayDo}
+use Rattle.store_api.specs.Units.{MayDo, MakesWithin}
 use Rattle.store_api.proofs.May.{may_do-same}
 use Rattle.tree_read.specs.Pairs.{lookup}
 use Rattle.tree_read.specs.Trees.{tree_pairs}
 use Rattle.frozen_btree.specs.Changes.{levels}
 use Rattle.bit_vector.specs.Blocks.{beside_block, SetsBlock}
-use Rattle.bit_vector.specs.Changes.{vector_most, vector_part, IsVectorWidth, MakesWithin}
+use Rattle.bit_vector.specs.Changes.{vector_most, vector_part, IsVectorWidth}
 use Rattle.bit_vector.specs.Vectors.{IsVector}
 use Rattle.bit_vector.proofs.CountLemmas.{if_one, within_nodes, within_none, within_wider}
 use Rattle.bit_vector.proofs.SetLemmas.{lacks}

@@ -4,14 +4,14 @@ use Rattle.std.specs.Ordering.{nat_cmp}
 use Rattle.std.specs.Prelude.{IfOk, IfErr}
 use Rattle.store_api.specs.Calls.{RefusesOf}
 use Rattle.store_api.specs.Parts.{Owns}
-use Rattle.store_api.specs.Units.{MayDo}
+use Rattle.store_api.specs.Units.{MayDo, MakesWithin}
 use Rattle.store_api.proofs.May.{may_do-same}
 use Rattle.frozen_btree.specs.Changes.{levels}
 use Rattle.attr_images.specs.Postings.{vector_documents}
 use Rattle.attr_index.specs.Sets.{has}
 use Rattle.attr_types.specs.Lawful.{IsDocNumber}
 use Rattle.bit_vector.specs.Blocks.{SetsBlock}
-use Rattle.bit_vector.specs.Changes.{vector_most, vector_part, IsVectorWidth, MakesVector, MakesWithin}
+use Rattle.bit_vector.specs.Changes.{vector_most, vector_part, IsVectorWidth, MakesVector}
 use Rattle.bit_vector.specs.Vectors.{vector_at, IsVector}
 use Rattle.bit_vector.proofs.CountLemmas.{within_none}
 use Rattle.bit_vector.proofs.SetLemmas.{are_set, denied, inserts_if, inserts_none, was_set}

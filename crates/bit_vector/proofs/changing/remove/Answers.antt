@@ -2,11 +2,11 @@ use Rattle.std.proofs.Common.{◌≡◌, ◌+◌, ◌*◌, ◌/◌, ◌∷◌, [
 use Rattle.std.specs.Prelude.{IfOk, IfErr}
 use Rattle.store_api.specs.Calls.{RefusesOf}
 use Rattle.store_api.specs.Parts.{Owns}
-use Rattle.store_api.specs.Units.{MayDo}
+use Rattle.store_api.specs.Units.{MayDo, MakesWithin}
 use Rattle.frozen_btree.specs.Changes.{levels}
 use Rattle.attr_types.specs.Lawful.{IsDocNumber}
 use Rattle.bit_vector.specs.Blocks.{SetsBlock}
-use Rattle.bit_vector.specs.Changes.{vector_most, vector_part, IsVectorWidth, MakesWithin}
+use Rattle.bit_vector.specs.Changes.{vector_most, vector_part, IsVectorWidth}
 use Rattle.bit_vector.specs.Vectors.{IsVector}
 use Rattle.bit_vector.proofs.SetLemmas.{are_left, cleared_bits, none_left, removes_if}
 use Rattle.bit_vector.proofs.changing.remove.Goals as goal

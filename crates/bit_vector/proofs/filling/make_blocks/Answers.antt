@@ -3,9 +3,10 @@ use Rattle.std.specs.Ordering.{nat_cmp}
 use Rattle.std.proofs.lemmas.Result.{err_from_is_err_and}
 use Rattle.store_api.specs.Parts.{times}
 use Rattle.store_api.proofs.May.{may_do-same, may_do-then}
+use Rattle.store_api.specs.Units.{MakesWithin}
 use Rattle.tree_read.specs.Trees.{tree_nodes, tree_pairs, by_number}
 use Rattle.tree_read.specs.ProofsForTrees.{tree_pairs-same, IsTree-same}
-use Rattle.bit_vector.specs.Changes.{vector_most, IsVectorWidth, MakesWithin}
+use Rattle.bit_vector.specs.Changes.{vector_most, IsVectorWidth}
 use Rattle.bit_vector.specs.Fillings.{block_most, IsBlockOf, MakesBlock, MakesBlocks}
 use Rattle.bit_vector.specs.Vectors.{count_blocks, is_block_of}
 use Rattle.bit_vector.proofs.CountLemmas.{of_one, within_more_blocks, within_none}

@@ -1,10 +1,10 @@
 use Rattle.std.proofs.Common.{◌≡◌, ◌∷◌, [], length, true}
 use Rattle.entry_ref.specs.Records.{SameAt}
 use Rattle.store_api.specs.Parts.{Owns, entries}
-use Rattle.store_api.specs.Units.{MayDo}
+use Rattle.store_api.specs.Units.{MayDo, MakesWithin}
 use Rattle.tree_read.specs.Trees.{tree_nodes, tree_pairs}
 use Rattle.frozen_btree.specs.Changes.{tree}
-use Rattle.bit_vector.specs.Changes.{vector_most, MakesWithin}
+use Rattle.bit_vector.specs.Changes.{vector_most}
 use Rattle.bit_vector.specs.Fillings.{MakesBlocks}
 use Rattle.bit_vector.proofs.FillLemmas.{keys}
 use Rattle.bit_vector.proofs.filling.make_blocks.Given as goal

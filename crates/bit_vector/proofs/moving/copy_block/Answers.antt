@@ -1,8 +1,8 @@
 use Rattle.std.proofs.Common.{◌≡◌, length, true, rules, refl, sym, ap, subst, ◌∙◌, arith}
 use Rattle.std.specs.Prelude.{IfOk, IfErr}
 use Rattle.store_api.specs.Calls.{Refuses}
-use Rattle.store_api.specs.Units.{MayDo}
-use Rattle.bit_vector.specs.Changes.{vector_most, MakesWithin}
+use Rattle.store_api.specs.Units.{MayDo, MakesWithin}
+use Rattle.bit_vector.specs.Changes.{vector_most}
 use Rattle.bit_vector.specs.Moves.{CopiesBlock}
 use Rattle.bit_vector.proofs.CountLemmas.{within_blocks}
 use Rattle.bit_vector.proofs.MoveLemmas.{copies_if}

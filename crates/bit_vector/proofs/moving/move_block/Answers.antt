@@ -2,8 +2,8 @@ use Rattle.std.proofs.Common.{◌≡◌, ◌∷◌, [], None, Some, true, sym, s
 use Rattle.std.specs.Prelude.{IfOk, IfErr}
 use Rattle.store_api.specs.Calls.{IsUsedWidth, RefusesOf}
 use Rattle.store_api.specs.Parts.{Owns}
-use Rattle.store_api.specs.Units.{MayDo}
-use Rattle.bit_vector.specs.Changes.{vector_most, vector_part, MakesWithin}
+use Rattle.store_api.specs.Units.{MayDo, MakesWithin}
+use Rattle.bit_vector.specs.Changes.{vector_most, vector_part}
 use Rattle.bit_vector.specs.Keeps.{block_at}
 use Rattle.bit_vector.specs.Moves.{moved_nodes, MovesBlock}
 use Rattle.bit_vector.specs.Vectors.{IsVector}

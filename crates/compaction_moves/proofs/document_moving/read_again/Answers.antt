@@ -4,12 +4,11 @@ use Rattle.std.specs.BTreeMap.{is_at}
 use Rattle.std.specs.Map.{lookup}
 use Rattle.std.specs.Ordering.{nat_cmp}
 use Rattle.store_api.specs.Calls.{IsUsedWidth, RefusesOf}
-use Rattle.store_api.specs.Units.{MayDo}
+use Rattle.store_api.specs.Units.{MayDo, MakesWithin}
 use Rattle.store_api.proofs.May.{may_do-same}
 use Rattle.frozen_btree.specs.Changes.{levels}
 use Rattle.attr_images.specs.Documents.{column_at}
 use Rattle.attr_index.specs.Columns.{items_of}
-use Rattle.posting_store.specs.Changes.{MakesWithin}
 use Rattle.value_index.proofs.CountLemmas.{within_none}
 use Rattle.attr_field.specs.DocumentsChanges.{documents_most}
 use Rattle.compaction_moves.specs.DocumentMoves.{CanMoveItems, MovesItems}

@@ -3,12 +3,11 @@ use Rattle.std.specs.Prelude.{IfOk, IfErr}
 use Rattle.std.specs.List.{AllByRecursion}
 use Rattle.store_api.specs.Calls.{IsUsedWidth, RefusesOf}
 use Rattle.store_api.specs.Parts.{Owns}
-use Rattle.store_api.specs.Units.{MayDo}
+use Rattle.store_api.specs.Units.{MayDo, MakesWithin}
 use Rattle.store_api.proofs.May.{may_do-same}
 use Rattle.frozen_btree.specs.Changes.{levels}
 use Rattle.attr_images.specs.Documents.{column_at}
 use Rattle.attr_index.specs.Columns.{with_change}
-use Rattle.posting_store.specs.Changes.{MakesWithin}
 use Rattle.posting_store.proofs.RefusalLemmas.{if_more}
 use Rattle.value_index.specs.Indexes.{IsKey}
 use Rattle.value_index.proofs.CountLemmas.{within_none}

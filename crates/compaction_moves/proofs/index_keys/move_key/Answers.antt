@@ -3,12 +3,11 @@ use Rattle.std.specs.Prelude.{IfOk, IfErr}
 use Rattle.tree_read.specs.Pairs.{lookup_pair}
 use Rattle.store_api.specs.Calls.{IsUsedWidth, RefusesOf}
 use Rattle.store_api.specs.Parts.{Owns}
-use Rattle.store_api.specs.Units.{MayDo}
+use Rattle.store_api.specs.Units.{MayDo, MakesWithin}
 use Rattle.store_api.proofs.May.{may_do-same}
 use Rattle.tree_read.specs.Trees.{tree_pairs}
 use Rattle.attr_types.specs.Value.{type_of}
 use Rattle.enum_dictionary.specs.Dictionaries.{beside_value}
-use Rattle.posting_store.specs.Changes.{MakesWithin}
 use Rattle.value_index.specs.Indexes.{index_part, IsIndex}
 use Rattle.value_index.proofs.CountLemmas.{within_none}
 use Rattle.value_index.proofs.StepLemmas.{entry_found, entry_none}

@@ -3,11 +3,11 @@ use Rattle.std.proofs.lemmas.Result.{err_from_is_err_and}
 use Rattle.attr_images.specs.Postings.{index_of}
 use Rattle.attr_index.specs.Index.{list_of}
 use Rattle.attr_types.specs.Value.{type_of}
-use Rattle.posting_store.specs.Changes.{MakesWithin}
 use Rattle.posting_store.specs.Lists.{is_vector, list_levels}
 use Rattle.posting_store.proofs.RefusalLemmas.{if_one}
 use Rattle.store_api.specs.Calls.{IsUsedWidth}
 use Rattle.store_api.proofs.May.{may_do-then}
+use Rattle.store_api.specs.Units.{MakesWithin}
 use Rattle.tree_read.specs.Trees.{tree_pairs}
 use Rattle.frozen_btree.specs.Changes.{levels}
 use Rattle.value_index.specs.Changes.{nodes_most}

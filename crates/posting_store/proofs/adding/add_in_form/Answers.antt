@@ -3,8 +3,8 @@ use Rattle.std.specs.Prelude.{IfOk, IfErr}
 use Rattle.std.proofs.lemmas.Int.{to_z-of_z}
 use Rattle.std.specs.BTreeMap.{insert_entry}
 use Rattle.std.specs.Ordering.{nat_cmp}
-use Rattle.bit_vector.specs.Changes.{MakesWithin}
 use Rattle.store_api.specs.Calls.{RefusesOf}
+use Rattle.store_api.specs.Units.{MakesWithin}
 use Rattle.posting_store.specs.Lists.{list_at, list_levels, is_vector}
 use Rattle.posting_store.specs.Changes.{list_change_most, IsListChangeWidth, MakesList}
 use Rattle.posting_store.proofs.adding.add_in_form.Goals as goal

@@ -1,7 +1,7 @@
 use Rattle.std.proofs.Common.{true, sym, subst, ◌∙◌}
 use Rattle.std.specs.Prelude.{IfErr}
-use Rattle.bit_vector.specs.Changes.{MakesWithin}
 use Rattle.store_api.specs.Calls.{RefusesOf}
+use Rattle.store_api.specs.Units.{MakesWithin}
 use Rattle.posting_store.specs.Lists.{list_at, is_vector}
 use Rattle.posting_store.specs.Changes.{form_most, IsFormWidth}
 use Rattle.posting_store.proofs.ChangeLemmas.{counts_none}

@@ -1,10 +1,9 @@
 use Rattle.std.proofs.Common.{◌≡◌, ◌∷◌, [], true, false, length, sym, ap, subst, ◌∙◌, ◌<◌}
 use Rattle.std.specs.Prelude.{IfOk, IfErr}
 use Rattle.attr_images.specs.Postings.{is_dense}
-use Rattle.bit_vector.specs.Changes.{MakesWithin}
 use Rattle.store_api.specs.Calls.{RefusesOf}
 use Rattle.store_api.specs.Parts.{Owns}
-use Rattle.store_api.specs.Units.{MayDo}
+use Rattle.store_api.specs.Units.{MayDo, MakesWithin}
 use Rattle.posting_store.specs.Lists.{list_at, is_vector, AreOnes, IsList}
 use Rattle.posting_store.specs.Changes.{list_part, form_most, IsFormWidth, MakesList}
 use Rattle.posting_store.proofs.ChangeLemmas.{counts_none}

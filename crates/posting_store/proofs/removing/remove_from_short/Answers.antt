@@ -7,9 +7,9 @@ use Rattle.list_facts.proofs.Counts.{length-remove_entry}
 use Rattle.attr_images.specs.Words.{unpacked}
 use Rattle.store_api.specs.Calls.{RefusesOf}
 use Rattle.store_api.specs.Parts.{Owns}
-use Rattle.store_api.specs.Units.{MayDo}
+use Rattle.store_api.specs.Units.{MayDo, MakesWithin}
 use Rattle.posting_store.specs.Lists.{list_at, list_levels, IsList, AreDocuments}
-use Rattle.posting_store.specs.Changes.{list_part, list_most, IsListWidth, MakesList, MakesWithin}
+use Rattle.posting_store.specs.Changes.{list_part, list_most, IsListWidth, MakesList}
 use Rattle.posting_store.proofs.ChangeLemmas.{counts_more}
 use Rattle.posting_store.proofs.LeafLemmas.{same_size}
 use Rattle.posting_store.proofs.PairLemmas.{documents_out}

@@ -8,10 +8,11 @@ use Rattle.attr_index.specs.Index.{list_of}
 use Rattle.attr_types.specs.Value.{type_of}
 use Rattle.frozen_btree.specs.Changes.{levels}
 use Rattle.attr_images.specs.Postings.{is_dense}
-use Rattle.posting_store.specs.Changes.{IsListChangeWidth, MakesByRule, MakesWithin}
+use Rattle.posting_store.specs.Changes.{IsListChangeWidth, MakesByRule}
 use Rattle.posting_store.specs.Lists.{list_at, is_vector, AreOnes}
 use Rattle.posting_store.proofs.RefusalLemmas.{if_one, of_more}
 use Rattle.store_api.proofs.May.{may_do-same, may_do-then}
+use Rattle.store_api.specs.Units.{MakesWithin}
 use Rattle.value_index.proofs.ChangeLemmas.{open_dictionary, open_owns}
 use Rattle.value_index.specs.Changes.{add_most, nodes_most, IsChangeWidth}
 use Rattle.value_index.proofs.CountLemmas.{add_found, within_more, within_then, within_tree, word_most}

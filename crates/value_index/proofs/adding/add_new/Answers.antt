@@ -12,11 +12,12 @@ use Rattle.attr_index.specs.Index.{list_of}
 use Rattle.attr_types.specs.Value.{type_of}
 use Rattle.frozen_btree.specs.Changes.{levels}
 use Rattle.attr_images.specs.Postings.{is_dense}
-use Rattle.posting_store.specs.Changes.{IsListChangeWidth, MakesByRule, MakesWithin}
+use Rattle.posting_store.specs.Changes.{IsListChangeWidth, MakesByRule}
 use Rattle.posting_store.specs.Lists.{is_vector}
 use Rattle.posting_store.proofs.ListLemmas.{nothing_is}
 use Rattle.posting_store.proofs.RefusalLemmas.{if_one, of_more, of_one}
 use Rattle.store_api.proofs.May.{may_do-same, may_do-then}
+use Rattle.store_api.specs.Units.{MakesWithin}
 use Rattle.value_index.proofs.ChangeLemmas.{open_dictionary, open_owns}
 use Rattle.value_index.specs.Changes.{add_most, new_most, nodes_most, IsChangeWidth}
 use Rattle.value_index.proofs.CountLemmas.{add_none, within_more, within_new, within_then, within_tree, word_most}

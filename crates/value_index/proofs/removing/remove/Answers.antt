@@ -9,10 +9,9 @@ use Rattle.attr_types.specs.Value.{type_of}
 use Rattle.enum_dictionary.specs.Dictionaries.{beside_value}
 use Rattle.tree_read.specs.Pairs.{lookup_pair}
 use Rattle.tree_read.specs.Trees.{tree_pairs}
-use Rattle.posting_store.specs.Changes.{MakesWithin}
 use Rattle.store_api.specs.Calls.{RefusesOf}
 use Rattle.store_api.specs.Parts.{Owns}
-use Rattle.store_api.specs.Units.{MayDo}
+use Rattle.store_api.specs.Units.{MayDo, MakesWithin}
 use Rattle.value_index.specs.Changes.{change_most, IsChangeWidth, MakesIndex}
 use Rattle.posting_store.specs.Lists.{AreOnes}
 use Rattle.value_index.specs.Forms.{IsPlainIndex}

@@ -8,10 +8,11 @@ use Rattle.attr_index.specs.Index.{list_of}
 use Rattle.attr_types.specs.Value.{type_of}
 use Rattle.frozen_btree.specs.Changes.{levels}
 use Rattle.attr_images.specs.Postings.{is_dense}
-use Rattle.posting_store.specs.Changes.{IsListChangeWidth, MakesWithin}
+use Rattle.posting_store.specs.Changes.{IsListChangeWidth}
 use Rattle.posting_store.specs.Lists.{list_at, is_vector, AreOnes}
 use Rattle.posting_store.proofs.RefusalLemmas.{if_one, of_more, of_one}
 use Rattle.store_api.proofs.May.{may_do-same, may_do-then}
+use Rattle.store_api.specs.Units.{MakesWithin}
 use Rattle.value_index.proofs.ChangeLemmas.{drop_owns, open_dictionary, open_owns, open_there}
 use Rattle.value_index.specs.Changes.{change_most, nodes_most, IsChangeWidth}
 use Rattle.value_index.proofs.CountLemmas.{change_found, within_dropped, within_more, within_then, within_tree, word_most}

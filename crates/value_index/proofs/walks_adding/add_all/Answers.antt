@@ -1,10 +1,11 @@
-use Rattle.std.proofs.Common.{◌≡◌, ◌++◌, ℤ, ℕ, List, pos, true, false, None, length, not, sym, ap, subst, ◌∙◌, arith, rules, w32, SFits, to_z, of_z, nat_cmp}
+use Rattle.std.proofs.Common.{◌≡◌, ◌++◌, ℤ, ℕ, List, pos, true, None, length, not, sym, ap, subst, ◌∙◌, arith, rules, w32, SFits, to_z, of_z, nat_cmp}
 use Rattle.std.proofs.lemmas.Int.{to_z-of_z}
 use Rattle.std.proofs.lemmas.Result.{err_from_is_err_and}
 use Rattle.std.specs.BTreeMap.{get, insert_entry, is_at}
 use Rattle.std.specs.List.{AllByRecursion}
 use Rattle.std.specs.Map.{lookup}
 use Rattle.store_api.proofs.May.{may_do-then}
+use Rattle.store_api.specs.Units.{MakesWithin}
 use Rattle.attr_images.specs.Postings.{index_of}
 use Rattle.attr_index.proofs.MapLemmas.{was_weight}
 use Rattle.attr_index.specs.Changes.{is_weight}
@@ -15,7 +16,6 @@ use Rattle.attr_types.specs.declared.value.Value.{Value}
 use Rattle.value_index.specs.Changes.{IsChangeWidth, MakesIndex}
 use Rattle.value_index.specs.Indexes.{IsIndex}
 use Rattle.value_index.proofs.AddLemmas.{adds_begin, adds_typed, adds_put, adds_same, adds_end}
-use Rattle.posting_store.specs.Changes.{MakesWithin}
 use Rattle.value_index.specs.Changes.{add_most}
 use Rattle.posting_store.specs.Lists.{AreOnes}
 use Rattle.value_index.specs.Counts.{is_added, put_forms, put_records, value_nodes, IsLow}
