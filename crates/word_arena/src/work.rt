@@ -5,12 +5,12 @@ ghost use Rattle.entry_ref.specs.Images.{words_at};
 ghost use Rattle.entry_ref.specs.Places.{IsEntry};
 ghost use Rattle.entry_ref.specs.Records.{with_words};
 ghost use Rattle.entry_ref.specs.References.{buffer_of};
-ghost use Rattle.arena_api.specs.Calls.{MayStore, InNoCommit, AddsCommit, IsLowestFree, with_stored, padded, next_image, handed_out};
+ghost use Rattle.arena_api.specs.Calls.{MayStore, IsWordIn, InNoCommit, AddsCommit, IsLowestFree, with_stored, padded, next_image, handed_out};
 ghost use Rattle.arena_api.specs.Calls.{published};
 ghost use Rattle.arena_api.specs.Works.{is_free, active_width, free_count};
 ghost use Rattle.gen_core.specs.Views.{last_tag_in};
 ghost use Rattle.gen_core.specs.Work.{writer_records};
-ghost use Rattle.word_arena.specs.Knows.{view_of, given, buffers_by};
+ghost use Rattle.word_arena.specs.Knows.{view_of, given, buffers_by, place_by};
 ghost use Rattle.word_arena.specs.Released.{HandsOut};
 ghost use Rattle.word_arena.specs.WriterSteps.{IsTaggedBelow};
 
@@ -71,11 +71,26 @@ impl<'a, const OFFSET_BITS: u32, L: Layout> Writer<'a, OFFSET_BITS, L> {
         self.buffers[at] = Buffer::Active(u64::from(width), last);
     }
 
-    /// Loads a word of an entry, in a buffer of this width. The word counts as stored from then on.
-    fn find_in(&mut self, entry: EntryRef<OFFSET_BITS>, width: u32, i: u32) -> u64
-        requires may { MayStore OFFSET_BITS (view_of self.old.place.table_id (writer_of self.old.place.me.0)) entry i }
-        requires width { active_width ((view_of self.old.place.table_id (writer_of self.old.place.me.0)).buffer
+    /// Returns the place of a word of an entry, in a buffer of this width.
+    fn place_in(&self, entry: EntryRef<OFFSET_BITS>, width: u32, i: u32) -> usize
+        requires word { IsWordIn OFFSET_BITS (view_of self.now.place.table_id (writer_of self.now.place.me.0)) entry i }
+        requires width { active_width ((view_of self.now.place.table_id (writer_of self.now.place.me.0)).buffer
             (buffer_of OFFSET_BITS entry)) ≡ width }
+        ensures { result ≡ place_by OFFSET_BITS (view_of self.now.place.table_id (writer_of self.now.place.me.0)) entry.entry i }
+    {
+        place_of(
+            self.arena.sizes.buffers as u32,
+            self.arena.sizes.words as u32,
+            width,
+            entry,
+            i,
+        ) as usize
+    }
+
+    /// Loads the word of an entry that is at this place. The word counts as stored from then on.
+    fn find_in(&mut self, entry: EntryRef<OFFSET_BITS>, i: u32, at: usize) -> u64
+        requires may { MayStore OFFSET_BITS (view_of self.old.place.table_id (writer_of self.old.place.me.0)) entry i }
+        requires place { at ≡ place_by OFFSET_BITS (view_of self.old.place.table_id (writer_of self.old.place.me.0)) entry i }
         ensures knows { view_of self.new.place.table_id (writer_of self.new.place.me.0)
             ≡ record (view_of self.old.place.table_id (writer_of self.old.place.me.0)) {
               stored = with_stored (view_of self.old.place.table_id (writer_of self.old.place.me.0)).stored entry.entry i result;
@@ -84,25 +99,19 @@ impl<'a, const OFFSET_BITS: u32, L: Layout> Writer<'a, OFFSET_BITS, L> {
             → writer_records (writer_of self.new.place.me.0) q ≡ writer_records (writer_of self.old.place.me.0) q }
         ensures shape { (writer_of self.new.place.me.0).sizes.shape ≡ (writer_of self.old.place.me.0).sizes.shape }
     {
-        let place = place_of(
-            self.arena.sizes.buffers as u32,
-            self.arena.sizes.words as u32,
-            width,
-            entry,
-            i,
-        );
+        let _ = entry;
+        let _ = i;
         self.arena
             .table
             .shared
-            .load::<FindWord<L>>(&mut self.place, place as usize)
+            .load::<FindWord<L>>(&mut self.place, at)
     }
 
-    /// Sets a word of an entry, in a buffer of this width. It loads the word first and stores only if that differs,
+    /// Sets the word of an entry that is at this place. It loads the word first and stores only if that differs,
     /// since a load is cheaper.
-    fn put_in(&mut self, entry: EntryRef<OFFSET_BITS>, width: u32, i: u32, word: u64)
+    fn put_in(&mut self, entry: EntryRef<OFFSET_BITS>, i: u32, at: usize, word: u64)
         requires may { MayStore OFFSET_BITS (view_of self.old.place.table_id (writer_of self.old.place.me.0)) entry i }
-        requires width { active_width ((view_of self.old.place.table_id (writer_of self.old.place.me.0)).buffer
-            (buffer_of OFFSET_BITS entry)) ≡ width }
+        requires place { at ≡ place_by OFFSET_BITS (view_of self.old.place.table_id (writer_of self.old.place.me.0)) entry i }
         ensures knows { view_of self.new.place.table_id (writer_of self.new.place.me.0)
             ≡ record (view_of self.old.place.table_id (writer_of self.old.place.me.0)) {
               stored = with_stored (view_of self.old.place.table_id (writer_of self.old.place.me.0)).stored entry.entry i word;
@@ -111,16 +120,15 @@ impl<'a, const OFFSET_BITS: u32, L: Layout> Writer<'a, OFFSET_BITS, L> {
             → writer_records (writer_of self.new.place.me.0) q ≡ writer_records (writer_of self.old.place.me.0) q }
         ensures shape { (writer_of self.new.place.me.0).sizes.shape ≡ (writer_of self.old.place.me.0).sizes.shape }
     {
-        if self.find_in(entry, width, i) != word {
-            self.store_in(entry, width, i, word);
+        if self.find_in(entry, i, at) != word {
+            self.store_in(entry, i, at, word);
         }
     }
 
-    /// Stores a word of an entry, in a buffer of this width.
-    fn store_in(&mut self, entry: EntryRef<OFFSET_BITS>, width: u32, i: u32, word: u64)
+    /// Stores the word of an entry that is at this place.
+    fn store_in(&mut self, entry: EntryRef<OFFSET_BITS>, i: u32, at: usize, word: u64)
         requires may { MayStore OFFSET_BITS (view_of self.old.place.table_id (writer_of self.old.place.me.0)) entry i }
-        requires width { active_width ((view_of self.old.place.table_id (writer_of self.old.place.me.0)).buffer
-            (buffer_of OFFSET_BITS entry)) ≡ width }
+        requires place { at ≡ place_by OFFSET_BITS (view_of self.old.place.table_id (writer_of self.old.place.me.0)) entry i }
         ensures knows { view_of self.new.place.table_id (writer_of self.new.place.me.0)
             ≡ record (view_of self.old.place.table_id (writer_of self.old.place.me.0)) {
               stored = with_stored (view_of self.old.place.table_id (writer_of self.old.place.me.0)).stored entry.entry i word;
@@ -129,17 +137,12 @@ impl<'a, const OFFSET_BITS: u32, L: Layout> Writer<'a, OFFSET_BITS, L> {
             → writer_records (writer_of self.new.place.me.0) q ≡ writer_records (writer_of self.old.place.me.0) q }
         ensures shape { (writer_of self.new.place.me.0).sizes.shape ≡ (writer_of self.old.place.me.0).sizes.shape }
     {
-        let place = place_of(
-            self.arena.sizes.buffers as u32,
-            self.arena.sizes.words as u32,
-            width,
-            entry,
-            i,
-        );
+        let _ = entry;
+        let _ = i;
         self.arena
             .table
             .shared
-            .store::<StoreWord<L>>(&mut self.place, place as usize, word);
+            .store::<StoreWord<L>>(&mut self.place, at, word);
     }
 }
 
@@ -167,7 +170,8 @@ impl<'a, const OFFSET_BITS: u32, L: Layout> Work<OFFSET_BITS> for Writer<'a, OFF
             ≡ ⟦<Writer<'a, OFFSET_BITS, L> as Frozen<OFFSET_BITS>>⟧.shape self.old }
     {
         let width = width_of(self.buffers.as_slice(), entry.buffer()) as u32;
-        self.store_in(entry, width, i, word);
+        let place = self.place_in(entry, width, i);
+        self.store_in(entry, i, place, word);
     }
 
     fn put(&mut self, entry: EntryRef<OFFSET_BITS>, width: u32, words: &[u64])
@@ -186,9 +190,10 @@ impl<'a, const OFFSET_BITS: u32, L: Layout> Work<OFFSET_BITS> for Writer<'a, OFF
         ensures shape { ⟦<Writer<'a, OFFSET_BITS, L> as Frozen<OFFSET_BITS>>⟧.shape self.new
             ≡ ⟦<Writer<'a, OFFSET_BITS, L> as Frozen<OFFSET_BITS>>⟧.shape self.old }
     {
+        let place = self.place_in(entry, width, 0);
         for i in 0..width {
             let word = word_or_zero(words, i);
-            self.put_in(entry, width, i, word);
+            self.put_in(entry, i, place + i as usize, word);
         }
     }
 

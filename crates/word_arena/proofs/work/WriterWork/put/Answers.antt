@@ -1,16 +1,19 @@
-use Rattle.std.proofs.Common.{slice_index, subst, refl, ◌≡◌, ℕ, Some, length, cond, sym, ap, ◌∙◌, arith, inl, inr, List}
+use Rattle.std.proofs.Common.{slice_index, subst, refl, ◌≡◌, ◌+◌, ◌≤◌, ℕ, Some, length, cond, sym, ap, ◌∙◌, arith, inl, inr, List}
 use Rattle.std.proofs.lemmas.Bool.{cases_eq, eq-eqb, ne_eqb, and_from, and_right}
 use Rattle.entry_ref.specs.References.{buffer_of}
 use Rattle.entry_ref.specs.Records.{with_words}
 use Rattle.entry_ref.specs.Places.{IsEntry}
+use Rattle.entry_ref.proofs.Apart.{place-below}
+use Rattle.gen_core.specs.declared.views.Sizes.{Sizes}
 use Rattle.gen_core.specs.declared.views.WriterView.{WriterView}
 use Rattle.gen_core.specs.Work.{writer_records}
 use Rattle.arena_api.specs.Works.{active_width}
-use Rattle.arena_api.specs.Calls.{padded, MayStore, with_stored}
+use Rattle.arena_api.specs.Calls.{padded, IsWordIn, MayStore, with_stored}
 use Rattle.arena_api.proofs.Padded.{length-padded, padded-at}
 use Rattle.word_arena.specs.Ruled.{writer_of}
-use Rattle.word_arena.specs.Knows.{view_of}
+use Rattle.word_arena.specs.Knows.{place_by, view_of}
 use Rattle.word_arena.specs.ProofsForWork.{desk_bits, work_whole}
+use Rattle.word_arena.proofs.Desks.{few-buffers}
 use Rattle.word_arena.proofs.work.WriterWork.put.Goals as goal
 
 pub returns-clause-records : goal.returns-clause-records
@@ -42,6 +45,31 @@ returns-clause-records g c = λ k q. at q k
       | inr ne ↦ c.loop-i.invariant.others q ne ∙ ap (λ t. cond t ws (writer_records (writer_of c.args.self.now.place.me.0) q)) (sym (ne_eqb q c.args.entry ne))
     ]
 
+pub place_in-place-requires : goal.place_in-place-requires
+place_in-place-requires g c =
+    let old = view_of c.args.self.now.place.table_id (writer_of c.args.self.now.place.me.0) in
+    let width = c.requires.width in
+    let wide = c.requires.entry.wide in
+    let word : IsWordIn g.row.OFFSET_BITS old c.args.entry 0 = record {
+      entry = subst (λ n. IsEntry g.row.OFFSET_BITS old.sizes.buffers old.sizes.words n c.args.entry) (sym width) c.requires.entry;
+      inside = omega (arith, wide, width);
+    } in
+    (omega arith, (omega arith, (word, width)))
+
+pub overflow_add-place : goal.overflow_add-place
+overflow_add-place g c =
+    let s = c.args.self.now in
+    let old = view_of s.place.table_id (writer_of s.place.me.0) in
+    let width = c.requires.width in
+    let lt = c.loop-i-test.true in
+    let at = c.loop-i.invariant.at in
+    let entry : IsEntry g.row.OFFSET_BITS old.sizes.buffers old.sizes.words (active_width (old.buffer (buffer_of g.row.OFFSET_BITS c.args.entry))) c.args.entry =
+    subst (λ n. IsEntry g.row.OFFSET_BITS old.sizes.buffers old.sizes.words n c.args.entry) (sym width) c.requires.entry in
+    let below = place-below entry c.loop-i.i (omega (arith, lt, width)) in
+    let product = s.stands.product in
+    let few : old.sizes.buffers ≤ 67108864 = subst (λ (z : Sizes). z.buffers ≤ 67108864) (sym s.stands.same_sizes) (few-buffers s.stands) in
+    omega (arith, at, below, product, few)
+
 pub put_in-requires : goal.put_in-requires
 put_in-requires g c =
     let B : ℕ = g.row.OFFSET_BITS in
@@ -49,6 +77,7 @@ put_in-requires g c =
     let now = view_of c.loop-i.self.place.table_id (writer_of c.loop-i.self.place.me.0) in
     let width = c.requires.width in
     let lt = c.loop-i-test.true in
+    let at = c.loop-i.invariant.at in
     let may : MayStore B (record old { stored = now.stored }) c.args.entry c.loop-i.i = record {
       word = record {
         entry = subst (λ n. IsEntry B old.sizes.buffers old.sizes.words n c.args.entry) (sym width) c.requires.entry;
@@ -56,9 +85,10 @@ put_in-requires g c =
       };
       unkept = c.requires.unkept;
     } in
-    let is : active_width (now.buffer (buffer_of B c.args.entry)) ≡ c.args.width =
-    subst (λ v. active_width (v.buffer (buffer_of B c.args.entry)) ≡ c.args.width) (sym c.loop-i.invariant.knows) width in
-    (omega arith, (omega arith, (subst (λ v. MayStore B v c.args.entry c.loop-i.i) (sym c.loop-i.invariant.knows) may, is)))
+    let here : c.place_in-place.result + c.loop-i.i ≡ place_by B (record old { stored = now.stored }) c.args.entry c.loop-i.i = omega (arith, at) in
+    let place : c.place_in-place.result + c.loop-i.i ≡ place_by B now c.args.entry c.loop-i.i =
+    subst (λ v. c.place_in-place.result + c.loop-i.i ≡ place_by B v c.args.entry c.loop-i.i) (sym c.loop-i.invariant.knows) here in
+    (omega arith, (omega arith, (subst (λ v. MayStore B v c.args.entry c.loop-i.i) (sym c.loop-i.invariant.knows) may, place)))
 
 pub loop-i-preserved : goal.loop-i-preserved
 loop-i-preserved g c =
@@ -67,6 +97,7 @@ loop-i-preserved g c =
     let e = c.put_in.ensures in
     let inv = c.loop-i.invariant in
     record {
+      at = inv.at;
       knows =
           e.knows ∙ (λ k. record (inv.knows k) { stored = with_stored now.stored c.args.entry c.loop-i.i c.word_or_zero-word.result })
           ∙ (λ k. record old { stored = sym (ap (λ v. v.stored) e.knows) k });

@@ -1,11 +1,12 @@
 use Rattle.std.proofs.Common.{◌≡◌, ◌≢◌, ℕ, ◌<◌, Some, slice_index}
 use Rattle.gen_core.specs.Work.{writer_records}
 use Rattle.word_arena.specs.Ruled.{writer_of}
-use Rattle.word_arena.specs.Knows.{view_of}
+use Rattle.word_arena.specs.Knows.{place_by, view_of}
 use Rattle.word_arena.proofs.work.WriterWork.put.Given as goal
 
 abbrev pub invariant-loop-i : goal.invariant-loop-i
 invariant-loop-i g l = record {
+  at : l.place ≡ place_by g.row.OFFSET_BITS (view_of l.fn.self.place.table_id (writer_of l.fn.self.place.me.0)) l.entry 0;
   knows :
       view_of l.self.place.table_id (writer_of l.self.place.me.0)
       ≡ record (view_of l.fn.self.place.table_id (writer_of l.fn.self.place.me.0)) { stored = (view_of l.self.place.table_id (writer_of l.self.place.me.0)).stored };
