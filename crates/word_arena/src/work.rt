@@ -16,6 +16,7 @@ ghost use Rattle.word_arena.specs.WriterSteps.{IsTaggedBelow};
 
 use crate::buffers::{count_free, last_of, lowest_free, width_of};
 use crate::plays::{FindWord, HandOut, Publish, StoreWidth, StoreWord};
+use crate::rule::Words;
 use crate::words::{ACTIVE, COMMIT_BASE, FIRST_STATE, ROOT, first_word};
 use crate::writer::Writer;
 use arena_api::{Advance, Frozen, Oldest, Work};
@@ -88,7 +89,8 @@ impl<'a, const OFFSET_BITS: u32, L: Layout> Writer<'a, OFFSET_BITS, L> {
     }
 
     /// Loads the word of an entry that is at this place. The word counts as stored from then on.
-    fn find_in(&mut self, entry: EntryRef<OFFSET_BITS>, i: u32, at: usize) -> u64
+    fn find_in(&mut self, table: &Words<L>, entry: EntryRef<OFFSET_BITS>, i: u32, at: usize) -> u64
+        requires table { table.now.shared.table_id ≡ self.old.place.table_id }
         requires may { MayStore OFFSET_BITS (view_of self.old.place.table_id (writer_of self.old.place.me.0)) entry i }
         requires place { at ≡ place_by OFFSET_BITS (view_of self.old.place.table_id (writer_of self.old.place.me.0)) entry i }
         ensures knows { view_of self.new.place.table_id (writer_of self.new.place.me.0)
@@ -101,15 +103,13 @@ impl<'a, const OFFSET_BITS: u32, L: Layout> Writer<'a, OFFSET_BITS, L> {
     {
         let _ = entry;
         let _ = i;
-        self.arena
-            .table
-            .shared
-            .load::<FindWord<L>>(&mut self.place, at)
+        table.shared.load::<FindWord<L>>(&mut self.place, at)
     }
 
     /// Sets the word of an entry that is at this place. It loads the word first and stores only if that differs,
     /// since a load is cheaper.
-    fn put_in(&mut self, entry: EntryRef<OFFSET_BITS>, i: u32, at: usize, word: u64)
+    fn put_in(&mut self, table: &Words<L>, entry: EntryRef<OFFSET_BITS>, i: u32, at: usize, word: u64)
+        requires table { table.now.shared.table_id ≡ self.old.place.table_id }
         requires may { MayStore OFFSET_BITS (view_of self.old.place.table_id (writer_of self.old.place.me.0)) entry i }
         requires place { at ≡ place_by OFFSET_BITS (view_of self.old.place.table_id (writer_of self.old.place.me.0)) entry i }
         ensures knows { view_of self.new.place.table_id (writer_of self.new.place.me.0)
@@ -120,13 +120,14 @@ impl<'a, const OFFSET_BITS: u32, L: Layout> Writer<'a, OFFSET_BITS, L> {
             → writer_records (writer_of self.new.place.me.0) q ≡ writer_records (writer_of self.old.place.me.0) q }
         ensures shape { (writer_of self.new.place.me.0).sizes.shape ≡ (writer_of self.old.place.me.0).sizes.shape }
     {
-        if self.find_in(entry, i, at) != word {
-            self.store_in(entry, i, at, word);
+        if self.find_in(table, entry, i, at) != word {
+            self.store_in(table, entry, i, at, word);
         }
     }
 
     /// Stores the word of an entry that is at this place.
-    fn store_in(&mut self, entry: EntryRef<OFFSET_BITS>, i: u32, at: usize, word: u64)
+    fn store_in(&mut self, table: &Words<L>, entry: EntryRef<OFFSET_BITS>, i: u32, at: usize, word: u64)
+        requires table { table.now.shared.table_id ≡ self.old.place.table_id }
         requires may { MayStore OFFSET_BITS (view_of self.old.place.table_id (writer_of self.old.place.me.0)) entry i }
         requires place { at ≡ place_by OFFSET_BITS (view_of self.old.place.table_id (writer_of self.old.place.me.0)) entry i }
         ensures knows { view_of self.new.place.table_id (writer_of self.new.place.me.0)
@@ -139,10 +140,7 @@ impl<'a, const OFFSET_BITS: u32, L: Layout> Writer<'a, OFFSET_BITS, L> {
     {
         let _ = entry;
         let _ = i;
-        self.arena
-            .table
-            .shared
-            .store::<StoreWord<L>>(&mut self.place, at, word);
+        table.shared.store::<StoreWord<L>>(&mut self.place, at, word);
     }
 }
 
@@ -171,7 +169,8 @@ impl<'a, const OFFSET_BITS: u32, L: Layout> Work<OFFSET_BITS> for Writer<'a, OFF
     {
         let width = width_of(self.buffers.as_slice(), entry.buffer()) as u32;
         let place = self.place_in(entry, width, i);
-        self.store_in(entry, i, place, word);
+        let arena = self.arena;
+        self.store_in(&arena.table, entry, i, place, word);
     }
 
     fn put(&mut self, entry: EntryRef<OFFSET_BITS>, width: u32, words: &[u64])
@@ -191,9 +190,11 @@ impl<'a, const OFFSET_BITS: u32, L: Layout> Work<OFFSET_BITS> for Writer<'a, OFF
             ≡ ⟦<Writer<'a, OFFSET_BITS, L> as Frozen<OFFSET_BITS>>⟧.shape self.old }
     {
         let place = self.place_in(entry, width, 0);
+        let arena = self.arena;
+        let table = &arena.table;
         for i in 0..width {
             let word = word_or_zero(words, i);
-            self.put_in(entry, i, place + i as usize, word);
+            self.put_in(table, entry, i, place + i as usize, word);
         }
     }
 

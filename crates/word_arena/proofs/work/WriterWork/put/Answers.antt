@@ -88,7 +88,9 @@ put_in-requires g c =
     let here : c.place_in-place.result + c.loop-i.i ≡ place_by B (record old { stored = now.stored }) c.args.entry c.loop-i.i = omega (arith, at) in
     let place : c.place_in-place.result + c.loop-i.i ≡ place_by B now c.args.entry c.loop-i.i =
     subst (λ v. c.place_in-place.result + c.loop-i.i ≡ place_by B v c.args.entry c.loop-i.i) (sym c.loop-i.invariant.knows) here in
-    (omega arith, (omega arith, (subst (λ v. MayStore B v c.args.entry c.loop-i.i) (sym c.loop-i.invariant.knows) may, place)))
+    let table : c.args.self.now.arena.now.table.shared.table_id ≡ c.loop-i.self.place.table_id =
+    sym (ap (λ v. v.home) c.loop-i.invariant.knows ∙ c.args.self.now.stands.own) in
+    (omega arith, (omega arith, (table, (subst (λ v. MayStore B v c.args.entry c.loop-i.i) (sym c.loop-i.invariant.knows) may, place))))
 
 pub loop-i-preserved : goal.loop-i-preserved
 loop-i-preserved g c =

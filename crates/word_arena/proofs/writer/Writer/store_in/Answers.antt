@@ -2,6 +2,7 @@ use Rattle.std.proofs.Common.{refl, ap, sym, subst, arith, ◌∙◌, ◌≡◌,
 use Rattle.std.specs.Prelude.{slice_get}
 use Rattle.entry_ref.specs.References.{buffer_of}
 use Rattle.atomic_table.specs.Table.{Me}
+use Rattle.atomic_table.specs.Seated.{TableId}
 use Rattle.entry_ref.proofs.Apart.{place-below}
 use Rattle.gen_core.specs.declared.views.Sizes.{Sizes}
 use Rattle.gen_core.specs.declared.views.View.{View}
@@ -15,7 +16,7 @@ use Rattle.word_arena.specs.Knows.{api_buffer, place_by, view_of, StoresEntries}
 use Rattle.word_arena.proofs.Entries.{entries-stored}
 use Rattle.word_arena.specs.ProofsForWork.{core-active}
 use Rattle.word_arena.proofs.Allowed.{store_owed}
-use Rattle.word_arena.proofs.Desks.{arena-words, desk_after, view-bits}
+use Rattle.word_arena.proofs.Desks.{desk_after, view-bits}
 use Rattle.word_arena.proofs.Stores.{may_store, store-knows}
 use Rattle.gen_core.proofs.WriterRecords.{records-others}
 use Rattle.gen_core.specs.Events.{stored}
@@ -33,9 +34,9 @@ store-requires g c =
     let at : c.args.at ≡ place_in w.sizes width c.args.entry c.args.i =
     c.requires.place ∙ (λ k. place_by (sym bits k) (view_of s.place.table_id w) c.args.entry c.args.i) in
     let below = place-below may.word.entry c.args.i may.word.inside in
-    let inside : c.args.at < s.arena.now.table.shared.table_id.words =
-    omega (arith, below, at, arena-words s.stands, ap (λ (z : Sizes). z.buffers * z.words) s.stands.same_sizes, ap (λ (z : Sizes). z.buffers) s.stands.same_sizes) in
-    (s.stands.own, inside, store_owed _ _ _ _ _ _ w _ _ s.stands.is (subst (MayStoreWord w) (sym at) (may_store w s.stands.good s.stands.calm s.place.table_id c.args.entry c.args.i may)))
+    let inside : c.args.at < c.args.table.now.shared.table_id.words =
+    omega (arith, below, at, ap (λ (x : TableId). x.words) c.requires.table, s.stands.words, ap (λ (z : Sizes). z.buffers * z.words) s.stands.same_sizes, ap (λ (z : Sizes). z.buffers) s.stands.same_sizes) in
+    (sym c.requires.table, inside, store_owed _ _ _ _ _ _ w _ _ s.stands.is (subst (MayStoreWord w) (sym at) (may_store w s.stands.good s.stands.calm s.place.table_id c.args.entry c.args.i may)))
 
 pub returns-clause-knows : goal.returns-clause-knows
 returns-clause-knows g c =
