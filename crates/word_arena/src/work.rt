@@ -1,5 +1,5 @@
 //! The writer as a `Work`.
-ghost use Rattle.std.specs.Prelude.{◌≡◌, ◌≢◌, ◌↔◌, ◌<◌, ◌≤◌, ◌+◌, ◌*◌, ℕ, length, Some, slice_index, true, IsNone, IfSome, IfNone};
+ghost use Rattle.std.specs.Prelude.{◌≡◌, ◌≢◌, ◌↔◌, ◌<◌, ◌≤◌, ◌+◌, ◌*◌, ◌^◌, ℕ, length, Some, slice_index, true, IsNone, IfSome, IfNone};
 ghost use Rattle.word_arena.specs.Ruled.{writer_of};
 ghost use Rattle.entry_ref.specs.Images.{words_at};
 ghost use Rattle.entry_ref.specs.Places.{IsEntry};
@@ -36,14 +36,6 @@ impl Model for Home {
     ghost Value = { TableId };
 
     ghost view = { λ _. nowhere };
-}
-
-/// Returns word `i`, or 0 past the end.
-fn word_or_zero(words: &[u64], i: u32) -> u64
-    ensures { result ≡ slice_index words.now i }
-{
-    let at = i as usize;
-    if at < words.len() { words[at] } else { 0 }
 }
 
 impl<'a, const OFFSET_BITS: u32, L: Layout> Writer<'a, OFFSET_BITS, L> {
@@ -125,6 +117,52 @@ impl<'a, const OFFSET_BITS: u32, L: Layout> Writer<'a, OFFSET_BITS, L> {
         }
     }
 
+    /// Sets the first words of an entry, the first of which is at this place.
+    fn put_words(&mut self, table: &Words<L>, entry: EntryRef<OFFSET_BITS>, first: usize, words: &[u64])
+        requires table { table.now.shared.table_id ≡ self.old.place.table_id }
+        requires few { length words.now < 2 ^ 32 }
+        requires may { (i : ℕ) → i < length words.now
+            → MayStore OFFSET_BITS (view_of self.old.place.table_id (writer_of self.old.place.me.0)) entry i }
+        requires place { first ≡ place_by OFFSET_BITS (view_of self.old.place.table_id (writer_of self.old.place.me.0)) entry 0 }
+        ensures knows { view_of self.new.place.table_id (writer_of self.new.place.me.0)
+            ≡ record (view_of self.old.place.table_id (writer_of self.old.place.me.0)) {
+              stored = (view_of self.new.place.table_id (writer_of self.new.place.me.0)).stored;
+            } }
+        ensures filled { (i : ℕ) → i < length words.now
+            → (view_of self.new.place.table_id (writer_of self.new.place.me.0)).stored entry.entry i ≡ Some (slice_index words.now i) }
+        ensures others { (q : ℕ) → q ≢ entry.entry
+            → writer_records (writer_of self.new.place.me.0) q ≡ writer_records (writer_of self.old.place.me.0) q }
+        ensures shape { (writer_of self.new.place.me.0).sizes.shape ≡ (writer_of self.old.place.me.0).sizes.shape }
+    {
+        for i in 0..words.len() {
+            self.put_in(table, entry, i as u32, first + i, words[i]);
+        }
+    }
+
+    /// Sets the words of an entry from word `start` on to 0; its first word is at this place.
+    fn put_zeros(&mut self, table: &Words<L>, entry: EntryRef<OFFSET_BITS>, first: usize, start: u32, width: u32)
+        requires table { table.now.shared.table_id ≡ self.old.place.table_id }
+        requires may { (i : ℕ) → i < width
+            → MayStore OFFSET_BITS (view_of self.old.place.table_id (writer_of self.old.place.me.0)) entry i }
+        requires place { first ≡ place_by OFFSET_BITS (view_of self.old.place.table_id (writer_of self.old.place.me.0)) entry 0 }
+        ensures knows { view_of self.new.place.table_id (writer_of self.new.place.me.0)
+            ≡ record (view_of self.old.place.table_id (writer_of self.old.place.me.0)) {
+              stored = (view_of self.new.place.table_id (writer_of self.new.place.me.0)).stored;
+            } }
+        ensures filled { (i : ℕ) → start ≤ i → i < width
+            → (view_of self.new.place.table_id (writer_of self.new.place.me.0)).stored entry.entry i ≡ Some 0 }
+        ensures kept { (i : ℕ) → i < start
+            → (view_of self.new.place.table_id (writer_of self.new.place.me.0)).stored entry.entry i
+            ≡ (view_of self.old.place.table_id (writer_of self.old.place.me.0)).stored entry.entry i }
+        ensures others { (q : ℕ) → q ≢ entry.entry
+            → writer_records (writer_of self.new.place.me.0) q ≡ writer_records (writer_of self.old.place.me.0) q }
+        ensures shape { (writer_of self.new.place.me.0).sizes.shape ≡ (writer_of self.old.place.me.0).sizes.shape }
+    {
+        for i in start..width {
+            self.put_in(table, entry, i, first + i as usize, 0);
+        }
+    }
+
     /// Stores the word of an entry that is at this place.
     fn store_in(&mut self, table: &Words<L>, entry: EntryRef<OFFSET_BITS>, i: u32, at: usize, word: u64)
         requires table { table.now.shared.table_id ≡ self.old.place.table_id }
@@ -191,11 +229,8 @@ impl<'a, const OFFSET_BITS: u32, L: Layout> Work<OFFSET_BITS> for Writer<'a, OFF
     {
         let place = self.place_in(entry, width, 0);
         let arena = self.arena;
-        let table = &arena.table;
-        for i in 0..width {
-            let word = word_or_zero(words, i);
-            self.put_in(table, entry, i, place + i as usize, word);
-        }
+        self.put_words(&arena.table, entry, place, words);
+        self.put_zeros(&arena.table, entry, place, words.len() as u32, width);
     }
 
     /// The last tag of the buffer, if it has one, is below every open generation; and each reader that had a guard
