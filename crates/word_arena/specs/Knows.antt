@@ -6,7 +6,7 @@ use Rattle.atomic_table.specs.Seated.{TableId}
 use Rattle.entry_ref.specs.declared.images.Image.{Image}
 use Rattle.entry_ref.specs.Images.{no_image}
 use Rattle.entry_ref.specs.References.{buffer_of}
-use Rattle.entry_ref.specs.Places.{base, size_of}
+use Rattle.entry_ref.specs.Places.{base, place, size_of}
 use Rattle.gen_core.specs.declared.views.Sizes.{Sizes}
 use Rattle.generation_handler.specs.declared.HoldEntry.{HoldEntry}
 use Rattle.gen_core.specs.declared.views.OpenHold.{OpenHold}
@@ -20,7 +20,7 @@ use Rattle.gen_core.specs.declared.views.WriterView.{WriterView}
 use Rattle.gen_core.specs.Views.{floor_of, last_number, open_holds}
 use Rattle.gen_core.specs.Work.{work_at, stored_by}
 use Rattle.gen_core.specs.Events.{opening_view}
-use Rattle.arena_api.specs.Works.{WorkView, Hold, Tag as ApiTag, Buffer as ApiBuffer}
+use Rattle.arena_api.specs.Works.{WorkView, Hold, Tag as ApiTag, Buffer as ApiBuffer, active_width}
 use Rattle.arena_api.specs.Calls.{IsWithinLimits}
 use Rattle.word_arena.specs.Ruled.{Slot, writer_in, api_sizes}
 use Rattle.gen_core.specs.Good.{GoodView}
@@ -58,6 +58,10 @@ view_of home w = record {
   found = w.stops.found;
   made = w.made;
 }
+
+-- the place of word i of an entry, by the width of its buffer
+abbrev pub place_by : ℕ → {H : Type 0} → WorkView H → ℕ → ℕ → ℕ
+place_by bits work r i = place bits work.sizes.buffers work.sizes.words (active_width (work.buffer (buffer_of bits r))) r i
 
 -- an open hold, as the writer's own queue has it
 abbrev pub own_hold : OpenHold → HoldEntry

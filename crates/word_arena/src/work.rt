@@ -1,21 +1,22 @@
 //! The writer as a `Work`.
-ghost use Rattle.std.specs.Prelude.{◌≡◌, ◌≢◌, ◌↔◌, ◌<◌, ◌≤◌, ◌+◌, ◌*◌, ℕ, length, Some, slice_index, true, IsNone, IfSome, IfNone};
+ghost use Rattle.std.specs.Prelude.{◌≡◌, ◌≢◌, ◌↔◌, ◌<◌, ◌≤◌, ◌+◌, ◌*◌, ◌^◌, ℕ, length, Some, slice_index, true, IsNone, IfSome, IfNone};
 ghost use Rattle.word_arena.specs.Ruled.{writer_of};
 ghost use Rattle.entry_ref.specs.Images.{words_at};
 ghost use Rattle.entry_ref.specs.Places.{IsEntry};
 ghost use Rattle.entry_ref.specs.Records.{with_words};
 ghost use Rattle.entry_ref.specs.References.{buffer_of};
 ghost use Rattle.arena_api.specs.Calls.{MayStore, InNoCommit, AddsCommit, IsLowestFree, with_stored, padded, next_image, handed_out};
-ghost use Rattle.arena_api.specs.Calls.{published};
+ghost use Rattle.arena_api.specs.Calls.{published, IsWordIn};
 ghost use Rattle.arena_api.specs.Works.{is_free, active_width, free_count};
 ghost use Rattle.gen_core.specs.Views.{last_tag_in};
 ghost use Rattle.gen_core.specs.Work.{writer_records};
-ghost use Rattle.word_arena.specs.Knows.{view_of, given, buffers_by};
+ghost use Rattle.word_arena.specs.Knows.{view_of, given, buffers_by, place_by};
 ghost use Rattle.word_arena.specs.Released.{HandsOut};
 ghost use Rattle.word_arena.specs.WriterSteps.{IsTaggedBelow};
 
 use crate::buffers::{count_free, last_of, lowest_free, width_of};
 use crate::plays::{FindWord, HandOut, Publish, StoreWidth, StoreWord};
+use crate::rule::Words;
 use crate::words::{ACTIVE, COMMIT_BASE, FIRST_STATE, ROOT, first_word};
 use crate::writer::Writer;
 use arena_api::{Advance, Frozen, Oldest, Work};
@@ -35,14 +36,6 @@ impl Model for Home {
     ghost Value = { TableId };
 
     ghost view = { λ _. nowhere };
-}
-
-/// Returns word `i`, or 0 past the end.
-fn word_or_zero(words: &[u64], i: u32) -> u64
-    ensures { result ≡ slice_index words.now i }
-{
-    let at = i as usize;
-    if at < words.len() { words[at] } else { 0 }
 }
 
 impl<'a, const OFFSET_BITS: u32, L: Layout> Writer<'a, OFFSET_BITS, L> {
@@ -71,11 +64,27 @@ impl<'a, const OFFSET_BITS: u32, L: Layout> Writer<'a, OFFSET_BITS, L> {
         self.buffers[at] = Buffer::Active(u64::from(width), last);
     }
 
-    /// Loads a word of an entry, in a buffer of this width. The word counts as stored from then on.
-    fn find_in(&mut self, entry: EntryRef<OFFSET_BITS>, width: u32, i: u32) -> u64
-        requires may { MayStore OFFSET_BITS (view_of self.old.place.table_id (writer_of self.old.place.me.0)) entry i }
-        requires width { active_width ((view_of self.old.place.table_id (writer_of self.old.place.me.0)).buffer
+    /// Returns the place of a word of an entry, in a buffer of this width.
+    fn place_in(&self, entry: EntryRef<OFFSET_BITS>, width: u32, i: u32) -> usize
+        requires word { IsWordIn OFFSET_BITS (view_of self.now.place.table_id (writer_of self.now.place.me.0)) entry i }
+        requires width { active_width ((view_of self.now.place.table_id (writer_of self.now.place.me.0)).buffer
             (buffer_of OFFSET_BITS entry)) ≡ width }
+        ensures { result ≡ place_by OFFSET_BITS (view_of self.now.place.table_id (writer_of self.now.place.me.0)) entry.entry i }
+    {
+        place_of(
+            self.arena.sizes.buffers as u32,
+            self.arena.sizes.words as u32,
+            width,
+            entry,
+            i,
+        ) as usize
+    }
+
+    /// Loads the word of an entry that is at this place. The word counts as stored from then on.
+    fn find_in(&mut self, table: &Words<L>, entry: EntryRef<OFFSET_BITS>, i: u32, at: usize) -> u64
+        requires table { table.now.shared.table_id ≡ self.old.place.table_id }
+        requires may { MayStore OFFSET_BITS (view_of self.old.place.table_id (writer_of self.old.place.me.0)) entry i }
+        requires place { at ≡ place_by OFFSET_BITS (view_of self.old.place.table_id (writer_of self.old.place.me.0)) entry i }
         ensures knows { view_of self.new.place.table_id (writer_of self.new.place.me.0)
             ≡ record (view_of self.old.place.table_id (writer_of self.old.place.me.0)) {
               stored = with_stored (view_of self.old.place.table_id (writer_of self.old.place.me.0)).stored entry.entry i result;
@@ -84,25 +93,17 @@ impl<'a, const OFFSET_BITS: u32, L: Layout> Writer<'a, OFFSET_BITS, L> {
             → writer_records (writer_of self.new.place.me.0) q ≡ writer_records (writer_of self.old.place.me.0) q }
         ensures shape { (writer_of self.new.place.me.0).sizes.shape ≡ (writer_of self.old.place.me.0).sizes.shape }
     {
-        let place = place_of(
-            self.arena.sizes.buffers as u32,
-            self.arena.sizes.words as u32,
-            width,
-            entry,
-            i,
-        );
-        self.arena
-            .table
-            .shared
-            .load::<FindWord<L>>(&mut self.place, place as usize)
+        let _ = entry;
+        let _ = i;
+        table.shared.load::<FindWord<L>>(&mut self.place, at)
     }
 
-    /// Sets a word of an entry, in a buffer of this width. It loads the word first and stores only if that differs,
+    /// Sets the word of an entry that is at this place. It loads the word first and stores only if that differs,
     /// since a load is cheaper.
-    fn put_in(&mut self, entry: EntryRef<OFFSET_BITS>, width: u32, i: u32, word: u64)
+    fn put_in(&mut self, table: &Words<L>, entry: EntryRef<OFFSET_BITS>, i: u32, at: usize, word: u64)
+        requires table { table.now.shared.table_id ≡ self.old.place.table_id }
         requires may { MayStore OFFSET_BITS (view_of self.old.place.table_id (writer_of self.old.place.me.0)) entry i }
-        requires width { active_width ((view_of self.old.place.table_id (writer_of self.old.place.me.0)).buffer
-            (buffer_of OFFSET_BITS entry)) ≡ width }
+        requires place { at ≡ place_by OFFSET_BITS (view_of self.old.place.table_id (writer_of self.old.place.me.0)) entry i }
         ensures knows { view_of self.new.place.table_id (writer_of self.new.place.me.0)
             ≡ record (view_of self.old.place.table_id (writer_of self.old.place.me.0)) {
               stored = with_stored (view_of self.old.place.table_id (writer_of self.old.place.me.0)).stored entry.entry i word;
@@ -111,16 +112,62 @@ impl<'a, const OFFSET_BITS: u32, L: Layout> Writer<'a, OFFSET_BITS, L> {
             → writer_records (writer_of self.new.place.me.0) q ≡ writer_records (writer_of self.old.place.me.0) q }
         ensures shape { (writer_of self.new.place.me.0).sizes.shape ≡ (writer_of self.old.place.me.0).sizes.shape }
     {
-        if self.find_in(entry, width, i) != word {
-            self.store_in(entry, width, i, word);
+        if self.find_in(table, entry, i, at) != word {
+            self.store_in(table, entry, i, at, word);
         }
     }
 
-    /// Stores a word of an entry, in a buffer of this width.
-    fn store_in(&mut self, entry: EntryRef<OFFSET_BITS>, width: u32, i: u32, word: u64)
+    /// Sets the first words of an entry, the first of which is at this place.
+    fn put_words(&mut self, table: &Words<L>, entry: EntryRef<OFFSET_BITS>, first: usize, words: &[u64])
+        requires table { table.now.shared.table_id ≡ self.old.place.table_id }
+        requires few { length words.now < 2 ^ 32 }
+        requires may { (i : ℕ) → i < length words.now
+            → MayStore OFFSET_BITS (view_of self.old.place.table_id (writer_of self.old.place.me.0)) entry i }
+        requires place { first ≡ place_by OFFSET_BITS (view_of self.old.place.table_id (writer_of self.old.place.me.0)) entry 0 }
+        ensures knows { view_of self.new.place.table_id (writer_of self.new.place.me.0)
+            ≡ record (view_of self.old.place.table_id (writer_of self.old.place.me.0)) {
+              stored = (view_of self.new.place.table_id (writer_of self.new.place.me.0)).stored;
+            } }
+        ensures filled { (i : ℕ) → i < length words.now
+            → (view_of self.new.place.table_id (writer_of self.new.place.me.0)).stored entry.entry i ≡ Some (slice_index words.now i) }
+        ensures others { (q : ℕ) → q ≢ entry.entry
+            → writer_records (writer_of self.new.place.me.0) q ≡ writer_records (writer_of self.old.place.me.0) q }
+        ensures shape { (writer_of self.new.place.me.0).sizes.shape ≡ (writer_of self.old.place.me.0).sizes.shape }
+    {
+        for i in 0..words.len() {
+            self.put_in(table, entry, i as u32, first + i, words[i]);
+        }
+    }
+
+    /// Sets the words of an entry from word `start` on to 0; its first word is at this place.
+    fn put_zeros(&mut self, table: &Words<L>, entry: EntryRef<OFFSET_BITS>, first: usize, start: u32, width: u32)
+        requires table { table.now.shared.table_id ≡ self.old.place.table_id }
+        requires may { (i : ℕ) → i < width
+            → MayStore OFFSET_BITS (view_of self.old.place.table_id (writer_of self.old.place.me.0)) entry i }
+        requires place { first ≡ place_by OFFSET_BITS (view_of self.old.place.table_id (writer_of self.old.place.me.0)) entry 0 }
+        ensures knows { view_of self.new.place.table_id (writer_of self.new.place.me.0)
+            ≡ record (view_of self.old.place.table_id (writer_of self.old.place.me.0)) {
+              stored = (view_of self.new.place.table_id (writer_of self.new.place.me.0)).stored;
+            } }
+        ensures filled { (i : ℕ) → start ≤ i → i < width
+            → (view_of self.new.place.table_id (writer_of self.new.place.me.0)).stored entry.entry i ≡ Some 0 }
+        ensures kept { (i : ℕ) → i < start
+            → (view_of self.new.place.table_id (writer_of self.new.place.me.0)).stored entry.entry i
+            ≡ (view_of self.old.place.table_id (writer_of self.old.place.me.0)).stored entry.entry i }
+        ensures others { (q : ℕ) → q ≢ entry.entry
+            → writer_records (writer_of self.new.place.me.0) q ≡ writer_records (writer_of self.old.place.me.0) q }
+        ensures shape { (writer_of self.new.place.me.0).sizes.shape ≡ (writer_of self.old.place.me.0).sizes.shape }
+    {
+        for i in start..width {
+            self.put_in(table, entry, i, first + i as usize, 0);
+        }
+    }
+
+    /// Stores the word of an entry that is at this place.
+    fn store_in(&mut self, table: &Words<L>, entry: EntryRef<OFFSET_BITS>, i: u32, at: usize, word: u64)
+        requires table { table.now.shared.table_id ≡ self.old.place.table_id }
         requires may { MayStore OFFSET_BITS (view_of self.old.place.table_id (writer_of self.old.place.me.0)) entry i }
-        requires width { active_width ((view_of self.old.place.table_id (writer_of self.old.place.me.0)).buffer
-            (buffer_of OFFSET_BITS entry)) ≡ width }
+        requires place { at ≡ place_by OFFSET_BITS (view_of self.old.place.table_id (writer_of self.old.place.me.0)) entry i }
         ensures knows { view_of self.new.place.table_id (writer_of self.new.place.me.0)
             ≡ record (view_of self.old.place.table_id (writer_of self.old.place.me.0)) {
               stored = with_stored (view_of self.old.place.table_id (writer_of self.old.place.me.0)).stored entry.entry i word;
@@ -129,17 +176,9 @@ impl<'a, const OFFSET_BITS: u32, L: Layout> Writer<'a, OFFSET_BITS, L> {
             → writer_records (writer_of self.new.place.me.0) q ≡ writer_records (writer_of self.old.place.me.0) q }
         ensures shape { (writer_of self.new.place.me.0).sizes.shape ≡ (writer_of self.old.place.me.0).sizes.shape }
     {
-        let place = place_of(
-            self.arena.sizes.buffers as u32,
-            self.arena.sizes.words as u32,
-            width,
-            entry,
-            i,
-        );
-        self.arena
-            .table
-            .shared
-            .store::<StoreWord<L>>(&mut self.place, place as usize, word);
+        let _ = entry;
+        let _ = i;
+        table.shared.store::<StoreWord<L>>(&mut self.place, at, word);
     }
 }
 
@@ -167,7 +206,9 @@ impl<'a, const OFFSET_BITS: u32, L: Layout> Work<OFFSET_BITS> for Writer<'a, OFF
             ≡ ⟦<Writer<'a, OFFSET_BITS, L> as Frozen<OFFSET_BITS>>⟧.shape self.old }
     {
         let width = width_of(self.buffers.as_slice(), entry.buffer()) as u32;
-        self.store_in(entry, width, i, word);
+        let place = self.place_in(entry, width, i);
+        let arena = self.arena;
+        self.store_in(&arena.table, entry, i, place, word);
     }
 
     fn put(&mut self, entry: EntryRef<OFFSET_BITS>, width: u32, words: &[u64])
@@ -186,10 +227,10 @@ impl<'a, const OFFSET_BITS: u32, L: Layout> Work<OFFSET_BITS> for Writer<'a, OFF
         ensures shape { ⟦<Writer<'a, OFFSET_BITS, L> as Frozen<OFFSET_BITS>>⟧.shape self.new
             ≡ ⟦<Writer<'a, OFFSET_BITS, L> as Frozen<OFFSET_BITS>>⟧.shape self.old }
     {
-        for i in 0..width {
-            let word = word_or_zero(words, i);
-            self.put_in(entry, width, i, word);
-        }
+        let place = self.place_in(entry, width, 0);
+        let arena = self.arena;
+        self.put_words(&arena.table, entry, place, words);
+        self.put_zeros(&arena.table, entry, place, words.len() as u32, width);
     }
 
     /// The last tag of the buffer, if it has one, is below every open generation; and each reader that had a guard

@@ -1,15 +1,15 @@
-use Rattle.std.proofs.Common.{slice_index, subst, refl, ◌≡◌, ℕ, Some, length, cond, sym, ap, ◌∙◌, arith, inl, inr, List}
-use Rattle.std.proofs.lemmas.Bool.{cases_eq, eq-eqb, ne_eqb, and_from, and_right}
+use Rattle.std.proofs.Common.{slice_index, subst, ◌≡◌, ◌<◌, ℕ, Some, length, cond, sym, ap, ◌∙◌, arith, inl, inr, List}
+use Rattle.std.proofs.Math.ListN.{get_or-eq_default}
+use Rattle.std.proofs.lemmas.Bool.{cases_eq, cases_lt, eq-eqb, ne_eqb}
 use Rattle.entry_ref.specs.References.{buffer_of}
 use Rattle.entry_ref.specs.Records.{with_words}
 use Rattle.entry_ref.specs.Places.{IsEntry}
-use Rattle.gen_core.specs.declared.views.WriterView.{WriterView}
 use Rattle.gen_core.specs.Work.{writer_records}
 use Rattle.arena_api.specs.Works.{active_width}
-use Rattle.arena_api.specs.Calls.{padded, MayStore, with_stored}
+use Rattle.arena_api.specs.Calls.{padded, IsWordIn, MayStore}
 use Rattle.arena_api.proofs.Padded.{length-padded, padded-at}
 use Rattle.word_arena.specs.Ruled.{writer_of}
-use Rattle.word_arena.specs.Knows.{view_of}
+use Rattle.word_arena.specs.Knows.{place_by, view_of}
 use Rattle.word_arena.specs.ProofsForWork.{desk_bits, work_whole}
 use Rattle.word_arena.proofs.work.WriterWork.put.Goals as goal
 
@@ -22,62 +22,73 @@ returns-clause-records g c = λ k q. at q k
     long : length ws ≡ c.args.width
     long = length-padded c.args.words.now c.args.width c.requires.fits
 
-    old : WriterView
-    old = writer_of c.args.self.now.place.me.0
-
-    new : WriterView
-    new = writer_of c.loop-i.self.place.me.0
-
-    is : writer_records (writer_of c.loop-i.self.place.me.0) c.args.entry ≡ ws
-    is =
-        let wide = c.requires.entry.wide in
-        let width : length ws ≡ active_width ((view_of c.loop-i.self.place.table_id (writer_of c.loop-i.self.place.me.0)).buffer (buffer_of g.row.OFFSET_BITS c.args.entry)) =
-        long ∙ sym c.requires.width ∙ sym (ap (λ v. active_width (v.buffer (buffer_of g.row.OFFSET_BITS c.args.entry))) c.loop-i.invariant.knows) in
-        work_whole (writer_of c.loop-i.self.place.me.0) c.loop-i.self.stands.good g.row.OFFSET_BITS (desk_bits c.loop-i.self.stands) c.args.entry ws (omega (arith, long, wide)) width
-        (λ i h. c.loop-i.invariant.filled i (omega (arith, h, long, c.loop-i-test.false)) ∙ ap (λ n. Some n) (sym (padded-at c.args.words.now c.args.width i)))
-
-    at : (q : ℕ) → writer_records (writer_of c.loop-i.self.place.me.0) q ≡ with_words (writer_records (writer_of c.args.self.now.place.me.0)) c.args.entry ws q
-    at q = elim (cases_eq q c.args.entry) [
-      | inl e ↦ ap (writer_records (writer_of c.loop-i.self.place.me.0)) e ∙ is ∙ ap (λ t. cond t ws (writer_records (writer_of c.args.self.now.place.me.0) q)) (sym (eq-eqb q c.args.entry e))
-      | inr ne ↦ c.loop-i.invariant.others q ne ∙ ap (λ t. cond t ws (writer_records (writer_of c.args.self.now.place.me.0) q)) (sym (ne_eqb q c.args.entry ne))
+    filled : (i : ℕ) → i < c.args.width → (view_of c.put_zeros.new.self.place.table_id (writer_of c.put_zeros.new.self.place.me.0)).stored c.args.entry i ≡ Some (slice_index c.args.words.now i)
+    filled i lt = elim (cases_lt i (length c.args.words.now)) [
+      | inl h ↦ c.put_zeros.ensures.kept i h ∙ c.put_words.ensures.filled i h
+      | inr h ↦ c.put_zeros.ensures.filled i h lt ∙ ap (λ n. Some n) (sym (get_or-eq_default c.args.words.now 0 h))
     ]
 
-pub put_in-requires : goal.put_in-requires
-put_in-requires g c =
+    is : writer_records (writer_of c.put_zeros.new.self.place.me.0) c.args.entry ≡ ws
+    is =
+        let wide = c.requires.entry.wide in
+        let now = view_of c.put_zeros.new.self.place.table_id (writer_of c.put_zeros.new.self.place.me.0) in
+        let knows = c.put_zeros.ensures.knows ∙ (λ k. record (c.put_words.ensures.knows k) { stored = now.stored }) in
+        let width : length ws ≡ active_width (now.buffer (buffer_of g.row.OFFSET_BITS c.args.entry)) =
+        long ∙ sym c.requires.width ∙ sym (ap (λ v. active_width (v.buffer (buffer_of g.row.OFFSET_BITS c.args.entry))) knows) in
+        work_whole (writer_of c.put_zeros.new.self.place.me.0) c.put_zeros.new.self.stands.good g.row.OFFSET_BITS (desk_bits c.put_zeros.new.self.stands) c.args.entry ws (omega (arith, long, wide)) width
+        (λ i h. filled i (omega (arith, h, long)) ∙ ap (λ n. Some n) (sym (padded-at c.args.words.now c.args.width i)))
+
+    at : (q : ℕ) → writer_records (writer_of c.put_zeros.new.self.place.me.0) q ≡ with_words (writer_records (writer_of c.args.self.now.place.me.0)) c.args.entry ws q
+    at q = elim (cases_eq q c.args.entry) [
+      | inl e ↦ ap (writer_records (writer_of c.put_zeros.new.self.place.me.0)) e ∙ is ∙ ap (λ t. cond t ws (writer_records (writer_of c.args.self.now.place.me.0) q)) (sym (eq-eqb q c.args.entry e))
+      | inr ne ↦ c.put_zeros.ensures.others q ne ∙ c.put_words.ensures.others q ne ∙ ap (λ t. cond t ws (writer_records (writer_of c.args.self.now.place.me.0) q)) (sym (ne_eqb q c.args.entry ne))
+    ]
+
+pub place_in-place-requires : goal.place_in-place-requires
+place_in-place-requires g c =
+    let old = view_of c.args.self.now.place.table_id (writer_of c.args.self.now.place.me.0) in
+    let width = c.requires.width in
+    let wide = c.requires.entry.wide in
+    let word : IsWordIn g.row.OFFSET_BITS old c.args.entry 0 = record {
+      entry = subst (λ n. IsEntry g.row.OFFSET_BITS old.sizes.buffers old.sizes.words n c.args.entry) (sym width) c.requires.entry;
+      inside = omega (arith, wide, width);
+    } in
+    (omega arith, (omega arith, (word, width)))
+
+pub put_words-requires : goal.put_words-requires
+put_words-requires g c =
     let B : ℕ = g.row.OFFSET_BITS in
     let old = view_of c.args.self.now.place.table_id (writer_of c.args.self.now.place.me.0) in
-    let now = view_of c.loop-i.self.place.table_id (writer_of c.loop-i.self.place.me.0) in
     let width = c.requires.width in
-    let lt = c.loop-i-test.true in
-    let may : MayStore B (record old { stored = now.stored }) c.args.entry c.loop-i.i = record {
+    let fits = c.requires.fits in
+    let may : (i : ℕ) → i < length c.args.words.now → MayStore B old c.args.entry i = λ i lt. record {
+      word = record {
+        entry = subst (λ n. IsEntry B old.sizes.buffers old.sizes.words n c.args.entry) (sym width) c.requires.entry;
+        inside = omega (arith, lt, width, fits);
+      };
+      unkept = c.requires.unkept;
+    } in
+    (omega arith, (omega arith, (sym c.args.self.now.stands.own, (omega (arith, fits), (may, c.place_in-place.ensures)))))
+
+pub put_zeros-requires : goal.put_zeros-requires
+put_zeros-requires g c =
+    let B : ℕ = g.row.OFFSET_BITS in
+    let old = view_of c.args.self.now.place.table_id (writer_of c.args.self.now.place.me.0) in
+    let now = view_of c.put_words.new.self.place.table_id (writer_of c.put_words.new.self.place.me.0) in
+    let width = c.requires.width in
+    let knows = c.put_words.ensures.knows in
+    let may : (i : ℕ) → i < c.args.width → MayStore B (record old { stored = now.stored }) c.args.entry i = λ i lt. record {
       word = record {
         entry = subst (λ n. IsEntry B old.sizes.buffers old.sizes.words n c.args.entry) (sym width) c.requires.entry;
         inside = omega (arith, lt, width);
       };
       unkept = c.requires.unkept;
     } in
-    let is : active_width (now.buffer (buffer_of B c.args.entry)) ≡ c.args.width =
-    subst (λ v. active_width (v.buffer (buffer_of B c.args.entry)) ≡ c.args.width) (sym c.loop-i.invariant.knows) width in
-    (omega arith, (omega arith, (subst (λ v. MayStore B v c.args.entry c.loop-i.i) (sym c.loop-i.invariant.knows) may, is)))
+    let place : c.place_in-place.result ≡ place_by B now c.args.entry 0 = c.place_in-place.ensures ∙ (λ k. place_by B (sym knows k) c.args.entry 0) in
+    let table : c.args.self.now.arena.now.table.shared.table_id ≡ c.put_words.new.self.place.table_id = sym (ap (λ v. v.home) knows ∙ c.args.self.now.stands.own) in
+    (omega arith, (omega arith, (table, (subst (λ v. (i : ℕ) → i < c.args.width → MayStore B v c.args.entry i) (sym knows) may, place))))
 
-pub loop-i-preserved : goal.loop-i-preserved
-loop-i-preserved g c =
-    let now = view_of c.loop-i.self.place.table_id (writer_of c.loop-i.self.place.me.0) in
-    let old = view_of c.args.self.now.place.table_id (writer_of c.args.self.now.place.me.0) in
-    let e = c.put_in.ensures in
-    let inv = c.loop-i.invariant in
-    record {
-      knows =
-          e.knows ∙ (λ k. record (inv.knows k) { stored = with_stored now.stored c.args.entry c.loop-i.i c.word_or_zero-word.result })
-          ∙ (λ k. record old { stored = sym (ap (λ v. v.stored) e.knows) k });
-      filled = λ j lt. ap (λ v. v.stored c.args.entry j) e.knows ∙ elim (cases_eq j c.loop-i.i) [
-        | inl same ↦
-            ap (λ t. cond t (Some c.word_or_zero-word.result) (now.stored c.args.entry j)) (and_from _ _ (eq-eqb c.args.entry c.args.entry refl) (eq-eqb j c.loop-i.i same))
-            ∙ ap (λ n. Some n) (c.word_or_zero-word.ensures ∙ ap (slice_index c.args.words.now) (sym same))
-        | inr other ↦
-            ap (λ t. cond t (Some c.word_or_zero-word.result) (now.stored c.args.entry j)) (and_right _ _ (ne_eqb j c.loop-i.i other))
-            ∙ inv.filled j (omega (arith, lt, other))
-      ];
-      others = λ q ne. e.others q ne ∙ inv.others q ne;
-      shape = e.shape ∙ inv.shape;
-    }
+pub returns-clause-knows : goal.returns-clause-knows
+returns-clause-knows g c =
+    let now = view_of c.put_zeros.new.self.place.table_id (writer_of c.put_zeros.new.self.place.me.0) in
+    c.put_zeros.ensures.knows ∙ (λ k. record (c.put_words.ensures.knows k) { stored = now.stored })

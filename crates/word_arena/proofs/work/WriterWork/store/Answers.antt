@@ -7,11 +7,11 @@ use Rattle.word_arena.specs.Ruled.{writer_of}
 use Rattle.word_arena.specs.Knows.{api_buffer}
 use Rattle.word_arena.proofs.work.WriterWork.store.Goals as goal
 
-pub store_in-requires : goal.store_in-requires
-store_in-requires g c =
+pub place_in-place-requires : goal.place_in-place-requires
+place_in-place-requires g c =
     let s = c.args.self.now in
     let w : WriterView = writer_of s.place.me.0 in
     let list : c.as_slice.result.now ≡ w.buffers = c.as_slice.ensures.value ∙ sym s.stands.same_buffers in
     let is : c.width_of-width.result ≡ active_width (api_buffer (slice_get w.buffers (buffer_of g.row.OFFSET_BITS c.args.entry))) =
     c.width_of-width.ensures ∙ (λ k. active_width (api_buffer (slice_get (list k) (c.buffer.ensures.value k)))) in
-    (omega arith, (omega arith, (c.requires, sym is)))
+    (omega arith, (omega arith, (c.requires.word, sym is)))

@@ -1,10 +1,8 @@
-use Rattle.std.proofs.Common.{◌≡◌, ℕ, Option, Some, Bool, true, false, cond, refl, sym, subst, arith, ◌∙◌}
+use Rattle.std.proofs.Common.{◌≡◌, ℕ, Option, Some, Bool, true, false, cond, refl, ap, sym, subst, arith, ◌∙◌}
 use Rattle.std.specs.Prelude.{nat_eq, ◌&&◌}
-use Rattle.entry_ref.specs.References.{buffer_of}
-use Rattle.arena_api.specs.Works.{active_width}
 use Rattle.arena_api.specs.Calls.{MayStore, with_stored}
 use Rattle.word_arena.specs.Ruled.{writer_of}
-use Rattle.word_arena.specs.Knows.{view_of}
+use Rattle.word_arena.specs.Knows.{place_by, view_of}
 use Rattle.word_arena.proofs.writer.Writer.put_in.Goals as goal
 
 -- of two choices by one test the first counts
@@ -20,9 +18,10 @@ store_in-requires g c =
     let knows = c.find_in.ensures.knows in
     let may : MayStore B (record old { stored = with_stored old.stored c.args.entry c.args.i c.find_in.result }) c.args.entry c.args.i =
     record { word = record { entry = c.requires.may.word.entry; inside = c.requires.may.word.inside }; unkept = c.requires.may.unkept } in
-    let width : active_width ((view_of c.find_in.new.self.place.table_id (writer_of c.find_in.new.self.place.me.0)).buffer (buffer_of B c.args.entry)) ≡ c.args.width =
-    subst (λ v. active_width (v.buffer (buffer_of B c.args.entry)) ≡ c.args.width) (sym knows) c.requires.width in
-    (omega arith, (omega arith, (subst (λ v. MayStore B v c.args.entry c.args.i) (sym knows) may, width)))
+    let place : c.args.at ≡ place_by B (view_of c.find_in.new.self.place.table_id (writer_of c.find_in.new.self.place.me.0)) c.args.entry c.args.i =
+    subst (λ v. c.args.at ≡ place_by B v c.args.entry c.args.i) (sym knows) c.requires.place in
+    let table : c.args.table.now.shared.table_id ≡ c.find_in.new.self.place.table_id = c.requires.table ∙ sym (ap (λ v. v.home) knows) in
+    (omega arith, (omega arith, (table, (subst (λ v. MayStore B v c.args.entry c.args.i) (sym knows) may, place))))
 
 pub returns-then-find_in-word-clause-knows : goal.returns-then-find_in-word-clause-knows
 returns-then-find_in-word-clause-knows g c =

@@ -2,7 +2,7 @@ use Rattle.std.proofs.Common.{refl, ap, sym, subst, arith, ◌∙◌, ◌≡◌,
 use Rattle.std.specs.Prelude.{slice_get}
 use Rattle.entry_ref.specs.References.{buffer_of}
 use Rattle.atomic_table.specs.Table.{Me}
-use Rattle.entry_ref.specs.Places.{place}
+use Rattle.atomic_table.specs.Seated.{TableId}
 use Rattle.entry_ref.proofs.Apart.{place-below}
 use Rattle.gen_core.specs.declared.views.Sizes.{Sizes}
 use Rattle.gen_core.specs.declared.views.View.{View}
@@ -12,11 +12,11 @@ use Rattle.gen_core.specs.Work.{place_in, writer_records}
 use Rattle.gen_core.specs.Conditions.{MayStoreWord}
 use Rattle.arena_api.specs.Works.{active_width}
 use Rattle.word_arena.specs.Ruled.{Slot, writer_of, writer_in}
-use Rattle.word_arena.specs.Knows.{api_buffer, view_of, StoresEntries}
+use Rattle.word_arena.specs.Knows.{api_buffer, place_by, view_of, StoresEntries}
 use Rattle.word_arena.proofs.Entries.{entries-stored}
 use Rattle.word_arena.specs.ProofsForWork.{core-active}
 use Rattle.word_arena.proofs.Allowed.{store_owed}
-use Rattle.word_arena.proofs.Desks.{arena-words, desk_after, view-bits}
+use Rattle.word_arena.proofs.Desks.{desk_after, view-bits}
 use Rattle.word_arena.proofs.Stores.{may_store, store-knows}
 use Rattle.gen_core.proofs.WriterRecords.{records-others}
 use Rattle.gen_core.specs.Events.{stored}
@@ -31,14 +31,12 @@ store-requires g c =
     let may : MayStore w.sizes.offset_bits (view_of s.place.table_id w) c.args.entry c.args.i =
     subst (λ b. MayStore b (view_of s.place.table_id w) c.args.entry c.args.i) (sym bits) c.requires.may in
     let width : ℕ = active_width (api_buffer (slice_get w.buffers (buffer_of w.sizes.offset_bits c.args.entry))) in
-    let wide : c.args.width ≡ width =
-    subst (λ b. c.args.width ≡ active_width (api_buffer (slice_get w.buffers (buffer_of b c.args.entry)))) (sym bits) (sym c.requires.width) in
-    let at : c.place_of-place.result ≡ place_in w.sizes width c.args.entry c.args.i =
-    c.place_of-place.ensures ∙ (λ k. place (sym bits k) (sym s.stands.same_sizes k).buffers (sym s.stands.same_sizes k).words (wide k) c.args.entry c.args.i) in
+    let at : c.args.at ≡ place_in w.sizes width c.args.entry c.args.i =
+    c.requires.place ∙ (λ k. place_by (sym bits k) (view_of s.place.table_id w) c.args.entry c.args.i) in
     let below = place-below may.word.entry c.args.i may.word.inside in
-    let inside : c.place_of-place.result < s.arena.now.table.shared.table_id.words =
-    omega (arith, below, at, arena-words s.stands, ap (λ (z : Sizes). z.buffers * z.words) s.stands.same_sizes, ap (λ (z : Sizes). z.buffers) s.stands.same_sizes) in
-    (s.stands.own, inside, store_owed _ _ _ _ _ _ w _ _ s.stands.is (subst (MayStoreWord w) (sym at) (may_store w s.stands.good s.stands.calm s.place.table_id c.args.entry c.args.i may)))
+    let inside : c.args.at < c.args.table.now.shared.table_id.words =
+    omega (arith, below, at, ap (λ (x : TableId). x.words) c.requires.table, s.stands.words, ap (λ (z : Sizes). z.buffers * z.words) s.stands.same_sizes, ap (λ (z : Sizes). z.buffers) s.stands.same_sizes) in
+    (sym c.requires.table, inside, store_owed _ _ _ _ _ _ w _ _ s.stands.is (subst (MayStoreWord w) (sym at) (may_store w s.stands.good s.stands.calm s.place.table_id c.args.entry c.args.i may)))
 
 pub returns-clause-knows : goal.returns-clause-knows
 returns-clause-knows g c =
@@ -48,10 +46,8 @@ returns-clause-knows g c =
     let may : MayStore w.sizes.offset_bits (view_of s.place.table_id w) c.args.entry c.args.i =
     subst (λ b. MayStore b (view_of s.place.table_id w) c.args.entry c.args.i) (sym bits) c.requires.may in
     let width : ℕ = active_width (api_buffer (slice_get w.buffers (buffer_of w.sizes.offset_bits c.args.entry))) in
-    let wide : c.args.width ≡ width =
-    subst (λ b. c.args.width ≡ active_width (api_buffer (slice_get w.buffers (buffer_of b c.args.entry)))) (sym bits) (sym c.requires.width) in
-    let at : c.place_of-place.result ≡ place_in w.sizes width c.args.entry c.args.i =
-    c.place_of-place.ensures ∙ (λ k. place (sym bits k) (sym s.stands.same_sizes k).buffers (sym s.stands.same_sizes k).words (wide k) c.args.entry c.args.i) in
+    let at : c.args.at ≡ place_in w.sizes width c.args.entry c.args.i =
+    c.requires.place ∙ (λ k. place_by (sym bits k) (view_of s.place.table_id w) c.args.entry c.args.i) in
     let e = c.store.ensures in
     let active : active_in w.buffers (buffer_of w.sizes.offset_bits c.args.entry) ≡ Some width = core-active (slice_get w.buffers (buffer_of w.sizes.offset_bits c.args.entry)) may.word.entry.wide in
     let is : writer_of c.store.new.seat.me.0 ≡ stored w (place_in w.sizes width c.args.entry c.args.i) c.args.word =
@@ -66,10 +62,8 @@ returns-clause-others g c q other =
     let may : MayStore w.sizes.offset_bits (view_of s.place.table_id w) c.args.entry c.args.i =
     subst (λ b. MayStore b (view_of s.place.table_id w) c.args.entry c.args.i) (sym bits) c.requires.may in
     let width : ℕ = active_width (api_buffer (slice_get w.buffers (buffer_of w.sizes.offset_bits c.args.entry))) in
-    let wide : c.args.width ≡ width =
-    subst (λ b. c.args.width ≡ active_width (api_buffer (slice_get w.buffers (buffer_of b c.args.entry)))) (sym bits) (sym c.requires.width) in
-    let at : c.place_of-place.result ≡ place_in w.sizes width c.args.entry c.args.i =
-    c.place_of-place.ensures ∙ (λ k. place (sym bits k) (sym s.stands.same_sizes k).buffers (sym s.stands.same_sizes k).words (wide k) c.args.entry c.args.i) in
+    let at : c.args.at ≡ place_in w.sizes width c.args.entry c.args.i =
+    c.requires.place ∙ (λ k. place_by (sym bits k) (view_of s.place.table_id w) c.args.entry c.args.i) in
     let e = c.store.ensures in
     let active : active_in w.buffers (buffer_of w.sizes.offset_bits c.args.entry) ≡ Some width = core-active (slice_get w.buffers (buffer_of w.sizes.offset_bits c.args.entry)) may.word.entry.wide in
     let is : writer_of c.store.new.seat.me.0 ≡ stored w (place_in w.sizes width c.args.entry c.args.i) c.args.word =
@@ -84,11 +78,9 @@ invariant_of-self g c =
     let may : MayStore w.sizes.offset_bits (view_of s.place.table_id w) c.args.entry c.args.i =
     subst (λ b. MayStore b (view_of s.place.table_id w) c.args.entry c.args.i) (sym bits) c.requires.may in
     let width : ℕ = active_width (api_buffer (slice_get w.buffers (buffer_of w.sizes.offset_bits c.args.entry))) in
-    let wide : c.args.width ≡ width =
-    subst (λ b. c.args.width ≡ active_width (api_buffer (slice_get w.buffers (buffer_of b c.args.entry)))) (sym bits) (sym c.requires.width) in
-    let at : c.place_of-place.result ≡ place_in w.sizes width c.args.entry c.args.i =
-    c.place_of-place.ensures ∙ (λ k. place (sym bits k) (sym s.stands.same_sizes k).buffers (sym s.stands.same_sizes k).words (wide k) c.args.entry c.args.i) in
+    let at : c.args.at ≡ place_in w.sizes width c.args.entry c.args.i =
+    c.requires.place ∙ (λ k. place_by (sym bits k) (view_of s.place.table_id w) c.args.entry c.args.i) in
     let e = c.store.ensures in
     let active : active_in w.buffers (buffer_of w.sizes.offset_bits c.args.entry) ≡ Some width = core-active (slice_get w.buffers (buffer_of w.sizes.offset_bits c.args.entry)) may.word.entry.wide in
     let kept = subst (λ q. StoresEntries (stored w q c.args.word)) (sym at) (entries-stored w c.args.entry c.args.i width c.args.word active may.word.entry may.word.inside s.stands.entries) in
-    record { stands = desk_after s.stands (stored w c.place_of-place.result c.args.word) e.0 e.2.told.is refl s.stands.same_buffers s.stands.same_holds s.stands.commits s.stands.readers s.stands.calm e.2.told.good kept }
+    record { stands = desk_after s.stands (stored w c.args.at c.args.word) e.0 e.2.told.is refl s.stands.same_buffers s.stands.same_holds s.stands.commits s.stands.readers s.stands.calm e.2.told.good kept }

@@ -1,0 +1,54 @@
+use Rattle.std.proofs.Common.{slice_index, subst, refl, ◌≡◌, ◌+◌, ◌≤◌, ℕ, Some, cond, sym, ap, ◌∙◌, arith, inl, inr}
+use Rattle.std.proofs.lemmas.Bool.{cases_eq, eq-eqb, ne_eqb, and_from, and_right}
+use Rattle.entry_ref.proofs.Apart.{place-below}
+use Rattle.gen_core.specs.declared.views.Sizes.{Sizes}
+use Rattle.arena_api.specs.Calls.{MayStore, with_stored}
+use Rattle.word_arena.specs.Ruled.{writer_of}
+use Rattle.word_arena.specs.Knows.{place_by, view_of}
+use Rattle.word_arena.proofs.Desks.{few-buffers}
+use Rattle.word_arena.proofs.writer.Writer.put_words.Goals as goal
+
+pub overflow_add-first : goal.overflow_add-first
+overflow_add-first g c =
+    let s = c.args.self.now in
+    let may = c.requires.may c.loop-i.i c.loop-i-test.true in
+    let below = place-below may.word.entry c.loop-i.i may.word.inside in
+    let at = c.requires.place in
+    let product = s.stands.product in
+    let few : (writer_of s.place.me.0).sizes.buffers ≤ 67108864 = subst (λ (z : Sizes). z.buffers ≤ 67108864) (sym s.stands.same_sizes) (few-buffers s.stands) in
+    omega (arith, at, below, product, few)
+
+pub put_in-requires : goal.put_in-requires
+put_in-requires g c =
+    let B : ℕ = g.row.OFFSET_BITS in
+    let old = view_of c.args.self.now.place.table_id (writer_of c.args.self.now.place.me.0) in
+    let now = view_of c.loop-i.self.place.table_id (writer_of c.loop-i.self.place.me.0) in
+    let at = c.requires.place in
+    let was = c.requires.may c.loop-i.i c.loop-i-test.true in
+    let may : MayStore B (record old { stored = now.stored }) c.args.entry c.loop-i.i =
+    record { word = record { entry = was.word.entry; inside = was.word.inside }; unkept = was.unkept } in
+    let here : c.args.first + c.loop-i.i ≡ place_by B (record old { stored = now.stored }) c.args.entry c.loop-i.i = omega (arith, at) in
+    let place : c.args.first + c.loop-i.i ≡ place_by B now c.args.entry c.loop-i.i =
+    subst (λ v. c.args.first + c.loop-i.i ≡ place_by B v c.args.entry c.loop-i.i) (sym c.loop-i.invariant.knows) here in
+    let table : c.args.table.now.shared.table_id ≡ c.loop-i.self.place.table_id = c.requires.table ∙ sym (ap (λ v. v.home) c.loop-i.invariant.knows) in
+    (omega arith, (omega arith, (table, (subst (λ v. MayStore B v c.args.entry c.loop-i.i) (sym c.loop-i.invariant.knows) may, place))))
+
+pub loop-i-preserved : goal.loop-i-preserved
+loop-i-preserved g c =
+    let now = view_of c.loop-i.self.place.table_id (writer_of c.loop-i.self.place.me.0) in
+    let old = view_of c.args.self.now.place.table_id (writer_of c.args.self.now.place.me.0) in
+    let word : ℕ = (slice_index c.args.words.now c.loop-i.i) in
+    let e = c.put_in.ensures in
+    let inv = c.loop-i.invariant in
+    record {
+      knows =
+          e.knows ∙ (λ k. record (inv.knows k) { stored = with_stored now.stored c.args.entry c.loop-i.i word }) ∙ (λ k. record old { stored = sym (ap (λ v. v.stored) e.knows) k });
+      filled = λ j lt. ap (λ v. v.stored c.args.entry j) e.knows ∙ elim (cases_eq j c.loop-i.i) [
+        | inl same ↦
+            ap (λ t. cond t (Some word) (now.stored c.args.entry j)) (and_from _ _ (eq-eqb c.args.entry c.args.entry refl) (eq-eqb j c.loop-i.i same))
+            ∙ ap (λ n. Some n) (ap (slice_index c.args.words.now) (sym same))
+        | inr other ↦ ap (λ t. cond t (Some word) (now.stored c.args.entry j)) (and_right _ _ (ne_eqb j c.loop-i.i other)) ∙ inv.filled j (omega (arith, lt, other))
+      ];
+      others = λ q ne. e.others q ne ∙ inv.others q ne;
+      shape = e.shape ∙ inv.shape;
+    }
