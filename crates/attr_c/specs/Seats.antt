@@ -12,6 +12,7 @@ use Rattle.attr_c.specs.declared.seat.AnyKept.{AnyKept}
 use Rattle.attr_c.specs.declared.seat.AnyKept.TheVariants as kept
 use Rattle.attr_c.specs.declared.seat.Place.{Place}
 use Rattle.attr_c.specs.declared.seat.Place.TheVariants.{Free, Kept}
+use Rattle.attr_c.specs.declared.seat.Seat.{Seat}
 use Rattle.attr_c.specs.declared.state.AnyReader.{AnyReader}
 use Rattle.attr_c.specs.declared.state.AnyReader.TheVariants as readers
 use Rattle.attr_c.specs.declared.told.Answered.{Answered}
@@ -107,3 +108,13 @@ abbrev pub ByGuardOf : Option Place → Option Place → (KeptView → Type 0) �
 ByGuardOf (Some before) (Some after) P = ByGuard before after P
 ByGuardOf (Some before) None P = ⊥
 ByGuardOf None after P = ⊥
+
+-- a seat was written for C, with a reader without a guard
+abbrev pub HasFree : Option Place → Type 0
+HasFree (Some (Free r)) = Unit {0}
+HasFree (Some (Kept k)) = ⊥
+HasFree None = ⊥
+
+abbrev pub OpensSeat : Option Seat → Type 0
+OpensSeat (Some seat) = HasFree seat.place
+OpensSeat None = ⊥

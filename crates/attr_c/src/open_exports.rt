@@ -1,10 +1,11 @@
 //! What C calls to open, to close, and to hand readers out.
-ghost use Rattle.std.specs.Prelude.{◌≡◌, IfOk};
-ghost use Rattle.attr_c.specs.Engines.{IsNewEngine, KeepsTables};
+ghost use Rattle.std.specs.Prelude.{◌≡◌, ◌≢◌, pos, IfOk};
+ghost use Rattle.attr_c.specs.Engines.{IsNewEngine, KeepsTables, OpensEngine};
+ghost use Rattle.attr_c.specs.Seats.{OpensSeat};
 
 use crate::attributes::fields_in;
 use crate::codes::{BOUNDS, LOST, MEMORY, NO_READER, NO_TEXT, OK};
-use crate::handles::{HeldEngine, HeldSeat};
+use crate::handles::{HeldEngine, HeldSeat, OpenedEngine, OpenedSeat};
 use crate::opening::{may_cross, opened_in_bounds};
 use crate::seat::{Place, Seat, reader_of};
 use crate::state::{AnyOpen, AnyReader, Engine};
@@ -45,16 +46,19 @@ pub extern "C" fn attr_open(
     alloc: Global,
     attributes: &[u8],
     sizes: &Sizes,
-    out: &mut *mut u8,
+    out: &mut OpenedEngine,
     place: &mut u64,
-) -> i32 {
+) -> i32
+    ensures opened { result ≡ pos 0 → OpensEngine out.new.value }
+    ensures left { result ≢ pos 0 → out.new ≡ out.old }
+{
     *place = 0;
     let Ok(text) = str::from_utf8(attributes) else {
         return NO_TEXT;
     };
     match new_engine(alloc, text, sizes, place) {
         Ok(engine) => {
-            *out = Box::into_raw(engine).cast::<u8>();
+            *out = OpenedEngine::new(engine);
             OK
         }
         Err(code) => code,
@@ -102,8 +106,10 @@ fn put_back(open: &mut AnyOpen, reader: AnyReader) -> i32
 
 /// Hands out a reader.
 #[unsafe(no_mangle)]
-pub extern "C" fn attr_reader_open(alloc: Global, at: &mut HeldEngine, out: &mut *mut u8) -> i32
-    ensures { KeepsTables at.old.value.open at.new.value.open }
+pub extern "C" fn attr_reader_open(alloc: Global, at: &mut HeldEngine, out: &mut OpenedSeat) -> i32
+    ensures opened { result ≡ pos 0 → OpensSeat out.new.value }
+    ensures left { result ≢ pos 0 → out.new ≡ out.old }
+    ensures keeps { KeepsTables at.old.value.open at.new.value.open }
 {
     let Ok(mut seat) = Box::new(alloc, may_cross(Seat::new(alloc))) else {
         return MEMORY;
@@ -113,7 +119,7 @@ pub extern "C" fn attr_reader_open(alloc: Global, at: &mut HeldEngine, out: &mut
         return NO_READER;
     };
     seat.place = Some(Place::Free(reader));
-    *out = Box::into_raw(seat).cast::<u8>();
+    *out = OpenedSeat::new(seat);
     OK
 }
 
