@@ -1,5 +1,5 @@
 -- What the writer's handle holds, as its callers see it.
-use Rattle.std.specs.Prelude.{◌≡◌, ◌<◌, ◌≤◌, ℕ, List, [], length, Option, Some, None}
+use Rattle.std.specs.Prelude.{◌≡◌, ◌<◌, ◌≤◌, ℕ, List, [], length}
 use Rattle.attr_types.specs.Table.{Table}
 use Rattle.attr_types.specs.declared.field.Field.{Field}
 use Rattle.attr_types.specs.declared.field.TheConstants.{MOST_FIELDS}
@@ -56,11 +56,6 @@ pub record IsNewEngine (e : Engine) : Type 0 where
   pub some : 0 < length (open_fields e.open)
   pub few : length (open_fields e.open) ≤ MOST_FIELDS
   pub has_nothing : HasNothing (open_table e.open) (open_committed e.open) (open_operations e.open) (open_committed_operations e.open)
-
--- a new engine was written for C
-abbrev pub OpensEngine : Option Engine → Type 0
-OpensEngine (Some e) = IsNewEngine e
-OpensEngine None = ⊥
 
 -- the buffers and words in use, of the numbers for a monitor
 abbrev pub usage_told : CountsTold → Usage

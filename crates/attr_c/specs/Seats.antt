@@ -1,5 +1,5 @@
 -- What a reader's handle holds, as its callers see it, and what its calls say.
-use Rattle.std.specs.Prelude.{◌≡◌, ℕ, Bool, true, false, List, length, Option, Some, None, Result, Ok}
+use Rattle.std.specs.Prelude.{◌≡◌, ℕ, Bool, true, false, List, [], ◌∷◌, ◌++◌, length, Option, Some, None, Result, Ok}
 use Rattle.gen_core.specs.Events.{released}
 use Rattle.word_arena.specs.Ruled.{reader_of, seen_number}
 use Rattle.attr_types.specs.Scores.{AskTree, answer_on, documents_in}
@@ -13,6 +13,8 @@ use Rattle.attr_c.specs.declared.seat.AnyKept.TheVariants as kept
 use Rattle.attr_c.specs.declared.seat.Place.{Place}
 use Rattle.attr_c.specs.declared.seat.Place.TheVariants.{Free, Kept}
 use Rattle.attr_c.specs.declared.seat.Seat.{Seat}
+use Rattle.attr_c.specs.declared.state.AnyOpen.{AnyOpen}
+use Rattle.attr_c.specs.declared.state.AnyOpen.TheVariants as opens
 use Rattle.attr_c.specs.declared.state.AnyReader.{AnyReader}
 use Rattle.attr_c.specs.declared.state.AnyReader.TheVariants as readers
 use Rattle.attr_c.specs.declared.told.Answered.{Answered}
@@ -109,12 +111,23 @@ ByGuardOf (Some before) (Some after) P = ByGuard before after P
 ByGuardOf (Some before) None P = ⊥
 ByGuardOf None after P = ⊥
 
--- a seat was written for C, with a reader without a guard
-abbrev pub HasFree : Option Place → Type 0
-HasFree (Some (Free r)) = Unit {0}
-HasFree (Some (Kept k)) = ⊥
-HasFree None = ⊥
+-- the last reader that was not given away leaves the others
+abbrev pub TakesReader : AnyOpen → AnyOpen → AnyReader → Type 0
+TakesReader (opens.Narrow old) (opens.Narrow new) (readers.Narrow reader) = old.pool.items ≡ new.pool.items ++ reader ∷ []
+TakesReader (opens.Wide old) (opens.Wide new) (readers.Wide reader) = old.pool.items ≡ new.pool.items ++ reader ∷ []
+TakesReader old new reader = ⊥
 
-abbrev pub OpensSeat : Option Seat → Type 0
-OpensSeat (Some seat) = HasFree seat.place
-OpensSeat None = ⊥
+abbrev pub HasNoReader : AnyOpen → Type 0
+HasNoReader (opens.Narrow old) = old.pool.items ≡ []
+HasNoReader (opens.Wide old) = old.pool.items ≡ []
+
+-- such a reader has a seat, without a guard
+abbrev pub SeatsReader : AnyOpen → AnyOpen → Option Place → Type 0
+SeatsReader old new (Some (Free reader)) = TakesReader old new reader
+SeatsReader old new (Some (Kept reader)) = ⊥
+SeatsReader old new None = ⊥
+
+-- the seat that was written for C
+abbrev pub OpensSeat : AnyOpen → AnyOpen → Option Seat → Type 0
+OpensSeat old new (Some seat) = SeatsReader old new seat.place
+OpensSeat old new None = ⊥

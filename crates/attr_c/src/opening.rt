@@ -1,11 +1,12 @@
 //! A new memory, which is never freed, with its attributes and readers.
-ghost use Rattle.std.specs.Prelude.{◌≡◌, ◌≤◌, ◌<◌, ◌*◌, ◌^◌, length, IfOk, IfSome};
+ghost use Rattle.std.specs.Prelude.{◌≡◌, ◌≤◌, ◌<◌, ◌*◌, ◌^◌, length, IfOk, IfNone, IfSome};
 ghost use Rattle.attr_images.specs.Shapes.{shape_of, types_of};
 ghost use Rattle.attr_types.specs.declared.field.TheConstants.{MOST_FIELDS};
 ghost use Rattle.arena_api.specs.Calls.{IsFresh};
 ghost use Rattle.word_arena.specs.Knows.{view_of};
 ghost use Rattle.word_arena.specs.Ruled.{writer_of};
 ghost use Rattle.attr_c.specs.Engines.{HasNothing, IsOpened};
+ghost use Rattle.attr_c.specs.Opening.{InBounds};
 
 use crate::state::{AnyOpen, Counts, Narrow, Open, Waiting, Wide};
 use crate::told::Sizes;
@@ -228,7 +229,9 @@ pub fn opened_in_bounds(
 ) -> Result<Option<AnyOpen>, AllocError>
     requires some { 0 < length fields }
     requires few { length fields ≤ MOST_FIELDS }
-    ensures { IfOk result (λ found. IfSome found (IsOpened fields)) }
+    ensures opened { IfOk result (λ found. IfSome found (IsOpened fields)) }
+    ensures bounds { IfOk result (λ found. IfSome found (λ _. InBounds sizes.now)) }
+    ensures refused { IfOk result (λ found. IfNone found (InBounds sizes.now → ⊥)) }
 {
     if sizes.buffers < 1
         || sizes.words < LEAST_WORDS
