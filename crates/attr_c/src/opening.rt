@@ -5,7 +5,7 @@ ghost use Rattle.attr_types.specs.declared.field.TheConstants.{MOST_FIELDS};
 ghost use Rattle.arena_api.specs.Calls.{IsFresh};
 ghost use Rattle.word_arena.specs.Knows.{view_of};
 ghost use Rattle.word_arena.specs.Ruled.{writer_of};
-ghost use Rattle.attr_c.specs.Engines.{HasNothing, IsOpened};
+ghost use Rattle.attr_c.specs.Engines.{AreNewCounts, HasNothing, IsOpened, open_counts};
 ghost use Rattle.attr_c.specs.Opening.{InBounds};
 
 use crate::state::{AnyOpen, Counts, Narrow, Open, Waiting, Wide};
@@ -93,7 +93,9 @@ fn running<const OFFSET_BITS: u32>(
     }
 }
 
-fn no_counts(sizes: &Sizes) -> Counts {
+fn no_counts(sizes: &Sizes) -> Counts
+    ensures { AreNewCounts sizes.now result }
+{
     Counts {
         sizes: *sizes,
         skipped: 0,
@@ -177,6 +179,7 @@ fn narrow_open(
     ensures fields { IfOk result (λ o. o.fields ≡ fields) }
     ensures nothing { IfOk result (λ o. HasNothing o.attribute.table o.attribute.committed o.attribute.operations
         o.attribute.committed_operations) }
+    ensures counts { IfOk result (λ o. AreNewCounts sizes.now o.counts) }
 {
     let mut writer = narrow_writer(alloc, config)?;
     let pool = waiting(alloc, &mut writer, &fields, sizes.readers)?;
@@ -208,6 +211,7 @@ fn wide_open(
     ensures fields { IfOk result (λ o. o.fields ≡ fields) }
     ensures nothing { IfOk result (λ o. HasNothing o.attribute.table o.attribute.committed o.attribute.operations
         o.attribute.committed_operations) }
+    ensures counts { IfOk result (λ o. AreNewCounts sizes.now o.counts) }
 {
     let mut writer = wide_writer(alloc, config)?;
     let pool = waiting(alloc, &mut writer, &fields, sizes.readers)?;
@@ -230,6 +234,7 @@ pub fn opened_in_bounds(
     requires some { 0 < length fields }
     requires few { length fields ≤ MOST_FIELDS }
     ensures opened { IfOk result (λ found. IfSome found (IsOpened fields)) }
+    ensures counts { IfOk result (λ found. IfSome found (λ o. AreNewCounts sizes.now (open_counts o))) }
     ensures bounds { IfOk result (λ found. IfSome found (λ _. InBounds sizes.now)) }
     ensures refused { IfOk result (λ found. IfNone found (InBounds sizes.now → ⊥)) }
 {
