@@ -1,12 +1,12 @@
 -- The attributes of texts, one after another.
-use Rattle.std.proofs.Common.{◌≡◌, ◌<◌, ◌≤◌, ℕ, Bool, true, false, cond, List, [], ◌∷◌, ◌++◌, length, map, nat_lt, ◌==◌, Option, Some, None, Result, Ok, Err, ap, sym, ◌∙◌, refl, arith}
+use Rattle.std.proofs.Common.{◌≡◌, ◌<◌, ◌≤◌, ℕ, Bool, true, false, cond, List, [], ◌∷◌, ◌++◌, length, map, nat_lt, ◌==◌, Option, Some, None, Ok, Err, ap, sym, ◌∙◌, refl, arith}
 use Rattle.std.specs.Borrow.{Bor}
 use Rattle.std.proofs.lemmas.Bool.Decides.{nat_tests}
 use Rattle.std.proofs.lemmas.List.{length_push}
-use Rattle.std.specs.List.{onto_first, slice_split}
+use Rattle.std.specs.List.{onto_first}
 use Rattle.attr_types.specs.declared.field.Field.{Field}
 use Rattle.attr_types.specs.declared.field.TheConstants.{MOST_FIELDS}
-use Rattle.attr_c.specs.Attributes.{after_field, field_in, field_of_parts, fields_from, fields_in, next_field, parts_of, SaysField, SaysFields}
+use Rattle.attr_c.specs.Attributes.{after_field, field_in, field_of_parts, fields_from, next_field, parts_of, SaysField, SaysFields}
 use Rattle.attr_c.specs.declared.attributes.AttributesError.{AttributesError}
 use Rattle.attr_c.specs.declared.attributes.AttributesError.TheVariants as errors
 

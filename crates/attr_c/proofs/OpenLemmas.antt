@@ -30,4 +30,4 @@ nothing_yet ledger fields root table committed operations published has no_root 
 -- memory is exhausted
 pub refuses_memory : (text : List ℕ) (sizes : Sizes) (place : ℕ) (code : ℤ) → code ≡ MEMORY → RefusesOpening text sizes place code
 refuses_memory text sizes place code is =
-    subst (RefusesOpening text sizes place) (sym is) (record { not_ok = λ e. cc; not_text = λ e. cc; attributes = λ e. cc; bounds = λ e. cc; others = λ a b. refl; })
+    subst (RefusesOpening text sizes place) (sym is) (record { not_ok = λ e. cc; not_text = λ e. cc; attributes = λ e. cc; bounds = λ e. cc; others = λ a b. refl })
