@@ -2,6 +2,7 @@
 use Rattle.std.specs.Prelude.{◌≡◌, ◌≢◌, ◌≤◌, ◌*◌, ℕ, List, Option, Some, None, Ok, Err, ℤ}
 use Rattle.attr_c.specs.Attributes.{fields_in}
 use Rattle.attr_c.specs.Engines.{AreNewCounts, IsNewEngine, fields_of, open_counts}
+use Rattle.attr_c.specs.Stores.{HasMemory, open_memory}
 use Rattle.attr_c.specs.declared.codes.TheConstants.{OK, MEMORY, BOUNDS, ATTRIBUTES, NO_TEXT}
 use Rattle.attr_c.specs.declared.state.Engine.{Engine}
 use Rattle.attr_c.specs.declared.told.Sizes.{Sizes}
@@ -21,6 +22,7 @@ pub record Opens (text : List ℕ) (sizes : Sizes) (engine : Engine) : Type 0 wh
   pub is_new : IsNewEngine engine
   pub reads : fields_in text ≡ Ok (fields_of engine)
   pub in_bounds : InBounds sizes
+  pub memory : HasMemory sizes.buffers sizes.words (open_memory engine.open)
   pub counts : AreNewCounts sizes (open_counts engine.open)
 
 -- the engine that was written for C
