@@ -1,5 +1,5 @@
 -- What a new engine has.
-use Rattle.std.proofs.Common.{◌≡◌, ℕ, List, [], sym, ◌∙◌, ap}
+use Rattle.std.proofs.Common.{◌≡◌, ℕ, List, [], ℤ, sym, refl, subst, ◌∙◌, ap}
 use Rattle.arena_api.specs.Works.{last_image}
 use Rattle.entry_ref.specs.Images.{words_at}
 use Rattle.store_api.specs.Ledgers.{Ledger}
@@ -10,6 +10,9 @@ use Rattle.attribute_kinds.specs.Calls.{HasCommit}
 use Rattle.attr_types.specs.Table.{Table}
 use Rattle.attr_types.specs.declared.field.Field.{Field}
 use Rattle.attr_c.specs.Engines.{HasNothing}
+use Rattle.attr_c.specs.Opening.{RefusesOpening}
+use Rattle.attr_c.specs.declared.codes.TheConstants.{MEMORY}
+use Rattle.attr_c.specs.declared.told.Sizes.{Sizes}
 
 -- without a root nothing is committed
 pub nothing_yet : {H : Type 0} (ledger : Ledger H) (fields : List Field) (root : ℕ) (table committed : Table) (operations published : ℕ) → HasCommit ledger fields root committed published → root ≡ 0
@@ -23,3 +26,8 @@ nothing_yet ledger fields root table committed operations published has no_root 
       operations_are = none;
       published_are = sym has.operations_are ∙ ap (operations_at m) no_root;
     }
+
+-- memory is exhausted
+pub refuses_memory : (text : List ℕ) (sizes : Sizes) (place : ℕ) (code : ℤ) → code ≡ MEMORY → RefusesOpening text sizes place code
+refuses_memory text sizes place code is =
+    subst (RefusesOpening text sizes place) (sym is) (record { not_ok = λ e. cc; not_text = λ e. cc; attributes = λ e. cc; bounds = λ e. cc; others = λ a b. refl })

@@ -5,6 +5,8 @@ use Rattle.attr_types.specs.declared.field.Field.{Field}
 use Rattle.attr_types.specs.declared.field.TheConstants.{MOST_FIELDS}
 use Rattle.store_api.specs.declared.store.Usage.{Usage}
 use Rattle.attr_c.specs.declared.told.CountsTold.{CountsTold}
+use Rattle.attr_c.specs.declared.told.Sizes.{Sizes}
+use Rattle.attr_c.specs.declared.state.Counts.{Counts}
 use Rattle.attr_c.specs.declared.state.AnyOpen.{AnyOpen}
 use Rattle.attr_c.specs.declared.state.AnyOpen.TheVariants.{Narrow, Wide}
 use Rattle.attr_c.specs.declared.state.Engine.{Engine}
@@ -31,6 +33,15 @@ abbrev pub open_committed_operations : AnyOpen → ℕ
 open_committed_operations (Narrow o) = o.attribute.committed_operations
 open_committed_operations (Wide o) = o.attribute.committed_operations
 
+-- what is counted for a monitor, and the number of readers that were not given away
+abbrev pub open_counts : AnyOpen → Counts
+open_counts (Narrow o) = o.counts
+open_counts (Wide o) = o.counts
+
+abbrev pub open_waiting : AnyOpen → ℕ
+open_waiting (Narrow o) = length o.pool.items
+open_waiting (Wide o) = length o.pool.items
+
 -- a call that leaves the attributes, what was fed and what was committed as they were
 pub record KeepsTables (old new : AnyOpen) : Type 0 where
   pub fields : open_fields new ≡ open_fields old
@@ -56,6 +67,24 @@ pub record IsNewEngine (e : Engine) : Type 0 where
   pub some : 0 < length (open_fields e.open)
   pub few : length (open_fields e.open) ≤ MOST_FIELDS
   pub has_nothing : HasNothing (open_table e.open) (open_committed e.open) (open_operations e.open) (open_committed_operations e.open)
+
+-- nothing counted, but the sizes
+pub record AreNewCounts (sizes : Sizes) (counts : Counts) : Type 0 where
+  pub sizes_are : counts.sizes ≡ sizes
+  pub skipped_is : counts.skipped ≡ 0
+  pub commit_is : counts.commit ≡ 0
+  pub committed_is : counts.committed ≡ 0
+  pub no_reader : counts.is_held ≡ 0
+
+-- the numbers that the engine keeps for a monitor
+pub record TellsCounts (counts : Counts) (told : CountsTold) : Type 0 where
+  pub skipped : told.skipped ≡ counts.skipped
+  pub commit : told.commit ≡ counts.commit
+  pub committed : told.committed ≡ counts.committed
+  pub oldest : told.oldest ≡ counts.oldest
+  pub is_held : told.is_held ≡ counts.is_held
+  pub buffers : told.buffers ≡ counts.sizes.buffers
+  pub words : told.words ≡ counts.sizes.words
 
 -- the buffers and words in use, of the numbers for a monitor
 abbrev pub usage_told : CountsTold → Usage

@@ -1,5 +1,5 @@
 -- What a reader's handle holds, as its callers see it, and what its calls say.
-use Rattle.std.specs.Prelude.{◌≡◌, ℕ, Bool, true, false, List, length, Option, Some, None, Result, Ok}
+use Rattle.std.specs.Prelude.{◌≡◌, ℕ, Bool, true, false, List, [], ◌∷◌, ◌++◌, length, Option, Some, None, Result, Ok}
 use Rattle.gen_core.specs.Events.{released}
 use Rattle.word_arena.specs.Ruled.{reader_of, seen_number}
 use Rattle.attr_types.specs.Scores.{AskTree, answer_on, documents_in}
@@ -12,6 +12,9 @@ use Rattle.attr_c.specs.declared.seat.AnyKept.{AnyKept}
 use Rattle.attr_c.specs.declared.seat.AnyKept.TheVariants as kept
 use Rattle.attr_c.specs.declared.seat.Place.{Place}
 use Rattle.attr_c.specs.declared.seat.Place.TheVariants.{Free, Kept}
+use Rattle.attr_c.specs.declared.seat.Seat.{Seat}
+use Rattle.attr_c.specs.declared.state.AnyOpen.{AnyOpen}
+use Rattle.attr_c.specs.declared.state.AnyOpen.TheVariants as opens
 use Rattle.attr_c.specs.declared.state.AnyReader.{AnyReader}
 use Rattle.attr_c.specs.declared.state.AnyReader.TheVariants as readers
 use Rattle.attr_c.specs.declared.told.Answered.{Answered}
@@ -107,3 +110,24 @@ abbrev pub ByGuardOf : Option Place → Option Place → (KeptView → Type 0) �
 ByGuardOf (Some before) (Some after) P = ByGuard before after P
 ByGuardOf (Some before) None P = ⊥
 ByGuardOf None after P = ⊥
+
+-- the last reader that was not given away leaves the others
+abbrev pub TakesReader : AnyOpen → AnyOpen → AnyReader → Type 0
+TakesReader (opens.Narrow old) (opens.Narrow new) (readers.Narrow reader) = old.pool.items ≡ new.pool.items ++ reader ∷ []
+TakesReader (opens.Wide old) (opens.Wide new) (readers.Wide reader) = old.pool.items ≡ new.pool.items ++ reader ∷ []
+TakesReader old new reader = ⊥
+
+abbrev pub HasNoReader : AnyOpen → Type 0
+HasNoReader (opens.Narrow old) = old.pool.items ≡ []
+HasNoReader (opens.Wide old) = old.pool.items ≡ []
+
+-- such a reader has a seat, without a guard
+abbrev pub SeatsReader : AnyOpen → AnyOpen → Option Place → Type 0
+SeatsReader old new (Some (Free reader)) = TakesReader old new reader
+SeatsReader old new (Some (Kept reader)) = ⊥
+SeatsReader old new None = ⊥
+
+-- the seat that was written for C
+abbrev pub OpensSeat : AnyOpen → AnyOpen → Option Seat → Type 0
+OpensSeat old new (Some seat) = SeatsReader old new seat.place
+OpensSeat old new None = ⊥

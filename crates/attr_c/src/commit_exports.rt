@@ -1,8 +1,10 @@
 //! The calls from C with the writer's handle.
-ghost use Rattle.std.specs.Prelude.{◌≡◌, ◌≢◌, ◌+◌, pos, drop, IsOk, IsErr};
+ghost use Rattle.std.specs.Prelude.{◌≡◌, ◌≢◌, ◌+◌, pos, drop, length, min, IsOk, IsErr};
 ghost use Rattle.attr_c.specs.Engines.{committed_of, committed_operations_of, fields_of, operations_of, table_of, usage_told, KeepsTables};
+ghost use Rattle.attr_c.specs.Engines.{open_counts, open_waiting, TellsCounts};
 ghost use Rattle.attr_c.specs.Feeding.{FedTo, Feeds, Stays};
 ghost use Rattle.attr_c.specs.Loading.{LoadsFront, LoadsSave};
+ghost use Rattle.attr_c.specs.Stores.{IsOpenUsage};
 ghost use Rattle.store_api.specs.Usages.{IsUsage};
 
 use crate::codes::OK;
@@ -219,6 +221,8 @@ fn counts_of<const OFFSET_BITS: u32, S: Store<OFFSET_BITS, Layout = AttrLayout>>
 ) -> CountsTold
     ensures operations { result.operations ≡ open.now.attribute.operations }
     ensures usage { IsUsage OFFSET_BITS (S.ledger open.now.attribute.store) (usage_told result) }
+    ensures counts { TellsCounts open.now.counts result }
+    ensures readers { result.readers ≡ min (length open.now.pool.items) 64 }
 {
     let counts = &open.counts;
     let usage = open.attribute.usage();
@@ -245,6 +249,9 @@ fn counts_of<const OFFSET_BITS: u32, S: Store<OFFSET_BITS, Layout = AttrLayout>>
 pub extern "C" fn attr_counts(at: &mut HeldEngine, told: &mut CountsTold)
     ensures same { at.new.value ≡ at.old.value }
     ensures operations { told.new.operations ≡ operations_of at.old.value }
+    ensures usage { IsOpenUsage at.old.value.open (usage_told told.new) }
+    ensures counts { TellsCounts (open_counts at.old.value.open) told.new }
+    ensures readers { told.new.readers ≡ min (open_waiting at.old.value.open) 64 }
 {
     *told = match &at.get_mut().open {
         AnyOpen::Narrow(open) => counts_of(open),

@@ -1,10 +1,15 @@
 //! What C calls to open, to close, and to hand readers out.
-ghost use Rattle.std.specs.Prelude.{◌≡◌, IfOk};
-ghost use Rattle.attr_c.specs.Engines.{IsNewEngine, KeepsTables};
+ghost use Rattle.std.specs.Prelude.{◌≡◌, ◌≢◌, Err, IfErr, IfNone, IfOk, IfSome};
+ghost use Rattle.std.specs.Str.{IsUtf8};
+ghost use Rattle.attr_c.specs.Attributes.{fields_in};
+ghost use Rattle.attr_c.specs.Engines.{KeepsTables};
+ghost use Rattle.attr_c.specs.Opening.{InBounds, Opens, OpensEngine, RefusesOpening};
+ghost use Rattle.attr_c.specs.Seats.{HasNoReader, OpensSeat, TakesReader};
+ghost use Rattle.attr_c.specs.declared.codes.TheConstants.{ATTRIBUTES, BOUNDS, MEMORY, NO_READER, NO_TEXT, OK};
 
 use crate::attributes::fields_in;
 use crate::codes::{BOUNDS, LOST, MEMORY, NO_READER, NO_TEXT, OK};
-use crate::handles::{HeldEngine, HeldSeat};
+use crate::handles::{HeldEngine, HeldSeat, OpenedEngine, OpenedSeat};
 use crate::opening::{may_cross, opened_in_bounds};
 use crate::seat::{Place, Seat, reader_of};
 use crate::state::{AnyOpen, AnyReader, Engine};
@@ -12,7 +17,8 @@ use crate::told::Sizes;
 use std::alloc::Global;
 
 fn engine_of(alloc: Global, opened: AnyOpen) -> Result<Box<Engine>, i32>
-    ensures { IfOk result (λ engine. engine.value.open ≡ opened) }
+    ensures made { IfOk result (λ engine. engine.value.open ≡ opened) }
+    ensures memory { IfErr result (λ code. code ≡ MEMORY) }
 {
     match Box::new(alloc, Engine { open: opened }) {
         Ok(engine) => Ok(engine),
@@ -22,7 +28,8 @@ fn engine_of(alloc: Global, opened: AnyOpen) -> Result<Box<Engine>, i32>
 
 /// An engine over a new memory, which has no document; or the code of a refusal.
 fn new_engine(alloc: Global, text: &str, sizes: &Sizes, place: &mut u64) -> Result<Box<Engine>, i32>
-    ensures { IfOk result (λ engine. IsNewEngine engine.value) }
+    ensures made { IfOk result (λ engine. Opens text.now sizes.now engine.value) }
+    ensures refused { IfErr result (RefusesOpening text.now sizes.now place.new) }
 {
     let fields = match fields_in(alloc, text) {
         Ok(fields) => fields,
@@ -45,16 +52,24 @@ pub extern "C" fn attr_open(
     alloc: Global,
     attributes: &[u8],
     sizes: &Sizes,
-    out: &mut *mut u8,
+    out: &mut OpenedEngine,
     place: &mut u64,
-) -> i32 {
+) -> i32
+    ensures opened { result ≡ OK → OpensEngine attributes.now sizes.now out.new.value }
+    ensures left { result ≢ OK → out.new ≡ out.old }
+    ensures text { result ≢ NO_TEXT → IsUtf8 attributes.now }
+    ensures no_text { result ≡ NO_TEXT → IsUtf8 attributes.now → ⊥ }
+    ensures broken { result ≡ ATTRIBUTES → fields_in attributes.now ≡ Err place.new }
+    ensures bounds { result ≡ BOUNDS → InBounds sizes.now → ⊥ }
+    ensures others { result ≢ OK → result ≢ NO_TEXT → result ≢ ATTRIBUTES → result ≢ BOUNDS → result ≡ MEMORY }
+{
     *place = 0;
     let Ok(text) = str::from_utf8(attributes) else {
         return NO_TEXT;
     };
     match new_engine(alloc, text, sizes, place) {
         Ok(engine) => {
-            *out = Box::into_raw(engine).cast::<u8>();
+            *out = OpenedEngine::new(engine);
             OK
         }
         Err(code) => code,
@@ -69,7 +84,9 @@ pub extern "C" fn attr_close(alloc: Global, at: HeldEngine) {
 
 /// A reader that was not given away yet.
 fn next_reader(open: &mut AnyOpen) -> Option<AnyReader>
-    ensures { KeepsTables open.old open.new }
+    ensures taken { IfSome result (TakesReader open.old open.new) }
+    ensures none { IfNone result (HasNoReader open.old) }
+    ensures keeps { KeepsTables open.old open.new }
 {
     match open {
         AnyOpen::Narrow(open) => match open.pool.pop() {
@@ -102,8 +119,12 @@ fn put_back(open: &mut AnyOpen, reader: AnyReader) -> i32
 
 /// Hands out a reader.
 #[unsafe(no_mangle)]
-pub extern "C" fn attr_reader_open(alloc: Global, at: &mut HeldEngine, out: &mut *mut u8) -> i32
-    ensures { KeepsTables at.old.value.open at.new.value.open }
+pub extern "C" fn attr_reader_open(alloc: Global, at: &mut HeldEngine, out: &mut OpenedSeat) -> i32
+    ensures opened { result ≡ OK → OpensSeat at.old.value.open at.new.value.open out.new.value }
+    ensures left { result ≢ OK → out.new ≡ out.old }
+    ensures none { result ≡ NO_READER → HasNoReader at.old.value.open }
+    ensures others { result ≢ OK → result ≢ NO_READER → result ≡ MEMORY }
+    ensures keeps { KeepsTables at.old.value.open at.new.value.open }
 {
     let Ok(mut seat) = Box::new(alloc, may_cross(Seat::new(alloc))) else {
         return MEMORY;
@@ -113,7 +134,7 @@ pub extern "C" fn attr_reader_open(alloc: Global, at: &mut HeldEngine, out: &mut
         return NO_READER;
     };
     seat.place = Some(Place::Free(reader));
-    *out = Box::into_raw(seat).cast::<u8>();
+    *out = OpenedSeat::new(seat);
     OK
 }
 

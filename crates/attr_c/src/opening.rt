@@ -1,11 +1,13 @@
 //! A new memory, which is never freed, with its attributes and readers.
-ghost use Rattle.std.specs.Prelude.{◌≡◌, ◌≤◌, ◌<◌, ◌*◌, ◌^◌, length, IfOk, IfSome};
+ghost use Rattle.std.specs.Prelude.{◌≡◌, ◌≤◌, ◌<◌, ◌*◌, ◌^◌, length, IfOk, IfNone, IfSome};
 ghost use Rattle.attr_images.specs.Shapes.{shape_of, types_of};
 ghost use Rattle.attr_types.specs.declared.field.TheConstants.{MOST_FIELDS};
 ghost use Rattle.arena_api.specs.Calls.{IsFresh};
-ghost use Rattle.word_arena.specs.Knows.{view_of};
+ghost use Rattle.word_arena.specs.Knows.{core_sizes, view_of};
 ghost use Rattle.word_arena.specs.Ruled.{writer_of};
-ghost use Rattle.attr_c.specs.Engines.{HasNothing, IsOpened};
+ghost use Rattle.attr_c.specs.Engines.{AreNewCounts, HasNothing, IsOpened, open_counts};
+ghost use Rattle.attr_c.specs.Opening.{InBounds};
+ghost use Rattle.attr_c.specs.Stores.{HasMemory, open_memory};
 
 use crate::state::{AnyOpen, Counts, Narrow, Open, Waiting, Wide};
 use crate::told::Sizes;
@@ -14,6 +16,7 @@ use attr_types::Fields;
 use attribute_kinds::Attribute;
 use entry_store::EntryStore;
 use std::alloc::{AllocError, Global};
+use store_api::Store;
 use word_arena::{Arena, Config, Limits, MOST_COMMITS, MOST_GENERATIONS, Writer};
 
 /// The least number of words of a buffer.
@@ -53,6 +56,7 @@ fn waiting<const OFFSET_BITS: u32>(
     requires fresh { IsFresh (view_of writer.old.place.table_id (writer_of writer.old.place.me.0)) }
     ensures shape { (writer_of writer.new.place.me.0).sizes.shape ≡ shape_of (types_of fields.now) }
     ensures fresh { IsFresh (view_of writer.new.place.table_id (writer_of writer.new.place.me.0)) }
+    ensures sizes { (writer_of writer.new.place.me.0).sizes ≡ (writer_of writer.old.place.me.0).sizes }
 {
     let mut pool = Vec::new(alloc);
     for _ in 0..readers {
@@ -82,6 +86,9 @@ fn running<const OFFSET_BITS: u32>(
     ensures fields { IfOk result (λ a. a.fields ≡ fields.now) }
     ensures dense { IfOk result (λ a. a.dense ≡ dense) }
     ensures nothing { IfOk result (λ a. HasNothing a.table a.committed a.operations a.committed_operations) }
+    ensures memory { IfOk result (λ a.
+        (⟦<EntryStore<OFFSET_BITS, Writer<'static, OFFSET_BITS, AttrLayout>> as Store<OFFSET_BITS>>⟧.ledger a.store).work
+        ≡ view_of writer.entry.place.table_id (writer_of writer.entry.place.me.0)) }
 {
     match Attribute::create(alloc, writer, fields, dense) {
         Ok(attribute) => {
@@ -92,7 +99,9 @@ fn running<const OFFSET_BITS: u32>(
     }
 }
 
-fn no_counts(sizes: &Sizes) -> Counts {
+fn no_counts(sizes: &Sizes) -> Counts
+    ensures { AreNewCounts sizes.now result }
+{
     Counts {
         sizes: *sizes,
         skipped: 0,
@@ -135,6 +144,7 @@ fn narrow_writer(
     requires generations { config.limits.generations < 2 ^ 48 }
     ensures shape { IfOk result (λ w. (writer_of w.place.me.0).sizes.shape ≡ config.shape) }
     ensures fresh { IfOk result (λ w. IsFresh (view_of w.place.table_id (writer_of w.place.me.0))) }
+    ensures sizes { IfOk result (λ w. (writer_of w.place.me.0).sizes ≡ core_sizes 22 config) }
 {
     let (arena, token) = Arena::<22, AttrLayout>::create(alloc, config)?;
     let kept: &'static Arena<22, AttrLayout> = Box::leak(Box::new(alloc, arena)?);
@@ -151,6 +161,7 @@ fn wide_writer(alloc: Global, config: Config) -> Result<Writer<'static, 19, Attr
     requires generations { config.limits.generations < 2 ^ 48 }
     ensures shape { IfOk result (λ w. (writer_of w.place.me.0).sizes.shape ≡ config.shape) }
     ensures fresh { IfOk result (λ w. IsFresh (view_of w.place.table_id (writer_of w.place.me.0))) }
+    ensures sizes { IfOk result (λ w. (writer_of w.place.me.0).sizes ≡ core_sizes 19 config) }
 {
     let (arena, token) = Arena::<19, AttrLayout>::create(alloc, config)?;
     let kept: &'static Arena<19, AttrLayout> = Box::leak(Box::new(alloc, arena)?);
@@ -176,6 +187,9 @@ fn narrow_open(
     ensures fields { IfOk result (λ o. o.fields ≡ fields) }
     ensures nothing { IfOk result (λ o. HasNothing o.attribute.table o.attribute.committed o.attribute.operations
         o.attribute.committed_operations) }
+    ensures counts { IfOk result (λ o. AreNewCounts sizes.now o.counts) }
+    ensures memory { IfOk result (λ o. HasMemory config.buffers config.words
+        (⟦<Narrow as Store<22>>⟧.ledger o.attribute.store).work.sizes) }
 {
     let mut writer = narrow_writer(alloc, config)?;
     let pool = waiting(alloc, &mut writer, &fields, sizes.readers)?;
@@ -207,6 +221,9 @@ fn wide_open(
     ensures fields { IfOk result (λ o. o.fields ≡ fields) }
     ensures nothing { IfOk result (λ o. HasNothing o.attribute.table o.attribute.committed o.attribute.operations
         o.attribute.committed_operations) }
+    ensures counts { IfOk result (λ o. AreNewCounts sizes.now o.counts) }
+    ensures memory { IfOk result (λ o. HasMemory config.buffers config.words
+        (⟦<Wide as Store<19>>⟧.ledger o.attribute.store).work.sizes) }
 {
     let mut writer = wide_writer(alloc, config)?;
     let pool = waiting(alloc, &mut writer, &fields, sizes.readers)?;
@@ -228,7 +245,11 @@ pub fn opened_in_bounds(
 ) -> Result<Option<AnyOpen>, AllocError>
     requires some { 0 < length fields }
     requires few { length fields ≤ MOST_FIELDS }
-    ensures { IfOk result (λ found. IfSome found (IsOpened fields)) }
+    ensures opened { IfOk result (λ found. IfSome found (IsOpened fields)) }
+    ensures counts { IfOk result (λ found. IfSome found (λ o. AreNewCounts sizes.now (open_counts o))) }
+    ensures memory { IfOk result (λ found. IfSome found (λ o. HasMemory sizes.now.buffers sizes.now.words (open_memory o))) }
+    ensures bounds { IfOk result (λ found. IfSome found (λ _. InBounds sizes.now)) }
+    ensures refused { IfOk result (λ found. IfNone found (InBounds sizes.now → ⊥)) }
 {
     if sizes.buffers < 1
         || sizes.words < LEAST_WORDS

@@ -1,10 +1,10 @@
 //! Access through the pointers of the handles.
-ghost use Rattle.std.specs.Prelude.{◌≡◌};
+ghost use Rattle.std.specs.Prelude.{◌≡◌, Some};
 ghost use Rattle.std.specs.Borrow.{sem};
 ghost use Rattle.attr_c.specs.HeldEngine.{held_engine_follows};
 ghost use Rattle.attr_c.specs.HeldSeat.{held_seat_follows};
 
-use crate::handles::{HeldEngine, HeldSeat};
+use crate::handles::{HeldEngine, HeldSeat, OpenedEngine, OpenedSeat};
 use crate::loose::Loose;
 use crate::seat::Seat;
 use crate::state::Engine;
@@ -57,5 +57,39 @@ impl HeldSeat {
         ensures value { result.now ≡ self.old.value }
     {
         unsafe { &mut *self.at.cast::<Seat>() }
+    }
+}
+
+impl OpenedEngine {
+    fn of_loose(loose: Loose<Engine, Global>) -> OpenedEngine
+        ensures { result.value ≡ Some loose.value }
+    {
+        let Loose { at, alloc: _ } = loose;
+        OpenedEngine {
+            at: at.cast::<u8>(),
+        }
+    }
+
+    pub fn new(engine: Box<Engine>) -> OpenedEngine
+        ensures { result.value ≡ Some engine.value }
+    {
+        OpenedEngine::of_loose(Loose::of(engine))
+    }
+}
+
+impl OpenedSeat {
+    fn of_loose(loose: Loose<Seat, Global>) -> OpenedSeat
+        ensures { result.value ≡ Some loose.value }
+    {
+        let Loose { at, alloc: _ } = loose;
+        OpenedSeat {
+            at: at.cast::<u8>(),
+        }
+    }
+
+    pub fn new(seat: Box<Seat>) -> OpenedSeat
+        ensures { result.value ≡ Some seat.value }
+    {
+        OpenedSeat::of_loose(Loose::of(seat))
     }
 }

@@ -1,0 +1,37 @@
+-- How much of the store behind an engine is in use.
+use Rattle.std.specs.Prelude.{◌≡◌, ℕ, Bool}
+use Rattle.store_api.specs.Ledgers.{Ledger}
+use Rattle.store_api.specs.Usages.{IsUsage}
+use Rattle.store_api.specs.declared.store.Usage.{Usage}
+use Rattle.gen_core.specs.declared.views.WriterView.{WriterView}
+use Rattle.arena_api.specs.Works.{Sizes}
+use Rattle.word_arena.specs.Knows.{view_of}
+use Rattle.word_arena.specs.Ruled.{api_sizes, writer_of}
+use Rattle.gen_core.specs.Work.{writer_records}
+use Rattle.entry_ledger.specs.Ledgers.{LedgerView, entries_of}
+use Rattle.entry_store.specs.Standing.{ledger_of}
+use Rattle.attr_c.specs.declared.state.AnyOpen.{AnyOpen}
+use Rattle.attr_c.specs.declared.state.AnyOpen.TheVariants.{Narrow, Wide}
+
+-- the ledger of a store over a memory, whose references have this many bits for the place in a buffer
+abbrev pub ledger_over : {H : Type 0} → ℕ → H → WriterView → LedgerView → Bool → Ledger H
+ledger_over bits home writer entries unit =
+    ledger_of bits (view_of home writer) writer.sizes.shape (writer_records writer) (entries_of bits entries) unit
+
+abbrev pub IsOpenUsage : AnyOpen → Usage → Type 0
+IsOpenUsage (Narrow o) usage =
+    let store = o.attribute.store in
+    IsUsage 22 (ledger_over 22 store.work.place.table_id (writer_of store.work.place.me.0) store.entries store.unit) usage
+IsOpenUsage (Wide o) usage =
+    let store = o.attribute.store in
+    IsUsage 19 (ledger_over 19 store.work.place.table_id (writer_of store.work.place.me.0) store.entries store.unit) usage
+
+-- the sizes of the memory behind an engine
+abbrev pub open_memory : AnyOpen → Sizes
+open_memory (Narrow o) = api_sizes (writer_of o.attribute.store.work.place.me.0).sizes
+open_memory (Wide o) = api_sizes (writer_of o.attribute.store.work.place.me.0).sizes
+
+-- a memory of this many buffers of this many words
+pub record HasMemory (buffers words : ℕ) (sizes : Sizes) : Type 0 where
+  pub buffers_are : sizes.buffers ≡ buffers
+  pub words_are : sizes.words ≡ words
