@@ -84,7 +84,7 @@ module _ (type : ValueType) (m : Records) (value : AnyValue) (typed : type_of va
   abbrev keys_at : ℕ × ℕ → List PlanKey
   keys_at p = map (λ d. Pair (stored_value type m p.0) d) (form_docs m (list_form p.1))
 
-  seen : (k : ℕ) → value_cmp (stored_value type m k) value ≡ against k
+  pub seen : (k : ℕ) → value_cmp (stored_value type m k) value ≡ against k
   seen k = ap (λ (t : ValueType). value_cmp (stored_value t m k) value) (sym typed)
 
   above : (w : AnyValue) (d : ℕ) → value_cmp value w ≡ Less → key_cmp key (Pair w d) ≡ Less
@@ -121,11 +121,11 @@ module _ (type : ValueType) (m : Records) (value : AnyValue) (typed : type_of va
   trans_all w (x ∷ ws) step all = (step x all.0, trans_all w ws step all.1)
 
   -- keys that are not past it
-  skipped : (xs ys : List PlanKey) → AllByRecursion (λ k. past key k ≡ false) xs → keys_behind key (xs ++ ys) ≡ keys_behind key ys
+  pub skipped : (xs ys : List PlanKey) → AllByRecursion (λ k. past key k ≡ false) xs → keys_behind key (xs ++ ys) ≡ keys_behind key ys
   skipped [] ys none = refl
   skipped (x ∷ xs) ys none = ap (λ (t : Bool). cond t (x ∷ (xs ++ ys)) (keys_behind key (xs ++ ys))) none.0 ∙ skipped xs ys none.1
 
-  not_past : (w : AnyValue) → value_cmp w value ≡ Less → (docs : List ℕ) → AllByRecursion (λ k. past key k ≡ false) (map (λ d. Pair w d) docs)
+  pub not_past : (w : AnyValue) → value_cmp w value ≡ Less → (docs : List ℕ) → AllByRecursion (λ k. past key k ≡ false) (map (λ d. Pair w d) docs)
   not_past w less [] = tt
   not_past w less (d ∷ docs) = (ap is_lt (beside_pair value w doc d Less less), not_past w less docs)
 

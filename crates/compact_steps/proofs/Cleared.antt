@@ -75,7 +75,7 @@ module _ {V : Type 0} (order : V → V → Ordering) (total : IsTotalOrder order
       true≢false (sym (ap is_lt (subst (λ v. order (g p) v ≡ Less) (ap g (sym e) ∙ sym same) all.0)) ∙ ap is_lt (tied_itself total (g p)))
   apart_from p (x ∷ ps) all q (inr later) same = apart_from p ps all.1 q later same
 
-  same_pair : (ps : List (ℕ × ℕ)) → IsStrictlySortedBy order (map g ps) → (p q : ℕ × ℕ) → InPairs p ps → InPairs q ps → g p ≡ g q → p ≡ q
+  pub same_pair : (ps : List (ℕ × ℕ)) → IsStrictlySortedBy order (map g ps) → (p q : ℕ × ℕ) → InPairs p ps → InPairs q ps → g p ≡ g q → p ≡ q
   unfolding IsStrictlySortedBy
   same_pair [] up p q left right same = absurd left
   same_pair (x ∷ ps) up p q (inl e) (inl f) same = e ∙ sym f
@@ -140,10 +140,10 @@ module _ (bits victim : ℕ) (at : PlanPlace) (m : Records) (a : AttributeTrees)
   pub other_lists : at.stage.phase ≢ LISTS → AllByRecursion (ListIs here) values
   other_lists apart = each_pair (ListIs here) values (λ q within. one_list (stored_value a.type m q.0) (list_form q.1) apart (at_pair (ListIs at) values cleared.lists q within))
 
-  other_values : at.stage.phase ≢ NODES → NodesAreCleared bits victim m (λ r. IsVisited here field NODES (plan.Value (stored_value a.type m r))) a.dictionary
+  pub other_values : at.stage.phase ≢ NODES → NodesAreCleared bits victim m (λ r. IsVisited here field NODES (plan.Value (stored_value a.type m r))) a.dictionary
   other_values apart node among lies key below visited = cleared.values node among lies key below (other NODES apart (plan.Value (stored_value a.type m key)) visited)
 
-  other_map : at.stage.phase ≢ NODES → NodesAreCleared bits victim m (λ doc. IsVisited here field NODES (plan.Doc doc)) a.documents
+  pub other_map : at.stage.phase ≢ NODES → NodesAreCleared bits victim m (λ doc. IsVisited here field NODES (plan.Doc doc)) a.documents
   other_map apart node among lies key below visited = cleared.map node among lies key below (other NODES apart (plan.Doc key) visited)
 
   module _ (run : List (ℕ × ℕ)) where

@@ -23,3 +23,4 @@ pub mod RunLemmas
 pub mod PairLemmas
 pub mod WayLemmas
 pub mod NodeKeys
+pub mod TreeKeys

@@ -160,7 +160,7 @@ module _ {V : Type 0} (order : V → V → Ordering) (total : IsTotalOrder order
       (subst (λ (n : ℕ). IsRun P (seek (λ k. order (reads k) s) ps) n last) (sym is) way.run)
 
 -- ---- values, and then documents
-front_behind : (key : PlanKey) (xs ys : List PlanKey) → 0 < length (keys_behind key xs) → keys_behind key (xs ++ ys) ≡ keys_behind key xs ++ ys
+pub front_behind : (key : PlanKey) (xs ys : List PlanKey) → 0 < length (keys_behind key xs) → keys_behind key (xs ++ ys) ≡ keys_behind key xs ++ ys
 front_behind key [] ys some = absurd (omega arith)
 front_behind key (x ∷ xs) ys some = told (front_behind key xs ys) (past key x) some
   where
@@ -173,12 +173,12 @@ values_skipped : (f : ℕ × ℕ → AnyValue) (doc : ℕ) (ps : List (ℕ × �
 values_skipped f doc [] ys = refl
 values_skipped f doc (p ∷ ps) ys = values_skipped f doc ps ys
 
-parts_more : (f : ℕ × ℕ → PlanKey) (n : ℕ) (ps : List (ℕ × ℕ)) (ys : List PlanKey) → map f ps ++ ys ≡ map f (take n ps) ++ (map f (drop n ps) ++ ys)
+pub parts_more : (f : ℕ × ℕ → PlanKey) (n : ℕ) (ps : List (ℕ × ℕ)) (ys : List PlanKey) → map f ps ++ ys ≡ map f (take n ps) ++ (map f (drop n ps) ++ ys)
 parts_more f zero ps ys = refl
 parts_more f (suc n) [] ys = refl
 parts_more f (suc n) (p ∷ ps) ys = ap (λ (ks : List PlanKey). f p ∷ ks) (parts_more f n ps ys)
 
-mapped_some : (f : ℕ × ℕ → PlanKey) (n : ℕ) (ps : List (ℕ × ℕ)) → 0 < n → n ≤ length ps → 0 < length (map f ps)
+pub mapped_some : (f : ℕ × ℕ → PlanKey) (n : ℕ) (ps : List (ℕ × ℕ)) → 0 < n → n ≤ length ps → 0 < length (map f ps)
 mapped_some f n [] some few = absurd (omega arith)
 mapped_some f n (p ∷ ps) some few = omega arith
 

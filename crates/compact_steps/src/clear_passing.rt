@@ -1,21 +1,21 @@
 //! Keys of a phase that are passed.
-ghost use Rattle.std.specs.Prelude.{◌≡◌, ◌<◌, ◌≤◌, ◌%◌, ℕ, false, Some, IfSome};
-ghost use Rattle.tree_read.specs.Trees.{tree_pairs};
-ghost use Rattle.tree_read.specs.Pairs.{lookup_pair};
+ghost use Rattle.std.specs.Prelude.{◌≡◌, ◌≤◌, ◌%◌, true, false, IfSome};
 ghost use Rattle.compaction_moves.specs.Cleared.{trees_of_roots, IsClearedField};
 ghost use Rattle.attr_compaction.specs.declared.plan.TheConstants.{DOCUMENTS, KEYS, LISTS};
 ghost use Rattle.attr_compaction.specs.declared.plan.PlanKey.TheVariants as keys;
 ghost use Rattle.attr_field.specs.Fields.{IsField};
 ghost use Rattle.attr_images.specs.Values.{stored_value, IsValueRecord};
 ghost use Rattle.attr_types.specs.Value.{type_of};
-ghost use Rattle.enum_dictionary.specs.Dictionaries.{beside_value, IsDictionary};
+ghost use Rattle.enum_dictionary.specs.Dictionaries.{IsDictionary};
 ghost use Rattle.posting_store.specs.Lists.{IsPlain};
+ghost use Rattle.value_index.specs.Flows.{list_word};
 ghost use Rattle.attr_compaction.specs.PhaseKeys.{HasType};
 ghost use Rattle.compact_steps.specs.Passes.{CanPass, Passes};
 
 use crate::nodes::{pass_map_nodes, pass_value_nodes};
 use crate::runs::run_from;
 use crate::sights::Sight;
+use crate::trees::pass_tree_list;
 use arena_api::Frozen;
 use attr_compaction::{DOCUMENTS, KEYS, LISTS, NODES, Plan, PlanKey, is_vector};
 use attr_field::FieldRoots;
@@ -129,41 +129,33 @@ fn pass_documents<const OFFSET_BITS: u32, F: Frozen<OFFSET_BITS>>(
     })
 }
 
-/// Returns whether a list is a tree or a bit vector.
-fn is_long(list: u64) -> bool
-    ensures plain { result ≡ false → IsPlain list }
-    ensures even { result ≡ false → list % 2 ≡ 0 }
-{
-    if is_vector(list) {
-        return true;
-    }
-    list % 2 == 1
-}
-
-/// Returns whether the list of a value is a tree or a bit vector, if the value exists.
-fn has_long<const OFFSET_BITS: u32, F: Frozen<OFFSET_BITS>>(
+/// Returns the word of the list of a value, or 0 if the value does not exist.
+fn word_of<const OFFSET_BITS: u32, F: Frozen<OFFSET_BITS>>(
     frozen: &mut F,
     root: EntryRef<OFFSET_BITS>,
     value: &Value,
-) -> bool
+) -> u64
     requires { IsDictionary (type_of value.now) (F.records frozen.old) root }
-    ensures plain { result ≡ false → (p : ℕ × ℕ)
-        → lookup_pair (beside_value value.now (F.records frozen.old)) (tree_pairs (F.records frozen.old) root.entry) ≡ Some p
-        → IsPlain p.1 }
-    ensures even { result ≡ false → (p : ℕ × ℕ)
-        → lookup_pair (beside_value value.now (F.records frozen.old)) (tree_pairs (F.records frozen.old) root.entry) ≡ Some p
-        → p.1 % 2 ≡ 0 }
+    ensures word { result ≡ list_word value.now (F.records frozen.old) root.entry }
     ensures same { frozen.new ≡ frozen.old }
 {
     match find(frozen, root, value) {
-        Some(entry) => is_long(entry.posting),
-        None => false,
+        Some(entry) => entry.posting,
+        None => 0,
     }
 }
 
-/// Passes lists that are single records outside the buffer.
+/// Returns whether a list that is no bit vector is a tree.
+fn is_tree(list: u64) -> bool
+    ensures odd { result ≡ true → list % 2 ≡ 1 }
+    ensures even { result ≡ false → list % 2 ≡ 0 }
+{
+    list % 2 == 1
+}
+
+/// Passes lists that are single records outside the buffer, from a value on whose list is one or that does not exist.
 #[tactic(none)]
-fn pass_lists<const OFFSET_BITS: u32, F: Frozen<OFFSET_BITS>>(
+fn pass_records<const OFFSET_BITS: u32, F: Frozen<OFFSET_BITS>>(
     alloc: Global,
     frozen: &mut F,
     field: &Field,
@@ -173,8 +165,10 @@ fn pass_lists<const OFFSET_BITS: u32, F: Frozen<OFFSET_BITS>>(
     doc: u32,
     most: u32,
 ) -> Option<Passed>
-    requires { CanPass OFFSET_BITS plan.now.victim plan.now.place (F.records frozen.old) (trees_of_roots field.now roots) LISTS
+    requires can { CanPass OFFSET_BITS plan.now.victim plan.now.place (F.records frozen.old) (trees_of_roots field.now roots) LISTS
         (keys.Pair value.now doc) }
+    requires plain { IsPlain (list_word value.now (F.records frozen.old) roots.dictionary) }
+    requires even { list_word value.now (F.records frozen.old) roots.dictionary % 2 ≡ 0 }
     ensures passes { IfSome result (λ p. Passes OFFSET_BITS plan.now.victim plan.now.place (F.records frozen.old)
         (trees_of_roots field.now roots.entry)
         p.last p.keys) }
@@ -182,9 +176,6 @@ fn pass_lists<const OFFSET_BITS: u32, F: Frozen<OFFSET_BITS>>(
     ensures same { frozen.new ≡ frozen.old }
 {
     let _ = doc;
-    if has_long(frozen, roots.dictionary, value) {
-        return None;
-    }
     let mut cursor = upper(frozen, roots.dictionary, value);
     let run = run_from(
         frozen,
@@ -205,6 +196,36 @@ fn pass_lists<const OFFSET_BITS: u32, F: Frozen<OFFSET_BITS>>(
         }),
         None => None,
     }
+}
+
+/// Passes documents of a list that is a tree, or lists that are single records. Bit vectors are not passed.
+#[tactic(none)]
+fn pass_lists<const OFFSET_BITS: u32, F: Frozen<OFFSET_BITS>>(
+    alloc: Global,
+    frozen: &mut F,
+    field: &Field,
+    roots: FieldRoots<OFFSET_BITS>,
+    plan: &Plan,
+    value: &Value,
+    doc: u32,
+    most: u32,
+) -> Option<Passed>
+    requires { CanPass OFFSET_BITS plan.now.victim plan.now.place (F.records frozen.old) (trees_of_roots field.now roots) LISTS
+        (keys.Pair value.now doc) }
+    ensures passes { IfSome result (λ p. Passes OFFSET_BITS plan.now.victim plan.now.place (F.records frozen.old)
+        (trees_of_roots field.now roots.entry)
+        p.last p.keys) }
+    ensures few { IfSome result (λ p. p.keys ≤ most) }
+    ensures same { frozen.new ≡ frozen.old }
+{
+    let list = word_of(frozen, roots.dictionary, value);
+    if is_vector(list) {
+        return None;
+    }
+    if is_tree(list) {
+        return pass_tree_list(frozen, field, roots, plan, value, doc, list, most);
+    }
+    pass_records(alloc, frozen, field, roots, plan, value, doc, most)
 }
 
 /// Passes values, according to the plan's phase.

@@ -15,6 +15,7 @@ mod runs;
 mod sights;
 mod stepping;
 mod steps_laws;
+mod trees;
 mod unit;
 mod walk;
 mod ways;

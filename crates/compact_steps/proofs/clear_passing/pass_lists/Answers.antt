@@ -1,98 +1,74 @@
-use Rattle.std.proofs.Common.{◌≡◌, ℕ, sym, ap, subst, ◌∙◌, arith}
-use Rattle.tree_read.specs.Trees.{tree_pairs}
+use Rattle.std.proofs.Common.{◌≡◌, ◌%◌, ℕ, sym, subst, ◌∙◌, arith}
+use Rattle.std.specs.Option.{IfSome}
 use Rattle.compaction_moves.specs.Cleared.{trees_of_roots}
-use Rattle.tree_read.specs.SearchPlaces.{pairs_from, IsAt}
 use Rattle.attr_compaction.specs.declared.plan.PlanKey.TheVariants.{Pair}
-use Rattle.attr_images.specs.Values.{stored_value, IsValueRecord}
-use Rattle.attr_types.specs.Value.{type_of}
+use Rattle.attr_compaction.specs.declared.plan.TheConstants.{LISTS}
 use Rattle.attr_types.specs.declared.kind.ValueType.{ValueType}
-use Rattle.enum_dictionary.specs.Dictionaries.{behind, beside_value, IsDictionary}
-use Rattle.attr_compaction.proofs.NextLemmas.{all_behind, unit_all}
-use Rattle.compact_steps.specs.Passes.{Passes}
-use Rattle.compact_steps.specs.Sights.{StandsApart, IsRun}
-use Rattle.compact_steps.specs.declared.sights.Sight.TheVariants as sights
-use Rattle.compact_steps.proofs.ClearPassLemmas.{lists_pass}
-use Rattle.compact_steps.proofs.RunLemmas.{last_has}
+use Rattle.enum_dictionary.specs.Dictionaries.{IsDictionary}
+use Rattle.posting_store.specs.Lists.{IsPlain}
+use Rattle.value_index.specs.Flows.{list_word}
+use Rattle.compact_steps.specs.Passes.{CanPass, Passes}
 use Rattle.compact_steps.proofs.clear_passing.pass_lists.Goals as goal
 
-pub has_long-requires : goal.has_long-requires
-has_long-requires g c =
+pub word_of-list-requires : goal.word_of-list-requires
+word_of-list-requires g c =
     (omega arith, subst (λ (t : ValueType). IsDictionary t (g.F.Frozen.records c.args.frozen.now) c.args.roots.dictionary) (sym c.requires.typed) c.requires.index_is.dictionary_is)
 
-pub returns-then-has_long-clause-same : goal.returns-then-has_long-clause-same
-returns-then-has_long-clause-same g c = c.has_long.ensures.same
+pub returns-then-is_vector-clause-same : goal.returns-then-is_vector-clause-same
+returns-then-is_vector-clause-same g c = c.word_of-list.ensures.same
 
-pub upper-cursor-requires : goal.upper-cursor-requires
-upper-cursor-requires g c = (
-  omega arith,
-  (
-    omega arith,
-    subst (λ (f : g.row.F.Denot). IsDictionary (type_of c.args.value.now) (g.F.Frozen.records f) c.args.roots.dictionary) (sym c.has_long.ensures.same)
-        (subst (λ (t : ValueType). IsDictionary t (g.F.Frozen.records c.args.frozen.now) c.args.roots.dictionary) (sym c.requires.typed) c.requires.index_is.dictionary_is),
-  ),
-)
-
-pub run_from-run-requires : goal.run_from-run-requires
-run_from-run-requires g c =
+pub pass_tree_list-requires : goal.pass_tree_list-requires
+pass_tree_list-requires g c =
     let records = g.F.Frozen.records in
-    let cursor = c.upper-cursor.result in (
+    let back = sym c.word_of-list.ensures.same in
+    let a = trees_of_roots c.args.field.now c.args.roots in (
       omega arith,
       (
-        subst (λ (f : g.row.F.Denot). IsAt (records f) cursor) (sym c.upper-cursor.ensures.same) c.upper-cursor.ensures.at,
-        unit_all (pairs_from (records c.upper-cursor.new.frozen) cursor),
+        subst (λ (f : g.row.F.Denot). CanPass g.row.OFFSET_BITS c.args.plan.now.victim c.args.plan.now.place (records f) a LISTS (Pair c.args.value.now c.args.doc)) back c.requires,
+        (
+          subst (λ (f : g.row.F.Denot). c.word_of-list.result ≡ list_word c.args.value.now (records f) c.args.roots.dictionary) back c.word_of-list.ensures.word,
+          (c.is_vector.ensures.plain c.if-is_vector.false, c.is_tree.ensures.odd c.if-is_tree.true),
+        ),
       ),
     )
 
-pub returns-then-run-eq0-clause-same : goal.returns-then-run-eq0-clause-same
-returns-then-run-eq0-clause-same g c = c.run_from-run.ensures.same ∙ c.upper-cursor.ensures.same ∙ c.has_long.ensures.same
-
-pub value_at-requires : goal.value_at-requires
-value_at-requires g c =
-    let records = g.F.Frozen.records in
-    let type = c.args.field.now.value in
-    let kind = c.args.field.now.kind in
-    let m = records c.args.frozen.now in
-    let count = c.run_from-run.result.pairs in
-    let last = c.run_from-run.result.last in
-    let same = c.upper-cursor.ensures.same ∙ c.has_long.ensures.same in
-    let pairs = subst (λ (f : g.row.F.Denot). pairs_from (records f) c.upper-cursor.result ≡ behind (beside_value c.args.value.now (records f)) (tree_pairs (records f) c.args.roots.dictionary))
-    c.has_long.ensures.same c.upper-cursor.ensures.pairs in
-    let ps = behind (beside_value c.args.value.now m) (tree_pairs m c.args.roots.dictionary) in
-    let run = subst (λ qs. IsRun (StandsApart g.row.OFFSET_BITS c.victim.result kind m sights.List) qs count last) pairs
-    (subst (λ (f : g.row.F.Denot). IsRun (StandsApart g.row.OFFSET_BITS c.victim.result kind (records f) sights.List) (pairs_from (records f) c.upper-cursor.result) count last) same c.run_from-run.ensures.run) in
-    let one = last_has (λ (k : ℕ). IsValueRecord type (m k)) count ps
-    (all_behind (λ p. IsValueRecord type (m p.0)) (beside_value c.args.value.now m) (tree_pairs m c.args.roots.dictionary) c.requires.index_is.dictionary_is.keys)
-    (let some = c.if-run-eq0.false in omega arith) run.few in
-    subst (λ (f : g.row.F.Denot). IsValueRecord type (records f last)) (sym (c.run_from-run.ensures.same ∙ same))
-    (subst (λ (k : ℕ). IsValueRecord type (m k)) (sym run.last_is) one)
-
-pub returns-in-Some-clause-passes : goal.returns-in-Some-clause-passes
-returns-in-Some-clause-passes g c =
-    let records = g.F.Frozen.records in
-    let bits = g.row.OFFSET_BITS in
-    let type = c.args.field.now.value in
-    let kind = c.args.field.now.kind in
-    let m = records c.args.frozen.now in
+pub returns-then-is_tree-clause-passes : goal.returns-then-is_tree-clause-passes
+returns-then-is_tree-clause-passes g c =
     let a = trees_of_roots c.args.field.now c.args.roots in
-    let at = c.args.plan.now.place in
-    let count = c.run_from-run.result.pairs in
-    let last = c.run_from-run.result.last in
-    let same = c.upper-cursor.ensures.same ∙ c.has_long.ensures.same in
-    let pairs = subst (λ (f : g.row.F.Denot). pairs_from (records f) c.upper-cursor.result ≡ behind (beside_value c.args.value.now (records f)) (tree_pairs (records f) c.args.roots.dictionary))
-    c.has_long.ensures.same c.upper-cursor.ensures.pairs in
-    let run = subst (λ (v : ℕ). IsRun (StandsApart bits v kind m sights.List) (behind (beside_value c.args.value.now m) (tree_pairs m c.args.roots.dictionary)) count last) c.victim.ensures
-    (subst (λ qs. IsRun (StandsApart bits c.victim.result kind m sights.List) qs count last) pairs
-    (subst (λ (f : g.row.F.Denot). IsRun (StandsApart bits c.victim.result kind (records f) sights.List) (pairs_from (records f) c.upper-cursor.result) count last) same c.run_from-run.ensures.run)) in
-    let read = c.in-Some.ensures.value ∙ ap (λ (f : g.row.F.Denot). stored_value type (records f) last) (c.run_from-run.ensures.same ∙ same) in
-    subst (λ v. Passes bits c.args.plan.now.victim at m a (Pair v 0) count) (sym read)
-    (lists_pass bits c.args.plan.now.victim at m a count last (let some = c.if-run-eq0.false in omega arith) c.args.value.now c.args.doc c.requires
-    (c.has_long.ensures.plain c.if-has_long.false) (c.has_long.ensures.even c.if-has_long.false) run)
+    subst (λ (f : g.row.F.Denot). IfSome c.pass_tree_list.result (λ p. Passes g.row.OFFSET_BITS c.args.plan.now.victim c.args.plan.now.place (g.F.Frozen.records f) a p.last p.keys))
+    c.word_of-list.ensures.same c.pass_tree_list.ensures.passes
 
-pub returns-in-Some-clause-few : goal.returns-in-Some-clause-few
-returns-in-Some-clause-few g c = c.run_from-run.ensures.few
+pub returns-then-is_tree-clause-few : goal.returns-then-is_tree-clause-few
+returns-then-is_tree-clause-few g c = c.pass_tree_list.ensures.few
 
-pub returns-in-Some-clause-same : goal.returns-in-Some-clause-same
-returns-in-Some-clause-same g c = c.in-Some.ensures.same ∙ c.run_from-run.ensures.same ∙ c.upper-cursor.ensures.same ∙ c.has_long.ensures.same
+pub returns-then-is_tree-clause-same : goal.returns-then-is_tree-clause-same
+returns-then-is_tree-clause-same g c = c.pass_tree_list.ensures.same ∙ c.word_of-list.ensures.same
 
-pub returns-in-None-clause-same : goal.returns-in-None-clause-same
-returns-in-None-clause-same g c = c.in-None.ensures.same ∙ c.run_from-run.ensures.same ∙ c.upper-cursor.ensures.same ∙ c.has_long.ensures.same
+pub pass_records-requires : goal.pass_records-requires
+pass_records-requires g c =
+    let records = g.F.Frozen.records in
+    let back = sym c.word_of-list.ensures.same in
+    let a = trees_of_roots c.args.field.now c.args.roots in
+    let word : c.word_of-list.result ≡ list_word c.args.value.now (records c.word_of-list.new.frozen) c.args.roots.dictionary =
+    subst (λ (f : g.row.F.Denot). c.word_of-list.result ≡ list_word c.args.value.now (records f) c.args.roots.dictionary) back c.word_of-list.ensures.word in (
+      omega arith,
+      (
+        subst (λ (f : g.row.F.Denot). CanPass g.row.OFFSET_BITS c.args.plan.now.victim c.args.plan.now.place (records f) a LISTS (Pair c.args.value.now c.args.doc)) back c.requires,
+        (
+          subst IsPlain word (c.is_vector.ensures.plain c.if-is_vector.false),
+          subst (λ (w : ℕ). w % 2 ≡ 0) word (c.is_tree.ensures.even c.if-is_tree.false),
+        ),
+      ),
+    )
+
+pub returns-clause-passes : goal.returns-clause-passes
+returns-clause-passes g c =
+    let a = trees_of_roots c.args.field.now c.args.roots in
+    subst (λ (f : g.row.F.Denot). IfSome c.pass_records.result (λ p. Passes g.row.OFFSET_BITS c.args.plan.now.victim c.args.plan.now.place (g.F.Frozen.records f) a p.last p.keys))
+    c.word_of-list.ensures.same c.pass_records.ensures.passes
+
+pub returns-clause-few : goal.returns-clause-few
+returns-clause-few g c = c.pass_records.ensures.few
+
+pub returns-clause-same : goal.returns-clause-same
+returns-clause-same g c = c.pass_records.ensures.same ∙ c.word_of-list.ensures.same
