@@ -1,4 +1,4 @@
-ghost use Rattle.std.specs.Prelude.{◌≡◌, ℕ, ◌∷◌, [], true, length, IsSome, Some, None, IfOk, IfErr};
+ghost use Rattle.std.specs.Prelude.{◌≡◌, ℕ, ◌∷◌, [], true, length, IsSome, Some, None, IfOk, IfErr, IsTrue};
 ghost use Rattle.std.specs.BTreeMap.{is_at};
 ghost use Rattle.std.specs.Map.{lookup};
 ghost use Rattle.std.specs.Ordering.{nat_cmp};
@@ -14,12 +14,14 @@ ghost use Rattle.attr_images.specs.Documents.{column_at};
 ghost use Rattle.attr_index.specs.Changes.{first_weights};
 ghost use Rattle.attr_index.specs.Columns.{items_of, with_change};
 ghost use Rattle.attr_types.specs.Lawful.{ItemsFit};
+ghost use Rattle.attr_types.specs.declared.kind.Kind.TheVariants.{Single};
 ghost use Rattle.value_index.specs.Counts.{besides, by_width};
 ghost use Rattle.value_index.specs.Forms.{IsOfForm, WeighOnes};
 
 use crate::comparing::has_already;
 use crate::documents_law;
 use crate::roots::FieldRoots;
+use crate::single::put_single;
 use crate::steps::{add_values, remove_values, set_items, take_out};
 use attr_index::weights_of;
 use attr_types::{Doc, Item, Kind, Value, ValueType};
@@ -122,6 +124,17 @@ fn wants(dense: bool, kind: Kind) -> bool
     }
 }
 
+/// Returns whether an attribute has at most one item for each document.
+fn is_single(kind: Kind) -> bool
+    ensures { IsTrue result → kind ≡ Single }
+{
+    match kind {
+        Kind::Single => true,
+        Kind::Array => false,
+        Kind::WeightedSet => false,
+    }
+}
+
 /// Sets the items of a document, where `old` are the items that it had, or none. Returns the new roots. With `dense` the
 /// list of a frequent value among `documents` documents becomes a bit vector; with weighted sets the flag changes nothing.
 #[tactic(none)]
@@ -185,13 +198,18 @@ pub fn put<const OFFSET_BITS: u32, S: Store<OFFSET_BITS>>(
     if same {
         return Ok(roots);
     }
+    let wanted = wants(dense, kind);
+    if is_single(kind) {
+        return put_single(
+            alloc, store, kind, value_type, roots, doc, old, new, wanted, documents,
+        );
+    }
     let Ok(before) = weights_of(alloc, old) else {
         return Err(StoreError::Memory);
     };
     let Ok(after) = weights_of(alloc, new) else {
         return Err(StoreError::Memory);
     };
-    let wanted = wants(dense, kind);
     put_weighed(
         alloc, store, kind, value_type, roots, doc, new, &before, &after, wanted, documents,
     )
