@@ -170,3 +170,8 @@ items_apart (o ∷ []) (n ∷ []) before after apart = (told (is_eq (value_cmp n
     told true is =
         let same : n ≡ o = parts_same n o is ((Decides-int_eq n.weight o.weight).1 (after.1.0 ∙ sym before.1.0)) in
         absurd (apart n (ap (λ (y : Item). y ∷ []) (sym same)) refl)
+
+-- no value is among no items
+pub items_none : (old : List Item) → AllByRecursion (λ (item : Item). item_weights [] item.value ≡ None) old
+items_none [] = tt
+items_none (item ∷ old) = (refl, items_none old)

@@ -1,4 +1,4 @@
-ghost use Rattle.std.specs.Prelude.{◌≡◌, ℕ, ◌∷◌, [], true, length, IsSome, Some, None, IfOk, IfErr, IsTrue};
+ghost use Rattle.std.specs.Prelude.{◌≡◌, ℕ, ◌∷◌, [], true, length, IsSome, Some, None, IfOk, IfErr};
 ghost use Rattle.std.specs.BTreeMap.{is_at};
 ghost use Rattle.std.specs.Map.{lookup};
 ghost use Rattle.std.specs.Ordering.{nat_cmp};
@@ -14,14 +14,13 @@ ghost use Rattle.attr_images.specs.Documents.{column_at};
 ghost use Rattle.attr_index.specs.Changes.{first_weights};
 ghost use Rattle.attr_index.specs.Columns.{items_of, with_change};
 ghost use Rattle.attr_types.specs.Lawful.{ItemsFit};
-ghost use Rattle.attr_types.specs.declared.kind.Kind.TheVariants.{Single};
 ghost use Rattle.value_index.specs.Counts.{besides, by_width};
 ghost use Rattle.value_index.specs.Forms.{IsOfForm, WeighOnes};
 
 use crate::comparing::has_already;
 use crate::documents_law;
 use crate::roots::FieldRoots;
-use crate::single::put_single;
+use crate::single::{is_single, put_single, remove_single};
 use crate::steps::{add_values, remove_values, set_items, take_out};
 use attr_index::weights_of;
 use attr_types::{Doc, Item, Kind, Value, ValueType};
@@ -120,17 +119,6 @@ fn wants(dense: bool, kind: Kind) -> bool
     match kind {
         Kind::Single => dense,
         Kind::Array => dense,
-        Kind::WeightedSet => false,
-    }
-}
-
-/// Returns whether an attribute has at most one item for each document.
-fn is_single(kind: Kind) -> bool
-    ensures { IsTrue result → kind ≡ Single }
-{
-    match kind {
-        Kind::Single => true,
-        Kind::Array => false,
         Kind::WeightedSet => false,
     }
 }
@@ -333,6 +321,11 @@ pub fn remove<const OFFSET_BITS: u32, S: Store<OFFSET_BITS>>(
     ensures may { MayDo (S.ledger store.old) (S.ledger store.new) }
 {
     let wanted = wants(dense, kind);
+    if is_single(kind) {
+        return remove_single(
+            alloc, store, kind, value_type, roots, doc, old, wanted, documents,
+        );
+    }
     let Ok(before) = weights_of(alloc, old) else {
         return Err(StoreError::Memory);
     };
