@@ -1,5 +1,5 @@
 -- The steps of a change of a document that had at most one item, and has at most one: a walk over one entry or over none.
-use Rattle.std.proofs.Common.{◌≡◌, ℕ, ℤ, pos, ◌*◌, ◌≤◌, ◌≢◌, Bool, true, false, cond, is_eq, List, [], ◌∷◌, length, Option, None, Some, Result, Ok, Err, nat_cmp, refl, sym, ap, subst, ◌∙◌, arith}
+use Rattle.std.proofs.Common.{◌≡◌, ℕ, ℤ, ◌*◌, ◌≤◌, ◌≢◌, Bool, true, false, cond, is_eq, List, [], ◌∷◌, length, Option, None, Some, Result, Ok, Err, nat_cmp, refl, sym, ap, subst, ◌∙◌, arith}
 use Rattle.std.proofs.lemmas.Bool.Decides.{Decides-int_eq}
 use Rattle.std.specs.Prelude.{IfOk, slice_get, take, unwrap_or}
 use Rattle.std.specs.BTreeMap.{insert_entry, is_at}

@@ -292,3 +292,6 @@ returns-in_err-dictionary-clause-form g c =
 
 pub returns-clause-form : goal.returns-clause-form
 returns-clause-form g c = c.in_ok-dictionary.ensures.form
+
+pub slice_bounds-remove_item-end : goal.slice_bounds-remove_item-end
+slice_bounds-remove_item-end g c = refl

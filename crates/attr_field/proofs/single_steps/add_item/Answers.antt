@@ -1,12 +1,10 @@
-use Rattle.std.proofs.Common.{◌≡◌, ◌*◌, ℕ, ℤ, pos, List, [], ◌∷◌, length, not, false, true, Option, None, Some, nat_cmp, refl, sym, ap, subst, ◌∙◌, arith}
+use Rattle.std.proofs.Common.{◌≡◌, ◌*◌, ℤ, pos, List, [], ◌∷◌, length, not, false, true, Option, None, Some, nat_cmp, refl, sym, ap, subst, ◌∙◌, arith}
 use Rattle.std.specs.BTreeMap.{insert_entry, is_at}
 use Rattle.std.specs.List.{AllByRecursion}
 use Rattle.std.specs.Option.{option_copied}
-use Rattle.entry_ref.specs.Records.{Records}
 use Rattle.posting_store.proofs.RefusalLemmas.{if_more}
 use Rattle.posting_store.specs.Lists.{AreOnes}
 use Rattle.store_api.proofs.May.{may_do-same}
-use Rattle.store_api.specs.Ledgers.{Ledger}
 use Rattle.attr_images.specs.Documents.{column_at}
 use Rattle.attr_images.specs.Postings.{index_of}
 use Rattle.attr_index.specs.Changes.{first_weights, is_weight, IsBetween}

@@ -12,7 +12,6 @@ use Rattle.attr_field.proofs.SingleLemmas.{keys_kept, keys_single}
 use Rattle.attr_field.proofs.StepLemmas.{documents_form, documents_steps, documents_index_same, refer_beside, keys_beside}
 use Rattle.attr_field.proofs.single_steps.set_item.Goals as goal
 
-
 pub set_document-requires : goal.set_document-requires
 set_document-requires g c =
     let old = g.S.Store.ledger c.args.store.now in
@@ -58,8 +57,8 @@ returns-clause-steps g c =
     let items = c.args.items.now in
     let keys = take (length items) (c.args.key ∷ []) in
     let column = with_change (column_at kind type m documents) c.args.doc (Some items) in
-    if_ok (λ next. MakesDocuments kind type old new m n documents keys column next) (λ next. StepsField kind type old new m n documents dictionary column next dictionary) c.set_document.result c.set_document.ensures.makes
-    (λ next makes. documents_steps c.index_law.ensures.stays kind type old new m n documents dictionary next keys column c.requires.stands makes
+    if_ok (λ next. MakesDocuments kind type old new m n documents keys column next) (λ next. StepsField kind type old new m n documents dictionary column next dictionary)
+    c.set_document.result c.set_document.ensures.makes (λ next makes. documents_steps c.index_law.ensures.stays kind type old new m n documents dictionary next keys column c.requires.stands makes
     (keys_kept type m dictionary c.args.key items c.requires.few c.requires.found))
 
 pub returns-clause-index : goal.returns-clause-index
@@ -75,8 +74,8 @@ returns-clause-index g c =
     let items = c.args.items.now in
     let keys = take (length items) (c.args.key ∷ []) in
     let column = with_change (column_at kind type m documents) c.args.doc (Some items) in
-    if_ok (λ next. MakesDocuments kind type old new m n documents keys column next) (λ next. index_of type n dictionary ≡ index_of type m dictionary) c.set_document.result c.set_document.ensures.makes
-    (λ next makes. documents_index_same c.index_law.ensures.stays kind type old new m n documents dictionary next keys column c.requires.stands makes
+    if_ok (λ next. MakesDocuments kind type old new m n documents keys column next) (λ next. index_of type n dictionary ≡ index_of type m dictionary)
+    c.set_document.result c.set_document.ensures.makes (λ next makes. documents_index_same c.index_law.ensures.stays kind type old new m n documents dictionary next keys column c.requires.stands makes
     (keys_kept type m dictionary c.args.key items c.requires.few c.requires.found))
 
 pub returns-clause-form : goal.returns-clause-form
@@ -92,8 +91,8 @@ returns-clause-form g c =
     let items = c.args.items.now in
     let keys = take (length items) (c.args.key ∷ []) in
     let column = with_change (column_at kind type m documents) c.args.doc (Some items) in
-    if_ok (λ next. MakesDocuments kind type old new m n documents keys column next) (λ next. KeepsForm type m n dictionary) c.set_document.result c.set_document.ensures.makes
-    (λ next makes. documents_form c.index_law.ensures.stays kind type old new m n documents dictionary next keys column c.requires.stands makes
+    if_ok (λ next. MakesDocuments kind type old new m n documents keys column next) (λ next. KeepsForm type m n dictionary)
+    c.set_document.result c.set_document.ensures.makes (λ next makes. documents_form c.index_law.ensures.stays kind type old new m n documents dictionary next keys column c.requires.stands makes
     (keys_kept type m dictionary c.args.key items c.requires.few c.requires.found) c.index_law.ensures.form)
 
 pub returns-clause-refuses : goal.returns-clause-refuses
