@@ -7,6 +7,7 @@ pub mod WeightLemmas
 pub mod SearchLemmas
 pub mod ChangeLemmas
 pub mod CompareLemmas
+pub mod SingleLemmas
 pub mod CountLemmas
 pub mod SizeLemmas
 pub mod WidthLemmas

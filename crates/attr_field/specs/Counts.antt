@@ -16,6 +16,10 @@ use Rattle.value_index.specs.Counts.{added_count, added_forms, added_records, go
 abbrev pub entry_weight : List (Value × ℤ) → Value → Option ℤ
 entry_weight entries value = lookup (is_at (value_cmp value)) entries
 
+-- the weight of a value of items, which is that of the first item with it
+abbrev pub item_weights : List Item → Value → Option ℤ
+item_weights items = entry_weight (first_weights [] items)
+
 -- the number of values of a document that are new or get another weight, and the number of values that disappear
 abbrev pub new_values : List (Value × ℤ) → List (Value × ℤ) → ℕ
 new_values old new = added_count (entry_weight old) new

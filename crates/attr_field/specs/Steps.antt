@@ -1,5 +1,6 @@
 -- The steps of a change: documents and an index that differ until the change is complete.
-use Rattle.std.specs.Prelude.{◌≡◌, ℕ, [], ◌∷◌}
+use Rattle.std.specs.Prelude.{◌≡◌, ℕ, List, [], ◌∷◌}
+use Rattle.std.specs.List.{AllByRecursion}
 use Rattle.entry_ref.specs.Records.{Records}
 use Rattle.store_api.specs.Ledgers.{Ledger}
 use Rattle.store_api.specs.Parts.{Owns, Turns}
@@ -7,6 +8,7 @@ use Rattle.attr_field.specs.Documents.{documents_part, IsDocuments}
 use Rattle.attr_images.specs.Documents.{column_at}
 use Rattle.attr_images.specs.Values.{stored_value, IsValueRecord}
 use Rattle.attr_index.specs.Columns.{Column}
+use Rattle.attr_types.specs.declared.items.Item.{Item}
 use Rattle.attr_types.specs.declared.kind.Kind.{Kind}
 use Rattle.attr_types.specs.declared.kind.ValueType.{ValueType}
 use Rattle.attr_types.specs.declared.value.Value.{Value}
@@ -39,3 +41,7 @@ pub record FindsKey (type : ValueType) (m : Records) (root : ℕ) (value : Value
   pub is_key : IsKey m root ref
   pub record_is : IsValueRecord type (m ref)
   pub value_is : stored_value type m ref ≡ value
+
+-- the key of the value of each of these items, of which there is at most one
+abbrev pub FindsItemKey : ValueType → Records → ℕ → List Item → ℕ → Type 0
+FindsItemKey type m root items key = AllByRecursion (λ item. FindsKey type m root item.value key) items

@@ -20,6 +20,7 @@ ghost use Rattle.value_index.specs.Forms.{IsOfForm, WeighOnes};
 use crate::comparing::has_already;
 use crate::documents_law;
 use crate::roots::FieldRoots;
+use crate::single::{is_single, put_single, remove_single};
 use crate::steps::{add_values, remove_values, set_items, take_out};
 use attr_index::weights_of;
 use attr_types::{Doc, Item, Kind, Value, ValueType};
@@ -185,13 +186,18 @@ pub fn put<const OFFSET_BITS: u32, S: Store<OFFSET_BITS>>(
     if same {
         return Ok(roots);
     }
+    let wanted = wants(dense, kind);
+    if is_single(kind) {
+        return put_single(
+            alloc, store, kind, value_type, roots, doc, old, new, wanted, documents,
+        );
+    }
     let Ok(before) = weights_of(alloc, old) else {
         return Err(StoreError::Memory);
     };
     let Ok(after) = weights_of(alloc, new) else {
         return Err(StoreError::Memory);
     };
-    let wanted = wants(dense, kind);
     put_weighed(
         alloc, store, kind, value_type, roots, doc, new, &before, &after, wanted, documents,
     )
@@ -315,6 +321,11 @@ pub fn remove<const OFFSET_BITS: u32, S: Store<OFFSET_BITS>>(
     ensures may { MayDo (S.ledger store.old) (S.ledger store.new) }
 {
     let wanted = wants(dense, kind);
+    if is_single(kind) {
+        return remove_single(
+            alloc, store, kind, value_type, roots, doc, old, wanted, documents,
+        );
+    }
     let Ok(before) = weights_of(alloc, old) else {
         return Err(StoreError::Memory);
     };

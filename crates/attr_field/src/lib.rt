@@ -11,6 +11,8 @@ mod laws;
 mod making;
 mod reading;
 mod roots;
+mod single;
+mod single_steps;
 mod steps;
 
 pub use changing::{put, remove};

@@ -143,11 +143,12 @@ open_new value bits a b c m n o root key next docs dense is owns none adds recor
 -- ---- the index that a call makes
 module _ {H : Type 0} (value : Value) (a b c : Ledger H) (m n o : Records) (root key word : ℕ) (start : IsIndex (type_of value) m root)
     (is : IsOpen value a b m n root key word) (taken : FlowsOpen value a b m n root key word) (may : MayDo b c) (docs : Docs) (reads : list_at n word ≡ docs) where
-  pub set_index : (answer : Result ℕ StoreError) (posting : ℕ) → posting ≡ word → 0 < length docs
-      → IfOk answer (MakesDictionary (type_of value) b c n o root (put (beside_value value n) (key, posting) (tree_pairs n root)))
-      → IfOk answer (MakesIndex (type_of value) a c m o root (with_list value docs (index_of (type_of value) m root)))
-  set_index (Err e) posting same some makes = tt
-  set_index (Ok next) posting same some makes =
+  pub set_index : {A : Type 0} (root_of : A → ℕ) (answer : Result A StoreError) (posting : ℕ) → posting ≡ word → 0 < length docs
+      → IfOk answer (λ x. MakesDictionary (type_of value) b c n o root (put (beside_value value n) (key, posting) (tree_pairs n root)) (root_of x))
+      → IfOk answer (λ x. MakesIndex (type_of value) a c m o root (with_list value docs (index_of (type_of value) m root)) (root_of x))
+  set_index root_of (Err e) posting same some makes = tt
+  set_index root_of (Ok x) posting same some makes =
+      let next = root_of x in
       let filled : 0 < word = word_some n word (subst {A = Docs} (λ ds. 0 < length ds) (sym reads) some) in
       let set = value_set value a b m n root key word start is c o next (put (beside_value value n) (key, posting) (tree_pairs n root)) makes filled
       (ap (λ (w : ℕ). put (beside_value value n) (key, w) (tree_pairs n root)) same) taken may in
@@ -156,11 +157,13 @@ module _ {H : Type 0} (value : Value) (a b c : Ledger H) (m n o : Records) (root
 
   -- and if no list was a bit vector, and this one is none, none is
   module _ (dense : Bool) where
-    pub set_plain : (answer : Result ℕ StoreError) (posting : ℕ) → posting ≡ word → 0 < length docs → (dense ≡ false → IsPlain word) → (dense ≡ false → IsPlainIndex m root)
-        → IfOk answer (MakesDictionary (type_of value) b c n o root (put (beside_value value n) (key, posting) (tree_pairs n root)))
-        → IfOk answer (λ next. dense ≡ false → IsPlainIndex o next)
-    set_plain (Err e) posting same some plain all makes = tt
-    set_plain (Ok next) posting same some plain all makes = λ off.
+    pub set_plain : {A : Type 0} (root_of : A → ℕ) (answer : Result A StoreError) (posting : ℕ) → posting ≡ word → 0 < length docs → (dense ≡ false → IsPlain word)
+        → (dense ≡ false → IsPlainIndex m root)
+        → IfOk answer (λ x. MakesDictionary (type_of value) b c n o root (put (beside_value value n) (key, posting) (tree_pairs n root)) (root_of x))
+        → IfOk answer (λ x. dense ≡ false → IsPlainIndex o (root_of x))
+    set_plain root_of (Err e) posting same some plain all makes = tt
+    set_plain root_of (Ok x) posting same some plain all makes = λ off.
+        let next = root_of x in
         plain_set value a b m n root key word start is c o next (put (beside_value value n) (key, posting) (tree_pairs n root)) makes
         (word_some n word (subst {A = Docs} (λ ds. 0 < length ds) (sym reads) some)) (ap (λ (w : ℕ). put (beside_value value n) (key, w) (tree_pairs n root)) same)
         (plain off) (all off)

@@ -11,7 +11,7 @@ mod removing;
 mod walks_adding;
 mod walks_removing;
 
-pub use adding::add;
+pub use adding::{Added, add, add_with_key};
 pub use finding::key;
 pub use laws::{index_law, key_law};
 pub use removing::remove;

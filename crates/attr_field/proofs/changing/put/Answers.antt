@@ -1,5 +1,7 @@
-use Rattle.std.proofs.Common.{◌≡◌, Bool, ℤ, List, [], ◌∷◌, length, Some, sym, ap, subst, ◌∙◌, arith, true, true≢false}
+use Rattle.std.proofs.Common.{◌≡◌, ◌≢◌, Bool, ℕ, ℤ, nat_cmp, List, [], ◌∷◌, length, Some, sym, ap, subst, ◌∙◌, arith, true, true≢false}
 use Rattle.std.specs.Prelude.{IfOk, IfErr}
+use Rattle.std.specs.BTreeMap.{is_at}
+use Rattle.std.specs.Map.{lookup}
 use Rattle.store_api.specs.Parts.{Owns}
 use Rattle.store_api.specs.Units.{MayDo, MakesWithin}
 use Rattle.store_api.proofs.May.{may_do-same}
@@ -67,6 +69,45 @@ pub returns-in_default-weights_of-2-clause-may : goal.returns-in_default-weights
 returns-in_default-weights_of-2-clause-may g c =
     let ledger = g.S.Store.ledger in
     subst (λ s. MayDo (ledger c.args.store.now) (ledger s)) (sym c.has_already.ensures.same) (may_do-same (ledger c.args.store.now))
+
+pub put_single-requires : goal.put_single-requires
+put_single-requires g c =
+    let ledger = g.S.Store.ledger in
+    let records = g.S.Frozen.records in
+    let kind = c.args.kind in
+    let type = c.args.value_type in
+    let D = c.args.roots.documents in
+    let I = c.args.roots.dictionary in
+    let wanted = sym c.wants-wanted.ensures in
+    let same = sym c.has_already.ensures.same in (
+      omega arith,
+      (
+        subst (λ s. (ledger s).unit ≡ true) same c.requires.unit,
+        (
+          subst (λ s. IsField kind type (records s) D I) same c.requires.field,
+          (
+            subst (λ s. Owns (ledger s) (records s) (field_part kind D I ∷ [])) same c.requires.owns,
+            (
+              subst (λ s. RefersBeside (ledger s) kind (records s) D I (field_part kind D I ∷ [])) same c.requires.refers,
+              (
+                subst (λ (b : Bool). IsOfForm b type (records c.has_already.new.frozen) I) wanted (subst (λ s. IsOfForm (wants c.args.dense kind) type (records s) I) same c.requires.form),
+                (
+                  c.is_single.ensures c.if-is_single.true,
+                  (
+                    subst (λ s. c.args.old.now ≡ items_of (column_at kind type (records s) D) c.args.doc) same c.requires.was,
+                    (
+                      c.requires.fits,
+                      subst (λ s. lookup (is_at (nat_cmp c.args.doc)) (column_at kind type (records s) D) ≢ Some c.args.new.now) same
+                          (λ is. true≢false (sym (c.in-Ok.ensures.has.1 is) ∙ c.if-same.false)),
+                    ),
+                  ),
+                ),
+              ),
+            ),
+          ),
+        ),
+      ),
+    )
 
 pub put_weighed-requires : goal.put_weighed-requires
 put_weighed-requires g c =
@@ -291,3 +332,75 @@ pub returns-clause-form : goal.returns-clause-form
 returns-clause-form g c =
     subst (λ (b : Bool). IfOk c.put_weighed.result (λ (next : FieldRoots g.row.OFFSET_BITS). IsOfForm b c.args.value_type (g.S.Frozen.records c.put_weighed.new.store) next.dictionary)) c.wants-wanted.ensures
     c.put_weighed.ensures.form
+
+pub returns-then-is_single-clause-makes : goal.returns-then-is_single-clause-makes
+returns-then-is_single-clause-makes g c =
+    let ledger = g.S.Store.ledger in
+    let records = g.S.Frozen.records in
+    let kind = c.args.kind in
+    let type = c.args.value_type in
+    let D = c.args.roots.documents in
+    let I = c.args.roots.dictionary in
+    subst (λ s. IfOk c.put_single.result (λ (next : FieldRoots g.row.OFFSET_BITS). MakesField kind type (ledger s) (ledger c.put_single.new.store) (records s) (records c.put_single.new.store)
+    D I (with_change (column_at kind type (records s) D) c.args.doc (Some c.args.new.now)) next.documents next.dictionary))
+    c.has_already.ensures.same c.put_single.ensures.makes
+
+pub returns-then-is_single-clause-refuses : goal.returns-then-is_single-clause-refuses
+returns-then-is_single-clause-refuses g c =
+    let ledger = g.S.Store.ledger in
+    let records = g.S.Frozen.records in
+    let kind = c.args.kind in
+    let type = c.args.value_type in
+    let D = c.args.roots.documents in
+    let doc = c.args.doc in
+    let items = c.args.new.now in
+    let new = ledger c.put_single.new.store in
+    let column = column_at kind type (records c.args.store.now) D in
+    subst (λ (b : Bool). IfErr c.put_single.result (RefusesOf (IsFieldWidth b kind (with_change column doc (Some items)) c.args.old.now items) (ledger c.args.store.now) new)) c.wants-wanted.ensures
+    (subst (λ (old : List Item). IfErr c.put_single.result (RefusesOf (IsFieldWidth c.wants-wanted.result kind (with_change column doc (Some items)) old items) (ledger c.args.store.now) new)) (sym c.requires.was)
+    (subst (λ s. IfErr c.put_single.result (RefusesOf (IsFieldWidth c.wants-wanted.result kind (with_change (column_at kind type (records s) D) doc (Some items)) (items_of (column_at kind type (records s) D) doc) items)
+    (ledger s) new)) c.has_already.ensures.same c.put_single.ensures.refuses))
+
+pub returns-then-is_single-clause-may : goal.returns-then-is_single-clause-may
+returns-then-is_single-clause-may g c =
+    let ledger = g.S.Store.ledger in
+    subst (λ s. MayDo (ledger s) (ledger c.put_single.new.store)) c.has_already.ensures.same c.put_single.ensures.may
+
+pub returns-then-is_single-clause-form : goal.returns-then-is_single-clause-form
+returns-then-is_single-clause-form g c =
+    subst (λ (b : Bool). IfOk c.put_single.result (λ (next : FieldRoots g.row.OFFSET_BITS). IsOfForm b c.args.value_type (g.S.Frozen.records c.put_single.new.store) next.dictionary)) c.wants-wanted.ensures
+    c.put_single.ensures.form
+
+pub returns-then-is_single-clause-same : goal.returns-then-is_single-clause-same
+returns-then-is_single-clause-same g c = λ is. absurd (true≢false (sym (c.in-Ok.ensures.has.1 is) ∙ c.if-same.false))
+
+pub returns-then-is_single-clause-counts : goal.returns-then-is_single-clause-counts
+returns-then-is_single-clause-counts g c =
+    let ledger = g.S.Store.ledger in
+    let new = ledger c.put_single.new.store in
+    let kind = c.args.kind in
+    let first = first_weights [] c.args.old.now in
+    let last = first_weights [] c.args.new.now in
+    let most = λ (cs : Column) (b : Bool). besides (by_width (field_nodes first last) (field_records kind cs c.args.doc (length c.args.new.now) first last)) (field_forms b cs c.args.doc first last) in
+    let records = g.S.Frozen.records in
+    let type = c.args.value_type in
+    let D = c.args.roots.documents in
+    subst (λ (b : Bool). MakesWithin (ledger c.args.store.now) new (most (column_at kind type (records c.args.store.now) D) b)) c.wants-wanted.ensures
+    (subst (λ s. MakesWithin (ledger s) new (most (column_at kind type (records s) D) c.wants-wanted.result)) c.has_already.ensures.same c.put_single.ensures.counts)
+
+pub returns-then-is_single-clause-low : goal.returns-then-is_single-clause-low
+returns-then-is_single-clause-low g c =
+    let ledger = g.S.Store.ledger in
+    let new = ledger c.put_single.new.store in
+    let kind = c.args.kind in
+    let first = first_weights [] c.args.old.now in
+    let last = first_weights [] c.args.new.now in
+    let most = λ (levels : ℕ) (cs : Column) (b : Bool).
+    besides (by_width (low_nodes levels first last) (field_records kind cs c.args.doc (length c.args.new.now) first last)) (field_forms b cs c.args.doc first last) in
+    let records = g.S.Frozen.records in
+    let type = c.args.value_type in
+    let D = c.args.roots.documents in
+    λ levels stays.
+    let here = subst (λ s. StaysLow levels (column_at kind type (records s) D) last) (sym c.has_already.ensures.same) stays in
+    subst (λ (b : Bool). MakesWithin (ledger c.args.store.now) new (most levels (column_at kind type (records c.args.store.now) D) b)) c.wants-wanted.ensures
+    (subst (λ s. MakesWithin (ledger s) new (most levels (column_at kind type (records s) D) c.wants-wanted.result)) c.has_already.ensures.same (c.put_single.ensures.low levels here))

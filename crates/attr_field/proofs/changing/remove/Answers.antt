@@ -23,6 +23,27 @@ returns-in_default-clause-refuses g c = tt
 pub returns-in_default-clause-may : goal.returns-in_default-clause-may
 returns-in_default-clause-may g c = may_do-same (g.S.Store.ledger c.args.store.now)
 
+pub remove_single-requires : goal.remove_single-requires
+remove_single-requires g c = (
+  omega arith,
+  (
+    c.requires.unit,
+    (
+      c.requires.field,
+      (
+        c.requires.owns,
+        (
+          c.requires.refers,
+          (
+            subst (λ (b : Bool). IsOfForm b c.args.value_type (g.S.Frozen.records c.args.store.now) c.args.roots.dictionary) (sym c.wants-wanted.ensures) c.requires.form,
+            (c.requires.there, (c.is_single.ensures c.if-is_single.true, c.requires.was)),
+          ),
+        ),
+      ),
+    ),
+  ),
+)
+
 pub remove_weighed-requires : goal.remove_weighed-requires
 remove_weighed-requires g c = (
   omega arith,
@@ -104,3 +125,42 @@ pub returns-clause-form : goal.returns-clause-form
 returns-clause-form g c =
     subst (λ (b : Bool). IfOk c.remove_weighed.result (λ (next : FieldRoots g.row.OFFSET_BITS). IsOfForm b c.args.value_type (g.S.Frozen.records c.remove_weighed.new.store) next.dictionary)) c.wants-wanted.ensures
     c.remove_weighed.ensures.form
+
+pub returns-then-is_single-clause-makes : goal.returns-then-is_single-clause-makes
+returns-then-is_single-clause-makes g c = c.remove_single.ensures.makes
+
+pub returns-then-is_single-clause-refuses : goal.returns-then-is_single-clause-refuses
+returns-then-is_single-clause-refuses g c =
+    let ledger = g.S.Store.ledger in
+    let kind = c.args.kind in
+    let column = column_at kind c.args.value_type (g.S.Frozen.records c.args.store.now) c.args.roots.documents in
+    subst (λ (b : Bool). IfErr c.remove_single.result (RefusesOf (IsFieldWidth b kind (with_change column c.args.doc None) c.args.old.now []) (ledger c.args.store.now) (ledger c.remove_single.new.store)))
+    c.wants-wanted.ensures
+    (subst (λ (old : List Item). IfErr c.remove_single.result (RefusesOf (IsFieldWidth c.wants-wanted.result kind (with_change column c.args.doc None) old []) (ledger c.args.store.now)
+    (ledger c.remove_single.new.store)))
+    (sym c.requires.was) c.remove_single.ensures.refuses)
+
+pub returns-then-is_single-clause-may : goal.returns-then-is_single-clause-may
+returns-then-is_single-clause-may g c = c.remove_single.ensures.may
+
+pub returns-then-is_single-clause-form : goal.returns-then-is_single-clause-form
+returns-then-is_single-clause-form g c =
+    subst (λ (b : Bool). IfOk c.remove_single.result (λ (next : FieldRoots g.row.OFFSET_BITS). IsOfForm b c.args.value_type (g.S.Frozen.records c.remove_single.new.store) next.dictionary)) c.wants-wanted.ensures
+    c.remove_single.ensures.form
+
+pub returns-then-is_single-clause-counts : goal.returns-then-is_single-clause-counts
+returns-then-is_single-clause-counts g c =
+    let ledger = g.S.Store.ledger in
+    let column = column_at c.args.kind c.args.value_type (g.S.Frozen.records c.args.store.now) c.args.roots.documents in
+    let first = first_weights [] c.args.old.now in
+    subst (λ (b : Bool). MakesWithin (ledger c.args.store.now) (ledger c.remove_single.new.store) (besides (by_width (field_nodes first []) (field_records c.args.kind column c.args.doc 0 first []))
+    (field_forms b column c.args.doc first []))) c.wants-wanted.ensures c.remove_single.ensures.counts
+
+pub returns-then-is_single-clause-low : goal.returns-then-is_single-clause-low
+returns-then-is_single-clause-low g c =
+    let ledger = g.S.Store.ledger in
+    let column = column_at c.args.kind c.args.value_type (g.S.Frozen.records c.args.store.now) c.args.roots.documents in
+    λ levels stays.
+    let first = first_weights [] c.args.old.now in
+    subst (λ (b : Bool). MakesWithin (ledger c.args.store.now) (ledger c.remove_single.new.store) (besides (by_width (low_nodes levels first []) (field_records c.args.kind column c.args.doc 0 first []))
+    (field_forms b column c.args.doc first []))) c.wants-wanted.ensures (c.remove_single.ensures.low levels stays)

@@ -21,6 +21,7 @@ use Rattle.value_index.proofs.KeyLemmas.{pair_found}
 use Rattle.value_index.proofs.OpenFlows.{flows_found}
 use Rattle.value_index.proofs.ShownLemmas.{Docs}
 use Rattle.value_index.proofs.StepLemmas.{inserted_some, list_change, list_is, list_owned, node_change, open_next, set_index, set_plain}
+use Rattle.value_index.specs.declared.adding.Added.{Added}
 use Rattle.value_index.proofs.adding.add_more.Goals as goal
 
 pub add-requires-clause-unit : goal.add-requires-clause-unit
@@ -73,8 +74,8 @@ returns-in_err-next-clause-refuses g c =
 pub returns-in_err-next-clause-may : goal.returns-in_err-next-clause-may
 returns-in_err-next-clause-may g c = c.add.ensures.may
 
-pub set-requires : goal.set-requires
-set-requires g c =
+pub set_pair-requires : goal.set_pair-requires
+set_pair-requires g c =
     let ledger = g.S.Store.ledger in
     let records = g.S.Frozen.records in
     let value = c.args.value.now in
@@ -91,10 +92,13 @@ set-requires g c =
     docs (is_dense c.args.dense (length docs) c.args.documents) c.requires.owns makes (made_long c.args.dense (length docs) c.args.documents next makes.form) in (
       omega arith,
       (
-        c.add.ensures.may.unit ∙ c.requires.unit,
+        omega arith,
         (
-          open_dictionary value a b m n root key next c.requires.index is,
-          (is.record_is, (is.reads, open_owns value a b m n root key next c.requires.index is)),
+          c.add.ensures.may.unit ∙ c.requires.unit,
+          (
+            open_dictionary value a b m n root key next c.requires.index is,
+            (is.record_is, (is.reads, open_owns value a b m n root key next c.requires.index is)),
+          ),
         ),
       ),
     )
@@ -119,11 +123,11 @@ returns-clause-makes g c =
     let is = open_next value m root c.requires.index key list c.requires.found a b n next docs form c.requires.owns makes (made_long c.args.dense (length docs) c.args.documents next makes.form) in
     let was = list_is value m root c.requires.index key list c.requires.found in
     let taken = flows_found value a b m n root key list next docs form c.requires.found c.add.ensures.may makes in
-    set_index value a b (ledger c.set.new.store) m n (records c.set.new.store) root key next c.requires.index is taken c.set.ensures.may
+    set_index value a b (ledger c.set_pair.new.store) m n (records c.set_pair.new.store) root key next c.requires.index is taken c.set_pair.ensures.may
     (insert_entry nat_cmp (list_of value (index_of (type_of value) m root)) c.args.doc c.args.weight)
     (makes.docs_are ∙ ap (λ (ds : Docs). insert_entry nat_cmp ds c.args.doc c.args.weight) was)
-    c.set.result c.word.result c.word.ensures (inserted_some (list_of value (index_of (type_of value) m root)) c.args.doc c.args.weight)
-    c.set.ensures.makes
+    (λ (added : Added g.row.OFFSET_BITS). added.root) c.set_pair.result c.word.result c.word.ensures (inserted_some (list_of value (index_of (type_of value) m root)) c.args.doc c.args.weight)
+    c.set_pair.ensures.makes
 
 pub returns-in_err-next-clause-plain : goal.returns-in_err-next-clause-plain
 returns-in_err-next-clause-plain g c = let p = err_from_is_err_and c.from_residual.result c.from_residual.ensures.1 in rw p.1 tt
@@ -148,11 +152,11 @@ returns-clause-plain g c =
     let is = open_next value m root c.requires.index key list c.requires.found a b n next docs form c.requires.owns makes (made_long c.args.dense (length docs) c.args.documents next makes.form) in
     let was = list_is value m root c.requires.index key list c.requires.found in
     let taken = flows_found value a b m n root key list next docs form c.requires.found c.add.ensures.may makes in
-    set_plain value a b (ledger c.set.new.store) m n (records c.set.new.store) root key next c.requires.index is taken c.set.ensures.may
+    set_plain value a b (ledger c.set_pair.new.store) m n (records c.set_pair.new.store) root key next c.requires.index is taken c.set_pair.ensures.may
     (insert_entry nat_cmp (list_of value (index_of (type_of value) m root)) c.args.doc c.args.weight)
     (makes.docs_are ∙ ap (λ (ds : Docs). insert_entry nat_cmp ds c.args.doc c.args.weight) was) c.args.dense
-    c.set.result c.word.result c.word.ensures (inserted_some (list_of value (index_of (type_of value) m root)) c.args.doc c.args.weight)
-    (made_plain c.args.dense (length docs) c.args.documents next makes.form) c.requires.plain c.set.ensures.makes
+    (λ (added : Added g.row.OFFSET_BITS). added.root) c.set_pair.result c.word.result c.word.ensures (inserted_some (list_of value (index_of (type_of value) m root)) c.args.doc c.args.weight)
+    (made_plain c.args.dense (length docs) c.args.documents next makes.form) c.requires.plain c.set_pair.ensures.makes
 
 pub returns-clause-refuses : goal.returns-clause-refuses
 returns-clause-refuses g c =
@@ -161,13 +165,13 @@ returns-clause-refuses g c =
     let root = c.args.root in
     let m = g.S.Frozen.records c.args.store.now in
     let count : ℕ = length (insert_entry nat_cmp (list_of value (index_of (type_of value) m root)) c.args.doc c.args.weight) in
-    if_one (IsChangeWidth c.args.dense value count) (ledger c.args.store.now) (ledger c.add.new.store) (ledger c.set.new.store) 34 c.set.result c.add.ensures.may refl
-    (node_change c.args.dense value count) c.set.ensures.refuses
+    if_one (IsChangeWidth c.args.dense value count) (ledger c.args.store.now) (ledger c.add.new.store) (ledger c.set_pair.new.store) 34 c.set_pair.result c.add.ensures.may refl
+    (node_change c.args.dense value count) c.set_pair.ensures.refuses
 
 pub returns-clause-may : goal.returns-clause-may
 returns-clause-may g c =
     let ledger = g.S.Store.ledger in
-    may_do-then (ledger c.args.store.now) (ledger c.add.new.store) (ledger c.set.new.store) c.add.ensures.may c.set.ensures.may
+    may_do-then (ledger c.args.store.now) (ledger c.add.new.store) (ledger c.set_pair.new.store) c.add.ensures.may c.set_pair.ensures.may
 
 pub returns-in_err-next-clause-counts : goal.returns-in_err-next-clause-counts
 returns-in_err-next-clause-counts g c =
@@ -197,7 +201,7 @@ returns-clause-counts g c =
     let next = c.in_ok-next.next in
     let a = ledger c.args.store.now in
     let b = ledger c.add.new.store in
-    let d = ledger c.set.new.store in
+    let d = ledger c.set_pair.new.store in
     let m = records c.args.store.now in
     let n = records c.add.new.store in
     let was = list_is value m root c.requires.index c.args.key list c.requires.found in
@@ -210,7 +214,13 @@ returns-clause-counts g c =
     let makes = c.in_ok-next.ensures.makes in
     let is = open_next value m root c.requires.index c.args.key list c.requires.found a b n next
     given (is_dense c.args.dense (length given) c.args.documents) c.requires.owns makes (made_long c.args.dense (length given) c.args.documents next makes.form) in
-    let nodes = within_tree b d m n root (2 * levels n root + 1) is.nodes (omega arith) c.set.ensures.counts in
+    let nodes = within_tree b d m n root (2 * levels n root + 1) is.nodes (omega arith) c.set_pair.ensures.counts in
     within_more a d (λ w. most docs w + nodes_most (levels m root) w) (add_most value m root c.args.dense c.args.documents docs)
     (λ w. add_found value m root c.args.dense c.args.documents docs c.args.key list w c.requires.found)
     (within_then a b d (most docs) (nodes_most (levels m root)) c.add.ensures.may made nodes)
+
+pub returns-in_err-next-clause-key : goal.returns-in_err-next-clause-key
+returns-in_err-next-clause-key g c = let p = err_from_is_err_and c.from_residual.result c.from_residual.ensures.1 in rw p.1 tt
+
+pub returns-clause-key : goal.returns-clause-key
+returns-clause-key g c = c.set_pair.ensures.key

@@ -26,6 +26,7 @@ use Rattle.value_index.proofs.KeyLemmas.{list_none}
 use Rattle.value_index.proofs.OpenFlows.{flows_new}
 use Rattle.value_index.proofs.ShownLemmas.{Docs}
 use Rattle.value_index.proofs.StepLemmas.{inserted_some, list_change, node_change, open_new, record_change, set_index, set_plain}
+use Rattle.value_index.specs.declared.adding.Added.{Added}
 use Rattle.value_index.proofs.adding.add_new.Goals as goal
 
 pub add-requires : goal.add-requires
@@ -86,8 +87,8 @@ returns-in_err-list-clause-may g c =
     let ledger = g.S.Store.ledger in
     may_do-then (ledger c.args.store.now) (ledger c.add.new.store) (ledger c.add-2.new.store) c.add.ensures.may c.add-2.ensures.may
 
-pub set-requires : goal.set-requires
-set-requires g c =
+pub set_pair-requires : goal.set_pair-requires
+set_pair-requires g c =
     let ledger = g.S.Store.ledger in
     let records = g.S.Frozen.records in
     let value = c.args.value.now in
@@ -107,10 +108,13 @@ set-requires g c =
     c.in_ok-key.ensures.adds c.in_ok-key.ensures.record c.in_ok-key.ensures.value makes (made_long c.args.dense (length docs) c.args.documents list makes.form) in (
       omega arith,
       (
-        c.add-2.ensures.may.unit ∙ c.add.ensures.may.unit ∙ c.requires.unit,
+        omega arith,
         (
-          open_dictionary value a d m o root key list c.requires.index is,
-          (is.record_is, (is.reads, open_owns value a d m o root key list c.requires.index is)),
+          c.add-2.ensures.may.unit ∙ c.add.ensures.may.unit ∙ c.requires.unit,
+          (
+            open_dictionary value a d m o root key list c.requires.index is,
+            (is.record_is, (is.reads, open_owns value a d m o root key list c.requires.index is)),
+          ),
         ),
       ),
     )
@@ -136,11 +140,11 @@ returns-clause-makes g c =
     c.in_ok-key.ensures.adds c.in_ok-key.ensures.record c.in_ok-key.ensures.value makes (made_long c.args.dense (length docs) c.args.documents list makes.form) in
     let was = list_none value m root c.requires.index c.requires.new in
     let taken = flows_new value g.row.OFFSET_BITS a b d m n o root key list (value_words value) docs form c.add.ensures.may c.in_ok-key.ensures.adds c.add-2.ensures.may makes in
-    set_index value a d (ledger c.set.new.store) m o (records c.set.new.store) root key list c.requires.index is taken c.set.ensures.may
+    set_index value a d (ledger c.set_pair.new.store) m o (records c.set_pair.new.store) root key list c.requires.index is taken c.set_pair.ensures.may
     (insert_entry nat_cmp (list_of value (index_of (type_of value) m root)) c.args.doc c.args.weight)
     (makes.docs_are ∙ ap (λ (ds : Docs). insert_entry nat_cmp ds c.args.doc c.args.weight) (sym was))
-    c.set.result c.word.result c.word.ensures (inserted_some (list_of value (index_of (type_of value) m root)) c.args.doc c.args.weight)
-    c.set.ensures.makes
+    (λ (added : Added g.row.OFFSET_BITS). added.root) c.set_pair.result c.word.result c.word.ensures (inserted_some (list_of value (index_of (type_of value) m root)) c.args.doc c.args.weight)
+    c.set_pair.ensures.makes
 
 pub returns-in_err-key-clause-plain : goal.returns-in_err-key-clause-plain
 returns-in_err-key-clause-plain g c = let p = err_from_is_err_and c.from_residual.result c.from_residual.ensures.1 in rw p.1 tt
@@ -169,11 +173,11 @@ returns-clause-plain g c =
     c.in_ok-key.ensures.adds c.in_ok-key.ensures.record c.in_ok-key.ensures.value makes (made_long c.args.dense (length docs) c.args.documents list makes.form) in
     let was = list_none value m root c.requires.index c.requires.new in
     let taken = flows_new value g.row.OFFSET_BITS a b d m n o root key list (value_words value) docs form c.add.ensures.may c.in_ok-key.ensures.adds c.add-2.ensures.may makes in
-    set_plain value a d (ledger c.set.new.store) m o (records c.set.new.store) root key list c.requires.index is taken c.set.ensures.may
+    set_plain value a d (ledger c.set_pair.new.store) m o (records c.set_pair.new.store) root key list c.requires.index is taken c.set_pair.ensures.may
     (insert_entry nat_cmp (list_of value (index_of (type_of value) m root)) c.args.doc c.args.weight)
     (makes.docs_are ∙ ap (λ (ds : Docs). insert_entry nat_cmp ds c.args.doc c.args.weight) (sym was)) c.args.dense
-    c.set.result c.word.result c.word.ensures (inserted_some (list_of value (index_of (type_of value) m root)) c.args.doc c.args.weight)
-    (made_plain c.args.dense (length docs) c.args.documents list makes.form) c.requires.plain c.set.ensures.makes
+    (λ (added : Added g.row.OFFSET_BITS). added.root) c.set_pair.result c.word.result c.word.ensures (inserted_some (list_of value (index_of (type_of value) m root)) c.args.doc c.args.weight)
+    (made_plain c.args.dense (length docs) c.args.documents list makes.form) c.requires.plain c.set_pair.ensures.makes
 
 pub returns-clause-refuses : goal.returns-clause-refuses
 returns-clause-refuses g c =
@@ -182,14 +186,14 @@ returns-clause-refuses g c =
     let root = c.args.root in
     let m = g.S.Frozen.records c.args.store.now in
     let count : ℕ = length (insert_entry nat_cmp (list_of value (index_of (type_of value) m root)) c.args.doc c.args.weight) in
-    if_one (IsChangeWidth c.args.dense value count) (ledger c.args.store.now) (ledger c.add-2.new.store) (ledger c.set.new.store) 34 c.set.result
-    (may_do-then (ledger c.args.store.now) (ledger c.add.new.store) (ledger c.add-2.new.store) c.add.ensures.may c.add-2.ensures.may) refl (node_change c.args.dense value count) c.set.ensures.refuses
+    if_one (IsChangeWidth c.args.dense value count) (ledger c.args.store.now) (ledger c.add-2.new.store) (ledger c.set_pair.new.store) 34 c.set_pair.result
+    (may_do-then (ledger c.args.store.now) (ledger c.add.new.store) (ledger c.add-2.new.store) c.add.ensures.may c.add-2.ensures.may) refl (node_change c.args.dense value count) c.set_pair.ensures.refuses
 
 pub returns-clause-may : goal.returns-clause-may
 returns-clause-may g c =
     let ledger = g.S.Store.ledger in
-    may_do-then (ledger c.args.store.now) (ledger c.add-2.new.store) (ledger c.set.new.store)
-    (may_do-then (ledger c.args.store.now) (ledger c.add.new.store) (ledger c.add-2.new.store) c.add.ensures.may c.add-2.ensures.may) c.set.ensures.may
+    may_do-then (ledger c.args.store.now) (ledger c.add-2.new.store) (ledger c.set_pair.new.store)
+    (may_do-then (ledger c.args.store.now) (ledger c.add.new.store) (ledger c.add-2.new.store) c.add.ensures.may c.add-2.ensures.may) c.set_pair.ensures.may
 
 pub returns-in_err-key-clause-counts : goal.returns-in_err-key-clause-counts
 returns-in_err-key-clause-counts g c =
@@ -229,7 +233,7 @@ returns-clause-counts g c =
     let a = ledger c.args.store.now in
     let b = ledger c.add.new.store in
     let d = ledger c.add-2.new.store in
-    let f = ledger c.set.new.store in
+    let f = ledger c.set_pair.new.store in
     let m = records c.args.store.now in
     let n = records c.add.new.store in
     let o = records c.add-2.new.store in
@@ -245,8 +249,17 @@ returns-clause-counts g c =
     let list_made = subst (λ (w : ℤ). MakesWithin b d (most (insert_entry nat_cmp [] c.args.doc w))) (to_z-of_z w32 c.args.weight c.ranges.weight) c.add-2.ensures.counts in
     let may = may_do-then a b d c.add.ensures.may c.add-2.ensures.may in
     let made = within_then a b d (new_most value) (most docs) c.add.ensures.may (within_new a b value c.add.ensures.short c.add.ensures.counts) list_made in
-    let nodes = within_tree d f m o root (2 * levels o root + 1) is.nodes (omega arith) c.set.ensures.counts in
+    let nodes = within_tree d f m o root (2 * levels o root + 1) is.nodes (omega arith) c.set_pair.ensures.counts in
     subst {A = Docs} (λ ds. MakesWithin a f (add_most value m root c.args.dense c.args.documents (insert_entry nat_cmp ds c.args.doc c.args.weight))) (sym none)
     (within_more a f (λ w. new_most value w + most docs w + nodes_most (levels m root) w) (add_most value m root c.args.dense c.args.documents docs)
     (λ w. let e = add_none value m root c.args.dense c.args.documents docs w c.requires.new in omega arith)
     (within_then a d f (λ w. new_most value w + most docs w) (nodes_most (levels m root)) may made nodes))
+
+pub returns-in_err-key-clause-key : goal.returns-in_err-key-clause-key
+returns-in_err-key-clause-key g c = let p = err_from_is_err_and c.from_residual.result c.from_residual.ensures.1 in rw p.1 tt
+
+pub returns-in_err-list-clause-key : goal.returns-in_err-list-clause-key
+returns-in_err-list-clause-key g c = let p = err_from_is_err_and c.from_residual-in_err-list.result c.from_residual-in_err-list.ensures.1 in rw p.1 tt
+
+pub returns-clause-key : goal.returns-clause-key
+returns-clause-key g c = c.set_pair.ensures.key

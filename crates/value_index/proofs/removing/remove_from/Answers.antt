@@ -123,7 +123,7 @@ returns-then-word-ne0-clause-makes g c =
     let some : 0 < next = let w = c.word.ensures in let more = c.if-word-ne0.true in omega arith in
     let taken = flows_found value a b m n root key list next left form c.requires.found c.remove.ensures.may makes in
     set_index value a b (ledger c.set.new.store) m n (records c.set.new.store) root key next c.requires.index is taken c.set.ensures.may docs reads
-    c.set.result c.word-then-word-ne0.result c.word-then-word-ne0.ensures (filled_list n next docs is.list_is reads some) c.set.ensures.makes
+    (λ (next : ℕ). next) c.set.result c.word-then-word-ne0.result c.word-then-word-ne0.ensures (filled_list n next docs is.list_is reads some) c.set.ensures.makes
 
 pub returns-in_err-next-clause-plain : goal.returns-in_err-next-clause-plain
 returns-in_err-next-clause-plain g c = let p = err_from_is_err_and c.from_residual.result c.from_residual.ensures.1 in rw p.1 tt
@@ -151,7 +151,7 @@ returns-then-word-ne0-clause-plain g c =
     let some : 0 < next = let w = c.word.ensures in let more = c.if-word-ne0.true in omega arith in
     let taken = flows_found value a b m n root key list next left form c.requires.found c.remove.ensures.may makes in
     set_plain value a b (ledger c.set.new.store) m n (records c.set.new.store) root key next c.requires.index is taken c.set.ensures.may docs reads c.args.dense
-    c.set.result c.word-then-word-ne0.result c.word-then-word-ne0.ensures (filled_list n next docs is.list_is reads some)
+    (λ (next : ℕ). next) c.set.result c.word-then-word-ne0.result c.word-then-word-ne0.ensures (filled_list n next docs is.list_is reads some)
     (made_plain c.args.dense (length left) c.args.documents next makes.form) c.requires.plain c.set.ensures.makes
 
 pub returns-in_err-left-clause-plain : goal.returns-in_err-left-clause-plain
