@@ -100,7 +100,14 @@ impl<'a, const OFFSET_BITS: u32, L: Layout> Writer<'a, OFFSET_BITS, L> {
 
     /// Sets the word of an entry that is at this place. It loads the word first and stores only if that differs,
     /// since a load is cheaper.
-    fn put_in(&mut self, table: &Words<L>, entry: EntryRef<OFFSET_BITS>, i: u32, at: usize, word: u64)
+    fn put_in(
+        &mut self,
+        table: &Words<L>,
+        entry: EntryRef<OFFSET_BITS>,
+        i: u32,
+        at: usize,
+        word: u64,
+    )
         requires table { table.now.shared.table_id ≡ self.old.place.table_id }
         requires may { MayStore OFFSET_BITS (view_of self.old.place.table_id (writer_of self.old.place.me.0)) entry i }
         requires place { at ≡ place_by OFFSET_BITS (view_of self.old.place.table_id (writer_of self.old.place.me.0)) entry i }
@@ -118,7 +125,13 @@ impl<'a, const OFFSET_BITS: u32, L: Layout> Writer<'a, OFFSET_BITS, L> {
     }
 
     /// Sets the first words of an entry, the first of which is at this place.
-    fn put_words(&mut self, table: &Words<L>, entry: EntryRef<OFFSET_BITS>, first: usize, words: &[u64])
+    fn put_words(
+        &mut self,
+        table: &Words<L>,
+        entry: EntryRef<OFFSET_BITS>,
+        first: usize,
+        words: &[u64],
+    )
         requires table { table.now.shared.table_id ≡ self.old.place.table_id }
         requires few { length words.now < 2 ^ 32 }
         requires may { (i : ℕ) → i < length words.now
@@ -140,7 +153,14 @@ impl<'a, const OFFSET_BITS: u32, L: Layout> Writer<'a, OFFSET_BITS, L> {
     }
 
     /// Sets the words of an entry from word `start` on to 0; its first word is at this place.
-    fn put_zeros(&mut self, table: &Words<L>, entry: EntryRef<OFFSET_BITS>, first: usize, start: u32, width: u32)
+    fn put_zeros(
+        &mut self,
+        table: &Words<L>,
+        entry: EntryRef<OFFSET_BITS>,
+        first: usize,
+        start: u32,
+        width: u32,
+    )
         requires table { table.now.shared.table_id ≡ self.old.place.table_id }
         requires may { (i : ℕ) → i < width
             → MayStore OFFSET_BITS (view_of self.old.place.table_id (writer_of self.old.place.me.0)) entry i }
@@ -164,7 +184,14 @@ impl<'a, const OFFSET_BITS: u32, L: Layout> Writer<'a, OFFSET_BITS, L> {
     }
 
     /// Stores the word of an entry that is at this place.
-    fn store_in(&mut self, table: &Words<L>, entry: EntryRef<OFFSET_BITS>, i: u32, at: usize, word: u64)
+    fn store_in(
+        &mut self,
+        table: &Words<L>,
+        entry: EntryRef<OFFSET_BITS>,
+        i: u32,
+        at: usize,
+        word: u64,
+    )
         requires table { table.now.shared.table_id ≡ self.old.place.table_id }
         requires may { MayStore OFFSET_BITS (view_of self.old.place.table_id (writer_of self.old.place.me.0)) entry i }
         requires place { at ≡ place_by OFFSET_BITS (view_of self.old.place.table_id (writer_of self.old.place.me.0)) entry i }
@@ -178,7 +205,9 @@ impl<'a, const OFFSET_BITS: u32, L: Layout> Writer<'a, OFFSET_BITS, L> {
     {
         let _ = entry;
         let _ = i;
-        table.shared.store::<StoreWord<L>>(&mut self.place, at, word);
+        table
+            .shared
+            .store::<StoreWord<L>>(&mut self.place, at, word);
     }
 }
 
