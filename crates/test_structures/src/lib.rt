@@ -1,14 +1,43 @@
-//! Tests of arrays, values, posting lists and maps by document in a store, over their public calls.
+//! Tests over public calls, from the lowest crates up: references, the memory, holds, buffers, entries and the store, for both
+//! widths of references; arrays, values, posting lists and maps by document in a store; trees and images made by hand.
 #![tactic(auto)]
 
+#[cfg(test)]
+mod cases;
+#[cfg(test)]
+mod held;
+#[cfg(test)]
+mod made;
 #[cfg(test)]
 mod maps;
 #[cfg(test)]
 mod of_arrays;
 #[cfg(test)]
+mod of_buffers;
+#[cfg(test)]
+mod of_check_images;
+#[cfg(test)]
+mod of_check_trees;
+#[cfg(test)]
+mod of_commits;
+#[cfg(test)]
 mod of_documents;
 #[cfg(test)]
 mod of_forms;
+#[cfg(test)]
+mod of_hold_lists;
+#[cfg(test)]
+mod of_holds;
+#[cfg(test)]
+mod of_memory;
+#[cfg(test)]
+mod of_queries;
+#[cfg(test)]
+mod of_references;
+#[cfg(test)]
+mod of_shelves;
+#[cfg(test)]
+mod of_store;
 #[cfg(test)]
 mod of_values;
 #[cfg(test)]

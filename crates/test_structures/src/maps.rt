@@ -142,6 +142,6 @@ pub fn see(
     taken: &[u32],
     number: u32,
 ) -> Result<Seen, AllocError> {
-    let mut store = new_store(alloc)?;
+    let mut store = new_store::<22>(alloc, 8)?;
     fill_and_look(alloc, &mut store, pairs, taken, number)
 }

@@ -68,7 +68,7 @@ fn kept_in<const OFFSET_BITS: u32, W: Work<OFFSET_BITS>>(
 fn kept(alloc: Global, items: &[u64]) -> Result<((u32, u64, u64), u64), AllocError>
     requires few { length items.now ≤ 1023 }
 {
-    let mut store = new_store(alloc)?;
+    let mut store = new_store::<22>(alloc, 8)?;
     kept_in::<22, _>(&mut store, items)
 }
 

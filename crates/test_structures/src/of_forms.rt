@@ -37,7 +37,7 @@ fn made(
     requires first { 1 ≤ first }
     requires last { last ≤ 1000 }
 {
-    let mut store = new_store(alloc)?;
+    let mut store = new_store::<22>(alloc, 8)?;
     made_in::<22, _>(alloc, &mut store, first, last, weight, again)
 }
 
@@ -104,7 +104,7 @@ fn walked(alloc: Global, first: u32, last: u32, weight: i32) -> Result<Vec<(u32,
     requires first { 1 ≤ first }
     requires last { last ≤ 1000 }
 {
-    let mut store = new_store(alloc)?;
+    let mut store = new_store::<22>(alloc, 8)?;
     walked_in::<22, _>(alloc, &mut store, first, last, weight)
 }
 
@@ -165,7 +165,7 @@ fn dense(
     requires first { 1 ≤ first }
     requires last { last ≤ 1000 }
 {
-    let mut store = new_store(alloc)?;
+    let mut store = new_store::<22>(alloc, 8)?;
     dense_in::<22, _>(alloc, &mut store, first, last, documents, again)
 }
 

@@ -58,7 +58,7 @@ fn kept(
 ) -> Result<(u64, u64, bool, u64), AllocError>
     requires typed { type_of value.now ≡ value_type }
 {
-    let mut store = new_store(alloc)?;
+    let mut store = new_store::<22>(alloc, 8)?;
     kept_in::<22, _>(alloc, &mut store, value, value_type, words)
 }
 
@@ -180,7 +180,7 @@ fn is_order(
 ) -> Result<bool, AllocError>
     requires typed { type_of stored.now ≡ type_of given.now }
 {
-    let mut store = new_store(alloc)?;
+    let mut store = new_store::<22>(alloc, 8)?;
     is_order_in::<22, _>(&mut store, stored, given, wanted)
 }
 

@@ -2,8 +2,8 @@ use Rattle.std.proofs.Common.{ℕ, ◌≡◌, ◌∙◌, true, cond, refl, ap}
 use Rattle.store_api.specs.Statuses.{Status}
 use Rattle.store_api.specs.Ledgers.{Ledger}
 use Rattle.std.proofs.lemmas.Bool.{eq-eqb}
-use Rattle.test_store.proofs.Roots.{quiet-none}
-use Rattle.test_store.proofs.of_commits.seal_victim.Goals as goal
+use Rattle.test_structures.proofs.Roots.{quiet-none}
+use Rattle.test_structures.proofs.of_commits.seal_victim.Goals as goal
 
 pub seal-requires : goal.seal-requires
 seal-requires g c =

@@ -1,6 +1,6 @@
 use Rattle.std.proofs.Common.{◌≡◌, ◌∙◌, arith}
 use Rattle.store_api.proofs.May.{may_do-same, may_do-then}
-use Rattle.test_store.proofs.stores.fill.Goals as goal
+use Rattle.test_structures.proofs.stores.fill.Goals as goal
 
 pub loop-count-init : goal.loop-count-init
 loop-count-init g c = may_do-same (g.S.Store.ledger c.args.store.now)

@@ -1,6 +1,6 @@
 use Rattle.std.proofs.Common.{◌≡◌, ◌∙◌, ap, arith}
 use Rattle.store_api.proofs.UnitLemmas.{turns-undone}
-use Rattle.test_store.proofs.stores.fill_undone.Goals as goal
+use Rattle.test_structures.proofs.stores.fill_undone.Goals as goal
 
 pub begin-requires : goal.begin-requires
 begin-requires g c = c.requires.unit

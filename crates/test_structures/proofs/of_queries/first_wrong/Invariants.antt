@@ -1,5 +1,5 @@
 use Rattle.std.specs.Prelude.{◌≡◌}
-use Rattle.test_images.proofs.of_queries.first_wrong.Given as goal
+use Rattle.test_structures.proofs.of_queries.first_wrong.Given as goal
 
 -- the memory stays as it was
 abbrev pub invariant-loop-row : goal.invariant-loop-row

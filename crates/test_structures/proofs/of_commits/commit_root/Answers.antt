@@ -1,6 +1,6 @@
 use Rattle.std.proofs.Common.{rules, ◌≡◌, arith}
-use Rattle.test_store.proofs.Roots.{one-there, there, whole, committed}
-use Rattle.test_store.proofs.of_commits.commit_root.Goals as goal
+use Rattle.test_structures.proofs.Roots.{one-there, there, whole, committed}
+use Rattle.test_structures.proofs.of_commits.commit_root.Goals as goal
 
 pub commit-requires : goal.commit-requires
 commit-requires g c =

@@ -2,8 +2,8 @@ use Rattle.std.proofs.Common.{◌≡◌, ◌∙◌, [], ap, refl, arith}
 use Rattle.entry_ref.specs.References.{buffer_of}
 use Rattle.store_api.specs.Ledgers.{is_this}
 use Rattle.store_api.proofs.PartLemmas.{all-then}
-use Rattle.test_store.proofs.Roots.{none-new, same-all}
-use Rattle.test_store.proofs.of_commits.empty_victim.Goals as goal
+use Rattle.test_structures.proofs.Roots.{none-new, same-all}
+use Rattle.test_structures.proofs.of_commits.empty_victim.Goals as goal
 
 pub fill_undone-first-requires-clause-unit : goal.fill_undone-first-requires-clause-unit
 fill_undone-first-requires-clause-unit g c = c.requires.new.unit

@@ -3,8 +3,8 @@ use Rattle.entry_ref.specs.References.{buffer_of}
 use Rattle.store_api.specs.Parts.{entry}
 use Rattle.store_api.proofs.UnitLemmas.{turns-accept}
 use Rattle.store_api.proofs.UnitLemmas.{apart-from}
-use Rattle.test_store.proofs.Roots.{begun-all, more-all, rest-owns, less-all, same-all}
-use Rattle.test_store.proofs.of_commits.next_root.Goals as goal
+use Rattle.test_structures.proofs.Roots.{begun-all, more-all, rest-owns, less-all, same-all}
+use Rattle.test_structures.proofs.of_commits.next_root.Goals as goal
 
 pub drop_one-requires : goal.drop_one-requires
 drop_one-requires g c =

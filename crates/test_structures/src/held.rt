@@ -15,7 +15,7 @@ pub struct Held {
 }
 
 impl Frozen<22> for Held {
-    ghost use Rattle.test_images.specs.ProofsForHeld.{references};
+    ghost use Rattle.test_structures.specs.ProofsForHeld.{references};
 
     ghost shape = { λ s. s.shape };
 

@@ -1,8 +1,8 @@
 use Rattle.std.proofs.Common.{◌≡◌, ◌∙◌, [], ◌∷◌, ap, refl, arith}
 use Rattle.store_api.specs.Parts.{entry}
 use Rattle.store_api.proofs.PartLemmas.{all-owns}
-use Rattle.test_store.proofs.Roots.{none-new, begun-all}
-use Rattle.test_store.proofs.of_commits.fill_after_drop.Goals as goal
+use Rattle.test_structures.proofs.Roots.{none-new, begun-all}
+use Rattle.test_structures.proofs.of_commits.fill_after_drop.Goals as goal
 
 pub make_root-requires : goal.make_root-requires
 make_root-requires g c = (omega arith, (c.requires.new.unit, (c.requires.width, none-new (g.S.Store.ledger c.args.store.now) (g.S.Frozen.records c.args.store.now) c.requires.new)))

@@ -1,6 +1,6 @@
 use Rattle.std.proofs.Common.{arith}
-use Rattle.test_store.proofs.Roots.{none-new}
-use Rattle.test_store.proofs.of_commits.replace_roots.Goals as goal
+use Rattle.test_structures.proofs.Roots.{none-new}
+use Rattle.test_structures.proofs.of_commits.replace_roots.Goals as goal
 
 pub make_root-requires : goal.make_root-requires
 make_root-requires g c = (omega arith, (c.requires.new.unit, (c.requires.width, none-new (g.S.Store.ledger c.args.store.now) (g.S.Frozen.records c.args.store.now) c.requires.new)))

@@ -4,8 +4,8 @@ use Rattle.store_api.specs.Parts.{entry}
 use Rattle.store_api.proofs.UnitLemmas.{turns-accept}
 use Rattle.store_api.proofs.PartLemmas.{all-then}
 use Rattle.store_api.proofs.UnitLemmas.{apart-from}
-use Rattle.test_store.proofs.Roots.{begun-all, same-all}
-use Rattle.test_store.proofs.of_commits.make_root.Goals as goal
+use Rattle.test_structures.proofs.Roots.{begun-all, same-all}
+use Rattle.test_structures.proofs.of_commits.make_root.Goals as goal
 
 pub returns-clause-owns : goal.returns-clause-owns
 returns-clause-owns g c =
