@@ -104,8 +104,8 @@ struct attr_sizes { uint32_t buffers, words, readers, wide, dense; };
  * attribute, from 0, that has not this form. ATTR_BOUNDS, ATTR_MEMORY, ATTR_NO_TEXT: nothing was opened. */
 int32_t attr_open(const uint8_t *attributes, size_t length, const struct attr_sizes *sizes, void **out, uint64_t *place);
 
-/* Closes an engine. Its readers may go on at the last commit. The words are not given back before the process ends: each
- * attr_open keeps 8 * buffers * words bytes for good, so an engine is opened once and not in a loop. */
+/* Closes an engine. The readers that it handed out may go on at the last commit. They are closed by attr_reader_close. The words
+ * are freed with the last handle: by this call where no reader is out, else by the last attr_reader_close. */
 void attr_close(attr_engine engine);
 
 /* ---- writing: the calls of one thread ---- */

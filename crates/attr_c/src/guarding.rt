@@ -6,11 +6,11 @@ use entry_ref::Layout;
 use word_arena::{Again, Guarded, Reader};
 
 /// Returns a guard, after as many tries as it takes.
-pub fn guarded<'a, const OFFSET_BITS: u32, L: Layout>(
-    reader: Reader<'a, OFFSET_BITS, L>,
-) -> Guarded<'a, OFFSET_BITS, L>
-    ensures later { IsLater L.reaches L.lawful (reader_of reader.entry.place.me.0) (reader_of result.place.me.0) }
-    ensures table { result.place.table_id ≡ reader.entry.place.table_id }
+pub fn guarded<const OFFSET_BITS: u32, L: Layout>(
+    reader: Reader<OFFSET_BITS, L>,
+) -> Guarded<OFFSET_BITS, L>
+    ensures later { IsLater L.reaches L.lawful (reader_of reader.place.me.0) (reader_of result.place.me.0) }
+    ensures table { result.place.table_id ≡ reader.place.table_id }
 {
     let mut reader = reader;
     loop {

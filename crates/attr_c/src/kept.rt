@@ -21,7 +21,7 @@ use word_arena::Guarded;
 #[derive(Drop)]
 pub struct Kept<const OFFSET_BITS: u32> {
     fields: Fields,
-    guard: Guarded<'static, OFFSET_BITS, AttrLayout>,
+    guard: Guarded<OFFSET_BITS, AttrLayout>,
 }
 
 impl<const OFFSET_BITS: u32> Model for Kept<OFFSET_BITS> {

@@ -1,4 +1,4 @@
-//! A new memory, which is never freed, with its attributes and readers.
+//! A new memory, with its attributes and readers. It is freed with the last of these.
 ghost use Rattle.std.specs.Prelude.{◌≡◌, ◌≤◌, ◌<◌, ◌*◌, ◌^◌, length, IfOk, IfNone, IfSome};
 ghost use Rattle.attr_images.specs.Shapes.{shape_of, types_of};
 ghost use Rattle.attr_types.specs.declared.field.TheConstants.{MOST_FIELDS};
@@ -47,7 +47,7 @@ pub fn may_cross<T: Send>(value: T) -> T
 /// Returns readers, each with the attributes.
 fn waiting<const OFFSET_BITS: u32>(
     alloc: Global,
-    writer: &mut Writer<'static, OFFSET_BITS, AttrLayout>,
+    writer: &mut Writer<OFFSET_BITS, AttrLayout>,
     fields: &Fields,
     readers: u32,
 ) -> Result<Vec<Waiting<OFFSET_BITS>>, AllocError>
@@ -72,11 +72,11 @@ fn waiting<const OFFSET_BITS: u32>(
 /// Returns attributes without documents, which keep the documents of a frequent value as a bit vector if that is wanted.
 fn running<const OFFSET_BITS: u32>(
     alloc: Global,
-    writer: Writer<'static, OFFSET_BITS, AttrLayout>,
+    writer: Writer<OFFSET_BITS, AttrLayout>,
     fields: &Fields,
     dense: bool,
 ) -> Result<
-    Attribute<OFFSET_BITS, EntryStore<OFFSET_BITS, Writer<'static, OFFSET_BITS, AttrLayout>>>,
+    Attribute<OFFSET_BITS, EntryStore<OFFSET_BITS, Writer<OFFSET_BITS, AttrLayout>>>,
     AllocError,
 >
     requires some { 0 < length fields.now }
@@ -87,7 +87,7 @@ fn running<const OFFSET_BITS: u32>(
     ensures dense { IfOk result (λ a. a.dense ≡ dense) }
     ensures nothing { IfOk result (λ a. HasNothing a.table a.committed a.operations a.committed_operations) }
     ensures memory { IfOk result (λ a.
-        (⟦<EntryStore<OFFSET_BITS, Writer<'static, OFFSET_BITS, AttrLayout>> as Store<OFFSET_BITS>>⟧.ledger a.store).work
+        (⟦<EntryStore<OFFSET_BITS, Writer<OFFSET_BITS, AttrLayout>> as Store<OFFSET_BITS>>⟧.ledger a.store).work
         ≡ view_of writer.entry.place.table_id (writer_of writer.entry.place.me.0)) }
 {
     match Attribute::create(alloc, writer, fields, dense) {
@@ -131,11 +131,8 @@ fn config_of(fields: &Fields, sizes: &Sizes) -> Config
     }
 }
 
-/// Returns the writer of a new memory that is never freed, with references of 22 and 10 bits.
-fn narrow_writer(
-    alloc: Global,
-    config: Config,
-) -> Result<Writer<'static, 22, AttrLayout>, AllocError>
+/// Returns the writer of a new memory, with references of 22 and 10 bits.
+fn narrow_writer(alloc: Global, config: Config) -> Result<Writer<22, AttrLayout>, AllocError>
     requires some_buffers { 1 ≤ config.buffers }
     requires few_buffers { config.buffers < 1024 }
     requires some_words { 8192 ≤ config.words }
@@ -147,12 +144,11 @@ fn narrow_writer(
     ensures sizes { IfOk result (λ w. (writer_of w.place.me.0).sizes ≡ core_sizes 22 config) }
 {
     let (arena, token) = Arena::<22, AttrLayout>::create(alloc, config)?;
-    let kept: &'static Arena<22, AttrLayout> = Box::leak(Box::new(alloc, arena)?);
-    Ok(kept.writer(token))
+    arena.writer(alloc, token)
 }
 
 /// The same with references of 19 and 13 bits.
-fn wide_writer(alloc: Global, config: Config) -> Result<Writer<'static, 19, AttrLayout>, AllocError>
+fn wide_writer(alloc: Global, config: Config) -> Result<Writer<19, AttrLayout>, AllocError>
     requires some_buffers { 1 ≤ config.buffers }
     requires few_buffers { config.buffers < 8192 }
     requires some_words { 8192 ≤ config.words }
@@ -164,8 +160,7 @@ fn wide_writer(alloc: Global, config: Config) -> Result<Writer<'static, 19, Attr
     ensures sizes { IfOk result (λ w. (writer_of w.place.me.0).sizes ≡ core_sizes 19 config) }
 {
     let (arena, token) = Arena::<19, AttrLayout>::create(alloc, config)?;
-    let kept: &'static Arena<19, AttrLayout> = Box::leak(Box::new(alloc, arena)?);
-    Ok(kept.writer(token))
+    arena.writer(alloc, token)
 }
 
 /// Returns attributes without documents over a new memory with references of 22 and 10 bits, and its readers.

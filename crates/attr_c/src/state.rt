@@ -12,17 +12,17 @@ use entry_store::EntryStore;
 use store_api::Store;
 use word_arena::{Reader, Writer};
 
-/// The store of attributes over a running memory that is never freed, with references of 22 and 10 bits.
-pub type Narrow = EntryStore<22, Writer<'static, 22, AttrLayout>>;
+/// The store of attributes over a running memory, with references of 22 and 10 bits.
+pub type Narrow = EntryStore<22, Writer<22, AttrLayout>>;
 
 /// The same with references of 19 and 13 bits.
-pub type Wide = EntryStore<19, Writer<'static, 19, AttrLayout>>;
+pub type Wide = EntryStore<19, Writer<19, AttrLayout>>;
 
 /// A reader with the attributes for its asks.
 #[derive(Drop)]
 pub struct Waiting<const OFFSET_BITS: u32> {
     pub fields: Fields,
-    pub reader: Reader<'static, OFFSET_BITS, AttrLayout>,
+    pub reader: Reader<OFFSET_BITS, AttrLayout>,
     ghost few: { length fields ≤ MOST_FIELDS },
     ghost shaped: { (reader_of reader.place.me.0).sizes.shape ≡ shape_of (types_of fields) },
 }

@@ -28,32 +28,32 @@ use word_arena::Writer;
 
 /// The writer after the loading, how much was loaded, the rounds of the readers beside it, and the round of the saver.
 #[derive(Drop)]
-pub struct LoadedBeside<'a, const OFFSET_BITS: u32> {
-    pub writer: Writer<'a, OFFSET_BITS, AttrLayout>,
+pub struct LoadedBeside<const OFFSET_BITS: u32> {
+    pub writer: Writer<OFFSET_BITS, AttrLayout>,
     pub loaded: Loaded,
-    pub readings: Vec<Result<Reading<'a, OFFSET_BITS, AttrLayout, Told>, AllocError>>,
-    pub saving: Option<Result<Reading<'a, OFFSET_BITS, AttrLayout, Vec<u8>>, AllocError>>,
+    pub readings: Vec<Result<Reading<OFFSET_BITS, AttrLayout, Told>, AllocError>>,
+    pub saving: Option<Result<Reading<OFFSET_BITS, AttrLayout, Vec<u8>>, AllocError>>,
 }
 
 /// Returns attributes without documents, over a writer that has committed nothing.
-fn opened<'a, const OFFSET_BITS: u32>(
+fn opened<const OFFSET_BITS: u32>(
     alloc: Global,
-    writer: Writer<'a, OFFSET_BITS, AttrLayout>,
+    writer: Writer<OFFSET_BITS, AttrLayout>,
     fields: &Fields,
     dense: bool,
 ) -> Result<
-    Attribute<OFFSET_BITS, EntryStore<OFFSET_BITS, Writer<'a, OFFSET_BITS, AttrLayout>>>,
+    Attribute<OFFSET_BITS, EntryStore<OFFSET_BITS, Writer<OFFSET_BITS, AttrLayout>>>,
     AllocError,
 >
     requires new { IsNewWriter fields.now writer.place.table_id (writer_of writer.place.me.0) }
     ensures fields { IfOk result (λ a. a.fields ≡ fields.now) }
     ensures dense { IfOk result (λ a. a.dense ≡ dense) }
-    ensures start { IfOk result (IsAtStart ⟦<EntryStore<OFFSET_BITS, Writer<'a, OFFSET_BITS, AttrLayout>> as Store<OFFSET_BITS>>⟧.ledger) }
-    ensures work { IfOk result (λ a. (⟦<EntryStore<OFFSET_BITS, Writer<'a, OFFSET_BITS, AttrLayout>> as Store<OFFSET_BITS>>⟧.ledger
+    ensures start { IfOk result (IsAtStart ⟦<EntryStore<OFFSET_BITS, Writer<OFFSET_BITS, AttrLayout>> as Store<OFFSET_BITS>>⟧.ledger) }
+    ensures work { IfOk result (λ a. (⟦<EntryStore<OFFSET_BITS, Writer<OFFSET_BITS, AttrLayout>> as Store<OFFSET_BITS>>⟧.ledger
         a.store).work
         ≡ view_of writer.entry.place.table_id (writer_of writer.entry.place.me.0)) }
     ensures plan { IfOk result (λ a. a.plan ≡ None) }
-    ensures nothing { IfOk result (λ a. HasMadeNothing (⟦<EntryStore<OFFSET_BITS, Writer<'a, OFFSET_BITS, AttrLayout>> as Store<OFFSET_BITS>>⟧.ledger
+    ensures nothing { IfOk result (λ a. HasMadeNothing (⟦<EntryStore<OFFSET_BITS, Writer<OFFSET_BITS, AttrLayout>> as Store<OFFSET_BITS>>⟧.ledger
         a.store)) }
 {
     image_law();
@@ -66,11 +66,11 @@ fn opened<'a, const OFFSET_BITS: u32>(
 }
 
 /// Returns the writer, with all that was committed.
-fn closed<'a, const OFFSET_BITS: u32>(
-    attribute: Attribute<OFFSET_BITS, EntryStore<OFFSET_BITS, Writer<'a, OFFSET_BITS, AttrLayout>>>,
-) -> Writer<'a, OFFSET_BITS, AttrLayout>
+fn closed<const OFFSET_BITS: u32>(
+    attribute: Attribute<OFFSET_BITS, EntryStore<OFFSET_BITS, Writer<OFFSET_BITS, AttrLayout>>>,
+) -> Writer<OFFSET_BITS, AttrLayout>
     ensures knows { view_of result.place.table_id (writer_of result.place.me.0)
-        ≡ (⟦<EntryStore<OFFSET_BITS, Writer<'a, OFFSET_BITS, AttrLayout>> as Store<OFFSET_BITS>>⟧.ledger attribute.entry.store).work }
+        ≡ (⟦<EntryStore<OFFSET_BITS, Writer<OFFSET_BITS, AttrLayout>> as Store<OFFSET_BITS>>⟧.ledger attribute.entry.store).work }
     ensures shape { (writer_of result.place.me.0).sizes.shape ≡ shape_of (types_of attribute.entry.fields) }
 {
     let (store, _) = attribute.into_store();
@@ -125,7 +125,7 @@ fn load_at<
 >(
     rt: &R,
     alloc: Global,
-    writer: Writer<'a, OFFSET_BITS, AttrLayout>,
+    writer: Writer<OFFSET_BITS, AttrLayout>,
     fields: &Fields,
     dense: bool,
     ops: &'a [Op],
@@ -133,15 +133,7 @@ fn load_at<
     gate: &'a G,
     others: Vec<T>,
     aside: Option<U>,
-) -> Result<
-    (
-        Writer<'a, OFFSET_BITS, AttrLayout>,
-        Loaded,
-        Vec<B>,
-        Option<C>,
-    ),
-    AllocError,
->
+) -> Result<(Writer<OFFSET_BITS, AttrLayout>, Loaded, Vec<B>, Option<C>), AllocError>
     requires new { IsNewWriter fields.now writer.place.table_id (writer_of writer.place.me.0) }
     requires some { 0 < batch }
     requires few { length ops.now < 2 ^ 32 }
@@ -172,7 +164,7 @@ fn load_at<
 pub fn load_beside<'a, const OFFSET_BITS: u32, R: Threads + Sync, G: Gate + Sync + 'static>(
     rt: &R,
     alloc: Global,
-    writer: Writer<'a, OFFSET_BITS, AttrLayout>,
+    writer: Writer<OFFSET_BITS, AttrLayout>,
     ops: &'a [Op],
     dense: bool,
     batch: u32,
@@ -182,7 +174,7 @@ pub fn load_beside<'a, const OFFSET_BITS: u32, R: Threads + Sync, G: Gate + Sync
     saving: &'a Saving<'a, G>,
     save: bool,
     gate: &'a G,
-) -> Result<LoadedBeside<'a, OFFSET_BITS>, AllocError>
+) -> Result<LoadedBeside<OFFSET_BITS>, AllocError>
     requires new { IsNewWriter question.now.fields.now writer.place.table_id (writer_of writer.place.me.0) }
     requires asks { CanAsk question.now.fields.now (length question.now.asks.now) (writer_of writer.place.me.0).sizes.shape }
     requires first { IsFirst saving.now.field.now.kind saving.now.field.now.value (writer_of writer.place.me.0).sizes.shape }

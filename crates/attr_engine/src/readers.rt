@@ -23,9 +23,9 @@ use std::thread::Threads;
 use word_arena::{Reader, Writer};
 
 /// Makes a reader that has seen the last commit.
-fn reader_in<'a, const OFFSET_BITS: u32>(
-    writer: &mut Writer<'a, OFFSET_BITS, AttrLayout>,
-) -> Reader<'a, OFFSET_BITS, AttrLayout>
+fn reader_in<const OFFSET_BITS: u32>(
+    writer: &mut Writer<OFFSET_BITS, AttrLayout>,
+) -> Reader<OFFSET_BITS, AttrLayout>
     requires { (writer_of writer.old.place.me.0).made < 64 }
     ensures reader { IsReader (writer_of writer.old.place.me.0) writer.old.place.table_id
         (reader_of result.place.me.0) result.place.table_id }
@@ -42,7 +42,7 @@ fn reader_in<'a, const OFFSET_BITS: u32>(
 /// Returns the tasks of new readers, each of which has seen the last commit.
 pub fn jobs_of<'a, const OFFSET_BITS: u32, G: Gate>(
     alloc: Global,
-    writer: &mut Writer<'a, OFFSET_BITS, AttrLayout>,
+    writer: &mut Writer<OFFSET_BITS, AttrLayout>,
     readers: u32,
     rounds: u32,
     question: &'a Asked<'a>,
@@ -74,10 +74,10 @@ pub fn jobs_of<'a, const OFFSET_BITS: u32, G: Gate>(
 }
 
 /// Joins readers after their rounds.
-pub fn take_all<'a, const OFFSET_BITS: u32>(
+pub fn take_all<const OFFSET_BITS: u32>(
     alloc: Global,
-    writer: &mut Writer<'a, OFFSET_BITS, AttrLayout>,
-    readings: Vec<Result<Reading<'a, OFFSET_BITS, AttrLayout, Told>, AllocError>>,
+    writer: &mut Writer<OFFSET_BITS, AttrLayout>,
+    readings: Vec<Result<Reading<OFFSET_BITS, AttrLayout, Told>, AllocError>>,
     question: &Asked<'_>,
 ) -> Result<Vec<Vec<Round<Told>>>, AllocError>
     requires { AllByRecursion (λ reading. IfOk reading
@@ -104,7 +104,7 @@ pub fn take_all<'a, const OFFSET_BITS: u32>(
 pub fn read_after<'a, const OFFSET_BITS: u32, R: Threads + Sync, G: Gate + Sync + 'static>(
     rt: &R,
     alloc: Global,
-    writer: &mut Writer<'a, OFFSET_BITS, AttrLayout>,
+    writer: &mut Writer<OFFSET_BITS, AttrLayout>,
     readers: u32,
     count: u32,
     question: &'a Asked<'a>,
@@ -128,9 +128,9 @@ pub fn read_after<'a, const OFFSET_BITS: u32, R: Threads + Sync, G: Gate + Sync 
 
 /// Returns the answer of the last commit, by one round of one more reader, which passes no gate. What the writer has seen is then the
 /// whole run of the memory, in which no buffer was handed out while a reader had a guard from before its hold.
-pub fn last_answer<'a, const OFFSET_BITS: u32, Q: Question<OFFSET_BITS, AttrLayout>>(
+pub fn last_answer<const OFFSET_BITS: u32, Q: Question<OFFSET_BITS, AttrLayout>>(
     alloc: Global,
-    writer: &mut Writer<'a, OFFSET_BITS, AttrLayout>,
+    writer: &mut Writer<OFFSET_BITS, AttrLayout>,
     question: &Q,
 ) -> Result<Q::Answer, AllocError>
     requires fits { Q.fits question.now (writer_of writer.old.place.me.0).sizes.shape }
@@ -153,7 +153,7 @@ pub fn last_answer<'a, const OFFSET_BITS: u32, Q: Question<OFFSET_BITS, AttrLayo
 /// The saver of a run that saves beside the loading: one more reader, which has seen the last commit.
 pub fn saver_of<'a, const OFFSET_BITS: u32, G: Gate>(
     alloc: Global,
-    writer: &mut Writer<'a, OFFSET_BITS, AttrLayout>,
+    writer: &mut Writer<OFFSET_BITS, AttrLayout>,
     saving: &'a Saving<'a, G>,
     save: bool,
 ) -> Option<Saver<'a, OFFSET_BITS, G>>
@@ -177,9 +177,9 @@ pub fn saver_of<'a, const OFFSET_BITS: u32, G: Gate>(
 }
 
 /// The save of a saver, which is taken in.
-fn take_save<'a, const OFFSET_BITS: u32, G: Gate>(
-    writer: &mut Writer<'a, OFFSET_BITS, AttrLayout>,
-    reading: Reading<'a, OFFSET_BITS, AttrLayout, Vec<u8>>,
+fn take_save<const OFFSET_BITS: u32, G: Gate>(
+    writer: &mut Writer<OFFSET_BITS, AttrLayout>,
+    reading: Reading<OFFSET_BITS, AttrLayout, Vec<u8>>,
     saving: &Saving<'_, G>,
 ) -> Save
     requires { IsSaverDone saving.now.field.now (writer_of writer.old.place.me.0).sizes.shape writer.old.place.table_id
@@ -200,9 +200,9 @@ fn take_save<'a, const OFFSET_BITS: u32, G: Gate>(
 }
 
 /// The save that was made beside the loading, if one was.
-pub fn take_saved<'a, const OFFSET_BITS: u32, G: Gate>(
-    writer: &mut Writer<'a, OFFSET_BITS, AttrLayout>,
-    given: Option<Result<Reading<'a, OFFSET_BITS, AttrLayout, Vec<u8>>, AllocError>>,
+pub fn take_saved<const OFFSET_BITS: u32, G: Gate>(
+    writer: &mut Writer<OFFSET_BITS, AttrLayout>,
+    given: Option<Result<Reading<OFFSET_BITS, AttrLayout, Vec<u8>>, AllocError>>,
     saving: &Saving<'_, G>,
 ) -> Result<Option<Save>, AllocError>
     requires { IfSome given (λ reading. IfOk reading (λ r. IsSaverDone saving.now.field.now (writer_of writer.old.place.me.0).sizes.shape
@@ -223,9 +223,9 @@ pub fn take_saved<'a, const OFFSET_BITS: u32, G: Gate>(
 }
 
 /// The save of the last commit, by one more reader, where the table is saved after the loading.
-pub fn last_saved<'a, const OFFSET_BITS: u32, G: Gate>(
+pub fn last_saved<const OFFSET_BITS: u32, G: Gate>(
     alloc: Global,
-    writer: &mut Writer<'a, OFFSET_BITS, AttrLayout>,
+    writer: &mut Writer<OFFSET_BITS, AttrLayout>,
     saving: &Saving<'_, G>,
     save: bool,
     operations: u32,

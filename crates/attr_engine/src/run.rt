@@ -64,8 +64,8 @@ fn chosen_save(after: bool, later: Option<Save>, first: Option<Save>) -> Option<
 
 /// The writer after the loading, how much was loaded, the rounds of the readers beside it, and the save if one was made.
 #[derive(Drop)]
-pub struct LoadedFirst<'a, const OFFSET_BITS: u32> {
-    pub writer: Writer<'a, OFFSET_BITS, AttrLayout>,
+pub struct LoadedFirst<const OFFSET_BITS: u32> {
+    pub writer: Writer<OFFSET_BITS, AttrLayout>,
     pub loaded: Loaded,
     pub first: Vec<Vec<Round<Told>>>,
     pub saved: Option<Save>,
@@ -75,7 +75,7 @@ pub struct LoadedFirst<'a, const OFFSET_BITS: u32> {
 fn load_first<'a, const OFFSET_BITS: u32, R: Threads + Sync, G: Gate + Sync + 'static>(
     rt: &R,
     alloc: Global,
-    writer: Writer<'a, OFFSET_BITS, AttrLayout>,
+    writer: Writer<OFFSET_BITS, AttrLayout>,
     ops: &'a [Op],
     dense: bool,
     batch: u32,
@@ -85,7 +85,7 @@ fn load_first<'a, const OFFSET_BITS: u32, R: Threads + Sync, G: Gate + Sync + 's
     saving: &'a Saving<'a, G>,
     save: bool,
     gate: &'a G,
-) -> Result<LoadedFirst<'a, OFFSET_BITS>, AllocError>
+) -> Result<LoadedFirst<OFFSET_BITS>, AllocError>
     requires new { IsNewWriter question.now.fields.now writer.place.table_id (writer_of writer.place.me.0) }
     requires asks { CanAsk question.now.fields.now (length question.now.asks.now) (writer_of writer.place.me.0).sizes.shape }
     requires first { IsFirst saving.now.field.now.kind saving.now.field.now.value (writer_of writer.place.me.0).sizes.shape }
@@ -132,7 +132,7 @@ const MOST_READERS: u32 = 62;
 fn run_over<'a, const OFFSET_BITS: u32, R: Threads + Sync, G: Gate + Sync + 'static>(
     rt: &R,
     alloc: Global,
-    writer: Writer<'a, OFFSET_BITS, AttrLayout>,
+    writer: Writer<OFFSET_BITS, AttrLayout>,
     request: &Request,
     ops: &'a [Op],
     question: &'a Asked<'a>,
@@ -240,7 +240,7 @@ pub fn run_engine<const OFFSET_BITS: u32, R: Threads + Sync, G: Gate + Sync + 's
         },
     };
     let (arena, token) = Arena::create(alloc, config)?;
-    let writer = arena.writer(token);
+    let writer = arena.writer(alloc, token)?;
     let question = Asked {
         fields: &request.fields,
         asks: request.asks.as_slice(),

@@ -13,7 +13,7 @@ use word_arena::Reader;
 #[derive(Drop)]
 pub struct Job<'a, const OFFSET_BITS: u32, L: Layout, Q, G> {
     pub alloc: Global,
-    pub reader: Reader<'a, OFFSET_BITS, L>,
+    pub reader: Reader<OFFSET_BITS, L>,
     /// The number of the reader, from 1.
     pub number: u32,
     /// The number of its rounds.
@@ -24,7 +24,7 @@ pub struct Job<'a, const OFFSET_BITS: u32, L: Layout, Q, G> {
 
 impl<'a, const OFFSET_BITS: u32, L: Layout, Q: Question<OFFSET_BITS, L>, G: Gate> Task
     for Job<'a, OFFSET_BITS, L, Q, G> {
-    type Output = Result<Reading<'a, OFFSET_BITS, L, Q::Answer>, AllocError>;
+    type Output = Result<Reading<OFFSET_BITS, L, Q::Answer>, AllocError>;
 
     ghost can_run = { λ job. Q.fits job.question.now (reader_of job.reader.place.me.0).sizes.shape };
 
@@ -33,7 +33,7 @@ impl<'a, const OFFSET_BITS: u32, L: Layout, Q: Question<OFFSET_BITS, L>, G: Gate
         (reader_of r.reader.place.me.0) r.rounds.items
         × (length r.rounds.items ≡ job.count) × (r.reader.place.table_id ≡ job.reader.place.table_id)) };
 
-    fn run(self) -> Result<Reading<'a, OFFSET_BITS, L, Q::Answer>, AllocError> {
+    fn run(self) -> Result<Reading<OFFSET_BITS, L, Q::Answer>, AllocError> {
         let Job {
             alloc,
             reader,

@@ -23,8 +23,8 @@ pub struct Round<A> {
 
 /// A reader, and the rounds that it has made.
 #[derive(Drop)]
-pub struct Reading<'a, const OFFSET_BITS: u32, L: Layout, A> {
-    pub reader: Reader<'a, OFFSET_BITS, L>,
+pub struct Reading<const OFFSET_BITS: u32, L: Layout, A> {
+    pub reader: Reader<OFFSET_BITS, L>,
     pub rounds: Vec<Round<A>>,
 }
 
@@ -36,43 +36,43 @@ pub const ROUNDS_ON_A_HOLD: u32 = 64;
 
 /// The state of a reader between two rounds: without a guard, or still under the guard of the last round.
 #[derive(Drop)]
-enum Post<'a, const OFFSET_BITS: u32, L: Layout> {
-    Idle(Reader<'a, OFFSET_BITS, L>),
-    Under(Guarded<'a, OFFSET_BITS, L>),
+enum Post<const OFFSET_BITS: u32, L: Layout> {
+    Idle(Reader<OFFSET_BITS, L>),
+    Under(Guarded<OFFSET_BITS, L>),
 }
 
 /// Returns a guard, after as many tries as it takes.
-impl<'a, const OFFSET_BITS: u32, L: Layout> Climb for Reader<'a, OFFSET_BITS, L> {
-    type Output = Guarded<'a, OFFSET_BITS, L>;
+impl<const OFFSET_BITS: u32, L: Layout> Climb for Reader<OFFSET_BITS, L> {
+    type Output = Guarded<OFFSET_BITS, L>;
 
     ghost climbs_to = { λ reader guard. IsLater L.reaches L.lawful (reader_of reader.place.me.0) (reader_of guard.place.me.0)
         × (guard.place.table_id ≡ reader.place.table_id) };
 
-    fn climb<C: Ledger>(self, steps: &mut Steps<C>) -> Guarded<'a, OFFSET_BITS, L> {
+    fn climb<C: Ledger>(self, steps: &mut Steps<C>) -> Guarded<OFFSET_BITS, L> {
         self.guard(steps)
     }
 }
 
 /// Returns the guard of the next round: a new one, or one of the last commit under the hold of the round before.
-fn next_guard<'a, const OFFSET_BITS: u32, L: Layout>(
-    post: Post<'a, OFFSET_BITS, L>,
-) -> Guarded<'a, OFFSET_BITS, L>
-    ensures later { IsLater L.reaches L.lawful (view_at post.entry) (reader_of result.place.me.0) }
-    ensures table { result.place.table_id ≡ table_at post.entry }
+fn next_guard<const OFFSET_BITS: u32, L: Layout>(
+    post: Post<OFFSET_BITS, L>,
+) -> Guarded<OFFSET_BITS, L>
+    ensures later { IsLater L.reaches L.lawful (view_at post) (reader_of result.place.me.0) }
+    ensures table { result.place.table_id ≡ table_at post }
 {
     match post {
-        Post::Idle(reader) => climbed::<Reader<'a, OFFSET_BITS, L>, Brand>(reader, Blank::new(1)),
+        Post::Idle(reader) => climbed::<Reader<OFFSET_BITS, L>, Brand>(reader, Blank::new(1)),
         Post::Under(guard) => guard.again(),
     }
 }
 
 /// Releases the guard, or keeps it.
-fn post_after<'a, const OFFSET_BITS: u32, L: Layout>(
-    guard: Guarded<'a, OFFSET_BITS, L>,
+fn post_after<const OFFSET_BITS: u32, L: Layout>(
+    guard: Guarded<OFFSET_BITS, L>,
     ends: bool,
-) -> Post<'a, OFFSET_BITS, L>
-    ensures same { SeesSame (reader_of guard.entry.place.me.0) (view_at result) }
-    ensures table { table_at result ≡ guard.entry.place.table_id }
+) -> Post<OFFSET_BITS, L>
+    ensures same { SeesSame (reader_of guard.place.me.0) (view_at result) }
+    ensures table { table_at result ≡ guard.place.table_id }
 {
     if ends {
         Post::Idle(guard.release())
@@ -82,11 +82,9 @@ fn post_after<'a, const OFFSET_BITS: u32, L: Layout>(
 }
 
 /// Returns the reader without a guard.
-fn let_go<'a, const OFFSET_BITS: u32, L: Layout>(
-    post: Post<'a, OFFSET_BITS, L>,
-) -> Reader<'a, OFFSET_BITS, L>
-    ensures same { SeesSame (view_at post.entry) (reader_of result.place.me.0) }
-    ensures table { result.place.table_id ≡ table_at post.entry }
+fn let_go<const OFFSET_BITS: u32, L: Layout>(post: Post<OFFSET_BITS, L>) -> Reader<OFFSET_BITS, L>
+    ensures same { SeesSame (view_at post) (reader_of result.place.me.0) }
+    ensures table { result.place.table_id ≡ table_at post }
 {
     match post {
         Post::Idle(reader) => reader,
@@ -101,22 +99,22 @@ fn ends_hold(round: u32, last: u32) -> bool {
 
 /// Makes one more round, of at most `last`. Passes the gate before and after it. If memory is exhausted, no hold is
 /// kept.
-fn one_round<'a, const OFFSET_BITS: u32, L: Layout, Q: Question<OFFSET_BITS, L>, G: Gate>(
+fn one_round<const OFFSET_BITS: u32, L: Layout, Q: Question<OFFSET_BITS, L>, G: Gate>(
     alloc: Global,
-    post: Post<'a, OFFSET_BITS, L>,
+    post: Post<OFFSET_BITS, L>,
     number: u32,
     last: u32,
     question: &Q,
     gate: &G,
     rounds: &mut Vec<Round<Q::Answer>>,
-) -> Result<Post<'a, OFFSET_BITS, L>, AllocError>
+) -> Result<Post<OFFSET_BITS, L>, AllocError>
     requires fits { Q.fits question.now (view_at post).sizes.shape }
     requires few { length rounds.old.items < 2 ^ 32 - 1 }
     ensures rounds { IfOk result (λ next. (start : ReaderView)
-        → MakesRounds Q.operations (Q.answers question.now) L.lawful start (view_at post.entry) rounds.old.items
+        → MakesRounds Q.operations (Q.answers question.now) L.lawful start (view_at post) rounds.old.items
         → MakesRounds Q.operations (Q.answers question.now) L.lawful start (view_at next) rounds.new.items) }
     ensures count { OnOk result (length rounds.new.items ≡ length rounds.old.items + 1) }
-    ensures table { IfOk result (λ next. table_at next ≡ table_at post.entry) }
+    ensures table { IfOk result (λ next. table_at next ≡ table_at post) }
 {
     let round = rounds.len() as u32 + 1;
     gate.pass(Point::RoundStart {
@@ -152,19 +150,19 @@ fn one_round<'a, const OFFSET_BITS: u32, L: Layout, Q: Question<OFFSET_BITS, L>,
 
 /// Makes a number of rounds with a reader; readers and rounds are counted from 1. Passes the gate before and after
 /// each round. The reader keeps its hold between rounds, and releases it after every 64 rounds.
-pub fn go_round<'a, const OFFSET_BITS: u32, L: Layout, Q: Question<OFFSET_BITS, L>, G: Gate>(
+pub fn go_round<const OFFSET_BITS: u32, L: Layout, Q: Question<OFFSET_BITS, L>, G: Gate>(
     alloc: Global,
-    reader: Reader<'a, OFFSET_BITS, L>,
+    reader: Reader<OFFSET_BITS, L>,
     number: u32,
     count: u32,
     question: &Q,
     gate: &G,
-) -> Result<Reading<'a, OFFSET_BITS, L, Q::Answer>, AllocError>
+) -> Result<Reading<OFFSET_BITS, L, Q::Answer>, AllocError>
     requires { Q.fits question.now (reader_of reader.place.me.0).sizes.shape }
-    ensures rounds { IfOk result (λ r. MakesRounds Q.operations (Q.answers question.now) L.lawful (reader_of reader.entry.place.me.0)
+    ensures rounds { IfOk result (λ r. MakesRounds Q.operations (Q.answers question.now) L.lawful (reader_of reader.place.me.0)
         (reader_of r.reader.place.me.0) r.rounds.items) }
     ensures count { IfOk result (λ r. length r.rounds.items ≡ count) }
-    ensures table { IfOk result (λ r. r.reader.place.table_id ≡ reader.entry.place.table_id) }
+    ensures table { IfOk result (λ r. r.reader.place.table_id ≡ reader.place.table_id) }
 {
     let mut post = Post::Idle(reader);
     let mut rounds = Vec::new(alloc);

@@ -142,12 +142,12 @@ fn operations_in<const OFFSET_BITS: u32, F: Frozen<OFFSET_BITS>>(
 #[derive(Drop)]
 pub struct Saver<'a, const OFFSET_BITS: u32, G> {
     pub alloc: Global,
-    pub reader: Reader<'a, OFFSET_BITS, AttrLayout>,
+    pub reader: Reader<OFFSET_BITS, AttrLayout>,
     pub saving: &'a Saving<'a, G>,
 }
 
 impl<'a, const OFFSET_BITS: u32, G: Gate> Task for Saver<'a, OFFSET_BITS, G> {
-    type Output = Result<Reading<'a, OFFSET_BITS, AttrLayout, Vec<u8>>, AllocError>;
+    type Output = Result<Reading<OFFSET_BITS, AttrLayout, Vec<u8>>, AllocError>;
 
     ghost can_run = { λ saver. IsFirst saver.saving.now.field.now.kind saver.saving.now.field.now.value
         (reader_of saver.reader.place.me.0).sizes.shape };
@@ -157,7 +157,7 @@ impl<'a, const OFFSET_BITS: u32, G: Gate> Task for Saver<'a, OFFSET_BITS, G> {
         (reader_of r.reader.place.me.0) r.rounds.items
         × (length r.rounds.items ≡ 1) × (r.reader.place.table_id ≡ saver.reader.place.table_id)) };
 
-    fn run(self) -> Result<Reading<'a, OFFSET_BITS, AttrLayout, Vec<u8>>, AllocError> {
+    fn run(self) -> Result<Reading<OFFSET_BITS, AttrLayout, Vec<u8>>, AllocError> {
         let Saver {
             alloc,
             reader,

@@ -10,17 +10,17 @@ use entry_ref::Layout;
 use word_arena::Writer;
 
 /// Joins a reader after its rounds with this question. Each round is then known to be at a commit of the writer.
-pub fn take_in<'a, const OFFSET_BITS: u32, L: Layout, Q: Question<OFFSET_BITS, L>>(
-    writer: &mut Writer<'a, OFFSET_BITS, L>,
-    reading: Reading<'a, OFFSET_BITS, L, Q::Answer>,
+pub fn take_in<const OFFSET_BITS: u32, L: Layout, Q: Question<OFFSET_BITS, L>>(
+    writer: &mut Writer<OFFSET_BITS, L>,
+    reading: Reading<OFFSET_BITS, L, Q::Answer>,
     _question: &Q,
 ) -> Vec<Round<Q::Answer>>
     requires table { reading.reader.place.table_id ≡ writer.old.place.table_id }
     requires seen { AreSeen Q.operations (Q.answers _question.now) L.lawful (reader_of reading.reader.place.me.0) reading.rounds.items }
-    ensures rounds { All (IsOfCommit Q.operations (Q.answers _question.now) (reader_of reading.entry.reader.place.me.0).sizes.shape
+    ensures rounds { All (IsOfCommit Q.operations (Q.answers _question.now) (reader_of reading.reader.place.me.0).sizes.shape
         (writer_of writer.new.place.me.0).commits) result.items }
-    ensures same { result.items ≡ reading.entry.rounds.items }
-    ensures view { writer_of writer.new.place.me.0 ≡ joined (writer_of writer.old.place.me.0) (reader_of reading.entry.reader.place.me.0) }
+    ensures same { result.items ≡ reading.rounds.items }
+    ensures view { writer_of writer.new.place.me.0 ≡ joined (writer_of writer.old.place.me.0) (reader_of reading.reader.place.me.0) }
     ensures table { writer.new.place.table_id ≡ writer.old.place.table_id }
     ensures run { IsWholeRun L.reaches L.lawful (writer_of writer.old.place.me.0).sizes writer.new.place.me.0.seen }
 {

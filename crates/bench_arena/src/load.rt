@@ -24,15 +24,15 @@ pub enum Load {
 
 /// The seat of a thread.
 #[derive(Drop)]
-enum Post<'a> {
-    Write(Writer<'a, 22, OneNode>),
-    Read(Reader<'a, 22, OneNode>),
+enum Post {
+    Write(Writer<22, OneNode>),
+    Read(Reader<22, OneNode>),
 }
 
 /// The task of one thread.
 #[derive(Drop)]
-struct Job<'a> {
-    post: Post<'a>,
+struct Job {
+    post: Post,
     loops: u64,
     commits: u32,
     looks: u32,
@@ -40,14 +40,14 @@ struct Job<'a> {
 
 /// A reader, how often it looked, and the last commit that it saw.
 #[derive(Drop)]
-struct Looked<'a> {
-    reader: Reader<'a, 22, OneNode>,
+struct Looked {
+    reader: Reader<22, OneNode>,
     looks: u64,
     seen: u32,
 }
 
 /// Takes a guard and loads the root again under it, `looks` times in all.
-fn look_on<'a>(reader: Reader<'a, 22, OneNode>, looks: u32) -> Looked<'a> {
+fn look_on(reader: Reader<22, OneNode>, looks: u32) -> Looked {
     match reader.try_guard() {
         Ok(guard) => {
             let mut guard = guard;
@@ -73,7 +73,7 @@ fn look_on<'a>(reader: Reader<'a, 22, OneNode>, looks: u32) -> Looked<'a> {
 }
 
 /// Looks under guards that are kept: `loops` guards of `looks` looks each, or until this commit is seen.
-fn look(reader: Reader<'_, 22, OneNode>, loops: u64, looks: u32, last: u32) -> u64 {
+fn look(reader: Reader<22, OneNode>, loops: u64, looks: u32, last: u32) -> u64 {
     let mut reader = reader;
     let mut counted = 0u64;
     for _ in 0..loops {
@@ -92,7 +92,7 @@ fn look(reader: Reader<'_, 22, OneNode>, loops: u64, looks: u32, last: u32) -> u
 }
 
 /// Takes guards and releases each at once: a number of times, or until this commit is seen.
-fn guards(reader: Reader<'_, 22, OneNode>, loops: u64, last: u32) -> u64 {
+fn guards(reader: Reader<22, OneNode>, loops: u64, last: u32) -> u64 {
     let mut reader = reader;
     let mut counted = 0u64;
     for _ in 0..loops {
@@ -126,7 +126,7 @@ fn commits<W: Work<22, Layout = OneNode>>(work: &mut W, most: u32) {
     }
 }
 
-fn work_on(job: Job<'_>) -> u64 {
+fn work_on(job: Job) -> u64 {
     let Job {
         post,
         loops,
@@ -150,14 +150,14 @@ fn work_on(job: Job<'_>) -> u64 {
 }
 
 /// Returns the tasks of the writer and the readers.
-fn jobs_of<'a>(
+fn jobs_of(
     alloc: Global,
-    writer: Writer<'a, 22, OneNode>,
+    writer: Writer<22, OneNode>,
     readers: u32,
     loops: u64,
     commits: u32,
     looks: u32,
-) -> Result<Vec<Job<'a>>, AllocError> {
+) -> Result<Vec<Job>, AllocError> {
     let mut writer = writer;
     let mut jobs = Vec::new(alloc);
     for _ in 0..readers {
@@ -185,7 +185,7 @@ fn jobs_of<'a>(
     Ok(jobs)
 }
 
-fn work_all<'a, R: Threads + Sync>(rt: &R, jobs: Vec<Job<'a>>) -> Result<Vec<u64>, AllocError> {
+fn work_all<R: Threads + Sync>(rt: &R, jobs: Vec<Job>) -> Result<Vec<u64>, AllocError> {
     map_vec(
         rt,
         jobs,
@@ -196,7 +196,7 @@ fn work_all<'a, R: Threads + Sync>(rt: &R, jobs: Vec<Job<'a>>) -> Result<Vec<u64
 }
 
 /// Reads the node `loops` times, and returns how many reads found the last word as it was stored.
-fn reads(held: Held<'_>, loops: u64) -> u64 {
+fn reads(held: Held, loops: u64) -> u64 {
     let mut held = held;
     let mut words = [0; 34];
     let mut counted = 0u64;
@@ -217,7 +217,7 @@ fn store_node<W: Work<22, Layout = OneNode>>(work: &mut W) -> bool {
     true
 }
 
-fn read_node(writer: Writer<'_, 22, OneNode>, loops: u64) -> u64 {
+fn read_node(writer: Writer<22, OneNode>, loops: u64) -> u64 {
     let mut writer = writer;
     let Ok(reader) = writer.reader() else {
         return 0;
@@ -243,7 +243,7 @@ pub fn count<R: Threads + Sync>(rt: &R, alloc: Global, load: Load) -> Result<u64
         },
     };
     let (arena, token) = Arena::<22, OneNode>::create(alloc, config)?;
-    let writer = arena.writer(token);
+    let writer = arena.writer(alloc, token)?;
     match load {
         Load::Guards {
             readers,

@@ -18,33 +18,33 @@ use word_arena::{Arena, Config, Limits, Reader, Writer};
 
 /// The writer's seat of a new memory.
 #[derive(Drop)]
-struct Fresh<'a> {
-    writer: Writer<'a, 22, OneNode>,
+struct Fresh {
+    writer: Writer<22, OneNode>,
     ghost fresh: { IsFresh (view_of writer.place.table_id (writer_of writer.place.me.0)) },
 }
 
 /// The seat of a thread: the writer's, the writer's for a store, or a reader's.
 #[derive(Drop)]
-enum Post<'a> {
-    Write(Writer<'a, 22, OneNode>),
-    Keep(Fresh<'a>),
-    Read(Reader<'a, 22, OneNode>),
+enum Post {
+    Write(Writer<22, OneNode>),
+    Keep(Fresh),
+    Read(Reader<22, OneNode>),
 }
 
 /// The task of one thread.
 #[derive(Drop)]
 struct Party<'a> {
     alloc: Global,
-    post: Post<'a>,
+    post: Post,
     number: u32,
     steps: &'a [Step],
     done: &'a AtomicU64,
 }
 
 /// Returns the results of the writer's steps.
-fn write_all<'a>(
+fn write_all(
     alloc: Global,
-    writer: Writer<'a, 22, OneNode>,
+    writer: Writer<22, OneNode>,
     steps: &[Step],
     done: &AtomicU64,
 ) -> Result<Vec<Told>, AllocError> {
@@ -69,7 +69,7 @@ fn write_all<'a>(
 /// Takes the steps of a store's keeper over the writer's seat.
 fn keep_all(
     alloc: Global,
-    fresh: Fresh<'_>,
+    fresh: Fresh,
     steps: &[Step],
     done: &AtomicU64,
 ) -> Result<Vec<Told>, AllocError> {
@@ -96,7 +96,7 @@ fn play(party: Party<'_>) -> Result<Vec<Told>, AllocError> {
 }
 
 /// Makes a reader, if there is a seat.
-fn seat<'a>(writer: &mut Writer<'a, 22, OneNode>) -> Option<Reader<'a, 22, OneNode>>
+fn seat(writer: &mut Writer<22, OneNode>) -> Option<Reader<22, OneNode>>
     requires { IsFresh (view_of writer.old.place.table_id (writer_of writer.old.place.me.0)) }
     ensures { IsFresh (view_of writer.new.place.table_id (writer_of writer.new.place.me.0)) }
 {
@@ -109,7 +109,7 @@ fn seat<'a>(writer: &mut Writer<'a, 22, OneNode>) -> Option<Reader<'a, 22, OneNo
 /// Makes the readers of the row.
 fn readers_of<'a>(
     alloc: Global,
-    writer: &mut Writer<'a, 22, OneNode>,
+    writer: &mut Writer<22, OneNode>,
     readers: u32,
     steps: &'a [Step],
     done: &'a AtomicU64,
@@ -136,7 +136,7 @@ fn readers_of<'a>(
 }
 
 /// Returns the writer's seat, for a store or not.
-fn post_of<'a>(writer: Writer<'a, 22, OneNode>, store: bool) -> Post<'a>
+fn post_of(writer: Writer<22, OneNode>, store: bool) -> Post
     requires { IsFresh (view_of writer.place.table_id (writer_of writer.place.me.0)) }
 {
     if store {
@@ -149,7 +149,7 @@ fn post_of<'a>(writer: Writer<'a, 22, OneNode>, store: bool) -> Post<'a>
 /// Returns the readers and the writer.
 fn parties<'a>(
     alloc: Global,
-    writer: Writer<'a, 22, OneNode>,
+    writer: Writer<22, OneNode>,
     setting: Setting,
     steps: &'a [Step],
     done: &'a AtomicU64,
@@ -204,6 +204,6 @@ pub fn answers<R: Threads + Sync>(
     let done = AtomicU64::new(0);
     play_all(
         rt,
-        parties(alloc, arena.writer(token), setting, steps, &done)?,
+        parties(alloc, arena.writer(alloc, token)?, setting, steps, &done)?,
     )
 }

@@ -12,32 +12,32 @@ use word_arena::{Again, Aimed, Reader, Steps};
 
 /// The state of a reader's seat.
 #[derive(Drop)]
-pub enum Stand<'a> {
-    Idle(Reader<'a, 22, OneNode>),
-    Aimed(Aimed<'a, 22, OneNode>),
-    Guards(Held<'a>),
+pub enum Stand {
+    Idle(Reader<22, OneNode>),
+    Aimed(Aimed<22, OneNode>),
+    Guards(Held),
     Gone,
 }
 
-fn told<'a>(held: Held<'a>) -> (Stand<'a>, Answer) {
+fn told(held: Held) -> (Stand, Answer) {
     let mut held = held;
     let look = held.look();
     (Stand::Guards(held), Answer::Guards(look))
 }
 
-fn missed<'a>(again: Again<'a, 22, OneNode>) -> (Stand<'a>, Answer) {
+fn missed(again: Again<22, OneNode>) -> (Stand, Answer) {
     let Again { reader, found } = again;
     (Stand::Idle(reader), Answer::Closed(found))
 }
 
-fn raise<'a>(aimed: Aimed<'a, 22, OneNode>) -> (Stand<'a>, Answer) {
+fn raise(aimed: Aimed<22, OneNode>) -> (Stand, Answer) {
     match raised(aimed) {
         Ok(held) => told(held),
         Err(again) => missed(again),
     }
 }
 
-fn try_once<'a>(reader: Reader<'a, 22, OneNode>) -> (Stand<'a>, Answer) {
+fn try_once(reader: Reader<22, OneNode>) -> (Stand, Answer) {
     match tried(reader) {
         Ok(held) => told(held),
         Err(again) => missed(again),
@@ -45,7 +45,7 @@ fn try_once<'a>(reader: Reader<'a, 22, OneNode>) -> (Stand<'a>, Answer) {
 }
 
 /// Returns a guard, after as many tries as it takes.
-fn guard_by<'a, C: Ledger>(reader: Reader<'a, 22, OneNode>, blank: Blank) -> Held<'a>
+fn guard_by<C: Ledger>(reader: Reader<22, OneNode>, blank: Blank) -> Held
     requires name { blank.name ≡ C.name }
     requires parts { blank.parts ≡ C.parts }
     requires some { 0 < C.parts }
@@ -55,7 +55,7 @@ fn guard_by<'a, C: Ledger>(reader: Reader<'a, 22, OneNode>, blank: Blank) -> Hel
 }
 
 /// Does a task with an idle reader.
-fn from_idle<'a>(reader: Reader<'a, 22, OneNode>, task: Task) -> (Stand<'a>, Answer) {
+fn from_idle(reader: Reader<22, OneNode>, task: Task) -> (Stand, Answer) {
     match task {
         Task::Aim => (Stand::Aimed(reader.aim()), Answer::Aimed),
         Task::Try => try_once(reader),
@@ -64,7 +64,7 @@ fn from_idle<'a>(reader: Reader<'a, 22, OneNode>, task: Task) -> (Stand<'a>, Ans
     }
 }
 
-fn from_guard<'a>(held: Held<'a>, task: Task) -> (Stand<'a>, Answer) {
+fn from_guard(held: Held, task: Task) -> (Stand, Answer) {
     match task {
         Task::Read => told(held),
         Task::Again => told(held.again()),
@@ -78,7 +78,7 @@ fn from_guard<'a>(held: Held<'a>, task: Task) -> (Stand<'a>, Answer) {
 }
 
 /// Does a task with a reader's seat.
-fn read_on<'a>(stand: Stand<'a>, task: Task) -> (Stand<'a>, Answer) {
+fn read_on(stand: Stand, task: Task) -> (Stand, Answer) {
     match stand {
         Stand::Idle(reader) => from_idle(reader, task),
         Stand::Aimed(aimed) => match task {
@@ -90,7 +90,7 @@ fn read_on<'a>(stand: Stand<'a>, task: Task) -> (Stand<'a>, Answer) {
     }
 }
 
-impl<'a> Seat for Stand<'a> {
+impl Seat for Stand {
     fn take(&mut self, task: Task) -> Answer {
         let (next, answer) = read_on(replace(self, Stand::Gone), task);
         *self = next;

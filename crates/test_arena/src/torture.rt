@@ -74,7 +74,7 @@ impl Sight {
 }
 
 /// Makes one look: takes a guard, reads its words and releases it; or finds the hold closed.
-fn look<'a>(aimed: Aimed<'a, 22, OneNode>, sight: &mut Sight) -> Reader<'a, 22, OneNode> {
+fn look(aimed: Aimed<22, OneNode>, sight: &mut Sight) -> Reader<22, OneNode> {
     match raised(aimed) {
         Ok(held) => {
             let mut held = held;
@@ -98,7 +98,7 @@ fn linger(ticks: &AtomicU64, look: u64) {
 }
 
 /// Looks until the last commit is seen.
-fn watch<'a>(reader: Reader<'a, 22, OneNode>, commits: u32) -> Sight {
+fn watch(reader: Reader<22, OneNode>, commits: u32) -> Sight {
     let mut reader = reader;
     let mut sight = Sight::default();
     let ticks = AtomicU64::new(0);
@@ -162,19 +162,19 @@ pub fn write<W: Work<22, Layout = OneNode>>(work: &mut W, commits: u32) -> Turns
 
 /// The seat of a thread.
 #[derive(Drop)]
-enum Post<'a> {
-    Write(Writer<'a, 22, OneNode>),
-    Watch(Reader<'a, 22, OneNode>),
+enum Post {
+    Write(Writer<22, OneNode>),
+    Watch(Reader<22, OneNode>),
 }
 
 /// The task of one thread.
 #[derive(Drop)]
-struct Job<'a> {
-    post: Post<'a>,
+struct Job {
+    post: Post,
     commits: u32,
 }
 
-fn work_on(job: Job<'_>) -> Tally {
+fn work_on(job: Job) -> Tally {
     let Job { post, commits } = job;
     let mut tally = Tally::default();
     tally.sights.last = commits;
@@ -189,12 +189,12 @@ fn work_on(job: Job<'_>) -> Tally {
 }
 
 /// Returns the tasks of the writer and the readers.
-fn jobs_of<'a>(
+fn jobs_of(
     alloc: Global,
-    writer: Writer<'a, 22, OneNode>,
+    writer: Writer<22, OneNode>,
     readers: u32,
     commits: u32,
-) -> Result<Vec<Job<'a>>, AllocError> {
+) -> Result<Vec<Job>, AllocError> {
     let mut writer = writer;
     let mut jobs = Vec::new(alloc);
     for _ in 0..readers {
@@ -212,7 +212,7 @@ fn jobs_of<'a>(
     Ok(jobs)
 }
 
-fn work_all<'a, R: Threads + Sync>(rt: &R, jobs: Vec<Job<'a>>) -> Result<Vec<Tally>, AllocError> {
+fn work_all<R: Threads + Sync>(rt: &R, jobs: Vec<Job>) -> Result<Vec<Tally>, AllocError> {
     map_vec(
         rt,
         jobs,
@@ -250,6 +250,7 @@ pub fn torture<R: Threads + Sync>(
         },
     };
     let (arena, token) = Arena::<22, OneNode>::create(alloc, config)?;
-    let parts = work_all(rt, jobs_of(alloc, arena.writer(token), READERS, commits)?)?;
+    let writer = arena.writer(alloc, token)?;
+    let parts = work_all(rt, jobs_of(alloc, writer, READERS, commits)?)?;
     Ok(tally_of(parts.as_slice(), commits))
 }

@@ -128,14 +128,14 @@ pub fn work_on<W: Work<22, Layout = OneNode>>(
     }
 }
 
-fn seat(writer: &mut Writer<'_, 22, OneNode>) -> Answer {
+fn seat(writer: &mut Writer<22, OneNode>) -> Answer {
     match writer.reader() {
         Ok(_) => Answer::Seat,
         Err(none) => Answer::NoSeat(none.made),
     }
 }
 
-fn take_in(writer: &mut Writer<'_, 22, OneNode>) -> Answer {
+fn take_in(writer: &mut Writer<22, OneNode>) -> Answer {
     match writer.reader() {
         Ok(reader) => {
             writer.take_in(reader);
@@ -146,7 +146,7 @@ fn take_in(writer: &mut Writer<'_, 22, OneNode>) -> Answer {
 }
 
 /// Does a task with the writer's seat.
-pub fn write_on(writer: &mut Writer<'_, 22, OneNode>, past: Past, task: Task) -> (Past, Answer)
+pub fn write_on(writer: &mut Writer<22, OneNode>, past: Past, task: Task) -> (Past, Answer)
     requires { IsOfPast (view_of writer.old.place.table_id (writer_of writer.old.place.me.0)) past }
     ensures { IsOfPast (view_of writer.new.place.table_id (writer_of writer.new.place.me.0)) result.0 }
 {

@@ -28,12 +28,12 @@ fn compact_one<const OFFSET_BITS: u32, S: Store<OFFSET_BITS, Layout = AttrLayout
 
 /// Takes guards by a number of readers, one after another, with a compaction after each. What each reader reads of
 /// its image is kept when it takes its guard, and again before it releases it, after all compactions.
-fn under_guards<'a, const OFFSET_BITS: u32, S: Store<OFFSET_BITS, Layout = AttrLayout>>(
+fn under_guards<const OFFSET_BITS: u32, S: Store<OFFSET_BITS, Layout = AttrLayout>>(
     alloc: Global,
     attribute: &mut Attribute<OFFSET_BITS, S>,
     fields: &Fields,
     course: &mut Course,
-    readers: &mut Readers<'a, OFFSET_BITS>,
+    readers: &mut Readers<OFFSET_BITS>,
     left: u32,
 ) -> Result<(), AllocError>
     requires few { length fields.now ≤ MOST_FIELDS }
@@ -74,12 +74,12 @@ fn commit_thrice<const OFFSET_BITS: u32, S: Store<OFFSET_BITS, Layout = AttrLayo
 
 /// Makes compactions under guards, if the row has any, and then three commits after the guards. Returns whether the
 /// run continues.
-pub fn keep_guards<'a, const OFFSET_BITS: u32, S: Store<OFFSET_BITS, Layout = AttrLayout>>(
+pub fn keep_guards<const OFFSET_BITS: u32, S: Store<OFFSET_BITS, Layout = AttrLayout>>(
     alloc: Global,
     attribute: &mut Attribute<OFFSET_BITS, S>,
     fields: &Fields,
     course: &mut Course,
-    readers: &mut Readers<'a, OFFSET_BITS>,
+    readers: &mut Readers<OFFSET_BITS>,
 ) -> Result<bool, AllocError>
     requires few { length fields.now ≤ MOST_FIELDS }
     requires same { attribute.old.fields ≡ fields.now }

@@ -16,9 +16,9 @@ use std::alloc::{AllocError, Global};
 use word_arena::{Arena, Config, Limits, Writer};
 
 /// Makes a run over a writer that has committed nothing, with the readers that keep guards.
-fn run_seated<'a>(
+fn run_seated(
     alloc: Global,
-    writer: Writer<'a, 22, AttrLayout>,
+    writer: Writer<22, AttrLayout>,
     fields: &Fields,
     course: &mut Course,
 ) -> Result<Outcome, AllocError>
@@ -58,7 +58,7 @@ fn run_over(
         },
     };
     let (arena, token) = Arena::<22, AttrLayout>::create(alloc, config)?;
-    let writer = arena.writer(token);
+    let writer = arena.writer(alloc, token)?;
     run_seated(alloc, writer, fields, course)
 }
 

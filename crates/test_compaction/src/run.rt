@@ -41,12 +41,12 @@ pub fn open<const OFFSET_BITS: u32, W: Work<OFFSET_BITS, Layout = AttrLayout> + 
 }
 
 /// Makes the operations of a row, and the compactions after them.
-fn play<'a, const OFFSET_BITS: u32, S: Store<OFFSET_BITS, Layout = AttrLayout>>(
+fn play<const OFFSET_BITS: u32, S: Store<OFFSET_BITS, Layout = AttrLayout>>(
     alloc: Global,
     attribute: &mut Attribute<OFFSET_BITS, S>,
     fields: &Fields,
     course: &mut Course,
-    readers: &mut Readers<'a, OFFSET_BITS>,
+    readers: &mut Readers<OFFSET_BITS>,
 ) -> Result<(), AllocError>
     requires few { length fields.now ≤ MOST_FIELDS }
     requires same { attribute.old.fields ≡ fields.now }
@@ -71,12 +71,12 @@ pub struct Ending {
 
 /// Makes a run on attributes without documents. They are closed also if memory was exhausted, since dropping them is
 /// more expensive to prove.
-pub fn play_out<'a, const OFFSET_BITS: u32, S: Store<OFFSET_BITS, Layout = AttrLayout>>(
+pub fn play_out<const OFFSET_BITS: u32, S: Store<OFFSET_BITS, Layout = AttrLayout>>(
     alloc: Global,
     attribute: Attribute<OFFSET_BITS, S>,
     fields: &Fields,
     course: &mut Course,
-    readers: &mut Readers<'a, OFFSET_BITS>,
+    readers: &mut Readers<OFFSET_BITS>,
 ) -> (S, Ending)
     requires few { length fields.now ≤ MOST_FIELDS }
     requires same { attribute.fields ≡ fields.now }

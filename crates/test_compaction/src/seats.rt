@@ -18,17 +18,17 @@ use word_arena::{Guarded, Reader, Writer};
 
 /// A reader of images with this shape.
 #[derive(Drop)]
-struct Seat<'a, const OFFSET_BITS: u32> {
-    reader: Reader<'a, OFFSET_BITS, AttrLayout>,
+struct Seat<const OFFSET_BITS: u32> {
+    reader: Reader<OFFSET_BITS, AttrLayout>,
     shape: u32,
     ghost fits: { (reader_of reader.place.me.0).sizes.shape ≡ shape },
 }
 
 /// Makes one more reader of a writer that has committed nothing.
-fn seat_in<'a, const OFFSET_BITS: u32>(
-    writer: &mut Writer<'a, OFFSET_BITS, AttrLayout>,
+fn seat_in<const OFFSET_BITS: u32>(
+    writer: &mut Writer<OFFSET_BITS, AttrLayout>,
     shape: u32,
-) -> Result<Seat<'a, OFFSET_BITS>, AllocError>
+) -> Result<Seat<OFFSET_BITS>, AllocError>
     requires shape { (writer_of writer.old.place.me.0).sizes.shape ≡ shape }
     requires fresh { IsFresh (view_of writer.old.place.table_id (writer_of writer.old.place.me.0)) }
     ensures shape { (writer_of writer.new.place.me.0).sizes.shape ≡ shape }
@@ -42,14 +42,14 @@ fn seat_in<'a, const OFFSET_BITS: u32>(
 
 /// Readers that had no guard so far, and what was read under the guards of others.
 #[derive(Drop)]
-pub struct Readers<'a, const OFFSET_BITS: u32> {
-    seats: Vec<Seat<'a, OFFSET_BITS>>,
+pub struct Readers<const OFFSET_BITS: u32> {
+    seats: Vec<Seat<OFFSET_BITS>>,
     sights: Vec<Sight>,
     /// Everything read was consistent in itself.
     are_sound: bool,
 }
 
-impl<'a, const OFFSET_BITS: u32> Readers<'a, OFFSET_BITS> {
+impl<const OFFSET_BITS: u32> Readers<OFFSET_BITS> {
     /// Returns an empty list of readers.
     pub fn new(alloc: Global) -> Self {
         Readers {
@@ -62,7 +62,7 @@ impl<'a, const OFFSET_BITS: u32> Readers<'a, OFFSET_BITS> {
     /// Adds readers of a writer that has committed nothing.
     pub fn add(
         &mut self,
-        writer: &mut Writer<'a, OFFSET_BITS, AttrLayout>,
+        writer: &mut Writer<OFFSET_BITS, AttrLayout>,
         count: u32,
         shape: u32,
     ) -> Result<(), AllocError>
@@ -78,7 +78,7 @@ impl<'a, const OFFSET_BITS: u32> Readers<'a, OFFSET_BITS> {
     }
 
     /// Takes a guard by the next reader, if possible.
-    pub fn next_guard(&mut self, fields: &Fields) -> Option<Guarded<'a, OFFSET_BITS, AttrLayout>>
+    pub fn next_guard(&mut self, fields: &Fields) -> Option<Guarded<OFFSET_BITS, AttrLayout>>
         requires few { length fields.now ≤ MOST_FIELDS }
         ensures shape { IfSome result (λ g. (reader_of g.place.me.0).sizes.shape ≡ shape_of (types_of fields.now)) }
         ensures image { IfSome result (λ g. IsLawfulImage (reader_of g.place.me.0).sizes.shape
@@ -100,14 +100,14 @@ impl<'a, const OFFSET_BITS: u32> Readers<'a, OFFSET_BITS> {
     pub fn hear(
         &mut self,
         alloc: Global,
-        guard: Guarded<'a, OFFSET_BITS, AttrLayout>,
+        guard: Guarded<OFFSET_BITS, AttrLayout>,
         fields: &Fields,
-    ) -> Result<Guarded<'a, OFFSET_BITS, AttrLayout>, AllocError>
+    ) -> Result<Guarded<OFFSET_BITS, AttrLayout>, AllocError>
         requires few { length fields.now ≤ MOST_FIELDS }
         requires shape { (reader_of guard.place.me.0).sizes.shape ≡ shape_of (types_of fields.now) }
         requires image { IsLawfulImage (reader_of guard.place.me.0).sizes.shape (words_at (seen_image (reader_of guard.place.me.0)))
             (seen_image (reader_of guard.place.me.0)).root }
-        ensures same { IfOk result (λ g. g ≡ guard.entry) }
+        ensures same { IfOk result (λ g. g ≡ guard) }
     {
         let (root, commit) = (guard.root(), guard.commit());
         let mut heard = Heard::new(alloc, guard);

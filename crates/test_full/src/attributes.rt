@@ -38,10 +38,10 @@ pub fn one_field(alloc: Global) -> Result<Fields, AllocError>
 }
 
 /// Makes a reader of a new memory.
-pub fn seat_in<'a>(
-    writer: &mut Writer<'a, 22, AttrLayout>,
+pub fn seat_in(
+    writer: &mut Writer<22, AttrLayout>,
     fields: &Fields,
-) -> Result<Reader<'a, 22, AttrLayout>, AllocError>
+) -> Result<Reader<22, AttrLayout>, AllocError>
     requires new { IsNewWriter fields.now writer.old.place.table_id (writer_of writer.old.place.me.0) }
     ensures new { OnOk result (IsNewWriter fields.now writer.new.place.table_id (writer_of writer.new.place.me.0)) }
     ensures shape { IfOk result (λ reader. (reader_of reader.place.me.0).sizes.shape ≡ shape_of (types_of fields.now)) }

@@ -73,9 +73,9 @@ fn push_round(line: &mut String, round: Option<&Round<Told>>) -> Result<(), Allo
 }
 
 /// Writes the documents of the last commit, and which of them have this number and the next one.
-fn tell_last<'a>(
+fn tell_last(
     alloc: Global,
-    reader: Reader<'a, 22, AttrLayout>,
+    reader: Reader<22, AttrLayout>,
     fields: &Fields,
     last: u32,
     line: &mut String,
@@ -96,11 +96,11 @@ fn tell_last<'a>(
 }
 
 /// The same after a reader dropped a guard of the empty commit, with the answers of another reader.
-pub fn lose<'a, const OFFSET_BITS: u32, S: Store<OFFSET_BITS, Layout = AttrLayout>>(
+pub fn lose<const OFFSET_BITS: u32, S: Store<OFFSET_BITS, Layout = AttrLayout>>(
     alloc: Global,
     attribute: &mut Attribute<OFFSET_BITS, S>,
-    reader: Reader<'a, 22, AttrLayout>,
-    other: Reader<'a, 22, AttrLayout>,
+    reader: Reader<22, AttrLayout>,
+    other: Reader<22, AttrLayout>,
     fields: &Fields,
     puts: u32,
     line: &mut String,

@@ -118,10 +118,10 @@ fn put_all<const OFFSET_BITS: u32, S: Store<OFFSET_BITS, Layout = AttrLayout>>(
 }
 
 /// Makes the puts under a guard, until there is no space, and then releases the guard.
-fn put_under<'a, const OFFSET_BITS: u32, S: Store<OFFSET_BITS, Layout = AttrLayout>>(
+fn put_under<const OFFSET_BITS: u32, S: Store<OFFSET_BITS, Layout = AttrLayout>>(
     alloc: Global,
     attribute: &mut Attribute<OFFSET_BITS, S>,
-    guard: Guarded<'a, 22, AttrLayout>,
+    guard: Guarded<22, AttrLayout>,
     fields: &Fields,
     load: Load,
     above: u32,
@@ -135,10 +135,10 @@ fn put_under<'a, const OFFSET_BITS: u32, S: Store<OFFSET_BITS, Layout = AttrLayo
 }
 
 /// Makes all puts, some of them under a guard.
-fn put_guarded<'a, const OFFSET_BITS: u32, S: Store<OFFSET_BITS, Layout = AttrLayout>>(
+fn put_guarded<const OFFSET_BITS: u32, S: Store<OFFSET_BITS, Layout = AttrLayout>>(
     alloc: Global,
     attribute: &mut Attribute<OFFSET_BITS, S>,
-    reader: Reader<'a, 22, AttrLayout>,
+    reader: Reader<22, AttrLayout>,
     fields: &Fields,
     load: Load,
 ) -> Result<Told, AllocError>
@@ -194,11 +194,11 @@ fn tell_all<const OFFSET_BITS: u32, S: Store<OFFSET_BITS, Layout = AttrLayout>>(
 }
 
 /// Runs a test on attributes without documents, with two readers beside them.
-fn answer_one<'a, const OFFSET_BITS: u32, S: Store<OFFSET_BITS, Layout = AttrLayout>>(
+fn answer_one<const OFFSET_BITS: u32, S: Store<OFFSET_BITS, Layout = AttrLayout>>(
     alloc: Global,
     attribute: &mut Attribute<OFFSET_BITS, S>,
-    reader: Reader<'a, 22, AttrLayout>,
-    other: Reader<'a, 22, AttrLayout>,
+    reader: Reader<22, AttrLayout>,
+    other: Reader<22, AttrLayout>,
     fields: &Fields,
     asked: Asked<'_>,
     answer: &mut Answer,
@@ -244,11 +244,11 @@ fn answer_end<const OFFSET_BITS: u32, S: Store<OFFSET_BITS, Layout = AttrLayout>
 }
 
 /// The same over a writer that has committed nothing.
-fn answer_over<'a>(
+fn answer_over(
     alloc: Global,
-    writer: Writer<'a, 22, AttrLayout>,
-    reader: Reader<'a, 22, AttrLayout>,
-    other: Reader<'a, 22, AttrLayout>,
+    writer: Writer<22, AttrLayout>,
+    reader: Reader<22, AttrLayout>,
+    other: Reader<22, AttrLayout>,
     fields: &Fields,
     asked: Asked<'_>,
     told: &mut Answer,
@@ -267,9 +267,9 @@ fn answer_over<'a>(
 }
 
 /// The same over a writer that has no reader.
-fn answer_seated<'a>(
+fn answer_seated(
     alloc: Global,
-    writer: Writer<'a, 22, AttrLayout>,
+    writer: Writer<22, AttrLayout>,
     fields: &Fields,
     asked: Asked<'_>,
     told: &mut Answer,
@@ -304,7 +304,7 @@ fn answer_with(
         limits,
     };
     let (arena, token) = Arena::create(alloc, config)?;
-    let writer = arena.writer(token);
+    let writer = arena.writer(alloc, token)?;
     answer_seated(alloc, writer, fields, asked, told)
 }
 

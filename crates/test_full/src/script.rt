@@ -78,10 +78,10 @@ fn take_steps<const OFFSET_BITS: u32, S: Store<OFFSET_BITS, Layout = AttrLayout>
 }
 
 /// Takes the steps before a guard, under it and after its release.
-pub fn follow<'a, const OFFSET_BITS: u32, S: Store<OFFSET_BITS, Layout = AttrLayout>>(
+pub fn follow<const OFFSET_BITS: u32, S: Store<OFFSET_BITS, Layout = AttrLayout>>(
     alloc: Global,
     attribute: &mut Attribute<OFFSET_BITS, S>,
-    reader: Reader<'a, 22, AttrLayout>,
+    reader: Reader<22, AttrLayout>,
     fields: &Fields,
     script: Script<'_>,
     line: &mut String,

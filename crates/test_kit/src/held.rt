@@ -10,8 +10,8 @@ use std::sync::ledger::Ledger;
 use word_arena::{Again, Aimed, Guarded, Reader, Steps};
 
 #[derive(Drop)]
-pub struct Held<'a> {
-    guard: Guarded<'a, 22, OneNode>,
+pub struct Held {
+    guard: Guarded<22, OneNode>,
     ghost node: { IsNodeRecord (reader_of guard.place.me.0).sizes.shape (words_at (seen_image (reader_of guard.place.me.0)))
         (seen_image (reader_of guard.place.me.0)).root },
 }
@@ -23,7 +23,7 @@ pub struct Look {
     pub whole: Option<bool>,
 }
 
-impl<'a> Held<'a> {
+impl Held {
     pub fn commit(&self) -> u32 {
         self.guard.commit()
     }
@@ -50,21 +50,21 @@ impl<'a> Held<'a> {
     }
 
     /// Loads the last commit again, under the same hold.
-    pub fn again(self) -> Held<'a> {
+    pub fn again(self) -> Held {
         let Held { guard } = self;
         Held {
             guard: guard.again(),
         }
     }
 
-    pub fn release(self) -> Reader<'a, 22, OneNode> {
+    pub fn release(self) -> Reader<22, OneNode> {
         let Held { guard } = self;
         guard.release()
     }
 }
 
 /// Raises the hold, and returns a guard, or the reader and the count that it found.
-pub fn raised<'a>(aimed: Aimed<'a, 22, OneNode>) -> Result<Held<'a>, Again<'a, 22, OneNode>> {
+pub fn raised(aimed: Aimed<22, OneNode>) -> Result<Held, Again<22, OneNode>> {
     match aimed.try_raise() {
         Ok(guard) => Ok(Held { guard }),
         Err(again) => Err(again),
@@ -72,7 +72,7 @@ pub fn raised<'a>(aimed: Aimed<'a, 22, OneNode>) -> Result<Held<'a>, Again<'a, 2
 }
 
 /// Aims at the newest hold and raises it.
-pub fn tried<'a>(reader: Reader<'a, 22, OneNode>) -> Result<Held<'a>, Again<'a, 22, OneNode>> {
+pub fn tried(reader: Reader<22, OneNode>) -> Result<Held, Again<22, OneNode>> {
     match reader.try_guard() {
         Ok(guard) => Ok(Held { guard }),
         Err(again) => Err(again),
@@ -80,7 +80,7 @@ pub fn tried<'a>(reader: Reader<'a, 22, OneNode>) -> Result<Held<'a>, Again<'a, 
 }
 
 /// Returns a guard, after as many tries as it takes.
-pub fn guarded<'a, C: Ledger>(reader: Reader<'a, 22, OneNode>, tries: &mut Steps<C>) -> Held<'a> {
+pub fn guarded<C: Ledger>(reader: Reader<22, OneNode>, tries: &mut Steps<C>) -> Held {
     Held {
         guard: reader.guard(tries),
     }

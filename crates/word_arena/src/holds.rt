@@ -17,7 +17,7 @@ use entry_ref::Layout;
 use gen_core::{Buffer, Tag};
 use generation_handler::HOLDS;
 
-impl<'a, const OFFSET_BITS: u32, L: Layout> Writer<'a, OFFSET_BITS, L> {
+impl<const OFFSET_BITS: u32, L: Layout> Writer<OFFSET_BITS, L> {
     // Puts a buffer on hold in which the last commit has no record, with the current generation and that commit as
     // its tag.
     pub(crate) fn put_on_hold(&mut self, buffer: u32)
@@ -34,7 +34,8 @@ impl<'a, const OFFSET_BITS: u32, L: Layout> Writer<'a, OFFSET_BITS, L> {
             commit: u64::from(self.last),
         };
         let at = buffer as usize;
-        self.arena
+        let arena = self.seats.arena();
+        arena
             .table
             .shared
             .store::<PutOnHold<L>>(&mut self.place, FIRST_STATE + at, ON_HOLD);
@@ -49,14 +50,14 @@ impl<'a, const OFFSET_BITS: u32, L: Layout> Writer<'a, OFFSET_BITS, L> {
     {
         let newest = self.holds.newest();
         let hold = newest.hold as usize;
-        let count = self
-            .arena
+        let arena = self.seats.arena();
+        let count = arena
             .table
             .shared
             .load::<Probe<L>>(&mut self.place, FIRST_COUNT + hold);
         if count == 0 {
             let word = (newest.generation + 1) * GENERATION_BASE + u64::from(newest.hold);
-            self.arena
+            arena
                 .table
                 .shared
                 .store::<Morph<L>>(&mut self.place, LAST, word);
@@ -74,11 +75,12 @@ impl<'a, const OFFSET_BITS: u32, L: Layout> Writer<'a, OFFSET_BITS, L> {
         let newest = self.holds.newest();
         let word = (newest.generation + 1) * GENERATION_BASE + u64::from(hold);
         let at = hold as usize;
-        self.arena
+        let arena = self.seats.arena();
+        arena
             .table
             .shared
             .fetch_sub::<Reopen<L>>(&mut self.place, FIRST_COUNT + at, CLOSED);
-        self.arena
+        arena
             .table
             .shared
             .store::<StoreNewest<L>>(&mut self.place, LAST, word);
@@ -91,7 +93,8 @@ impl<'a, const OFFSET_BITS: u32, L: Layout> Writer<'a, OFFSET_BITS, L> {
         ensures view { AdvancesView result (writer_of self.old.place.me.0) (writer_of self.new.place.me.0) }
     {
         let newest = self.holds.newest();
-        if newest.generation >= self.arena.sizes.generation_limit {
+        let arena = self.seats.arena();
+        if newest.generation >= arena.sizes.generation_limit {
             return Advance::Spent {
                 generation: newest.generation,
             };
@@ -124,8 +127,8 @@ impl<'a, const OFFSET_BITS: u32, L: Layout> Writer<'a, OFFSET_BITS, L> {
     {
         let oldest = self.holds.oldest();
         let hold = oldest.hold as usize;
-        let count = self
-            .arena
+        let arena = self.seats.arena();
+        let count = arena
             .table
             .shared
             .compare_exchange::<Close<L>>(&mut self.place, FIRST_COUNT + hold, 0, CLOSED);
@@ -161,7 +164,8 @@ impl<'a, const OFFSET_BITS: u32, L: Layout> Writer<'a, OFFSET_BITS, L> {
             None => {}
             Some(tag) => {
                 let at = buffer as usize;
-                self.arena
+                let arena = self.seats.arena();
+                arena
                     .table
                     .shared
                     .store::<FreeBuffer<L>>(&mut self.place, FIRST_STATE + at, FREE);
@@ -176,7 +180,8 @@ impl<'a, const OFFSET_BITS: u32, L: Layout> Writer<'a, OFFSET_BITS, L> {
         ensures view { FreesUnused (writer_of self.old.place.me.0) (writer_of self.new.place.me.0) }
     {
         let oldest = self.holds.oldest();
-        let count = self.arena.sizes.buffers as u32;
+        let arena = self.seats.arena();
+        let count = arena.sizes.buffers as u32;
         for buffer in 0..count {
             self.free_one(buffer, oldest.generation);
         }

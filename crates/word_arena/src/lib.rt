@@ -8,6 +8,7 @@ mod holds;
 mod plays;
 mod reader;
 mod rule;
+mod seats;
 mod steps;
 mod words;
 mod work;

@@ -16,79 +16,81 @@ use crate::steps::Steps;
 use crate::words::{COMMIT_BASE, FIRST_COUNT, GENERATION_BASE, LAST, RAISED, ROOT, first_word};
 use arena_api::Frozen;
 use entry_ref::{EntryRef, Layout, place_of};
+use std::sync::Arc;
 use std::sync::ledger::Ledger;
 
 #[derive(Drop)]
-pub struct Reader<'a, const OFFSET_BITS: u32, L: Layout> {
-    pub(crate) arena: &'a Arena<OFFSET_BITS, L>,
+pub struct Reader<const OFFSET_BITS: u32, L: Layout> {
+    pub(crate) arena: Arc<Arena<OFFSET_BITS, L>>,
     pub(crate) place: Place,
-    ghost stands: { IsWatch OFFSET_BITS arena.now.table.shared.table_id arena.now.sizes place.table_id (bare place.me) },
+    ghost stands: { IsWatch OFFSET_BITS arena.value.table.shared.table_id arena.value.sizes place.table_id (bare place.me) },
 }
 
 /// A reader that guards a commit, with the root word that it loaded.
 #[derive(Drop)]
-pub struct Guarded<'a, const OFFSET_BITS: u32, L: Layout> {
-    pub(crate) arena: &'a Arena<OFFSET_BITS, L>,
+pub struct Guarded<const OFFSET_BITS: u32, L: Layout> {
+    pub(crate) arena: Arc<Arena<OFFSET_BITS, L>>,
     pub(crate) hold: u64,
     pub(crate) found: u64,
     pub(crate) place: Place,
-    ghost stands: { IsGuard OFFSET_BITS arena.now.table.shared.table_id arena.now.sizes hold found place.table_id (bare place.me) },
+    ghost stands: { IsGuard OFFSET_BITS arena.value.table.shared.table_id arena.value.sizes hold found place.table_id (bare place.me) },
 }
 
 /// A reader that has loaded the newest hold and aims at it.
 #[derive(Drop)]
-pub struct Aimed<'a, const OFFSET_BITS: u32, L: Layout> {
-    pub(crate) arena: &'a Arena<OFFSET_BITS, L>,
+pub struct Aimed<const OFFSET_BITS: u32, L: Layout> {
+    pub(crate) arena: Arc<Arena<OFFSET_BITS, L>>,
     pub(crate) hold: u64,
     pub(crate) place: Place,
-    ghost stands: { IsAim OFFSET_BITS arena.now.table.shared.table_id arena.now.sizes hold place.table_id (bare place.me) },
+    ghost stands: { IsAim OFFSET_BITS arena.value.table.shared.table_id arena.value.sizes hold place.table_id (bare place.me) },
 }
 
 /// The hold was closed in the meantime: the reader, and the count that it found.
 #[derive(Drop)]
-pub struct Again<'a, const OFFSET_BITS: u32, L: Layout> {
-    pub reader: Reader<'a, OFFSET_BITS, L>,
+pub struct Again<const OFFSET_BITS: u32, L: Layout> {
+    pub reader: Reader<OFFSET_BITS, L>,
     pub found: u64,
 }
 
-impl<'a, const OFFSET_BITS: u32, L: Layout> Reader<'a, OFFSET_BITS, L> {
+impl<const OFFSET_BITS: u32, L: Layout> Reader<OFFSET_BITS, L> {
     /// Aims at the newest hold.
-    pub fn aim(self) -> Aimed<'a, OFFSET_BITS, L>
-        ensures loads { LoadsNewest L.reaches L.lawful self.entry.place.me result.place.me }
-        ensures aims { IsAimOf (reader_of self.entry.place.me.0) (reader_of result.place.me.0) }
-        ensures table { result.place.table_id ≡ self.entry.place.table_id }
+    pub fn aim(self) -> Aimed<OFFSET_BITS, L>
+        ensures loads { LoadsNewest L.reaches L.lawful self.place.me result.place.me }
+        ensures aims { IsAimOf (reader_of self.place.me.0) (reader_of result.place.me.0) }
+        ensures table { result.place.table_id ≡ self.place.table_id }
     {
         let Reader { arena, mut place } = self;
-        let last = arena.table.shared.load::<LoadNewest<L>>(&mut place, LAST);
+        let held = &*arena;
+        let last = held.table.shared.load::<LoadNewest<L>>(&mut place, LAST);
         let hold = last % GENERATION_BASE;
         Aimed { arena, hold, place }
     }
 
     /// Aims at the newest hold and raises it. Returns a guard of the last commit if and only if the count found by
     /// the raise is even. Otherwise the hold was closed in the meantime, and the reader is returned.
-    pub fn try_guard(self) -> Result<Guarded<'a, OFFSET_BITS, L>, Again<'a, OFFSET_BITS, L>>
-        ensures ok { IfOk result (λ g. IsLater L.reaches L.lawful (reader_of self.entry.place.me.0) (reader_of g.place.me.0)) }
-        ensures again { IfErr result (λ a. IsHigher (reader_of self.entry.place.me.0) (reader_of a.reader.place.me.0)) }
-        ensures even { IfOk result (λ g. (n : ℕ) × TryFinds L.reaches L.lawful self.entry.place.me n × (n % 2 ≡ 0)) }
-        ensures odd { IfErr result (λ a. TryFinds L.reaches L.lawful self.entry.place.me a.found × (a.found % 2 ≡ 1)) }
+    pub fn try_guard(self) -> Result<Guarded<OFFSET_BITS, L>, Again<OFFSET_BITS, L>>
+        ensures ok { IfOk result (λ g. IsLater L.reaches L.lawful (reader_of self.place.me.0) (reader_of g.place.me.0)) }
+        ensures again { IfErr result (λ a. IsHigher (reader_of self.place.me.0) (reader_of a.reader.place.me.0)) }
+        ensures even { IfOk result (λ g. (n : ℕ) × TryFinds L.reaches L.lawful self.place.me n × (n % 2 ≡ 0)) }
+        ensures odd { IfErr result (λ a. TryFinds L.reaches L.lawful self.place.me a.found × (a.found % 2 ≡ 1)) }
         ensures found { IfErr result (λ a. a.found ≡ (reader_of a.reader.place.me.0).misses.found) }
-        ensures hit { IfOk result (λ g. Tries (reader_of self.entry.place.me.0) (reader_of g.place.me.0) 0) }
-        ensures miss { IfErr result (λ a. Tries (reader_of self.entry.place.me.0) (reader_of a.reader.place.me.0) 1) }
-        ensures table { IfOk result (λ g. g.place.table_id ≡ self.entry.place.table_id) }
-        ensures back { IfErr result (λ a. a.reader.place.table_id ≡ self.entry.place.table_id) }
+        ensures hit { IfOk result (λ g. Tries (reader_of self.place.me.0) (reader_of g.place.me.0) 0) }
+        ensures miss { IfErr result (λ a. Tries (reader_of self.place.me.0) (reader_of a.reader.place.me.0) 1) }
+        ensures table { IfOk result (λ g. g.place.table_id ≡ self.place.table_id) }
+        ensures back { IfErr result (λ a. a.reader.place.table_id ≡ self.place.table_id) }
     {
         self.aim().try_raise()
     }
 
     /// Guards the last commit, with as many tries as it takes. Each failed try means that a generation has passed, so
     /// there is at most one try for each generation between the first aim and the last.
-    pub fn guard<C: Ledger>(self, tries: &mut Steps<C>) -> Guarded<'a, OFFSET_BITS, L>
-        ensures later { IsLater L.reaches L.lawful (reader_of self.entry.place.me.0) (reader_of result.place.me.0) }
+    pub fn guard<C: Ledger>(self, tries: &mut Steps<C>) -> Guarded<OFFSET_BITS, L>
+        ensures later { IsLater L.reaches L.lawful (reader_of self.place.me.0) (reader_of result.place.me.0) }
         ensures some { tries.old + 1 ≤ tries.new }
-        ensures tried { Tries (reader_of self.entry.place.me.0) (reader_of result.place.me.0) (tries.new - (tries.old + 1)) }
+        ensures tried { Tries (reader_of self.place.me.0) (reader_of result.place.me.0) (tries.new - (tries.old + 1)) }
         ensures few { tries.new + (reader_of result.place.me.0).first ≤ tries.old + 1 + (reader_of result.place.me.0).least }
-        ensures table { result.place.table_id ≡ self.entry.place.table_id }
-        ensures limit { tries.new ≤ tries.old + 1 + (reader_of self.entry.place.me.0).sizes.generation_limit }
+        ensures table { result.place.table_id ≡ self.place.table_id }
+        ensures limit { tries.new ≤ tries.old + 1 + (reader_of self.place.me.0).sizes.generation_limit }
     {
         let mut reader = self;
         loop {
@@ -107,32 +109,33 @@ impl<'a, const OFFSET_BITS: u32, L: Layout> Reader<'a, OFFSET_BITS, L> {
     }
 }
 
-impl<'a, const OFFSET_BITS: u32, L: Layout> Aimed<'a, OFFSET_BITS, L> {
+impl<const OFFSET_BITS: u32, L: Layout> Aimed<OFFSET_BITS, L> {
     /// Raises the hold. Returns a guard of the last commit if and only if the count found is even. Otherwise takes
     /// the 2 off the count again and returns the reader.
-    pub fn try_raise(self) -> Result<Guarded<'a, OFFSET_BITS, L>, Again<'a, OFFSET_BITS, L>>
-        ensures ok { IfOk result (λ g. IsLater L.reaches L.lawful (reader_of self.entry.place.me.0) (reader_of g.place.me.0)) }
-        ensures again { IfErr result (λ a. IsHigher (reader_of self.entry.place.me.0) (reader_of a.reader.place.me.0)) }
-        ensures even { IfOk result (λ g. (n : ℕ) × RaiseFinds L.reaches L.lawful self.entry.place.me n × (n % 2 ≡ 0)) }
-        ensures odd { IfErr result (λ a. RaiseFinds L.reaches L.lawful self.entry.place.me a.found × (a.found % 2 ≡ 1)) }
+    pub fn try_raise(self) -> Result<Guarded<OFFSET_BITS, L>, Again<OFFSET_BITS, L>>
+        ensures ok { IfOk result (λ g. IsLater L.reaches L.lawful (reader_of self.place.me.0) (reader_of g.place.me.0)) }
+        ensures again { IfErr result (λ a. IsHigher (reader_of self.place.me.0) (reader_of a.reader.place.me.0)) }
+        ensures even { IfOk result (λ g. (n : ℕ) × RaiseFinds L.reaches L.lawful self.place.me n × (n % 2 ≡ 0)) }
+        ensures odd { IfErr result (λ a. RaiseFinds L.reaches L.lawful self.place.me a.found × (a.found % 2 ≡ 1)) }
         ensures found { IfErr result (λ a. a.found ≡ (reader_of a.reader.place.me.0).misses.found) }
-        ensures hit { IfOk result (λ g. Missed (reader_of self.entry.place.me.0) (reader_of g.place.me.0) 0) }
-        ensures miss { IfErr result (λ a. Missed (reader_of self.entry.place.me.0) (reader_of a.reader.place.me.0) 1) }
-        ensures table { IfOk result (λ g. g.place.table_id ≡ self.entry.place.table_id) }
-        ensures back { IfErr result (λ a. a.reader.place.table_id ≡ self.entry.place.table_id) }
+        ensures hit { IfOk result (λ g. Missed (reader_of self.place.me.0) (reader_of g.place.me.0) 0) }
+        ensures miss { IfErr result (λ a. Missed (reader_of self.place.me.0) (reader_of a.reader.place.me.0) 1) }
+        ensures table { IfOk result (λ g. g.place.table_id ≡ self.place.table_id) }
+        ensures back { IfErr result (λ a. a.reader.place.table_id ≡ self.place.table_id) }
     {
         let Aimed {
             arena,
             hold,
             mut place,
         } = self;
+        let held = &*arena;
         let word = FIRST_COUNT + hold as usize;
-        let count = arena
+        let count = held
             .table
             .shared
             .fetch_add::<Raise<L>>(&mut place, word, RAISED);
         if count % 2 == 0 {
-            let found = arena.table.shared.load::<LoadRoot<L>>(&mut place, ROOT);
+            let found = held.table.shared.load::<LoadRoot<L>>(&mut place, ROOT);
             return Ok(Guarded {
                 arena,
                 hold,
@@ -140,8 +143,7 @@ impl<'a, const OFFSET_BITS: u32, L: Layout> Aimed<'a, OFFSET_BITS, L> {
                 place,
             });
         }
-        arena
-            .table
+        held.table
             .shared
             .fetch_sub::<Bounce<L>>(&mut place, word, RAISED);
         let reader = Reader { arena, place };
@@ -152,7 +154,7 @@ impl<'a, const OFFSET_BITS: u32, L: Layout> Aimed<'a, OFFSET_BITS, L> {
     }
 }
 
-impl<'a, const OFFSET_BITS: u32, L: Layout> Guarded<'a, OFFSET_BITS, L> {
+impl<const OFFSET_BITS: u32, L: Layout> Guarded<OFFSET_BITS, L> {
     pub fn commit(&self) -> u32
         ensures { result ≡ seen_number (reader_of self.now.place.me.0) }
     {
@@ -165,9 +167,9 @@ impl<'a, const OFFSET_BITS: u32, L: Layout> Guarded<'a, OFFSET_BITS, L> {
         EntryRef::from_raw((self.found % COMMIT_BASE) as u32)
     }
 
-    pub fn release(self) -> Reader<'a, OFFSET_BITS, L>
-        ensures view { reader_of result.place.me.0 ≡ released (reader_of self.entry.place.me.0) }
-        ensures table { result.place.table_id ≡ self.entry.place.table_id }
+    pub fn release(self) -> Reader<OFFSET_BITS, L>
+        ensures view { reader_of result.place.me.0 ≡ released (reader_of self.place.me.0) }
+        ensures table { result.place.table_id ≡ self.place.table_id }
     {
         let Guarded {
             arena,
@@ -175,21 +177,21 @@ impl<'a, const OFFSET_BITS: u32, L: Layout> Guarded<'a, OFFSET_BITS, L> {
             found: _,
             mut place,
         } = self;
-        arena
-            .table
+        let held = &*arena;
+        held.table
             .shared
             .fetch_sub::<Release<L>>(&mut place, FIRST_COUNT + hold as usize, RAISED);
         Reader { arena, place }
     }
 
     /// Loads the last commit again, under the same hold. No count changes.
-    pub fn again(self) -> Guarded<'a, OFFSET_BITS, L>
-        ensures later { IsLater L.reaches L.lawful (reader_of self.entry.place.me.0) (reader_of result.place.me.0) }
-        ensures not_older { seen_number (reader_of self.entry.place.me.0) ≤ seen_number (reader_of result.place.me.0) }
-        ensures view { reader_of result.place.me.0 ≡ sees (reader_of self.entry.place.me.0) self.entry.hold
+    pub fn again(self) -> Guarded<OFFSET_BITS, L>
+        ensures later { IsLater L.reaches L.lawful (reader_of self.place.me.0) (reader_of result.place.me.0) }
+        ensures not_older { seen_number (reader_of self.place.me.0) ≤ seen_number (reader_of result.place.me.0) }
+        ensures view { reader_of result.place.me.0 ≡ sees (reader_of self.place.me.0) self.hold
             (seen_number (reader_of result.place.me.0)) (seen_image (reader_of result.place.me.0)) }
-        ensures stays { stands_on (reader_of result.place.me.0).state ≡ stands_on (reader_of self.entry.place.me.0).state }
-        ensures table { result.place.table_id ≡ self.entry.place.table_id }
+        ensures stays { stands_on (reader_of result.place.me.0).state ≡ stands_on (reader_of self.place.me.0).state }
+        ensures table { result.place.table_id ≡ self.place.table_id }
     {
         let Guarded {
             arena,
@@ -197,7 +199,8 @@ impl<'a, const OFFSET_BITS: u32, L: Layout> Guarded<'a, OFFSET_BITS, L> {
             found: _,
             mut place,
         } = self;
-        let now = arena.table.shared.load::<LoadRoot<L>>(&mut place, ROOT);
+        let held = &*arena;
+        let now = held.table.shared.load::<LoadRoot<L>>(&mut place, ROOT);
         Guarded {
             arena,
             hold,
@@ -209,19 +212,19 @@ impl<'a, const OFFSET_BITS: u32, L: Layout> Guarded<'a, OFFSET_BITS, L> {
     // Returns the place of a word of a record, by the width that is stored in its buffer.
     fn place_of_word(&mut self, entry: EntryRef<OFFSET_BITS>, i: u32) -> u64
         requires { HasWord (words_at (seen_image (reader_of self.old.place.me.0))) entry i }
-        ensures place { result ≡ place OFFSET_BITS self.old.arena.now.sizes.buffers self.old.arena.now.sizes.words
+        ensures place { result ≡ place OFFSET_BITS self.old.arena.value.sizes.buffers self.old.arena.value.sizes.words
             (length (words_at (seen_image (reader_of self.old.place.me.0)) entry.entry)) entry.entry i }
         ensures same { self.new ≡ self.old }
     {
-        let first = first_word(&self.arena.sizes, entry.buffer());
-        let width = self
-            .arena
+        let arena = &*self.arena;
+        let first = first_word(&arena.sizes, entry.buffer());
+        let width = arena
             .table
             .shared
             .load::<LoadWord<L>>(&mut self.place, first) as u32;
         place_of(
-            self.arena.sizes.buffers as u32,
-            self.arena.sizes.words as u32,
+            arena.sizes.buffers as u32,
+            arena.sizes.words as u32,
             width,
             entry,
             i,
@@ -229,7 +232,7 @@ impl<'a, const OFFSET_BITS: u32, L: Layout> Guarded<'a, OFFSET_BITS, L> {
     }
 }
 
-impl<'a, const OFFSET_BITS: u32, L: Layout> Frozen<OFFSET_BITS> for Guarded<'a, OFFSET_BITS, L> {
+impl<const OFFSET_BITS: u32, L: Layout> Frozen<OFFSET_BITS> for Guarded<OFFSET_BITS, L> {
     ghost use Rattle.word_arena.specs.ProofsForGuards.{guard_references};
 
     ghost shape = { λ g. (reader_of g.place.me.0).sizes.shape };
@@ -237,22 +240,23 @@ impl<'a, const OFFSET_BITS: u32, L: Layout> Frozen<OFFSET_BITS> for Guarded<'a, 
     ghost records = { λ g. words_at (seen_image (reader_of g.place.me.0)) };
 
     fn word(&mut self, entry: EntryRef<OFFSET_BITS>, i: u32) -> u64
-        requires { HasWord (⟦<Guarded<'a, OFFSET_BITS, L> as Frozen<OFFSET_BITS>>⟧.records self.old) entry i }
-        ensures value { result ≡ word_at (⟦<Guarded<'a, OFFSET_BITS, L> as Frozen<OFFSET_BITS>>⟧.records self.old) entry.entry i }
+        requires { HasWord (⟦<Guarded<OFFSET_BITS, L> as Frozen<OFFSET_BITS>>⟧.records self.old) entry i }
+        ensures value { result ≡ word_at (⟦<Guarded<OFFSET_BITS, L> as Frozen<OFFSET_BITS>>⟧.records self.old) entry.entry i }
         ensures same { self.new ≡ self.old }
     {
         let place = self.place_of_word(entry, i);
-        self.arena
+        let arena = &*self.arena;
+        arena
             .table
             .shared
             .load::<LoadWord<L>>(&mut self.place, place as usize)
     }
 
     fn read(&mut self, entry: EntryRef<OFFSET_BITS>, first: u32, into: &mut [u64])
-        requires there { first + length into.old ≤ length (⟦<Guarded<'a, OFFSET_BITS, L> as Frozen<OFFSET_BITS>>⟧.records self.old entry) }
+        requires there { first + length into.old ≤ length (⟦<Guarded<OFFSET_BITS, L> as Frozen<OFFSET_BITS>>⟧.records self.old entry) }
         requires few { first + length into.old < 2 ^ 32 }
         ensures words { into.new ≡ take (length into.old)
-            (drop first (⟦<Guarded<'a, OFFSET_BITS, L> as Frozen<OFFSET_BITS>>⟧.records self.old entry.entry)) }
+            (drop first (⟦<Guarded<OFFSET_BITS, L> as Frozen<OFFSET_BITS>>⟧.records self.old entry.entry)) }
         ensures same { self.new ≡ self.old }
     {
         if into.is_empty() {
@@ -260,8 +264,8 @@ impl<'a, const OFFSET_BITS: u32, L: Layout> Frozen<OFFSET_BITS> for Guarded<'a, 
         }
         let place = self.place_of_word(entry, first);
         for i in 0..into.len() {
-            into[i] = self
-                .arena
+            let arena = &*self.arena;
+            into[i] = arena
                 .table
                 .shared
                 .load::<LoadWord<L>>(&mut self.place, place as usize + i);

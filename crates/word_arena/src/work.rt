@@ -16,7 +16,6 @@ ghost use Rattle.word_arena.specs.WriterSteps.{IsTaggedBelow};
 
 use crate::buffers::{count_free, last_of, lowest_free, width_of};
 use crate::plays::{FindWord, HandOut, Publish, StoreWidth, StoreWord};
-use crate::rule::Words;
 use crate::words::{ACTIVE, COMMIT_BASE, FIRST_STATE, ROOT, first_word};
 use crate::writer::Writer;
 use arena_api::{Advance, Frozen, Oldest, Work};
@@ -38,7 +37,7 @@ impl Model for Home {
     ghost view = { λ _. nowhere };
 }
 
-impl<'a, const OFFSET_BITS: u32, L: Layout> Writer<'a, OFFSET_BITS, L> {
+impl<const OFFSET_BITS: u32, L: Layout> Writer<OFFSET_BITS, L> {
     // Hands out a free buffer, and stores its width.
     fn take_buffer(&mut self, buffer: u32, width: u32)
         requires below { buffer < (writer_of self.old.place.me.0).sizes.buffers }
@@ -52,12 +51,13 @@ impl<'a, const OFFSET_BITS: u32, L: Layout> Writer<'a, OFFSET_BITS, L> {
     {
         let last = last_of(self.buffers.as_slice(), buffer);
         let at = buffer as usize;
-        self.arena
+        let arena = self.seats.arena();
+        arena
             .table
             .shared
             .store::<HandOut<L>>(&mut self.place, FIRST_STATE + at, ACTIVE);
-        let first = first_word(&self.arena.sizes, buffer);
-        self.arena
+        let first = first_word(&arena.sizes, buffer);
+        arena
             .table
             .shared
             .store::<StoreWidth<L>>(&mut self.place, first, u64::from(width));
@@ -71,9 +71,10 @@ impl<'a, const OFFSET_BITS: u32, L: Layout> Writer<'a, OFFSET_BITS, L> {
             (buffer_of OFFSET_BITS entry)) ≡ width }
         ensures { result ≡ place_by OFFSET_BITS (view_of self.now.place.table_id (writer_of self.now.place.me.0)) entry.entry i }
     {
+        let arena = self.seats.arena();
         place_of(
-            self.arena.sizes.buffers as u32,
-            self.arena.sizes.words as u32,
+            arena.sizes.buffers as u32,
+            arena.sizes.words as u32,
             width,
             entry,
             i,
@@ -81,8 +82,7 @@ impl<'a, const OFFSET_BITS: u32, L: Layout> Writer<'a, OFFSET_BITS, L> {
     }
 
     /// Loads the word of an entry that is at this place. The word counts as stored from then on.
-    fn find_in(&mut self, table: &Words<L>, entry: EntryRef<OFFSET_BITS>, i: u32, at: usize) -> u64
-        requires table { table.now.shared.table_id ≡ self.old.place.table_id }
+    fn find_in(&mut self, entry: EntryRef<OFFSET_BITS>, i: u32, at: usize) -> u64
         requires may { MayStore OFFSET_BITS (view_of self.old.place.table_id (writer_of self.old.place.me.0)) entry i }
         requires place { at ≡ place_by OFFSET_BITS (view_of self.old.place.table_id (writer_of self.old.place.me.0)) entry i }
         ensures knows { view_of self.new.place.table_id (writer_of self.new.place.me.0)
@@ -95,20 +95,13 @@ impl<'a, const OFFSET_BITS: u32, L: Layout> Writer<'a, OFFSET_BITS, L> {
     {
         let _ = entry;
         let _ = i;
-        table.shared.load::<FindWord<L>>(&mut self.place, at)
+        let arena = self.seats.arena();
+        arena.table.shared.load::<FindWord<L>>(&mut self.place, at)
     }
 
     /// Sets the word of an entry that is at this place. It loads the word first and stores only if that differs,
     /// since a load is cheaper.
-    fn put_in(
-        &mut self,
-        table: &Words<L>,
-        entry: EntryRef<OFFSET_BITS>,
-        i: u32,
-        at: usize,
-        word: u64,
-    )
-        requires table { table.now.shared.table_id ≡ self.old.place.table_id }
+    fn put_in(&mut self, entry: EntryRef<OFFSET_BITS>, i: u32, at: usize, word: u64)
         requires may { MayStore OFFSET_BITS (view_of self.old.place.table_id (writer_of self.old.place.me.0)) entry i }
         requires place { at ≡ place_by OFFSET_BITS (view_of self.old.place.table_id (writer_of self.old.place.me.0)) entry i }
         ensures knows { view_of self.new.place.table_id (writer_of self.new.place.me.0)
@@ -119,20 +112,13 @@ impl<'a, const OFFSET_BITS: u32, L: Layout> Writer<'a, OFFSET_BITS, L> {
             → writer_records (writer_of self.new.place.me.0) q ≡ writer_records (writer_of self.old.place.me.0) q }
         ensures shape { (writer_of self.new.place.me.0).sizes.shape ≡ (writer_of self.old.place.me.0).sizes.shape }
     {
-        if self.find_in(table, entry, i, at) != word {
-            self.store_in(table, entry, i, at, word);
+        if self.find_in(entry, i, at) != word {
+            self.store_in(entry, i, at, word);
         }
     }
 
     /// Sets the first words of an entry, the first of which is at this place.
-    fn put_words(
-        &mut self,
-        table: &Words<L>,
-        entry: EntryRef<OFFSET_BITS>,
-        first: usize,
-        words: &[u64],
-    )
-        requires table { table.now.shared.table_id ≡ self.old.place.table_id }
+    fn put_words(&mut self, entry: EntryRef<OFFSET_BITS>, first: usize, words: &[u64])
         requires few { length words.now < 2 ^ 32 }
         requires may { (i : ℕ) → i < length words.now
             → MayStore OFFSET_BITS (view_of self.old.place.table_id (writer_of self.old.place.me.0)) entry i }
@@ -148,20 +134,12 @@ impl<'a, const OFFSET_BITS: u32, L: Layout> Writer<'a, OFFSET_BITS, L> {
         ensures shape { (writer_of self.new.place.me.0).sizes.shape ≡ (writer_of self.old.place.me.0).sizes.shape }
     {
         for i in 0..words.len() {
-            self.put_in(table, entry, i as u32, first + i, words[i]);
+            self.put_in(entry, i as u32, first + i, words[i]);
         }
     }
 
     /// Sets the words of an entry from word `start` on to 0; its first word is at this place.
-    fn put_zeros(
-        &mut self,
-        table: &Words<L>,
-        entry: EntryRef<OFFSET_BITS>,
-        first: usize,
-        start: u32,
-        width: u32,
-    )
-        requires table { table.now.shared.table_id ≡ self.old.place.table_id }
+    fn put_zeros(&mut self, entry: EntryRef<OFFSET_BITS>, first: usize, start: u32, width: u32)
         requires may { (i : ℕ) → i < width
             → MayStore OFFSET_BITS (view_of self.old.place.table_id (writer_of self.old.place.me.0)) entry i }
         requires place { first ≡ place_by OFFSET_BITS (view_of self.old.place.table_id (writer_of self.old.place.me.0)) entry 0 }
@@ -179,20 +157,12 @@ impl<'a, const OFFSET_BITS: u32, L: Layout> Writer<'a, OFFSET_BITS, L> {
         ensures shape { (writer_of self.new.place.me.0).sizes.shape ≡ (writer_of self.old.place.me.0).sizes.shape }
     {
         for i in start..width {
-            self.put_in(table, entry, i, first + i as usize, 0);
+            self.put_in(entry, i, first + i as usize, 0);
         }
     }
 
     /// Stores the word of an entry that is at this place.
-    fn store_in(
-        &mut self,
-        table: &Words<L>,
-        entry: EntryRef<OFFSET_BITS>,
-        i: u32,
-        at: usize,
-        word: u64,
-    )
-        requires table { table.now.shared.table_id ≡ self.old.place.table_id }
+    fn store_in(&mut self, entry: EntryRef<OFFSET_BITS>, i: u32, at: usize, word: u64)
         requires may { MayStore OFFSET_BITS (view_of self.old.place.table_id (writer_of self.old.place.me.0)) entry i }
         requires place { at ≡ place_by OFFSET_BITS (view_of self.old.place.table_id (writer_of self.old.place.me.0)) entry i }
         ensures knows { view_of self.new.place.table_id (writer_of self.new.place.me.0)
@@ -205,13 +175,15 @@ impl<'a, const OFFSET_BITS: u32, L: Layout> Writer<'a, OFFSET_BITS, L> {
     {
         let _ = entry;
         let _ = i;
-        table
+        let arena = self.seats.arena();
+        arena
+            .table
             .shared
             .store::<StoreWord<L>>(&mut self.place, at, word);
     }
 }
 
-impl<'a, const OFFSET_BITS: u32, L: Layout> Work<OFFSET_BITS> for Writer<'a, OFFSET_BITS, L> {
+impl<const OFFSET_BITS: u32, L: Layout> Work<OFFSET_BITS> for Writer<OFFSET_BITS, L> {
     ghost use Rattle.word_arena.specs.ProofsForWork.{desk_bits, work_queue, work_order, work_only, work_held, work_entries, work_kept};
     ghost use Rattle.word_arena.specs.ProofsForWork.{work_last, work_whole, work_stored, work_tags};
 
@@ -222,95 +194,95 @@ impl<'a, const OFFSET_BITS: u32, L: Layout> Work<OFFSET_BITS> for Writer<'a, OFF
     ghost knows = { λ w. view_of w.place.table_id (writer_of w.place.me.0) };
 
     fn store(&mut self, entry: EntryRef<OFFSET_BITS>, i: u32, word: u64)
-        requires { MayStore OFFSET_BITS (⟦<Writer<'a, OFFSET_BITS, L> as Work<OFFSET_BITS>>⟧.knows self.old) entry i }
-        ensures knows { ⟦<Writer<'a, OFFSET_BITS, L> as Work<OFFSET_BITS>>⟧.knows self.new
-            ≡ record (⟦<Writer<'a, OFFSET_BITS, L> as Work<OFFSET_BITS>>⟧.knows self.old) {
+        requires { MayStore OFFSET_BITS (⟦<Writer<OFFSET_BITS, L> as Work<OFFSET_BITS>>⟧.knows self.old) entry i }
+        ensures knows { ⟦<Writer<OFFSET_BITS, L> as Work<OFFSET_BITS>>⟧.knows self.new
+            ≡ record (⟦<Writer<OFFSET_BITS, L> as Work<OFFSET_BITS>>⟧.knows self.old) {
               stored = with_stored
-                  (⟦<Writer<'a, OFFSET_BITS, L> as Work<OFFSET_BITS>>⟧.knows self.old).stored entry.entry i word;
+                  (⟦<Writer<OFFSET_BITS, L> as Work<OFFSET_BITS>>⟧.knows self.old).stored entry.entry i word;
             } }
         ensures others { (q : ℕ) → q ≢ entry.entry
-            → ⟦<Writer<'a, OFFSET_BITS, L> as Frozen<OFFSET_BITS>>⟧.records self.new q
-            ≡ ⟦<Writer<'a, OFFSET_BITS, L> as Frozen<OFFSET_BITS>>⟧.records self.old q }
-        ensures shape { ⟦<Writer<'a, OFFSET_BITS, L> as Frozen<OFFSET_BITS>>⟧.shape self.new
-            ≡ ⟦<Writer<'a, OFFSET_BITS, L> as Frozen<OFFSET_BITS>>⟧.shape self.old }
+            → ⟦<Writer<OFFSET_BITS, L> as Frozen<OFFSET_BITS>>⟧.records self.new q
+            ≡ ⟦<Writer<OFFSET_BITS, L> as Frozen<OFFSET_BITS>>⟧.records self.old q }
+        ensures shape { ⟦<Writer<OFFSET_BITS, L> as Frozen<OFFSET_BITS>>⟧.shape self.new
+            ≡ ⟦<Writer<OFFSET_BITS, L> as Frozen<OFFSET_BITS>>⟧.shape self.old }
     {
         let width = width_of(self.buffers.as_slice(), entry.buffer()) as u32;
         let place = self.place_in(entry, width, i);
-        let arena = self.arena;
-        self.store_in(&arena.table, entry, i, place, word);
+        self.store_in(entry, i, place, word);
     }
 
     fn put(&mut self, entry: EntryRef<OFFSET_BITS>, width: u32, words: &[u64])
-        requires entry { IsEntry OFFSET_BITS (⟦<Writer<'a, OFFSET_BITS, L> as Work<OFFSET_BITS>>⟧.knows self.old).sizes.buffers
-            (⟦<Writer<'a, OFFSET_BITS, L> as Work<OFFSET_BITS>>⟧.knows self.old).sizes.words width entry }
-        requires width { active_width ((⟦<Writer<'a, OFFSET_BITS, L> as Work<OFFSET_BITS>>⟧.knows self.old).buffer
+        requires entry { IsEntry OFFSET_BITS (⟦<Writer<OFFSET_BITS, L> as Work<OFFSET_BITS>>⟧.knows self.old).sizes.buffers
+            (⟦<Writer<OFFSET_BITS, L> as Work<OFFSET_BITS>>⟧.knows self.old).sizes.words width entry }
+        requires width { active_width ((⟦<Writer<OFFSET_BITS, L> as Work<OFFSET_BITS>>⟧.knows self.old).buffer
             (buffer_of OFFSET_BITS entry)) ≡ width }
         requires fits { length words.now ≤ width }
-        requires unkept { InNoCommit (⟦<Writer<'a, OFFSET_BITS, L> as Work<OFFSET_BITS>>⟧.knows self.old).commits entry }
-        ensures records { ⟦<Writer<'a, OFFSET_BITS, L> as Frozen<OFFSET_BITS>>⟧.records self.new
-            ≡ with_words (⟦<Writer<'a, OFFSET_BITS, L> as Frozen<OFFSET_BITS>>⟧.records self.old) entry.entry (padded words.now width) }
-        ensures knows { ⟦<Writer<'a, OFFSET_BITS, L> as Work<OFFSET_BITS>>⟧.knows self.new
-            ≡ record (⟦<Writer<'a, OFFSET_BITS, L> as Work<OFFSET_BITS>>⟧.knows self.old) {
-              stored = (⟦<Writer<'a, OFFSET_BITS, L> as Work<OFFSET_BITS>>⟧.knows self.new).stored;
+        requires unkept { InNoCommit (⟦<Writer<OFFSET_BITS, L> as Work<OFFSET_BITS>>⟧.knows self.old).commits entry }
+        ensures records { ⟦<Writer<OFFSET_BITS, L> as Frozen<OFFSET_BITS>>⟧.records self.new
+            ≡ with_words (⟦<Writer<OFFSET_BITS, L> as Frozen<OFFSET_BITS>>⟧.records self.old) entry.entry (padded words.now width) }
+        ensures knows { ⟦<Writer<OFFSET_BITS, L> as Work<OFFSET_BITS>>⟧.knows self.new
+            ≡ record (⟦<Writer<OFFSET_BITS, L> as Work<OFFSET_BITS>>⟧.knows self.old) {
+              stored = (⟦<Writer<OFFSET_BITS, L> as Work<OFFSET_BITS>>⟧.knows self.new).stored;
             } }
-        ensures shape { ⟦<Writer<'a, OFFSET_BITS, L> as Frozen<OFFSET_BITS>>⟧.shape self.new
-            ≡ ⟦<Writer<'a, OFFSET_BITS, L> as Frozen<OFFSET_BITS>>⟧.shape self.old }
+        ensures shape { ⟦<Writer<OFFSET_BITS, L> as Frozen<OFFSET_BITS>>⟧.shape self.new
+            ≡ ⟦<Writer<OFFSET_BITS, L> as Frozen<OFFSET_BITS>>⟧.shape self.old }
     {
         let place = self.place_in(entry, width, 0);
-        let arena = self.arena;
-        self.put_words(&arena.table, entry, place, words);
-        self.put_zeros(&arena.table, entry, place, words.len() as u32, width);
+        self.put_words(entry, place, words);
+        self.put_zeros(entry, place, words.len() as u32, width);
     }
 
     /// The last tag of the buffer, if it has one, is below every open generation; and each reader that had a guard
     /// when the buffer was put on hold has released it since.
     fn hand_out(&mut self, width: u32) -> Option<u32>
         requires { 0 < width }
-        ensures none { IsNone result ↔ (free_count (⟦<Writer<'a, OFFSET_BITS, L> as Work<OFFSET_BITS>>⟧.knows self.old).buffer
-            (⟦<Writer<'a, OFFSET_BITS, L> as Work<OFFSET_BITS>>⟧.knows self.old).sizes.buffers ≡ 0) }
-        ensures lowest { IfSome result (IsLowestFree (⟦<Writer<'a, OFFSET_BITS, L> as Work<OFFSET_BITS>>⟧.knows self.old).buffer
-            (⟦<Writer<'a, OFFSET_BITS, L> as Work<OFFSET_BITS>>⟧.knows self.old).sizes.buffers) }
+        ensures none { IsNone result ↔ (free_count (⟦<Writer<OFFSET_BITS, L> as Work<OFFSET_BITS>>⟧.knows self.old).buffer
+            (⟦<Writer<OFFSET_BITS, L> as Work<OFFSET_BITS>>⟧.knows self.old).sizes.buffers ≡ 0) }
+        ensures lowest { IfSome result (IsLowestFree (⟦<Writer<OFFSET_BITS, L> as Work<OFFSET_BITS>>⟧.knows self.old).buffer
+            (⟦<Writer<OFFSET_BITS, L> as Work<OFFSET_BITS>>⟧.knows self.old).sizes.buffers) }
         ensures tags { IfSome result (IsTaggedBelow (writer_of self.old.place.me.0)) }
         ensures hands { IfSome result (HandsOut L.reaches L.lawful (writer_of self.old.place.me.0).sizes
             self.old.place.me.0.seen self.new.place.me.0.seen) }
-        ensures handed { IfSome result (λ b. ⟦<Writer<'a, OFFSET_BITS, L> as Work<OFFSET_BITS>>⟧.knows self.new
-            ≡ handed_out (⟦<Writer<'a, OFFSET_BITS, L> as Work<OFFSET_BITS>>⟧.knows self.old) b width) }
-        ensures refused { IfNone result (⟦<Writer<'a, OFFSET_BITS, L> as Work<OFFSET_BITS>>⟧.knows self.new
-            ≡ ⟦<Writer<'a, OFFSET_BITS, L> as Work<OFFSET_BITS>>⟧.knows self.old) }
-        ensures records { ⟦<Writer<'a, OFFSET_BITS, L> as Frozen<OFFSET_BITS>>⟧.records self.new
-            ≡ ⟦<Writer<'a, OFFSET_BITS, L> as Frozen<OFFSET_BITS>>⟧.records self.old }
-        ensures shape { ⟦<Writer<'a, OFFSET_BITS, L> as Frozen<OFFSET_BITS>>⟧.shape self.new
-            ≡ ⟦<Writer<'a, OFFSET_BITS, L> as Frozen<OFFSET_BITS>>⟧.shape self.old }
+        ensures handed { IfSome result (λ b. ⟦<Writer<OFFSET_BITS, L> as Work<OFFSET_BITS>>⟧.knows self.new
+            ≡ handed_out (⟦<Writer<OFFSET_BITS, L> as Work<OFFSET_BITS>>⟧.knows self.old) b width) }
+        ensures refused { IfNone result (⟦<Writer<OFFSET_BITS, L> as Work<OFFSET_BITS>>⟧.knows self.new
+            ≡ ⟦<Writer<OFFSET_BITS, L> as Work<OFFSET_BITS>>⟧.knows self.old) }
+        ensures records { ⟦<Writer<OFFSET_BITS, L> as Frozen<OFFSET_BITS>>⟧.records self.new
+            ≡ ⟦<Writer<OFFSET_BITS, L> as Frozen<OFFSET_BITS>>⟧.records self.old }
+        ensures shape { ⟦<Writer<OFFSET_BITS, L> as Frozen<OFFSET_BITS>>⟧.shape self.new
+            ≡ ⟦<Writer<OFFSET_BITS, L> as Frozen<OFFSET_BITS>>⟧.shape self.old }
     {
-        let buffer = lowest_free(self.buffers.as_slice(), self.arena.sizes.buffers as u32)?;
+        let arena = self.seats.arena();
+        let buffer = lowest_free(self.buffers.as_slice(), arena.sizes.buffers as u32)?;
         self.take_buffer(buffer, width);
         Some(buffer)
     }
 
     fn publish(&mut self, root: EntryRef<OFFSET_BITS>) -> u32
-        requires lawful { L.lawful (⟦<Writer<'a, OFFSET_BITS, L> as Frozen<OFFSET_BITS>>⟧.shape self.old)
-            (⟦<Writer<'a, OFFSET_BITS, L> as Frozen<OFFSET_BITS>>⟧.records self.old) root }
-        requires room { (⟦<Writer<'a, OFFSET_BITS, L> as Work<OFFSET_BITS>>⟧.knows self.old).commits.last
-            < (⟦<Writer<'a, OFFSET_BITS, L> as Work<OFFSET_BITS>>⟧.knows self.old).sizes.commits }
-        ensures number { result ≡ (⟦<Writer<'a, OFFSET_BITS, L> as Work<OFFSET_BITS>>⟧.knows self.old).commits.last + 1 }
-        ensures commit { AddsCommit (⟦<Writer<'a, OFFSET_BITS, L> as Work<OFFSET_BITS>>⟧.knows self.old).commits
-            (⟦<Writer<'a, OFFSET_BITS, L> as Work<OFFSET_BITS>>⟧.knows self.new).commits
-            (next_image L.reaches (⟦<Writer<'a, OFFSET_BITS, L> as Frozen<OFFSET_BITS>>⟧.shape self.old)
-            (⟦<Writer<'a, OFFSET_BITS, L> as Frozen<OFFSET_BITS>>⟧.records self.old) root.entry) }
-        ensures knows { ⟦<Writer<'a, OFFSET_BITS, L> as Work<OFFSET_BITS>>⟧.knows self.new
-            ≡ published (⟦<Writer<'a, OFFSET_BITS, L> as Work<OFFSET_BITS>>⟧.knows self.old)
-            (⟦<Writer<'a, OFFSET_BITS, L> as Work<OFFSET_BITS>>⟧.knows self.new).commits
-            (next_image L.reaches (⟦<Writer<'a, OFFSET_BITS, L> as Frozen<OFFSET_BITS>>⟧.shape self.old)
-            (⟦<Writer<'a, OFFSET_BITS, L> as Frozen<OFFSET_BITS>>⟧.records self.old) root.entry) }
-        ensures records { ⟦<Writer<'a, OFFSET_BITS, L> as Frozen<OFFSET_BITS>>⟧.records self.new
-            ≡ words_at (next_image L.reaches (⟦<Writer<'a, OFFSET_BITS, L> as Frozen<OFFSET_BITS>>⟧.shape self.old)
-            (⟦<Writer<'a, OFFSET_BITS, L> as Frozen<OFFSET_BITS>>⟧.records self.old) root.entry) }
-        ensures shape { ⟦<Writer<'a, OFFSET_BITS, L> as Frozen<OFFSET_BITS>>⟧.shape self.new
-            ≡ ⟦<Writer<'a, OFFSET_BITS, L> as Frozen<OFFSET_BITS>>⟧.shape self.old }
+        requires lawful { L.lawful (⟦<Writer<OFFSET_BITS, L> as Frozen<OFFSET_BITS>>⟧.shape self.old)
+            (⟦<Writer<OFFSET_BITS, L> as Frozen<OFFSET_BITS>>⟧.records self.old) root }
+        requires room { (⟦<Writer<OFFSET_BITS, L> as Work<OFFSET_BITS>>⟧.knows self.old).commits.last
+            < (⟦<Writer<OFFSET_BITS, L> as Work<OFFSET_BITS>>⟧.knows self.old).sizes.commits }
+        ensures number { result ≡ (⟦<Writer<OFFSET_BITS, L> as Work<OFFSET_BITS>>⟧.knows self.old).commits.last + 1 }
+        ensures commit { AddsCommit (⟦<Writer<OFFSET_BITS, L> as Work<OFFSET_BITS>>⟧.knows self.old).commits
+            (⟦<Writer<OFFSET_BITS, L> as Work<OFFSET_BITS>>⟧.knows self.new).commits
+            (next_image L.reaches (⟦<Writer<OFFSET_BITS, L> as Frozen<OFFSET_BITS>>⟧.shape self.old)
+            (⟦<Writer<OFFSET_BITS, L> as Frozen<OFFSET_BITS>>⟧.records self.old) root.entry) }
+        ensures knows { ⟦<Writer<OFFSET_BITS, L> as Work<OFFSET_BITS>>⟧.knows self.new
+            ≡ published (⟦<Writer<OFFSET_BITS, L> as Work<OFFSET_BITS>>⟧.knows self.old)
+            (⟦<Writer<OFFSET_BITS, L> as Work<OFFSET_BITS>>⟧.knows self.new).commits
+            (next_image L.reaches (⟦<Writer<OFFSET_BITS, L> as Frozen<OFFSET_BITS>>⟧.shape self.old)
+            (⟦<Writer<OFFSET_BITS, L> as Frozen<OFFSET_BITS>>⟧.records self.old) root.entry) }
+        ensures records { ⟦<Writer<OFFSET_BITS, L> as Frozen<OFFSET_BITS>>⟧.records self.new
+            ≡ words_at (next_image L.reaches (⟦<Writer<OFFSET_BITS, L> as Frozen<OFFSET_BITS>>⟧.shape self.old)
+            (⟦<Writer<OFFSET_BITS, L> as Frozen<OFFSET_BITS>>⟧.records self.old) root.entry) }
+        ensures shape { ⟦<Writer<OFFSET_BITS, L> as Frozen<OFFSET_BITS>>⟧.shape self.new
+            ≡ ⟦<Writer<OFFSET_BITS, L> as Frozen<OFFSET_BITS>>⟧.shape self.old }
     {
         let number = self.last + 1;
         let word = u64::from(number) * COMMIT_BASE + u64::from(root.raw());
-        self.arena
+        let arena = self.seats.arena();
+        arena
             .table
             .shared
             .store::<Publish<L>>(&mut self.place, ROOT, word);
@@ -339,19 +311,23 @@ impl<'a, const OFFSET_BITS: u32, L: Layout> Work<OFFSET_BITS> for Writer<'a, OFF
     }
 
     fn free_buffers(&self) -> u32 {
-        count_free(self.buffers.as_slice(), self.arena.sizes.buffers as u32)
+        let arena = self.seats.arena();
+        count_free(self.buffers.as_slice(), arena.sizes.buffers as u32)
     }
 
     fn buffers(&self) -> u32 {
-        self.arena.sizes.buffers as u32
+        let arena = self.seats.arena();
+        arena.sizes.buffers as u32
     }
 
     fn words(&self) -> u32 {
-        self.arena.sizes.words as u32
+        let arena = self.seats.arena();
+        arena.sizes.words as u32
     }
 
     fn commits_left(&self) -> u32 {
-        self.arena.sizes.commit_limit as u32 - self.last
+        let arena = self.seats.arena();
+        arena.sizes.commit_limit as u32 - self.last
     }
 
     ghost limits = { λ w. w.stands.limits };

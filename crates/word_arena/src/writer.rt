@@ -16,22 +16,23 @@ use crate::arena::{Arena, Token};
 use crate::plays::{Cut, Glue, LoadOwn, MeetLoad};
 use crate::reader::Reader;
 use crate::rule::Place;
+use crate::seats::{MOST_READERS, Seats};
 use crate::words::{ROOT, first_word};
 use arena_api::Frozen;
 use entry_ref::{EntryRef, Layout, place_of};
 use gen_core::Buffer;
 use generation_handler::Holds;
+use std::alloc::{AllocError, Global};
 use thiserror::Error;
 
 #[derive(Drop)]
-pub struct Writer<'a, const OFFSET_BITS: u32, L: Layout> {
-    pub(crate) arena: &'a Arena<OFFSET_BITS, L>,
+pub struct Writer<const OFFSET_BITS: u32, L: Layout> {
+    pub(crate) seats: Seats<OFFSET_BITS, L>,
     pub(crate) buffers: Vec<Buffer>,
     pub(crate) holds: Holds,
     pub(crate) last: u32,
-    pub(crate) made: u32,
     pub(crate) place: Place,
-    ghost stands: { IsDesk OFFSET_BITS arena.now.table.shared.table_id arena.now.sizes buffers.items holds last made
+    ghost stands: { IsDesk OFFSET_BITS seats.arena.value.table.shared.table_id seats.arena.value.sizes buffers.items holds last seats.made
         place.table_id (bare place.me) },
 }
 
@@ -43,33 +44,38 @@ pub struct NoSeat {
 }
 
 impl<const OFFSET_BITS: u32, L: Layout> Arena<OFFSET_BITS, L> {
-    /// Returns the writer of this arena, whose token is given.
-    pub fn writer(&self, token: Token<OFFSET_BITS>) -> Writer<'_, OFFSET_BITS, L>
-        requires { (token.place.table_id ≡ self.now.table.shared.table_id) × (token.sizes ≡ self.now.sizes) }
-        ensures view { writer_of result.place.me.0 ≡ opening_view token.entry.sizes }
-        ensures table { result.place.table_id ≡ self.now.table.shared.table_id }
-        ensures fresh { IsFresh (view_of result.place.table_id (writer_of result.place.me.0)) }
+    /// Returns the writer of this arena, whose token is given. The arena is freed with the last of the writer and its
+    /// readers.
+    pub fn writer(
+        self,
+        alloc: Global,
+        token: Token<OFFSET_BITS>,
+    ) -> Result<Writer<OFFSET_BITS, L>, AllocError>
+        requires { (token.place.table_id ≡ self.table.shared.table_id) × (token.sizes ≡ self.sizes) }
+        ensures view { IfOk result (λ w. writer_of w.place.me.0 ≡ opening_view token.entry.sizes) }
+        ensures table { IfOk result (λ w. w.place.table_id ≡ self.table.shared.table_id) }
+        ensures fresh { IfOk result (λ w. IsFresh (view_of w.place.table_id (writer_of w.place.me.0))) }
     {
         let Token {
             sizes: _,
             buffers,
             place,
         } = token;
-        Writer {
-            arena: self,
+        let seats = Seats::new(alloc, self)?;
+        Ok(Writer {
+            seats,
             buffers,
             holds: Holds::new(),
             last: 0,
-            made: 0,
             place,
-        }
+        })
     }
 }
 
-impl<'a, const OFFSET_BITS: u32, L: Layout> Writer<'a, OFFSET_BITS, L> {
+impl<const OFFSET_BITS: u32, L: Layout> Writer<OFFSET_BITS, L> {
     /// Makes a reader that has seen the last commit. Returns `NoSeat` if and only if 64 readers were made; joined
     /// readers count too.
-    pub fn reader(&mut self) -> Result<Reader<'a, OFFSET_BITS, L>, NoSeat>
+    pub fn reader(&mut self) -> Result<Reader<OFFSET_BITS, L>, NoSeat>
         ensures ok { IfOk result (λ r. (r.place.table_id ≡ self.old.place.table_id)
             × (reader_of r.place.me.0 ≡ newcomer (writer_of self.old.place.me.0))
             × (writer_of self.new.place.me.0 ≡ with_reader (writer_of self.old.place.me.0))) }
@@ -77,32 +83,30 @@ impl<'a, const OFFSET_BITS: u32, L: Layout> Writer<'a, OFFSET_BITS, L> {
         ensures table { self.new.place.table_id ≡ self.old.place.table_id }
         ensures none { IfErr result (λ e. (e.made ≡ 64) × ((writer_of self.old.place.me.0).made ≡ 64) × (self.new ≡ self.old)) }
     {
-        if self.made >= 64 {
-            return Err(NoSeat { made: self.made });
+        if self.seats.made >= MOST_READERS {
+            return Err(NoSeat {
+                made: self.seats.made,
+            });
         }
-        let place = self.arena.table.shared.split_seat::<Cut>(&mut self.place);
-        self.made += 1;
-        Ok(Reader {
-            arena: self.arena,
-            place,
-        })
+        let held = self.seats.arena();
+        let place = held.table.shared.split_seat::<Cut>(&mut self.place);
+        let arena = self.seats.next();
+        Ok(Reader { arena, place })
     }
 
     /// Joins a reader. All that it saw is then known to be commits; and what the writer has seen is then the whole
     /// run so far, in which no buffer was handed out while a reader had a guard from before its hold.
-    pub fn take_in(&mut self, reader: Reader<'a, OFFSET_BITS, L>)
+    pub fn take_in(&mut self, reader: Reader<OFFSET_BITS, L>)
         requires { reader.place.table_id ≡ self.old.place.table_id }
-        ensures view { writer_of self.new.place.me.0 ≡ joined (writer_of self.old.place.me.0) (reader_of reader.entry.place.me.0) }
+        ensures view { writer_of self.new.place.me.0 ≡ joined (writer_of self.old.place.me.0) (reader_of reader.place.me.0) }
         ensures table { self.new.place.table_id ≡ self.old.place.table_id }
         ensures commits { All (IsCommit (writer_of self.new.place.me.0).commits) (writer_of self.new.place.me.0).saw }
         ensures run { IsWholeRun L.reaches L.lawful (writer_of self.old.place.me.0).sizes self.new.place.me.0.seen }
     {
         let Reader { arena: _, place } = reader;
-        self.arena
-            .table
-            .shared
-            .join_seat::<Glue>(&mut self.place, place);
-        self.arena
+        let arena = self.seats.arena();
+        arena.table.shared.join_seat::<Glue>(&mut self.place, place);
+        arena
             .table
             .shared
             .load::<MeetLoad<L>>(&mut self.place, ROOT);
@@ -111,19 +115,19 @@ impl<'a, const OFFSET_BITS: u32, L: Layout> Writer<'a, OFFSET_BITS, L> {
     // Returns the place of a word of a record, by the width that is stored in its buffer.
     fn place_of_word(&mut self, entry: EntryRef<OFFSET_BITS>, i: u32) -> u64
         requires { HasWord (writer_records (writer_of self.old.place.me.0)) entry i }
-        ensures place { result ≡ place OFFSET_BITS self.old.arena.now.sizes.buffers self.old.arena.now.sizes.words
+        ensures place { result ≡ place OFFSET_BITS self.old.seats.arena.value.sizes.buffers self.old.seats.arena.value.sizes.words
             (length (writer_records (writer_of self.old.place.me.0) entry.entry)) entry.entry i }
         ensures same { self.new ≡ self.old }
     {
-        let first = first_word(&self.arena.sizes, entry.buffer());
-        let width = self
-            .arena
+        let arena = self.seats.arena();
+        let first = first_word(&arena.sizes, entry.buffer());
+        let width = arena
             .table
             .shared
             .load::<LoadOwn<L>>(&mut self.place, first) as u32;
         place_of(
-            self.arena.sizes.buffers as u32,
-            self.arena.sizes.words as u32,
+            arena.sizes.buffers as u32,
+            arena.sizes.words as u32,
             width,
             entry,
             i,
@@ -131,7 +135,7 @@ impl<'a, const OFFSET_BITS: u32, L: Layout> Writer<'a, OFFSET_BITS, L> {
     }
 }
 
-impl<'a, const OFFSET_BITS: u32, L: Layout> Frozen<OFFSET_BITS> for Writer<'a, OFFSET_BITS, L> {
+impl<const OFFSET_BITS: u32, L: Layout> Frozen<OFFSET_BITS> for Writer<OFFSET_BITS, L> {
     ghost use Rattle.word_arena.specs.ProofsForWork.{desk_bits, work_references};
 
     ghost shape = { λ w. (writer_of w.place.me.0).sizes.shape };
@@ -139,22 +143,23 @@ impl<'a, const OFFSET_BITS: u32, L: Layout> Frozen<OFFSET_BITS> for Writer<'a, O
     ghost records = { λ w. writer_records (writer_of w.place.me.0) };
 
     fn word(&mut self, entry: EntryRef<OFFSET_BITS>, i: u32) -> u64
-        requires { HasWord (⟦<Writer<'a, OFFSET_BITS, L> as Frozen<OFFSET_BITS>>⟧.records self.old) entry i }
-        ensures value { result ≡ word_at (⟦<Writer<'a, OFFSET_BITS, L> as Frozen<OFFSET_BITS>>⟧.records self.old) entry.entry i }
+        requires { HasWord (⟦<Writer<OFFSET_BITS, L> as Frozen<OFFSET_BITS>>⟧.records self.old) entry i }
+        ensures value { result ≡ word_at (⟦<Writer<OFFSET_BITS, L> as Frozen<OFFSET_BITS>>⟧.records self.old) entry.entry i }
         ensures same { self.new ≡ self.old }
     {
         let place = self.place_of_word(entry, i);
-        self.arena
+        let arena = self.seats.arena();
+        arena
             .table
             .shared
             .load::<LoadOwn<L>>(&mut self.place, place as usize)
     }
 
     fn read(&mut self, entry: EntryRef<OFFSET_BITS>, first: u32, into: &mut [u64])
-        requires there { first + length into.old ≤ length (⟦<Writer<'a, OFFSET_BITS, L> as Frozen<OFFSET_BITS>>⟧.records self.old entry) }
+        requires there { first + length into.old ≤ length (⟦<Writer<OFFSET_BITS, L> as Frozen<OFFSET_BITS>>⟧.records self.old entry) }
         requires few { first + length into.old < 2 ^ 32 }
         ensures words { into.new ≡ take (length into.old)
-            (drop first (⟦<Writer<'a, OFFSET_BITS, L> as Frozen<OFFSET_BITS>>⟧.records self.old entry.entry)) }
+            (drop first (⟦<Writer<OFFSET_BITS, L> as Frozen<OFFSET_BITS>>⟧.records self.old entry.entry)) }
         ensures same { self.new ≡ self.old }
     {
         if into.is_empty() {
@@ -162,8 +167,8 @@ impl<'a, const OFFSET_BITS: u32, L: Layout> Frozen<OFFSET_BITS> for Writer<'a, O
         }
         let place = self.place_of_word(entry, first);
         for i in 0..into.len() {
-            into[i] = self
-                .arena
+            let arena = self.seats.arena();
+            into[i] = arena
                 .table
                 .shared
                 .load::<LoadOwn<L>>(&mut self.place, place as usize + i);

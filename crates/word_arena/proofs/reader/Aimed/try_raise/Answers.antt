@@ -12,13 +12,13 @@ fetch_add-count-requires g c =
     let a = c.args.self.stands in
     let low = a.low in
     let r = reader_of c.args.self.place.me.0 in
-    (a.post.own, low-inside a.post _ (omega arith), raise_owed _ _ _ _ _ _ r r.least c.args.self.hold _ a.post.is refl a.aimed)
+    rw c.deref-held.ensures (a.post.own, low-inside a.post _ (omega arith), raise_owed _ _ _ _ _ _ r r.least c.args.self.hold _ a.post.is refl a.aimed)
 
 pub load-found-requires : goal.load-found-requires
 load-found-requires g c =
     let a = c.args.self.stands in
     let b = raised_post a c.fetch_add-count.ensures.0 c.fetch_add-count.ensures.2.told in
-    (b.post.own, low-inside b.post _ (omega arith), load_root_owed _ _ _ _ _ _ (reader_of c.fetch_add-count.new.seat.me.0) c.args.self.hold b.post.is (raised-stands b c.if-count-eq0.true))
+    rw c.deref-held.ensures (b.post.own, low-inside b.post _ (omega arith), load_root_owed _ _ _ _ _ _ (reader_of c.fetch_add-count.new.seat.me.0) c.args.self.hold b.post.is (raised-stands b c.if-count-eq0.true))
 
 pub invariant_of-result : goal.invariant_of-result
 invariant_of-result g c =
@@ -49,7 +49,7 @@ pub fetch_sub-requires : goal.fetch_sub-requires
 fetch_sub-requires g c =
     let a = c.args.self.stands in
     let b = raised_post a c.fetch_add-count.ensures.0 c.fetch_add-count.ensures.2.told in
-    let low = b.low in (
+    let low = b.low in rw c.deref-held.ensures (
       b.post.own,
       low-inside b.post _ (omega arith),
       bounce_owed _ _ _ _ _ _ (reader_of c.fetch_add-count.new.seat.me.0) c.args.self.hold _ b.post.is refl

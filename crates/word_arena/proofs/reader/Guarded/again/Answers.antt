@@ -9,7 +9,7 @@ use Rattle.word_arena.proofs.reader.Guarded.again.Goals as goal
 pub load-now-requires : goal.load-now-requires
 load-now-requires g c =
     let s = c.args.self in
-    (s.stands.post.own, low-inside s.stands.post _ (omega arith), load_root_owed _ _ _ _ _ _ (reader_of s.place.me.0) s.hold s.stands.post.is (ap stands_on s.stands.guarded))
+    rw c.deref-held.ensures (s.stands.post.own, low-inside s.stands.post _ (omega arith), load_root_owed _ _ _ _ _ _ (reader_of s.place.me.0) s.hold s.stands.post.is (ap stands_on s.stands.guarded))
 
 pub invariant_of-result : goal.invariant_of-result
 invariant_of-result g c =

@@ -20,12 +20,12 @@ overflow_add-place g c =
     let test = c.loop-i-test.true in
     let below : c.args.first + c.loop-i.i < length (words_at (seen_image (reader_of (c.args.self.now).place.me.0)) c.args.entry) = omega (arith, there, test) in
     let inside = subst (λ (n : ℕ). c.args.first + c.loop-i.i < n) (λ k. length (words_at (seen_image (reader_of (sym same k).place.me.0)) c.args.entry)) below in
-    let at : c.place_of_word-place.result ≡ place g.row.OFFSET_BITS s.arena.now.sizes.buffers s.arena.now.sizes.words (length (words_at (seen_image (reader_of (s).place.me.0)) c.args.entry)) c.args.entry c.args.first =
-    i.at ∙ (λ k. place g.row.OFFSET_BITS (sym same k).arena.now.sizes.buffers (sym same k).arena.now.sizes.words (length (words_at (seen_image (reader_of (sym same k).place.me.0)) c.args.entry)) c.args.entry c.args.first) in
-    let is : c.place_of_word-place.result + c.loop-i.i ≡ place g.row.OFFSET_BITS s.arena.now.sizes.buffers s.arena.now.sizes.words (length (words_at (seen_image (reader_of (s).place.me.0)) c.args.entry)) c.args.entry
+    let at : c.place_of_word-place.result ≡ place g.row.OFFSET_BITS s.arena.value.sizes.buffers s.arena.value.sizes.words (length (words_at (seen_image (reader_of (s).place.me.0)) c.args.entry)) c.args.entry c.args.first =
+    i.at ∙ (λ k. place g.row.OFFSET_BITS (sym same k).arena.value.sizes.buffers (sym same k).arena.value.sizes.words (length (words_at (seen_image (reader_of (sym same k).place.me.0)) c.args.entry)) c.args.entry c.args.first) in
+    let is : c.place_of_word-place.result + c.loop-i.i ≡ place g.row.OFFSET_BITS s.arena.value.sizes.buffers s.arena.value.sizes.words (length (words_at (seen_image (reader_of (s).place.me.0)) c.args.entry)) c.args.entry
     (c.args.first + c.loop-i.i) = omega (arith, at) in
     let lt = place-inside s.stands c.args.entry (c.args.first + c.loop-i.i) inside _ is in
-    let words : s.arena.now.table.shared.table_id.words ≡ size_of s.arena.now.sizes.buffers s.arena.now.sizes.words = ap (λ (x : TableId). x.words) (sym s.stands.post.own) ∙ s.stands.post.words in
+    let words : s.arena.value.table.shared.table_id.words ≡ size_of s.arena.value.sizes.buffers s.arena.value.sizes.words = ap (λ (x : TableId). x.words) (sym s.stands.post.own) ∙ s.stands.post.words in
     let few = few-buffers s.stands in
     let product = s.stands.post.product in
     omega arith
@@ -39,10 +39,10 @@ load-requires g c =
     let test = c.loop-i-test.true in
     let below : c.args.first + c.loop-i.i < length (words_at (seen_image (reader_of (c.args.self.now).place.me.0)) c.args.entry) = omega (arith, there, test) in
     let inside = subst (λ (n : ℕ). c.args.first + c.loop-i.i < n) (λ k. length (words_at (seen_image (reader_of (sym same k).place.me.0)) c.args.entry)) below in
-    let at : c.place_of_word-place.result ≡ place g.row.OFFSET_BITS s.arena.now.sizes.buffers s.arena.now.sizes.words (length (words_at (seen_image (reader_of (s).place.me.0)) c.args.entry)) c.args.entry c.args.first =
-    i.at ∙ (λ k. place g.row.OFFSET_BITS (sym same k).arena.now.sizes.buffers (sym same k).arena.now.sizes.words (length (words_at (seen_image (reader_of (sym same k).place.me.0)) c.args.entry)) c.args.entry c.args.first) in
-    let is : c.place_of_word-place.result + c.loop-i.i ≡ place g.row.OFFSET_BITS s.arena.now.sizes.buffers s.arena.now.sizes.words (length (words_at (seen_image (reader_of (s).place.me.0)) c.args.entry)) c.args.entry
-    (c.args.first + c.loop-i.i) = omega (arith, at) in (
+    let at : c.place_of_word-place.result ≡ place g.row.OFFSET_BITS s.arena.value.sizes.buffers s.arena.value.sizes.words (length (words_at (seen_image (reader_of (s).place.me.0)) c.args.entry)) c.args.entry c.args.first =
+    i.at ∙ (λ k. place g.row.OFFSET_BITS (sym same k).arena.value.sizes.buffers (sym same k).arena.value.sizes.words (length (words_at (seen_image (reader_of (sym same k).place.me.0)) c.args.entry)) c.args.entry c.args.first) in
+    let is : c.place_of_word-place.result + c.loop-i.i ≡ place g.row.OFFSET_BITS s.arena.value.sizes.buffers s.arena.value.sizes.words (length (words_at (seen_image (reader_of (s).place.me.0)) c.args.entry)) c.args.entry
+    (c.args.first + c.loop-i.i) = omega (arith, at) in rw c.deref-arena.ensures (
       s.stands.post.own,
       place-inside s.stands c.args.entry (c.args.first + c.loop-i.i) inside _ is,
       load_word_owed _ _ _ _ _ _ (reader_of s.place.me.0) _ s.stands.post.is (may_load_word s.stands c.args.entry (c.args.first + c.loop-i.i) inside _ is),
@@ -57,15 +57,15 @@ loop-i-preserved g c =
     let test = c.loop-i-test.true in
     let below : c.args.first + c.loop-i.i < length (words_at (seen_image (reader_of (c.args.self.now).place.me.0)) c.args.entry) = omega (arith, there, test) in
     let inside = subst (λ (n : ℕ). c.args.first + c.loop-i.i < n) (λ k. length (words_at (seen_image (reader_of (sym same k).place.me.0)) c.args.entry)) below in
-    let at : c.place_of_word-place.result ≡ place g.row.OFFSET_BITS s.arena.now.sizes.buffers s.arena.now.sizes.words (length (words_at (seen_image (reader_of (s).place.me.0)) c.args.entry)) c.args.entry c.args.first =
-    i.at ∙ (λ k. place g.row.OFFSET_BITS (sym same k).arena.now.sizes.buffers (sym same k).arena.now.sizes.words (length (words_at (seen_image (reader_of (sym same k).place.me.0)) c.args.entry)) c.args.entry c.args.first) in
-    let is : c.place_of_word-place.result + c.loop-i.i ≡ place g.row.OFFSET_BITS s.arena.now.sizes.buffers s.arena.now.sizes.words (length (words_at (seen_image (reader_of (s).place.me.0)) c.args.entry)) c.args.entry
+    let at : c.place_of_word-place.result ≡ place g.row.OFFSET_BITS s.arena.value.sizes.buffers s.arena.value.sizes.words (length (words_at (seen_image (reader_of (s).place.me.0)) c.args.entry)) c.args.entry c.args.first =
+    i.at ∙ (λ k. place g.row.OFFSET_BITS (sym same k).arena.value.sizes.buffers (sym same k).arena.value.sizes.words (length (words_at (seen_image (reader_of (sym same k).place.me.0)) c.args.entry)) c.args.entry c.args.first) in
+    let is : c.place_of_word-place.result + c.loop-i.i ≡ place g.row.OFFSET_BITS s.arena.value.sizes.buffers s.arena.value.sizes.words (length (words_at (seen_image (reader_of (s).place.me.0)) c.args.entry)) c.args.entry
     (c.args.first + c.loop-i.i) = omega (arith, at) in
     let l = c.load.ensures in
     let value : c.load.result ≡ slice_index (words_at (seen_image (reader_of (c.args.self.now).place.me.0)) c.args.entry) (c.args.first + c.loop-i.i) =
     word_found s.stands c.args.entry (c.args.first + c.loop-i.i) inside refl is l.2.told ∙ (λ k. slice_index (words_at (seen_image (reader_of (same k).place.me.0)) c.args.entry) (c.args.first + c.loop-i.i)) in
     let seat = seat_same s.place c.load.new.seat l.0 l.1 l.2.event.1.same in
-    let back = subst (λ (p : Seat Slot Watched). (st : IsGuard g.row.OFFSET_BITS s.arena.now.table.shared.table_id s.arena.now.sizes s.hold s.found p.table_id (bare p.me)) → record s { place = p; stands = st } ≡ s) (sym seat)
+    let back = subst (λ (p : Seat Slot Watched). (st : IsGuard g.row.OFFSET_BITS s.arena.value.table.shared.table_id s.arena.value.sizes s.hold s.found p.table_id (bare p.me)) → record s { place = p; stands = st } ≡ s) (sym seat)
     (λ st. ap (λ x. record s { stands = x }) (guard-prop _ _ _ _ _ _ _ st s.stands)) _ in
     record {
       same = back ∙ same;

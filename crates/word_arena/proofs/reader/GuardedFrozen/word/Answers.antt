@@ -13,16 +13,16 @@ load-requires g c =
     let s = c.place_of_word-place.new.self in
     let same = c.place_of_word-place.ensures.same in
     let inside = subst (λ (n : ℕ). c.args.i < n) (λ k. length (words_at (seen_image (reader_of (sym same k).place.me.0)) c.args.entry)) c.requires in
-    let is = c.place_of_word-place.ensures.place ∙ (λ k. place g.row.OFFSET_BITS (sym same k).arena.now.sizes.buffers (sym same k).arena.now.sizes.words
+    let is = c.place_of_word-place.ensures.place ∙ (λ k. place g.row.OFFSET_BITS (sym same k).arena.value.sizes.buffers (sym same k).arena.value.sizes.words
     (length (words_at (seen_image (reader_of (sym same k).place.me.0)) c.args.entry)) c.args.entry c.args.i) in
-    (s.stands.post.own, place-inside s.stands c.args.entry c.args.i inside _ is, load_word_owed _ _ _ _ _ _ (reader_of s.place.me.0) _ s.stands.post.is (may_load_word s.stands c.args.entry c.args.i inside _ is))
+    rw c.deref-arena.ensures (s.stands.post.own, place-inside s.stands c.args.entry c.args.i inside _ is, load_word_owed _ _ _ _ _ _ (reader_of s.place.me.0) _ s.stands.post.is (may_load_word s.stands c.args.entry c.args.i inside _ is))
 
 pub returns-clause-value : goal.returns-clause-value
 returns-clause-value g c =
     let s = c.place_of_word-place.new.self in
     let same = c.place_of_word-place.ensures.same in
     let inside = subst (λ (n : ℕ). c.args.i < n) (λ k. length (words_at (seen_image (reader_of (sym same k).place.me.0)) c.args.entry)) c.requires in
-    let is = c.place_of_word-place.ensures.place ∙ (λ k. place g.row.OFFSET_BITS (sym same k).arena.now.sizes.buffers (sym same k).arena.now.sizes.words
+    let is = c.place_of_word-place.ensures.place ∙ (λ k. place g.row.OFFSET_BITS (sym same k).arena.value.sizes.buffers (sym same k).arena.value.sizes.words
     (length (words_at (seen_image (reader_of (sym same k).place.me.0)) c.args.entry)) c.args.entry c.args.i) in
     word_found s.stands c.args.entry c.args.i inside refl is c.load.ensures.2.told ∙ (λ k. slice_index (words_at (seen_image (reader_of (same k).place.me.0)) c.args.entry) c.args.i)
 
@@ -32,5 +32,5 @@ returns-clause-same g c =
     let same = c.place_of_word-place.ensures.same in
     let l = c.load.ensures in
     let seat = seat_same s.place c.load.new.seat l.0 l.1 l.2.event.1.same in
-    subst (λ (p : Seat Slot Watched). (st : IsGuard g.row.OFFSET_BITS s.arena.now.table.shared.table_id s.arena.now.sizes s.hold s.found p.table_id (bare p.me)) → record s { place = p; stands = st } ≡ s) (sym seat)
+    subst (λ (p : Seat Slot Watched). (st : IsGuard g.row.OFFSET_BITS s.arena.value.table.shared.table_id s.arena.value.sizes s.hold s.found p.table_id (bare p.me)) → record s { place = p; stands = st } ≡ s) (sym seat)
     (λ st. ap (λ x. record s { stands = x }) (guard-prop _ _ _ _ _ _ _ st s.stands)) _ ∙ same

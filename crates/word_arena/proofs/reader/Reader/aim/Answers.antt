@@ -7,7 +7,7 @@ use Rattle.word_arena.proofs.reader.Reader.aim.Goals as goal
 pub load-last-requires : goal.load-last-requires
 load-last-requires g c =
     let s = c.args.self in
-    (s.stands.post.own, low-inside s.stands.post _ (omega arith), load_newest_owed _ _ _ _ _ _ (reader_of s.place.me.0) s.stands.post.is s.stands.idle)
+    rw c.deref-held.ensures (s.stands.post.own, low-inside s.stands.post _ (omega arith), load_newest_owed _ _ _ _ _ _ (reader_of s.place.me.0) s.stands.post.is s.stands.idle)
 
 pub invariant_of-result : goal.invariant_of-result
 invariant_of-result g c = record { stands = (aimed_post c.args.self.stands c.load-last.ensures.0 c.load-last.ensures.2.told).0 }

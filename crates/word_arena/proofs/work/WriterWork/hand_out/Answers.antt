@@ -16,7 +16,7 @@ pub returns-clause-none : goal.returns-clause-none
 returns-clause-none g c =
     let s = c.args.self.now in
     let list : c.as_slice.result.now ≡ (writer_of s.place.me.0).buffers = c.as_slice.ensures.value ∙ sym s.stands.same_buffers in
-    let size : s.arena.now.sizes.buffers ≡ (writer_of s.place.me.0).sizes.buffers = ap (λ (z : Sizes). z.buffers) (sym s.stands.same_sizes) in
+    let size : c.arena-arena.result.now.sizes.buffers ≡ (writer_of s.place.me.0).sizes.buffers = rw c.arena-arena.ensures (ap (λ (z : Sizes). z.buffers) (sym s.stands.same_sizes)) in
     let P : List Buffer × ℕ → Type 0 = λ x. (true ≡ false → free_count (buffers_by x.0) x.1 ≡ 0) × (free_count (buffers_by x.0) x.1 ≡ 0 → true ≡ false) in
     subst P (λ k. (list k, size k)) c.in_ok-buffer.ensures.none
 
@@ -26,7 +26,7 @@ returns-clause-handed g c =
     let w : WriterView = writer_of s.place.me.0 in
     let b : ℕ = c.in_ok-buffer.buffer in
     let list : c.as_slice.result.now ≡ w.buffers = c.as_slice.ensures.value ∙ sym s.stands.same_buffers in
-    let size : s.arena.now.sizes.buffers ≡ w.sizes.buffers = ap (λ (z : Sizes). z.buffers) (sym s.stands.same_sizes) in
+    let size : c.arena-arena.result.now.sizes.buffers ≡ w.sizes.buffers = rw c.arena-arena.ensures (ap (λ (z : Sizes). z.buffers) (sym s.stands.same_sizes)) in
     let P : List Buffer × ℕ → Type 0 = λ x. IsLowestFree (buffers_by x.0) x.1 b in
     let lowest = subst P (λ k. (list k, size k)) c.in_ok-buffer.ensures.lowest in
     let free = free-here w b (let h = lowest.below in omega (arith, h, s.stands.good.count)) lowest.free in
@@ -38,7 +38,7 @@ returns-clause-records g c =
     let w : WriterView = writer_of s.place.me.0 in
     let b : ℕ = c.in_ok-buffer.buffer in
     let list : c.as_slice.result.now ≡ w.buffers = c.as_slice.ensures.value ∙ sym s.stands.same_buffers in
-    let size : s.arena.now.sizes.buffers ≡ w.sizes.buffers = ap (λ (z : Sizes). z.buffers) (sym s.stands.same_sizes) in
+    let size : c.arena-arena.result.now.sizes.buffers ≡ w.sizes.buffers = rw c.arena-arena.ensures (ap (λ (z : Sizes). z.buffers) (sym s.stands.same_sizes)) in
     let P : List Buffer × ℕ → Type 0 = λ x. IsLowestFree (buffers_by x.0) x.1 b in
     let lowest = subst P (λ k. (list k, size k)) c.in_ok-buffer.ensures.lowest in
     let free = free-here w b (let h = lowest.below in omega (arith, h, s.stands.good.count)) lowest.free in
@@ -50,7 +50,7 @@ returns-clause-tags g c =
     let w : WriterView = writer_of s.place.me.0 in
     let b : ℕ = c.in_ok-buffer.buffer in
     let list : c.as_slice.result.now ≡ w.buffers = c.as_slice.ensures.value ∙ sym s.stands.same_buffers in
-    let size : s.arena.now.sizes.buffers ≡ w.sizes.buffers = ap (λ (z : Sizes). z.buffers) (sym s.stands.same_sizes) in
+    let size : c.arena-arena.result.now.sizes.buffers ≡ w.sizes.buffers = rw c.arena-arena.ensures (ap (λ (z : Sizes). z.buffers) (sym s.stands.same_sizes)) in
     let P : List Buffer × ℕ → Type 0 = λ x. IsLowestFree (buffers_by x.0) x.1 b in
     let lowest = subst P (λ k. (list k, size k)) c.in_ok-buffer.ensures.lowest in
     tagged-below w b s.stands.good (free-here w b (let h = lowest.below in omega (arith, h, s.stands.good.count)) lowest.free)

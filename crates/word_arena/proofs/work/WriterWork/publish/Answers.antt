@@ -19,7 +19,7 @@ store-requires g c =
     let w : WriterView = writer_of s.place.me.0 in
     let number : c.from.result ≡ length w.commits = let a = c.from.ensures in let b = s.stands.commits in let h = some-commit w s.stands.good in omega arith in
     let root : c.from-2.result ≡ c.args.root = c.from-2.ensures ∙ c.raw.ensures in
-    let small : c.args.root < 2 ^ 32 = let h = c.raw.type_inv in let e = c.raw.ensures in omega arith in (
+    let small : c.args.root < 2 ^ 32 = let h = c.raw.type_inv in let e = c.raw.ensures in omega arith in rw c.arena-arena.ensures (
       s.stands.own,
       desk-some s.stands,
       publish_owed g.L.Layout.reaches g.L.Layout.lawful _ _ _ _ (record { empty_reaches = g.L.Layout.empty_reaches; empty_lawful = g.L.Layout.empty_lawful; present = g.L.Layout.present; stays = g.L.Layout.stays }) w

@@ -68,7 +68,7 @@ put_words-requires g c =
       };
       unkept = c.requires.unkept;
     } in
-    (omega arith, (omega arith, (sym c.args.self.now.stands.own, (omega (arith, fits), (may, c.place_in-place.ensures)))))
+    (omega arith, (omega arith, (omega (arith, fits), (may, c.place_in-place.ensures))))
 
 pub put_zeros-requires : goal.put_zeros-requires
 put_zeros-requires g c =
@@ -85,8 +85,7 @@ put_zeros-requires g c =
       unkept = c.requires.unkept;
     } in
     let place : c.place_in-place.result ≡ place_by B now c.args.entry 0 = c.place_in-place.ensures ∙ (λ k. place_by B (sym knows k) c.args.entry 0) in
-    let table : c.args.self.now.arena.now.table.shared.table_id ≡ c.put_words.new.self.place.table_id = sym (ap (λ v. v.home) knows ∙ c.args.self.now.stands.own) in
-    (omega arith, (omega arith, (table, (subst (λ v. (i : ℕ) → i < c.args.width → MayStore B v c.args.entry i) (sym knows) may, place))))
+    (omega arith, (omega arith, (subst (λ v. (i : ℕ) → i < c.args.width → MayStore B v c.args.entry i) (sym knows) may, place)))
 
 pub returns-clause-knows : goal.returns-clause-knows
 returns-clause-knows g c =

@@ -28,8 +28,8 @@ compare_exchange-count-requires g c =
     let oldest : c.oldest-oldest.result ≡ own_hold e = c.oldest-oldest.ensures ∙ own-oldest w.queue s.holds s.stands.same_holds ∙ ap own_hold first in
     let hold : c.oldest-oldest.result.hold ≡ e.hold = ap (λ (h : HoldEntry). h.hold) oldest in
     let low : e.hold < 16 = subst (λ (x : OpenHold). x.hold < 16) first (at_oldest (HoldFits w.commits) w.queue.older w.queue.newest s.stands.good.queue.each).hold in
-    let inside : 2 + c.oldest-oldest.result.hold < s.arena.now.table.shared.table_id.words = omega (arith, low, hold, arena-words s.stands) in
-    (s.stands.own, inside, close_owed _ _ _ _ _ _ w e es _ s.stands.is (ap (λ (n : ℕ). 2 + n) hold) s.stands.calm older)
+    let inside : 2 + c.oldest-oldest.result.hold < s.seats.arena.value.table.shared.table_id.words = omega (arith, low, hold, arena-words s.stands) in
+    rw c.arena-arena.ensures (s.stands.own, inside, close_owed _ _ _ _ _ _ w e es _ s.stands.is (ap (λ (n : ℕ). 2 + n) hold) s.stands.calm older)
 
 pub invariant_of-self : goal.invariant_of-self
 invariant_of-self g c =

@@ -23,13 +23,13 @@ store-requires g c =
     let list : c.as_slice.result.now ≡ w.buffers = c.as_slice.ensures.value ∙ sym s.stands.same_buffers in
     let at = tag-found c.args.oldest (slice_get w.buffers b) c.in-Some.tag (ap (λ (l : List Buffer). unused_tag_in c.args.oldest l b) (sym list) ∙ sym c.in-Some.ensures) in
     let below = c.requires.below in
-    let inside : 18 + c.args.buffer < s.arena.now.table.shared.table_id.words = omega (arith, below, s.stands.good.count, arena-words s.stands, ap (λ (z : Sizes). z.buffers) s.stands.same_sizes) in
+    let inside : 18 + c.args.buffer < s.seats.arena.value.table.shared.table_id.words = omega (arith, below, s.stands.good.count, arena-words s.stands, ap (λ (z : Sizes). z.buffers) s.stands.same_sizes) in
     let low = at.2 in
     let oldest = c.requires.oldest in
-    (s.stands.own, inside, free_owed _ _ _ _ _ _ w b c.in-Some.tag _ s.stands.is refl (record { calm = s.stands.calm; width = at.0; held = at.1; below = omega (arith, low, oldest) }))
+    rw c.arena-arena.ensures (s.stands.own, inside, free_owed _ _ _ _ _ _ w b c.in-Some.tag _ s.stands.is refl (record { calm = s.stands.calm; width = at.0; held = at.1; below = omega (arith, low, oldest) }))
 
-pub invariant_of-self : goal.invariant_of-self
-invariant_of-self g c =
+pub invariant_of-self-in-Some : goal.invariant_of-self-in-Some
+invariant_of-self-in-Some g c =
     let s = c.args.self.now in
     let w : WriterView = writer_of s.place.me.0 in
     let b : ℕ = c.args.buffer in

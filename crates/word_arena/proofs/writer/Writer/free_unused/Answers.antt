@@ -16,7 +16,7 @@ loop-buffer-init g c =
     let oldest = ap (λ (h : HoldEntry). h.generation) (c.oldest-oldest.ensures ∙ own-oldest w.queue s.holds s.stands.same_holds) in
     record {
       table = refl;
-      count = ap (λ (z : Sizes). z.buffers) (sym s.stands.same_sizes);
+      count = rw c.arena-arena.ensures (ap (λ (z : Sizes). z.buffers) (sym s.stands.same_sizes));
       oldest = oldest;
       frees = record { each = λ a lt. absurd (omega (arith, lt)); rest = λ a le. refl; same = refl };
     }

@@ -26,8 +26,8 @@ open_hold-requires g c =
     let limit : v.sizes.generation_limit ≡ w.sizes.generation_limit = ap (λ (x : WriterView). x.sizes.generation_limit) e in
     let own : c.newest-newest.result.generation ≡ w.queue.newest.generation =
     ap (λ (h : HoldEntry). h.generation) (c.newest-newest.ensures ∙ own-newest w.queue s.holds s.stands.same_holds) in
-    let size : w.sizes.generation_limit ≡ s.arena.now.sizes.generation_limit = ap (λ (z : Sizes). z.generation_limit) s.stands.same_sizes in
-    let below = c.if-newest-self.false in (
+    let size : w.sizes.generation_limit ≡ c.arena-arena.result.now.sizes.generation_limit = rw c.arena-arena.ensures (ap (λ (z : Sizes). z.generation_limit) s.stands.same_sizes) in
+    let below = c.if-newest-arena.false in (
       omega arith,
       record {
         calm = n.stands.calm;

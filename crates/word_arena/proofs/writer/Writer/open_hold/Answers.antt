@@ -21,8 +21,8 @@ fetch_sub-requires g c =
     let s = c.args.self.now in
     let w : WriterView = writer_of s.place.me.0 in
     let low = c.requires.hold in
-    let inside : 2 + c.args.hold < s.arena.now.table.shared.table_id.words = omega (arith, low, arena-words s.stands) in
-    (s.stands.own, inside, reopen_owed _ _ _ _ _ _ w c.args.hold _ s.stands.is refl c.requires)
+    let inside : 2 + c.args.hold < s.seats.arena.value.table.shared.table_id.words = omega (arith, low, arena-words s.stands) in
+    rw c.arena-arena.ensures (s.stands.own, inside, reopen_owed _ _ _ _ _ _ w c.args.hold _ s.stands.is refl c.requires)
 
 pub store-requires : goal.store-requires
 store-requires g c =
@@ -35,7 +35,7 @@ store-requires g c =
     let first = (c.fetch_sub.ensures.2.told c.args.hold refl).is in
     let at : (c.newest-newest.result.generation + 1) * 65536 + c.from.result ≡ (w.queue.newest.generation + 1) * 65536 + c.args.hold =
     (λ k. (generation k + 1) * 65536 + c.from.ensures k) in
-    (c.fetch_sub.ensures.0 ∙ s.stands.own, omega (arith, arena-words s.stands), store_newest_owed _ _ _ _ _ _ (reopened w c.args.hold) c.args.hold _ (first ∙ (λ k. (Writer (reopened w c.args.hold), slots k))) at refl)
+    rw c.arena-arena.ensures (c.fetch_sub.ensures.0 ∙ s.stands.own, omega (arith, arena-words s.stands), store_newest_owed _ _ _ _ _ _ (reopened w c.args.hold) c.args.hold _ (first ∙ (λ k. (Writer (reopened w c.args.hold), slots k))) at refl)
 
 pub append-requires-clause-closed : goal.append-requires-clause-closed
 append-requires-clause-closed g c =

@@ -1,4 +1,4 @@
-use Rattle.std.proofs.Common.{◌≡◌, ℕ, Option, Some, Bool, true, false, cond, refl, ap, sym, subst, arith, ◌∙◌}
+use Rattle.std.proofs.Common.{◌≡◌, ℕ, Option, Some, Bool, true, false, cond, refl, sym, subst, arith, ◌∙◌}
 use Rattle.std.specs.Prelude.{nat_eq, ◌&&◌}
 use Rattle.arena_api.specs.Calls.{MayStore, with_stored}
 use Rattle.word_arena.specs.Ruled.{writer_of}
@@ -20,8 +20,7 @@ store_in-requires g c =
     record { word = record { entry = c.requires.may.word.entry; inside = c.requires.may.word.inside }; unkept = c.requires.may.unkept } in
     let place : c.args.at ≡ place_by B (view_of c.find_in.new.self.place.table_id (writer_of c.find_in.new.self.place.me.0)) c.args.entry c.args.i =
     subst (λ v. c.args.at ≡ place_by B v c.args.entry c.args.i) (sym knows) c.requires.place in
-    let table : c.args.table.now.shared.table_id ≡ c.find_in.new.self.place.table_id = c.requires.table ∙ sym (ap (λ v. v.home) knows) in
-    (omega arith, (omega arith, (table, (subst (λ v. MayStore B v c.args.entry c.args.i) (sym knows) may, place))))
+    (omega arith, (omega arith, (subst (λ v. MayStore B v c.args.entry c.args.i) (sym knows) may, place)))
 
 pub returns-then-find_in-word-clause-knows : goal.returns-then-find_in-word-clause-knows
 returns-then-find_in-word-clause-knows g c =

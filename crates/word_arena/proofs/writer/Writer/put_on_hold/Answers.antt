@@ -28,8 +28,8 @@ store-requires g c =
     let s = c.args.self.now in
     let w : WriterView = writer_of s.place.me.0 in
     let below = active-inside w.buffers c.args.buffer _ c.requires.active in
-    let inside : 18 + c.args.buffer < s.arena.now.table.shared.table_id.words = omega (arith, below, s.stands.good.count, arena-words s.stands, ap (λ (z : Sizes). z.buffers) s.stands.same_sizes) in
-    (s.stands.own, inside, hold_owed _ _ _ _ _ _ w c.args.buffer _ _ s.stands.is refl c.requires)
+    let inside : 18 + c.args.buffer < s.seats.arena.value.table.shared.table_id.words = omega (arith, below, s.stands.good.count, arena-words s.stands, ap (λ (z : Sizes). z.buffers) s.stands.same_sizes) in
+    rw c.arena-arena.ensures (s.stands.own, inside, hold_owed _ _ _ _ _ _ w c.args.buffer _ _ s.stands.is refl c.requires)
 
 pub invariant_of-self : goal.invariant_of-self
 invariant_of-self g c =

@@ -30,8 +30,7 @@ put_in-requires g c =
     let here : c.args.first + c.loop-i.i ≡ place_by B (record old { stored = now.stored }) c.args.entry c.loop-i.i = omega (arith, at) in
     let place : c.args.first + c.loop-i.i ≡ place_by B now c.args.entry c.loop-i.i =
     subst (λ v. c.args.first + c.loop-i.i ≡ place_by B v c.args.entry c.loop-i.i) (sym c.loop-i.invariant.knows) here in
-    let table : c.args.table.now.shared.table_id ≡ c.loop-i.self.place.table_id = c.requires.table ∙ sym (ap (λ v. v.home) c.loop-i.invariant.knows) in
-    (omega arith, (omega arith, (table, (subst (λ v. MayStore B v c.args.entry c.loop-i.i) (sym c.loop-i.invariant.knows) may, place))))
+    (omega arith, (omega arith, (subst (λ v. MayStore B v c.args.entry c.loop-i.i) (sym c.loop-i.invariant.knows) may, place)))
 
 pub loop-i-preserved : goal.loop-i-preserved
 loop-i-preserved g c =

@@ -24,8 +24,8 @@ load-count-requires g c =
     let generation : c.newest-newest.result.generation ≡ w.queue.newest.generation = ap (λ (h : HoldEntry). h.generation) newest in
     let slots : s.place.me.1 ≡ [] = ap (λ (m : Me Slot View). m.1) s.stands.is in
     let low = (at_newest (HoldFits w.commits) w.queue.older w.queue.newest s.stands.good.queue.each).hold in
-    let inside : 2 + c.newest-newest.result.hold < s.arena.now.table.shared.table_id.words = omega (arith, low, hold, arena-words s.stands) in
-    (s.stands.own, inside, probe_owed _ _ _ _ _ _ w _ s.stands.is (ap (λ (n : ℕ). 2 + n) hold) s.stands.calm c.requires)
+    let inside : 2 + c.newest-newest.result.hold < s.seats.arena.value.table.shared.table_id.words = omega (arith, low, hold, arena-words s.stands) in
+    rw c.arena-arena.ensures (s.stands.own, inside, probe_owed _ _ _ _ _ _ w _ s.stands.is (ap (λ (n : ℕ). 2 + n) hold) s.stands.calm c.requires)
 
 pub overflow_add-word-then-count-eq0 : goal.overflow_add-word-then-count-eq0
 overflow_add-word-then-count-eq0 g c =
@@ -51,7 +51,7 @@ store-requires g c =
     let first = (c.load-count.ensures.2.told.hit c.if-count-eq0.true).is in
     let at : (c.newest-newest.result.generation + 1) * 65536 + c.from.result ≡ (w.queue.newest.generation + 1) * 65536 + w.queue.newest.hold =
     (λ k. (generation k + 1) * 65536 + (c.from.ensures ∙ hold) k) in
-    (c.load-count.ensures.0 ∙ s.stands.own, omega (arith, arena-words s.stands), morph_owed _ _ _ _ _ _ (probed w) _ (first ∙ (λ k. (Writer (probed w), slots k))) at refl)
+    rw c.arena-arena.ensures (c.load-count.ensures.0 ∙ s.stands.own, omega (arith, arena-words s.stands), morph_owed _ _ _ _ _ _ (probed w) _ (first ∙ (λ k. (Writer (probed w), slots k))) at refl)
 
 pub invariant_of-self : goal.invariant_of-self
 invariant_of-self g c =

@@ -34,9 +34,9 @@ store-requires g c =
     let at : c.args.at ≡ place_in w.sizes width c.args.entry c.args.i =
     c.requires.place ∙ (λ k. place_by (sym bits k) (view_of s.place.table_id w) c.args.entry c.args.i) in
     let below = place-below may.word.entry c.args.i may.word.inside in
-    let inside : c.args.at < c.args.table.now.shared.table_id.words =
-    omega (arith, below, at, ap (λ (x : TableId). x.words) c.requires.table, s.stands.words, ap (λ (z : Sizes). z.buffers * z.words) s.stands.same_sizes, ap (λ (z : Sizes). z.buffers) s.stands.same_sizes) in
-    (sym c.requires.table, inside, store_owed _ _ _ _ _ _ w _ _ s.stands.is (subst (MayStoreWord w) (sym at) (may_store w s.stands.good s.stands.calm s.place.table_id c.args.entry c.args.i may)))
+    let inside : c.args.at < s.seats.arena.value.table.shared.table_id.words =
+    omega (arith, below, at, ap (λ (x : TableId). x.words) s.stands.own, s.stands.words, ap (λ (z : Sizes). z.buffers * z.words) s.stands.same_sizes, ap (λ (z : Sizes). z.buffers) s.stands.same_sizes) in
+    rw c.arena-arena.ensures (s.stands.own, inside, store_owed _ _ _ _ _ _ w _ _ s.stands.is (subst (MayStoreWord w) (sym at) (may_store w s.stands.good s.stands.calm s.place.table_id c.args.entry c.args.i may)))
 
 pub returns-clause-knows : goal.returns-clause-knows
 returns-clause-knows g c =

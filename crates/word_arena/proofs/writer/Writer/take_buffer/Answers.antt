@@ -24,7 +24,7 @@ use Rattle.gen_core.specs.Good.{GoodView}
 use Rattle.gen_core.proofs.StoredWords.{two-steps, may-hand-out, may-width}
 
 pub first_word-first-requires : goal.first_word-first-requires
-first_word-first-requires g c = let s = c.args.self.now in record { few_buffers = few-buffers s.stands; few_words = few-words s.stands }
+first_word-first-requires g c = let s = c.args.self.now in rw c.arena-arena.ensures (record { few_buffers = few-buffers s.stands; few_words = few-words s.stands })
 
 pub store-requires : goal.store-requires
 store-requires g c =
@@ -33,8 +33,8 @@ store-requires g c =
     let b : ℕ = c.args.buffer in
     let below : b < length w.buffers = let h = c.requires.below in omega (arith, h, s.stands.good.count) in
     let free = free-here w b below c.requires.free in
-    let inside : 18 + b < s.arena.now.table.shared.table_id.words = let h = c.requires.below in omega (arith, h, arena-words s.stands, ap (λ (z : Sizes). z.buffers) s.stands.same_sizes) in
-    (s.stands.own, inside, hand_out_owed _ _ _ _ _ _ w b _ s.stands.is refl (may-hand-out w s.stands.good b (last_tag_in w.buffers b) c.args.width free c.requires.some s.stands.calm))
+    let inside : 18 + b < s.seats.arena.value.table.shared.table_id.words = let h = c.requires.below in omega (arith, h, arena-words s.stands, ap (λ (z : Sizes). z.buffers) s.stands.same_sizes) in
+    rw c.arena-arena.ensures (s.stands.own, inside, hand_out_owed _ _ _ _ _ _ w b _ s.stands.is refl (may-hand-out w s.stands.good b (last_tag_in w.buffers b) c.args.width free c.requires.some s.stands.calm))
 
 pub store-requires-2 : goal.store-requires-2
 store-requires-2 g c =
@@ -45,13 +45,13 @@ store-requires-2 g c =
     let free = free-here w b below c.requires.free in
     let some : 0 < c.from.result = let h = c.requires.some in omega (arith, h, c.from.ensures) in
     let size = s.stands.same_sizes in
-    let at : c.first_word-first.result ≡ base w.sizes.buffers w.sizes.words b = c.first_word-first.ensures ∙ (λ k. base (sym size k).buffers (sym size k).words b) in
-    let in_table : b < s.arena.now.sizes.buffers = let h = c.requires.below in omega (arith, h, ap (λ (z : Sizes). z.buffers) size) in
-    let word : 0 < s.arena.now.sizes.words = subst (λ (z : Sizes). 0 < z.words) size s.stands.good.some_word in
-    let low = base-inside s.arena.now.sizes.buffers s.arena.now.sizes.words b in_table word in
-    let here = c.first_word-first.ensures in
+    let at : c.first_word-first.result ≡ base w.sizes.buffers w.sizes.words b = (rw c.arena-arena.ensures at c.first_word-first.ensures) ∙ (λ k. base (sym size k).buffers (sym size k).words b) in
+    let in_table : b < s.seats.arena.value.sizes.buffers = let h = c.requires.below in omega (arith, h, ap (λ (z : Sizes). z.buffers) size) in
+    let word : 0 < s.seats.arena.value.sizes.words = subst (λ (z : Sizes). 0 < z.words) size s.stands.good.some_word in
+    let low = base-inside s.seats.arena.value.sizes.buffers s.seats.arena.value.sizes.words b in_table word in
+    let here = (rw c.arena-arena.ensures at c.first_word-first.ensures) in
     let e = c.store.ensures in
-    let slots : s.place.me.1 ≡ [] = ap (λ (m : Me Slot View). m.1) s.stands.is in (
+    let slots : s.place.me.1 ≡ [] = ap (λ (m : Me Slot View). m.1) s.stands.is in rw c.arena-arena.ensures (
       e.0 ∙ s.stands.own,
       omega (arith, low, here, arena-words s.stands),
       width_owed _ _ _ _ _ _ (handed_out w b) b _ _ ((e.2.told b refl).is ∙ (λ k. (Writer (handed_out w b), slots k))) at
@@ -67,7 +67,7 @@ invariant_of-self g c =
     let free = free-here w b below c.requires.free in
     let some : 0 < c.from.result = let h = c.requires.some in omega (arith, h, c.from.ensures) in
     let size = s.stands.same_sizes in
-    let at : c.first_word-first.result ≡ base w.sizes.buffers w.sizes.words b = c.first_word-first.ensures ∙ (λ k. base (sym size k).buffers (sym size k).words b) in
+    let at : c.first_word-first.result ≡ base w.sizes.buffers w.sizes.words b = (rw c.arena-arena.ensures at c.first_word-first.ensures) ∙ (λ k. base (sym size k).buffers (sym size k).words b) in
     let e = c.store.ensures in
     let first = (e.2.told b refl).is in
     let mid : writer_of c.store.new.seat.me.0 ≡ handed_out w b = ap (λ (m : Me Slot View). writer_in m.0) first in
@@ -95,7 +95,7 @@ returns-clause-view g c =
     let free = free-here w b below c.requires.free in
     let some : 0 < c.from.result = let h = c.requires.some in omega (arith, h, c.from.ensures) in
     let size = s.stands.same_sizes in
-    let at : c.first_word-first.result ≡ base w.sizes.buffers w.sizes.words b = c.first_word-first.ensures ∙ (λ k. base (sym size k).buffers (sym size k).words b) in
+    let at : c.first_word-first.result ≡ base w.sizes.buffers w.sizes.words b = (rw c.arena-arena.ensures at c.first_word-first.ensures) ∙ (λ k. base (sym size k).buffers (sym size k).words b) in
     let mid : writer_of c.store.new.seat.me.0 ≡ handed_out w b = ap (λ (m : Me Slot View). writer_in m.0) (c.store.ensures.2.told b refl).is in
     let second = c.store-2.ensures.2.told b (at ∙ ap (λ (v : WriterView). base v.sizes.buffers v.sizes.words b) (sym mid)) in
     ap (λ (m : Me Slot View). writer_in m.0) second.is ∙ ap (λ (x : WriterView). widened x b c.from.result) mid

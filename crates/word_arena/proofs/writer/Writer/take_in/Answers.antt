@@ -17,7 +17,7 @@ use Rattle.word_arena.proofs.writer.Writer.take_in.Goals as goal
 pub join_seat-requires : goal.join_seat-requires
 join_seat-requires g c =
     let s = c.args.self.now in
-    let r = c.args.reader in (
+    let r = c.args.reader in rw c.arena-arena.ensures (
       s.stands.own,
       c.requires ∙ s.stands.own,
       ap (λ (m : Me Slot View). m.1) r.stands.post.is,
@@ -31,7 +31,7 @@ load-requires g c =
     let r = c.args.reader in
     let v : WriterView = joined (writer_of s.place.me.0) (reader_of r.place.me.0) in
     let slots : s.place.me.1 ≡ [] = ap (λ (m : Me Slot View). m.1) s.stands.is in
-    (c.join_seat.ensures.0 ∙ s.stands.own, desk-some s.stands, meet_owed _ _ _ _ _ _ v (ap bare c.join_seat.ensures.2 ∙ (λ k. (Writer v, slots k))) s.stands.calm)
+    rw c.arena-arena.ensures (c.join_seat.ensures.0 ∙ s.stands.own, desk-some s.stands, meet_owed _ _ _ _ _ _ v (ap bare c.join_seat.ensures.2 ∙ (λ k. (Writer v, slots k))) s.stands.calm)
 
 pub invariant_of-self : goal.invariant_of-self
 invariant_of-self g c =
