@@ -36,7 +36,8 @@ use Rattle.value_index.specs.Walks.{WalksIndex}
 use Rattle.value_index.specs.Widths.{IsWalkWidth}
 use Rattle.attr_field.specs.Counts.{item_weights}
 use Rattle.attr_field.specs.DocumentsChanges.{AreKeysOf}
-use Rattle.attr_field.specs.Steps.{FindsItemKey}
+use Rattle.attr_field.specs.Steps.{FindsItemKey, GivesWeights, IsMadeBy}
+use Rattle.attr_field.specs.declared.weights.Weights.{Weights}
 use Rattle.attr_field.proofs.ChangeLemmas.{weights}
 use Rattle.attr_field.proofs.CompareLemmas.{parts_same}
 
@@ -137,7 +138,7 @@ module _ (type : ValueType) (m : Records) (root key : ℕ) where
 pub single_items : (kind : Kind) (items : List Item) → kind ≡ Single → IsLawfulItems kind items → (length items ≤ 1) × HaveWeightOne items
 single_items kind items is lawful = subst (λ (k : Kind). IsLawfulItems k items) is lawful
 
-pub single_had : (kind : Kind) (column : Column) (doc : ℕ) (items : List Item) → kind ≡ Single → IsLawfulColumn kind column → items ≡ items_of column doc
+single_had : (kind : Kind) (column : Column) (doc : ℕ) (items : List Item) → kind ≡ Single → IsLawfulColumn kind column → items ≡ items_of column doc
     → (length items ≤ 1) × HaveWeightOne items
 single_had kind column doc items is lawful was =
     subst (λ (xs : List Item). (length xs ≤ 1) × HaveWeightOne xs) (sym was) (told (lookup (is_at (nat_cmp doc)) column) refl)
@@ -157,7 +158,7 @@ item_apart column doc old new was other item had has =
     other (only_there (lookup (is_at (nat_cmp doc)) column) item (sym was ∙ had) ∙ ap Some (sym has))
 
 -- so no item has the value of the other
-pub items_apart : (old new : List Item) → (length old ≤ 1) × HaveWeightOne old → (length new ≤ 1) × HaveWeightOne new → ((item : Item) → old ≡ item ∷ [] → new ≡ item ∷ [] → ⊥)
+items_apart : (old new : List Item) → (length old ≤ 1) × HaveWeightOne old → (length new ≤ 1) × HaveWeightOne new → ((item : Item) → old ≡ item ∷ [] → new ≡ item ∷ [] → ⊥)
     → AllByRecursion (λ (item : Item). item_weights old item.value ≡ None) new
 items_apart old [] before after apart = tt
 items_apart old (n ∷ x ∷ new) before after apart = absurd (let few = after.0 in omega arith)
@@ -171,7 +172,18 @@ items_apart (o ∷ []) (n ∷ []) before after apart = (told (is_eq (value_cmp n
         let same : n ≡ o = parts_same n o is ((Decides-int_eq n.weight o.weight).1 (after.1.0 ∙ sym before.1.0)) in
         absurd (apart n (ap (λ (y : Item). y ∷ []) (sym same)) refl)
 
--- no value is among no items
-pub items_none : (old : List Item) → AllByRecursion (λ (item : Item). item_weights [] item.value ≡ None) old
-items_none [] = tt
-items_none (item ∷ old) = (refl, items_none old)
+-- a single's change needs no maps, if the item is another one
+pub made_by : (kind : Kind) (column : Column) (doc : ℕ) (old new : List Item) (weights : Option Weights) → GivesWeights kind old new weights
+    → IsLawfulColumn kind column → old ≡ items_of column doc → (kind ≡ Single → (length new ≤ 1) × HaveWeightOne new)
+    → ((item : Item) → old ≡ item ∷ [] → new ≡ item ∷ [] → ⊥) → IsMadeBy old new weights
+made_by kind column doc old new None is lawful was fits apart =
+    let before = single_had kind column doc old is lawful was in
+    let after = fits is in
+    record {
+      had = before.0;
+      has = after.0;
+      ones = after.1;
+      adds = items_apart old new before after apart;
+      takes = items_apart new old after before (λ item has had. apart item had has);
+    }
+made_by kind column doc old new (Some weights) is lawful was fits apart = is

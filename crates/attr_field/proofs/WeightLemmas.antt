@@ -1,5 +1,5 @@
 -- Maps of first weights.
-use Rattle.std.proofs.Common.{◌≡◌, ℕ, ℤ, pos, ◌<◌, Bool, true, false, true≢false, cond, List, [], ◌∷◌, length, Option, None, Some, option_map, nat_cmp, is_eq, refl, sym, ap, subst, ◌∙◌}
+use Rattle.std.proofs.Common.{◌≡◌, ℕ, ℤ, pos, ◌*◌, ◌<◌, Bool, true, false, true≢false, cond, List, [], ◌∷◌, length, Option, None, Some, option_map, nat_cmp, is_eq, refl, sym, ap, subst, ◌∙◌}
 use Rattle.std.proofs.lemmas.Cmp.{tied_itself}
 use Rattle.std.specs.Prelude.{IsSome}
 use Rattle.std.specs.BTreeMap.{insert_entry, is_at}
@@ -23,7 +23,11 @@ use Rattle.attr_types.specs.declared.items.Item.{Item}
 use Rattle.attr_types.specs.Lawful.{HaveWeightOne, IsLawfulItems}
 use Rattle.attr_types.specs.declared.kind.Kind.{Kind}
 use Rattle.attr_types.specs.declared.kind.Kind.TheVariants as kinds
+use Rattle.store_api.specs.Ledgers.{Ledger}
+use Rattle.store_api.specs.Units.{MakesWithin}
+use Rattle.value_index.specs.Counts.{added_count, added_forms, added_records, besides, by_width, gone_count, gone_forms, gone_records}
 use Rattle.value_index.specs.Forms.{WeighOnes}
+use Rattle.attr_field.specs.Counts.{entry_weight}
 use Rattle.attr_field.specs.Forms.{wants}
 use Rattle.attr_types.specs.declared.kind.ValueType.{ValueType}
 use Rattle.attr_types.specs.declared.value.Value.{Value}
@@ -128,3 +132,22 @@ items_listed start index doc added items are between =
     (insert_some (added item.value) doc (list_of item.value start) (ap is_some (are item.value) ∙ some)))
     items
     (all_weighed items)
+
+-- what is made for maps of weights is what is made for their items
+module _ {H : Type 0} (a b : Ledger H) (per : ℕ) (lists : Value → List (ℕ × ℤ)) (doc : ℕ) (dense : Bool) (before after : List (Value × ℤ)) (old new : List Item)
+    (before_are : before ≡ first_weights [] old) (after_are : after ≡ first_weights [] new) where
+  abbrev most_added : List (Value × ℤ) → List (Value × ℤ) → ℕ → ℕ
+  most_added had has = besides (by_width (per * added_count (entry_weight had) has) (added_records lists doc (entry_weight had) has)) (added_forms dense lists doc (entry_weight had) has)
+
+  pub counts_given_added : MakesWithin a b (most_added before after) → MakesWithin a b (most_added (first_weights [] old) (first_weights [] new))
+  counts_given_added made =
+      subst (λ (es : List (Value × ℤ)). MakesWithin a b (most_added (first_weights [] old) es)) after_are
+      (subst (λ (es : List (Value × ℤ)). MakesWithin a b (most_added es after)) before_are made)
+
+  abbrev most_gone : List (Value × ℤ) → List (Value × ℤ) → ℕ → ℕ
+  most_gone had has = besides (by_width (per * gone_count (entry_weight has) had) (gone_records lists doc (entry_weight has) had)) (gone_forms dense lists doc (entry_weight has) had)
+
+  pub counts_given_gone : MakesWithin a b (most_gone before after) → MakesWithin a b (most_gone (first_weights [] old) (first_weights [] new))
+  counts_given_gone made =
+      subst (λ (es : List (Value × ℤ)). MakesWithin a b (most_gone (first_weights [] old) es)) after_are
+      (subst (λ (es : List (Value × ℤ)). MakesWithin a b (most_gone es after)) before_are made)

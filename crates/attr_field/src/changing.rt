@@ -9,6 +9,7 @@ ghost use Rattle.attr_field.specs.Changes.{MakesField};
 ghost use Rattle.attr_field.specs.Counts.{change_forms, change_records, field_forms, field_nodes, field_records, low_nodes, StaysLow};
 ghost use Rattle.attr_field.specs.Fields.{field_part, IsField, RefersBeside};
 ghost use Rattle.attr_field.specs.Forms.{wants};
+ghost use Rattle.attr_field.specs.Steps.{IsMadeBy};
 ghost use Rattle.attr_field.specs.Widths.{IsFieldWidth};
 ghost use Rattle.attr_images.specs.Documents.{column_at};
 ghost use Rattle.attr_index.specs.Changes.{first_weights};
@@ -20,27 +21,26 @@ ghost use Rattle.value_index.specs.Forms.{IsOfForm, WeighOnes};
 use crate::comparing::has_already;
 use crate::documents_law;
 use crate::roots::FieldRoots;
-use crate::single::{is_single, put_single, remove_single};
 use crate::steps::{add_values, remove_values, set_items, take_out};
-use attr_index::weights_of;
-use attr_types::{Doc, Item, Kind, Value, ValueType};
+use crate::weights::{Weights, change_weights};
+use attr_types::{Doc, Item, Kind, ValueType};
 use std::alloc::Global;
-use std::collections::BTreeMap;
 use store_api::{Store, StoreError};
 use value_index::key_law;
 
-/// Sets the items of a document, given the weights of its values before and after.
+/// Sets the items of a document, given the weights of its values before and after, or none for a single, whose item is
+/// another one.
 #[tactic(none)]
-fn put_weighed<const OFFSET_BITS: u32, S: Store<OFFSET_BITS>>(
+fn put_changed<const OFFSET_BITS: u32, S: Store<OFFSET_BITS>>(
     alloc: Global,
     store: &mut S,
     kind: Kind,
     value_type: ValueType,
     roots: FieldRoots<OFFSET_BITS>,
     doc: Doc,
-    items: &[Item],
-    old: &BTreeMap<Value, i32>,
-    new: &BTreeMap<Value, i32>,
+    old: &[Item],
+    new: &[Item],
+    weights: &Option<Weights>,
     dense: bool,
     total: u32,
 ) -> Result<FieldRoots<OFFSET_BITS>, StoreError>
@@ -50,31 +50,32 @@ fn put_weighed<const OFFSET_BITS: u32, S: Store<OFFSET_BITS>>(
     requires refers { RefersBeside (S.ledger store.old) kind (S.records store.old) roots.documents roots.dictionary
         (field_part kind roots.documents roots.dictionary ∷ []) }
     requires form { IsOfForm dense value_type (S.records store.old) roots.dictionary }
-    requires ones { WeighOnes dense new.now.entries }
-    requires fits { ItemsFit kind value_type items.now }
-    requires before { old.now.entries ≡ first_weights [] (items_of (column_at kind value_type (S.records store.old) roots.documents) doc) }
-    requires after { new.now.entries ≡ first_weights [] items.now }
+    requires was { old.now ≡ items_of (column_at kind value_type (S.records store.old) roots.documents) doc }
+    requires how { IsMadeBy old.now new.now weights.now }
+    requires ones { WeighOnes dense (first_weights [] new.now) }
+    requires fits { ItemsFit kind value_type new.now }
     ensures makes { IfOk result (λ next. MakesField kind value_type (S.ledger store.old) (S.ledger store.new) (S.records store.old)
         (S.records store.new) roots.entry.documents roots.entry.dictionary
-        (with_change (column_at kind value_type (S.records store.old) roots.entry.documents) doc (Some items.now))
+        (with_change (column_at kind value_type (S.records store.old) roots.entry.documents) doc (Some new.now))
         next.documents next.dictionary) }
     ensures form { IfOk result (λ next. IsOfForm dense value_type (S.records store.new) next.dictionary) }
     ensures counts { MakesWithin (S.ledger store.old) (S.ledger store.new) (besides
-        (by_width (field_nodes old.now.entries new.now.entries)
-        (field_records kind (column_at kind value_type (S.records store.old) roots.entry.documents) doc (length items.now)
-        old.now.entries new.now.entries))
+        (by_width (field_nodes (first_weights [] old.now) (first_weights [] new.now))
+        (field_records kind (column_at kind value_type (S.records store.old) roots.entry.documents) doc (length new.now)
+        (first_weights [] old.now) (first_weights [] new.now)))
         (field_forms dense (column_at kind value_type (S.records store.old) roots.entry.documents) doc
-        old.now.entries new.now.entries)) }
-    ensures low { (levels : ℕ) → StaysLow levels (column_at kind value_type (S.records store.old) roots.entry.documents) new.now.entries
+        (first_weights [] old.now) (first_weights [] new.now))) }
+    ensures low { (levels : ℕ) → StaysLow levels (column_at kind value_type (S.records store.old) roots.entry.documents)
+        (first_weights [] new.now)
         → MakesWithin (S.ledger store.old) (S.ledger store.new) (besides
-        (by_width (low_nodes levels old.now.entries new.now.entries)
-        (field_records kind (column_at kind value_type (S.records store.old) roots.entry.documents) doc (length items.now)
-        old.now.entries new.now.entries))
+        (by_width (low_nodes levels (first_weights [] old.now) (first_weights [] new.now))
+        (field_records kind (column_at kind value_type (S.records store.old) roots.entry.documents) doc (length new.now)
+        (first_weights [] old.now) (first_weights [] new.now)))
         (field_forms dense (column_at kind value_type (S.records store.old) roots.entry.documents) doc
-        old.now.entries new.now.entries)) }
+        (first_weights [] old.now) (first_weights [] new.now))) }
     ensures refuses { IfErr result (RefusesOf (IsFieldWidth dense kind
-        (with_change (column_at kind value_type (S.records store.old) roots.entry.documents) doc (Some items.now))
-        (items_of (column_at kind value_type (S.records store.old) roots.entry.documents) doc) items.now)
+        (with_change (column_at kind value_type (S.records store.old) roots.entry.documents) doc (Some new.now))
+        (items_of (column_at kind value_type (S.records store.old) roots.entry.documents) doc) new.now)
         (S.ledger store.old) (S.ledger store.new)) }
     ensures may { MayDo (S.ledger store.old) (S.ledger store.new) }
 {
@@ -90,6 +91,7 @@ fn put_weighed<const OFFSET_BITS: u32, S: Store<OFFSET_BITS>>(
         doc,
         old,
         new,
+        weights,
         dense,
         total,
     )?;
@@ -99,12 +101,14 @@ fn put_weighed<const OFFSET_BITS: u32, S: Store<OFFSET_BITS>>(
         kind,
         value_type,
         roots.documents,
-        added,
+        added.root,
         doc,
-        items,
+        added.key,
+        new,
+        weights,
     )?;
     let dictionary = remove_values(
-        alloc, store, kind, value_type, documents, added, doc, old, new, dense, total,
+        alloc, store, kind, value_type, documents, added.root, doc, old, new, weights, dense, total,
     )?;
     Ok(FieldRoots {
         documents,
@@ -187,39 +191,25 @@ pub fn put<const OFFSET_BITS: u32, S: Store<OFFSET_BITS>>(
         return Ok(roots);
     }
     let wanted = wants(dense, kind);
-    if is_single(kind) {
-        return put_single(
-            alloc, store, kind, value_type, roots, doc, old, new, wanted, documents,
-        );
-    }
-    let Ok(before) = weights_of(alloc, old) else {
+    let Ok(weights) = change_weights(alloc, kind, old, new) else {
         return Err(StoreError::Memory);
     };
-    let Ok(after) = weights_of(alloc, new) else {
-        return Err(StoreError::Memory);
-    };
-    put_weighed(
-        alloc, store, kind, value_type, roots, doc, new, &before, &after, wanted, documents,
+    put_changed(
+        alloc, store, kind, value_type, roots, doc, old, new, &weights, wanted, documents,
     )
 }
 
-/// Returns an empty map of weights.
-fn no_weights(alloc: Global) -> BTreeMap<Value, i32>
-    ensures { result.entries ≡ [] }
-{
-    BTreeMap::new(alloc)
-}
-
-/// Removes a document, given the weights of its values.
+/// Removes a document that exists, given the weights of its values, or none for a single.
 #[tactic(none)]
-fn remove_weighed<const OFFSET_BITS: u32, S: Store<OFFSET_BITS>>(
+fn remove_changed<const OFFSET_BITS: u32, S: Store<OFFSET_BITS>>(
     alloc: Global,
     store: &mut S,
     kind: Kind,
     value_type: ValueType,
     roots: FieldRoots<OFFSET_BITS>,
     doc: Doc,
-    old: &BTreeMap<Value, i32>,
+    old: &[Item],
+    weights: &Option<Weights>,
     dense: bool,
     total: u32,
 ) -> Result<FieldRoots<OFFSET_BITS>, StoreError>
@@ -230,19 +220,20 @@ fn remove_weighed<const OFFSET_BITS: u32, S: Store<OFFSET_BITS>>(
         (field_part kind roots.documents roots.dictionary ∷ []) }
     requires form { IsOfForm dense value_type (S.records store.old) roots.dictionary }
     requires there { IsSome (lookup (is_at (nat_cmp doc)) (column_at kind value_type (S.records store.old) roots.documents)) }
-    requires before { old.now.entries ≡ first_weights [] (items_of (column_at kind value_type (S.records store.old) roots.documents) doc) }
+    requires was { old.now ≡ items_of (column_at kind value_type (S.records store.old) roots.documents) doc }
+    requires how { IsMadeBy old.now [] weights.now }
     ensures makes { IfOk result (λ next. MakesField kind value_type (S.ledger store.old) (S.ledger store.new) (S.records store.old)
         (S.records store.new) roots.entry.documents roots.entry.dictionary
         (with_change (column_at kind value_type (S.records store.old) roots.entry.documents) doc None)
         next.documents next.dictionary) }
     ensures form { IfOk result (λ next. IsOfForm dense value_type (S.records store.new) next.dictionary) }
-    ensures counts { MakesWithin (S.ledger store.old) (S.ledger store.new) (besides (by_width (field_nodes old.now.entries [])
-        (field_records kind (column_at kind value_type (S.records store.old) roots.entry.documents) doc 0 old.now.entries []))
-        (field_forms dense (column_at kind value_type (S.records store.old) roots.entry.documents) doc old.now.entries [])) }
+    ensures counts { MakesWithin (S.ledger store.old) (S.ledger store.new) (besides (by_width (field_nodes (first_weights [] old.now) [])
+        (field_records kind (column_at kind value_type (S.records store.old) roots.entry.documents) doc 0 (first_weights [] old.now) []))
+        (field_forms dense (column_at kind value_type (S.records store.old) roots.entry.documents) doc (first_weights [] old.now) [])) }
     ensures low { (levels : ℕ) → StaysLow levels (column_at kind value_type (S.records store.old) roots.entry.documents) []
-        → MakesWithin (S.ledger store.old) (S.ledger store.new) (besides (by_width (low_nodes levels old.now.entries [])
-        (field_records kind (column_at kind value_type (S.records store.old) roots.entry.documents) doc 0 old.now.entries []))
-        (field_forms dense (column_at kind value_type (S.records store.old) roots.entry.documents) doc old.now.entries [])) }
+        → MakesWithin (S.ledger store.old) (S.ledger store.new) (besides (by_width (low_nodes levels (first_weights [] old.now) [])
+        (field_records kind (column_at kind value_type (S.records store.old) roots.entry.documents) doc 0 (first_weights [] old.now) []))
+        (field_forms dense (column_at kind value_type (S.records store.old) roots.entry.documents) doc (first_weights [] old.now) [])) }
     ensures refuses { IfErr result (RefusesOf (IsFieldWidth dense kind
         (with_change (column_at kind value_type (S.records store.old) roots.entry.documents) doc None)
         (items_of (column_at kind value_type (S.records store.old) roots.entry.documents) doc) [])
@@ -251,7 +242,6 @@ fn remove_weighed<const OFFSET_BITS: u32, S: Store<OFFSET_BITS>>(
 {
     documents_law();
     key_law();
-    let none = no_weights(alloc);
     let documents = take_out(
         store,
         kind,
@@ -269,7 +259,8 @@ fn remove_weighed<const OFFSET_BITS: u32, S: Store<OFFSET_BITS>>(
         roots.dictionary,
         doc,
         old,
-        &none,
+        &[],
+        weights,
         dense,
         total,
     )?;
@@ -320,16 +311,12 @@ pub fn remove<const OFFSET_BITS: u32, S: Store<OFFSET_BITS>>(
         (S.ledger store.old) (S.ledger store.new)) }
     ensures may { MayDo (S.ledger store.old) (S.ledger store.new) }
 {
+    documents_law();
     let wanted = wants(dense, kind);
-    if is_single(kind) {
-        return remove_single(
-            alloc, store, kind, value_type, roots, doc, old, wanted, documents,
-        );
-    }
-    let Ok(before) = weights_of(alloc, old) else {
+    let Ok(weights) = change_weights(alloc, kind, old, &[]) else {
         return Err(StoreError::Memory);
     };
-    remove_weighed(
-        alloc, store, kind, value_type, roots, doc, &before, wanted, documents,
+    remove_changed(
+        alloc, store, kind, value_type, roots, doc, old, &weights, wanted, documents,
     )
 }

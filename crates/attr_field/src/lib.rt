@@ -11,9 +11,8 @@ mod laws;
 mod making;
 mod reading;
 mod roots;
-mod single;
-mod single_steps;
 mod steps;
+mod weights;
 
 pub use changing::{put, remove};
 pub use documents_changing::{remove_document, set_document};

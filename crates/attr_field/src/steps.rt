@@ -1,22 +1,22 @@
 //! The steps of a change: the document is added to the index by its new values, its items are set, and it is removed
-//! from the index by its old values.
-ghost use Rattle.std.specs.Prelude.{◌≡◌, ℕ, ◌+◌, ◌*◌, ◌^◌, ◌<◌, ◌∷◌, [], true, length, IsSome, None, Some, IfOk, IfErr};
-ghost use Rattle.std.specs.BTreeMap.{get, is_at};
-ghost use Rattle.std.specs.List.{AllByRecursion};
-ghost use Rattle.std.specs.Map.{keys_of as values_in, lookup};
+//! from the index by its old values. Without maps of weights the document has at most one item: no value is sought again.
+ghost use Rattle.std.specs.Prelude.{◌≡◌, ℕ, ◌+◌, ◌*◌, ◌^◌, ◌<◌, [], true, length, IsSome, None, Some, IfOk, IfErr};
+ghost use Rattle.std.specs.BTreeMap.{is_at};
+ghost use Rattle.std.specs.Map.{lookup};
 ghost use Rattle.std.specs.Ordering.{nat_cmp};
 ghost use Rattle.store_api.specs.Calls.{Refuses, RefusesOf};
 ghost use Rattle.store_api.specs.Units.{MayDo, MakesWithin};
 ghost use Rattle.tree_read.specs.declared.node_format.TheConstants.{NODE_WORDS};
+ghost use Rattle.attr_field.specs.Counts.{item_weights};
 ghost use Rattle.attr_field.specs.DocumentsChanges.{documents_most, IsDocumentWidth};
-ghost use Rattle.attr_field.specs.Steps.{StandsField, StepsField};
+ghost use Rattle.attr_field.specs.Steps.{FindsBy, IsMadeBy, StandsField, StepsField};
 ghost use Rattle.attr_images.specs.Documents.{column_at};
 ghost use Rattle.attr_images.specs.Postings.{index_of};
-ghost use Rattle.attr_index.specs.Changes.{IsBetween, first_given};
+ghost use Rattle.attr_index.specs.Changes.{IsBetween, first_given, first_weights};
 ghost use Rattle.attr_index.specs.Columns.{with_change};
 ghost use Rattle.attr_index.specs.Index.{Index, IsIndexOf, list_of};
 ghost use Rattle.attr_types.specs.Lawful.{ItemsFit};
-ghost use Rattle.attr_types.specs.Value.{value_cmp, AreOfType};
+ghost use Rattle.attr_types.specs.Value.{values_of, AreOfType};
 ghost use Rattle.attr_types.specs.declared.value.Value.{Value as OneValue};
 ghost use Rattle.value_index.specs.Counts.{added_count, added_forms, added_records, besides, by_width, value_nodes};
 ghost use Rattle.value_index.specs.Counts.{gone_count, gone_forms, gone_records, AddsLow, RemovesLow};
@@ -24,16 +24,16 @@ ghost use Rattle.value_index.specs.Forms.{IsOfForm, KeepsForm, WeighOnes};
 ghost use Rattle.value_index.specs.Widths.{IsWalkWidth};
 
 use crate::keys::keys_of;
+use crate::weights::Weights;
 use crate::{documents_law, remove_document, set_document};
-use attr_types::{Doc, Item, Kind, Value, ValueType};
+use attr_types::{Doc, Item, Kind, ValueType};
 use entry_ref::EntryRef;
 use std::alloc::Global;
-use std::collections::BTreeMap;
 use store_api::{Store, StoreError};
-use value_index::{add_all, index_law, key_law, remove_all};
+use value_index::{Added, add_all, add_with_key, index_law, key_law, remove, remove_all};
 
-/// Adds the document to the lists of its new values. Returns the root of the new index. With `dense` the list of a
-/// frequent value among `total` documents becomes a bit vector.
+/// Adds the document to the lists of its new values. Returns the root of the new index, and for a single the key of its
+/// value. With `dense` the list of a frequent value among `total` documents becomes a bit vector.
 #[tactic(none)]
 pub fn add_values<const OFFSET_BITS: u32, S: Store<OFFSET_BITS>>(
     alloc: Global,
@@ -43,41 +43,44 @@ pub fn add_values<const OFFSET_BITS: u32, S: Store<OFFSET_BITS>>(
     documents: EntryRef<OFFSET_BITS>,
     dictionary: EntryRef<OFFSET_BITS>,
     doc: Doc,
-    old: &BTreeMap<Value, i32>,
-    new: &BTreeMap<Value, i32>,
+    old: &[Item],
+    new: &[Item],
+    weights: &Option<Weights>,
     dense: bool,
     total: u32,
-) -> Result<EntryRef<OFFSET_BITS>, StoreError>
+) -> Result<Added<OFFSET_BITS>, StoreError>
     requires unit { (S.ledger store.old).unit ≡ true }
     requires stands { StandsField kind value_type (S.ledger store.old) (S.records store.old) documents dictionary }
     requires form { IsOfForm dense value_type (S.records store.old) dictionary }
-    requires ones { WeighOnes dense new.now.entries }
     requires indexed { IsIndexOf (column_at kind value_type (S.records store.old) documents)
         (index_of value_type (S.records store.old) dictionary) }
-    requires typed { AreOfType value_type (values_in new.now.entries) }
+    requires how { IsMadeBy old.now new.now weights.now }
+    requires ones { WeighOnes dense (first_weights [] new.now) }
+    requires typed { AreOfType value_type (values_of new.now) }
     requires has { (value : OneValue) → lookup (is_at (nat_cmp doc)) (list_of value (index_of value_type (S.records store.old) dictionary))
-        ≡ get value_cmp old.now value }
-    ensures steps { IfOk result (λ next. StepsField kind value_type (S.ledger store.old) (S.ledger store.new)
+        ≡ item_weights old.now value }
+    ensures steps { IfOk result (λ added. StepsField kind value_type (S.ledger store.old) (S.ledger store.new)
         (S.records store.old) (S.records store.new) documents.entry dictionary.entry
-        (column_at kind value_type (S.records store.old) documents.entry) documents.entry next) }
-    ensures form { IfOk result (IsOfForm dense value_type (S.records store.new)) }
-    ensures between { IfOk result (λ next. IsBetween (index_of value_type (S.records store.old) dictionary.entry) doc
-        (get value_cmp new.now) (λ value. None) (index_of value_type (S.records store.new) next)) }
+        (column_at kind value_type (S.records store.old) documents.entry) documents.entry added.root) }
+    ensures form { IfOk result (λ added. IsOfForm dense value_type (S.records store.new) added.root) }
+    ensures between { IfOk result (λ added. IsBetween (index_of value_type (S.records store.old) dictionary.entry) doc
+        (item_weights new.now) (λ value. None) (index_of value_type (S.records store.new) added.root)) }
+    ensures found { IfOk result (λ added. FindsBy value_type (S.records store.new) added.root new.now added.key weights.now) }
     ensures counts { MakesWithin (S.ledger store.old) (S.ledger store.new) (besides
-        (by_width (34 * added_count (get value_cmp old.now) new.now.entries)
-        (added_records (λ value. list_of value (index_of value_type (S.records store.old) dictionary.entry)) doc (get value_cmp old.now)
-        new.now.entries))
-        (added_forms dense (λ value. list_of value (index_of value_type (S.records store.old) dictionary.entry)) doc (get value_cmp old.now)
-        new.now.entries)) }
-    ensures low { (levels : ℕ) → AddsLow levels (index_of value_type (S.records store.old) dictionary.entry) doc new.now.entries
+        (by_width (34 * added_count (item_weights old.now) (first_weights [] new.now))
+        (added_records (λ value. list_of value (index_of value_type (S.records store.old) dictionary.entry)) doc (item_weights old.now)
+        (first_weights [] new.now)))
+        (added_forms dense (λ value. list_of value (index_of value_type (S.records store.old) dictionary.entry)) doc (item_weights old.now)
+        (first_weights [] new.now))) }
+    ensures low { (levels : ℕ) → AddsLow levels (index_of value_type (S.records store.old) dictionary.entry) doc (first_weights [] new.now)
         → MakesWithin (S.ledger store.old) (S.ledger store.new) (besides
-        (by_width (value_nodes levels * added_count (get value_cmp old.now) new.now.entries)
-        (added_records (λ value. list_of value (index_of value_type (S.records store.old) dictionary.entry)) doc (get value_cmp old.now)
-        new.now.entries))
-        (added_forms dense (λ value. list_of value (index_of value_type (S.records store.old) dictionary.entry)) doc (get value_cmp old.now)
-        new.now.entries)) }
+        (by_width (value_nodes levels * added_count (item_weights old.now) (first_weights [] new.now))
+        (added_records (λ value. list_of value (index_of value_type (S.records store.old) dictionary.entry)) doc (item_weights old.now)
+        (first_weights [] new.now)))
+        (added_forms dense (λ value. list_of value (index_of value_type (S.records store.old) dictionary.entry)) doc (item_weights old.now)
+        (first_weights [] new.now))) }
     ensures refuses { IfErr result (RefusesOf
-        (IsWalkWidth dense (index_of value_type (S.records store.old) dictionary.entry) doc (get value_cmp new.now) (λ value. None))
+        (IsWalkWidth dense (index_of value_type (S.records store.old) dictionary.entry) doc (item_weights new.now) (λ value. None))
         (S.ledger store.old) (S.ledger store.new)) }
     ensures may { MayDo (S.ledger store.old) (S.ledger store.new) }
 {
@@ -86,12 +89,35 @@ pub fn add_values<const OFFSET_BITS: u32, S: Store<OFFSET_BITS>>(
     key_law();
     let _ = kind;
     let _ = documents;
-    add_all(
-        alloc, store, value_type, dictionary, doc, old, new, dense, total,
-    )
+    let _ = old;
+    let nothing = EntryRef::from_raw(0);
+    match weights {
+        None => match new.first() {
+            Some(item) => add_with_key(alloc, store, dictionary, &item.value, doc, 1, dense, total),
+            None => Ok(Added {
+                root: dictionary,
+                key: nothing,
+            }),
+        },
+        Some(weights) => {
+            let root = add_all(
+                alloc,
+                store,
+                value_type,
+                dictionary,
+                doc,
+                &weights.before,
+                &weights.after,
+                dense,
+                total,
+            )?;
+            Ok(Added { root, key: nothing })
+        }
+    }
 }
 
-/// Sets the items of the document, given the keys of their values. Returns the root of the new documents.
+/// Sets the items of the document: the key of a single's value is given, and those of other values are sought. Returns the
+/// root of the new documents.
 #[tactic(none)]
 pub fn set_items<const OFFSET_BITS: u32, S: Store<OFFSET_BITS>>(
     alloc: Global,
@@ -101,13 +127,14 @@ pub fn set_items<const OFFSET_BITS: u32, S: Store<OFFSET_BITS>>(
     documents: EntryRef<OFFSET_BITS>,
     dictionary: EntryRef<OFFSET_BITS>,
     doc: Doc,
+    key: EntryRef<OFFSET_BITS>,
     items: &[Item],
+    weights: &Option<Weights>,
 ) -> Result<EntryRef<OFFSET_BITS>, StoreError>
     requires unit { (S.ledger store.old).unit ≡ true }
     requires stands { StandsField kind value_type (S.ledger store.old) (S.records store.old) documents dictionary }
     requires fits { ItemsFit kind value_type items.now }
-    requires listed { AllByRecursion (λ item.
-        0 < length (list_of item.value (index_of value_type (S.records store.old) dictionary))) items.now }
+    requires found { FindsBy value_type (S.records store.old) dictionary items.now key weights.now }
     ensures steps { IfOk result (λ next. StepsField kind value_type (S.ledger store.old) (S.ledger store.new)
         (S.records store.old) (S.records store.new) documents.entry dictionary.entry
         (with_change (column_at kind value_type (S.records store.old) documents.entry) doc (Some items.now)) next dictionary.entry) }
@@ -122,19 +149,20 @@ pub fn set_items<const OFFSET_BITS: u32, S: Store<OFFSET_BITS>>(
 {
     index_law();
     key_law();
-    let Ok(keys) = keys_of(alloc, store, value_type, dictionary, items) else {
-        return Err(StoreError::Memory);
-    };
-    set_document(
-        alloc,
-        store,
-        kind,
-        value_type,
-        documents,
-        doc,
-        keys.as_slice(),
-        items,
-    )
+    match weights {
+        None => {
+            let keys = [key];
+            let given = &keys[..items.len()];
+            set_document(alloc, store, kind, value_type, documents, doc, given, items)
+        }
+        Some(_) => {
+            let Ok(keys) = keys_of(alloc, store, value_type, dictionary, items) else {
+                return Err(StoreError::Memory);
+            };
+            let given = keys.as_slice();
+            set_document(alloc, store, kind, value_type, documents, doc, given, items)
+        }
+    }
 }
 
 /// Removes the document, which must exist. Returns the root of the new documents.
@@ -168,8 +196,8 @@ pub fn take_out<const OFFSET_BITS: u32, S: Store<OFFSET_BITS>>(
     remove_document(store, kind, value_type, documents, doc)
 }
 
-/// Removes the document from the lists of its old values. Returns the root of the new index, which is the index of
-/// the documents. With `dense` the list of a frequent value among `total` documents becomes or remains a bit vector.
+/// Removes the document from the lists of its old values. Returns the root of the new index, which is the index of the
+/// documents. With `dense` the list of a frequent value among `total` documents becomes or remains a bit vector.
 #[tactic(none)]
 pub fn remove_values<const OFFSET_BITS: u32, S: Store<OFFSET_BITS>>(
     alloc: Global,
@@ -179,19 +207,21 @@ pub fn remove_values<const OFFSET_BITS: u32, S: Store<OFFSET_BITS>>(
     documents: EntryRef<OFFSET_BITS>,
     dictionary: EntryRef<OFFSET_BITS>,
     doc: Doc,
-    old: &BTreeMap<Value, i32>,
-    new: &BTreeMap<Value, i32>,
+    old: &[Item],
+    new: &[Item],
+    weights: &Option<Weights>,
     dense: bool,
     total: u32,
 ) -> Result<EntryRef<OFFSET_BITS>, StoreError>
     requires unit { (S.ledger store.old).unit ≡ true }
     requires stands { StandsField kind value_type (S.ledger store.old) (S.records store.old) documents dictionary }
     requires form { IsOfForm dense value_type (S.records store.old) dictionary }
-    requires typed { AreOfType value_type (values_in old.now.entries) }
+    requires how { IsMadeBy old.now new.now weights.now }
+    requires typed { AreOfType value_type (values_of old.now) }
     requires has { (value : OneValue) → lookup (is_at (nat_cmp doc)) (list_of value (index_of value_type (S.records store.old) dictionary))
-        ≡ first_given (get value_cmp new.now value) (get value_cmp old.now value) }
+        ≡ first_given (item_weights new.now value) (item_weights old.now value) }
     requires ends { (index : Index)
-        → IsBetween (index_of value_type (S.records store.old) dictionary) doc (get value_cmp new.now) (get value_cmp old.now) index
+        → IsBetween (index_of value_type (S.records store.old) dictionary) doc (item_weights new.now) (item_weights old.now) index
         → IsIndexOf (column_at kind value_type (S.records store.old) documents) index }
     ensures steps { IfOk result (λ next. StepsField kind value_type (S.ledger store.old) (S.ledger store.new)
         (S.records store.old) (S.records store.new) documents.entry dictionary.entry
@@ -200,21 +230,22 @@ pub fn remove_values<const OFFSET_BITS: u32, S: Store<OFFSET_BITS>>(
     ensures index { IfOk result (λ next. IsIndexOf (column_at kind value_type (S.records store.old) documents.entry)
         (index_of value_type (S.records store.new) next)) }
     ensures counts { MakesWithin (S.ledger store.old) (S.ledger store.new) (besides
-        (by_width (34 * gone_count (get value_cmp new.now) old.now.entries)
-        (gone_records (λ value. list_of value (index_of value_type (S.records store.old) dictionary.entry)) doc (get value_cmp new.now)
-        old.now.entries))
-        (gone_forms dense (λ value. list_of value (index_of value_type (S.records store.old) dictionary.entry)) doc (get value_cmp new.now)
-        old.now.entries)) }
+        (by_width (34 * gone_count (item_weights new.now) (first_weights [] old.now))
+        (gone_records (λ value. list_of value (index_of value_type (S.records store.old) dictionary.entry)) doc (item_weights new.now)
+        (first_weights [] old.now)))
+        (gone_forms dense (λ value. list_of value (index_of value_type (S.records store.old) dictionary.entry)) doc (item_weights new.now)
+        (first_weights [] old.now))) }
     ensures low { (levels : ℕ)
-        → RemovesLow levels (index_of value_type (S.records store.old) dictionary.entry) doc (get value_cmp new.now) old.now.entries
+        → RemovesLow levels (index_of value_type (S.records store.old) dictionary.entry) doc (item_weights new.now)
+        (first_weights [] old.now)
         → MakesWithin (S.ledger store.old) (S.ledger store.new) (besides
-        (by_width (value_nodes levels * gone_count (get value_cmp new.now) old.now.entries)
-        (gone_records (λ value. list_of value (index_of value_type (S.records store.old) dictionary.entry)) doc (get value_cmp new.now)
-        old.now.entries))
-        (gone_forms dense (λ value. list_of value (index_of value_type (S.records store.old) dictionary.entry)) doc (get value_cmp new.now)
-        old.now.entries)) }
+        (by_width (value_nodes levels * gone_count (item_weights new.now) (first_weights [] old.now))
+        (gone_records (λ value. list_of value (index_of value_type (S.records store.old) dictionary.entry)) doc (item_weights new.now)
+        (first_weights [] old.now)))
+        (gone_forms dense (λ value. list_of value (index_of value_type (S.records store.old) dictionary.entry)) doc (item_weights new.now)
+        (first_weights [] old.now))) }
     ensures refuses { IfErr result (RefusesOf
-        (IsWalkWidth dense (index_of value_type (S.records store.old) dictionary.entry) doc (get value_cmp new.now) (get value_cmp old.now))
+        (IsWalkWidth dense (index_of value_type (S.records store.old) dictionary.entry) doc (item_weights new.now) (item_weights old.now))
         (S.ledger store.old) (S.ledger store.new)) }
     ensures may { MayDo (S.ledger store.old) (S.ledger store.new) }
 {
@@ -223,7 +254,22 @@ pub fn remove_values<const OFFSET_BITS: u32, S: Store<OFFSET_BITS>>(
     key_law();
     let _ = kind;
     let _ = documents;
-    remove_all(
-        alloc, store, value_type, dictionary, doc, old, new, dense, total,
-    )
+    let _ = new;
+    match weights {
+        None => match old.first() {
+            Some(item) => remove(alloc, store, dictionary, &item.value, doc, dense, total),
+            None => Ok(dictionary),
+        },
+        Some(weights) => remove_all(
+            alloc,
+            store,
+            value_type,
+            dictionary,
+            doc,
+            &weights.before,
+            &weights.after,
+            dense,
+            total,
+        ),
+    }
 }

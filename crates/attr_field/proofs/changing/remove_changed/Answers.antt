@@ -17,10 +17,9 @@ use Rattle.attr_field.proofs.CountLemmas.{out_one, out_counts, out_low}
 use Rattle.attr_field.proofs.SizeLemmas.{removes_low}
 use Rattle.attr_field.specs.Counts.{lost_values, new_values}
 use Rattle.attr_field.proofs.WeightLemmas.{items_typed}
-use Rattle.attr_field.proofs.SingleLemmas.{items_none, single_had}
 use Rattle.attr_types.specs.Value.{values_of, AreOfType}
 use Rattle.attr_types.specs.declared.items.Item.{Item}
-use Rattle.attr_field.proofs.single.remove_single.Goals as goal
+use Rattle.attr_field.proofs.changing.remove_changed.Goals as goal
 
 pub take_out-requires : goal.take_out-requires
 take_out-requires g c =
@@ -59,8 +58,8 @@ returns-in_err-documents-clause-refuses g c =
 pub returns-in_err-documents-clause-may : goal.returns-in_err-documents-clause-may
 returns-in_err-documents-clause-may g c = c.take_out.ensures.may
 
-pub remove_item-requires : goal.remove_item-requires
-remove_item-requires g c =
+pub remove_values-requires : goal.remove_values-requires
+remove_values-requires g c =
     let records = g.S.Frozen.records in
     let begun = g.S.Store.ledger c.args.store.now in
     let k = records c.args.store.now in
@@ -83,16 +82,13 @@ remove_item-requires g c =
           (
             c.in_ok-documents.ensures.form c.args.dense c.requires.form,
             (
-              (single_had kind (column_at kind type k D) doc c.args.old.now c.requires.single (lawful kind type k D c.requires.field.documents_are).2 c.requires.was).0,
+              c.requires.how,
               (
                 subst (λ (xs : List Item). AreOfType type (values_of xs)) (sym c.requires.was) (items_typed kind type k D doc),
                 (
-                  items_none c.args.old.now,
-                  (
-                    has_middle kind type begun k D I doc c.requires.field lawful old (ap (first_weights []) c.requires.was) None new refl (index_of type m I) between,
-                    λ index ends. subst (λ (column : Column). IsIndexOf column index) (sym c.in_ok-documents.ensures.steps.column_is)
-                        (index_ends kind type begun k D I doc c.requires.field lawful old (ap (first_weights []) c.requires.was) None new refl (index_of type m I) between index ends),
-                  ),
+                  has_middle kind type begun k D I doc c.requires.field lawful old (ap (first_weights []) c.requires.was) None new refl (index_of type m I) between,
+                  λ index ends. subst (λ (column : Column). IsIndexOf column index) (sym c.in_ok-documents.ensures.steps.column_is)
+                      (index_ends kind type begun k D I doc c.requires.field lawful old (ap (first_weights []) c.requires.was) None new refl (index_of type m I) between index ends),
                 ),
               ),
             ),
@@ -127,13 +123,13 @@ returns-in_err-dictionary-clause-refuses g c =
     let between = subst (λ (i : Index). IsBetween start doc (weights new) (λ v. None) i) (sym c.in_ok-documents.ensures.index)
     (none_added kind type a k D I doc c.requires.field) in
     let p = err_from_is_err_and c.from_residual-in_err-dictionary.result c.from_residual-in_err-dictionary.ensures.1 in
-    rw (p.1, p.2) (of_more (IsWalkWidth c.args.dense (index_of type m I) doc (weights new) (weights old)) among a (ledger c.take_out.new.store) (ledger c.remove_item.new.store) _ c.take_out.ensures.may
+    rw (p.1, p.2) (of_more (IsWalkWidth c.args.dense (index_of type m I) doc (weights new) (weights old)) among a (ledger c.take_out.new.store) (ledger c.remove_values.new.store) _ c.take_out.ensures.may
     (removed_width c.args.dense kind column start doc None up of old new (ap (first_weights []) c.requires.was) refl (index_of type m I) between) c.in_err-dictionary.ensures.refuses)
 
 pub returns-in_err-dictionary-clause-may : goal.returns-in_err-dictionary-clause-may
 returns-in_err-dictionary-clause-may g c =
     let ledger = g.S.Store.ledger in
-    may_do-then (ledger c.args.store.now) (ledger c.take_out.new.store) (ledger c.remove_item.new.store) c.take_out.ensures.may c.remove_item.ensures.may
+    may_do-then (ledger c.args.store.now) (ledger c.take_out.new.store) (ledger c.remove_values.new.store) c.take_out.ensures.may c.remove_values.ensures.may
 
 pub returns-clause-makes : goal.returns-clause-makes
 returns-clause-makes g c =
@@ -144,8 +140,8 @@ returns-clause-makes g c =
     let type = c.args.value_type in
     let D = c.args.roots.documents in
     let I = c.args.roots.dictionary in
-    step_ends kind type (ledger c.args.store.now) k D I c.args.doc c.requires.field c.key_law.ensures.read (ledger c.take_out.new.store) (ledger c.remove_item.new.store)
-    (records c.take_out.new.store) (records c.remove_item.new.store) c.in_ok-documents.documents I c.in_ok-dictionary.dictionary
+    step_ends kind type (ledger c.args.store.now) k D I c.args.doc c.requires.field c.key_law.ensures.read (ledger c.take_out.new.store) (ledger c.remove_values.new.store)
+    (records c.take_out.new.store) (records c.remove_values.new.store) c.in_ok-documents.documents I c.in_ok-dictionary.dictionary
     (with_change (column_at kind type k D) c.args.doc None) c.take_out.ensures.may c.in_ok-documents.ensures.steps c.in_ok-dictionary.ensures.steps c.in_ok-dictionary.ensures.index
 
 pub returns-in_err-documents-clause-counts : goal.returns-in_err-documents-clause-counts
@@ -185,8 +181,8 @@ returns-in_err-dictionary-clause-counts g c =
     let middle = index_of type (records c.take_out.new.store) I in
     let between = subst (λ (i : Index). IsBetween start doc (weights none) (λ v. None) i) (sym c.in_ok-documents.ensures.index)
     (none_added kind type begun k D I doc c.requires.field) in
-    out_counts kind column start doc of old none refl c.args.dense begun (ledger c.take_out.new.store) (ledger c.remove_item.new.store) middle between c.take_out.ensures.may
-    c.take_out.ensures.counts c.remove_item.ensures.counts
+    out_counts kind column start doc of old none refl c.args.dense begun (ledger c.take_out.new.store) (ledger c.remove_values.new.store) middle between c.take_out.ensures.may
+    c.take_out.ensures.counts c.remove_values.ensures.counts
 
 pub returns-clause-counts : goal.returns-clause-counts
 returns-clause-counts g c =
@@ -207,13 +203,13 @@ returns-clause-counts g c =
     let middle = index_of type (records c.take_out.new.store) I in
     let between = subst (λ (i : Index). IsBetween start doc (weights none) (λ v. None) i) (sym c.in_ok-documents.ensures.index)
     (none_added kind type begun k D I doc c.requires.field) in
-    out_counts kind column start doc of old none refl c.args.dense begun (ledger c.take_out.new.store) (ledger c.remove_item.new.store) middle between c.take_out.ensures.may
-    c.take_out.ensures.counts c.remove_item.ensures.counts
+    out_counts kind column start doc of old none refl c.args.dense begun (ledger c.take_out.new.store) (ledger c.remove_values.new.store) middle between c.take_out.ensures.may
+    c.take_out.ensures.counts c.remove_values.ensures.counts
 
 pub returns-clause-may : goal.returns-clause-may
 returns-clause-may g c =
     let ledger = g.S.Store.ledger in
-    may_do-then (ledger c.args.store.now) (ledger c.take_out.new.store) (ledger c.remove_item.new.store) c.take_out.ensures.may c.remove_item.ensures.may
+    may_do-then (ledger c.args.store.now) (ledger c.take_out.new.store) (ledger c.remove_values.new.store) c.take_out.ensures.may c.remove_values.ensures.may
 
 pub returns-in_err-documents-clause-low : goal.returns-in_err-documents-clause-low
 returns-in_err-documents-clause-low g c =
@@ -256,8 +252,8 @@ returns-in_err-dictionary-clause-low g c =
     (none_added kind type begun k D I doc c.requires.field) in
     λ levels stays.
     let entry = c.take_out.ensures.low levels stays.some (let low = stays.documents in let less : length column < 2 * 8 ^ levels = omega arith in less) in
-    let gone = c.remove_item.ensures.low levels (removes_low column start doc levels none of stays middle old between) in
-    out_low kind column start doc of old none refl c.args.dense levels begun (ledger c.take_out.new.store) (ledger c.remove_item.new.store) middle between c.take_out.ensures.may entry gone
+    let gone = c.remove_values.ensures.low levels (removes_low column start doc levels none of stays middle old between) in
+    out_low kind column start doc of old none refl c.args.dense levels begun (ledger c.take_out.new.store) (ledger c.remove_values.new.store) middle between c.take_out.ensures.may entry gone
 
 pub returns-clause-low : goal.returns-clause-low
 returns-clause-low g c =
@@ -280,8 +276,8 @@ returns-clause-low g c =
     (none_added kind type begun k D I doc c.requires.field) in
     λ levels stays.
     let entry = c.take_out.ensures.low levels stays.some (let low = stays.documents in let less : length column < 2 * 8 ^ levels = omega arith in less) in
-    let gone = c.remove_item.ensures.low levels (removes_low column start doc levels none of stays middle old between) in
-    out_low kind column start doc of old none refl c.args.dense levels begun (ledger c.take_out.new.store) (ledger c.remove_item.new.store) middle between c.take_out.ensures.may entry gone
+    let gone = c.remove_values.ensures.low levels (removes_low column start doc levels none of stays middle old between) in
+    out_low kind column start doc of old none refl c.args.dense levels begun (ledger c.take_out.new.store) (ledger c.remove_values.new.store) middle between c.take_out.ensures.may entry gone
 
 pub returns-in_err-documents-clause-form : goal.returns-in_err-documents-clause-form
 returns-in_err-documents-clause-form g c = let p = err_from_is_err_and c.from_residual.result c.from_residual.ensures.1 in rw p.1 tt
@@ -293,5 +289,5 @@ returns-in_err-dictionary-clause-form g c =
 pub returns-clause-form : goal.returns-clause-form
 returns-clause-form g c = c.in_ok-dictionary.ensures.form
 
-pub slice_bounds-remove_item-end : goal.slice_bounds-remove_item-end
-slice_bounds-remove_item-end g c = refl
+pub slice_bounds-remove_values-end : goal.slice_bounds-remove_values-end
+slice_bounds-remove_values-end g c = refl

@@ -11,29 +11,23 @@ use Rattle.value_index.specs.Widths.{IsWalkWidth}
 use Rattle.posting_store.proofs.RefusalLemmas.{of_more}
 use Rattle.attr_field.specs.Widths.{IsFieldWidth}
 use Rattle.attr_field.proofs.WidthLemmas.{added_width, removed_width}
-use Rattle.attr_field.proofs.ChangeLemmas.{weights, field_stands, has_middle, index_ends, step_ends, steps_then}
+use Rattle.attr_field.proofs.ChangeLemmas.{weights, field_stands, has_before, has_middle, index_ends, step_ends, steps_then}
 use Rattle.value_index.specs.Counts.{value_nodes}
 use Rattle.attr_field.specs.Counts.{lost_values, new_values}
 use Rattle.attr_field.proofs.CountLemmas.{put_one, put_two, put_three}
 use Rattle.attr_field.proofs.SizeLemmas.{adds_low, removes_low}
 use Rattle.attr_field.proofs.WeightLemmas.{items_typed}
-use Rattle.attr_field.proofs.SingleLemmas.{item_apart, items_apart, single_had, single_items}
 use Rattle.attr_types.specs.Value.{values_of, AreOfType}
 use Rattle.attr_types.specs.declared.items.Item.{Item}
-use Rattle.attr_field.proofs.single.put_single.Goals as goal
+use Rattle.attr_field.proofs.changing.put_changed.Goals as goal
 
-pub add_item-requires : goal.add_item-requires
-add_item-requires g c =
+pub add_values-requires : goal.add_values-requires
+add_values-requires g c =
     let begun = g.S.Store.ledger c.args.store.now in
     let k = g.S.Frozen.records c.args.store.now in
     let kind = c.args.kind in
     let type = c.args.value_type in
-    let documents = c.args.roots.documents in
-    let column = column_at kind type k documents in
-    let old = c.args.old.now in
-    let new = c.args.new.now in
-    let before = single_had kind column c.args.doc old c.requires.single (c.documents_law.ensures.lawful kind type k documents c.requires.field.documents_are).2 c.requires.was in
-    let after = single_items kind new c.requires.single c.requires.fits.0 in (
+    let documents = c.args.roots.documents in (
       omega arith,
       (
         omega arith,
@@ -45,7 +39,17 @@ add_item-requires g c =
               c.requires.form,
               (
                 c.requires.field.index_of_documents,
-                (after.0, (after.1, (c.requires.fits.1, items_apart old new before after (item_apart column c.args.doc old new c.requires.was c.requires.other)))),
+                (
+                  c.requires.how,
+                  (
+                    c.requires.ones,
+                    (
+                      c.requires.fits.1,
+                      has_before kind type begun k documents c.args.roots.dictionary c.args.doc c.requires.field c.documents_law.ensures.lawful (first_weights [] c.args.old.now)
+                          (ap (first_weights []) c.requires.was),
+                    ),
+                  ),
+                ),
               ),
             ),
           ),
@@ -76,21 +80,15 @@ returns-in_err-added-clause-refuses g c =
     let new = first_weights [] c.args.new.now in
     let among = IsFieldWidth c.args.dense kind (with_change column doc (Some items)) (items_of column doc) items in
     let p = err_from_is_err_and c.from_residual.result c.from_residual.ensures.1 in
-    rw (p.1, p.2) (of_more (IsWalkWidth c.args.dense start doc (weights new) (λ v. None)) among a a (ledger c.add_item.new.store) _ (may_do-same a)
+    rw (p.1, p.2) (of_more (IsWalkWidth c.args.dense start doc (weights new) (λ v. None)) among a a (ledger c.add_values.new.store) _ (may_do-same a)
     (added_width c.args.dense kind column start doc (Some items) up of old new (ap (first_weights []) c.requires.was) refl) c.in_err-added.ensures.refuses)
 
 pub returns-in_err-added-clause-may : goal.returns-in_err-added-clause-may
-returns-in_err-added-clause-may g c = c.add_item.ensures.may
+returns-in_err-added-clause-may g c = c.add_values.ensures.may
 
-pub set_item-requires : goal.set_item-requires
-set_item-requires g c =
-    let after = single_items c.args.kind c.args.new.now c.requires.single c.requires.fits.0 in (
-      omega arith,
-      (
-        c.add_item.ensures.may.unit ∙ c.requires.unit,
-        (c.in_ok-added.ensures.steps.stands, (c.requires.fits, (after.0, c.in_ok-added.ensures.found))),
-      ),
-    )
+pub set_items-requires : goal.set_items-requires
+set_items-requires g c =
+    (omega arith, (c.add_values.ensures.may.unit ∙ c.requires.unit, (c.in_ok-added.ensures.steps.stands, (c.requires.fits, c.in_ok-added.ensures.found))))
 
 pub returns-in_err-documents-clause-makes : goal.returns-in_err-documents-clause-makes
 returns-in_err-documents-clause-makes g c =
@@ -116,22 +114,22 @@ returns-in_err-documents-clause-refuses g c =
     let new = first_weights [] c.args.new.now in
     let among = IsFieldWidth c.args.dense kind (with_change column doc (Some items)) (items_of column doc) items in
     let p = err_from_is_err_and c.from_residual-in_err-documents.result c.from_residual-in_err-documents.ensures.1 in
-    rw (p.1, p.2) (of_more (IsDocumentWidth kind (length items)) among a (ledger c.add_item.new.store) (ledger c.set_item.new.store) _ c.add_item.ensures.may (λ w is. inl is)
+    rw (p.1, p.2) (of_more (IsDocumentWidth kind (length items)) among a (ledger c.add_values.new.store) (ledger c.set_items.new.store) _ c.add_values.ensures.may (λ w is. inl is)
     c.in_err-documents.ensures.refuses)
 
 pub returns-in_err-documents-clause-may : goal.returns-in_err-documents-clause-may
 returns-in_err-documents-clause-may g c =
     let ledger = g.S.Store.ledger in
-    may_do-then (ledger c.args.store.now) (ledger c.add_item.new.store) (ledger c.set_item.new.store) c.add_item.ensures.may c.set_item.ensures.may
+    may_do-then (ledger c.args.store.now) (ledger c.add_values.new.store) (ledger c.set_items.new.store) c.add_values.ensures.may c.set_items.ensures.may
 
-pub remove_item-requires : goal.remove_item-requires
-remove_item-requires g c =
+pub remove_values-requires : goal.remove_values-requires
+remove_values-requires g c =
     let ledger = g.S.Store.ledger in
     let records = g.S.Frozen.records in
     let begun = ledger c.args.store.now in
     let k = records c.args.store.now in
-    let m = records c.add_item.new.store in
-    let n = records c.set_item.new.store in
+    let m = records c.add_values.new.store in
+    let n = records c.set_items.new.store in
     let kind = c.args.kind in
     let type = c.args.value_type in
     let D = c.args.roots.documents in
@@ -141,33 +139,26 @@ remove_item-requires g c =
     let old = first_weights [] c.args.old.now in
     let new = first_weights [] c.args.new.now in
     let root = c.in_ok-added.added.root in
-    let column = column_at kind type k D in
-    let had = single_had kind column doc c.args.old.now c.requires.single (c.documents_law.ensures.lawful kind type k D c.requires.field.documents_are).2 c.requires.was in
-    let has = single_items kind c.args.new.now c.requires.single c.requires.fits.0 in
     let next = c.in_ok-documents.documents in
     let lawful = c.documents_law.ensures.lawful in
-    let both = steps_then kind type begun k D I doc c.requires.field c.key_law.ensures.read (ledger c.add_item.new.store) (ledger c.set_item.new.store) m n root next (Some items)
-    c.add_item.ensures.may c.in_ok-added.ensures.steps c.in_ok-documents.ensures.steps in
+    let both = steps_then kind type begun k D I doc c.requires.field c.key_law.ensures.read (ledger c.add_values.new.store) (ledger c.set_items.new.store) m n root next (Some items)
+    c.add_values.ensures.may c.in_ok-added.ensures.steps c.in_ok-documents.ensures.steps in
     let between = subst (λ (i : Index). IsBetween (index_of type k I) doc (weights new) (λ v. None) i) (sym c.in_ok-documents.ensures.index) c.in_ok-added.ensures.between in (
       omega arith,
       (
-        c.set_item.ensures.may.unit ∙ c.add_item.ensures.may.unit ∙ c.requires.unit,
+        c.set_items.ensures.may.unit ∙ c.add_values.ensures.may.unit ∙ c.requires.unit,
         (
           c.in_ok-documents.ensures.steps.stands,
           (
             c.in_ok-documents.ensures.form c.args.dense c.in_ok-added.ensures.form,
             (
-              had.0,
+              c.requires.how,
               (
                 subst (λ (xs : List Item). AreOfType type (values_of xs)) (sym c.requires.was) (items_typed kind type k D doc),
                 (
-                  items_apart c.args.new.now c.args.old.now has had
-                      (λ item is was. item_apart column doc c.args.old.now c.args.new.now c.requires.was c.requires.other item was is),
-                  (
-                    has_middle kind type begun k D I doc c.requires.field lawful old (ap (first_weights []) c.requires.was) (Some items) new refl (index_of type n root) between,
-                    λ index ends. subst (λ (column : Column). IsIndexOf column index) (sym both.column_is)
-                        (index_ends kind type begun k D I doc c.requires.field lawful old (ap (first_weights []) c.requires.was) (Some items) new refl (index_of type n root) between index ends),
-                  ),
+                  has_middle kind type begun k D I doc c.requires.field lawful old (ap (first_weights []) c.requires.was) (Some items) new refl (index_of type n root) between,
+                  λ index ends. subst (λ (column : Column). IsIndexOf column index) (sym both.column_is)
+                      (index_ends kind type begun k D I doc c.requires.field lawful old (ap (first_weights []) c.requires.was) (Some items) new refl (index_of type n root) between index ends),
                 ),
               ),
             ),
@@ -199,19 +190,19 @@ returns-in_err-dictionary-clause-refuses g c =
     let old = first_weights [] c.args.old.now in
     let new = first_weights [] c.args.new.now in
     let among = IsFieldWidth c.args.dense kind (with_change column doc (Some items)) (items_of column doc) items in
-    let n = records c.set_item.new.store in
+    let n = records c.set_items.new.store in
     let root = c.in_ok-added.added.root in
     let between = subst (λ (i : Index). IsBetween start doc (weights new) (λ v. None) i) (sym c.in_ok-documents.ensures.index) c.in_ok-added.ensures.between in
-    let may = may_do-then a (ledger c.add_item.new.store) (ledger c.set_item.new.store) c.add_item.ensures.may c.set_item.ensures.may in
+    let may = may_do-then a (ledger c.add_values.new.store) (ledger c.set_items.new.store) c.add_values.ensures.may c.set_items.ensures.may in
     let p = err_from_is_err_and c.from_residual-in_err-dictionary.result c.from_residual-in_err-dictionary.ensures.1 in
-    rw (p.1, p.2) (of_more (IsWalkWidth c.args.dense (index_of type n root) doc (weights new) (weights old)) among a (ledger c.set_item.new.store) (ledger c.remove_item.new.store) _ may
+    rw (p.1, p.2) (of_more (IsWalkWidth c.args.dense (index_of type n root) doc (weights new) (weights old)) among a (ledger c.set_items.new.store) (ledger c.remove_values.new.store) _ may
     (removed_width c.args.dense kind column start doc (Some items) up of old new (ap (first_weights []) c.requires.was) refl (index_of type n root) between) c.in_err-dictionary.ensures.refuses)
 
 pub returns-in_err-dictionary-clause-may : goal.returns-in_err-dictionary-clause-may
 returns-in_err-dictionary-clause-may g c =
     let ledger = g.S.Store.ledger in
-    let may = may_do-then (ledger c.args.store.now) (ledger c.add_item.new.store) (ledger c.set_item.new.store) c.add_item.ensures.may c.set_item.ensures.may in
-    may_do-then (ledger c.args.store.now) (ledger c.set_item.new.store) (ledger c.remove_item.new.store) may c.remove_item.ensures.may
+    let may = may_do-then (ledger c.args.store.now) (ledger c.add_values.new.store) (ledger c.set_items.new.store) c.add_values.ensures.may c.set_items.ensures.may in
+    may_do-then (ledger c.args.store.now) (ledger c.set_items.new.store) (ledger c.remove_values.new.store) may c.remove_values.ensures.may
 
 pub returns-clause-makes : goal.returns-clause-makes
 returns-clause-makes g c =
@@ -219,9 +210,9 @@ returns-clause-makes g c =
     let records = g.S.Frozen.records in
     let begun = ledger c.args.store.now in
     let k = records c.args.store.now in
-    let m = records c.add_item.new.store in
-    let n = records c.set_item.new.store in
-    let o = records c.remove_item.new.store in
+    let m = records c.add_values.new.store in
+    let n = records c.set_items.new.store in
+    let o = records c.remove_values.new.store in
     let kind = c.args.kind in
     let type = c.args.value_type in
     let D = c.args.roots.documents in
@@ -231,10 +222,10 @@ returns-clause-makes g c =
     let root = c.in_ok-added.added.root in
     let next = c.in_ok-documents.documents in
     let last = c.in_ok-dictionary.dictionary in
-    let both = steps_then kind type begun k D I doc c.requires.field c.key_law.ensures.read (ledger c.add_item.new.store) (ledger c.set_item.new.store) m n root next (Some items)
-    c.add_item.ensures.may c.in_ok-added.ensures.steps c.in_ok-documents.ensures.steps in
-    let may = may_do-then (ledger c.args.store.now) (ledger c.add_item.new.store) (ledger c.set_item.new.store) c.add_item.ensures.may c.set_item.ensures.may in
-    step_ends kind type begun k D I doc c.requires.field c.key_law.ensures.read (ledger c.set_item.new.store) (ledger c.remove_item.new.store) n o next root last
+    let both = steps_then kind type begun k D I doc c.requires.field c.key_law.ensures.read (ledger c.add_values.new.store) (ledger c.set_items.new.store) m n root next (Some items)
+    c.add_values.ensures.may c.in_ok-added.ensures.steps c.in_ok-documents.ensures.steps in
+    let may = may_do-then (ledger c.args.store.now) (ledger c.add_values.new.store) (ledger c.set_items.new.store) c.add_values.ensures.may c.set_items.ensures.may in
+    step_ends kind type begun k D I doc c.requires.field c.key_law.ensures.read (ledger c.set_items.new.store) (ledger c.remove_values.new.store) n o next root last
     (with_change (column_at kind type k D) doc (Some items)) may both c.in_ok-dictionary.ensures.steps c.in_ok-dictionary.ensures.index
 
 pub returns-in_err-added-clause-counts : goal.returns-in_err-added-clause-counts
@@ -253,8 +244,8 @@ returns-in_err-added-clause-counts g c =
     let column = column_at kind type k D in
     let start = index_of type k I in
     let of = c.requires.field.index_of_documents in
-    let last = ledger c.add_item.new.store in
-    put_one kind column start doc count of old new c.args.dense (34 * new_values old new) 17 (34 * lost_values old new) (ledger c.args.store.now) last last last c.add_item.ensures.counts
+    let last = ledger c.add_values.new.store in
+    put_one kind column start doc count of old new c.args.dense (34 * new_values old new) 17 (34 * lost_values old new) (ledger c.args.store.now) last last last c.add_values.ensures.counts
 
 pub returns-in_err-documents-clause-counts : goal.returns-in_err-documents-clause-counts
 returns-in_err-documents-clause-counts g c =
@@ -272,9 +263,9 @@ returns-in_err-documents-clause-counts g c =
     let column = column_at kind type k D in
     let start = index_of type k I in
     let of = c.requires.field.index_of_documents in
-    let last = ledger c.set_item.new.store in
-    put_two kind column start doc count of old new c.args.dense (34 * new_values old new) 17 (34 * lost_values old new) (ledger c.args.store.now) (ledger c.add_item.new.store) last last
-    c.add_item.ensures.may c.add_item.ensures.counts c.set_item.ensures.counts
+    let last = ledger c.set_items.new.store in
+    put_two kind column start doc count of old new c.args.dense (34 * new_values old new) 17 (34 * lost_values old new) (ledger c.args.store.now) (ledger c.add_values.new.store) last last
+    c.add_values.ensures.may c.add_values.ensures.counts c.set_items.ensures.counts
 
 pub returns-in_err-dictionary-clause-counts : goal.returns-in_err-dictionary-clause-counts
 returns-in_err-dictionary-clause-counts g c =
@@ -292,11 +283,11 @@ returns-in_err-dictionary-clause-counts g c =
     let column = column_at kind type k D in
     let start = index_of type k I in
     let of = c.requires.field.index_of_documents in
-    let middle = index_of type (records c.set_item.new.store) c.in_ok-added.added.root in
+    let middle = index_of type (records c.set_items.new.store) c.in_ok-added.added.root in
     let between = subst (λ (i : Index). IsBetween start doc (weights new) (λ v. None) i) (sym c.in_ok-documents.ensures.index) c.in_ok-added.ensures.between in
     put_three kind column start doc count of old new c.args.dense (34 * new_values old new) 17 (34 * lost_values old new)
-    (ledger c.args.store.now) (ledger c.add_item.new.store) (ledger c.set_item.new.store) (ledger c.remove_item.new.store) middle between
-    c.add_item.ensures.may c.set_item.ensures.may c.add_item.ensures.counts c.set_item.ensures.counts c.remove_item.ensures.counts
+    (ledger c.args.store.now) (ledger c.add_values.new.store) (ledger c.set_items.new.store) (ledger c.remove_values.new.store) middle between
+    c.add_values.ensures.may c.set_items.ensures.may c.add_values.ensures.counts c.set_items.ensures.counts c.remove_values.ensures.counts
 
 pub returns-clause-counts : goal.returns-clause-counts
 returns-clause-counts g c =
@@ -314,17 +305,17 @@ returns-clause-counts g c =
     let column = column_at kind type k D in
     let start = index_of type k I in
     let of = c.requires.field.index_of_documents in
-    let middle = index_of type (records c.set_item.new.store) c.in_ok-added.added.root in
+    let middle = index_of type (records c.set_items.new.store) c.in_ok-added.added.root in
     let between = subst (λ (i : Index). IsBetween start doc (weights new) (λ v. None) i) (sym c.in_ok-documents.ensures.index) c.in_ok-added.ensures.between in
     put_three kind column start doc count of old new c.args.dense (34 * new_values old new) 17 (34 * lost_values old new)
-    (ledger c.args.store.now) (ledger c.add_item.new.store) (ledger c.set_item.new.store) (ledger c.remove_item.new.store) middle between
-    c.add_item.ensures.may c.set_item.ensures.may c.add_item.ensures.counts c.set_item.ensures.counts c.remove_item.ensures.counts
+    (ledger c.args.store.now) (ledger c.add_values.new.store) (ledger c.set_items.new.store) (ledger c.remove_values.new.store) middle between
+    c.add_values.ensures.may c.set_items.ensures.may c.add_values.ensures.counts c.set_items.ensures.counts c.remove_values.ensures.counts
 
 pub returns-clause-may : goal.returns-clause-may
 returns-clause-may g c =
     let ledger = g.S.Store.ledger in
-    let may = may_do-then (ledger c.args.store.now) (ledger c.add_item.new.store) (ledger c.set_item.new.store) c.add_item.ensures.may c.set_item.ensures.may in
-    may_do-then (ledger c.args.store.now) (ledger c.set_item.new.store) (ledger c.remove_item.new.store) may c.remove_item.ensures.may
+    let may = may_do-then (ledger c.args.store.now) (ledger c.add_values.new.store) (ledger c.set_items.new.store) c.add_values.ensures.may c.set_items.ensures.may in
+    may_do-then (ledger c.args.store.now) (ledger c.set_items.new.store) (ledger c.remove_values.new.store) may c.remove_values.ensures.may
 
 pub returns-in_err-added-clause-low : goal.returns-in_err-added-clause-low
 returns-in_err-added-clause-low g c =
@@ -343,8 +334,8 @@ returns-in_err-added-clause-low g c =
     let start = index_of type k I in
     let of = c.requires.field.index_of_documents in
     λ levels stays.
-    let added = c.add_item.ensures.low levels (adds_low column start doc levels new of stays) in
-    let last = ledger c.add_item.new.store in
+    let added = c.add_values.ensures.low levels (adds_low column start doc levels new of stays) in
+    let last = ledger c.add_values.new.store in
     put_one kind column start doc count of old new c.args.dense (value_nodes levels * new_values old new) (2 * levels + 1) (value_nodes levels * lost_values old new) (ledger c.args.store.now) last last last added
 
 pub returns-in_err-documents-clause-low : goal.returns-in_err-documents-clause-low
@@ -364,12 +355,12 @@ returns-in_err-documents-clause-low g c =
     let start = index_of type k I in
     let of = c.requires.field.index_of_documents in
     λ levels stays.
-    let added = c.add_item.ensures.low levels (adds_low column start doc levels new of stays) in
+    let added = c.add_values.ensures.low levels (adds_low column start doc levels new of stays) in
     let few = subst (λ (cl : Column). length cl < 2 * 8 ^ levels) (sym c.in_ok-added.ensures.steps.column_is) (let low = stays.documents in let less : length column < 2 * 8 ^ levels = omega arith in less) in
-    let entry = c.set_item.ensures.low levels stays.some few in
-    let last = ledger c.set_item.new.store in
+    let entry = c.set_items.ensures.low levels stays.some few in
+    let last = ledger c.set_items.new.store in
     put_two kind column start doc count of old new c.args.dense (value_nodes levels * new_values old new) (2 * levels + 1) (value_nodes levels * lost_values old new) (ledger c.args.store.now)
-    (ledger c.add_item.new.store) last last c.add_item.ensures.may added entry
+    (ledger c.add_values.new.store) last last c.add_values.ensures.may added entry
 
 pub returns-in_err-dictionary-clause-low : goal.returns-in_err-dictionary-clause-low
 returns-in_err-dictionary-clause-low g c =
@@ -387,16 +378,16 @@ returns-in_err-dictionary-clause-low g c =
     let column = column_at kind type k D in
     let start = index_of type k I in
     let of = c.requires.field.index_of_documents in
-    let middle = index_of type (records c.set_item.new.store) c.in_ok-added.added.root in
+    let middle = index_of type (records c.set_items.new.store) c.in_ok-added.added.root in
     let between = subst (λ (i : Index). IsBetween start doc (weights new) (λ v. None) i) (sym c.in_ok-documents.ensures.index) c.in_ok-added.ensures.between in
     λ levels stays.
-    let added = c.add_item.ensures.low levels (adds_low column start doc levels new of stays) in
+    let added = c.add_values.ensures.low levels (adds_low column start doc levels new of stays) in
     let few = subst (λ (cl : Column). length cl < 2 * 8 ^ levels) (sym c.in_ok-added.ensures.steps.column_is) (let low = stays.documents in let less : length column < 2 * 8 ^ levels = omega arith in less) in
-    let entry = c.set_item.ensures.low levels stays.some few in
-    let gone = c.remove_item.ensures.low levels (removes_low column start doc levels new of stays middle old between) in
+    let entry = c.set_items.ensures.low levels stays.some few in
+    let gone = c.remove_values.ensures.low levels (removes_low column start doc levels new of stays middle old between) in
     put_three kind column start doc count of old new c.args.dense (value_nodes levels * new_values old new) (2 * levels + 1) (value_nodes levels * lost_values old new)
-    (ledger c.args.store.now) (ledger c.add_item.new.store) (ledger c.set_item.new.store) (ledger c.remove_item.new.store) middle between
-    c.add_item.ensures.may c.set_item.ensures.may added entry gone
+    (ledger c.args.store.now) (ledger c.add_values.new.store) (ledger c.set_items.new.store) (ledger c.remove_values.new.store) middle between
+    c.add_values.ensures.may c.set_items.ensures.may added entry gone
 
 pub returns-clause-low : goal.returns-clause-low
 returns-clause-low g c =
@@ -414,16 +405,16 @@ returns-clause-low g c =
     let column = column_at kind type k D in
     let start = index_of type k I in
     let of = c.requires.field.index_of_documents in
-    let middle = index_of type (records c.set_item.new.store) c.in_ok-added.added.root in
+    let middle = index_of type (records c.set_items.new.store) c.in_ok-added.added.root in
     let between = subst (λ (i : Index). IsBetween start doc (weights new) (λ v. None) i) (sym c.in_ok-documents.ensures.index) c.in_ok-added.ensures.between in
     λ levels stays.
-    let added = c.add_item.ensures.low levels (adds_low column start doc levels new of stays) in
+    let added = c.add_values.ensures.low levels (adds_low column start doc levels new of stays) in
     let few = subst (λ (cl : Column). length cl < 2 * 8 ^ levels) (sym c.in_ok-added.ensures.steps.column_is) (let low = stays.documents in let less : length column < 2 * 8 ^ levels = omega arith in less) in
-    let entry = c.set_item.ensures.low levels stays.some few in
-    let gone = c.remove_item.ensures.low levels (removes_low column start doc levels new of stays middle old between) in
+    let entry = c.set_items.ensures.low levels stays.some few in
+    let gone = c.remove_values.ensures.low levels (removes_low column start doc levels new of stays middle old between) in
     put_three kind column start doc count of old new c.args.dense (value_nodes levels * new_values old new) (2 * levels + 1) (value_nodes levels * lost_values old new)
-    (ledger c.args.store.now) (ledger c.add_item.new.store) (ledger c.set_item.new.store) (ledger c.remove_item.new.store) middle between
-    c.add_item.ensures.may c.set_item.ensures.may added entry gone
+    (ledger c.args.store.now) (ledger c.add_values.new.store) (ledger c.set_items.new.store) (ledger c.remove_values.new.store) middle between
+    c.add_values.ensures.may c.set_items.ensures.may added entry gone
 
 pub returns-in_err-added-clause-form : goal.returns-in_err-added-clause-form
 returns-in_err-added-clause-form g c = let p = err_from_is_err_and c.from_residual.result c.from_residual.ensures.1 in rw p.1 tt
