@@ -1,6 +1,6 @@
 -- Documents of a save, put in one after another.
-use Rattle.std.proofs.Common.{◌≡◌, ℕ, ◌+◌, List, [], ◌∷◌, ◌++◌, length, take, Result, Ok, Err, refl, sym, ◌∙◌, ap, arith, length-append}
-use Rattle.std.specs.Prelude.{OnErr}
+use Rattle.std.proofs.Common.{◌≡◌, ℕ, ◌+◌, List, [], ◌∷◌, ◌++◌, length, take, Ok, refl, sym, ◌∙◌, ap, arith, length-append}
+use Rattle.std.proofs.lemmas.Grind.{common_steps}
 use Rattle.attr_saver.specs.Fields.{read_of}
 use Rattle.attr_saver.specs.declared.saved.Saved.{Saved}
 use Rattle.attr_saver.specs.declared.saved.SavedDocument.{SavedDocument}
@@ -17,6 +17,10 @@ after_puts fields (first ∷ documents) one table = after_puts fields documents 
 take_front : (front rest : List SavedDocument) → front ≡ take (length front) (front ++ rest)
 take_front [] rest = refl
 take_front (first ∷ front) rest = ap (λ (xs : List SavedDocument). first ∷ xs) (take_front front rest)
+
+-- one document more is behind
+pub moved_on : (front rest left all : List SavedDocument) (one : SavedDocument) → rest ≡ one ∷ left → front ++ rest ≡ all → (front ++ one ∷ []) ++ left ≡ all
+moved_on front rest left all one is whole = grind (arith, common_steps)
 
 module _ (fields : List Field) (old : Table) (before : ℕ) where
   pub puts_none : PutsIn fields [] old old before before
@@ -53,8 +57,3 @@ module _ (fields : List Field) (old : Table) (before : ℕ) where
 
     pub loads_none : Stays old new before after → LoadsFront fields bytes old new before after
     loads_none stays = record { documents = []; puts = record { table = stays.table; operations = let same = stays.operations in omega (arith, same) }; front = λ saved says. refl }
-
--- what holds of a refusal that is handed on
-pub on_err : {A E : Type 0} {P : Type 0} (result : Result A E) → P → OnErr result P
-on_err (Ok x) p = tt
-on_err (Err e) p = p

@@ -1,8 +1,11 @@
 -- Calls by one guard.
-use Rattle.std.proofs.Common.{ℕ, List, Option, Some, None, ◌∙◌, ap}
-use Rattle.attr_types.specs.Scores.{documents_in}
-use Rattle.attr_c.specs.Kept.{KeptView}
-use Rattle.attr_c.specs.Seats.{AnswersText, CountsText, ByGuardOf}
+use Rattle.std.proofs.Common.{◌≡◌, ℕ, ℤ, List, Option, Some, None, Result, Ok, Err, ◌∙◌, ap}
+use Rattle.std.specs.Prelude.{IfOk}
+use Rattle.attr_types.specs.Scores.{AskTree, answer_on, documents_in}
+use Rattle.query_text.specs.Asks.{ask_of}
+use Rattle.attr_c.specs.Kept.{KeptView, table_in}
+use Rattle.attr_c.specs.Said.{said}
+use Rattle.attr_c.specs.Seats.{AnswersText, CountsText, ByGuardOf, TellsCommit}
 use Rattle.attr_c.specs.declared.answer.Answer.{Answer}
 use Rattle.attr_c.specs.declared.seat.Place.{Place}
 use Rattle.attr_c.specs.declared.told.Answered.{Answered}
@@ -14,3 +17,10 @@ by_guard_weaker None after P Q weaker by = absurd by
 
 pub counts_text : (guard : KeptView) (text : List ℕ) (told : Answered) (answer : Answer) → AnswersText guard text told answer → CountsText guard text told
 counts_text guard text told answer is = record { ask = is.ask; reads = is.reads; count = is.count ∙ ap documents_in is.answer_is; tells = is.tells }
+
+-- an answer to what a text asks for is one to the text
+pub answers_text : (guard : KeptView) (text : List ℕ) (told : Answered) (ask : AskTree) (result : Result Answer ℤ) → ask_of guard.fields text ≡ Ok ask
+    → IfOk result (λ answer. said answer ≡ answer_on ask (table_in guard)) → IfOk result (λ answer. told.count ≡ documents_in (said answer)) → TellsCommit guard told
+    → IfOk result (AnswersText guard text told)
+answers_text guard text told ask (Ok answer) reads is count tells = record { ask = ask; reads = reads; answer_is = is; tells = tells; count = count }
+answers_text guard text told ask (Err code) reads is count tells = tt

@@ -8,6 +8,7 @@ use Rattle.query_text.specs.Asks.{ask_of}
 use Rattle.attr_c.specs.Kept.{KeptView, IsGuardOf, operations_of, table_in}
 use Rattle.attr_c.specs.Said.{said, items_of, save_of_table}
 use Rattle.attr_c.specs.declared.answer.Answer.{Answer}
+use Rattle.attr_c.specs.declared.answer.Answer.TheVariants.{Hits}
 use Rattle.attr_c.specs.declared.seat.AnyKept.{AnyKept}
 use Rattle.attr_c.specs.declared.seat.AnyKept.TheVariants as kept
 use Rattle.attr_c.specs.declared.seat.Place.{Place}
@@ -31,6 +32,13 @@ kept_view (kept.Wide k) = k
 abbrev pub is_kept : Place → Bool
 is_kept (Free r) = false
 is_kept (Kept k) = true
+
+-- a seat without a reader, which keeps nothing
+pub record IsEmptySeat (seat : Seat) : Type 0 where
+  pub no_reader : seat.place ≡ None
+  pub no_answer : seat.answer ≡ Hits []
+  pub no_items : seat.items ≡ []
+  pub no_save : seat.saved.items ≡ []
 
 -- a guard that a reader took
 pub record IsTaken (reader guard : KeptView) : Type 0 where

@@ -1,5 +1,5 @@
 //! The answer that a reader keeps until it is asked again.
-ghost use Rattle.std.specs.Prelude.{◌≡◌, map};
+ghost use Rattle.std.specs.Prelude.{◌≡◌, [], map};
 ghost use Rattle.attr_types.specs.Change.{if_signed};
 ghost use Rattle.attr_c.specs.Copies.{documents_of, nearest_end, score_told, scores_told, Copies};
 
@@ -18,7 +18,10 @@ impl Answer {
     ghost use Rattle.attr_types.specs.Scores.{documents_in};
     ghost use Rattle.attr_c.specs.Said.{said};
 
-    pub fn new(alloc: Global) -> Answer {
+    /// Returns the answer without a document.
+    pub fn new(alloc: Global) -> Answer
+        ensures { result ≡ Answer.Hits [] }
+    {
         Answer::Hits(DocList::new(alloc))
     }
 

@@ -1,6 +1,9 @@
 //! The asks of a reader, at the commit of its guard.
 ghost use Rattle.std.specs.Prelude.{◌≡◌, ◌<◌, ◌^◌, length, IfOk, Ok};
 ghost use Rattle.query_text.specs.Asks.{ask_of, AsksAs};
+ghost use Rattle.attr_types.specs.Scores.{ask_tree, answer_on, documents_in};
+ghost use Rattle.attr_c.specs.Kept.{table_in};
+ghost use Rattle.attr_c.specs.Said.{said};
 ghost use Rattle.attr_c.specs.Seats.{kept_view, AnswersText, ReadsItems, SavesTable, TellsCommit};
 
 use crate::answer::Answer;
@@ -51,6 +54,28 @@ fn tell_commit<const OFFSET_BITS: u32>(kept: &mut Kept<OFFSET_BITS>, told: &mut 
     told.operations = kept.operations();
 }
 
+/// Returns the answer to an ask, or the code of a refusal.
+fn answer_to<const OFFSET_BITS: u32>(
+    alloc: Global,
+    kept: &mut Kept<OFFSET_BITS>,
+    ask: &Ask,
+    told: &mut Answered,
+) -> Result<Answer, i32>
+    ensures answers { IfOk result (λ answer. said answer ≡ answer_on (ask_tree ask.now) (table_in kept.old)) }
+    ensures count { IfOk result (λ answer. told.new.count ≡ documents_in (said answer)) }
+    ensures tells { TellsCommit kept.old told.new }
+    ensures same { kept.new ≡ kept.old }
+{
+    tell_commit(kept, told);
+    match kept.answer(alloc, ask) {
+        Ok(answer) => {
+            told.count = answer.len() as u64;
+            Ok(answer)
+        }
+        Err(_) => Err(MEMORY),
+    }
+}
+
 /// Returns the answer to a text, or the code of its refusal.
 fn answer_of<const OFFSET_BITS: u32>(
     alloc: Global,
@@ -61,14 +86,9 @@ fn answer_of<const OFFSET_BITS: u32>(
     ensures answers { IfOk result (AnswersText kept.old text.now told.new) }
     ensures same { kept.new ≡ kept.old }
 {
-    let ask = ask_in(alloc, text, kept.fields(), told)?;
-    tell_commit(kept, told);
-    match kept.answer(alloc, &ask) {
-        Ok(answer) => {
-            told.count = answer.len() as u64;
-            Ok(answer)
-        }
-        Err(_) => Err(MEMORY),
+    match ask_in(alloc, text, kept.fields(), told) {
+        Ok(ask) => answer_to(alloc, kept, &ask, told),
+        Err(code) => Err(code),
     }
 }
 

@@ -41,6 +41,29 @@ fn op_of(alloc: Global, document: SavedDocument) -> Result<Op, AllocError>
     Ok(Op::Put { doc, items })
 }
 
+/// Applies an operation, if it is one of the attributes.
+fn apply_fitting<const OFFSET_BITS: u32, S: Store<OFFSET_BITS, Layout = AttrLayout>>(
+    alloc: Global,
+    open: &mut Open<OFFSET_BITS, S>,
+    op: &Op,
+) -> Result<(), Stop>
+    ensures table { OnOk result (open.new.attribute.table ≡ after_op open.old.fields open.old.attribute.table op.now) }
+    ensures operations { OnOk result (open.new.attribute.operations ≡ open.old.attribute.operations + 1) }
+    ensures left { OnErr result (Stays open.old.attribute.table open.new.attribute.table
+        open.old.attribute.operations open.new.attribute.operations) }
+    ensures commit { Stays open.old.attribute.committed open.new.attribute.committed
+        open.old.attribute.committed_operations open.new.attribute.committed_operations }
+    ensures fields { open.new.fields ≡ open.old.fields }
+{
+    if !fits(&open.fields, op) {
+        return Err(Stop::Other);
+    }
+    match apply(alloc, open, op) {
+        Ok(_) => Ok(()),
+        Err(stop) => Err(stop),
+    }
+}
+
 /// Puts a document in.
 fn put_document<const OFFSET_BITS: u32, S: Store<OFFSET_BITS, Layout = AttrLayout>>(
     alloc: Global,
@@ -55,15 +78,9 @@ fn put_document<const OFFSET_BITS: u32, S: Store<OFFSET_BITS, Layout = AttrLayou
         open.old.attribute.committed_operations open.new.attribute.committed_operations }
     ensures fields { open.new.fields ≡ open.old.fields }
 {
-    let Ok(op) = op_of(alloc, document) else {
-        return Err(Stop::Memory);
-    };
-    if !fits(&open.fields, &op) {
-        return Err(Stop::Other);
-    }
-    match apply(alloc, open, &op) {
-        Ok(_) => Ok(()),
-        Err(stop) => Err(stop),
+    match op_of(alloc, document) {
+        Ok(op) => apply_fitting(alloc, open, &op),
+        Err(_) => Err(Stop::Memory),
     }
 }
 
@@ -82,7 +99,10 @@ fn put_all<const OFFSET_BITS: u32, S: Store<OFFSET_BITS, Layout = AttrLayout>>(
     ensures fields { open.new.fields ≡ open.old.fields }
 {
     for document in documents {
-        put_document(alloc, open, document)?;
+        match put_document(alloc, open, document) {
+            Ok(()) => (),
+            Err(stop) => return Err(stop),
+        }
     }
     Ok(())
 }
@@ -117,7 +137,10 @@ pub fn load<const OFFSET_BITS: u32, S: Store<OFFSET_BITS, Layout = AttrLayout>>(
         open.old.attribute.committed_operations open.new.attribute.committed_operations }
     ensures fields { open.new.fields ≡ open.old.fields }
 {
-    let saved = saved_in(alloc, bytes, told)?;
+    let saved = match saved_in(alloc, bytes, told) {
+        Ok(saved) => saved,
+        Err(stop) => return Err(stop),
+    };
     if !is_of_fields(&open.fields, &saved) {
         return Err(Stop::Other);
     }

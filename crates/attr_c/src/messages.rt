@@ -1,4 +1,7 @@
 //! The meaning of a code, in words.
+ghost use Rattle.std.specs.Prelude.{◌≡◌};
+ghost use Rattle.attr_c.specs.Copies.{Copies};
+ghost use Rattle.attr_c.specs.Messages.{call_message, line_message, message_of, query_message};
 
 use crate::codes::{
     ATTRIBUTES, BAD_ID, BAD_SAVE, BAD_VALUE, BOUNDS, COMMITS_SPENT, FULL, LINE_TOO_LONG, LOST,
@@ -8,7 +11,10 @@ use crate::codes::{
 };
 use crate::copying::copy_bytes;
 
-fn call_message(code: i32) -> &'static str {
+#[tactic(auto, unfolding(crate::specs::Messages::call_message))]
+fn call_message(code: i32) -> &'static str
+    ensures { result.now ≡ call_message code }
+{
     match code {
         OK => "no error",
         MEMORY => "out of memory",
@@ -25,7 +31,10 @@ fn call_message(code: i32) -> &'static str {
     }
 }
 
-fn query_message(code: i32) -> &'static str {
+#[tactic(auto, unfolding(crate::specs::Messages::query_message))]
+fn query_message(code: i32) -> &'static str
+    ensures { result.now ≡ query_message code }
+{
     match code {
         SYNTAX => "the text asks for nothing",
         NO_FIELD => "a name is none of the attributes",
@@ -36,7 +45,10 @@ fn query_message(code: i32) -> &'static str {
     }
 }
 
-fn line_message(code: i32) -> &'static str {
+#[tactic(auto, unfolding(crate::specs::Messages::line_message))]
+fn line_message(code: i32) -> &'static str
+    ensures { result.now ≡ line_message code }
+{
     match code {
         NOT_JSON => "the line is no JSON value",
         NO_OPERATION => "the line has not exactly one of put, update and remove",
@@ -52,7 +64,10 @@ fn line_message(code: i32) -> &'static str {
 }
 
 /// Returns the meaning of a code.
-pub fn message_of(code: i32) -> &'static str {
+#[tactic(auto, unfolding(crate::specs::Messages::message_of))]
+pub fn message_of(code: i32) -> &'static str
+    ensures { result.now ≡ message_of code }
+{
     if code < SYNTAX {
         call_message(code)
     } else if code < NOT_JSON {
@@ -64,12 +79,16 @@ pub fn message_of(code: i32) -> &'static str {
 
 /// Copies the meaning of a code, and returns the number of bytes.
 #[unsafe(no_mangle)]
-pub extern "C" fn attr_message(code: i32, into: &mut [u8]) -> usize {
+pub extern "C" fn attr_message(code: i32, into: &mut [u8]) -> usize
+    ensures { Copies (message_of code) 0 into.old into.new result }
+{
     copy_bytes(message_of(code).as_bytes(), into)
 }
 
 /// Returns 1,000,000 times the version, plus 1,000 times its second part, plus its last part.
 #[unsafe(no_mangle)]
-pub extern "C" fn attr_version() -> u32 {
+pub extern "C" fn attr_version() -> u32
+    ensures { result ≡ 2000 }
+{
     2_000
 }

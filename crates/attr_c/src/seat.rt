@@ -1,6 +1,6 @@
 //! What a reader's handle holds.
 ghost use Rattle.std.specs.Prelude.{◌≡◌, false};
-ghost use Rattle.attr_c.specs.Seats.{is_kept, kept_view, reader_view, IsTaken, LeavesGuard, Releases, TakesGuard};
+ghost use Rattle.attr_c.specs.Seats.{is_kept, kept_view, reader_view, IsEmptySeat, IsTaken, LeavesGuard, Releases, TakesGuard};
 
 use crate::answer::Answer;
 use crate::kept::Kept;
@@ -34,7 +34,9 @@ pub struct Seat {
 
 impl Seat {
     /// Returns a seat without a reader.
-    pub fn new(alloc: Global) -> Seat {
+    pub fn new(alloc: Global) -> Seat
+        ensures { IsEmptySeat result }
+    {
         Seat {
             place: None,
             answer: Answer::new(alloc),

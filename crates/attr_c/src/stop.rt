@@ -1,5 +1,6 @@
 //! Why a call of the writer stops.
-ghost use Rattle.std.specs.Prelude.{◌≡◌, ◌≢◌, pos};
+ghost use Rattle.std.specs.Prelude.{◌≡◌, ◌≢◌, pos, slice_index};
+ghost use Rattle.attr_c.specs.Holds.{with_hold, with_oldest};
 
 use crate::codes::{
     BAD_ID, BAD_SAVE, BAD_VALUE, COMMITS_SPENT, FULL, LINE_TOO_LONG, MEMORY, NO_OPERATION,
@@ -45,7 +46,9 @@ fn line_code(error: FeedError) -> i32
 }
 
 /// Returns the last commit at the time when a hold became the newest.
-fn since(counts: &Counts, hold: u32) -> u32 {
+fn since(counts: &Counts, hold: u32) -> u32
+    ensures { result ≡ slice_index counts.now.since hold }
+{
     match counts.since.get(hold as usize) {
         Some(commit) => *commit,
         None => 0,
@@ -53,17 +56,21 @@ fn since(counts: &Counts, hold: u32) -> u32 {
 }
 
 /// Notes the earliest commit on which the oldest reader may stand.
-pub fn note_oldest(counts: &mut Counts, oldest: Oldest) {
+pub fn note_oldest(counts: &mut Counts, oldest: Oldest)
+    ensures { counts.new ≡ with_oldest counts.old oldest }
+{
     counts.oldest = since(counts, oldest.hold);
     counts.is_held = if oldest.newest { 0 } else { 1 };
 }
 
 /// Notes the commit with which a hold began.
-pub fn note_advance(counts: &mut Counts, advance: Advance, commit: u32) {
+pub fn note_advance(counts: &mut Counts, advance: Advance, commit: u32)
+    ensures { counts.new ≡ with_hold counts.old advance commit }
+{
     if let Advance::To { hold, .. } = advance
-        && let Some(since) = counts.since.get_mut(hold as usize)
+        && (hold as usize) < counts.since.len()
     {
-        *since = commit;
+        counts.since[hold as usize] = commit;
     }
 }
 

@@ -1,8 +1,45 @@
-use Rattle.std.proofs.Common.{◌≡◌, ℤ, sym, ap, subst, rules, w32, to_z, of_z}
-use Rattle.attr_c.specs.Engines.{KeepsTables}
+use Rattle.std.proofs.Common.{◌≡◌, ℤ, sym, ap, subst, ◌∙◌, rules, w32, to_z, of_z}
+use Rattle.std.proofs.lemmas.Int.{to_z-of_z}
+use Rattle.attr_c.specs.Engines.{open_operations, open_table, KeepsTables}
 use Rattle.attr_c.specs.declared.state.AnyOpen.{AnyOpen}
 use Rattle.attr_c.specs.declared.state.AnyOpen.TheVariants.{Narrow, Wide}
 use Rattle.attr_c.proofs.commit_exports.attr_commit.Goals as goal
+
+pub returns-in-Narrow-clause-committed : goal.returns-in-Narrow-clause-committed
+returns-in-Narrow-clause-committed c = λ zero.
+    let is : c.args.at.now.value.open ≡ Narrow c.in-Narrow.open = search rules in
+    let ok = sym (to_z-of_z w32 c.commit_told.result (record { sfits = c.commit_told.type_inv })) ∙ zero in
+    subst (λ (o : AnyOpen). c.commit_told.new.open.attribute.committed ≡ open_table o) (sym is) (c.commit_told.ensures.committed ok)
+
+pub returns-in-Narrow-clause-published : goal.returns-in-Narrow-clause-published
+returns-in-Narrow-clause-published c = λ zero.
+    let is : c.args.at.now.value.open ≡ Narrow c.in-Narrow.open = search rules in
+    let ok = sym (to_z-of_z w32 c.commit_told.result (record { sfits = c.commit_told.type_inv })) ∙ zero in
+    subst (λ (o : AnyOpen). c.commit_told.new.open.attribute.committed_operations ≡ open_operations o) (sym is) (c.commit_told.ensures.published ok)
+
+pub returns-in-Narrow-clause-told : goal.returns-in-Narrow-clause-told
+returns-in-Narrow-clause-told c = λ zero.
+    let is : c.args.at.now.value.open ≡ Narrow c.in-Narrow.open = search rules in
+    let ok = sym (to_z-of_z w32 c.commit_told.result (record { sfits = c.commit_told.type_inv })) ∙ zero in
+    subst (λ (o : AnyOpen). c.commit_told.new.told.operations ≡ open_operations o) (sym is) (c.commit_told.ensures.told ok)
+
+pub returns-in-Wide-clause-committed : goal.returns-in-Wide-clause-committed
+returns-in-Wide-clause-committed c = λ zero.
+    let is : c.args.at.now.value.open ≡ Wide c.in-Wide.open = search rules in
+    let ok = sym (to_z-of_z w32 c.commit_told-in-Wide.result (record { sfits = c.commit_told-in-Wide.type_inv })) ∙ zero in
+    subst (λ (o : AnyOpen). c.commit_told-in-Wide.new.open.attribute.committed ≡ open_table o) (sym is) (c.commit_told-in-Wide.ensures.committed ok)
+
+pub returns-in-Wide-clause-published : goal.returns-in-Wide-clause-published
+returns-in-Wide-clause-published c = λ zero.
+    let is : c.args.at.now.value.open ≡ Wide c.in-Wide.open = search rules in
+    let ok = sym (to_z-of_z w32 c.commit_told-in-Wide.result (record { sfits = c.commit_told-in-Wide.type_inv })) ∙ zero in
+    subst (λ (o : AnyOpen). c.commit_told-in-Wide.new.open.attribute.committed_operations ≡ open_operations o) (sym is) (c.commit_told-in-Wide.ensures.published ok)
+
+pub returns-in-Wide-clause-told : goal.returns-in-Wide-clause-told
+returns-in-Wide-clause-told c = λ zero.
+    let is : c.args.at.now.value.open ≡ Wide c.in-Wide.open = search rules in
+    let ok = sym (to_z-of_z w32 c.commit_told-in-Wide.result (record { sfits = c.commit_told-in-Wide.type_inv })) ∙ zero in
+    subst (λ (o : AnyOpen). c.commit_told-in-Wide.new.told.operations ≡ open_operations o) (sym is) (c.commit_told-in-Wide.ensures.told ok)
 
 pub returns-in-Narrow-clause-left : goal.returns-in-Narrow-clause-left
 returns-in-Narrow-clause-left c = λ not.

@@ -1,0 +1,13 @@
+use Rattle.std.proofs.Common.{ℤ, ap, sym, ◌∙◌, w32, to_z, of_z}
+use Rattle.std.proofs.lemmas.Int.{to_z-of_z}
+use Rattle.attr_c.proofs.EndLemmas.{on_err_of, on_ok_of}
+use Rattle.attr_c.proofs.commit_exports.commit_told.Goals as goal
+
+pub returns-clause-committed : goal.returns-clause-committed
+returns-clause-committed g c = λ zero. on_ok_of c.commit-came.result (c.ended.ensures.ok (sym (to_z-of_z w32 c.ended.result (record { sfits = c.ended.type_inv })) ∙ zero)) c.commit-came.ensures.committed
+
+pub returns-clause-published : goal.returns-clause-published
+returns-clause-published g c = λ zero. on_ok_of c.commit-came.result (c.ended.ensures.ok (sym (to_z-of_z w32 c.ended.result (record { sfits = c.ended.type_inv })) ∙ zero)) c.commit-came.ensures.published
+
+pub returns-clause-left : goal.returns-clause-left
+returns-clause-left g c = λ not. on_err_of c.commit-came.result (c.ended.ensures.other (λ zero. not (ap (λ (z : ℤ). to_z w32 (of_z w32 z)) zero))) c.commit-came.ensures.left

@@ -1,0 +1,10 @@
+use Rattle.std.proofs.Common.{ℤ, ap, sym, ◌∙◌, w32, to_z, of_z}
+use Rattle.std.proofs.lemmas.Int.{to_z-of_z}
+use Rattle.attr_c.proofs.EndLemmas.{on_err_of, on_ok_of}
+use Rattle.attr_c.proofs.commit_exports.load_told.Goals as goal
+
+pub returns-clause-whole : goal.returns-clause-whole
+returns-clause-whole g c = λ zero. on_ok_of c.load-came.result (c.ended.ensures.ok (sym (to_z-of_z w32 c.ended.result (record { sfits = c.ended.type_inv })) ∙ zero)) c.load-came.ensures.whole
+
+pub returns-clause-front : goal.returns-clause-front
+returns-clause-front g c = λ not. on_err_of c.load-came.result (c.ended.ensures.other (λ zero. not (ap (λ (z : ℤ). to_z w32 (of_z w32 z)) zero))) c.load-came.ensures.front

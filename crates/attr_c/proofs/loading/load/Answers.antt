@@ -1,0 +1,35 @@
+use Rattle.std.proofs.Common.{List, refl, subst}
+use Rattle.std.proofs.lemmas.Result.{IfErr-weaker, IfOk-weaker}
+use Rattle.attr_saver.specs.declared.saved.SavedDocument.{SavedDocument}
+use Rattle.attr_c.specs.Loading.{IsSaveOf, PutsFront, PutsIn}
+use Rattle.attr_c.proofs.LoadLemmas.{loads_front, loads_none, loads_whole}
+use Rattle.attr_c.proofs.loading.load.Goals as goal
+
+pub returns-in-Err-clause-front : goal.returns-in-Err-clause-front
+returns-in-Err-clause-front g c =
+    let was = c.args.open.now in
+    loads_none was.fields was.attribute.table was.attribute.operations c.args.bytes.now was.attribute.table was.attribute.operations (record { table = refl; operations = refl })
+
+pub returns-then-not-is_of_fields-clause-front : goal.returns-then-not-is_of_fields-clause-front
+returns-then-not-is_of_fields-clause-front g c =
+    let was = c.args.open.now in
+    loads_none was.fields was.attribute.table was.attribute.operations c.args.bytes.now was.attribute.table was.attribute.operations (record { table = refl; operations = refl })
+
+pub returns-clause-whole : goal.returns-clause-whole
+returns-clause-whole g c =
+    let was = c.args.open.now in
+    let now = c.put_all.new.open.attribute in
+    let is_of : IsSaveOf was.fields c.in-Ok.saved = c.is_of_fields.ensures c.if-not-is_of_fields.false in
+    IfOk-weaker c.put_all.result _ _
+    (λ u puts. loads_whole was.fields was.attribute.table was.attribute.operations c.args.bytes.now now.table now.operations c.in-Ok.saved c.in-Ok.ensures is_of
+    (subst (λ (list : List SavedDocument). PutsIn was.fields list was.attribute.table now.table was.attribute.operations now.operations) c.into_vec.ensures puts))
+    c.put_all.ensures.whole
+
+pub returns-clause-front : goal.returns-clause-front
+returns-clause-front g c =
+    let was = c.args.open.now in
+    let now = c.put_all.new.open.attribute in
+    IfErr-weaker c.put_all.result _ _
+    (λ stop front. loads_front was.fields was.attribute.table was.attribute.operations c.args.bytes.now now.table now.operations c.in-Ok.saved c.in-Ok.ensures
+    (subst (λ (list : List SavedDocument). PutsFront was.fields list was.attribute.table now.table was.attribute.operations now.operations) c.into_vec.ensures front))
+    c.put_all.ensures.front
