@@ -107,7 +107,7 @@ impl<const OFFSET_BITS: u32> Readers<OFFSET_BITS> {
         requires shape { (reader_of guard.place.me.0).sizes.shape ≡ shape_of (types_of fields.now) }
         requires image { IsLawfulImage (reader_of guard.place.me.0).sizes.shape (words_at (seen_image (reader_of guard.place.me.0)))
             (seen_image (reader_of guard.place.me.0)).root }
-        ensures same { IfOk result (λ g. g ≡ guard) }
+        ensures same { IfOk result (λ g. g ≡ guard.entry) }
     {
         let (root, commit) = (guard.root(), guard.commit());
         let mut heard = Heard::new(alloc, guard);

@@ -12,7 +12,7 @@ use types.ByLocal.{alloc_all, pass_all, free_all, look_at, get, get_in, sets}
 use contract.Monad.{fact, fact_i}
 use contract.Running.{tables}
 use denote.Builtin.{RawPtr}
-use denote.Exit.{no}
+use denote.Exit.{yes}
 use denote.RattleType.{Valss, owns}
 use denote.RawPtr.{block_ptr}
 use denote.Signature.{plain, types_at}
@@ -32,12 +32,12 @@ use Rattle.attr_c.proofs.handles.OpenedSeat.of_loose.Statement.{statement}
 use Rattle.attr_c.proofs.handles.OpenedSeat.of_loose.Code as code
 
 abbrev stayed : Stays f.ended.signature.params f.ended.kept
-stayed = (stay_dropped (plain (λ _. Loose T Z LZ ghosts)) no, tt)
+stayed = (stay_dropped (plain (λ _. Loose T Z LZ ghosts)) yes, tt)
 
 pub of_loose_spec : {M : Type 1} → statement M
 of_loose_spec 𝓤 𝓛 𝓜 𝓡 wired =
     let c = f.clauses 𝓛 𝓜.mem 𝓡.returns in let 𝓣 = tables 𝓤 𝓛.H 𝓜 𝓡 𝓡.env in
-    proved_at 𝓛 f.ended stayed c 𝓜 𝓡 (Goes-dropped 𝓛 0 (plain (λ _. Loose T Z LZ ghosts)) no (λ κs x w. refl), tt)
+    proved_at 𝓛 f.ended stayed c 𝓜 𝓡 (Goes-dropped 𝓛 0 (plain (λ _. Loose T Z LZ ghosts)) yes (λ κs x w. refl), tt)
     f.Key.name code.function (code.unfolded 𝓤 𝓛.H 𝓜 𝓡 wired) (λ z are.
     let v = z.0.3.0 in let us = z.0.4.0 in
     let Post : Val → SProp 𝓤 = (walk_of 𝓛 f.ended stayed c).post z in let Run : List Val → SProp 𝓤 = λ ws. WpFn 𝓤 𝓛.H 𝓣.C 𝓣.Λ code.function ws Post in
