@@ -4,18 +4,18 @@ ghost use Rattle.arena_api.specs.Calls.{IsFresh};
 ghost use Rattle.attr_images.specs.Shapes.{shape_of, types_of};
 ghost use Rattle.attr_types.specs.declared.field.TheConstants.{MOST_FIELDS};
 
-use crate::items::{below, doc_at, items_of};
+use crate::course::{Course, Done, Source, apply_all};
+use crate::items::{self, below, doc_at, items_of};
 use crate::live::live_words;
-use crate::memory::one_field;
+use crate::memory::{new_attribute, one_field};
 use arena_api::{Frozen, Work};
 use attr_images::{AttrLayout, shape_of};
-use attr_types::{FieldItems, Fields, Kind, Op, ValueType, fits};
-use attribute_kinds::{AttrError, Attribute, Compacted, committed_work};
+use attr_types::{Fields, Kind, Op, ValueType};
+use attribute_kinds::{Attribute, committed_work};
 use entry_ref::EntryRef;
 use entry_store::EntryStore;
 use mem_work::MemWork;
 use std::alloc::{AllocError, Global};
-use store_api::Store;
 use test_kit::{NotedWork, Random};
 
 type Memory = NotedWork<22, MemWork<22, AttrLayout>>;
@@ -47,13 +47,13 @@ pub struct Updates {
 /// The result of a run.
 #[derive(Clone, Copy)]
 struct Told {
-    operations: u32,
-    commits: u32,
-    finished: u32,
-    /// The number of steps that found no space.
-    stopped: u32,
+    done: Done,
     /// The run ended before its last operation.
     full: bool,
+    /// The number of words of the buffers that are not free.
+    held: u64,
+    /// The number of live words, if they are counted.
+    live: u64,
 }
 
 /// Creates a memory of `buffers` buffers with 8,192 words each.
@@ -87,10 +87,7 @@ pub fn noted_attribute<const OFFSET_BITS: u32, W: Work<OFFSET_BITS, Layout = Att
     requires fresh { IsFresh (W.knows work) }
     ensures fields { IfOk result (λ a. a.fields ≡ fields.now) }
 {
-    match Attribute::create(alloc, NotedWork::new(alloc, work, noting), fields, dense) {
-        Ok(attribute) => Ok(attribute),
-        Err(_) => Err(AllocError),
-    }
+    new_attribute(alloc, NotedWork::new(alloc, work, noting), fields, dense)
 }
 
 /// Returns a number below `most`: with equal chances, or from one of 16 octaves.
@@ -114,13 +111,12 @@ fn put_of(
 ) -> Result<Op, AllocError> {
     let doc = doc_at(number.saturating_add(1));
     let items = items_of(alloc, load.kind, load.value, load.documents, random)?;
-    let items = FieldItems::of_one(alloc, items)?;
-    Ok(Op::Put { doc, items })
+    items::put_of(alloc, doc, items)
 }
 
 /// Returns operation `i`. The operations are the documents one after another, half of the updates, the removes, and
 /// the other half.
-fn op_of(alloc: Global, load: Updates, i: u32, random: &mut Random) -> Result<Op, AllocError> {
+pub fn op_of(alloc: Global, load: Updates, i: u32, random: &mut Random) -> Result<Op, AllocError> {
     if i < load.documents {
         return put_of(alloc, load, i, random);
     }
@@ -147,90 +143,6 @@ fn operations_of(load: Updates) -> u32 {
         .saturating_add(removes)
 }
 
-/// Makes one step of a compaction, as the loader does.
-fn step_one<const OFFSET_BITS: u32, S: Store<OFFSET_BITS, Layout = AttrLayout>>(
-    alloc: Global,
-    attribute: &mut Attribute<OFFSET_BITS, S>,
-    fields: &Fields,
-    load: Updates,
-    told: &mut Told,
-) -> Result<(), AllocError>
-    requires same { attribute.old.fields ≡ fields.now }
-    ensures same { attribute.new.fields ≡ fields.now }
-{
-    if load.keys == 0 {
-        return Ok(());
-    }
-    match attribute.compact_step(alloc, load.keys) {
-        Ok(Compacted::Finished(_)) => {
-            told.finished = told.finished.saturating_add(1);
-            Ok(())
-        }
-        Ok(Compacted::Idle) => Ok(()),
-        Ok(Compacted::Moved { stop, .. }) => {
-            if stop.is_some() {
-                told.stopped = told.stopped.saturating_add(1);
-            }
-            Ok(())
-        }
-        Err(AttrError::Full { .. }) => {
-            told.stopped = told.stopped.saturating_add(1);
-            Ok(())
-        }
-        Err(AttrError::CommitsSpent { .. }) => Err(AllocError),
-        Err(AttrError::Memory) => Err(AllocError),
-    }
-}
-
-/// Applies an operation, and commits if it is due.
-fn take_turn<const OFFSET_BITS: u32, S: Store<OFFSET_BITS, Layout = AttrLayout>>(
-    alloc: Global,
-    attribute: &mut Attribute<OFFSET_BITS, S>,
-    fields: &Fields,
-    load: Updates,
-    op: &Op,
-    told: &mut Told,
-) -> Result<(), AllocError>
-    requires same { attribute.old.fields ≡ fields.now }
-    ensures same { attribute.new.fields ≡ fields.now }
-{
-    if !fits(fields, op) || attribute.operations() == u32::MAX {
-        return Err(AllocError);
-    }
-    if attribute.apply(alloc, op).is_err() {
-        return Err(AllocError);
-    }
-    told.operations = told.operations.saturating_add(1);
-    if told.operations % load.batch.max(1) != 0 {
-        return Ok(());
-    }
-    if attribute.commit().is_err() {
-        return Err(AllocError);
-    }
-    told.commits = told.commits.saturating_add(1);
-    step_one(alloc, attribute, fields, load, told)
-}
-
-fn apply_all<const OFFSET_BITS: u32, W: Work<OFFSET_BITS, Layout = AttrLayout>>(
-    alloc: Global,
-    attribute: &mut Attribute<OFFSET_BITS, EntryStore<OFFSET_BITS, NotedWork<OFFSET_BITS, W>>>,
-    fields: &Fields,
-    load: Updates,
-    told: &mut Told,
-) -> Result<(), AllocError>
-    requires same { attribute.old.fields ≡ fields.now }
-    ensures same { attribute.new.fields ≡ fields.now }
-{
-    let mut random = Random::of_benchmarks();
-    for i in 0..operations_of(load) {
-        let op = op_of(alloc, load, i, &mut random)?;
-        if load.applies {
-            take_turn(alloc, attribute, fields, load, &op, told)?;
-        }
-    }
-    Ok(())
-}
-
 /// Returns the number of live words, or 0 if they are not counted.
 fn counted<const OFFSET_BITS: u32, W: Work<OFFSET_BITS>>(
     alloc: Global,
@@ -252,13 +164,14 @@ fn held_by<const OFFSET_BITS: u32, W: Work<OFFSET_BITS>>(work: &NotedWork<OFFSET
     u64::from(taken).saturating_mul(u64::from(work.words()))
 }
 
-/// Returns the result of a run, as a line.
-fn line_of(alloc: Global, told: Told, held: u64, live: u64) -> Result<String, AllocError> {
-    let (operations, commits) = (told.operations, told.commits);
-    let (finished, stopped, full) = (told.finished, told.stopped, told.full);
-    format!(in alloc;
-        "operations {operations} commits {commits} finished {finished} stopped {stopped} full {full} held {held} live {live}"
-    )
+fn course_of(load: Updates) -> Course {
+    let operations = operations_of(load);
+    Course {
+        operations,
+        applied: if load.applies { operations } else { 0 },
+        batch: load.batch,
+        keys: load.keys,
+    }
 }
 
 /// Returns the memory of attributes, with all that was committed, and the root of the last commit.
@@ -270,40 +183,46 @@ pub fn close(attribute: Kinds, fields: &Fields) -> (Memory, EntryRef<22>)
     (committed_work(store, fields, root), root)
 }
 
-/// The same for attributes at their last commit.
-fn closed(
-    alloc: Global,
-    attribute: Kinds,
-    fields: &Fields,
-    told: Told,
-) -> Result<String, AllocError>
-    requires same { attribute.fields ≡ fields.now }
-{
-    let (work, root) = close(attribute, fields);
-    let live = counted(alloc, fields, &work, root);
-    line_of(alloc, told, held_by(&work), live)
-}
-
-/// Makes a run, and returns its result as a line.
-fn told_of(alloc: Global, fields: &Fields, load: Updates) -> Result<String, AllocError>
+/// Makes a run.
+fn run(alloc: Global, fields: &Fields, load: Updates) -> Result<Told, AllocError>
     requires some { 0 < length fields.now }
     requires few { length fields.now ≤ MOST_FIELDS }
 {
     let work = new_memory(alloc, fields, load.buffers.max(1).min(1000))?;
     let mut attribute = noted_attribute(alloc, work, fields, load.counts, false)?;
-    let mut told = Told {
-        operations: 0,
-        commits: 0,
-        finished: 0,
-        stopped: 0,
-        full: false,
-    };
-    told.full = apply_all(alloc, &mut attribute, fields, load, &mut told).is_err();
-    closed(alloc, attribute, fields, told)
+    let mut done = Done::new();
+    let course = course_of(load);
+    let source = Source::Updates(load);
+    let full = apply_all(alloc, &mut attribute, fields, source, &course, &mut done).is_err();
+    let (work, root) = close(attribute, fields);
+    let held = held_by(&work);
+    let live = counted(alloc, fields, &work, root);
+    Ok(Told {
+        done,
+        full,
+        held,
+        live,
+    })
+}
+
+/// Returns the result of a run, as a line.
+fn line_of(alloc: Global, told: Told) -> Result<String, AllocError> {
+    let Told {
+        done,
+        full,
+        held,
+        live,
+    } = told;
+    let (operations, commits) = (done.operations, done.commits);
+    let (finished, stopped) = (done.finished, done.stopped);
+    format!(in alloc;
+        "operations {operations} commits {commits} finished {finished} stopped {stopped} full {full} held {held} live {live}"
+    )
 }
 
 /// Makes a run on one field, and returns its result as a line.
 pub fn updates_told(alloc: Global, load: Updates) -> Result<String, AllocError> {
     let fields = one_field(alloc, load.kind, load.value)?;
-    told_of(alloc, &fields, load)
+    let told = run(alloc, &fields, load)?;
+    line_of(alloc, told)
 }

@@ -1,17 +1,14 @@
 //! Additions, removals and reads of an index in a store of its own.
 use crate::items::value_at;
 use crate::postings::draws;
-use crate::stores::{index_memory, words_made};
+use crate::stores::{buffers_for, new_memory, words_made};
 use arena_api::Work;
 use attr_types::{Doc, Value, ValueType};
 use entry_store::EntryStore;
-use mem_work::{MemWork, OneRecord};
+use mem_work::OneRecord;
 use std::alloc::{AllocError, Global};
 use store_api::Store;
 use test_kit::{ValueLists, new_lists};
-
-/// An index over a memory without readers.
-type Lists = ValueLists<22, EntryStore<22, MemWork<22, OneRecord>>>;
 
 /// Postings are drawn over a number of values. The first of them are added, and the first of those removed.
 #[derive(Clone, Copy)]
@@ -38,6 +35,7 @@ pub struct Reads {
 struct Counts {
     added: u32,
     removed: u32,
+    words: u64,
 }
 
 /// Returns distinct values, in no order.
@@ -55,56 +53,57 @@ fn doc_at(i: u32, most: u32) -> Doc {
     Doc::new((u64::from(i) * 611_953 % u64::from(most)) as u32 + 1)
 }
 
-/// Adds the first postings. A full store is an error.
-fn add_all<const OFFSET_BITS: u32, S: Store<OFFSET_BITS>>(
+/// Adds a document to the list of a value, or removes it. A full store is an error.
+fn change_one<const OFFSET_BITS: u32, S: Store<OFFSET_BITS>>(
+    lists: &mut ValueLists<OFFSET_BITS, S>,
+    value: &Value,
+    doc: Doc,
+    adds: bool,
+) -> Result<(), AllocError> {
+    let changed = if adds {
+        lists.add(value, doc, 1)
+    } else {
+        lists.remove(value, doc)
+    };
+    match changed {
+        Ok(_) => Ok(()),
+        Err(_) => Err(AllocError),
+    }
+}
+
+/// Adds or removes the first `count` postings, and returns how many there were.
+fn change_first<const OFFSET_BITS: u32, S: Store<OFFSET_BITS>>(
     lists: &mut ValueLists<OFFSET_BITS, S>,
     values: &[Value],
     ranks: &[u32],
     most: u32,
+    count: u32,
+    adds: bool,
 ) -> Result<u32, AllocError> {
-    let mut added: u32 = 0;
+    let mut changed: u32 = 0;
     for rank in ranks {
+        if changed == count {
+            break;
+        }
         if let Some(value) = values.get(*rank as usize) {
-            if lists.add(value, doc_at(added, most), 1).is_err() {
-                return Err(AllocError);
-            }
-            added = added.saturating_add(1);
+            change_one(lists, value, doc_at(changed, most), adds)?;
+            changed = changed.saturating_add(1);
         }
     }
-    Ok(added)
+    Ok(changed)
 }
 
-/// Removes the first postings.
-fn remove_all<const OFFSET_BITS: u32, S: Store<OFFSET_BITS>>(
-    lists: &mut ValueLists<OFFSET_BITS, S>,
-    values: &[Value],
-    ranks: &[u32],
-    most: u32,
-) -> Result<u32, AllocError> {
-    let mut removed: u32 = 0;
-    for rank in ranks {
-        if let Some(value) = values.get(*rank as usize) {
-            if lists.remove(value, doc_at(removed, most)).is_err() {
-                return Err(AllocError);
-            }
-            removed = removed.saturating_add(1);
-        }
-    }
-    Ok(removed)
-}
-
-/// Adds the first postings, and removes the first of them.
+/// Adds the first postings, and removes the first of them. Returns how many were added, and how many removed.
 fn change_all<const OFFSET_BITS: u32, S: Store<OFFSET_BITS>>(
     lists: &mut ValueLists<OFFSET_BITS, S>,
     values: &[Value],
     ranks: &[u32],
     load: Changes,
-) -> Result<Counts, AllocError> {
-    let adds = (load.adds as usize).min(ranks.len());
-    let removes = (load.removes as usize).min(ranks.len());
-    let added = add_all(lists, values, &ranks[..adds], load.postings)?;
-    let removed = remove_all(lists, values, &ranks[..removes], load.postings)?;
-    Ok(Counts { added, removed })
+) -> Result<(u32, u32), AllocError> {
+    let most = load.postings;
+    let added = change_first(lists, values, ranks, most, load.adds, true)?;
+    let removed = change_first(lists, values, ranks, most, load.removes, false)?;
+    Ok((added, removed))
 }
 
 /// Adds and removes the postings of a run.
@@ -112,7 +111,7 @@ fn run<const OFFSET_BITS: u32, W: Work<OFFSET_BITS>>(
     alloc: Global,
     lists: &mut ValueLists<OFFSET_BITS, EntryStore<OFFSET_BITS, W>>,
     load: Changes,
-) -> Result<Counts, AllocError> {
+) -> Result<(u32, u32), AllocError> {
     let values = values_of(alloc, load.value_type, load.values)?;
     let ranks = draws(alloc, load.zipf, load.values, load.postings)?;
     change_all(lists, &values, &ranks, load)
@@ -125,9 +124,7 @@ fn fill_list<const OFFSET_BITS: u32, S: Store<OFFSET_BITS>>(
     documents: u32,
 ) -> Result<(), AllocError> {
     for i in 0..documents {
-        if lists.add(value, doc_at(i, documents), 1).is_err() {
-            return Err(AllocError);
-        }
+        change_one(lists, value, doc_at(i, documents), true)?;
     }
     Ok(())
 }
@@ -169,30 +166,45 @@ fn fill_and_read<const OFFSET_BITS: u32, W: Work<OFFSET_BITS>>(
     sum_of(lists, &values, load)
 }
 
-/// Returns the result of changes, as a line.
-fn line_of(alloc: Global, lists: Lists, counts: Counts) -> Result<String, AllocError> {
+/// Makes changes. The store is closed also if memory was exhausted, since dropping it is more expensive to prove.
+fn counts_of(alloc: Global, load: Changes) -> Result<Counts, AllocError> {
+    let work = new_memory::<OneRecord>(alloc, buffers_for(load.postings))?;
+    let mut lists = new_lists(alloc, work, load.value_type)?;
+    let counts = run(alloc, &mut lists, load);
     let store = lists.into_store();
     let words = words_made(&store);
-    let (added, removed) = (counts.added, counts.removed);
-    format!(in alloc; "added {added} removed {removed} words {words}")
+    let _ = store.into_work();
+    match counts {
+        Ok((added, removed)) => Ok(Counts {
+            added,
+            removed,
+            words,
+        }),
+        Err(_) => Err(AllocError),
+    }
 }
 
 /// Makes changes, and returns the result as a line.
 pub fn changes_told(alloc: Global, load: Changes) -> Result<String, AllocError> {
-    let work = index_memory(alloc, load.postings)?;
-    let mut lists = new_lists(alloc, work, load.value_type)?;
-    let counts = run(alloc, &mut lists, load)?;
-    line_of(alloc, lists, counts)
+    let Counts {
+        added,
+        removed,
+        words,
+    } = counts_of(alloc, load)?;
+    format!(in alloc; "added {added} removed {removed} words {words}")
 }
 
-fn sum_read(alloc: Global, load: Reads) -> Result<u64, AllocError> {
-    let work = index_memory(alloc, load.values.saturating_mul(load.documents))?;
+fn sum_alone(alloc: Global, load: Reads) -> Result<u64, AllocError> {
+    let postings = load.values.saturating_mul(load.documents);
+    let work = new_memory::<OneRecord>(alloc, buffers_for(postings))?;
     let mut lists = new_lists(alloc, work, load.value_type)?;
-    fill_and_read(alloc, &mut lists, load)
+    let sum = fill_and_read(alloc, &mut lists, load);
+    let _ = lists.into_store().into_work();
+    sum
 }
 
 /// Makes reads, and returns the result as a line.
 pub fn reads_told(alloc: Global, load: Reads) -> Result<String, AllocError> {
-    let sum = sum_read(alloc, load)?;
+    let sum = sum_alone(alloc, load)?;
     format!(in alloc; "sum {sum}")
 }

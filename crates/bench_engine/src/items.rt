@@ -1,5 +1,5 @@
 //! Pseudorandom documents, values and items.
-use attr_types::{Doc, Item, Items, Kind, Text, Value, ValueType};
+use attr_types::{Doc, FieldItems, Item, Items, Kind, Op, Text, Value, ValueType};
 use std::alloc::{AllocError, Global};
 use test_kit::{Random, text_of};
 
@@ -77,11 +77,18 @@ pub fn items_of(
     most: u32,
     random: &mut Random,
 ) -> Result<Items, AllocError> {
+    let count = if matches!(kind, Kind::Single) { 1 } else { 3 };
+    let values = values_of(alloc, value, count, most, random)?;
     match kind {
-        Kind::Single => of_weight_one(alloc, values_of(alloc, value, 1, most, random)?),
-        Kind::Array => of_weight_one(alloc, values_of(alloc, value, 3, most, random)?),
-        Kind::WeightedSet => weighed(alloc, values_of(alloc, value, 3, most, random)?),
+        Kind::Single | Kind::Array => of_weight_one(alloc, values),
+        Kind::WeightedSet => weighed(alloc, values),
     }
+}
+
+/// Returns the put of items to the one field of a document.
+pub fn put_of(alloc: Global, doc: Doc, items: Items) -> Result<Op, AllocError> {
+    let items = FieldItems::of_one(alloc, items)?;
+    Ok(Op::Put { doc, items })
 }
 
 /// Returns the document of a number, which is at least 1.

@@ -20,36 +20,40 @@ pub struct Frequent {
     pub dense: bool,
 }
 
-/// Returns the number of lists and of their words, as a line.
-fn line_of<const OFFSET_BITS: u32, W: Work<OFFSET_BITS>>(
+/// Returns the number of lists and of their words.
+fn counted<const OFFSET_BITS: u32, W: Work<OFFSET_BITS>>(
     alloc: Global,
     fields: &Fields,
     work: &NotedWork<OFFSET_BITS, W>,
     root: EntryRef<OFFSET_BITS>,
-) -> Result<String, AllocError> {
+) -> Result<(usize, u64), AllocError> {
     let (Some(records), Some(field)) = (work.records(), fields.as_slice().get(0)) else {
         return Err(AllocError);
     };
     let root = u64::from(root.raw());
-    let (lists, words) = lists_words(alloc, field, records, root).unwrap_or((0, 0));
-    format!(in alloc; "lists {lists} words {words}")
+    Ok(lists_words(alloc, field, records, root).unwrap_or((0, 0)))
 }
 
-/// Makes a run, and returns its result as a line.
-fn told_of(alloc: Global, fields: &Fields, load: Frequent) -> Result<String, AllocError>
+/// Makes a run, and returns these numbers. The store is closed also if memory was exhausted, since dropping it is more
+/// expensive to prove.
+fn counts_of(alloc: Global, fields: &Fields, load: Frequent) -> Result<(usize, u64), AllocError>
     requires some { 0 < length fields.now }
     requires few { length fields.now ≤ MOST_FIELDS }
 {
     let work = new_memory(alloc, fields, load.buffers.max(1).min(1000))?;
     let mut attribute = noted_attribute(alloc, work, fields, true, load.dense)?;
     let documents = load.documents.min(1_000_000);
-    fill(alloc, &mut attribute, fields, Question::Quarters, documents)?;
+    let filled = fill(alloc, &mut attribute, fields, Question::Quarters, documents);
     let (work, root) = close(attribute, fields);
-    line_of(alloc, fields, &work, root)
+    match filled {
+        Ok(()) => counted(alloc, fields, &work, root),
+        Err(_) => Err(AllocError),
+    }
 }
 
 /// Makes a run on an array of numbers, and returns its result as a line.
 pub fn lists_told(alloc: Global, load: Frequent) -> Result<String, AllocError> {
     let fields = one_field(alloc, Kind::Array, ValueType::Long)?;
-    told_of(alloc, &fields, load)
+    let (lists, words) = counts_of(alloc, &fields, load)?;
+    format!(in alloc; "lists {lists} words {words}")
 }

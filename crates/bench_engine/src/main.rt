@@ -4,6 +4,7 @@
 
 mod commit;
 mod compaction;
+mod course;
 mod index_run;
 mod items;
 mod lists;
@@ -30,6 +31,17 @@ use std::alloc::{AllocError, Global};
 use std::io;
 use std::process::ExitCode;
 
+/// The lines of the usage.
+const USAGE: &str = "\
+    bench_engine store ROUNDS UNITS ENTRIES BUFFERS\n\
+    bench_engine tree ascending|descending|random KEYS FINDS WALKS REMOVES\n\
+    bench_engine index uniform|zipf long|text VALUES POSTINGS ADDS REMOVES\n\
+    bench_engine index reads long|text VALUES DOCUMENTS ROUNDS\n\
+    bench_engine attribute single|array|weightedset long|text OPERATIONS APPLIED BATCH BUFFERS [dense]\n\
+    bench_engine attribute queries none|term|terms|range|wide|quarters DOCUMENTS ROUNDS BUFFERS [dense]\n\
+    bench_engine attribute lists DOCUMENTS BUFFERS [dense]\n\
+    bench_engine compaction KIND long|text DOCUMENTS UPDATES LEFT BATCH BUFFERS uniform|zipf APPLIES KEYS COUNTS";
+
 /// Returns the result of a workload, as a line.
 fn told(alloc: Global, workload: Workload) -> Result<String, AllocError> {
     match workload {
@@ -44,27 +56,10 @@ fn told(alloc: Global, workload: Workload) -> Result<String, AllocError> {
     }
 }
 
-fn print_usage(rt: &HostRuntime) -> io::Result<()> {
-    println!(rt; "bench_engine store ROUNDS UNITS ENTRIES BUFFERS")?;
-    println!(rt; "bench_engine tree ascending|descending|random KEYS FINDS WALKS REMOVES")?;
-    println!(rt; "bench_engine index uniform|zipf long|text VALUES POSTINGS ADDS REMOVES")?;
-    println!(rt; "bench_engine index reads long|text VALUES DOCUMENTS ROUNDS")?;
-    println!(rt;
-        "bench_engine attribute single|array|weightedset long|text OPERATIONS APPLIED BATCH BUFFERS [dense]"
-    )?;
-    println!(rt;
-        "bench_engine attribute queries none|term|terms|range|wide|quarters DOCUMENTS ROUNDS BUFFERS [dense]"
-    )?;
-    println!(rt; "bench_engine attribute lists DOCUMENTS BUFFERS [dense]")?;
-    println!(rt;
-        "bench_engine compaction KIND long|text DOCUMENTS UPDATES LEFT BATCH BUFFERS uniform|zipf APPLIES KEYS COUNTS"
-    )
-}
-
 /// Runs the workload that words select, and prints its result. Returns whether it succeeded.
 fn run(rt: &HostRuntime, words: &[String]) -> io::Result<bool> {
     let Some(workload) = workload_in(words) else {
-        print_usage(rt)?;
+        println!(rt; "{USAGE}")?;
         return Ok(false);
     };
     let text = told(rt.alloc(), workload)?;

@@ -5,18 +5,18 @@ ghost use Rattle.attr_images.specs.Images.{IsLawfulImage};
 ghost use Rattle.attr_images.specs.Shapes.{shape_of, types_of};
 ghost use Rattle.attr_types.specs.declared.field.TheConstants.{MOST_FIELDS};
 
-use crate::items::doc_at;
-use crate::memory::{Kinds, Memory, apply_one, commit_one, new_attribute, new_memory, one_field};
+use crate::course::{Course, Done, Source, apply_all};
+use crate::items::{self, doc_at};
+use crate::memory::{Kinds, Memory, commit_one, new_attribute, new_memory, one_field};
 use arena_api::{Frozen, Work};
 use attr_images::AttrLayout;
-use attr_types::{FieldItems, Fields, Item, Items, Kind, Leaf, Op, Query, Value, ValueType};
+use attr_types::{Fields, Item, Items, Kind, Leaf, Op, Query, Value, ValueType};
 use attribute_kinds::{Attribute, committed_work};
 use entry_ref::EntryRef;
 use entry_store::EntryStore;
 use mem_work::MemWork;
 use query_eval::hits;
 use std::alloc::{AllocError, Global};
-use store_api::Store;
 
 /// The kind of the query.
 #[derive(Clone, Copy)]
@@ -45,61 +45,31 @@ pub struct Asks {
     pub dense: bool,
 }
 
-fn push_number(items: &mut Items, number: u32) -> Result<(), AllocError> {
-    let value = Value::Long(i64::from(number));
-    items.push(Item { value, weight: 1 })?;
-    Ok(())
-}
-
-fn thirds_of(alloc: Global, number: u32) -> Result<Items, AllocError> {
+/// Returns these numbers as items of weight 1.
+fn items_of(alloc: Global, numbers: &[u32]) -> Result<Items, AllocError> {
     let mut items = Items::new(alloc);
-    push_number(&mut items, number % 3)?;
-    push_number(&mut items, number % 10 + 10)?;
-    push_number(&mut items, number / 9 + 1000)?;
+    for number in numbers {
+        let value = Value::Long(i64::from(*number));
+        items.push(Item { value, weight: 1 })?;
+    }
     Ok(items)
 }
 
-fn quarters_of(alloc: Global, number: u32) -> Result<Items, AllocError> {
-    let mut items = Items::new(alloc);
-    push_number(&mut items, number % 4)?;
-    push_number(&mut items, number / 4 % 4 + 10)?;
-    Ok(items)
-}
-
+/// Returns the items of the document with this number.
 fn items_for(alloc: Global, question: Question, number: u32) -> Result<Items, AllocError> {
     match question {
-        Question::Quarters => quarters_of(alloc, number),
-        _ => thirds_of(alloc, number),
+        Question::Quarters => items_of(alloc, &[number % 4, number / 4 % 4 + 10]),
+        _ => items_of(alloc, &[number % 3, number % 10 + 10, number / 9 + 1000]),
     }
 }
 
-fn put_of(alloc: Global, question: Question, number: u32) -> Result<Op, AllocError> {
+/// Returns the put of the document with this number.
+pub fn put_of(alloc: Global, question: Question, number: u32) -> Result<Op, AllocError> {
     let items = items_for(alloc, question, number)?;
-    let items = FieldItems::of_one(alloc, items)?;
-    let doc = doc_at(number);
-    Ok(Op::Put { doc, items })
+    items::put_of(alloc, doc_at(number), items)
 }
 
-/// Puts a document, and commits after each thousandth.
-fn put_one<const OFFSET_BITS: u32, S: Store<OFFSET_BITS, Layout = AttrLayout>>(
-    alloc: Global,
-    attribute: &mut Attribute<OFFSET_BITS, S>,
-    fields: &Fields,
-    question: Question,
-    i: u32,
-) -> Result<(), AllocError>
-    requires same { attribute.old.fields ≡ fields.now }
-    ensures same { attribute.new.fields ≡ fields.now }
-{
-    let put = put_of(alloc, question, i.saturating_add(1))?;
-    apply_one(alloc, attribute, fields, &put)?;
-    if i % 1000 == 999 {
-        return commit_one(attribute, fields);
-    }
-    Ok(())
-}
-
-/// Puts the documents of a question, and commits.
+/// Puts the documents of a question, and commits after each thousandth and after the last.
 pub fn fill<const OFFSET_BITS: u32, W: Work<OFFSET_BITS, Layout = AttrLayout>>(
     alloc: Global,
     attribute: &mut Attribute<OFFSET_BITS, EntryStore<OFFSET_BITS, W>>,
@@ -110,61 +80,85 @@ pub fn fill<const OFFSET_BITS: u32, W: Work<OFFSET_BITS, Layout = AttrLayout>>(
     requires same { attribute.old.fields ≡ fields.now }
     ensures same { attribute.new.fields ≡ fields.now }
 {
-    for i in 0..documents {
-        put_one(alloc, attribute, fields, question, i)?;
-    }
+    let course = Course {
+        operations: documents,
+        applied: documents,
+        batch: 1000,
+        keys: 0,
+    };
+    let source = Source::Queries(question);
+    apply_all(alloc, attribute, fields, source, &course, &mut Done::new())?;
     commit_one(attribute, fields)
 }
 
-fn is(number: u32) -> Query {
-    let leaf = Leaf::Is(Value::Long(i64::from(number)));
-    Query::One { field: 0, leaf }
-}
-
-fn between(low: u32, high: u32) -> Query {
+/// Returns the query for the numbers from `low` to `high`.
+fn query_at(low: u32, high: u32) -> Query {
+    let first = Value::Long(i64::from(low));
+    if low == high {
+        let leaf = Leaf::Is(first);
+        return Query::One { field: 0, leaf };
+    }
     let leaf = Leaf::Range {
-        low: Some(Value::Long(i64::from(low))),
+        low: Some(first),
         high: Some(Value::Long(i64::from(high))),
     };
     Query::One { field: 0, leaf }
 }
 
-fn both(alloc: Global, first: Query, second: Query) -> Result<Query, AllocError> {
+/// Returns the query for documents that have a number of each of these ranges.
+fn all_of(alloc: Global, ranges: &[(u32, u32)]) -> Result<Query, AllocError> {
     let mut members = Vec::new(alloc);
-    members.push(first)?;
-    members.push(second)?;
+    for range in ranges {
+        members.push(query_at(range.0, range.1))?;
+    }
     Ok(Query::And(members))
 }
 
 /// Returns the query of a round.
 fn query_of(alloc: Global, asks: Asks, round: u32) -> Result<Query, AllocError> {
+    let (third, tenth) = (round % 3, round % 10 + 10);
+    let (one, other) = (round % 4, round / 4 % 4 + 10);
     match asks.question {
         Question::Nothing => Ok(Query::Or(Vec::new(alloc))),
-        Question::Term => Ok(is(round % 10 + 10)),
-        Question::Terms => both(alloc, is(round % 3), is(round % 10 + 10)),
+        Question::Term => Ok(query_at(tenth, tenth)),
+        Question::Terms => all_of(alloc, &[(third, third), (tenth, tenth)]),
         Question::Range => {
             let rare = asks.documents / 9;
             let first = round.wrapping_mul(37) % rare.max(1) + 1000;
-            Ok(between(first, first + 10))
+            Ok(query_at(first, first + 10))
         }
-        Question::Wide => both(alloc, between(0, 19), between(15, 1_000_000_000)),
-        Question::Quarters => both(alloc, is(round % 4), is(round / 4 % 4 + 10)),
+        Question::Wide => all_of(alloc, &[(0, 19), (15, 1_000_000_000)]),
+        Question::Quarters => all_of(alloc, &[(one, one), (other, other)]),
     }
 }
 
-/// Returns the sum of the documents of a query.
+/// Adds the query of a round. It is put into a list, since dropping a query itself is expensive to prove.
+fn push_query(
+    alloc: Global,
+    queries: &mut Vec<Query>,
+    asks: Asks,
+    round: u32,
+) -> Result<(), AllocError> {
+    queries.push(query_of(alloc, asks, round)?)?;
+    Ok(())
+}
+
+/// Returns the sum of the documents of the first of these queries.
 fn sum_of<F: Frozen<22>>(
     alloc: Global,
     frozen: &mut F,
     root: EntryRef<22>,
     fields: &Fields,
-    query: &Query,
+    queries: &[Query],
 ) -> Result<u64, AllocError>
     requires few { length fields.now ≤ MOST_FIELDS }
     requires shape { F.shape frozen.old ≡ shape_of (types_of fields.now) }
     requires image { IsLawfulImage (F.shape frozen.old) (F.records frozen.old) root }
     ensures same { frozen.new ≡ frozen.old }
 {
+    let Some(query) = queries.first() else {
+        return Ok(0);
+    };
     let docs = hits(alloc, frozen, root, fields, query)?;
     let mut sum: u64 = 0;
     for doc in docs.as_slice() {
@@ -187,8 +181,9 @@ fn ask_one<F: Frozen<22>>(
     requires image { IsLawfulImage (F.shape frozen.old) (F.records frozen.old) root }
     ensures same { frozen.new ≡ frozen.old }
 {
-    let query = query_of(alloc, asks, round)?;
-    sum_of(alloc, frozen, root, fields, &query)
+    let mut queries = Vec::new(alloc);
+    push_query(alloc, &mut queries, asks, round)?;
+    sum_of(alloc, frozen, root, fields, &queries)
 }
 
 /// Returns the sum over all rounds.
@@ -223,35 +218,26 @@ fn close(attribute: Kinds, fields: &Fields) -> (Memory, EntryRef<22>)
     (committed_work(store, fields, root), root)
 }
 
-/// Asks the last commit of attributes, and returns the result as a line.
-fn line_of(
-    alloc: Global,
-    attribute: Kinds,
-    fields: &Fields,
-    asks: Asks,
-) -> Result<String, AllocError>
-    requires few { length fields.now ≤ MOST_FIELDS }
-    requires same { attribute.fields ≡ fields.now }
-{
-    let (mut work, root) = close(attribute, fields);
-    let sum = ask_each(alloc, &mut work, root, fields, asks)?;
-    format!(in alloc; "sum {sum}")
-}
-
-/// Makes a run, and returns its result as a line.
-fn told_of(alloc: Global, fields: &Fields, asks: Asks) -> Result<String, AllocError>
+/// Makes a run, and returns the sum over all rounds. The store is closed also if memory was exhausted, since dropping
+/// it is more expensive to prove.
+fn sum_alone(alloc: Global, fields: &Fields, asks: Asks) -> Result<u64, AllocError>
     requires some { 0 < length fields.now }
     requires few { length fields.now ≤ MOST_FIELDS }
 {
     let work = new_memory(alloc, fields, asks.buffers.max(1).min(1000))?;
     let mut attribute = new_attribute(alloc, work, fields, asks.dense)?;
     let documents = asks.documents.min(1_000_000);
-    fill(alloc, &mut attribute, fields, asks.question, documents)?;
-    line_of(alloc, attribute, fields, asks)
+    let filled = fill(alloc, &mut attribute, fields, asks.question, documents);
+    let (mut work, root) = close(attribute, fields);
+    match filled {
+        Ok(()) => ask_each(alloc, &mut work, root, fields, asks),
+        Err(_) => Err(AllocError),
+    }
 }
 
 /// Makes a run on an array of numbers, and returns its result as a line.
 pub fn asked_told(alloc: Global, asks: Asks) -> Result<String, AllocError> {
     let fields = one_field(alloc, Kind::Array, ValueType::Long)?;
-    told_of(alloc, &fields, asks)
+    let sum = sum_alone(alloc, &fields, asks)?;
+    format!(in alloc; "sum {sum}")
 }

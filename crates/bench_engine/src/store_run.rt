@@ -60,13 +60,15 @@ fn run_store<const OFFSET_BITS: u32, S: Store<OFFSET_BITS, Layout = OneRecord>>(
 }
 
 /// Makes the rounds of a run over a store of its own, of 1 to 1,023 buffers, and returns their number and the number
-/// of entries made.
-fn store_run_of(alloc: Global, load: StoreLoad) -> Result<(u64, u64), StoreError> {
+/// of entries made. The store is closed, since dropping it is more expensive to prove.
+fn counts_of(alloc: Global, load: StoreLoad) -> Result<(u64, u64), StoreError> {
     let buffers = load.buffers.max(1).min(1023);
     match new_store::<OneRecord>(alloc, buffers) {
         Ok(mut store) => {
-            let rounds = run_store(alloc, &mut store, load)?;
-            Ok((rounds, store.made(NODE_WORDS as u32)))
+            let rounds = run_store(alloc, &mut store, load);
+            let made = store.made(NODE_WORDS as u32);
+            let _ = store.into_work();
+            Ok((rounds?, made))
         }
         Err(_) => Err(StoreError::Memory),
     }
@@ -74,7 +76,7 @@ fn store_run_of(alloc: Global, load: StoreLoad) -> Result<(u64, u64), StoreError
 
 /// Makes a run, and returns its result as a line.
 pub fn store_told(alloc: Global, load: StoreLoad) -> Result<String, AllocError> {
-    match store_run_of(alloc, load) {
+    match counts_of(alloc, load) {
         Ok((rounds, made)) => format!(in alloc; "rounds {rounds} made {made}"),
         Err(_) => Err(AllocError),
     }

@@ -177,12 +177,15 @@ fn buffers_for(keys: u64) -> u32
     (keys / 12_000).min(1_000) as u32 + 3
 }
 
-/// Makes a run over a tree in a store of its own, and returns the counts and the number of nodes made.
-fn tree_run_of(alloc: Global, load: &TreeLoad) -> Result<(TreeCounts, u64), StoreError> {
+/// Makes a run over a tree in a store of its own, and returns the counts and the number of nodes made. The store is
+/// closed, since dropping it is more expensive to prove.
+fn counts_of(alloc: Global, load: &TreeLoad) -> Result<(TreeCounts, u64), StoreError> {
     match new_store::<TreeLayout>(alloc, buffers_for(load.keys)) {
         Ok(store) => {
             let (store, counts) = run_tree(NumberTree::new(store), load)?;
-            Ok((counts, store.made(NODE_WORDS as u32)))
+            let made = store.made(NODE_WORDS as u32);
+            let _ = store.into_work();
+            Ok((counts, made))
         }
         Err(_) => Err(StoreError::Memory),
     }
@@ -190,7 +193,7 @@ fn tree_run_of(alloc: Global, load: &TreeLoad) -> Result<(TreeCounts, u64), Stor
 
 /// Makes a run, and returns its result as a line.
 pub fn tree_told(alloc: Global, load: &TreeLoad) -> Result<String, AllocError> {
-    match tree_run_of(alloc, load) {
+    match counts_of(alloc, load) {
         Ok((counts, nodes)) => format!(in alloc;
             "nodes {nodes} found {} walked {} left {}",
             counts.found, counts.walked, counts.left

@@ -67,76 +67,44 @@ fn question_of(name: &str) -> Option<Question> {
     }
 }
 
-fn kind_at(words: &[String], place: usize) -> Option<Kind> {
-    kind_of(words.get(place)?.as_str())
-}
-
-fn type_at(words: &[String], place: usize) -> Option<ValueType> {
-    type_of(words.get(place)?.as_str())
-}
-
-fn question_at(words: &[String], place: usize) -> Option<Question> {
-    question_of(words.get(place)?.as_str())
-}
-
-fn order_at(words: &[String], place: usize) -> Option<Order> {
-    order_of(words.get(place)?.as_str())
-}
-
-fn is_at(words: &[String], place: usize, wanted: &str) -> Option<bool> {
-    Some(words.get(place)?.as_str() == wanted)
-}
-
-/// Returns whether there is a word at a place, and it is this one.
-fn has_at(words: &[String], place: usize, wanted: &str) -> bool {
+/// Returns a word, or the empty one if there is none.
+fn word_at(words: &[String], place: usize) -> &str {
     match words.get(place) {
-        Some(word) => word.as_str() == wanted,
-        None => false,
+        Some(word) => word.as_str(),
+        None => "",
     }
-}
-
-fn number_at(words: &[String], place: usize) -> Option<u32> {
-    words.get(place)?.parse::<u32>().ok()
 }
 
 /// Returns `many` numbers, at most five, from a place on, followed by zeros.
 fn numbers_at(words: &[String], place: usize, many: usize) -> Option<[u32; 5]> {
     let mut numbers = [0; 5];
     for i in 0..many.min(5) {
-        numbers[i] = number_at(words, place.saturating_add(i))?;
-    }
-    Some(numbers)
-}
-
-/// Returns the four numbers of 64 bits from a place on.
-fn four_at(words: &[String], place: usize) -> Option<[u64; 4]> {
-    let mut numbers = [0; 4];
-    for i in 0..4 {
-        numbers[i] = words.get(place.saturating_add(i))?.parse::<u64>().ok()?;
+        let word = word_at(words, place.saturating_add(i));
+        numbers[i] = word.parse::<u32>().ok()?;
     }
     Some(numbers)
 }
 
 /// `store ROUNDS UNITS ENTRIES BUFFERS`.
 fn store_in(words: &[String]) -> Option<Workload> {
-    let numbers = four_at(words, 1)?;
+    let [rounds, units, entries, buffers, _] = numbers_at(words, 1, 4)?;
     Some(Workload::Store(StoreLoad {
-        rounds: numbers[0],
-        units: numbers[1],
-        entries: u32::try_from(numbers[2]).ok()?,
-        buffers: u32::try_from(numbers[3]).ok()?,
+        rounds: u64::from(rounds),
+        units: u64::from(units),
+        entries,
+        buffers,
     }))
 }
 
 /// `tree ascending|descending|random KEYS FINDS WALKS REMOVES`.
 fn tree_in(words: &[String]) -> Option<Workload> {
-    let numbers = four_at(words, 2)?;
+    let [keys, finds, walks, removes, _] = numbers_at(words, 2, 4)?;
     Some(Workload::Tree(TreeLoad {
-        order: order_at(words, 1)?,
-        keys: numbers[0],
-        finds: numbers[1],
-        walks: numbers[2],
-        removes: numbers[3],
+        order: order_of(word_at(words, 1))?,
+        keys: u64::from(keys),
+        finds: u64::from(finds),
+        walks: u64::from(walks),
+        removes: u64::from(removes),
     }))
 }
 
@@ -144,7 +112,7 @@ fn tree_in(words: &[String]) -> Option<Workload> {
 fn reads_in(words: &[String]) -> Option<Workload> {
     let [values, documents, rounds, ..] = numbers_at(words, 3, 3)?;
     Some(Workload::Reads(Reads {
-        value_type: type_at(words, 2)?,
+        value_type: type_of(word_at(words, 2))?,
         values,
         documents,
         rounds,
@@ -155,8 +123,8 @@ fn reads_in(words: &[String]) -> Option<Workload> {
 fn changes_in(words: &[String]) -> Option<Workload> {
     let [values, postings, adds, removes, _] = numbers_at(words, 3, 4)?;
     Some(Workload::Changes(Changes {
-        value_type: type_at(words, 2)?,
-        zipf: is_at(words, 1, "zipf")?,
+        value_type: type_of(word_at(words, 2))?,
+        zipf: word_at(words, 1) == "zipf",
         values,
         postings,
         adds,
@@ -168,11 +136,11 @@ fn changes_in(words: &[String]) -> Option<Workload> {
 fn queries_in(words: &[String]) -> Option<Workload> {
     let [documents, rounds, buffers, ..] = numbers_at(words, 3, 3)?;
     Some(Workload::Queries(Asks {
-        question: question_at(words, 2)?,
+        question: question_of(word_at(words, 2))?,
         documents,
         rounds,
         buffers,
-        dense: has_at(words, 6, "dense"),
+        dense: word_at(words, 6) == "dense",
     }))
 }
 
@@ -182,7 +150,7 @@ fn lists_in(words: &[String]) -> Option<Workload> {
     Some(Workload::Lists(Frequent {
         documents,
         buffers,
-        dense: has_at(words, 4, "dense"),
+        dense: word_at(words, 4) == "dense",
     }))
 }
 
@@ -190,49 +158,46 @@ fn lists_in(words: &[String]) -> Option<Workload> {
 fn operations_in(words: &[String]) -> Option<Workload> {
     let [operations, applied, batch, buffers, _] = numbers_at(words, 3, 4)?;
     Some(Workload::Operations(Load {
-        kind: kind_at(words, 1)?,
-        value: type_at(words, 2)?,
+        kind: kind_of(word_at(words, 1))?,
+        value: type_of(word_at(words, 2))?,
         operations,
         applied,
         batch,
         buffers,
-        dense: has_at(words, 7, "dense"),
+        dense: word_at(words, 7) == "dense",
     }))
 }
 
 /// `compaction KIND long|text DOCUMENTS UPDATES LEFT BATCH BUFFERS uniform|zipf APPLIES KEYS COUNTS`.
 fn updates_in(words: &[String]) -> Option<Workload> {
     let [documents, updates, left, batch, buffers] = numbers_at(words, 3, 5)?;
+    let [applies, keys, counts, ..] = numbers_at(words, 9, 3)?;
     Some(Workload::Updates(Updates {
-        kind: kind_at(words, 1)?,
-        value: type_at(words, 2)?,
+        kind: kind_of(word_at(words, 1))?,
+        value: type_of(word_at(words, 2))?,
         documents: documents.min(1_000_000),
         updates,
         left,
         batch,
         buffers,
-        zipf: is_at(words, 8, "zipf")?,
-        applies: is_at(words, 9, "1")?,
-        keys: number_at(words, 10)?,
-        counts: is_at(words, 11, "1")?,
+        zipf: word_at(words, 8) == "zipf",
+        applies: applies == 1,
+        keys,
+        counts: counts == 1,
     }))
 }
 
 /// Returns the workload that the words select. The first word is the name of the script that times it.
 pub fn workload_in(words: &[String]) -> Option<Workload> {
-    match words.first()?.as_str() {
-        "store" => store_in(words),
-        "tree" => tree_in(words),
-        "index" => match words.get(1)?.as_str() {
-            "reads" => reads_in(words),
-            _ => changes_in(words),
-        },
-        "attribute" => match words.get(1)?.as_str() {
-            "queries" => queries_in(words),
-            "lists" => lists_in(words),
-            _ => operations_in(words),
-        },
-        "compaction" => updates_in(words),
+    match (word_at(words, 0), word_at(words, 1)) {
+        ("store", _) => store_in(words),
+        ("tree", _) => tree_in(words),
+        ("index", "reads") => reads_in(words),
+        ("index", _) => changes_in(words),
+        ("attribute", "queries") => queries_in(words),
+        ("attribute", "lists") => lists_in(words),
+        ("attribute", _) => operations_in(words),
+        ("compaction", _) => updates_in(words),
         _ => None,
     }
 }
