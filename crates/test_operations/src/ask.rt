@@ -101,6 +101,15 @@ fn ones_of(
     Ok(members)
 }
 
+/// Returns the conjunction of members, or their disjunction.
+fn joined(all: bool, members: Vec<Query>) -> Query {
+    if all {
+        Query::And(members)
+    } else {
+        Query::Or(members)
+    }
+}
+
 /// Returns a leaf, or several joined leaves.
 fn flat_of(
     alloc: Global,
@@ -108,11 +117,11 @@ fn flat_of(
     sizes: Sizes,
     random: &mut Random,
 ) -> Result<Query, AllocError> {
-    match random.below(4) {
-        0 => Ok(Query::And(ones_of(alloc, fields, sizes, random)?)),
-        1 => Ok(Query::Or(ones_of(alloc, fields, sizes, random)?)),
-        _ => one_of(alloc, fields, sizes, random),
+    let chance = random.below(4);
+    if chance > 1 {
+        return one_of(alloc, fields, sizes, random);
     }
+    Ok(joined(chance == 0, ones_of(alloc, fields, sizes, random)?))
 }
 
 fn flats_of(
@@ -129,17 +138,32 @@ fn flats_of(
 }
 
 /// Returns a query of at most three levels.
-pub fn query_of(
+fn query_of(
     alloc: Global,
     fields: &[Field],
     sizes: Sizes,
     random: &mut Random,
 ) -> Result<Query, AllocError> {
-    match random.below(3) {
-        0 => Ok(Query::And(flats_of(alloc, fields, sizes, random)?)),
-        1 => Ok(Query::Or(flats_of(alloc, fields, sizes, random)?)),
-        _ => flat_of(alloc, fields, sizes, random),
+    let chance = random.below(3);
+    if chance > 1 {
+        return flat_of(alloc, fields, sizes, random);
     }
+    Ok(joined(chance == 0, flats_of(alloc, fields, sizes, random)?))
+}
+
+/// Returns a query alone in a list, which is dropped by one call.
+pub fn alone(alloc: Global, query: Query) -> Result<Vec<Query>, AllocError> {
+    Ok(vec![in alloc; query]?)
+}
+
+/// Returns a query of at most three levels, alone in a list.
+pub fn one_query(
+    alloc: Global,
+    fields: &[Field],
+    sizes: Sizes,
+    random: &mut Random,
+) -> Result<Vec<Query>, AllocError> {
+    alone(alloc, query_of(alloc, fields, sizes, random)?)
 }
 
 /// Returns values of an attribute, each with a weight.

@@ -31,13 +31,19 @@ fn used_words(words: &[u64]) -> usize {
     used
 }
 
-/// Writes the number of a block, and its words up to the last one that is not 0.
-fn push_block(told: &mut String, number: u64, words: &[u64]) -> Result<(), AllocError> {
-    write!(told, ", block {number} of {} words:", words.len())?;
-    for word in words.iter().take(used_words(words)) {
+/// Writes the first of these words.
+fn push_words(told: &mut String, words: &[u64], count: usize) -> Result<(), AllocError> {
+    for word in words.iter().take(count) {
         write!(told, " {word}")?;
     }
     Ok(())
+}
+
+/// Writes the number of a block, and its words up to the last one that is not 0.
+fn push_block(told: &mut String, number: u64, words: &[u64]) -> Result<(), AllocError> {
+    let count = words.len();
+    write!(told, ", block {number} of {count} words:")?;
+    push_words(told, words, used_words(words))
 }
 
 /// Writes the blocks of a bit vector.
@@ -92,6 +98,10 @@ fn push_form(
     )
 }
 
+fn text_len(alloc: Global, words: &[u64]) -> Result<usize, AllocError> {
+    Ok(stored_text(alloc, words)?.len())
+}
+
 /// Writes a value.
 fn push_value(
     alloc: Global,
@@ -100,12 +110,14 @@ fn push_value(
     told: &mut String,
 ) -> Result<(), AllocError> {
     match value_type {
-        ValueType::Long => write!(told, "; {}: ", stored_long(words)),
-        ValueType::Text => write!(
-            told,
-            "; text of {} bytes: ",
-            stored_text(alloc, words)?.len()
-        ),
+        ValueType::Long => {
+            let number = stored_long(words);
+            write!(told, "; {number}: ")
+        }
+        ValueType::Text => {
+            let len = text_len(alloc, words)?;
+            write!(told, "; text of {len} bytes: ")
+        }
     }
 }
 

@@ -1,7 +1,7 @@
 //! The lines of a worked row.
-use crate::worked::{forms_of, told_of};
+use crate::worked::{Worked, told_of};
 use std::alloc::{AllocError, Global};
-use test_kit::{fields_in, number_at};
+use test_kit::{fields_in, number_at, push_number};
 
 /// The attributes and the number of buffers; the operations and commits, one in each line; the queries, one in each
 /// line; and whether only the forms of the lists are wanted.
@@ -11,6 +11,21 @@ pub struct Lines {
     turns: String,
     queries: String,
     forms: bool,
+}
+
+fn push_line(lines: &mut String, line: &str) -> Result<(), AllocError> {
+    lines.push_str(line)?;
+    lines.push_str("\n")
+}
+
+/// Writes what is after the number of a document in a put of a value, or in one without a value.
+fn push_put(turns: &mut String, value: Option<&str>) -> Result<(), AllocError> {
+    let Some(value) = value else {
+        return turns.push_str("\",\"fields\":{}}\n");
+    };
+    turns.push_str("\",\"fields\":{\"f\":")?;
+    turns.push_str(value)?;
+    turns.push_str("}}\n")
 }
 
 impl Lines {
@@ -37,11 +52,8 @@ impl Lines {
     /// Takes puts of a value to documents from one to another, or puts without a value.
     fn take_puts(&mut self, first: u32, last: u32, value: Option<&str>) -> Result<(), AllocError> {
         for doc in first..last.saturating_add(1) {
-            write!(self.turns, "{{\"put\":\"id:n:t::{doc}\",\"fields\":{{")?;
-            if let Some(value) = value {
-                write!(self.turns, "\"f\":{value}")?;
-            }
-            self.turns.push_str("}}\n")?;
+            push_number(&mut self.turns, "{\"put\":\"id:n:t::", i64::from(doc))?;
+            push_put(&mut self.turns, value)?;
         }
         Ok(())
     }
@@ -49,7 +61,8 @@ impl Lines {
     /// Takes removes of documents from one to another.
     fn take_removes(&mut self, first: u32, last: u32) -> Result<(), AllocError> {
         for doc in first..last.saturating_add(1) {
-            write!(self.turns, "{{\"remove\":\"id:n:t::{doc}\"}}\n")?;
+            push_number(&mut self.turns, "{\"remove\":\"id:n:t::", i64::from(doc))?;
+            self.turns.push_str("\"}\n")?;
         }
         Ok(())
     }
@@ -69,27 +82,28 @@ impl Lines {
     /// Takes one more line. A comment is skipped.
     pub fn take(&mut self, line: &str) -> Result<(), AllocError> {
         if line == "commit" || line.starts_with('{') {
-            self.turns.push_str(line)?;
-            return self.turns.push_str("\n");
+            return push_line(&mut self.turns, line);
         }
         if let Some(query) = line.strip_prefix("ask ") {
-            self.queries.push_str(query)?;
-            return self.queries.push_str("\n");
+            return push_line(&mut self.queries, query);
         }
         self.take_many(line)
     }
 
+    fn row(&self) -> Worked<'_> {
+        Worked {
+            buffers: number_at(&self.row, 1),
+            dense: number_at(&self.row, 2) != 0,
+            lines: self.turns.as_str(),
+            queries: self.queries.as_str(),
+            forms: self.forms,
+        }
+    }
+
     /// Returns the result of the row, if it names one to eight attributes.
     pub fn answer(&self, alloc: Global) -> Result<String, AllocError> {
-        let buffers = number_at(&self.row, 1);
         match fields_in(alloc, &self.row)? {
-            Some(fields) => {
-                if self.forms {
-                    let dense = number_at(&self.row, 2) != 0;
-                    return forms_of(alloc, &fields, buffers, dense, &self.turns);
-                }
-                told_of(alloc, &fields, buffers, &self.turns, &self.queries)
-            }
+            Some(fields) => told_of(alloc, &fields, self.row()),
             None => String::from_str(alloc, "no attribute"),
         }
     }

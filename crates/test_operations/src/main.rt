@@ -3,6 +3,7 @@
 #![tactic(auto)]
 
 mod ask;
+mod counts;
 mod forms;
 mod image;
 mod lines;

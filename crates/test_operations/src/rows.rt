@@ -3,9 +3,10 @@
 //! FIELDS are `KIND:TYPE`, separated by commas. Or `on FIELDS BUFFERS`; then an operation of a feed or `commit` in
 //! each line, `ask QUERY` for each query, and `answers LINE`, the expected result. Or `forms FIELDS BUFFERS DENSE`, with
 //! such lines, and `answers LINE`, the forms of lists. Other lines are comments.
+use crate::counts::Told;
 use crate::lines::Lines;
 use crate::make::Sizes;
-use crate::run::{Load, Told, run};
+use crate::run::{Load, run};
 use std::alloc::{AllocError, Global};
 use std::io;
 use test_kit::{Tally, fields_in, number_at};
@@ -43,19 +44,28 @@ fn push_counts(line: &mut String, told: Told) -> Result<(), AllocError> {
     write!(line, "{} queries, {} images", told.queries, told.images)
 }
 
+/// Returns what may be required to occur in a run, how often it did, and how often it must.
+fn counts_of(told: Told) -> [(&'static str, u64, u64); 8] {
+    [
+        ("changed", u64::from(told.changed), 1000),
+        ("skipped", u64::from(told.skipped), 100),
+        ("refused", u64::from(told.refused), 20),
+        ("accepted after a commit", u64::from(told.again), 10),
+        ("refused after it", u64::from(told.twice), 2),
+        ("commits refused", u64::from(told.full), 2),
+        ("hits", told.hits, 1000),
+        ("scores", told.scores, 1000),
+    ]
+}
+
 /// Returns whether something occurred often enough in a run.
 fn has_met(told: Told, word: &str) -> bool {
-    match word {
-        "changed" => told.changed >= 1000,
-        "skipped" => told.skipped >= 100,
-        "refused" => told.refused >= 20,
-        "accepted after a commit" => told.again >= 10,
-        "refused after it" => told.twice >= 2,
-        "commits refused" => told.full >= 2,
-        "hits" => told.hits >= 1000,
-        "scores" => told.scores >= 1000,
-        _ => false,
+    for (name, count, least) in counts_of(told) {
+        if name == word {
+            return count >= least;
+        }
     }
+    false
 }
 
 fn has_met_all(told: Told, words: &str) -> bool {
@@ -69,10 +79,10 @@ fn has_met_all(told: Told, words: &str) -> bool {
 
 /// Writes what may be required to occur, and how often it did.
 fn push_met(line: &mut String, told: Told) -> Result<(), AllocError> {
-    write!(line, "changed {} skipped {}", told.changed, told.skipped)?;
-    write!(line, " refused {} again {}", told.refused, told.again)?;
-    write!(line, " twice {} full {}", told.twice, told.full)?;
-    write!(line, " hits {} scores {}", told.hits, told.scores)
+    for (name, count, _) in counts_of(told) {
+        write!(line, "{name} {count} ")?;
+    }
+    Ok(())
 }
 
 /// Returns the result of a row's run, if it names one to eight attributes.

@@ -4,7 +4,8 @@ ghost use Rattle.attr_images.specs.Images.{IsLawfulImage};
 ghost use Rattle.attr_images.specs.Shapes.{shape_of, types_of};
 ghost use Rattle.attr_types.specs.declared.field.TheConstants.{MOST_FIELDS};
 
-use crate::image::{Asked, ask_image};
+use crate::counts::Told;
+use crate::image::ask_image;
 use crate::make::{Sizes, op_of};
 use crate::turn::{
     Answer, Committed, Noted, apply_one, apply_plain, close, commit_one, new_attribute, new_plain,
@@ -35,29 +36,6 @@ pub struct Load {
     pub checks: bool,
     /// Whether frequent values have bit vectors.
     pub dense: bool,
-}
-
-/// The result of a run.
-#[derive(Clone, Copy)]
-pub struct Told {
-    pub differs: bool,
-    pub episodes: u32,
-    /// The operations of the last commit of the episode.
-    pub committed: u32,
-    pub commits: u32,
-    pub changed: u32,
-    pub skipped: u32,
-    /// Operations that were refused, those accepted after a commit, and those still refused then.
-    pub refused: u32,
-    pub again: u32,
-    pub twice: u32,
-    /// Commits that were refused.
-    pub full: u32,
-    pub queries: u32,
-    /// The number of images that the slow checker read.
-    pub images: u32,
-    pub hits: u64,
-    pub scores: u64,
 }
 
 /// Makes a commit. Returns whether the episode continues.
@@ -282,20 +260,6 @@ fn plain_after(
     Ok(plain)
 }
 
-/// Adds the result of an episode's end.
-fn add(told: &mut Told, asked: Asked) {
-    if asked.differs || asked.operations != told.committed {
-        told.differs = true;
-    }
-    told.queries = told.queries.saturating_add(asked.queries);
-    told.hits = told.hits.saturating_add(asked.hits);
-    told.scores = told.scores.saturating_add(asked.scores);
-    told.episodes = told.episodes.saturating_add(1);
-    if asked.checked {
-        told.images = told.images.saturating_add(1);
-    }
-}
-
 /// Makes the turns of an episode on both, beginning without documents.
 fn play<const OFFSET_BITS: u32, S: Store<OFFSET_BITS, Layout = AttrLayout>>(
     alloc: Global,
@@ -313,7 +277,7 @@ fn play<const OFFSET_BITS: u32, S: Store<OFFSET_BITS, Layout = AttrLayout>>(
     take_turns(alloc, attribute, &mut plain, fields, load, random, told)
 }
 
-/// Returns the answers of the last commit, compared with the plain table after its operations.
+/// Compares the last commit with the plain table after its operations, if the turns were made.
 fn ask_last<const OFFSET_BITS: u32, W: Work<OFFSET_BITS> + Noted>(
     alloc: Global,
     work: &mut W,
@@ -322,19 +286,27 @@ fn ask_last<const OFFSET_BITS: u32, W: Work<OFFSET_BITS> + Noted>(
     load: Load,
     start: Random,
     random: &mut Random,
+    played: Result<(), AllocError>,
     told: &mut Told,
 ) -> Result<(), AllocError>
     requires few { length fields.now ≤ MOST_FIELDS }
     requires shape { W.shape work.old ≡ shape_of (types_of fields.now) }
     requires image { IsLawfulImage (W.shape work.old) (W.records work.old) last.root }
 {
+    played?;
+    told.episodes = told.episodes.saturating_add(1);
+    if last.operations != told.committed {
+        told.differs = true;
+    }
+    let root = last.root;
     let (sizes, queries) = (load.sizes, load.queries);
     let wanted = plain_after(alloc, fields, sizes, start, told.committed)?;
-    let asked = ask_image(alloc, work, last, fields, &wanted, sizes, queries, random)?;
-    add(told, asked);
-    Ok(())
+    ask_image(
+        alloc, work, root, fields, &wanted, sizes, queries, random, told,
+    )
 }
 
+/// Plays an episode. The attributes are closed also if a turn is not made, so that nothing drops them.
 fn episode(
     alloc: Global,
     fields: &Fields,
@@ -348,9 +320,11 @@ fn episode(
     let start = *random;
     let buffers = load.buffers.max(1).min(1000);
     let mut attribute = new_attribute(alloc, fields, buffers, load.checks, load.dense)?;
-    play(alloc, &mut attribute, fields, load, random, told)?;
+    let played = play(alloc, &mut attribute, fields, load, random, told);
     let (mut work, last) = close(attribute, fields);
-    ask_last(alloc, &mut work, last, fields, load, start, random, told)
+    ask_last(
+        alloc, &mut work, last, fields, load, start, random, played, told,
+    )
 }
 
 /// Makes the episodes of a run, one after another, until something differs.
@@ -359,22 +333,7 @@ pub fn run(alloc: Global, fields: &Fields, load: Load) -> Result<Told, AllocErro
     requires few { length fields.now ≤ MOST_FIELDS }
 {
     let mut random = Random::new(load.seed);
-    let mut told = Told {
-        differs: false,
-        episodes: 0,
-        committed: 0,
-        commits: 0,
-        changed: 0,
-        skipped: 0,
-        refused: 0,
-        again: 0,
-        twice: 0,
-        full: 0,
-        queries: 0,
-        images: 0,
-        hits: 0,
-        scores: 0,
-    };
+    let mut told = Told::default();
     for _ in 0..load.episodes {
         episode(alloc, fields, load, &mut random, &mut told)?;
         if told.differs {

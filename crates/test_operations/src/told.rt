@@ -1,41 +1,45 @@
 //! The result of a worked row, as text.
 use crate::turn::{Answer, Committed};
-use attr_types::{Applied, Doc, FieldItems, Item, Items, Value};
+use attr_types::{Applied, Doc, FieldItems, Item, Items};
 use std::alloc::AllocError;
+use test_kit::{push_item, push_number};
+
+/// Writes a word with two numbers.
+fn push_pair(told: &mut String, word: &str, first: u32, second: u32) -> Result<(), AllocError> {
+    write!(told, " {word} {first}/{second}")
+}
 
 pub fn push_answer(told: &mut String, answer: Answer) -> Result<(), AllocError> {
     match answer {
         Answer::Applied(Applied::Changed) => told.push_str(" changed"),
         Answer::Applied(Applied::Skipped) => told.push_str(" skipped"),
-        Answer::Full { active, held } => write!(told, " full {active}/{held}"),
+        Answer::Full { active, held } => push_pair(told, "full", active, held),
         Answer::Odd => told.push_str(" odd"),
     }
 }
 
-/// Writes how many of the answers are that something changed.
-pub fn push_changed(told: &mut String, answers: &str) -> Result<(), AllocError> {
+fn changed_in(answers: &str) -> u32 {
     let mut count: u32 = 0;
     for word in answers.split(' ') {
         if word == "changed" {
             count = count.saturating_add(1);
         }
     }
+    count
+}
+
+/// Writes how many of the answers are that something changed, in place of the answers.
+pub fn count_changed(told: &mut String) -> Result<(), AllocError> {
+    let count = changed_in(told.as_str());
+    told.clear();
     write!(told, " {count} changed")
 }
 
 pub fn push_commit(told: &mut String, committed: Committed) -> Result<(), AllocError> {
     match committed {
-        Committed::At { number, operations } => write!(told, " commit {number}/{operations}"),
-        Committed::Full { active, held } => write!(told, " full {active}/{held}"),
+        Committed::At { number, operations } => push_pair(told, "commit", number, operations),
+        Committed::Full { active, held } => push_pair(told, "full", active, held),
         Committed::Odd => told.push_str(" odd"),
-    }
-}
-
-fn push_item(told: &mut String, item: &Item) -> Result<(), AllocError> {
-    let weight = item.weight;
-    match &item.value {
-        Value::Long(number) => write!(told, " {number}*{weight}"),
-        Value::Text(text) => write!(told, " '{}'*{weight}", text.as_str()),
     }
 }
 
@@ -84,9 +88,11 @@ pub fn push_table(told: &mut String, table: &[(u64, FieldItems)]) -> Result<(), 
 
 /// Writes the documents of a query.
 pub fn push_documents(told: &mut String, query: &str, documents: &[Doc]) -> Result<(), AllocError> {
-    write!(told, "; {query}:")?;
+    told.push_str("; ")?;
+    told.push_str(query)?;
+    told.push_str(":")?;
     for doc in documents {
-        write!(told, " {}", doc.number())?;
+        push_number(told, " ", i64::from(doc.number()))?;
     }
     Ok(())
 }

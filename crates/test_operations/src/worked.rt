@@ -5,13 +5,14 @@ ghost use Rattle.attr_images.specs.Images.{IsLawfulImage};
 ghost use Rattle.attr_images.specs.Shapes.{shape_of, types_of};
 ghost use Rattle.attr_types.specs.declared.field.TheConstants.{MOST_FIELDS};
 
+use crate::ask::alone;
 use crate::forms::push_forms;
-use crate::told::{push_answer, push_changed, push_commit, push_documents, push_table};
+use crate::told::{count_changed, push_answer, push_commit, push_documents, push_table};
 use crate::turn::{Noted, apply_one, close, commit_one, new_attribute};
 use arena_api::{Frozen, Work};
 use attr_images::AttrLayout;
 use attr_io::SliceSource;
-use attr_types::{Fields, Op, Ops, Query};
+use attr_types::{Field, Fields, Op, Ops, Query};
 use attribute_kinds::{Attribute, Published};
 use check_images::{CheckFault, check_image};
 use entry_ref::{EntryRef, word_in, words_at};
@@ -21,6 +22,17 @@ use query_text::parse_query;
 use std::alloc::{AllocError, Global};
 use std::collections::BTreeMap;
 use store_api::Store;
+
+/// A worked row: its buffers, whether frequent values have bit vectors, its operations and commits, and its queries. It
+/// is told of its answers, the table of its last commit and the documents of the queries, or of the forms of the lists.
+#[derive(Clone, Copy)]
+pub struct Worked<'a> {
+    pub buffers: u32,
+    pub dense: bool,
+    pub lines: &'a str,
+    pub queries: &'a str,
+    pub forms: bool,
+}
 
 /// Reads a line. It has no contract, so that the proofs of its callers stay small.
 fn read(alloc: Global, line: &str, fields: &Fields) -> Result<Ops, FeedError> {
@@ -113,19 +125,24 @@ fn tell_image(
     }
 }
 
+/// Writes the forms of the lists of an image, or its table.
 fn tell_notes<W: Noted>(
     alloc: Global,
     fields: &Fields,
     work: &W,
     root: u64,
+    forms: bool,
     told: &mut String,
 ) -> Result<(), AllocError>
     requires { length fields.now ≤ MOST_FIELDS }
 {
-    match work.notes() {
-        Some(records) => tell_image(alloc, fields, records, root, told),
-        None => Err(AllocError),
+    let Some(records) = work.notes() else {
+        return Err(AllocError);
+    };
+    if forms {
+        return push_forms(alloc, fields.as_slice(), records, root, told);
     }
+    tell_image(alloc, fields, records, root, told)
 }
 
 /// Writes the documents of a query with this text.
@@ -147,6 +164,24 @@ fn tell_found<const OFFSET_BITS: u32, F: Frozen<OFFSET_BITS>>(
     push_documents(told, text, found.as_slice())
 }
 
+/// Returns the query of a text, alone in a list; or no query, and writes the refusal.
+fn read_query(
+    alloc: Global,
+    fields: &[Field],
+    text: &str,
+    told: &mut String,
+) -> Result<Vec<Query>, AllocError>
+    requires { length fields.now ≤ MOST_FIELDS }
+{
+    match parse_query(alloc, text, fields) {
+        Ok(query) => alone(alloc, query),
+        Err(e) => {
+            write!(told, "; {text}: {e}")?;
+            Ok(Vec::new(alloc))
+        }
+    }
+}
+
 /// Writes the documents of a query, or its refusal.
 fn tell_hits<const OFFSET_BITS: u32, F: Frozen<OFFSET_BITS>>(
     alloc: Global,
@@ -161,9 +196,10 @@ fn tell_hits<const OFFSET_BITS: u32, F: Frozen<OFFSET_BITS>>(
     requires image { IsLawfulImage (F.shape frozen.old) (F.records frozen.old) root }
     ensures same { frozen.new ≡ frozen.old }
 {
-    match parse_query(alloc, text, fields.as_slice()) {
-        Ok(query) => tell_found(alloc, frozen, root, fields, text, &query, told),
-        Err(e) => write!(told, "; {text}: {e}"),
+    let queries = read_query(alloc, fields.as_slice(), text, told)?;
+    match queries.as_slice() {
+        [query] => tell_found(alloc, frozen, root, fields, text, query, told),
+        _ => Ok(()),
     }
 }
 
@@ -186,106 +222,64 @@ fn tell_each<const OFFSET_BITS: u32, F: Frozen<OFFSET_BITS>>(
     Ok(())
 }
 
-/// Writes the last commit: its number and its operations, its table as the slow checker reads it, and the documents
-/// of each query.
+/// Begins what is told of the last commit: with its number and its operations, or with how many operations changed
+/// something, in place of their answers.
+fn tell_commit<const OFFSET_BITS: u32>(
+    last: Published<OFFSET_BITS>,
+    forms: bool,
+    told: &mut String,
+) -> Result<(), AllocError> {
+    if forms {
+        return count_changed(told);
+    }
+    write!(told, "; at {}/{}", last.commit, last.operations)
+}
+
+/// Writes the last commit, if all lines were taken: its number and its operations, its table as the slow checker reads
+/// it, and the documents of each query; or the forms of its lists.
 fn tell_last<const OFFSET_BITS: u32, W: Work<OFFSET_BITS> + Noted>(
     alloc: Global,
     work: &mut W,
     last: Published<OFFSET_BITS>,
     fields: &Fields,
-    queries: &str,
+    row: Worked<'_>,
+    taken: Result<(), AllocError>,
     told: &mut String,
 ) -> Result<(), AllocError>
     requires few { length fields.now ≤ MOST_FIELDS }
     requires shape { W.shape work.old ≡ shape_of (types_of fields.now) }
     requires image { IsLawfulImage (W.shape work.old) (W.records work.old) last.root }
 {
+    taken?;
     let root = last.root;
-    write!(told, "; at {}/{}", last.commit, last.operations)?;
-    tell_notes(alloc, fields, work, u64::from(root.raw()), told)?;
-    tell_each(alloc, work, root, fields, queries, told)
+    tell_commit(last, row.forms, told)?;
+    tell_notes(alloc, fields, work, u64::from(root.raw()), row.forms, told)?;
+    tell_each(alloc, work, root, fields, row.queries, told)
 }
 
+/// The attributes are closed also if a line is not taken, so that nothing drops them.
 fn tell_all(
     alloc: Global,
     fields: &Fields,
-    buffers: u32,
-    lines: &str,
-    queries: &str,
+    row: Worked<'_>,
     told: &mut String,
 ) -> Result<(), AllocError>
     requires some { 0 < length fields.now }
     requires few { length fields.now ≤ MOST_FIELDS }
-    requires buffers { 1 ≤ buffers }
-    requires fit { buffers ≤ 1000 }
 {
-    let mut attribute = new_attribute(alloc, fields, buffers, true, false)?;
-    take_lines(alloc, &mut attribute, fields, lines, told)?;
+    let buffers = row.buffers.max(1).min(1000);
+    let mut attribute = new_attribute(alloc, fields, buffers, true, row.dense)?;
+    let taken = take_lines(alloc, &mut attribute, fields, row.lines, told);
     let (mut work, last) = close(attribute, fields);
-    tell_last(alloc, &mut work, last, fields, queries, told)
+    tell_last(alloc, &mut work, last, fields, row, taken, told)
 }
 
-/// Returns the results of the lines, and the answers of the last commit.
-pub fn told_of(
-    alloc: Global,
-    fields: &Fields,
-    buffers: u32,
-    lines: &str,
-    queries: &str,
-) -> Result<String, AllocError>
+/// Returns what is told of a row.
+pub fn told_of(alloc: Global, fields: &Fields, row: Worked<'_>) -> Result<String, AllocError>
     requires some { 0 < length fields.now }
     requires few { length fields.now ≤ MOST_FIELDS }
 {
     let mut told = String::new(alloc);
-    let most = buffers.max(1).min(1000);
-    tell_all(alloc, fields, most, lines, queries, &mut told)?;
-    Ok(told)
-}
-
-/// Writes how many operations changed something, and the forms of the lists of the last commit.
-fn tell_forms(
-    alloc: Global,
-    fields: &Fields,
-    buffers: u32,
-    dense: bool,
-    lines: &str,
-    told: &mut String,
-) -> Result<(), AllocError>
-    requires some { 0 < length fields.now }
-    requires few { length fields.now ≤ MOST_FIELDS }
-    requires buffers { 1 ≤ buffers }
-    requires fit { buffers ≤ 1000 }
-{
-    let mut said = String::new(alloc);
-    let mut attribute = new_attribute(alloc, fields, buffers, true, dense)?;
-    take_lines(alloc, &mut attribute, fields, lines, &mut said)?;
-    let (work, last) = close(attribute, fields);
-    push_changed(told, &said)?;
-    match work.notes() {
-        Some(records) => push_forms(
-            alloc,
-            fields.as_slice(),
-            records,
-            u64::from(last.root.raw()),
-            told,
-        ),
-        None => Err(AllocError),
-    }
-}
-
-/// Returns how many operations of the lines changed something, and the forms of the lists of the last commit.
-pub fn forms_of(
-    alloc: Global,
-    fields: &Fields,
-    buffers: u32,
-    dense: bool,
-    lines: &str,
-) -> Result<String, AllocError>
-    requires some { 0 < length fields.now }
-    requires few { length fields.now ≤ MOST_FIELDS }
-{
-    let mut told = String::new(alloc);
-    let most = buffers.max(1).min(1000);
-    tell_forms(alloc, fields, most, dense, lines, &mut told)?;
+    tell_all(alloc, fields, row, &mut told)?;
     Ok(told)
 }

@@ -1,7 +1,7 @@
-//! Operations and queries on one attribute, as the rows of tests name them.
+//! Operations on one attribute, as the rows of tests name them.
 use attr_types::{
-    Act, Change, Doc, Field, FieldChanges, FieldItems, Fields, Item, Items, Kind, Leaf, Name, Op,
-    Value, ValueType, Values, WeightAct,
+    Act, Change, Doc, Field, FieldChanges, FieldItems, Fields, Item, Items, Kind, Name, Op, Value,
+    ValueType, Values, WeightAct,
 };
 use std::alloc::{AllocError, Global};
 use test_kit::text_of;
@@ -22,16 +22,6 @@ pub enum Step {
     SetWeight(i64, i32),
     ShiftWeight(i64, i64),
     Remove,
-}
-
-/// A condition on one value, by number.
-#[derive(Clone, Copy)]
-pub enum Ask {
-    Is(i64),
-    Prefix(i64),
-    Range(Option<i64>, Option<i64>),
-    Below(i64),
-    Above(i64),
 }
 
 /// Returns the word for a number, if values are texts.
@@ -61,6 +51,16 @@ pub fn value(alloc: Global, value_type: ValueType, number: i64) -> Result<Value,
     })
 }
 
+fn item(
+    alloc: Global,
+    value_type: ValueType,
+    number: i64,
+    weight: i32,
+) -> Result<Item, AllocError> {
+    let value = value(alloc, value_type, number)?;
+    Ok(Item { value, weight })
+}
+
 pub fn items(
     alloc: Global,
     value_type: ValueType,
@@ -68,9 +68,7 @@ pub fn items(
 ) -> Result<Items, AllocError> {
     let mut items = Items::new(alloc);
     for (number, weight) in rows {
-        let value = value(alloc, value_type, *number)?;
-        let weight = *weight;
-        items.push(Item { value, weight })?;
+        items.push(item(alloc, value_type, *number, *weight)?)?;
     }
     Ok(items)
 }
@@ -78,8 +76,7 @@ pub fn items(
 fn fives(alloc: Global, value_type: ValueType, count: u32) -> Result<Items, AllocError> {
     let mut items = Items::new(alloc);
     for _ in 0..count {
-        let value = value(alloc, value_type, 5)?;
-        items.push(Item { value, weight: 1 })?;
+        items.push(item(alloc, value_type, 5, 1)?)?;
     }
     Ok(items)
 }
@@ -129,6 +126,20 @@ pub fn change(alloc: Global, value_type: ValueType, step: Step) -> Result<Change
     }
 }
 
+fn put(alloc: Global, doc: Doc, items: Items) -> Result<Op, AllocError> {
+    let items = FieldItems::of_one(alloc, items)?;
+    Ok(Op::Put { doc, items })
+}
+
+fn update(alloc: Global, doc: Doc, create: bool, change: Change) -> Result<Op, AllocError> {
+    let change = FieldChanges::of_one(alloc, change)?;
+    Ok(Op::Update {
+        doc,
+        create,
+        change,
+    })
+}
+
 /// Returns the operation on one attribute.
 pub fn op(
     alloc: Global,
@@ -137,53 +148,15 @@ pub fn op(
     create: bool,
     step: Step,
 ) -> Result<Op, AllocError> {
-    Ok(match step {
-        Step::Put(rows) => {
-            let items = FieldItems::of_one(alloc, items(alloc, value_type, rows)?)?;
-            Op::Put { doc, items }
-        }
-        Step::PutFives(count) => {
-            let items = FieldItems::of_one(alloc, fives(alloc, value_type, count)?)?;
-            Op::Put { doc, items }
-        }
-        Step::Remove => Op::Remove { doc },
-        step => {
-            let change = change(alloc, value_type, step)?;
-            let change = FieldChanges::of_one(alloc, change)?;
-            Op::Update {
-                doc,
-                create,
-                change,
-            }
-        }
-    })
+    match step {
+        Step::Put(rows) => put(alloc, doc, items(alloc, value_type, rows)?),
+        Step::PutFives(count) => put(alloc, doc, fives(alloc, value_type, count)?),
+        Step::Remove => Ok(Op::Remove { doc }),
+        step => update(alloc, doc, create, change(alloc, value_type, step)?),
+    }
 }
 
-fn bound(
-    alloc: Global,
-    value_type: ValueType,
-    number: Option<i64>,
-) -> Result<Option<Value>, AllocError> {
-    Ok(match number {
-        Some(number) => Some(value(alloc, value_type, number)?),
-        None => None,
-    })
-}
-
-pub fn leaf(alloc: Global, value_type: ValueType, ask: Ask) -> Result<Leaf, AllocError> {
-    Ok(match ask {
-        Ask::Is(number) => Leaf::Is(value(alloc, value_type, number)?),
-        Ask::Prefix(number) => Leaf::Prefix(text_of(alloc, word(number))?),
-        Ask::Range(low, high) => Leaf::Range {
-            low: bound(alloc, value_type, low)?,
-            high: bound(alloc, value_type, high)?,
-        },
-        Ask::Below(number) => Leaf::Below(value(alloc, value_type, number)?),
-        Ask::Above(number) => Leaf::Above(value(alloc, value_type, number)?),
-    })
-}
-
-pub fn field(alloc: Global, name: &str, kind: Kind, value: ValueType) -> Result<Field, AllocError> {
+fn field(alloc: Global, name: &str, kind: Kind, value: ValueType) -> Result<Field, AllocError> {
     let name = Name::from_str(alloc, name)?;
     Ok(Field { name, kind, value })
 }

@@ -1,6 +1,6 @@
 //! One document, read and written over devices that fail: a save of 28 bytes.
 use crate::saves::{read, saved_again, table_of};
-use attr_io::{Failed, FakeSink, FakeSource, write_all};
+use attr_io::{FakeSink, FakeSource, write_all};
 use attr_plain::PlainTable;
 use attr_saver::LoadError;
 use std::alloc::{AllocError, Global};
@@ -14,16 +14,15 @@ const BYTES: [u8; 28] = [
 /// Returns what is read over a source that gives at most `step` bytes in a call and fails in one call, and how many
 /// faults it counts.
 fn told_by_source(alloc: Global, step: usize, call: u64) -> Result<String, AllocError> {
-    if step == 0 {
-        return Ok(String::new(alloc));
-    }
-    let mut source = FakeSource::create(alloc, &BYTES, step, &[call])?;
-    let answer = read(alloc, &mut source);
-    let faults = source.faults();
-    match answer {
-        Ok(_) => format!(in alloc; "saved {faults}"),
-        Err(LoadError::BadForm { place }) => format!(in alloc; "{place} {faults}"),
-        Err(error) => format!(in alloc; "{error} {faults}"),
+    let mut source = FakeSource::create(alloc, &BYTES, step.max(1), &[call])?;
+    let error = read(alloc, &mut source).err();
+    read_told(alloc, error, source.faults())
+}
+
+fn read_told(alloc: Global, error: Option<LoadError>, faults: u64) -> Result<String, AllocError> {
+    match error {
+        None => format!(in alloc; "saved {faults}"),
+        Some(error) => format!(in alloc; "{error} {faults}"),
     }
 }
 
@@ -35,59 +34,68 @@ fn told_by_sink(
     step: usize,
     call: u64,
 ) -> Result<String, AllocError> {
-    if step == 0 {
-        return Ok(String::new(alloc));
-    }
     let bytes = saved_again(alloc, table, 1)?;
-    let mut sink = FakeSink::create(alloc, 100, step, &[call])?;
-    let answer = write_all(&mut sink, &bytes);
-    let taken = sink.taken();
+    let mut sink = FakeSink::create(alloc, 100, step.max(1), &[call])?;
+    let is_saved = write_all(&mut sink, &bytes).is_ok();
+    written_told(alloc, is_saved, sink.taken())
+}
+
+fn written_told(alloc: Global, is_saved: bool, taken: &[u8]) -> Result<String, AllocError> {
     let count = taken.len();
+    let what = if is_saved { "saved" } else { "a write failed" };
     let front = if BYTES.starts_with(taken) {
         "of it"
     } else {
         "of others"
     };
-    match answer {
-        Ok(()) => format!(in alloc; "saved, {count} {front}"),
-        Err(Failed) => format!(in alloc; "a write failed, {count} {front}"),
-    }
+    format!(in alloc; "{what}, {count} {front}")
+}
+
+fn compare_source(rt: &HostRuntime, tally: &mut Tally, step: usize, call: u64) -> io::Result<()> {
+    let found = told_by_source(rt.alloc(), step, call)?;
+    let wanted = if call < 30 {
+        "a read failed 1"
+    } else {
+        "saved 0"
+    };
+    let case = format!(in rt.alloc(); "source of {step} bytes a read at call {call}")?;
+    tally.note(rt, &case, &found, wanted)
 }
 
 fn compare_sources(rt: &HostRuntime) -> io::Result<()> {
-    let alloc = rt.alloc();
     let mut tally = Tally::default();
-    tally.note(
-        rt,
-        "28 bytes a read",
-        &told_by_source(alloc, 28, 2)?,
-        "a read failed 1",
-    )?;
+    compare_source(rt, &mut tally, 28, 2)?;
     for call in 1..31 {
-        let wanted = if call < 30 {
-            "a read failed 1"
-        } else {
-            "saved 0"
-        };
-        let case = format!(in alloc; "source at call {call}")?;
-        tally.note(rt, &case, &told_by_source(alloc, 1, call)?, wanted)?;
+        compare_source(rt, &mut tally, 1, call)?;
     }
     tally.print(rt, "sources that fail")
 }
 
+fn sink_wanted(alloc: Global, call: u64) -> Result<String, AllocError> {
+    if call < 29 {
+        return format!(in alloc; "a write failed, {} of it", call.saturating_sub(1));
+    }
+    String::from_str(alloc, "saved, 28 of it")
+}
+
+fn compare_sink(
+    rt: &HostRuntime,
+    tally: &mut Tally,
+    table: &PlainTable,
+    step: usize,
+    call: u64,
+) -> io::Result<()> {
+    let found = told_by_sink(rt.alloc(), table, step, call)?;
+    let wanted = sink_wanted(rt.alloc(), call)?;
+    let case = format!(in rt.alloc(); "sink of {step} bytes a write at call {call}")?;
+    tally.note(rt, &case, &found, &wanted)
+}
+
 fn compare_sinks(rt: &HostRuntime, table: &PlainTable) -> io::Result<()> {
-    let alloc = rt.alloc();
     let mut tally = Tally::default();
-    let found = told_by_sink(alloc, table, 28, 1)?;
-    tally.note(rt, "28 bytes a write", &found, "a write failed, 0 of it")?;
+    compare_sink(rt, &mut tally, table, 28, 1)?;
     for call in 1..30 {
-        let wanted = if call < 29 {
-            format!(in alloc; "a write failed, {} of it", call - 1)?
-        } else {
-            String::from_str(alloc, "saved, 28 of it")?
-        };
-        let case = format!(in alloc; "sink at call {call}")?;
-        tally.note(rt, &case, &told_by_sink(alloc, table, 1, call)?, &wanted)?;
+        compare_sink(rt, &mut tally, table, 1, call)?;
     }
     tally.print(rt, "sinks that fail")
 }

@@ -12,12 +12,17 @@ fn numbered(line: &str) -> (u32, &str) {
     (number.parse::<u32>().unwrap_or(0), rest)
 }
 
+/// Returns a copy of a text, with its number in place of each `#`.
+fn copy_of(alloc: Global, text: &str, copy: u32) -> Result<String, AllocError> {
+    let number = format!(in alloc; "{copy}")?;
+    text.replace(alloc, "#", &number)
+}
+
 /// Appends copies of a text, with the number of the copy in place of each `#`.
 fn push_times(alloc: Global, feed: &mut Vec<u8>, line: &str) -> Result<(), AllocError> {
     let (times, text) = numbered(line);
     for copy in 0..times {
-        let number = format!(in alloc; "{copy}")?;
-        let part = text.replace(alloc, "#", &number)?;
+        let part = copy_of(alloc, text, copy)?;
         feed.extend_from_slice(part.as_bytes())?;
     }
     Ok(())

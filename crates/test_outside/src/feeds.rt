@@ -2,9 +2,10 @@
 use crate::told::{push_document, push_op};
 use attr_io::SliceSource;
 use attr_plain::{Applied, PlainTable};
-use attr_types::{Fields, Ops, fits};
+use attr_types::{Doc, Fields, Items, Ops, fits};
 use feed_reader::{FeedError, read_feed};
 use std::alloc::{AllocError, Global};
+use test_kit::push_number;
 
 /// Reads a feed. It has no contract, so that the proofs of its callers stay small.
 fn read(alloc: Global, feed: &[u8], fields: &Fields) -> Result<Ops, FeedError> {
@@ -15,7 +16,7 @@ fn ops_told(alloc: Global, ops: &Ops) -> Result<String, AllocError> {
     let mut text = String::new(alloc);
     for op in ops.as_slice() {
         push_op(&mut text, op)?;
-        write!(text, ";")?;
+        text.push_str(";")?;
     }
     Ok(text)
 }
@@ -42,14 +43,19 @@ fn apply_all(alloc: Global, table: &mut PlainTable, ops: Ops) -> Result<u32, All
     Ok(skipped)
 }
 
+fn push_row(text: &mut String, doc: Doc, document: &[Items]) -> Result<(), AllocError> {
+    push_number(text, "", i64::from(doc.number()))?;
+    text.push_str(":")?;
+    push_document(text, document)?;
+    text.push_str("; ")
+}
+
 fn table_told(alloc: Global, table: &PlainTable, skipped: u32) -> Result<String, AllocError> {
     let mut text = String::new(alloc);
     for (doc, document) in table.documents() {
-        write!(text, "{}:", doc.number())?;
-        push_document(&mut text, document.as_slice())?;
-        write!(text, "; ")?;
+        push_row(&mut text, *doc, document.as_slice())?;
     }
-    write!(text, "skipped {skipped}")?;
+    push_number(&mut text, "skipped ", i64::from(skipped))?;
     Ok(text)
 }
 

@@ -1,29 +1,25 @@
 //! Queries of a plain table of two attributes.
-use crate::build::{Ask, doc, field, items, leaf, one_field};
+use crate::build::{doc, items};
+use crate::fields::fields_in;
+use crate::printing::{any, long, with_name};
 use attr_plain::PlainTable;
-use attr_types::{Doc, FieldItems, Kind, Op, Query, ValueType, fits};
+use attr_types::{Doc, FieldItems, Op, Query, ValueType, fits};
 use std::alloc::{AllocError, Global};
 use std::io;
-use test_kit::Tally;
+use test_kit::{Tally, push_number};
 
-fn are_same(hits: &[Doc], wanted: &[u32]) -> bool {
-    for (doc, number) in hits.iter().zip(wanted) {
-        if doc.number() != *number {
-            return false;
-        }
+fn documents_told(alloc: Global, hits: &[Doc]) -> Result<String, AllocError> {
+    let mut text = String::new(alloc);
+    for doc in hits {
+        push_number(&mut text, " ", i64::from(doc.number()))?;
     }
-    hits.len() == wanted.len()
+    Ok(text)
 }
 
-/// Returns whether a query has these documents.
-fn has_hits(
-    alloc: Global,
-    table: &PlainTable,
-    query: &Query,
-    wanted: &[u32],
-) -> Result<bool, AllocError> {
+/// Returns the documents of a query.
+fn hits_told(alloc: Global, table: &PlainTable, query: &Query) -> Result<String, AllocError> {
     let hits = table.hits(alloc, query)?;
-    Ok(are_same(hits.as_slice(), wanted))
+    documents_told(alloc, hits.as_slice())
 }
 
 /// Returns items with numbers for attribute 0 and words for attribute 1.
@@ -57,27 +53,12 @@ fn put_both(
 /// Returns a table of the attributes `f` of whole numbers and `g` of texts. Document 1 has 5 and "a", document 2 has
 /// 5, and document 3 has "a".
 fn two_attributes(alloc: Global) -> Result<PlainTable, AllocError> {
-    let mut fields = one_field(alloc, Kind::Single, ValueType::Long)?;
-    fields.push(field(alloc, "g", Kind::Single, ValueType::Text)?)?;
+    let fields = fields_in(alloc, "f:single:long g:single:string")?;
     let mut table = PlainTable::new(alloc, fields);
     put_both(alloc, &mut table, 1, &[(5, 1)], &[(1, 1)])?;
     put_both(alloc, &mut table, 2, &[(5, 1)], &[])?;
     put_both(alloc, &mut table, 3, &[], &[(1, 1)])?;
     Ok(table)
-}
-
-/// Returns a query of one leaf on an attribute.
-fn one(alloc: Global, field: u32, value_type: ValueType, ask: Ask) -> Result<Query, AllocError> {
-    let leaf = leaf(alloc, value_type, ask)?;
-    Ok(Query::One { field, leaf })
-}
-
-/// Returns two members, each on its attribute.
-fn both(alloc: Global) -> Result<Query, AllocError> {
-    let mut members = Vec::new(alloc);
-    members.push(one(alloc, 0, ValueType::Long, Ask::Is(5))?)?;
-    members.push(one(alloc, 1, ValueType::Text, Ask::Is(1))?)?;
-    Ok(Query::And(members))
 }
 
 /// The query of a row.
@@ -91,42 +72,34 @@ enum Asked {
 }
 
 fn query_of(alloc: Global, asked: Asked) -> Result<Query, AllocError> {
-    let all = Ask::Range(None, None);
     match asked {
-        Asked::Five => one(alloc, 0, ValueType::Long, Ask::Is(5)),
-        Asked::AnyText => one(alloc, 1, ValueType::Text, all),
-        Asked::NoAttribute => one(alloc, 2, ValueType::Long, all),
-        Asked::Both => both(alloc),
+        Asked::Five => Ok(long(5)),
+        Asked::AnyText => Ok(any(1)),
+        Asked::NoAttribute => Ok(any(2)),
+        Asked::Both => with_name(alloc, 5),
         Asked::AndOfNothing => Ok(Query::And(Vec::new(alloc))),
     }
 }
 
-fn compare_one(
-    rt: &HostRuntime,
-    tally: &mut Tally,
-    table: &PlainTable,
-    asked: Asked,
-    wanted: &[u32],
-    case: &str,
-) -> io::Result<()> {
-    let query = query_of(rt.alloc(), asked)?;
-    let is_right = has_hits(rt.alloc(), table, &query, wanted)?;
-    tally.judge(rt, case, is_right)
+/// Returns the documents of a row's query.
+fn told(alloc: Global, table: &PlainTable, asked: Asked) -> Result<String, AllocError> {
+    let query = query_of(alloc, asked)?;
+    hits_told(alloc, table, &query)
 }
 
 fn compare_all(rt: &HostRuntime, tally: &mut Tally, table: &PlainTable) -> io::Result<()> {
-    compare_one(rt, tally, table, Asked::Five, &[1, 2], "a term")?;
-    compare_one(rt, tally, table, Asked::AnyText, &[1, 3], "any text")?;
-    compare_one(rt, tally, table, Asked::NoAttribute, &[], "no attribute")?;
-    compare_one(rt, tally, table, Asked::Both, &[1], "an And over both")?;
-    compare_one(
-        rt,
-        tally,
-        table,
-        Asked::AndOfNothing,
-        &[1, 2, 3],
-        "an And of nothing",
-    )
+    let rows = [
+        (Asked::Five, " 1 2", "a term"),
+        (Asked::AnyText, " 1 3", "any text"),
+        (Asked::NoAttribute, "", "no attribute"),
+        (Asked::Both, " 1", "an And over both"),
+        (Asked::AndOfNothing, " 1 2 3", "an And of nothing"),
+    ];
+    for (asked, wanted, case) in rows {
+        let found = told(rt.alloc(), table, asked)?;
+        tally.note(rt, case, &found, wanted)?;
+    }
+    Ok(())
 }
 
 pub fn compare(rt: &HostRuntime) -> io::Result<()> {

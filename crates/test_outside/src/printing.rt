@@ -1,7 +1,8 @@
 //! Queries and dot products that are written and read back.
-use crate::build::field;
-use attr_types::{Field, Fields, Kind, Leaf, Query, Value, ValueType};
-use query_text::{parse_ask, parse_query};
+use crate::asks::{query_told, refusal};
+use crate::fields::fields_in;
+use attr_types::{Field, Leaf, MOST_FIELDS, Query, Value};
+use query_text::parse_ask;
 use std::alloc::{AllocError, Global};
 use std::io;
 use test_kit::{Tally, print_ask, print_query, text_of};
@@ -10,27 +11,8 @@ fn one(leaf: Leaf) -> Query {
     Query::One { field: 0, leaf }
 }
 
-fn long(number: i64) -> Query {
+pub fn long(number: i64) -> Query {
     one(Leaf::Is(Value::Long(number)))
-}
-
-/// Returns attribute 0 with this value type, and a weighted set of texts.
-fn two_fields(alloc: Global, value: ValueType) -> Result<Fields, AllocError> {
-    let mut fields = Fields::new(alloc);
-    fields.push(field(alloc, "f", Kind::Single, value)?)?;
-    fields.push(field(alloc, "and", Kind::WeightedSet, ValueType::Text)?)?;
-    Ok(fields)
-}
-
-/// Returns the query that is read from a text, in its debug form, or the refusal.
-fn read(alloc: Global, text: &str, fields: &[Field]) -> Result<String, AllocError> {
-    if fields.len() > 8 {
-        return String::from_str(alloc, "too many attributes");
-    }
-    match parse_query(alloc, text, fields) {
-        Ok(query) => format!(in alloc; "{query:?}"),
-        Err(error) => format!(in alloc; "{error}"),
-    }
 }
 
 /// Returns whether a query is written as this text.
@@ -46,7 +28,10 @@ fn is_written(
 
 /// Returns whether a text is read as this query.
 fn is_read(alloc: Global, query: &Query, fields: &[Field], text: &str) -> Result<bool, AllocError> {
-    let found = read(alloc, text, fields)?;
+    if fields.len() > MOST_FIELDS {
+        return Ok(false);
+    }
+    let found = query_told(alloc, text, fields)?;
     let wanted = format!(in alloc; "{query:?}")?;
     Ok(found.as_str() == wanted.as_str())
 }
@@ -58,6 +43,15 @@ fn is_same(alloc: Global, query: &Query, fields: &[Field], text: &str) -> Result
 
 fn range(low: Option<Value>, high: Option<Value>) -> Query {
     one(Leaf::Range { low, high })
+}
+
+/// Returns the query for each document that has a value of an attribute.
+pub fn any(field: u32) -> Query {
+    let leaf = Leaf::Range {
+        low: None,
+        high: None,
+    };
+    Query::One { field, leaf }
 }
 
 fn prefix(alloc: Global, bytes: &str) -> Result<Query, AllocError> {
@@ -75,9 +69,10 @@ fn nested(alloc: Global) -> Result<Query, AllocError> {
     Ok(Query::And(vec![in alloc; inner, long(3)]?))
 }
 
-fn with_name(alloc: Global) -> Result<Query, AllocError> {
+/// Returns the query for "a" in attribute 1 and a number in attribute 0.
+pub fn with_name(alloc: Global, number: i64) -> Result<Query, AllocError> {
     let named = is_text(alloc, 1, "a")?;
-    Ok(Query::And(vec![in alloc; named, long(3)]?))
+    Ok(Query::And(vec![in alloc; named, long(number)]?))
 }
 
 /// The query of a row.
@@ -101,8 +96,8 @@ fn query_of(alloc: Global, asked: Asked) -> Result<Query, AllocError> {
         Asked::Below => Ok(one(Leaf::Below(Value::Long(0)))),
         Asked::Bounds => Ok(range(Some(Value::Long(-15)), Some(Value::Long(30)))),
         Asked::Nested => nested(alloc),
-        Asked::WithName => with_name(alloc),
-        Asked::Unbounded => Ok(range(None, None)),
+        Asked::WithName => with_name(alloc, 3),
+        Asked::Unbounded => Ok(any(0)),
         Asked::Prefix => prefix(alloc, "te"),
         Asked::Marks => is_text(alloc, 0, "é\"\\,"),
     }
@@ -122,7 +117,7 @@ fn compare_one(
 }
 
 fn compare_longs(rt: &HostRuntime, tally: &mut Tally) -> io::Result<()> {
-    let fields = two_fields(rt.alloc(), ValueType::Long)?;
+    let fields = fields_in(rt.alloc(), "f:single:long and:weightedset:string")?;
     let rows = [
         (Asked::Least, "-9223372036854775808"),
         (Asked::Above, ">9223372036854775807"),
@@ -138,7 +133,7 @@ fn compare_longs(rt: &HostRuntime, tally: &mut Tally) -> io::Result<()> {
 }
 
 fn compare_texts(rt: &HostRuntime, tally: &mut Tally) -> io::Result<()> {
-    let fields = two_fields(rt.alloc(), ValueType::Text)?;
+    let fields = fields_in(rt.alloc(), "f:single:string and:weightedset:string")?;
     let rows = [
         (Asked::Unbounded, "[;]"),
         (Asked::Prefix, "\"te\"*"),
@@ -152,25 +147,34 @@ fn compare_texts(rt: &HostRuntime, tally: &mut Tally) -> io::Result<()> {
 
 /// Returns the text of the ask that is read from a text, or the refusal.
 fn written_again(alloc: Global, text: &str, fields: &[Field]) -> Result<String, AllocError> {
-    if fields.len() > 8 {
+    if fields.len() > MOST_FIELDS {
         return String::from_str(alloc, "too many attributes");
     }
     match parse_ask(alloc, text, fields) {
         Ok(ask) => print_ask(alloc, &ask, fields),
-        Err(error) => format!(in alloc; "{error}"),
+        Err(error) => refusal(alloc, error),
     }
 }
 
+fn compare_ask(
+    rt: &HostRuntime,
+    tally: &mut Tally,
+    fields: &[Field],
+    text: &str,
+) -> io::Result<()> {
+    let again = written_again(rt.alloc(), text, fields)?;
+    tally.note(rt, "an ask that is read and written again", &again, text)
+}
+
 fn compare_asks(rt: &HostRuntime, tally: &mut Tally) -> io::Result<()> {
-    let fields = two_fields(rt.alloc(), ValueType::Long)?;
+    let fields = fields_in(rt.alloc(), "f:single:long and:weightedset:string")?;
     let rows = [
         "and:dot(\"a:\":-2147483648,\"\":0)",
         "and:dot(\"dot(\":1)",
         "or(and:\"a\"*,and(>5,[;]))",
     ];
     for text in &rows {
-        let again = written_again(rt.alloc(), text, fields.as_slice())?;
-        tally.note(rt, "an ask that is read and written again", &again, text)?;
+        compare_ask(rt, tally, fields.as_slice(), text)?;
     }
     Ok(())
 }

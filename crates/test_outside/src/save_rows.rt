@@ -7,22 +7,10 @@ ghost use Rattle.std.specs.Prelude.{◌≤◌, length};
 use crate::saves::{content, told};
 use std::alloc::{AllocError, Global};
 use std::io;
-use test_kit::Tally;
-
-fn words_of<'a>(alloc: Global, line: &'a str) -> Result<Vec<&'a str>, AllocError> {
-    let mut words = Vec::new(alloc);
-    for word in line.split(' ') {
-        words.push(word)?;
-    }
-    Ok(words)
-}
+use test_kit::{Tally, number_at};
 
 fn bytes_of(alloc: Global, hex: &str) -> Vec<u8> {
     hex::decode(alloc, hex).unwrap_or(Vec::new(alloc))
-}
-
-fn number(word: &str) -> usize {
-    word.parse::<usize>().unwrap_or(usize::MAX)
 }
 
 fn compare_cut(
@@ -102,6 +90,14 @@ fn compare_changes(
     Ok(())
 }
 
+/// Returns the content of bytes, or the result of reading them.
+fn bytes_told(alloc: Global, bytes: &[u8], tells: bool) -> Result<String, AllocError> {
+    if tells {
+        return content(alloc, bytes);
+    }
+    told(alloc, bytes)
+}
+
 /// Compares the result of reading bytes, or their content.
 fn compare_bytes(
     rt: &HostRuntime,
@@ -111,30 +107,23 @@ fn compare_bytes(
     wanted: &str,
 ) -> io::Result<()> {
     let bytes = bytes_of(rt.alloc(), hex);
-    let found = if tells {
-        content(rt.alloc(), &bytes)?
-    } else {
-        told(rt.alloc(), &bytes)?
-    };
+    let found = bytes_told(rt.alloc(), &bytes, tells)?;
     tally.note(rt, hex, &found, wanted)
 }
 
-/// Compares what the words of a line request.
-fn compare_line(
-    rt: &HostRuntime,
-    tally: &mut Tally,
-    base: &[u8],
-    words: &[&str],
-) -> io::Result<()> {
-    match words {
-        ["read", hex, wanted] => compare_bytes(rt, tally, hex, false, wanted),
-        ["tell", hex, wanted] => compare_bytes(rt, tally, hex, true, wanted),
-        ["cut", from, to, wanted] => {
-            compare_cuts(rt, tally, base, number(from), number(to), wanted)
-        }
-        ["change", place, from, to, wanted] => {
-            let (from, to) = (number(from), number(to));
-            compare_changes(rt, tally, base, number(place), from, to, wanted)
+/// Compares what a line requests.
+fn compare_line(rt: &HostRuntime, tally: &mut Tally, base: &[u8], line: &str) -> io::Result<()> {
+    let (kind, rest) = line.split_once(' ').unwrap_or((line, ""));
+    let (asked, wanted) = rest.rsplit_once(' ').unwrap_or((rest, ""));
+    let first = number_at(asked, 0) as usize;
+    let second = number_at(asked, 1) as usize;
+    match kind {
+        "read" => compare_bytes(rt, tally, asked, false, wanted),
+        "tell" => compare_bytes(rt, tally, asked, true, wanted),
+        "cut" => compare_cuts(rt, tally, base, first, second, wanted),
+        "change" => {
+            let last = number_at(asked, 2) as usize;
+            compare_changes(rt, tally, base, first, second, last, wanted)
         }
         _ => Ok(()),
     }
@@ -160,7 +149,6 @@ impl SaveRows {
             self.base = bytes_of(rt.alloc(), hex);
             return Ok(());
         }
-        let words = words_of(rt.alloc(), line)?;
-        compare_line(rt, &mut self.tally, &self.base, words.as_slice())
+        compare_line(rt, &mut self.tally, &self.base, line)
     }
 }

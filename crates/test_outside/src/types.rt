@@ -1,7 +1,9 @@
 //! The order of values, lists that hold what was pushed, and which operations fit which attributes.
-use crate::build::{Step, doc, field, items, one_field, op};
+use crate::build::{Step, doc, items, one_field, op};
+use crate::fields::fields_in;
+use crate::told::items_told;
 use attr_types::{
-    Change, Doc, FieldChanges, FieldItems, Fields, Item, Items, Kind, Name, Op, Value, ValueType,
+    Change, Doc, FieldChanges, FieldItems, Fields, Items, Kind, Name, Op, Value, ValueType,
     compare as order_of, fits,
 };
 use std::alloc::{AllocError, Global};
@@ -15,11 +17,15 @@ fn is_its_copy(value: &Value) -> Result<bool, AllocError> {
     Ok(*value == copy)
 }
 
+fn has_order(a: &Value, b: &Value, wanted: Ordering) -> bool {
+    order_of(a, b) == wanted && (*a == *b) == wanted.is_eq()
+}
+
 /// Returns whether two texts have this order.
 fn is_order(alloc: Global, a: &str, b: &str, wanted: Ordering) -> Result<bool, AllocError> {
     let a = Value::Text(text_of(alloc, a)?);
     let b = Value::Text(text_of(alloc, b)?);
-    Ok(is_its_copy(&b)? && order_of(&a, &b) == wanted && (a == b) == wanted.is_eq())
+    Ok(is_its_copy(&b)? && has_order(&a, &b, wanted))
 }
 
 fn compare_longs(rt: &HostRuntime, tally: &mut Tally) -> io::Result<()> {
@@ -37,28 +43,25 @@ fn compare_longs(rt: &HostRuntime, tally: &mut Tally) -> io::Result<()> {
 }
 
 fn compare_texts(rt: &HostRuntime, tally: &mut Tally) -> io::Result<()> {
-    let alloc = rt.alloc();
-    let case = "the order of two texts";
-    tally.judge(rt, case, is_order(alloc, "", "t", Ordering::Less)?)?;
-    tally.judge(rt, case, is_order(alloc, "t", "tea", Ordering::Less)?)?;
-    tally.judge(rt, case, is_order(alloc, "tea", "ten", Ordering::Less)?)?;
-    tally.judge(rt, case, is_order(alloc, "ten", "ten", Ordering::Equal)?)?;
-    tally.judge(rt, case, is_order(alloc, "z", "é", Ordering::Less)?)
-}
-
-/// Returns whether a copy of items has these numbers with their weights.
-fn is_copied(alloc: Global, numbers: &[(i64, i32)]) -> Result<bool, AllocError> {
-    let copy = items(alloc, ValueType::Long, numbers)?.clone()?;
-    Ok(copy.is_empty() == numbers.is_empty() && are_numbers(copy.as_slice(), numbers))
-}
-
-fn are_numbers(items: &[Item], numbers: &[(i64, i32)]) -> bool {
-    for (item, (number, weight)) in items.iter().zip(numbers) {
-        if item.value != Value::Long(*number) || item.weight != *weight {
-            return false;
-        }
+    let rows = [
+        ("", "t", Ordering::Less),
+        ("t", "tea", Ordering::Less),
+        ("tea", "ten", Ordering::Less),
+        ("ten", "ten", Ordering::Equal),
+        ("z", "é", Ordering::Less),
+    ];
+    for (a, b, wanted) in rows {
+        let is_right = is_order(rt.alloc(), a, b, wanted)?;
+        tally.judge(rt, "the order of two texts", is_right)?;
     }
-    items.len() == numbers.len()
+    Ok(())
+}
+
+/// Returns whether a copy of items is told so.
+fn is_copied(alloc: Global, numbers: &[(i64, i32)], wanted: &str) -> Result<bool, AllocError> {
+    let copy = items(alloc, ValueType::Long, numbers)?.clone()?;
+    let told = items_told(alloc, copy.as_slice())?;
+    Ok(copy.is_empty() == numbers.is_empty() && told.as_str() == wanted)
 }
 
 /// Returns whether a copy of a name is equal to the name.
@@ -69,9 +72,9 @@ fn is_name_copied(alloc: Global) -> Result<bool, AllocError> {
 
 fn compare_lists(rt: &HostRuntime, tally: &mut Tally) -> io::Result<()> {
     let alloc = rt.alloc();
-    let is_right = is_copied(alloc, &[(5, 1), (7, -2), (9, 3)])?;
+    let is_right = is_copied(alloc, &[(5, 1), (7, -2), (9, 3)], " 5*1 7*-2 9*3")?;
     tally.judge(rt, "items hold what was pushed", is_right)?;
-    let is_right = is_copied(alloc, &[])? && Items::new(alloc).is_empty();
+    let is_right = is_copied(alloc, &[], "")? && Items::new(alloc).is_empty();
     tally.judge(rt, "no items", is_right)?;
     tally.judge(rt, "a name", is_name_copied(alloc)?)
 }
@@ -257,13 +260,6 @@ fn compare_counts(rt: &HostRuntime, tally: &mut Tally, fields: &Fields) -> io::R
     Ok(())
 }
 
-/// Returns two attributes.
-fn two_fields(alloc: Global) -> Result<Fields, AllocError> {
-    let mut fields = one_field(alloc, Kind::Single, ValueType::Long)?;
-    fields.push(field(alloc, "g", Kind::Array, ValueType::Long)?)?;
-    Ok(fields)
-}
-
 pub fn compare(rt: &HostRuntime) -> io::Result<()> {
     let mut tally = Tally::default();
     compare_longs(rt, &mut tally)?;
@@ -271,7 +267,7 @@ pub fn compare(rt: &HostRuntime) -> io::Result<()> {
     compare_lists(rt, &mut tally)?;
     compare_fits(rt, &mut tally)?;
     compare_types(rt, &mut tally)?;
-    let fields = two_fields(rt.alloc())?;
+    let fields = fields_in(rt.alloc(), "f:single:long g:array:long")?;
     compare_counts(rt, &mut tally, &fields)?;
     tally.print(rt, "values and operations")
 }

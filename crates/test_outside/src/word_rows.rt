@@ -2,7 +2,7 @@
 //! BACK`; and then `said LINE`, how it must be read. `on LINE` gives the words that name the attributes of the rows
 //! after it. Other lines are comments.
 use crate::{asks, words};
-use attr_types::{Field, Fields};
+use attr_types::{Field, Fields, MOST_FIELDS};
 use std::alloc::{AllocError, Global};
 use std::io;
 use test_kit::Tally;
@@ -14,6 +14,9 @@ fn told(
     row: &str,
     fields: &[Field],
 ) -> Result<Option<String>, AllocError> {
+    if fields.len() > MOST_FIELDS {
+        return Ok(None);
+    }
     match kind {
         "words" => Ok(Some(words::told(alloc, row)?)),
         "ask" => Ok(Some(asks::told(alloc, row, fields)?)),

@@ -1,6 +1,7 @@
 use attr_types::{Field, Fields};
 use attr_words::{Settings, WordsError, read_words};
 use std::alloc::{AllocError, Global};
+use test_kit::push_number;
 
 /// Returns the words of a line, separated by single spaces, so that two spaces have an empty word between them.
 fn words_in(alloc: Global, line: &str) -> Result<Vec<String>, AllocError> {
@@ -11,17 +12,22 @@ fn words_in(alloc: Global, line: &str) -> Result<Vec<String>, AllocError> {
     Ok(words)
 }
 
-fn push_field(alloc: Global, line: &mut String, field: &Field) -> Result<(), AllocError> {
-    let text = format!(in alloc;
-        "{}:{:?}:{:?}",
-        field.name.as_str(),
-        field.kind,
-        field.value
-    )?;
-    line.push_str(&text)
+fn push_field(line: &mut String, field: &Field) -> Result<(), AllocError> {
+    line.push_str(field.name.as_str())?;
+    write!(line, ":{:?}:{:?}", field.kind, field.value)
 }
 
-fn push_numbers(alloc: Global, line: &mut String, settings: &Settings) -> Result<(), AllocError> {
+fn push_fields(line: &mut String, fields: &[Field]) -> Result<(), AllocError> {
+    for field in fields {
+        if !line.is_empty() {
+            line.push_str(",")?;
+        }
+        push_field(line, field)?;
+    }
+    Ok(())
+}
+
+fn push_numbers(line: &mut String, settings: &Settings) -> Result<(), AllocError> {
     for number in [
         settings.batch,
         settings.readers,
@@ -30,39 +36,58 @@ fn push_numbers(alloc: Global, line: &mut String, settings: &Settings) -> Result
         settings.words,
         settings.seed,
     ] {
-        let text = format!(in alloc; " {number}")?;
-        line.push_str(&text)?;
+        push_number(line, " ", i64::from(number))?;
     }
-    let text = format!(in alloc; " {:?}", settings.make)?;
-    line.push_str(&text)
+    write!(line, " {:?}", settings.make)
 }
 
-fn push_flag(line: &mut String, given: bool, name: &str) -> Result<(), AllocError> {
-    if given {
-        line.push_str(name)?;
+fn push_flags(line: &mut String, settings: &Settings) -> Result<(), AllocError> {
+    for (given, name) in [
+        (settings.after, " after"),
+        (settings.wide, " wide"),
+        (settings.dense, " dense"),
+        (settings.save, " save"),
+    ] {
+        if given {
+            line.push_str(name)?;
+        }
     }
     Ok(())
 }
 
-/// Returns the settings as one line: the attributes, the numbers, the given flags, and each query after a bar.
-fn line_of(alloc: Global, settings: &Settings) -> Result<String, AllocError> {
-    let mut line = String::new(alloc);
-    for field in settings.fields.as_slice() {
-        if !line.is_empty() {
-            line.push_str(",")?;
-        }
-        push_field(alloc, &mut line, field)?;
-    }
-    push_numbers(alloc, &mut line, settings)?;
-    push_flag(&mut line, settings.after, " after")?;
-    push_flag(&mut line, settings.wide, " wide")?;
-    push_flag(&mut line, settings.dense, " dense")?;
-    push_flag(&mut line, settings.save, " save")?;
+fn push_queries(line: &mut String, settings: &Settings) -> Result<(), AllocError> {
     for query in &settings.queries {
         line.push_str("|")?;
         line.push_str(query)?;
     }
+    Ok(())
+}
+
+/// Writes the settings as one line: the attributes, the numbers, the given flags, and each query after a bar.
+fn push_line(line: &mut String, settings: &Settings) -> Result<(), AllocError> {
+    push_fields(line, settings.fields.as_slice())?;
+    push_numbers(line, settings)?;
+    push_flags(line, settings)?;
+    push_queries(line, settings)
+}
+
+fn line_of(alloc: Global, settings: &Settings) -> Result<String, AllocError> {
+    let mut line = String::new(alloc);
+    push_line(&mut line, settings)?;
     Ok(line)
+}
+
+/// Returns why words are refused.
+fn refusal(alloc: Global, error: WordsError) -> Result<String, AllocError> {
+    match error {
+        WordsError::Help => String::from_str(alloc, "help"),
+        WordsError::Refused => String::from_str(alloc, "refused"),
+        WordsError::Kind => String::from_str(alloc, "kind"),
+        WordsError::Value => String::from_str(alloc, "value"),
+        WordsError::Size { buffers, words } => format!(in alloc; "size {buffers} {words}"),
+        WordsError::Also { place } => format!(in alloc; "also at {place}"),
+        WordsError::Memory => String::from_str(alloc, "memory"),
+    }
 }
 
 /// Returns how a line of words is read.
@@ -70,13 +95,7 @@ pub fn told(alloc: Global, line: &str) -> Result<String, AllocError> {
     let words = words_in(alloc, line)?;
     match read_words(alloc, &words) {
         Ok(settings) => line_of(alloc, &settings),
-        Err(WordsError::Help) => String::from_str(alloc, "help"),
-        Err(WordsError::Refused) => String::from_str(alloc, "refused"),
-        Err(WordsError::Kind) => String::from_str(alloc, "kind"),
-        Err(WordsError::Value) => String::from_str(alloc, "value"),
-        Err(WordsError::Size { buffers, words }) => format!(in alloc; "size {buffers} {words}"),
-        Err(WordsError::Also { place }) => format!(in alloc; "also at {place}"),
-        Err(WordsError::Memory) => String::from_str(alloc, "memory"),
+        Err(error) => refusal(alloc, error),
     }
 }
 
