@@ -127,3 +127,6 @@ returns-in_err-more-clause-spent g c =
     let p = err_from_is_err_and c.from_residual.result c.from_residual.ensures.1 in
     rw (p.1 ∙ ap Err p.2) (given_up ledger c.args.batch c.args.ops.now c.args.attribute.now c.loop-rest.attribute c.loop-rest.operations c.loop-rest.skipped i.stands
     c.loop-rest.rest.now part i.rest part_is (omega (arith, some, long)) c.requires.some c.in_err-more.field-0.0 c.in_err-more.ensures.spent)
+
+-- (place 1: an edit of must-fail/ puts an answer of its own here)
+-- (place 2: an edit of must-fail/ puts an answer of its own here)
