@@ -5,6 +5,7 @@
 mod commit;
 mod compaction;
 mod course;
+mod guards;
 mod index_run;
 mod items;
 mod lists;
@@ -14,22 +15,27 @@ mod operations;
 mod postings;
 mod queries;
 mod round;
+mod saves;
 mod store_run;
 mod stores;
+mod tables;
 mod tree_run;
 mod words;
 
 use crate::compaction::updates_told;
+use crate::guards::counted_told;
 use crate::index_run::{changes_told, reads_told};
 use crate::lists::lists_told;
 use crate::operations::apply_told;
 use crate::queries::asked_told;
+use crate::saves::saved_told;
 use crate::store_run::store_told;
 use crate::tree_run::tree_told;
 use crate::words::{Workload, workload_in};
 use std::alloc::{AllocError, Global};
 use std::io;
 use std::process::ExitCode;
+use std::thread::Threads;
 
 /// The lines of the usage.
 const USAGE: &str = "\
@@ -40,10 +46,18 @@ const USAGE: &str = "\
     bench_engine attribute single|array|weightedset long|text OPERATIONS APPLIED BATCH BUFFERS [dense]\n\
     bench_engine attribute queries none|term|terms|range|wide|quarters DOCUMENTS ROUNDS BUFFERS [dense]\n\
     bench_engine attribute lists DOCUMENTS BUFFERS [dense]\n\
-    bench_engine compaction KIND long|text DOCUMENTS UPDATES LEFT BATCH BUFFERS uniform|zipf APPLIES KEYS COUNTS";
+    bench_engine compaction KIND long|text DOCUMENTS UPDATES LEFT BATCH BUFFERS uniform|zipf APPLIES KEYS COUNTS\n\
+    bench_engine save long|texts DOCUMENTS ROUNDS\n\
+    bench_engine guard guards READERS LOOPS COMMITS\n\
+    bench_engine guard again READERS LOOPS COMMITS LOOKS\n\
+    bench_engine guard read LOOPS";
 
 /// Returns the result of a workload, as a line.
-fn told(alloc: Global, workload: Workload) -> Result<String, AllocError> {
+fn told<R: Threads + Sync>(
+    threads: &R,
+    alloc: Global,
+    workload: Workload,
+) -> Result<String, AllocError> {
     match workload {
         Workload::Store(load) => store_told(alloc, load),
         Workload::Tree(load) => tree_told(alloc, &load),
@@ -53,16 +67,18 @@ fn told(alloc: Global, workload: Workload) -> Result<String, AllocError> {
         Workload::Queries(asks) => asked_told(alloc, asks),
         Workload::Lists(load) => lists_told(alloc, load),
         Workload::Updates(load) => updates_told(alloc, load),
+        Workload::Saves(load) => saved_told(alloc, load),
+        Workload::Guards(load) => counted_told(threads, alloc, load),
     }
 }
 
 /// Runs the workload that words select, and prints its result. Returns whether it succeeded.
-fn run(rt: &HostRuntime, words: &[String]) -> io::Result<bool> {
+fn run<R: Threads + Sync>(rt: &HostRuntime, threads: &R, words: &[String]) -> io::Result<bool> {
     let Some(workload) = workload_in(words) else {
         println!(rt; "{USAGE}")?;
         return Ok(false);
     };
-    let text = told(rt.alloc(), workload)?;
+    let text = told(threads, rt.alloc(), workload)?;
     println!(rt; "{text}")?;
     Ok(true)
 }
@@ -75,15 +91,15 @@ fn words_in(alloc: Global, line: &str) -> Result<Vec<String>, AllocError> {
     Ok(words)
 }
 
-fn run_line(rt: &HostRuntime, line: &str) -> io::Result<bool> {
+fn run_line<R: Threads + Sync>(rt: &HostRuntime, threads: &R, line: &str) -> io::Result<bool> {
     let words = words_in(rt.alloc(), line)?;
-    run(rt, &words)
+    run(rt, threads, &words)
 }
 
 /// Runs the workload of each line of standard input.
-fn run_lines(rt: &HostRuntime) -> io::Result<bool> {
+fn run_lines<R: Threads + Sync>(rt: &HostRuntime, threads: &R) -> io::Result<bool> {
     for line in rt.lines(rt.alloc()) {
-        if !run_line(rt, line?.as_str())? {
+        if !run_line(rt, threads, line?.as_str())? {
             return Ok(false);
         }
     }
@@ -95,16 +111,16 @@ fn arguments(rt: &HostRuntime) -> Option<Vec<String>> {
     std::env::args(rt).ok()?.skip(1).collect(rt.alloc()).ok()
 }
 
-fn run_all(rt: &HostRuntime) -> io::Result<bool> {
+fn run_all<R: Threads + Sync>(rt: &HostRuntime, threads: &R) -> io::Result<bool> {
     let words = arguments(rt).unwrap_or(Vec::new(rt.alloc()));
     if words.is_empty() {
-        return run_lines(rt);
+        return run_lines(rt, threads);
     }
-    run(rt, &words)
+    run(rt, threads, &words)
 }
 
 fn main(rt: HostRuntime) -> ExitCode {
-    match run_all(&rt) {
+    match run_all(&rt, &rt) {
         Ok(true) => ExitCode::from(0),
         _ => ExitCode::from(1),
     }

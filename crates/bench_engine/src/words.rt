@@ -1,10 +1,13 @@
 //! The workload that words select.
 use crate::compaction::Updates;
+use crate::guards::Guards;
 use crate::index_run::{Changes, Reads};
 use crate::lists::Frequent;
 use crate::operations::Load;
 use crate::queries::{Asks, Question};
+use crate::saves::Saves;
 use crate::store_run::StoreLoad;
+use crate::tables::Shape;
 use crate::tree_run::{Order, TreeLoad};
 use attr_types::{Kind, ValueType};
 
@@ -27,6 +30,10 @@ pub enum Workload {
     Lists(Frequent),
     /// Updates of one attribute, with steps of a compaction.
     Updates(Updates),
+    /// A table that is saved and read.
+    Saves(Saves),
+    /// Guards of the running memory, and reads under one.
+    Guards(Guards),
 }
 
 fn kind_of(name: &str) -> Option<Kind> {
@@ -187,6 +194,50 @@ fn updates_in(words: &[String]) -> Option<Workload> {
     }))
 }
 
+/// `save long|texts DOCUMENTS ROUNDS`.
+fn saves_in(words: &[String]) -> Option<Workload> {
+    let [documents, rounds, ..] = numbers_at(words, 2, 2)?;
+    let shape = match word_at(words, 1) {
+        "long" => Shape::Long,
+        "texts" => Shape::Texts,
+        _ => return None,
+    };
+    Some(Workload::Saves(Saves {
+        shape,
+        documents,
+        rounds,
+    }))
+}
+
+/// `guard guards READERS LOOPS COMMITS`, `guard again READERS LOOPS COMMITS LOOKS`.
+fn looks_in(words: &[String], looks: u32) -> Option<Workload> {
+    let [readers, ..] = numbers_at(words, 2, 1)?;
+    let [commits, ..] = numbers_at(words, 4, 1)?;
+    let loops = word_at(words, 3).parse::<u64>().ok()?;
+    Some(Workload::Guards(Guards::Looks {
+        readers,
+        loops,
+        commits,
+        looks,
+    }))
+}
+
+/// `guard read LOOPS`.
+fn guards_in(words: &[String]) -> Option<Workload> {
+    match word_at(words, 1) {
+        "guards" => looks_in(words, 1),
+        "again" => {
+            let [looks, ..] = numbers_at(words, 5, 1)?;
+            looks_in(words, looks)
+        }
+        "read" => {
+            let loops = word_at(words, 2).parse::<u64>().ok()?;
+            Some(Workload::Guards(Guards::Reads { loops }))
+        }
+        _ => None,
+    }
+}
+
 /// Returns the workload that the words select. The first word is the name of the script that times it.
 pub fn workload_in(words: &[String]) -> Option<Workload> {
     match (word_at(words, 0), word_at(words, 1)) {
@@ -198,6 +249,8 @@ pub fn workload_in(words: &[String]) -> Option<Workload> {
         ("attribute", "lists") => lists_in(words),
         ("attribute", _) => operations_in(words),
         ("compaction", _) => updates_in(words),
+        ("save", _) => saves_in(words),
+        ("guard", _) => guards_in(words),
         _ => None,
     }
 }

@@ -1,4 +1,4 @@
-//! The table that is saved.
+//! The tables of `saves`.
 ghost use Rattle.std.specs.Prelude.{◌≤◌};
 
 use attr_plain::PlainTable;

@@ -8,16 +8,16 @@ use word_arena::{Again, Arena, Config, Limits, Reader, Writer};
 
 /// The load of a run.
 #[derive(Clone, Copy)]
-pub enum Load {
+pub enum Guards {
     /// Each reader takes `loops` guards, and loads the root `looks` times under each; with commits, until the last one
     /// is seen.
-    Guards {
+    Looks {
         readers: u32,
         loops: u64,
         commits: u32,
         looks: u32,
     },
-    Read {
+    Reads {
         loops: u64,
     },
 }
@@ -92,7 +92,7 @@ fn look(reader: Reader<22, OneNode>, loops: u64, looks: u32, last: u32) -> u64 {
 }
 
 /// Takes guards and releases each at once: a number of times, or until this commit is seen.
-fn guards(reader: Reader<22, OneNode>, loops: u64, last: u32) -> u64 {
+fn release_each(reader: Reader<22, OneNode>, loops: u64, last: u32) -> u64 {
     let mut reader = reader;
     let mut counted = 0u64;
     for _ in 0..loops {
@@ -143,7 +143,7 @@ fn work_on(job: Job) -> u64 {
             if looks > 1 {
                 look(reader, loops, looks, most)
             } else {
-                guards(reader, loops, most)
+                release_each(reader, loops, most)
             }
         }
     }
@@ -232,7 +232,7 @@ fn read_node(writer: Writer<22, OneNode>, loops: u64) -> u64 {
 }
 
 /// Returns how many guards or reads were made.
-pub fn count<R: Threads + Sync>(rt: &R, alloc: Global, load: Load) -> Result<u64, AllocError> {
+fn count<R: Threads + Sync>(rt: &R, alloc: Global, load: Guards) -> Result<u64, AllocError> {
     let config = Config {
         buffers: 8,
         words: 8192,
@@ -245,7 +245,7 @@ pub fn count<R: Threads + Sync>(rt: &R, alloc: Global, load: Load) -> Result<u64
     let (arena, token) = Arena::<22, OneNode>::create(alloc, config)?;
     let writer = arena.writer(alloc, token)?;
     match load {
-        Load::Guards {
+        Guards::Looks {
             readers,
             loops,
             commits,
@@ -258,6 +258,16 @@ pub fn count<R: Threads + Sync>(rt: &R, alloc: Global, load: Load) -> Result<u64
             }
             Ok(counted)
         }
-        Load::Read { loops } => Ok(read_node(writer, loops)),
+        Guards::Reads { loops } => Ok(read_node(writer, loops)),
     }
+}
+
+/// Counts guards or reads. Returns the count, as a line.
+pub fn counted_told<R: Threads + Sync>(
+    rt: &R,
+    alloc: Global,
+    load: Guards,
+) -> Result<String, AllocError> {
+    let counted = count(rt, alloc, load)?;
+    format!(in alloc; "{counted}")
 }
