@@ -30,7 +30,7 @@ pub use notes::Notes;
 pub use print::{print_ask, print_query};
 pub use random::Random;
 pub use reading::ValueList;
-pub use rows::{fields_in, number_at};
+pub use rows::{fields_in, kind_in, number_at, type_in};
 pub use stores::new_lists;
 pub use tables::is_same_table;
 pub use tally::Tally;

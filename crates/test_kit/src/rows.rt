@@ -13,7 +13,8 @@ pub fn number_at(row: &str, place: usize) -> u32 {
     }
 }
 
-fn kind_in(word: &str) -> Kind {
+/// Returns the kind in the words `KIND:TYPE`: a single value, if they name no other kind.
+pub fn kind_in(word: &str) -> Kind {
     match word.split(':').next() {
         Some("array") => Kind::Array,
         Some("weightedset") => Kind::WeightedSet,
@@ -21,7 +22,8 @@ fn kind_in(word: &str) -> Kind {
     }
 }
 
-fn type_in(word: &str) -> ValueType {
+/// Returns the value type in the words `KIND:TYPE`: longs, if they name no texts.
+pub fn type_in(word: &str) -> ValueType {
     match word.split(':').skip(1).next() {
         Some("string") => ValueType::Text,
         _ => ValueType::Long,

@@ -18,6 +18,7 @@ use query_eval::{hits, scores};
 use query_text::parse_ask;
 use std::alloc::{AllocError, Global};
 use store_api::Store;
+use test_kit::push_number;
 
 /// How often each call was refused for lack of memory.
 #[derive(Clone, Copy)]
@@ -46,10 +47,17 @@ impl Refused {
 
     pub fn line(&self, alloc: Global) -> Result<String, AllocError> {
         let mut line = String::new(alloc);
-        write!(&mut line, "feed {} ask {}", self.feed, self.ask)?;
-        write!(&mut line, " apply {} commit {}", self.apply, self.commit)?;
-        write!(&mut line, " hits {} scores {}", self.hits, self.scores)?;
-        write!(&mut line, " load {}", self.load)?;
+        for (name, count) in [
+            ("feed ", self.feed),
+            (" ask ", self.ask),
+            (" apply ", self.apply),
+            (" commit ", self.commit),
+            (" hits ", self.hits),
+            (" scores ", self.scores),
+            (" load ", self.load),
+        ] {
+            push_number(&mut line, name, i64::from(count))?;
+        }
         Ok(line)
     }
 }

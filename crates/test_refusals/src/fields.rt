@@ -1,21 +1,7 @@
 //! The attributes that a line names.
-use attr_types::{Field, Fields, Kind, Name, ValueType};
+use attr_types::{Field, Fields, Name};
 use std::alloc::{AllocError, Global};
-
-fn kind_in(word: &str) -> Kind {
-    match word.split(':').next() {
-        Some("array") => Kind::Array,
-        Some("weightedset") => Kind::WeightedSet,
-        _ => Kind::Single,
-    }
-}
-
-fn type_in(word: &str) -> ValueType {
-    match word.split(':').skip(1).next() {
-        Some("string") => ValueType::Text,
-        _ => ValueType::Long,
-    }
-}
+use test_kit::{kind_in, type_in};
 
 fn name_at(place: usize) -> &'static str {
     match place {

@@ -7,9 +7,9 @@ ghost use Rattle.attr_types.specs.declared.field.TheConstants.{MOST_FIELDS};
 
 use crate::again::{Refused, apply, commit, read};
 use crate::asking::tell_queries;
-use crate::saves::{first_law, push_bytes, saved, tell_saved, tell_writes};
+use crate::saves::{first_law, saved, tell_saved, tell_writes};
 use crate::script::Script;
-use crate::told::push_answer;
+use crate::told::{push_answer, push_commit};
 use arena_api::{Frozen, Work};
 use attr_images::{AttrLayout, shape_of};
 use attr_types::{Fields, Op};
@@ -99,7 +99,6 @@ fn tell_save<const OFFSET_BITS: u32, F: Frozen<OFFSET_BITS>>(
             let (kind, value) = (field.kind, field.value);
             let sink = saved(alloc, frozen, root, kind, value)?;
             let bytes = sink.taken();
-            push_bytes(told, bytes)?;
             tell_saved(alloc, bytes, refused, told)?;
             tell_writes(alloc, frozen, root, kind, value, bytes, told)
         }
@@ -142,6 +141,66 @@ fn close(attribute: Kinds, fields: &Fields) -> (MemWork<22, AttrLayout>, Publish
     (work, published)
 }
 
+/// Writes the last commit, if the lines before it were taken.
+fn and_commit(
+    taken: Result<(), AllocError>,
+    told: &mut String,
+    commit: u32,
+    operations: u32,
+) -> Result<(), AllocError> {
+    taken?;
+    push_commit(told, "; at ", commit, operations)
+}
+
+/// Writes the answers of the last commit, and the content of its save, if the lines before it were taken.
+fn tell_last<const OFFSET_BITS: u32, F: Frozen<OFFSET_BITS>>(
+    alloc: Global,
+    taken: Result<(), AllocError>,
+    frozen: &mut F,
+    root: EntryRef<OFFSET_BITS>,
+    fields: &Fields,
+    queries: &str,
+    refused: &mut Refused,
+    told: &mut String,
+) -> Result<(), AllocError>
+    requires few { length fields.now ≤ MOST_FIELDS }
+    requires shape { F.shape frozen.old ≡ shape_of (types_of fields.now) }
+    requires image { IsLawfulImage (F.shape frozen.old) (F.records frozen.old) root }
+{
+    taken?;
+    tell_queries(alloc, frozen, root, fields, queries, refused, told)?;
+    tell_save(alloc, frozen, root, fields, refused, told)
+}
+
+/// Writes the results of the lines, and what their last commit has. Nothing drops the attributes: they are closed also
+/// after a line that failed.
+fn tell_run(
+    alloc: Global,
+    fields: &Fields,
+    script: &Script,
+    refused: &mut Refused,
+    told: &mut String,
+) -> Result<(), AllocError>
+    requires some { 0 < length fields.now }
+    requires few { length fields.now ≤ MOST_FIELDS }
+{
+    let mut attribute = new_attribute(alloc, fields)?;
+    let taken = take_lines(alloc, &mut attribute, fields, &script.lines, refused, told);
+    let (mut work, last) = close(attribute, fields);
+    let root = last.root;
+    let taken = and_commit(taken, told, last.commit, last.operations);
+    tell_last(
+        alloc,
+        taken,
+        &mut work,
+        root,
+        fields,
+        &script.queries,
+        refused,
+        told,
+    )
+}
+
 /// Returns the results of the lines, the answers of the last commit, and the content of its save.
 pub fn told_of(
     alloc: Global,
@@ -153,27 +212,6 @@ pub fn told_of(
     requires few { length fields.now ≤ MOST_FIELDS }
 {
     let mut told = String::new(alloc);
-    let mut attribute = new_attribute(alloc, fields)?;
-    take_lines(
-        alloc,
-        &mut attribute,
-        fields,
-        &script.lines,
-        refused,
-        &mut told,
-    )?;
-    let (mut work, last) = close(attribute, fields);
-    write!(told, "; at {}/{}", last.commit, last.operations)?;
-    let root = last.root;
-    tell_queries(
-        alloc,
-        &mut work,
-        root,
-        fields,
-        &script.queries,
-        refused,
-        &mut told,
-    )?;
-    tell_save(alloc, &mut work, root, fields, refused, &mut told)?;
+    tell_run(alloc, fields, script, refused, &mut told)?;
     Ok(told)
 }

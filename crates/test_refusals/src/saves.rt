@@ -9,10 +9,11 @@ use crate::again::{Refused, load};
 use crate::told::push_items;
 use arena_api::Frozen;
 use attr_io::{FakeSink, VecSink};
-use attr_saver::{SaveError, Saved, save, saved_size};
+use attr_saver::{SaveError, Saved, SavedDocument, save, saved_size};
 use attr_types::{Field, Fields, Kind, ValueType};
 use entry_ref::EntryRef;
 use std::alloc::{AllocError, Global};
+use test_kit::push_number;
 
 /// Images of these attributes have the first of them first. It does nothing: its contract is the law.
 pub fn first_law(_fields: &Fields, _field: &Field)
@@ -108,7 +109,7 @@ pub fn tell_writes<const OFFSET_BITS: u32, F: Frozen<OFFSET_BITS>>(
 }
 
 /// Writes each byte in two digits.
-pub fn push_bytes(told: &mut String, bytes: &[u8]) -> Result<(), AllocError> {
+fn push_bytes(told: &mut String, bytes: &[u8]) -> Result<(), AllocError> {
     told.push_str("; ")?;
     for byte in bytes {
         write!(told, "{byte:02x}")?;
@@ -116,22 +117,28 @@ pub fn push_bytes(told: &mut String, bytes: &[u8]) -> Result<(), AllocError> {
     Ok(())
 }
 
+fn push_document(told: &mut String, document: &SavedDocument) -> Result<(), AllocError> {
+    push_number(told, ", ", i64::from(document.doc.number()))?;
+    told.push_str(":")?;
+    push_items(told, &document.items)
+}
+
 fn push_saved(told: &mut String, saved: &Saved) -> Result<(), AllocError> {
-    write!(told, "; saved {}", saved.operations)?;
+    push_number(told, "; saved ", i64::from(saved.operations))?;
     for document in saved.table.as_slice() {
-        write!(told, ", {}:", document.doc.number())?;
-        push_items(told, &document.items)?;
+        push_document(told, document)?;
     }
     Ok(())
 }
 
-/// Returns the save in bytes.
+/// Writes the bytes of a save, and what is read of them.
 pub fn tell_saved(
     alloc: Global,
     bytes: &[u8],
     refused: &mut Refused,
     told: &mut String,
 ) -> Result<(), AllocError> {
+    push_bytes(told, bytes)?;
     match load(alloc, bytes, refused) {
         Ok(saved) => push_saved(told, &saved),
         Err(error) => write!(told, "; {error}"),

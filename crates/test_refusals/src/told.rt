@@ -1,13 +1,27 @@
 //! The results of calls, as text.
 use crate::again::Answer;
-use attr_types::{Applied, Doc, Item, Items, Score, Value};
+use attr_types::{Applied, Doc, Items, Score};
 use std::alloc::AllocError;
+use test_kit::{push_item, push_number};
+
+/// Writes the number of a commit, and how many operations it has.
+pub fn push_commit(
+    told: &mut String,
+    front: &str,
+    number: u32,
+    operations: u32,
+) -> Result<(), AllocError> {
+    push_number(told, front, i64::from(number))?;
+    push_number(told, "/", i64::from(operations))
+}
 
 pub fn push_answer(told: &mut String, answer: Answer) -> Result<(), AllocError> {
     match answer {
         Answer::Applied(Applied::Changed) => told.push_str(" changed"),
         Answer::Applied(Applied::Skipped) => told.push_str(" skipped"),
-        Answer::Committed { number, operations } => write!(told, " commit {number}/{operations}"),
+        Answer::Committed { number, operations } => push_commit(
+            told, " commit ", number, operations,
+        ),
         Answer::Memory => told.push_str(" memory"),
         Answer::Odd => told.push_str(" odd"),
     }
@@ -15,25 +29,17 @@ pub fn push_answer(told: &mut String, answer: Answer) -> Result<(), AllocError> 
 
 pub fn push_documents(told: &mut String, documents: &[Doc]) -> Result<(), AllocError> {
     for doc in documents {
-        write!(told, " {}", doc.number())?;
+        push_number(told, " ", i64::from(doc.number()))?;
     }
     Ok(())
 }
 
 pub fn push_scores(told: &mut String, scores: &[Score]) -> Result<(), AllocError> {
     for score in scores {
-        let number = score.score;
-        write!(told, " {}={number}", score.doc.number())?;
+        push_number(told, " ", i64::from(score.doc.number()))?;
+        write!(told, "={}", score.score)?;
     }
     Ok(())
-}
-
-fn push_item(told: &mut String, item: &Item) -> Result<(), AllocError> {
-    let weight = item.weight;
-    match &item.value {
-        Value::Long(number) => write!(told, " {number}*{weight}"),
-        Value::Text(text) => write!(told, " '{}'*{weight}", text.as_str()),
-    }
 }
 
 pub fn push_items(told: &mut String, items: &Items) -> Result<(), AllocError> {

@@ -3,17 +3,20 @@ ghost use Rattle.std.specs.Prelude.{◌≡◌, ◌<◌, ◌≤◌, ◌^◌, leng
 ghost use Rattle.attr_types.specs.declared.field.TheConstants.{MOST_FIELDS};
 ghost use Rattle.attr_images.specs.Shapes.{shape_of, types_of};
 ghost use Rattle.word_arena.specs.Ruled.{reader_of, writer_of};
-ghost use Rattle.test_full.specs.New.{IsNewWriter};
+ghost use Rattle.test_refusals.specs.New.{IsNewWriter};
 
 use crate::attributes::{NoRoom, commit, compact, one_field, put, seat_in, tell_commit};
 use crate::lost::lose;
-use crate::script::{Script, follow, tell_offset};
+use crate::steps::{Steps, follow, tell_offset};
 use attr_images::{AttrLayout, shape_of};
 use attr_types::Fields;
 use attribute_kinds::Attribute;
 use std::alloc::{AllocError, Global};
 use store_api::Store;
 use word_arena::{Arena, Config, Guarded, Limits, Reader, Writer};
+
+/// The greatest number of generations.
+pub const MOST_GENERATIONS: u64 = 281_474_976_710_655;
 
 /// What is put: the numbers 1, 2, 3 and so on, each to the next of a number of documents.
 #[derive(Clone, Copy, Drop)]
@@ -55,7 +58,7 @@ pub enum Asked<'t> {
     /// The same after a guard was dropped without a release, until one is refused.
     Lost(u32),
     /// Steps, and whether a new entry has a new offset then.
-    Steps(Script<'t>),
+    Steps(Steps<'t>),
 }
 
 /// What was committed around a guard; or the results of commits under limits, in order.
@@ -129,9 +132,9 @@ fn put_under<const OFFSET_BITS: u32, S: Store<OFFSET_BITS, Layout = AttrLayout>>
     requires same { attribute.old.fields ≡ fields.now }
     ensures same { attribute.new.fields ≡ fields.now }
 {
-    let under = put_all(alloc, attribute, fields, load, above, load.puts)?;
+    let under = put_all(alloc, attribute, fields, load, above, load.puts);
     let _reader = guard.release();
-    Ok(under)
+    under
 }
 
 /// Makes all puts, some of them under a guard.
@@ -222,25 +225,28 @@ fn answer_one<const OFFSET_BITS: u32, S: Store<OFFSET_BITS, Layout = AttrLayout>
             puts,
             &mut answer.line,
         ),
-        Asked::Steps(script) => follow(alloc, attribute, reader, fields, script, &mut answer.line),
+        Asked::Steps(row) => follow(alloc, attribute, reader, fields, row, &mut answer.line),
     }
 }
 
-/// Closes the attributes. After steps, makes one more entry of two words, and says whether its offset is new.
+/// Closes the attributes, also after a test that failed. After steps, makes one more entry of two words, and says
+/// whether its offset is new.
 fn answer_end<const OFFSET_BITS: u32, S: Store<OFFSET_BITS, Layout = AttrLayout>>(
     attribute: Attribute<OFFSET_BITS, S>,
     asked: Asked<'_>,
+    answered: Result<(), AllocError>,
     answer: &mut Answer,
 ) -> (S, Result<(), AllocError>) {
     let _ = attribute.operations();
     let (mut store, _) = attribute.into_store();
-    let told = match asked {
-        Asked::Steps(script) => tell_offset(&mut store, script.last, &mut answer.line),
-        Asked::Guard(_) => Ok(()),
-        Asked::Limits(_) => Ok(()),
-        Asked::Lost(_) => Ok(()),
-    };
-    (store, told)
+    if answered.is_err() {
+        return (store, answered);
+    }
+    if let Asked::Steps(row) = asked {
+        let told = tell_offset(&mut store, row.last, &mut answer.line);
+        return (store, told);
+    }
+    (store, answered)
 }
 
 /// The same over a writer that has committed nothing.
@@ -258,8 +264,8 @@ fn answer_over(
 {
     match Attribute::create(alloc, writer, fields, false) {
         Ok(mut attribute) => {
-            answer_one(alloc, &mut attribute, reader, other, fields, asked, told)?;
-            let (_store, ended) = answer_end(attribute, asked, told);
+            let answered = answer_one(alloc, &mut attribute, reader, other, fields, asked, told);
+            let (_store, ended) = answer_end(attribute, asked, answered, told);
             ended
         }
         Err(_) => Err(AllocError),
@@ -328,57 +334,20 @@ fn answer_of(
     Ok(told)
 }
 
-/// Makes a run over a new memory of 1 to 64 buffers.
-pub fn run(alloc: Global, load: Load) -> Result<Option<Told>, AllocError> {
-    if load.buffers < 1 || load.buffers > 64 {
-        return Err(AllocError);
-    }
-    let limits = Limits {
-        commits: 4_294_967_295,
-        generations: 281_474_976_710_655,
-    };
-    let answer = answer_of(alloc, load.buffers, limits, Asked::Guard(load))?;
-    Ok(answer.told)
-}
-
-/// Follows steps in eight buffers, under a limit of generations.
-pub fn tell_steps(
+/// Runs a test on a new memory of 1 to 64 buffers, under limits of commits and of generations.
+pub fn ask_new(
     alloc: Global,
-    generations: u32,
-    script: Script<'_>,
-) -> Result<String, AllocError> {
-    let limits = Limits {
-        commits: 4_294_967_295,
-        generations: u64::from(generations),
-    };
-    let answer = answer_of(alloc, 8, limits, Asked::Steps(script))?;
-    Ok(answer.line)
-}
-
-/// Makes puts in 1 to 64 buffers, after a guard was dropped without a release.
-pub fn tell_lost(alloc: Global, buffers: u32, puts: u32) -> Result<String, AllocError> {
+    buffers: u32,
+    commits: u32,
+    generations: u64,
+    asked: Asked<'_>,
+) -> Result<Answer, AllocError> {
     if buffers < 1 || buffers > 64 {
         return Err(AllocError);
     }
     let limits = Limits {
-        commits: 4_294_967_295,
-        generations: 281_474_976_710_655,
-    };
-    let answer = answer_of(alloc, buffers, limits, Asked::Lost(puts))?;
-    Ok(answer.line)
-}
-
-/// Makes puts in eight buffers under limits of commits and of generations.
-pub fn tell(
-    alloc: Global,
-    puts: u32,
-    commits: u32,
-    generations: u32,
-) -> Result<String, AllocError> {
-    let limits = Limits {
         commits,
-        generations: u64::from(generations),
+        generations: generations.min(MOST_GENERATIONS),
     };
-    let answer = answer_of(alloc, 8, limits, Asked::Limits(puts))?;
-    Ok(answer.line)
+    answer_of(alloc, buffers, limits, asked)
 }

@@ -13,12 +13,15 @@ use attr_types::{Ask, Asks, Fields, Leaf, Query, Value};
 use attribute_kinds::Attribute;
 use std::alloc::{AllocError, Global};
 use store_api::Store;
+use test_kit::push_number;
 use word_arena::Reader;
 
 /// Writes what was refused, how many buffers are in use or held, and which hold is the oldest.
 fn push_refused(line: &mut String, what: &str, room: NoRoom) -> Result<(), AllocError> {
     let buffers = room.active.saturating_add(room.held);
-    write!(line, "{what} refused, {buffers} buffers in use or held")?;
+    line.push_str(what)?;
+    push_number(line, " refused, ", i64::from(buffers))?;
+    line.push_str(" buffers in use or held")?;
     let generation = room.oldest.generation;
     let hold = room.oldest.hold;
     let found = room.oldest.found;

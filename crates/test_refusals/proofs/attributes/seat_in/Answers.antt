@@ -1,8 +1,8 @@
 use Rattle.std.proofs.Common.{◌∙◌, ap}
 use Rattle.gen_core.specs.declared.views.ReaderView.{ReaderView}
 use Rattle.word_arena.specs.Ruled.{writer_of}
-use Rattle.test_full.proofs.NewLemmas.{new_on}
-use Rattle.test_full.proofs.attributes.seat_in.Goals as goal
+use Rattle.test_refusals.proofs.NewLemmas.{new_on}
+use Rattle.test_refusals.proofs.attributes.seat_in.Goals as goal
 
 pub returns-in-Ok : goal.returns-in-Ok
 returns-in-Ok c = record {

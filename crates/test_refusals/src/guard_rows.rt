@@ -4,11 +4,11 @@
 //! refused after a guard was dropped without a release, and the table then. `steps GENERATIONS LAST | BEFORE | UNDER |
 //! AFTER = LINE`: steps before a guard, under it and after its release. Other lines are comments.
 use crate::attributes::NoRoom;
-use crate::run::{Load, Told, run, tell, tell_lost, tell_steps};
-use crate::script::Script;
+use crate::guards::{Asked, Load, MOST_GENERATIONS, Told, ask_new};
+use crate::steps::Steps;
 use std::alloc::AllocError;
 use std::io;
-use test_kit::{Tally, number_at};
+use test_kit::{Tally, number_at, push_number};
 
 fn load_in(row: &str) -> Load {
     Load {
@@ -50,19 +50,22 @@ fn is_wanted(load: Load, told: Told, least: u32, most: u32) -> bool {
 }
 
 fn push_room(line: &mut String, room: NoRoom) -> Result<(), AllocError> {
-    write!(line, "; {} active, {} held", room.active, room.held)?;
-    let generation = room.oldest.generation;
-    let found = room.oldest.found;
-    write!(line, ", generation {generation} found {found}")
+    push_number(line, "; ", i64::from(room.active))?;
+    push_number(line, " active, ", i64::from(room.held))?;
+    let (generation, found) = (room.oldest.generation, room.oldest.found);
+    write!(line, " held, generation {generation} found {found}")
 }
 
 fn push_told(line: &mut String, told: Told) -> Result<(), AllocError> {
-    let before = told.before.committed;
-    let commit = told.commit;
-    write!(line, "{before} before the guard of commit {commit}")?;
-    let under = told.under.committed;
-    let after = told.after.committed;
-    write!(line, ", {under} before its release, {after} after it")?;
+    push_number(line, "", i64::from(told.before.committed))?;
+    push_number(line, " before the guard of commit ", i64::from(told.commit))?;
+    push_number(line, ", ", i64::from(told.under.committed))?;
+    push_number(
+        line,
+        " before its release, ",
+        i64::from(told.after.committed),
+    )?;
+    line.push_str(" after it")?;
     match told.under.full {
         Some(room) => push_room(line, room),
         None => Ok(()),
@@ -78,7 +81,9 @@ fn print(rt: &HostRuntime, row: &str, told: Told) -> io::Result<()> {
 
 fn compare_row(rt: &HostRuntime, row: &str, tally: &mut Tally) -> io::Result<()> {
     let load = load_in(row);
-    let Some(told) = run(rt.alloc(), load)? else {
+    let asked = Asked::Guard(load);
+    let answer = ask_new(rt.alloc(), load.buffers, u32::MAX, MOST_GENERATIONS, asked)?;
+    let Some(told) = answer.told else {
         let _ = tally.count(false);
         return Ok(());
     };
@@ -89,52 +94,49 @@ fn compare_row(rt: &HostRuntime, row: &str, tally: &mut Tally) -> io::Result<()>
 }
 
 fn compare_limits(rt: &HostRuntime, row: &str, tally: &mut Tally) -> io::Result<()> {
-    let Some((asked, wanted)) = row.split_once(" = ") else {
-        let _ = tally.count(false);
-        return Ok(());
-    };
-    let puts = number_at(asked, 1);
-    let told = tell(rt.alloc(), puts, number_at(asked, 2), number_at(asked, 3))?;
-    tally.note(rt, asked, &told, wanted)
+    let (asked, wanted) = row.split_once(" = ").unwrap_or((row, ""));
+    let puts = Asked::Limits(number_at(asked, 1));
+    let generations = u64::from(number_at(asked, 3));
+    let answer = ask_new(rt.alloc(), 8, number_at(asked, 2), generations, puts)?;
+    tally.note(rt, asked, &answer.line, wanted)
 }
 
 fn compare_lost(rt: &HostRuntime, row: &str, tally: &mut Tally) -> io::Result<()> {
     let (asked, wanted) = row.split_once(" = ").unwrap_or((row, ""));
-    let told = tell_lost(rt.alloc(), number_at(asked, 1), number_at(asked, 2))?;
-    tally.note(rt, asked, &told, wanted)
+    let puts = Asked::Lost(number_at(asked, 2));
+    let answer = ask_new(
+        rt.alloc(),
+        number_at(asked, 1),
+        u32::MAX,
+        MOST_GENERATIONS,
+        puts,
+    )?;
+    tally.note(rt, asked, &answer.line, wanted)
 }
 
 fn compare_steps(rt: &HostRuntime, row: &str, tally: &mut Tally) -> io::Result<()> {
     let (asked, wanted) = row.split_once(" = ").unwrap_or((row, ""));
     let (numbers, steps) = asked.split_once(" | ").unwrap_or((asked, ""));
-    let script = Script {
-        steps,
-        last: number_at(numbers, 2),
-    };
-    let told = tell_steps(rt.alloc(), number_at(numbers, 1), script)?;
-    tally.note(rt, asked, &told, wanted)
+    let last = number_at(numbers, 2);
+    let generations = u64::from(number_at(numbers, 1));
+    let answer = ask_new(
+        rt.alloc(),
+        8,
+        u32::MAX,
+        generations,
+        Asked::Steps(Steps { steps, last }),
+    )?;
+    tally.note(rt, asked, &answer.line, wanted)
 }
 
-fn compare_line(rt: &HostRuntime, line: &str, tally: &mut Tally) -> io::Result<()> {
-    if line.starts_with("row ") {
-        return compare_row(rt, line, tally);
+/// Compares the result of a row with what it says.
+pub fn compare_line(rt: &HostRuntime, line: &str, tally: &mut Tally) -> io::Result<()> {
+    let (kind, _) = line.split_once(' ').unwrap_or((line, ""));
+    match kind {
+        "row" => compare_row(rt, line, tally),
+        "limits" => compare_limits(rt, line, tally),
+        "lost" => compare_lost(rt, line, tally),
+        "steps" => compare_steps(rt, line, tally),
+        _ => Ok(()),
     }
-    if line.starts_with("limits ") {
-        return compare_limits(rt, line, tally);
-    }
-    if line.starts_with("lost ") {
-        return compare_lost(rt, line, tally);
-    }
-    if line.starts_with("steps ") {
-        return compare_steps(rt, line, tally);
-    }
-    Ok(())
-}
-
-pub fn compare(rt: &HostRuntime) -> io::Result<()> {
-    let mut tally = Tally::default();
-    for line in rt.lines(rt.alloc()) {
-        compare_line(rt, line?.as_str(), &mut tally)?;
-    }
-    tally.print(rt, "rows")
 }

@@ -4,7 +4,7 @@ use Rattle.atomic_table.specs.Seated.{TableId}
 use Rattle.gen_core.specs.declared.views.WriterView.{WriterView}
 use Rattle.gen_core.specs.Events.{with_reader}
 use Rattle.attr_types.specs.declared.field.Field.{Field}
-use Rattle.test_full.specs.New.{IsNewWriter}
+use Rattle.test_refusals.specs.New.{IsNewWriter}
 
 pub new_on : (fields : List Field) (home z : TableId) (w v : WriterView) → v ≡ with_reader w → z ≡ home → IsNewWriter fields home w → IsNewWriter fields z v
 new_on fields home z w v made same is =

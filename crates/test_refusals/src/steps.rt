@@ -11,7 +11,7 @@ use word_arena::Reader;
 
 /// The steps of a row, and the highest offset of width 2 that they use.
 #[derive(Clone, Copy, Drop)]
-pub struct Script<'t> {
+pub struct Steps<'t> {
     pub steps: &'t str,
     pub last: u32,
 }
@@ -28,8 +28,7 @@ fn commit_and_tell<const OFFSET_BITS: u32, S: Store<OFFSET_BITS, Layout = AttrLa
     match attribute.commit() {
         Ok(info) => {
             push_info(line, info)?;
-            let generation = info.oldest.generation;
-            write!(line, " oldest {generation}, ")
+            write!(line, " oldest {}, ", info.oldest.generation)
         }
         Err(error) => {
             let _ = refused(error)?;
@@ -83,20 +82,21 @@ pub fn follow<const OFFSET_BITS: u32, S: Store<OFFSET_BITS, Layout = AttrLayout>
     attribute: &mut Attribute<OFFSET_BITS, S>,
     reader: Reader<22, AttrLayout>,
     fields: &Fields,
-    script: Script<'_>,
+    row: Steps<'_>,
     line: &mut String,
 ) -> Result<(), AllocError>
     requires same { attribute.old.fields ≡ fields.now }
     ensures same { attribute.new.fields ≡ fields.now }
 {
-    let (before, rest) = script.steps.split_once('|').unwrap_or(("", ""));
+    let (before, rest) = row.steps.split_once('|').unwrap_or(("", ""));
     let (under, after) = rest.split_once('|').unwrap_or(("", ""));
     take_steps(alloc, attribute, fields, before, line)?;
     let Ok(guard) = reader.try_guard() else {
         return Err(AllocError);
     };
-    take_steps(alloc, attribute, fields, under, line)?;
+    let taken = take_steps(alloc, attribute, fields, under, line);
     let _reader = guard.release();
+    taken?;
     take_steps(alloc, attribute, fields, after, line)
 }
 

@@ -2,7 +2,7 @@
 ghost use Rattle.std.specs.Prelude.{◌≡◌, length, IfOk, OnOk};
 ghost use Rattle.attr_images.specs.Shapes.{shape_of, types_of};
 ghost use Rattle.word_arena.specs.Ruled.{reader_of, writer_of};
-ghost use Rattle.test_full.specs.New.{IsNewWriter};
+ghost use Rattle.test_refusals.specs.New.{IsNewWriter};
 
 use arena_api::{Advance, Oldest};
 use attr_images::AttrLayout;
@@ -12,6 +12,7 @@ use attr_types::{
 use attribute_kinds::{AttrError, Attribute, CommitInfo};
 use std::alloc::{AllocError, Global};
 use store_api::Store;
+use test_kit::push_number;
 use word_arena::{Reader, Writer};
 
 /// Why nothing more was put: how many buffers were in use and held, and which hold was the oldest.
@@ -150,13 +151,11 @@ pub fn compact<const OFFSET_BITS: u32, S: Store<OFFSET_BITS, Layout = AttrLayout
 }
 
 pub fn push_info(line: &mut String, info: CommitInfo) -> Result<(), AllocError> {
-    let commit = info.commit;
+    push_number(line, "", i64::from(info.commit))?;
     match info.advance {
-        Advance::To { generation, .. } => write!(line, "{commit} to {generation}"),
-        Advance::NoHold { holds, found } => {
-            write!(line, "{commit} no hold of {holds} found {found}")
-        }
-        Advance::Spent { generation } => write!(line, "{commit} spent at {generation}"),
+        Advance::To { generation, .. } => write!(line, " to {generation}"),
+        Advance::NoHold { holds, found } => write!(line, " no hold of {holds} found {found}"),
+        Advance::Spent { generation } => write!(line, " spent at {generation}"),
     }
 }
 
@@ -172,7 +171,9 @@ pub fn tell_commit<const OFFSET_BITS: u32, S: Store<OFFSET_BITS, Layout = AttrLa
 {
     match attribute.commit() {
         Ok(info) => push_info(line, info),
-        Err(AttrError::CommitsSpent { commit }) => write!(line, "none after {commit}"),
+        Err(AttrError::CommitsSpent { commit }) => {
+            push_number(line, "none after ", i64::from(commit))
+        }
         Err(AttrError::Full { .. }) => Err(AllocError),
         Err(AttrError::Memory) => Err(AllocError),
     }
