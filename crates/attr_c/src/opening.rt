@@ -1,15 +1,15 @@
 //! A new memory, with its attributes and readers. It is freed with the last of these.
-ghost use Rattle.std.specs.Prelude.{◌≡◌, ◌≤◌, ◌<◌, ◌*◌, ◌^◌, length, IfOk, IfNone, IfSome};
+ghost use Rattle.std.specs.Prelude.{◌≡◌, ◌≤◌, ◌<◌, ◌*◌, ◌^◌, true, false, length, IfOk, IfNone, IfSome};
 ghost use Rattle.attr_images.specs.Shapes.{shape_of, types_of};
 ghost use Rattle.attr_types.specs.declared.field.TheConstants.{MOST_FIELDS};
 ghost use Rattle.arena_api.specs.Calls.{IsFresh};
 ghost use Rattle.word_arena.specs.Knows.{core_sizes, view_of};
-ghost use Rattle.word_arena.specs.Ruled.{writer_of};
+ghost use Rattle.word_arena.specs.Ruled.{api_sizes, writer_of};
 ghost use Rattle.attr_c.specs.Engines.{AreNewCounts, HasNothing, IsOpened, open_counts};
 ghost use Rattle.attr_c.specs.Opening.{InBounds};
 ghost use Rattle.attr_c.specs.Stores.{HasMemory, open_memory};
 
-use crate::state::{AnyOpen, Counts, Narrow, Open, Waiting, Wide};
+use crate::state::{AnyOpen, Counts, Open, Waiting};
 use crate::told::Sizes;
 use attr_images::{AttrLayout, shape_of};
 use attr_types::Fields;
@@ -44,6 +44,27 @@ pub fn may_cross<T: Send>(value: T) -> T
     value
 }
 
+/// Returns one more reader, with the attributes; none if there can be no more.
+fn next_waiting<const OFFSET_BITS: u32>(
+    writer: &mut Writer<OFFSET_BITS, AttrLayout>,
+    fields: &Fields,
+) -> Result<Option<Waiting<OFFSET_BITS>>, AllocError>
+    requires few { length fields.now ≤ MOST_FIELDS }
+    requires shape { (writer_of writer.old.place.me.0).sizes.shape ≡ shape_of (types_of fields.now) }
+    requires fresh { IsFresh (view_of writer.old.place.table_id (writer_of writer.old.place.me.0)) }
+    ensures shape { (writer_of writer.new.place.me.0).sizes.shape ≡ shape_of (types_of fields.now) }
+    ensures fresh { IsFresh (view_of writer.new.place.table_id (writer_of writer.new.place.me.0)) }
+    ensures sizes { (writer_of writer.new.place.me.0).sizes ≡ (writer_of writer.old.place.me.0).sizes }
+{
+    match writer.reader() {
+        Ok(reader) => match fields.clone() {
+            Ok(fields) => Ok(Some(Waiting { fields, reader })),
+            Err(_) => Err(AllocError),
+        },
+        Err(_) => Ok(None),
+    }
+}
+
 /// Returns readers, each with the attributes.
 fn waiting<const OFFSET_BITS: u32>(
     alloc: Global,
@@ -60,11 +81,14 @@ fn waiting<const OFFSET_BITS: u32>(
 {
     let mut pool = Vec::new(alloc);
     for _ in 0..readers {
-        let Ok(reader) = writer.reader() else {
-            return Ok(pool);
-        };
-        let fields = fields.clone()?;
-        pool.push(Waiting { fields, reader })?;
+        match next_waiting(writer, fields) {
+            Ok(Some(waiting)) => match pool.push(waiting) {
+                Ok(()) => (),
+                Err(_) => return Err(AllocError),
+            },
+            Ok(None) => return Ok(pool),
+            Err(error) => return Err(error),
+        }
     }
     Ok(pool)
 }
@@ -163,13 +187,48 @@ fn wide_writer(alloc: Global, config: Config) -> Result<Writer<19, AttrLayout>, 
     arena.writer(alloc, token)
 }
 
+/// Returns attributes without documents, and readers of them.
+fn opened_over<const OFFSET_BITS: u32>(
+    alloc: Global,
+    writer: Writer<OFFSET_BITS, AttrLayout>,
+    fields: Fields,
+    sizes: &Sizes,
+) -> Result<Open<OFFSET_BITS, EntryStore<OFFSET_BITS, Writer<OFFSET_BITS, AttrLayout>>>, AllocError>
+    requires some { 0 < length fields }
+    requires few { length fields ≤ MOST_FIELDS }
+    requires shape { (writer_of writer.place.me.0).sizes.shape ≡ shape_of (types_of fields) }
+    requires fresh { IsFresh (view_of writer.place.table_id (writer_of writer.place.me.0)) }
+    ensures fields { IfOk result (λ o. o.fields ≡ fields) }
+    ensures nothing { IfOk result (λ o. HasNothing o.attribute.table o.attribute.committed o.attribute.operations
+        o.attribute.committed_operations) }
+    ensures counts { IfOk result (λ o. AreNewCounts sizes.now o.counts) }
+    ensures memory { IfOk result (λ o.
+        (⟦<EntryStore<OFFSET_BITS, Writer<OFFSET_BITS, AttrLayout>> as Store<OFFSET_BITS>>⟧.ledger o.attribute.store).work.sizes
+        ≡ api_sizes (writer_of writer.entry.place.me.0).sizes) }
+{
+    let mut writer = writer;
+    let pool = match waiting(alloc, &mut writer, &fields, sizes.readers) {
+        Ok(pool) => pool,
+        Err(error) => return Err(error),
+    };
+    match running(alloc, writer, &fields, sizes.dense != 0) {
+        Ok(attribute) => Ok(Open {
+            fields,
+            attribute,
+            pool,
+            counts: no_counts(sizes),
+        }),
+        Err(error) => Err(error),
+    }
+}
+
 /// Returns attributes without documents over a new memory with references of 22 and 10 bits, and its readers.
 fn narrow_open(
     alloc: Global,
     config: Config,
     fields: Fields,
     sizes: &Sizes,
-) -> Result<Open<22, Narrow>, AllocError>
+) -> Result<AnyOpen, AllocError>
     requires some { 0 < length fields }
     requires few { length fields ≤ MOST_FIELDS }
     requires some_buffers { 1 ≤ config.buffers }
@@ -179,22 +238,17 @@ fn narrow_open(
     requires product { config.buffers * config.words ≤ 67108864 }
     requires generations { config.limits.generations < 2 ^ 48 }
     requires shape { config.shape ≡ shape_of (types_of fields) }
-    ensures fields { IfOk result (λ o. o.fields ≡ fields) }
-    ensures nothing { IfOk result (λ o. HasNothing o.attribute.table o.attribute.committed o.attribute.operations
-        o.attribute.committed_operations) }
-    ensures counts { IfOk result (λ o. AreNewCounts sizes.now o.counts) }
-    ensures memory { IfOk result (λ o. HasMemory config.buffers config.words
-        (⟦<Narrow as Store<22>>⟧.ledger o.attribute.store).work.sizes) }
+    ensures opened { IfOk result (IsOpened fields) }
+    ensures counts { IfOk result (λ o. AreNewCounts sizes.now (open_counts o)) }
+    ensures memory { IfOk result (λ o. HasMemory config.buffers config.words (open_memory o)) }
 {
-    let mut writer = narrow_writer(alloc, config)?;
-    let pool = waiting(alloc, &mut writer, &fields, sizes.readers)?;
-    let attribute = running(alloc, writer, &fields, sizes.dense != 0)?;
-    Ok(Open {
-        fields,
-        attribute,
-        pool,
-        counts: no_counts(sizes),
-    })
+    match narrow_writer(alloc, config) {
+        Ok(writer) => match opened_over(alloc, writer, fields, sizes) {
+            Ok(open) => Ok(AnyOpen::Narrow(open)),
+            Err(error) => Err(error),
+        },
+        Err(error) => Err(error),
+    }
 }
 
 /// The same with references of 19 and 13 bits.
@@ -203,7 +257,7 @@ fn wide_open(
     config: Config,
     fields: Fields,
     sizes: &Sizes,
-) -> Result<Open<19, Wide>, AllocError>
+) -> Result<AnyOpen, AllocError>
     requires some { 0 < length fields }
     requires few { length fields ≤ MOST_FIELDS }
     requires some_buffers { 1 ≤ config.buffers }
@@ -213,22 +267,56 @@ fn wide_open(
     requires product { config.buffers * config.words ≤ 67108864 }
     requires generations { config.limits.generations < 2 ^ 48 }
     requires shape { config.shape ≡ shape_of (types_of fields) }
-    ensures fields { IfOk result (λ o. o.fields ≡ fields) }
-    ensures nothing { IfOk result (λ o. HasNothing o.attribute.table o.attribute.committed o.attribute.operations
-        o.attribute.committed_operations) }
-    ensures counts { IfOk result (λ o. AreNewCounts sizes.now o.counts) }
-    ensures memory { IfOk result (λ o. HasMemory config.buffers config.words
-        (⟦<Wide as Store<19>>⟧.ledger o.attribute.store).work.sizes) }
+    ensures opened { IfOk result (IsOpened fields) }
+    ensures counts { IfOk result (λ o. AreNewCounts sizes.now (open_counts o)) }
+    ensures memory { IfOk result (λ o. HasMemory config.buffers config.words (open_memory o)) }
 {
-    let mut writer = wide_writer(alloc, config)?;
-    let pool = waiting(alloc, &mut writer, &fields, sizes.readers)?;
-    let attribute = running(alloc, writer, &fields, sizes.dense != 0)?;
-    Ok(Open {
-        fields,
-        attribute,
-        pool,
-        counts: no_counts(sizes),
-    })
+    match wide_writer(alloc, config) {
+        Ok(writer) => match opened_over(alloc, writer, fields, sizes) {
+            Ok(open) => Ok(AnyOpen::Wide(open)),
+            Err(error) => Err(error),
+        },
+        Err(error) => Err(error),
+    }
+}
+
+/// Whether an engine may have these sizes.
+fn are_in_bounds(sizes: &Sizes) -> bool
+    ensures yes { result ≡ true → InBounds sizes.now }
+    ensures no { result ≡ false → InBounds sizes.now → ⊥ }
+{
+    if sizes.buffers < 1
+        || sizes.words < LEAST_WORDS
+        || sizes.words > MOST_WORDS
+        || sizes.readers > MOST_READERS
+    {
+        return false;
+    }
+    if u64::from(sizes.buffers) * u64::from(sizes.words) > MOST_WORDS_IN_ALL {
+        return false;
+    }
+    if sizes.wide == 0 {
+        sizes.buffers <= MOST_BUFFERS
+    } else {
+        sizes.buffers <= MOST_WIDE_BUFFERS
+    }
+}
+
+/// Returns attributes without documents over a new memory of these sizes, and its readers.
+fn opened_within(alloc: Global, fields: Fields, sizes: &Sizes) -> Result<AnyOpen, AllocError>
+    requires some { 0 < length fields }
+    requires few { length fields ≤ MOST_FIELDS }
+    requires bounds { InBounds sizes.now }
+    ensures opened { IfOk result (IsOpened fields) }
+    ensures counts { IfOk result (λ o. AreNewCounts sizes.now (open_counts o)) }
+    ensures memory { IfOk result (λ o. HasMemory sizes.now.buffers sizes.now.words (open_memory o)) }
+{
+    let config = config_of(&fields, sizes);
+    if sizes.wide == 0 {
+        narrow_open(alloc, config, fields, sizes)
+    } else {
+        wide_open(alloc, config, fields, sizes)
+    }
 }
 
 /// Returns attributes without documents over a new memory of these sizes, and its readers. Returns `None` if the
@@ -246,27 +334,11 @@ pub fn opened_in_bounds(
     ensures bounds { IfOk result (λ found. IfSome found (λ _. InBounds sizes.now)) }
     ensures refused { IfOk result (λ found. IfNone found (InBounds sizes.now → ⊥)) }
 {
-    if sizes.buffers < 1
-        || sizes.words < LEAST_WORDS
-        || sizes.words > MOST_WORDS
-        || sizes.readers > MOST_READERS
-    {
+    if !are_in_bounds(sizes) {
         return Ok(None);
     }
-    if u64::from(sizes.buffers) * u64::from(sizes.words) > MOST_WORDS_IN_ALL {
-        return Ok(None);
+    match opened_within(alloc, fields, sizes) {
+        Ok(open) => Ok(Some(open)),
+        Err(error) => Err(error),
     }
-    let config = config_of(&fields, sizes);
-    if sizes.wide == 0 {
-        if sizes.buffers > MOST_BUFFERS {
-            return Ok(None);
-        }
-        let open = narrow_open(alloc, config, fields, sizes)?;
-        return Ok(Some(AnyOpen::Narrow(open)));
-    }
-    if sizes.buffers > MOST_WIDE_BUFFERS {
-        return Ok(None);
-    }
-    let open = wide_open(alloc, config, fields, sizes)?;
-    Ok(Some(AnyOpen::Wide(open)))
 }
