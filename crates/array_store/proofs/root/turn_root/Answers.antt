@@ -5,7 +5,7 @@ use Rattle.array_store.proofs.RootLemmas.{one_dropped, owns_still, makes_root}
 use Rattle.array_store.proofs.root.turn_root.Goals as goal
 
 pub make_record-requires : goal.make_record-requires
-make_record-requires g c = (omega arith, (omega arith, (c.requires.unit, c.requires.few)))
+make_record-requires g c = (omega arith, (c.requires.unit, c.requires.few))
 
 pub drop_root-requires : goal.drop_root-requires
 drop_root-requires g c =
