@@ -1,3 +1,4 @@
 pub mod ClassLemmas
 pub mod ArrayLemmas
 pub mod AddLemmas
+pub mod RootLemmas

@@ -24,16 +24,18 @@ use Rattle.attr_images.specs.ProofsForImages.{attr_present}
 use Rattle.attr_images.specs.Shapes.{shape_of, types_of}
 use Rattle.attr_images.specs.Tables.{AttributeTrees, AreLawfulAttributes, attributes_reach, types_at}
 use Rattle.attr_images.specs.Words.{filled}
+use Rattle.array_store.specs.Roots.{MakesRootRecord, root_entries}
+use Rattle.array_store.proofs.RootLemmas.{entries_some}
 use Rattle.attr_types.specs.declared.field.Field.{Field}
 use Rattle.attr_types.specs.declared.field.TheConstants.{MOST_FIELDS}
 use Rattle.attr_steps.specs.Calls.{KeepsStore}
-use Rattle.attr_steps.specs.Commits.{CommitsAttributes, MakesRootRecord, roots_listed}
-use Rattle.attr_steps.specs.Fields.{AllReferBeside, AreFields, HoldsAttributes, IsFieldAt, OwnsOutside, parts_of, root_entries, trees_of}
+use Rattle.attr_steps.specs.Commits.{CommitsAttributes, roots_listed}
+use Rattle.attr_steps.specs.Fields.{AllReferBeside, AreFields, HoldsAttributes, IsFieldAt, OwnsOutside, parts_of, trees_of}
 use Rattle.attr_steps.specs.Views.{table_at}
 use Rattle.attr_steps.proofs.Columns.{FieldLaws}
 use Rattle.attr_steps.proofs.Committing.{apart_from, either_some, reach_same, owned_reached, reached_moved, reached_owns, reached_record, reached_same, reached_stay, reached_used, reached_uses, reached_whole}
 use Rattle.attr_steps.proofs.Referring.{AreSame, all_moved, each_same}
-use Rattle.attr_steps.proofs.RootLemmas.{entries_some, listed_trees}
+use Rattle.attr_steps.proofs.RootLemmas.{listed_trees}
 use Rattle.attr_steps.proofs.TreeLists.{trees_length}
 use Rattle.attr_steps.proofs.Units.{fields_stay, table_stays}
 

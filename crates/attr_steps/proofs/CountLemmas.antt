@@ -3,8 +3,9 @@ use Rattle.std.proofs.Common.{◌≡◌, Bool, ℕ, ℤ, zero, suc, ◌+◌, ◌
 use Rattle.std.specs.Prelude.{min, slice_get, unwrap_or}
 use Rattle.entry_ref.specs.Records.{Records}
 use Rattle.array_store.specs.Adding.{MakesOneOf}
+use Rattle.array_store.proofs.RootLemmas.{one_dropped}
 use Rattle.entry_ref.specs.declared.images.Image.{Image}
-use Rattle.store_api.proofs.Counts.{at_most-back, at_most-then}
+use Rattle.store_api.proofs.Counts.{at_most-back}
 use Rattle.store_api.specs.Calls.{Undoes, EndsOf, RefusesOf, StoresCommit}
 use Rattle.store_api.specs.declared.store.Stored.{Stored}
 use Rattle.store_api.specs.Ledgers.{Ledger, OfWidth, IsSettled, capacity}
@@ -164,12 +165,6 @@ document_unit dense old begun mid new fields table doc before after count begins
 
 -- ---- one record, of a width
 module _ {H : Type 0} (width : ℕ) where
-  pub one_dropped : (a b c : Ledger H) → MakesOneOf width a b → ((k w : ℕ) → MakesAtMost k 0 (b.of_width w) (c.of_width w)) → MakesOneOf width a c
-  one_dropped a b c made none = record {
-    one = at_most-then (capacity a.work.sizes.words width) 1 0 (a.of_width width) (b.of_width width) (c.of_width width) made.one (none (capacity a.work.sizes.words width) width);
-    others = λ k w other. at_most-then k 0 0 (a.of_width w) (b.of_width w) (c.of_width w) (made.others k w other) (none k w);
-  }
-
   pub one_unit : (old begun mid new : Ledger H) → begun ≡ record old { unit = true } → MakesOneOf width begun mid → (o : Records) → ((w : ℕ) → EndsOf (mid.of_width w) (new.of_width w)) → IsSettled new o
       → MakesOneOf width old new
   one_unit old begun mid new begins made o ends settled =
@@ -181,4 +176,4 @@ module _ {H : Type 0} (width : ℕ) where
 
   -- and then a commit
   pub one_committed : (bits : ℕ) (old mid new : Ledger H) (image : Image) (answer : Stored) → MakesOneOf width old mid → StoresCommit bits mid new image answer → MakesOneOf width old new
-  one_committed bits old mid new image answer made stores = one_dropped old mid new made (λ k w. at_most-back k (mid.of_width w) (new.of_width w) (stores.counts w))
+  one_committed bits old mid new image answer made stores = one_dropped width old mid new made (λ k w. at_most-back k (mid.of_width w) (new.of_width w) (stores.counts w))

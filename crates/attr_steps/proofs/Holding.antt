@@ -12,7 +12,8 @@ use Rattle.attr_field.specs.Fields.{RefersToKeys}
 use Rattle.attr_field.specs.Laws.{FieldReaches}
 use Rattle.attr_types.specs.declared.field.Field.{Field}
 use Rattle.attr_steps.specs.Calls.{KeepsStore, LeavesEntries}
-use Rattle.attr_steps.specs.Fields.{AllReferBeside, AreFields, HoldsAttributes, IsFieldAt, MakesUnsealed, OwnsFields, StillRefer, parts_of, root_entries}
+use Rattle.array_store.specs.Roots.{root_entries}
+use Rattle.attr_steps.specs.Fields.{AllReferBeside, AreFields, HoldsAttributes, IsFieldAt, MakesUnsealed, OwnsFields, StillRefer, parts_of}
 use Rattle.attr_steps.proofs.Columns.{FieldLaws}
 use Rattle.attr_steps.proofs.Committing.{apart_from, finished_this, reach_before, reached_used}
 use Rattle.attr_steps.proofs.Referring.{RefersAt, all_weaker}

@@ -1,5 +1,5 @@
 -- The words of a root record, and the record made in place of the one before.
-use Rattle.std.proofs.Common.{◌≡◌, ℕ, zero, suc, ◌+◌, ◌*◌, ◌<◌, ◌≤◌, Bool, List, [], ◌∷◌, ◌++◌, length, drop, true, Some, refl, sym, ap, subst, ◌∙◌, arith}
+use Rattle.std.proofs.Common.{◌≡◌, ℕ, zero, suc, ◌+◌, ◌*◌, ◌≤◌, Bool, List, [], ◌∷◌, ◌++◌, length, drop, true, Some, refl, sym, ap, subst, ◌∙◌, arith}
 use Rattle.std.specs.Prelude.{slice_get}
 use Rattle.std.proofs.lemmas.List.{append_assoc}
 use Rattle.list_facts.proofs.Options.{same_Some}
@@ -10,18 +10,19 @@ use Rattle.attr_field.specs.declared.roots.FieldRoots.{FieldRoots}
 use Rattle.attr_images.specs.Tables.{AttributeTrees}
 use Rattle.attr_images.specs.Words.{class_of}
 use Rattle.attr_types.specs.declared.field.Field.{Field}
-use Rattle.array_store.specs.Adding.{AddsRecord, MakesOneOf}
+use Rattle.array_store.specs.Roots.{MakesRootRecord, root_entries}
+use Rattle.array_store.proofs.RootLemmas.{entries_some, roots_part}
+use Rattle.array_store.specs.Adding.{MakesOneOf}
 use Rattle.store_api.specs.Calls.{Accepts, Undoes, Refuses}
 use Rattle.store_api.specs.Ledgers.{Ledger, OfWidth, IsSettled, buffers_in, is_width, widths}
-use Rattle.store_api.specs.Parts.{Part, Owns, Turns, After, AllStay, entries, entry, uses}
+use Rattle.store_api.specs.Parts.{Owns, After, AllStay, entries, uses}
 use Rattle.store_api.specs.Units.{MakesAtMost}
 use Rattle.store_api.specs.declared.store.StoreError.{StoreError}
 use Rattle.store_api.specs.declared.store.StoreError.TheVariants.{Full, Memory}
-use Rattle.store_api.proofs.PartLemmas.{after, owns-some, turns-then}
 use Rattle.store_api.proofs.UnitLemmas.{unit-accepts, accept-stays}
 use Rattle.attr_steps.specs.Calls.{RefusesUnit}
-use Rattle.attr_steps.specs.Commits.{IsForWidth, MakesRootRecord, RefusesRoot, roots_listed}
-use Rattle.attr_steps.specs.Fields.{root_entries, trees_of}
+use Rattle.attr_steps.specs.Commits.{IsForWidth, RefusesRoot, roots_listed}
+use Rattle.attr_steps.specs.Fields.{trees_of}
 use Rattle.posting_store.proofs.RefusalLemmas.{of_one}
 use Rattle.store_api.proofs.May.{may_do-same}
 use Rattle.attr_steps.proofs.Units.{refused_among}
@@ -51,52 +52,6 @@ module _ {bits : ℕ} where
   listed_trees [] (root ∷ roots) same = absurd (omega arith)
   listed_trees (field ∷ fields) [] same = refl
   listed_trees (field ∷ fields) (root ∷ roots) same = ap (λ ws. root.documents ∷ root.dictionary ∷ ws) (listed_trees fields roots (omega arith))
-
--- ---- the entry of a root record, if there is one
-pub entries_some : (root : ℕ) → 0 < root → root_entries root ≡ root ∷ []
-entries_some zero some = absurd (omega arith)
-entries_some (suc root) some = refl
-
-pub entries_none : (root : ℕ) → ¬ (0 < root) → root_entries root ≡ []
-entries_none zero no_one = refl
-entries_none (suc root) no_one = absurd (no_one (omega arith))
-
-abbrev roots_part : ℕ → List Part
-roots_part root = entries (root_entries root) ∷ []
-
-module _ {H : Type 0} (old new : Ledger H) (m n : Records) (root : ℕ) where
-  pub owns_root : 0 < root → Owns old m (entries (root_entries root) ∷ []) → Owns old m (entry root ∷ [])
-  owns_root some owns = subst (λ refs. Owns old m (entries refs ∷ [])) (entries_some root some) owns
-
-  pub drops_root : 0 < root → Turns old new m n (entry root ∷ []) [] → Turns old new m n (entries (root_entries root) ∷ []) []
-  drops_root some turns = subst (λ refs. Turns old new m n (entries refs ∷ []) []) (sym (entries_some root some)) turns
-
-pub drops_nothing : {H : Type 0} (old : Ledger H) (m : Records) (root : ℕ) → ¬ (0 < root) → Turns old old m m (entries (root_entries root) ∷ []) []
-drops_nothing old m root no_one =
-    subst (λ refs. Turns old old m m (entries refs ∷ []) []) (sym (entries_none root no_one))
-    (record { kept = λ r h. refl; balance = λ r. omega arith })
-
--- ---- a record made, and the one before dropped
-module _ {H : Type 0} (bits : ℕ) (old mid new : Ledger H) (m k n : Records) (words : List ℕ) (before root : ℕ)
-    (owns : Owns old m (entries (root_entries before) ∷ [])) (adds : AddsRecord bits old mid m k words root) where
-  both : After old mid m k (entries (root_entries before) ∷ []) (entry root ∷ entries (root_entries before) ∷ []) (entries (root_entries before) ∷ [])
-  both = after old mid m k [] (entry root ∷ []) (roots_part before) (roots_part before) (entry root ∷ entries (root_entries before) ∷ []) owns adds.turns (λ k r. omega arith) (λ k r. omega arith)
-
-  pub owns_still : Owns mid k (entries (root_entries before) ∷ [])
-  owns_still = owns-some mid k (entry root ∷ entries (root_entries before) ∷ []) (roots_part before) both.owns (λ r. omega arith)
-
-  module _ (drops : Turns mid new k n (entries (root_entries before) ∷ []) []) (sealed : new.sealed ≡ mid.sealed) where
-    alone : After mid new k n (entry root ∷ entries (root_entries before) ∷ []) (entry root ∷ []) (entry root ∷ [])
-    alone = after mid new k n (roots_part before) [] (entry root ∷ []) (entry root ∷ entries (root_entries before) ∷ []) (entry root ∷ []) both.owns drops (λ k r. omega arith) (λ k r. omega arith)
-
-    pub makes_root : MakesRootRecord bits old new m n words before root
-    makes_root = record {
-      some = adds.some;
-      words_are = alone.stay.0.0 ∙ adds.words_are;
-      unsealed = ap (λ (s : ℕ → Bool). s (buffer_of bits root)) sealed ∙ adds.unsealed;
-      turns = subst (λ refs. Turns old new m n (entries (root_entries before) ∷ []) (entries refs ∷ [])) (sym (entries_some root adds.some))
-          (turns-then old mid new m k n (roots_part before) (entry root ∷ entries (root_entries before) ∷ []) (entry root ∷ []) both.turns alone.turns);
-    }
 
 -- ---- the unit
 module _ {H : Type 0} (old begun mid new : Ledger H) (m k n o : Records) (words : List ℕ) (before root : ℕ)

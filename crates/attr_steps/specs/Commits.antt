@@ -1,15 +1,14 @@
 -- How a commit changes attributes: a root record is made in a unit of its own, and then the store commits what it
 -- reaches.
-use Rattle.std.specs.Prelude.{◌≡◌, ℕ, ◌+◌, ◌<◌, false, List, [], ◌∷◌}
+use Rattle.std.specs.Prelude.{◌≡◌, ℕ, ◌+◌, List, [], ◌∷◌}
 use Rattle.std.specs.List.{flat_map}
-use Rattle.entry_ref.specs.References.{buffer_of}
 use Rattle.entry_ref.specs.Images.{words_at}
 use Rattle.entry_ref.specs.Records.{Records}
 use Rattle.arena_api.specs.Calls.{told_after}
 use Rattle.arena_api.specs.Works.{free_count, last_image}
 use Rattle.store_api.specs.Calls.{StoresCommit}
 use Rattle.store_api.specs.Ledgers.{Ledger}
-use Rattle.store_api.specs.Parts.{AllStay, Turns, entries}
+use Rattle.store_api.specs.Parts.{AllStay}
 use Rattle.store_api.specs.declared.store.Stored.{Stored}
 use Rattle.store_api.specs.declared.store.StoreError.{StoreError}
 use Rattle.store_api.specs.declared.store.StoreError.TheVariants as errors
@@ -17,22 +16,14 @@ use Rattle.attr_field.specs.declared.roots.FieldRoots.{FieldRoots}
 use Rattle.attr_images.specs.Laws.{IsImageOf}
 use Rattle.attr_images.specs.Shapes.{shape_of, types_of}
 use Rattle.attr_images.specs.Tables.{AttributeTrees}
-use Rattle.attr_images.specs.Words.{filled}
 use Rattle.attr_types.specs.declared.field.Field.{Field}
 use Rattle.attr_steps.specs.Calls.{KeepsStore, IsOutOfRoom}
-use Rattle.attr_steps.specs.Fields.{HoldsAttributes, parts_of, root_entries}
+use Rattle.attr_steps.specs.Fields.{HoldsAttributes, parts_of}
 use Rattle.attr_steps.specs.Views.{table_at}
 
 -- the roots of attributes, as words of a root record
 abbrev pub roots_listed : {bits : ℕ} → List (FieldRoots bits) → List ℕ
 roots_listed roots = flat_map (λ root. root.documents ∷ root.dictionary ∷ []) roots
-
--- a root record with these words was made in place of another (0 if there was none); it lies in no sealed buffer
-pub record MakesRootRecord {H : Type 0} (bits : ℕ) (old new : Ledger H) (m n : Records) (words : List ℕ) (before root : ℕ) : Type 0 where
-  pub some : 0 < root
-  pub words_are : n root ≡ filled words
-  pub unsealed : new.sealed (buffer_of bits root) ≡ false
-  pub turns : Turns old new m n (entries (root_entries before) ∷ []) (entries (root_entries root) ∷ [])
 
 -- why no root record was made: its width has no spare entry, and no buffer is free or was free before; or memory is
 -- exhausted

@@ -1,11 +1,12 @@
 -- The attributes in their store, side by side: each has a part of it, and all have the same documents.
-use Rattle.std.specs.Prelude.{◌≡◌, Bool, ℕ, zero, suc, true, false, ◌<◌, ◌≤◌, List, [], ◌∷◌, length, map, Option, None, Some}
+use Rattle.std.specs.Prelude.{◌≡◌, Bool, ℕ, true, false, ◌<◌, ◌≤◌, List, [], ◌∷◌, length, map, Option, None, Some}
 use Rattle.std.specs.List.{AllByRecursion, AllZip}
 use Rattle.entry_ref.specs.References.{buffer_of}
 use Rattle.entry_ref.specs.Records.{Records, Among}
 use Rattle.store_api.specs.Ledgers.{Ledger, is_this}
 use Rattle.store_api.specs.Parts.{Part, Owns, Turns, count_in, entries, uses}
 use Rattle.store_api.specs.Statuses.{in_use}
+use Rattle.array_store.specs.Roots.{root_entries}
 use Rattle.attr_field.specs.Fields.{field_part, IsField, RefersBeside}
 use Rattle.attr_field.specs.Flows.{FlowsField}
 use Rattle.attr_field.specs.Forms.{wants}
@@ -116,11 +117,6 @@ pub record ChangesFields {H : Type 0} (fields : List Field) (old new : Ledger H)
   pub flows : AllZip (FlowsTrees old m n) trees next
   pub unsealed : MakesUnsealed old new
   pub words : KeepsWords old new m n
-
--- the root record, if there is one
-abbrev pub root_entries : ℕ → List ℕ
-root_entries zero = []
-root_entries (suc root) = suc root ∷ []
 
 -- what the parts own is in use, and outside sealed buffers nothing else is
 pub record OwnsOutside {H : Type 0} (bits : ℕ) (ledger : Ledger H) (m : Records) (parts : List Part) : Type 0 where

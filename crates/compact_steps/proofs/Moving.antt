@@ -20,7 +20,8 @@ use Rattle.attr_images.specs.Tables.{AttributeTrees, HaveSameDocuments, columns_
 use Rattle.attr_index.specs.Columns.{Column}
 use Rattle.attr_types.specs.declared.field.Field.{Field}
 use Rattle.value_index.specs.Indexes.{IsKey}
-use Rattle.attr_steps.specs.Fields.{AllReferBeside, AreFields, HoldsAttributes, IsFieldAt, OwnsOutside, column_in, part_of, parts_of, root_entries}
+use Rattle.array_store.specs.Roots.{root_entries}
+use Rattle.attr_steps.specs.Fields.{AllReferBeside, AreFields, HoldsAttributes, IsFieldAt, OwnsOutside, column_in, part_of, parts_of}
 use Rattle.attr_steps.specs.Views.{table_at}
 use Rattle.attr_steps.proofs.Columns.{FieldLaws}
 use Rattle.attr_steps.proofs.PartLists.{count_at, count_set, stay_at}

@@ -17,7 +17,8 @@ use Rattle.attr_types.specs.declared.field.Field.{Field}
 use Rattle.attr_steps.proofs.Referring.{all_weaker}
 use Rattle.attr_steps.proofs.StepLemmas.{keeps_same, leaves_same}
 use Rattle.attr_steps.specs.Calls.{KeepsStore, LeavesEntries}
-use Rattle.attr_steps.specs.Fields.{HoldsAttributes, parts_of, root_entries}
+use Rattle.array_store.specs.Roots.{root_entries}
+use Rattle.attr_steps.specs.Fields.{HoldsAttributes, parts_of}
 use Rattle.attr_steps.specs.Views.{table_at}
 use Rattle.store_api.specs.Parts.{entries}
 use Rattle.compact_steps.specs.Units.{IsUnderWay}

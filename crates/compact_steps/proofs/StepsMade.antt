@@ -13,7 +13,8 @@ use Rattle.store_api.proofs.Uses.{in-uses}
 use Rattle.attr_field.specs.Documents.{documents_refer}
 use Rattle.attr_field.specs.Fields.{RefersBeside}
 use Rattle.attr_images.specs.Tables.{AttributeTrees}
-use Rattle.attr_steps.specs.Fields.{part_of, parts_of, root_entries, FlowsTrees, HoldsAttributes, IsFieldAt}
+use Rattle.array_store.specs.Roots.{root_entries}
+use Rattle.attr_steps.specs.Fields.{part_of, parts_of, FlowsTrees, HoldsAttributes, IsFieldAt}
 use Rattle.attr_types.specs.declared.kind.Kind.{Kind}
 use Rattle.attr_types.specs.declared.kind.ValueType.{ValueType}
 use Rattle.compaction_moves.specs.Cleared.{IsClearedField}

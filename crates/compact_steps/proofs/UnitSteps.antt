@@ -44,7 +44,8 @@ use Rattle.attr_types.specs.declared.kind.ValueType.{ValueType}
 use Rattle.attr_field.proofs.CopyLemmas.{refers_some}
 use Rattle.attr_compaction.specs.PhaseKeys.{key_past, phase_keys, HasType}
 use Rattle.attr_steps.specs.Calls.{KeepsStore}
-use Rattle.attr_steps.specs.Fields.{AllReferBeside, HoldsAttributes, IsFieldAt, IsOfFormAt, part_of, parts_of, root_entries}
+use Rattle.array_store.specs.Roots.{root_entries}
+use Rattle.attr_steps.specs.Fields.{AllReferBeside, HoldsAttributes, IsFieldAt, IsOfFormAt, part_of, parts_of}
 use Rattle.attr_steps.proofs.Columns.{FieldLaws}
 use Rattle.attr_steps.proofs.CountLemmas.{spares_among}
 use Rattle.attr_steps.proofs.PartLists.{count_at}

@@ -1,7 +1,7 @@
 use Rattle.std.proofs.Common.{arith, refl, sym, true≢false}
 use Rattle.store_api.proofs.Counts.{at_most-none}
-use Rattle.attr_steps.proofs.RootLemmas.{owns_root, drops_root, drops_nothing}
-use Rattle.attr_steps.proofs.root.drop_root.Goals as goal
+use Rattle.array_store.proofs.RootLemmas.{owns_root, drops_root, drops_nothing}
+use Rattle.array_store.proofs.root.drop_root.Goals as goal
 
 pub valid-requires : goal.valid-requires
 valid-requires g c = omega arith
