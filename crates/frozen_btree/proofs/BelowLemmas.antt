@@ -24,9 +24,9 @@ use Rattle.tree_read.proofs.NodeKeyLemmas.{key_last}
 use Rattle.tree_read.proofs.SlotLemmas.{pairs-slots, nodes-slots, hand-append, hand-children, hand-kept, child_nodes, slot_pairs-inner, slot_pairs-leaf, slot_nodes-inner, slot_nodes-leaf, all_pairs-kept, all_nodes-kept}
 use Rattle.tree_read.proofs.SlotLemmas.{hand-take, hand-drop}
 use Rattle.frozen_btree.specs.Inserts.{Inserts}
-use Rattle.frozen_btree.specs.Parts.{AreParts, MakesParts, part_keys, part_nodes, parts_count}
-use Rattle.frozen_btree.specs.declared.parts.Parts.{Parts}
-use Rattle.frozen_btree.specs.declared.parts.Parts.TheVariants.{One, Two}
+use Rattle.frozen_nodes.specs.Parts.{AreParts, MakesParts, part_keys, part_nodes, parts_count}
+use Rattle.frozen_nodes.specs.declared.parts.Parts.{Parts}
+use Rattle.frozen_nodes.specs.declared.parts.Parts.TheVariants.{One, Two}
 use Rattle.tree_read.proofs.ReadLemmas.{hand-read, inner-pairs, inner-nodes, node-even}
 
 -- parts with more slots than are asked for

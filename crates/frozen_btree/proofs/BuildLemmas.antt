@@ -17,8 +17,7 @@ use Rattle.tree_read.proofs.Bounds.{few_at_top}
 use Rattle.tree_read.proofs.ReadLemmas.{node-size}
 use Rattle.tree_read.proofs.SlotLemmas.{child_nodes, nodes-slots, slot_nodes-inner, slot_nodes-leaf, slot_pairs-inner, slot_pairs-leaf}
 use Rattle.tree_read.proofs.CountLemmas.{leaf_count}
-use Rattle.frozen_btree.specs.Changes.{tree}
-use Rattle.frozen_btree.specs.Makes.{MakesRoot}
+use Rattle.frozen_btree.specs.Changes.{tree, MakesRoot}
 use Rattle.frozen_btree.specs.Builds.{groups, nodes_above, MakesRow, BuildsTree}
 use Rattle.frozen_btree.proofs.GroupLemmas.{groups-fit}
 

@@ -17,8 +17,8 @@ use Rattle.tree_read.specs.ProofsForTrees.{tree_pairs-same, IsRootNode-same}
 use Rattle.tree_read.specs.Trees.{root_level, root_least, tree_pairs, tree_nodes, IsRootNode}
 use Rattle.tree_read.proofs.Bounds.{nodes_wide}
 use Rattle.frozen_btree.specs.Changes.{DropsEntries, Rebuilds, tree}
-use Rattle.frozen_btree.specs.Makes.{CountsNodes, MakesNodes}
-use Rattle.frozen_btree.proofs.MakesLemmas.{counts-then}
+use Rattle.frozen_nodes.specs.Makes.{CountsNodes, MakesNodes}
+use Rattle.frozen_nodes.proofs.MakesLemmas.{counts-then}
 
 -- a tree's nodes have 34 words
 pub tree-wide : (m : Records) (root : ℕ) → (0 < root → IsRootNode m root) → AllByRecursion (λ q. length (m q) ≡ 34) (tree_nodes m root)

@@ -5,15 +5,16 @@ use Rattle.std.specs.List.{flat_map}
 use Rattle.entry_ref.specs.Records.{Records}
 use Rattle.store_api.specs.Ledgers.{Ledger}
 use Rattle.tree_read.specs.Trees.{pairs_below, nodes_below, IsNode, root_least}
-use Rattle.frozen_btree.proofs.MakeRootLemmas.{made-balance}
+use Rattle.frozen_nodes.proofs.MadeLemmas.{made-balance}
 use Rattle.store_api.specs.Parts.{times}
-use Rattle.frozen_btree.specs.Makes.{MakesNode}
+use Rattle.frozen_nodes.specs.Makes.{MakesNode}
 use Rattle.tree_read.specs.Slots.{slot_pairs, slot_nodes, IsInHand}
-use Rattle.frozen_btree.specs.declared.make.Part.{Part}
-use Rattle.frozen_btree.proofs.MakesLemmas.{makes-none}
+use Rattle.frozen_nodes.specs.declared.make.Part.{Part}
+use Rattle.frozen_nodes.proofs.MakesLemmas.{makes-none}
 use Rattle.tree_read.proofs.SlotLemmas.{hand-children, slot_pairs-inner, slot_nodes-inner}
-use Rattle.frozen_btree.specs.Parts.{AreParts, IsRootOver}
-use Rattle.frozen_btree.specs.declared.parts.Parts.TheVariants.{One, Two}
+use Rattle.frozen_nodes.specs.Parts.{AreParts}
+use Rattle.frozen_btree.specs.Inserts.{IsRootOver}
+use Rattle.frozen_nodes.specs.declared.parts.Parts.TheVariants.{One, Two}
 
 -- one part is the root
 pub one_root : {H : Type 0} (old : Ledger H) (m : Records) (level : ℕ) (part : Part) (pairs : List (ℕ × ℕ)) → level ≤ 7 → AreParts m (root_least level) level (One part) pairs

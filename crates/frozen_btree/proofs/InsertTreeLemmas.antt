@@ -8,20 +8,20 @@ use Rattle.store_api.specs.Ledgers.{Ledger}
 use Rattle.store_api.specs.Parts.{times}
 use Rattle.tree_read.specs.Nodes.{used_of}
 use Rattle.tree_read.specs.Trees.{pairs_below, root_level, root_least, tree_pairs, tree_nodes, IsTree}
-use Rattle.frozen_btree.proofs.MakeRootLemmas.{made-balance}
+use Rattle.frozen_nodes.proofs.MadeLemmas.{made-balance}
 use Rattle.tree_read.proofs.RootLemmas.{tree_pairs-is, tree_nodes-is, root_node-is}
 use Rattle.tree_read.specs.Keys.{seen_by}
 use Rattle.tree_read.specs.Pairs.{put}
 use Rattle.tree_read.proofs.PairLemmas.{length-put_most}
 use Rattle.tree_read.proofs.Bounds.{children_many, tree_small}
 use Rattle.frozen_btree.specs.Changes.{Rebuilds}
-use Rattle.frozen_btree.specs.Makes.{MakesNode}
+use Rattle.frozen_nodes.specs.Makes.{MakesNode}
 use Rattle.tree_read.specs.Slots.{slot_nodes}
 use Rattle.tree_read.proofs.SlotLemmas.{slot_pairs-leaf, slot_nodes-leaf}
-use Rattle.frozen_btree.specs.Inserts.{Inserts}
-use Rattle.frozen_btree.specs.Parts.{AreParts, IsRootOver, part_nodes}
-use Rattle.frozen_btree.specs.declared.parts.Parts.{Parts}
-use Rattle.frozen_btree.specs.declared.parts.Parts.TheVariants.{One, Two}
+use Rattle.frozen_btree.specs.Inserts.{Inserts, IsRootOver}
+use Rattle.frozen_nodes.specs.Parts.{AreParts, part_nodes}
+use Rattle.frozen_nodes.specs.declared.parts.Parts.{Parts}
+use Rattle.frozen_nodes.specs.declared.parts.Parts.TheVariants.{One, Two}
 use Rattle.frozen_btree.proofs.BelowLemmas.{parts-lower}
 use Rattle.frozen_btree.proofs.TopLemmas.{root-pairs, root-nodes, root-used}
 

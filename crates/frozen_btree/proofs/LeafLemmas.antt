@@ -9,8 +9,7 @@ use Rattle.store_api.proofs.Uses.{in-uses, used_has}
 use Rattle.tree_read.specs.Trees.{tree_pairs}
 use Rattle.tree_read.specs.Slots.{slot_nodes}
 use Rattle.tree_read.proofs.SlotLemmas.{slot_pairs-leaf, slot_nodes-leaf}
-use Rattle.frozen_btree.specs.Changes.{tree}
-use Rattle.frozen_btree.specs.Makes.{MakesRoot}
+use Rattle.frozen_btree.specs.Changes.{tree, MakesRoot}
 
 module _ {H : Type 0} (old new : Ledger H) (m n : Records) (keys values : List ℕ) (root : ℕ) (made : MakesRoot old new m n 0 keys values root)
     (recorded : (r : ℕ) → (has_record (old.status r) ≡ true) ↔ (0 < length (m r))) where

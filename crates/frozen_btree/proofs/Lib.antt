@@ -1,18 +1,14 @@
 pub mod Results
 pub mod MakesLemmas
-pub mod MadeLemmas
 pub mod MakeRootLemmas
 pub mod DropLemmas
 pub mod ChangeLemmas
 pub mod UsedLemmas
 pub mod TopLemmas
-pub mod MakeWordLemmas
-pub mod PartsLemmas
-pub mod EditLemmas
+pub mod PutLemmas
 pub mod InsertRootLemmas
 pub mod BelowLemmas
 pub mod InsertTreeLemmas
-pub mod HandLemmas
 pub mod StandLemmas
 pub mod SettleLemmas
 pub mod ParentLemmas
@@ -20,7 +16,6 @@ pub mod ReadLemmas
 pub mod StepLemmas
 pub mod RemoveLemmas
 pub mod RemoveTreeLemmas
-mod RemoveWordLemmas
 pub mod LeafLemmas
 pub mod BuildTreeLemmas
 pub mod GroupLemmas

@@ -1,5 +1,5 @@
 -- The root of slots in hand: none, a single child, or a node that was made.
-use Rattle.std.proofs.Common.{◌≡◌, ◌≢◌, ℕ, zero, suc, ◌+◌, ◌<◌, ◌≤◌, List, [], ◌∷◌, ◌++◌, length, get_or, refl, sym, ap, subst, ◌∙◌, arith}
+use Rattle.std.proofs.Common.{◌≡◌, ◌≢◌, ℕ, zero, suc, ◌<◌, ◌≤◌, List, [], ◌∷◌, length, get_or, refl, sym, ap, subst, ◌∙◌, arith}
 use Rattle.std.proofs.Math.Nat.{pos_of_div-pos}
 use Rattle.std.proofs.lemmas.List.{nil_from_length}
 use Rattle.std.specs.List.{zip, AllByRecursion}
@@ -10,19 +10,10 @@ use Rattle.store_api.specs.Ledgers.{Ledger}
 use Rattle.tree_read.specs.Slots.{slot_pairs, slot_nodes, IsInHand}
 use Rattle.tree_read.proofs.RootLemmas.{root_least-few, root_node-is, tree_pairs-is, tree_nodes-is}
 use Rattle.tree_read.proofs.SlotLemmas.{slot_pairs-leaf, slot_nodes-leaf, slot_pairs-one, slot_nodes-one, child_nodes}
-use Rattle.frozen_btree.specs.Makes.{MakesNode, MakesRoot}
-use Rattle.store_api.specs.Parts.{times, uses}
-use Rattle.store_api.proofs.Times.{times-append}
-use Rattle.frozen_btree.proofs.MakesLemmas.{makes-none}
-
--- a node made: what is below it and what is newly in use
-pub made-balance : {H : Type 0} (old new : Ledger H) (m n : Records) (level : ℕ) (ks vs : List ℕ) (ref : ℕ) → MakesNode old new m n level ks vs ref
-    → (q : ℕ) → times q (slot_nodes m level vs) + uses new q ≡ uses old q + times q (nodes_below n level ref)
-made-balance old new m n level ks vs ref made q =
-    let used = made.used q in
-    let all : times q (nodes_below n level ref) ≡ times q ((ref ∷ []) ++ slot_nodes m level vs) = ap (times q) made.nodes in
-    let parts = times-append q (ref ∷ []) (slot_nodes m level vs) in
-    omega arith
+use Rattle.frozen_nodes.specs.Makes.{MakesNode}
+use Rattle.frozen_btree.specs.Changes.{MakesRoot}
+use Rattle.store_api.specs.Parts.{times}
+use Rattle.frozen_nodes.proofs.MakesLemmas.{makes-none}
 
 -- no slot is left
 pub root-none : {H : Type 0} (ledger : Ledger H) (m : Records) (level : ℕ) (keys values : List ℕ) (root : ℕ) → root ≡ 0 → level ≡ 0 → length keys ≡ 0

@@ -9,7 +9,7 @@ use Rattle.store_api.specs.Ledgers.{Ledger}
 use Rattle.store_api.proofs.Times.{times-append}
 use Rattle.store_api.specs.Parts.{times, uses}
 use Rattle.tree_read.proofs.SlotLemmas.{slot_pairs-append, slot_nodes-append, slot_pairs-inner, slot_nodes-inner, hand-append, hand-kept, slot_pairs-kept, slot_nodes-kept, hand-take, hand-drop}
-use Rattle.frozen_btree.specs.Makes.{MakesNodes}
+use Rattle.frozen_nodes.specs.Makes.{MakesNodes}
 use Rattle.tree_read.specs.Slots.{slot_pairs, slot_nodes, IsInHand}
 use Rattle.frozen_btree.specs.Removes.{PutsBack, spliced}
 use Rattle.frozen_btree.specs.Settles.{SettlesSlots}

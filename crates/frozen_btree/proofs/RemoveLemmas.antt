@@ -13,7 +13,7 @@ use Rattle.store_api.specs.Ledgers.{Ledger}
 use Rattle.store_api.proofs.Times.{times-append}
 use Rattle.store_api.specs.Parts.{times}
 use Rattle.tree_read.proofs.SlotLemmas.{nodes-slots, slot_pairs-leaf, slot_nodes-leaf, slot_nodes-inner, slot_pairs-kept, slot_nodes-kept, hand-leaf, hand-kept, hand-take, hand-drop}
-use Rattle.frozen_btree.proofs.MakesLemmas.{makes-none, makes-then}
+use Rattle.frozen_nodes.proofs.MakesLemmas.{makes-none, makes-then}
 use Rattle.tree_read.specs.Slots.{slot_pairs, slot_nodes, IsInHand}
 use Rattle.frozen_btree.specs.Removes.{Removes, PutsBack, IsStep, spliced, nodes_beside}
 

@@ -9,8 +9,7 @@ use Rattle.tree_read.proofs.PairLemmas.{length-take_out}
 use Rattle.tree_read.specs.Pairs.{lookup, take_out}
 use Rattle.store_api.specs.Ledgers.{Ledger}
 use Rattle.store_api.specs.Parts.{times}
-use Rattle.frozen_btree.specs.Changes.{Rebuilds}
-use Rattle.frozen_btree.specs.Makes.{MakesRoot}
+use Rattle.frozen_btree.specs.Changes.{Rebuilds, MakesRoot}
 use Rattle.tree_read.specs.Slots.{slot_pairs}
 use Rattle.frozen_btree.proofs.TopLemmas.{root-node, root-pairs, root-nodes}
 use Rattle.frozen_btree.specs.Removes.{Removes}

@@ -15,7 +15,7 @@ use Rattle.tree_read.proofs.ChildLemmas.{IsNode-lower}
 use Rattle.tree_read.proofs.CountLemmas.{leaf_count}
 use Rattle.tree_read.proofs.SlotLemmas.{slot_pairs-append, slot_nodes-append, slot_pairs-kept, slot_nodes-kept, slot_pairs-one, slot_nodes-one, slot_pairs-leaf, slot_nodes-leaf, slot_pairs-inner, slot_nodes-inner}
 use Rattle.tree_read.proofs.SlotLemmas.{hand-append, hand-kept, hand-none, hand-one, hand-take, hand-drop, even-take, few-take, few-drop}
-use Rattle.frozen_btree.specs.Makes.{MakesNode}
+use Rattle.frozen_nodes.specs.Makes.{MakesNode}
 use Rattle.frozen_btree.specs.Builds.{AddsPart, MakesRow}
 use Rattle.frozen_btree.proofs.GroupLemmas.{IsGroup}
 

@@ -7,9 +7,9 @@ use Rattle.entry_ref.specs.Records.{Records}
 use Rattle.tree_read.specs.Trees.{pairs_below, last_key, Keeps}
 use Rattle.store_api.specs.Ledgers.{Ledger}
 use Rattle.tree_read.proofs.SlotLemmas.{slot_pairs-append, slot_nodes-append, hand-right, slot_pairs-kept, slot_nodes-kept}
-use Rattle.frozen_btree.specs.Makes.{MakesNode, MakesPart}
+use Rattle.frozen_nodes.specs.Makes.{MakesNode, MakesPart}
 use Rattle.tree_read.specs.Slots.{slot_pairs, slot_nodes, IsInHand}
-use Rattle.frozen_btree.specs.declared.make.Part.{Part}
+use Rattle.frozen_nodes.specs.declared.make.Part.{Part}
 use Rattle.frozen_btree.proofs.StandLemmas.{stands-one, stands-two}
 use Rattle.frozen_btree.specs.Settles.{MakesSlots, SettlesSlots}
 

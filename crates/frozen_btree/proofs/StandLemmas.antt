@@ -5,12 +5,12 @@ use Rattle.tree_read.specs.Trees.{pairs_below, last_key}
 use Rattle.store_api.specs.Ledgers.{Ledger}
 use Rattle.store_api.proofs.Times.{times-append}
 use Rattle.store_api.specs.Parts.{times}
-use Rattle.frozen_btree.proofs.MakesLemmas.{makes-then}
+use Rattle.frozen_nodes.proofs.MakesLemmas.{makes-then}
 use Rattle.tree_read.proofs.SlotLemmas.{slot_pairs-append, slot_nodes-append, slot_pairs-one, slot_nodes-one, hand-append, hand-one, hand-kept, slot_pairs-kept, slot_nodes-kept}
-use Rattle.frozen_btree.specs.Makes.{MakesNode}
+use Rattle.frozen_nodes.specs.Makes.{MakesNode}
 use Rattle.tree_read.specs.Slots.{slot_pairs, slot_nodes}
 use Rattle.frozen_btree.specs.Settles.{MakesSlots}
-use Rattle.frozen_btree.proofs.MakeRootLemmas.{made-balance}
+use Rattle.frozen_nodes.proofs.MadeLemmas.{made-balance}
 use Rattle.tree_read.proofs.ChildLemmas.{IsNode-lower}
 
 module _ {H : Type 0} (old new : Ledger H) (m n : Records) (level : ℕ) (keys values : List ℕ) (ref : ℕ) (makes : MakesNode old new m n level keys values ref) where

@@ -18,8 +18,8 @@ use Rattle.tree_read.specs.Trees.{pairs_below, nodes_below, IsNode, Keeps}
 use Rattle.tree_read.proofs.TreeLemmas.{IsNode-form, leaf_pairs}
 use Rattle.tree_read.proofs.SlotLemmas.{pairs-kept, nodes_below-kept, node-kept, nodes-slots, slot_nodes-leaf}
 use Rattle.tree_read.specs.NodePlaces.{IsPlace}
-use Rattle.frozen_btree.proofs.MadeLemmas.{makes-any}
-use Rattle.frozen_btree.proofs.MakesLemmas.{keeps-then}
+use Rattle.frozen_nodes.proofs.MadeLemmas.{makes-any}
+use Rattle.frozen_nodes.proofs.MakesLemmas.{keeps-then}
 use Rattle.frozen_btree.specs.Paths.{NoneIn, path_below}
 use Rattle.frozen_btree.specs.Touches.{CopiesNode, Touches}
 use Rattle.frozen_btree.proofs.CopyLemmas.{child-node, child-nodes, over-pairs, over-node, over-nodes, over-path}

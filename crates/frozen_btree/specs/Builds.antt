@@ -7,8 +7,8 @@ use Rattle.store_api.specs.Parts.{times, uses}
 use Rattle.tree_read.specs.Trees.{tree_pairs, tree_nodes, IsRootNode}
 use Rattle.tree_read.specs.declared.node_format.TheConstants.{MOST_SLOTS}
 use Rattle.tree_read.specs.Slots.{slot_pairs, slot_nodes, IsInHand}
-use Rattle.frozen_btree.specs.Makes.{MakesPart}
-use Rattle.frozen_btree.specs.declared.make.Part.{Part}
+use Rattle.frozen_nodes.specs.Makes.{MakesPart}
+use Rattle.frozen_nodes.specs.declared.make.Part.{Part}
 
 -- the fewest groups of at most 16 into which n items can be divided
 abbrev pub groups : ℕ → ℕ

@@ -5,6 +5,8 @@ use Rattle.tree_read.specs.ProofsForTrees.{tree_nodes-same}
 use Rattle.tree_read.specs.Trees.{root_level, tree_pairs, tree_nodes, IsRootNode}
 use Rattle.store_api.specs.Ledgers.{Ledger}
 use Rattle.store_api.specs.Units.{MayDo, MakesAtMost}
+use Rattle.tree_read.specs.Slots.{slot_pairs, slot_nodes}
+use Rattle.frozen_nodes.specs.Makes.{MakesNodes}
 use Rattle.store_api.specs.Parts.{Part, times, uses, entries, Turns}
 
 -- a tree, by its nodes
@@ -29,3 +31,10 @@ pub record Rebuilds {H : Type 0} (old new : Ledger H) (m n : Records) (root next
   pub pairs_are : tree_pairs n next ≡ pairs
   pub balance : (r : ℕ) → times r (tree_nodes m root) + uses new r ≡ uses old r + times r gone + times r (tree_nodes n next)
   pub gone_of : (r : ℕ) → times r gone ≤ times r (tree_nodes m root)
+
+-- the slots of a root in memory became a node, or gave way to a single child
+pub record MakesRoot {H : Type 0} (old new : Ledger H) (m n : Records) (level : ℕ) (keys values : List ℕ) (root : ℕ) : Type 0 where
+  pub node : 0 < root → IsRootNode n root
+  pub pairs_are : tree_pairs n root ≡ slot_pairs m level keys values
+  pub balance : (r : ℕ) → times r (tree_nodes n root) + uses old r ≡ uses new r + times r (slot_nodes m level values)
+  pub makes : MakesNodes old new m n 1

@@ -1,7 +1,5 @@
-pub mod Words
 pub mod Makes
 pub mod Changes
-pub mod Parts
 pub mod Inserts
 pub mod Settles
 pub mod Removes

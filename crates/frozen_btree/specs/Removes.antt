@@ -7,7 +7,7 @@ use Rattle.tree_read.specs.Trees.{pairs_below, nodes_below, IsNode}
 use Rattle.tree_read.specs.Pairs.{lookup, take_out}
 use Rattle.store_api.specs.Ledgers.{Ledger}
 use Rattle.store_api.specs.Parts.{times, uses}
-use Rattle.frozen_btree.specs.Makes.{MakesNodes}
+use Rattle.frozen_nodes.specs.Makes.{MakesNodes}
 use Rattle.tree_read.specs.Slots.{slot_pairs, slot_nodes, IsInHand}
 use Rattle.tree_read.specs.declared.node_format.TheConstants.{MOST_SLOTS, LEAST_SLOTS}
 

@@ -3,7 +3,7 @@ use Rattle.std.specs.Prelude.{◌≡◌, ℕ, suc, ◌+◌, ◌<◌, ◌≤◌, 
 use Rattle.entry_ref.specs.Records.{Records}
 use Rattle.store_api.specs.Ledgers.{Ledger}
 use Rattle.store_api.specs.Parts.{times, uses}
-use Rattle.frozen_btree.specs.Makes.{MakesNodes}
+use Rattle.frozen_nodes.specs.Makes.{MakesNodes}
 use Rattle.tree_read.specs.Slots.{slot_pairs, slot_nodes, IsInHand}
 
 -- nodes of a level were made, with these slots: the pairs below them are these, and the nodes below them are these

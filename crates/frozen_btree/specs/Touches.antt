@@ -7,7 +7,7 @@ use Rattle.store_api.specs.Ledgers.{Ledger}
 use Rattle.store_api.specs.Parts.{times, uses}
 use Rattle.tree_read.specs.Nodes.{used_of}
 use Rattle.tree_read.specs.Trees.{pairs_below, nodes_below, IsNode}
-use Rattle.frozen_btree.specs.Makes.{MakesNodes}
+use Rattle.frozen_nodes.specs.Makes.{MakesNodes}
 use Rattle.frozen_btree.specs.Paths.{NoneIn, path_below}
 
 -- a node with exactly these words was made, in a buffer that is not sealed

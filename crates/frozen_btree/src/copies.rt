@@ -1,6 +1,6 @@
 ghost use Rattle.std.specs.Prelude.{◌≡◌, ◌<◌, ◌+◌, true, length, slice_set, IfOk, IfErr};
 ghost use Rattle.store_api.specs.Calls.{Refuses};
-ghost use Rattle.frozen_btree.specs.Makes.{MakesNodes};
+ghost use Rattle.frozen_nodes.specs.Makes.{MakesNodes};
 ghost use Rattle.frozen_btree.specs.Touches.{CopiesNode};
 
 use entry_ref::EntryRef;

@@ -3,15 +3,15 @@ ghost use Rattle.tree_read.specs.Nodes.{level_of, node_keys};
 ghost use Rattle.tree_read.specs.Trees.{pairs_below, IsNode};
 ghost use Rattle.tree_read.specs.Keys.{seen_by, Ascends, AllReadable};
 ghost use Rattle.store_api.specs.Calls.{Refuses};
-ghost use Rattle.frozen_btree.specs.Makes.{MakesNodes};
+ghost use Rattle.frozen_nodes.specs.Makes.{MakesNodes};
 ghost use Rattle.tree_read.specs.NodePlaces.{IsPlace};
 ghost use Rattle.frozen_btree.specs.Inserts.{Inserts};
 
 use crate::insert_leaf::put_pair;
-use crate::parts::{Parts, count_parts, put_parts};
 use arena_api::Frozen;
 use arrayvec::ArrayVec;
 use entry_ref::EntryRef;
+use frozen_nodes::{Parts, count_parts, put_parts};
 use store_api::{Store, StoreError};
 use tree_read::{FIRST_VALUE, KeyOrder, NODE_WORDS, used_in, visit};
 

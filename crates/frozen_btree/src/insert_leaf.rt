@@ -1,11 +1,11 @@
 ghost use Rattle.std.specs.Prelude.{◌≡◌, ◌≤◌, ◌<◌, true, IfOk, IfErr};
 ghost use Rattle.tree_read.specs.Nodes.{used_of, node_keys, node_values, IsNodeForm};
 ghost use Rattle.store_api.specs.Calls.{Refuses};
-ghost use Rattle.frozen_btree.specs.Makes.{MakesNodes};
-ghost use Rattle.frozen_btree.specs.Parts.{MakesParts, put_at};
+ghost use Rattle.frozen_nodes.specs.Makes.{MakesNodes};
+ghost use Rattle.frozen_nodes.specs.Parts.{MakesParts};
+ghost use Rattle.frozen_btree.specs.Inserts.{put_at};
 
-use crate::parts::{Parts, make_one, put_slot};
-use crate::set_slot;
+use frozen_nodes::{Parts, make_one, put_slot, set_slot};
 use store_api::{Store, StoreError};
 use tree_read::{NODE_WORDS, Spot, used_in};
 

@@ -7,14 +7,15 @@ ghost use Rattle.store_api.specs.Calls.{Refuses};
 ghost use Rattle.store_api.specs.Parts.{Owns, Turns};
 ghost use Rattle.store_api.specs.Units.{MayDo};
 ghost use Rattle.frozen_btree.specs.Changes.{Rebuilds, levels, tree};
-ghost use Rattle.frozen_btree.specs.Makes.{CountsNodes, MakesNodes};
-ghost use Rattle.frozen_btree.specs.Parts.{AreParts, IsRootOver, part_nodes};
+ghost use Rattle.frozen_nodes.specs.Makes.{CountsNodes, MakesNodes};
+ghost use Rattle.frozen_nodes.specs.Parts.{AreParts, part_nodes};
+ghost use Rattle.frozen_btree.specs.Inserts.{IsRootOver};
 
 use crate::insert_below::insert_below;
-use crate::parts::Parts;
-use crate::{drop_nodes, make_leaf, make_part};
+use crate::{drop_nodes, make_leaf};
 use arrayvec::ArrayVec;
 use entry_ref::EntryRef;
+use frozen_nodes::{Parts, make_part};
 use store_api::{Store, StoreError};
 use tree_read::{KeyOrder, LEVEL_BASE, NODE_WORDS, Slots};
 

@@ -6,7 +6,7 @@ ghost use Rattle.store_api.specs.Calls.{Refuses};
 ghost use Rattle.store_api.specs.Parts.{Owns, Turns};
 ghost use Rattle.store_api.specs.Units.{MayDo};
 ghost use Rattle.frozen_btree.specs.Changes.{tree};
-ghost use Rattle.frozen_btree.specs.Makes.{CountsNodes, MakesNodes};
+ghost use Rattle.frozen_nodes.specs.Makes.{CountsNodes, MakesNodes};
 ghost use Rattle.tree_read.specs.Slots.{slot_pairs, IsInHand};
 ghost use Rattle.frozen_btree.specs.Builds.{nodes_above, nodes_of, BuildsTree};
 

@@ -4,8 +4,8 @@
 //! as its records exist. A tree is a root: 0 if it is empty, otherwise the reference of its top node. Its pairs
 //! ascend by key, in an order that a `KeyOrder` gives.
 //!
-//! The modules make nodes from slots, insert and remove pairs, build a whole tree from a list, drop a tree, and copy
-//! the path to a key out of a sealed buffer (`touch`), which compaction uses.
+//! The modules insert and remove pairs, build a whole tree from a list, drop a tree, and copy the path to a key out of
+//! a sealed buffer (`touch`), which compaction uses. `frozen_nodes` makes the nodes, each by itself.
 //!
 //! The laws say that each node is on the way to each key below it.
 #![tactic(auto)]
@@ -17,15 +17,11 @@ mod insert_leaf;
 mod insert_tree;
 mod laws;
 mod levels;
-mod make;
 mod make_drops;
 mod neighbours;
-mod node_parts;
 mod parent;
-mod parts;
 mod remove_below;
 mod remove_tree;
-mod remove_words;
 mod root;
 mod rows;
 mod touch_below;
@@ -33,12 +29,11 @@ mod touch_tree;
 mod whole_leaf;
 
 pub use build_drops::drop_tree;
+pub use frozen_nodes::{Part, add_slot, make_part, make_words, set_slot};
 pub use insert_tree::insert;
 pub use laws::way_law;
 pub use levels::build;
-pub use make::{Part, make_part, make_words};
 pub use make_drops::drop_nodes;
-pub use node_parts::{add_slot, set_slot};
 pub use remove_tree::remove;
 pub use root::{make_leaf, make_root};
 pub use touch_tree::touch;

@@ -1,10 +1,10 @@
 ghost use Rattle.std.specs.Prelude.{◌≡◌, ◌^◌, ◌≤◌, ◌<◌, ◌+◌, ◌++◌, true, length, slice_set, suc, OnOk, OnErr, IfErr};
 ghost use Rattle.store_api.specs.Calls.{Refuses};
-ghost use Rattle.frozen_btree.specs.Makes.{MakesNodes};
+ghost use Rattle.frozen_nodes.specs.Makes.{MakesNodes};
 ghost use Rattle.tree_read.specs.Slots.{slot_pairs, slot_nodes, IsInHand};
 ghost use Rattle.frozen_btree.specs.Settles.{SettlesSlots};
 
-use crate::{Part, make_part};
+use frozen_nodes::{Part, make_part};
 use store_api::{Store, StoreError};
 use tree_read::{LEAST_SLOTS, MOST_SLOTS, NODE_WORDS, Slots, append};
 

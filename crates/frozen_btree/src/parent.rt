@@ -1,17 +1,16 @@
 ghost use Rattle.std.specs.Prelude.{◌≡◌, ◌^◌, ◌≤◌, ◌<◌, ◌++◌, ◌∷◌, [], true, length, slice_index, suc, OnOk, OnErr, IfErr};
 ghost use Rattle.tree_read.specs.Nodes.{level_of, count_of, node_keys, node_values, IsNodeForm};
 ghost use Rattle.store_api.specs.Calls.{Refuses};
-ghost use Rattle.frozen_btree.specs.Makes.{MakesNodes};
-ghost use Rattle.frozen_btree.specs.Words.{AreWords};
+ghost use Rattle.frozen_nodes.specs.Makes.{MakesNodes};
+ghost use Rattle.frozen_nodes.specs.Words.{AreWords};
 ghost use Rattle.tree_read.specs.Slots.{slot_pairs, IsInHand};
 ghost use Rattle.frozen_btree.specs.Removes.{IsChild, PutsBack, spliced};
 
 use crate::neighbours::make_neighbours;
-use crate::remove_words::write_slots;
-use crate::{make_words, set_slot};
 use arena_api::Frozen;
 use arrayvec::ArrayVec;
 use entry_ref::EntryRef;
+use frozen_nodes::{make_words, set_slot, write_slots};
 use store_api::{Store, StoreError};
 use tree_read::{LEAST_SLOTS, MOST_SLOTS, NODE_WORDS, Slots, read_node, slots_of, used_in};
 

@@ -5,16 +5,16 @@ ghost use Rattle.tree_read.specs.Trees.{pairs_below, IsNode, root_least};
 ghost use Rattle.tree_read.specs.Keys.{seen_by, Ascends, AllReadable};
 ghost use Rattle.tree_read.specs.Pairs.{lookup, take_out};
 ghost use Rattle.store_api.specs.Calls.{Refuses};
-ghost use Rattle.frozen_btree.specs.Makes.{MakesNodes};
-ghost use Rattle.frozen_btree.specs.Words.{AreWords};
+ghost use Rattle.frozen_nodes.specs.Makes.{MakesNodes};
+ghost use Rattle.frozen_nodes.specs.Words.{AreWords};
 ghost use Rattle.tree_read.specs.Slots.{slot_pairs};
 ghost use Rattle.frozen_btree.specs.Removes.{IsStep, Removes};
 
 use crate::parent::put_child;
-use crate::remove_words::take_slot;
 use arena_api::Frozen;
 use arrayvec::ArrayVec;
 use entry_ref::EntryRef;
+use frozen_nodes::take_slot;
 use store_api::{Store, StoreError};
 use tree_read::{FIRST_VALUE, KeyOrder, NODE_WORDS, visit};
 

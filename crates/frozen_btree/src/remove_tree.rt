@@ -6,15 +6,16 @@ ghost use Rattle.tree_read.specs.Pairs.{lookup, take_out};
 ghost use Rattle.store_api.specs.Calls.{Refuses};
 ghost use Rattle.store_api.specs.Parts.{Owns, Turns};
 ghost use Rattle.store_api.specs.Units.{MayDo};
-ghost use Rattle.frozen_btree.specs.Changes.{Rebuilds, levels, tree};
-ghost use Rattle.frozen_btree.specs.Makes.{CountsNodes, MakesNodes, MakesRoot};
-ghost use Rattle.frozen_btree.specs.Words.{AreWords};
+ghost use Rattle.frozen_btree.specs.Changes.{Rebuilds, levels, tree, MakesRoot};
+ghost use Rattle.frozen_nodes.specs.Makes.{CountsNodes, MakesNodes};
+ghost use Rattle.frozen_nodes.specs.Words.{AreWords};
 ghost use Rattle.tree_read.specs.Slots.{slot_pairs, IsInHand};
 
 use crate::remove_below::remove_below;
-use crate::{drop_nodes, make_root, make_words};
+use crate::{drop_nodes, make_root};
 use arrayvec::ArrayVec;
 use entry_ref::EntryRef;
+use frozen_nodes::make_words;
 use store_api::{Store, StoreError};
 use tree_read::{KeyOrder, LEVEL_BASE, NODE_WORDS, slots_of, used_in};
 

@@ -1,11 +1,12 @@
 ghost use Rattle.std.specs.Prelude.{◌≡◌, ◌^◌, ◌≤◌, ◌<◌, ◌∷◌, [], true, length, IfOk, IfErr};
 ghost use Rattle.store_api.specs.Calls.{Refuses};
-ghost use Rattle.frozen_btree.specs.Makes.{MakesNodes, MakesNode, MakesRoot};
+ghost use Rattle.frozen_nodes.specs.Makes.{MakesNodes, MakesNode};
+ghost use Rattle.frozen_btree.specs.Changes.{MakesRoot};
 ghost use Rattle.tree_read.specs.Slots.{slot_pairs, IsInHand};
 
-use crate::make::make_part;
 use arrayvec::ArrayVec;
 use entry_ref::EntryRef;
+use frozen_nodes::make_part;
 use store_api::{Store, StoreError};
 use tree_read::{MOST_SLOTS, NODE_WORDS, Slots};
 

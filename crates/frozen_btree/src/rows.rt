@@ -1,12 +1,12 @@
 ghost use Rattle.std.specs.Prelude.{◌≡◌, ◌^◌, ◌<◌, ◌≤◌, ◌+◌, ◌∷◌, ◌++◌, [], true, length, IfOk, IfErr, OnOk};
 ghost use Rattle.store_api.specs.Calls.{Refuses};
 ghost use Rattle.store_api.specs.declared.store.StoreError.TheVariants.{Memory};
-ghost use Rattle.frozen_btree.specs.Makes.{MakesNodes};
+ghost use Rattle.frozen_nodes.specs.Makes.{MakesNodes};
 ghost use Rattle.tree_read.specs.Slots.{slot_pairs, IsInHand};
 ghost use Rattle.frozen_btree.specs.Builds.{groups, group_start, AddsPart, MakesRow};
 
-use crate::make_part;
 use arrayvec::ArrayVec;
+use frozen_nodes::make_part;
 use std::alloc::Global;
 use store_api::{Store, StoreError};
 use tree_read::{MOST_SLOTS, NODE_WORDS, Slots, append};

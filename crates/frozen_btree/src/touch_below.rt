@@ -5,7 +5,7 @@ ghost use Rattle.tree_read.specs.Nodes.{level_of, node_keys, node_values};
 ghost use Rattle.tree_read.specs.Trees.{pairs_below, IsNode};
 ghost use Rattle.tree_read.specs.Keys.{seen_by, AllReadable};
 ghost use Rattle.store_api.specs.Calls.{Refuses};
-ghost use Rattle.frozen_btree.specs.Makes.{MakesNodes};
+ghost use Rattle.frozen_nodes.specs.Makes.{MakesNodes};
 ghost use Rattle.frozen_btree.specs.Paths.{NoneIn, path_below};
 ghost use Rattle.tree_read.specs.NodePlaces.{IsPlace};
 ghost use Rattle.frozen_btree.specs.Touches.{Touches};

@@ -5,7 +5,7 @@ ghost use Rattle.store_api.specs.Calls.{Refuses};
 ghost use Rattle.store_api.specs.Parts.{Owns, Turns};
 ghost use Rattle.store_api.specs.Units.{MayDo};
 ghost use Rattle.frozen_btree.specs.Changes.{Rebuilds, levels, tree};
-ghost use Rattle.frozen_btree.specs.Makes.{CountsNodes, MakesNodes};
+ghost use Rattle.frozen_nodes.specs.Makes.{CountsNodes, MakesNodes};
 ghost use Rattle.frozen_btree.specs.Paths.{NoneIn, path_nodes};
 
 use crate::drop_nodes;

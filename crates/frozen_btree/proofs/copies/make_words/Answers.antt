@@ -1,5 +1,5 @@
 use Rattle.std.proofs.lemmas.Result.{IfOk-weaker}
-use Rattle.frozen_btree.proofs.MadeLemmas.{makes-any}
+use Rattle.frozen_nodes.proofs.MadeLemmas.{makes-any}
 use Rattle.frozen_btree.proofs.TouchLemmas.{copies-made}
 use Rattle.frozen_btree.proofs.copies.make_words.Goals as goal
 

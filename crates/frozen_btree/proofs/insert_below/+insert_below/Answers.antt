@@ -11,12 +11,12 @@ use Rattle.tree_read.proofs.ReadLemmas.{node-even}
 use Rattle.tree_read.specs.Keys.{seen_by, Ascends, AllReadable}
 use Rattle.tree_read.specs.Pairs.{put}
 use Rattle.tree_read.specs.NodePlaces.{IsPlace}
-use Rattle.frozen_btree.specs.Makes.{MakesNodes}
-use Rattle.frozen_btree.proofs.MakesLemmas.{makes-more, makes-then, refuses-if}
+use Rattle.frozen_nodes.specs.Makes.{MakesNodes}
+use Rattle.frozen_nodes.proofs.MakesLemmas.{makes-more, makes-then, refuses-if}
 use Rattle.tree_read.specs.Slots.{slot_pairs, IsInHand}
 use Rattle.frozen_btree.specs.Inserts.{Inserts}
-use Rattle.frozen_btree.specs.Parts.{MakesParts, part_keys, part_nodes}
-use Rattle.frozen_btree.specs.declared.parts.Parts.{Parts}
+use Rattle.frozen_nodes.specs.Parts.{MakesParts, part_keys, part_nodes}
+use Rattle.frozen_nodes.specs.declared.parts.Parts.{Parts}
 use Rattle.frozen_btree.proofs.BelowLemmas.{child-node, child-all, child-ascends, child-few, child-count, parts-there, over-hand, over-few, over-counted, over-inserts}
 use Rattle.frozen_btree.proofs.insert_below.+insert_below.Goals as goal
 

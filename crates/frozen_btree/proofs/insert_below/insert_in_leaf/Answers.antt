@@ -6,9 +6,11 @@ use Rattle.tree_read.specs.Trees.{pairs_below, IsNode}
 use Rattle.tree_read.proofs.TreeLemmas.{IsNode-form}
 use Rattle.tree_read.specs.Keys.{seen_by, AllReadable}
 use Rattle.tree_read.specs.Pairs.{put}
-use Rattle.frozen_btree.specs.Parts.{MakesParts, put_at}
+use Rattle.frozen_nodes.specs.Parts.{MakesParts}
+use Rattle.frozen_btree.specs.Inserts.{put_at}
 use Rattle.frozen_btree.proofs.BelowLemmas.{leaf-inserts}
-use Rattle.frozen_btree.proofs.HandLemmas.{hand-size, hand-even, pair-put, pair-most}
+use Rattle.frozen_nodes.proofs.HandLemmas.{hand-size, hand-even}
+use Rattle.frozen_btree.proofs.PutLemmas.{pair-put, pair-most}
 use Rattle.frozen_btree.proofs.insert_below.insert_in_leaf.Goals as goal
 
 pub visit-spot-requires : goal.visit-spot-requires

@@ -1,10 +1,12 @@
 use Rattle.std.proofs.Common.{◌≡◌, ◌<◌, ◌^◌, ◌+◌, length, true, false, sym, subst, ◌∙◌, arith, true≢false, IfOk}
 use Rattle.tree_read.specs.Nodes.{count_of, node_keys, node_values}
 use Rattle.tree_read.specs.Slots.{slot_pairs, IsInHand}
-use Rattle.frozen_btree.specs.Words.{AreWords}
-use Rattle.frozen_btree.proofs.MakeWordLemmas.{form-words, words-used, cut-size}
-use Rattle.frozen_btree.specs.Parts.{MakesParts, put_at}
-use Rattle.frozen_btree.proofs.HandLemmas.{hand-size, hand-even, pair-hand, pair-count}
+use Rattle.frozen_nodes.specs.Words.{AreWords}
+use Rattle.frozen_nodes.proofs.MakeWordLemmas.{form-words, words-used, cut-size}
+use Rattle.frozen_nodes.specs.Parts.{MakesParts}
+use Rattle.frozen_btree.specs.Inserts.{put_at}
+use Rattle.frozen_nodes.proofs.HandLemmas.{hand-size, hand-even}
+use Rattle.frozen_btree.proofs.PutLemmas.{pair-hand, pair-count}
 use Rattle.frozen_btree.proofs.insert_leaf.put_pair.Goals as goal
 
 pub make_one-requires-clause-some : goal.make_one-requires-clause-some

@@ -8,7 +8,7 @@ use Rattle.tree_read.proofs.PairLemmas.{All-put}
 use Rattle.store_api.specs.Parts.{Owns, entries}
 use Rattle.frozen_btree.specs.Changes.{DropsEntries, levels}
 use Rattle.frozen_btree.proofs.ChangeLemmas.{gone-owned, end-turns, end-owns, end-pairs, end-others, end-may, end-counts, end-keyed}
-use Rattle.frozen_btree.proofs.Results.{on_err}
+use Rattle.frozen_nodes.proofs.Results.{on_err}
 use Rattle.frozen_btree.proofs.insert_tree.insert.Goals as goal
 
 pub drop_nodes-requires-clause-owns : goal.drop_nodes-requires-clause-owns

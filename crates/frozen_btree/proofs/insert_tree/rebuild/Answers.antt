@@ -4,8 +4,8 @@ use Rattle.tree_read.specs.Trees.{pairs_below, tree_pairs, IsNode, root_level}
 use Rattle.tree_read.specs.Keys.{seen_by, Ascends, AllReadable}
 use Rattle.tree_read.specs.Pairs.{put}
 use Rattle.frozen_btree.specs.Changes.{Rebuilds, levels}
-use Rattle.frozen_btree.specs.Makes.{MakesNodes}
-use Rattle.frozen_btree.proofs.MakesLemmas.{makes-then, makes-more, refuses-if}
+use Rattle.frozen_nodes.specs.Makes.{MakesNodes}
+use Rattle.frozen_nodes.proofs.MakesLemmas.{makes-then, makes-more, refuses-if}
 use Rattle.frozen_btree.proofs.Results.{not_valid, is_valid}
 use Rattle.frozen_btree.proofs.TopLemmas.{root-size, root-level, root-low, root-one, root-pairs, root-levels}
 use Rattle.frozen_btree.specs.Inserts.{Inserts}

@@ -2,8 +2,9 @@ use Rattle.std.proofs.Common.{◌≡◌, ◌<◌, inl, inr, ℕ, List, [], ◌�
 use Rattle.std.proofs.lemmas.Bool.{cases_eq}
 use Rattle.std.specs.List.{flat_map}
 use Rattle.tree_read.specs.Trees.{pairs_below, root_least}
-use Rattle.frozen_btree.specs.declared.parts.Parts.TheVariants.{Two}
-use Rattle.frozen_btree.specs.Parts.{AreParts, IsRootOver, part_nodes}
+use Rattle.frozen_nodes.specs.declared.parts.Parts.TheVariants.{Two}
+use Rattle.frozen_nodes.specs.Parts.{AreParts, part_nodes}
+use Rattle.frozen_btree.specs.Inserts.{IsRootOver}
 use Rattle.frozen_btree.proofs.InsertRootLemmas.{two-hand, two-few, two_root}
 use Rattle.frozen_btree.proofs.insert_tree.root_over.Goals as goal
 

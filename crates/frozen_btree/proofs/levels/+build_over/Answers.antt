@@ -1,6 +1,6 @@
 use Rattle.std.proofs.Common.{rules, ◌≡◌, ◌<◌, ◌≤◌, ◌+◌, ◌-◌, ◌^◌, suc, length, ap, ◌∙◌, arith}
 use Rattle.std.proofs.lemmas.Result.{IfOk-weaker}
-use Rattle.frozen_btree.proofs.MakesLemmas.{makes-more, makes-then, refuses-if}
+use Rattle.frozen_nodes.proofs.MakesLemmas.{makes-more, makes-then, refuses-if}
 use Rattle.tree_read.specs.Slots.{slot_pairs, IsInHand}
 use Rattle.frozen_btree.specs.Builds.{groups, nodes_above, BuildsTree}
 use Rattle.frozen_btree.proofs.GroupLemmas.{groups-some}

@@ -1,7 +1,7 @@
 use Rattle.std.proofs.Common.{◌≤◌, ◌++◌, length, set, ap, ◌∙◌, arith, length-append}
 use Rattle.frozen_btree.proofs.SettleLemmas.{settles-merged, part-at}
-use Rattle.frozen_btree.proofs.MakesLemmas.{makes-more}
-use Rattle.frozen_btree.proofs.Results.{on_err}
+use Rattle.frozen_nodes.proofs.MakesLemmas.{makes-more}
+use Rattle.frozen_nodes.proofs.Results.{on_err}
 use Rattle.frozen_btree.proofs.neighbours.merge.Goals as goal
 
 pub returns-clause-settles : goal.returns-clause-settles

@@ -2,8 +2,8 @@ use Rattle.std.proofs.Common.{◌≡◌, ◌+◌, ◌<◌, length, set, sym, ap,
 use Rattle.tree_read.proofs.SlotLemmas.{hand-kept, hand-left, hand-right}
 use Rattle.tree_read.specs.Slots.{slot_pairs, IsInHand}
 use Rattle.frozen_btree.proofs.SettleLemmas.{settles-shared, part-at, hand-at, few-left, few-right, shifted-sizes}
-use Rattle.frozen_btree.proofs.MakesLemmas.{makes-more, makes-then, refuses-from, refuses-exit}
-use Rattle.frozen_btree.proofs.Results.{on_err}
+use Rattle.frozen_nodes.proofs.MakesLemmas.{makes-more, makes-then, refuses-from, refuses-exit}
+use Rattle.frozen_nodes.proofs.Results.{on_err}
 use Rattle.frozen_btree.proofs.neighbours.share.Goals as goal
 
 pub make_part-requires-clause-hand : goal.make_part-requires-clause-hand

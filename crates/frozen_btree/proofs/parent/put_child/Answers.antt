@@ -3,13 +3,13 @@ use Rattle.std.specs.Prelude.{slice_index_or}
 use Rattle.std.proofs.lemmas.List.{set_split}
 use Rattle.tree_read.specs.Nodes.{level_of, used_of, count_of, node_keys, node_values}
 use Rattle.tree_read.specs.Slots.{slot_pairs}
-use Rattle.frozen_btree.specs.Makes.{MakesPart}
-use Rattle.frozen_btree.specs.Words.{AreWords}
-use Rattle.frozen_btree.proofs.MakeWordLemmas.{form-words, words-used, words-keys, words-values}
+use Rattle.frozen_nodes.specs.Makes.{MakesPart}
+use Rattle.frozen_nodes.specs.Words.{AreWords}
+use Rattle.frozen_nodes.proofs.MakeWordLemmas.{form-words, words-used, words-keys, words-values}
 use Rattle.frozen_btree.specs.Removes.{PutsBack, spliced}
 use Rattle.frozen_btree.proofs.SettleLemmas.{settles-alone}
 use Rattle.frozen_btree.proofs.ParentLemmas.{puts-alone}
-use Rattle.frozen_btree.proofs.RemoveWordLemmas.{words-own}
+use Rattle.frozen_nodes.proofs.RemoveWordLemmas.{words-own}
 use Rattle.frozen_btree.proofs.parent.put_child.Goals as goal
 
 pub returns-clause-puts : goal.returns-clause-puts

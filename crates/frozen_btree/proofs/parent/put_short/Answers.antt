@@ -1,10 +1,10 @@
 use Rattle.std.proofs.Common.{◌≡◌, length, sym, ap, subst, ◌∙◌}
 use Rattle.tree_read.specs.Nodes.{level_of, node_keys, node_values}
 use Rattle.tree_read.specs.Slots.{slot_pairs}
-use Rattle.frozen_btree.specs.Words.{AreWords}
-use Rattle.frozen_btree.proofs.MakeWordLemmas.{words-keys, words-values}
+use Rattle.frozen_nodes.specs.Words.{AreWords}
+use Rattle.frozen_nodes.proofs.MakeWordLemmas.{words-keys, words-values}
 use Rattle.frozen_btree.specs.Removes.{PutsBack}
-use Rattle.frozen_btree.proofs.RemoveWordLemmas.{words-own}
+use Rattle.frozen_nodes.proofs.RemoveWordLemmas.{words-own}
 use Rattle.frozen_btree.proofs.parent.put_short.Goals as goal
 
 pub returns-clause-puts : goal.returns-clause-puts

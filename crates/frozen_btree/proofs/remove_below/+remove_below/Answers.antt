@@ -12,14 +12,14 @@ use Rattle.tree_read.proofs.SlotLemmas.{hand-leaf}
 use Rattle.tree_read.proofs.ReadLemmas.{node-level}
 use Rattle.tree_read.proofs.RootLemmas.{root_least-few}
 use Rattle.tree_read.proofs.ChildLemmas.{IsNode-lower}
-use Rattle.frozen_btree.specs.Words.{AreWords}
-use Rattle.frozen_btree.proofs.MakeWordLemmas.{words-level}
+use Rattle.frozen_nodes.specs.Words.{AreWords}
+use Rattle.frozen_nodes.proofs.MakeWordLemmas.{words-level}
 use Rattle.frozen_btree.proofs.RemoveLemmas.{removes-leaf, removes-over, over-out, over-few, over-least, over-hand}
 use Rattle.frozen_btree.specs.Removes.{Removes, PutsBack, IsStep, spliced}
-use Rattle.frozen_btree.proofs.MakesLemmas.{makes-more, makes-then, refuses-exit}
-use Rattle.frozen_btree.proofs.Results.{on_err}
+use Rattle.frozen_nodes.proofs.MakesLemmas.{makes-more, makes-then, refuses-exit}
+use Rattle.frozen_nodes.proofs.Results.{on_err}
 use Rattle.store_api.specs.Calls.{Refuses}
-use Rattle.frozen_btree.specs.Makes.{MakesNodes}
+use Rattle.frozen_nodes.specs.Makes.{MakesNodes}
 use Rattle.frozen_btree.proofs.remove_below.+remove_below.Goals as goal
 
 pub returns-then-level-eq0-clause-removes : goal.returns-then-level-eq0-clause-removes

@@ -10,10 +10,10 @@ use Rattle.tree_read.specs.Keys.{seen_by, AllReadable}
 use Rattle.tree_read.specs.Pairs.{lookup, take_out}
 use Rattle.tree_read.proofs.ChildLemmas.{keys-length}
 use Rattle.tree_read.proofs.ReadLemmas.{node-even, leaf-pairs}
-use Rattle.frozen_btree.specs.Words.{AreWords}
-use Rattle.frozen_btree.proofs.MakeWordLemmas.{form-words, words-keys, words-values}
+use Rattle.frozen_nodes.specs.Words.{AreWords}
+use Rattle.frozen_nodes.proofs.MakeWordLemmas.{form-words, words-keys, words-values}
 use Rattle.frozen_btree.proofs.StepLemmas.{leaf-out}
-use Rattle.frozen_btree.proofs.RemoveWordLemmas.{words-own}
+use Rattle.frozen_nodes.proofs.RemoveWordLemmas.{words-own}
 use Rattle.frozen_btree.proofs.remove_below.remove_in_leaf.Goals as goal
 
 pub visit-slot-requires : goal.visit-slot-requires

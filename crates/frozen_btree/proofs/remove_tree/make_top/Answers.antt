@@ -2,9 +2,10 @@ use Rattle.std.proofs.Common.{◌≡◌, ◌≢◌, ◌<◌, ◌≤◌, ◌^◌,
 use Rattle.std.proofs.lemmas.Result.{IfOk-weaker}
 use Rattle.tree_read.specs.Nodes.{level_of, used_of, node_keys, node_values}
 use Rattle.tree_read.specs.Slots.{slot_pairs, IsInHand}
-use Rattle.frozen_btree.specs.Makes.{MakesPart, MakesRoot}
+use Rattle.frozen_nodes.specs.Makes.{MakesPart}
+use Rattle.frozen_btree.specs.Changes.{MakesRoot}
 use Rattle.frozen_btree.proofs.MakeRootLemmas.{root-made, many_from}
-use Rattle.frozen_btree.proofs.MakeWordLemmas.{words-used}
+use Rattle.frozen_nodes.proofs.MakeWordLemmas.{words-used}
 use Rattle.frozen_btree.proofs.remove_tree.make_top.Goals as goal
 
 pub slots_of-requires-clause-room : goal.slots_of-requires-clause-room

@@ -4,13 +4,13 @@ use Rattle.std.proofs.lemmas.Result.{IfOk-weaker}
 use Rattle.tree_read.specs.Trees.{pairs_below, root_level, root_least, IsNode}
 use Rattle.tree_read.specs.Keys.{seen_by, Ascends, AllReadable}
 use Rattle.tree_read.specs.Pairs.{lookup}
-use Rattle.frozen_btree.specs.Changes.{levels}
-use Rattle.frozen_btree.proofs.MakesLemmas.{makes-then, makes-more, refuses-if}
+use Rattle.frozen_btree.specs.Changes.{levels, MakesRoot}
+use Rattle.frozen_nodes.proofs.MakesLemmas.{makes-then, makes-more, refuses-if}
 use Rattle.frozen_btree.proofs.TopLemmas.{root-size, root-level, root-low, root-node, root-pairs, root-levels}
-use Rattle.frozen_btree.specs.Makes.{MakesNodes, MakesRoot}
+use Rattle.frozen_nodes.specs.Makes.{MakesNodes}
 use Rattle.tree_read.specs.Nodes.{level_of, node_keys, node_values}
-use Rattle.frozen_btree.specs.Words.{AreWords}
-use Rattle.frozen_btree.proofs.MakeWordLemmas.{words-level}
+use Rattle.frozen_nodes.specs.Words.{AreWords}
+use Rattle.frozen_nodes.proofs.MakeWordLemmas.{words-level}
 use Rattle.tree_read.specs.Slots.{slot_pairs, IsInHand}
 use Rattle.frozen_btree.proofs.RemoveTreeLemmas.{top-few, top-some, rebuilds-from}
 use Rattle.frozen_btree.specs.Removes.{Removes}

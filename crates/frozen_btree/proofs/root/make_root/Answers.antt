@@ -4,7 +4,7 @@ use Rattle.tree_read.specs.Trees.{IsNode}
 use Rattle.tree_read.specs.Slots.{IsInHand}
 use Rattle.tree_read.proofs.ReadLemmas.{node-size}
 use Rattle.frozen_btree.proofs.MakeRootLemmas.{root-none, root-only, root-made, only-node, leaf_from, many_from, ref_some}
-use Rattle.frozen_btree.specs.Makes.{MakesRoot}
+use Rattle.frozen_btree.specs.Changes.{MakesRoot}
 use Rattle.frozen_btree.proofs.root.make_root.Goals as goal
 use Rattle.frozen_btree.proofs.root.make_root.Goals.{else-slots-gt0-via-then-slots-gt0+else-len-eq1, else-slots-gt0-via-else-slots-gt0}
 

@@ -1,5 +1,5 @@
 use Rattle.std.proofs.Common.{◌≡◌, ◌<◌, ◌+◌, ◌-◌, ◌^◌, length, take, drop, sym, ap, subst, ◌∙◌, arith, length-append, [], ◌∷◌}
-use Rattle.frozen_btree.proofs.MakesLemmas.{makes-none, makes-more, makes-then}
+use Rattle.frozen_nodes.proofs.MakesLemmas.{makes-none, makes-more, makes-then}
 use Rattle.tree_read.proofs.SlotLemmas.{hand-kept, slot_pairs-kept}
 use Rattle.frozen_btree.specs.Builds.{groups, group_start, AddsPart}
 use Rattle.frozen_btree.proofs.GroupLemmas.{group-is, starts-at-none, starts-at-all}

@@ -1,5 +1,5 @@
 use Rattle.std.proofs.Common.{◌≡◌, length, take}
-use Rattle.frozen_btree.specs.Makes.{MakesNodes}
+use Rattle.frozen_nodes.specs.Makes.{MakesNodes}
 use Rattle.frozen_btree.specs.Builds.{group_start, MakesRow}
 use Rattle.frozen_btree.proofs.rows.make_row.Given as goal
 

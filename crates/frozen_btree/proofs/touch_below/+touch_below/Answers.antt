@@ -5,8 +5,8 @@ use Rattle.tree_read.specs.Nodes.{level_of, node_values}
 use Rattle.tree_read.specs.Trees.{pairs_below, IsNode}
 use Rattle.tree_read.proofs.TreeLemmas.{IsNode-form}
 use Rattle.tree_read.specs.Keys.{seen_by, AllReadable}
-use Rattle.frozen_btree.specs.Makes.{MakesNodes}
-use Rattle.frozen_btree.proofs.MakesLemmas.{makes-more, makes-then}
+use Rattle.frozen_nodes.specs.Makes.{MakesNodes}
+use Rattle.frozen_nodes.proofs.MakesLemmas.{makes-more, makes-then}
 use Rattle.frozen_btree.proofs.MakeRootLemmas.{ref_some}
 use Rattle.tree_read.proofs.ChildLemmas.{IsNode-lower, keys-length}
 use Rattle.tree_read.proofs.ReadLemmas.{node-even, inner-pairs}

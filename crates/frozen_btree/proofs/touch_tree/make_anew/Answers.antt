@@ -3,8 +3,8 @@ use Rattle.std.proofs.lemmas.Result.{IfOk-weaker}
 use Rattle.tree_read.specs.Trees.{pairs_below, tree_pairs, root_level, IsNode}
 use Rattle.tree_read.specs.Keys.{seen_by, AllReadable}
 use Rattle.frozen_btree.specs.Changes.{Rebuilds, levels}
-use Rattle.frozen_btree.specs.Makes.{MakesNodes}
-use Rattle.frozen_btree.proofs.MakesLemmas.{makes-none}
+use Rattle.frozen_nodes.specs.Makes.{MakesNodes}
+use Rattle.frozen_nodes.proofs.MakesLemmas.{makes-none}
 use Rattle.frozen_btree.proofs.Results.{not_valid, is_valid}
 use Rattle.frozen_btree.proofs.TopLemmas.{root-size, root-level, root-low, root-one, root-pairs, root-levels}
 use Rattle.frozen_btree.specs.Paths.{NoneIn, path_nodes, path_below}

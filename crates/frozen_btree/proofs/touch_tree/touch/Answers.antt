@@ -5,7 +5,8 @@ use Rattle.tree_read.proofs.OrderKeyLemmas.{others_kept}
 use Rattle.store_api.specs.Parts.{Owns, entries}
 use Rattle.frozen_btree.specs.Changes.{DropsEntries, levels}
 use Rattle.frozen_btree.proofs.ChangeLemmas.{gone-owned, end-turns, end-owns, end-pairs, end-others, end-may, end-counts, end-keyed}
-use Rattle.frozen_btree.proofs.Results.{on_err, one_answer, no_error}
+use Rattle.frozen_nodes.proofs.Results.{on_err}
+use Rattle.frozen_btree.proofs.Results.{one_answer, no_error}
 use Rattle.frozen_btree.specs.Paths.{NoneIn}
 use Rattle.frozen_btree.proofs.TouchTreeLemmas.{nodes-left, path_nodes-same}
 use Rattle.frozen_btree.proofs.touch_tree.touch.Goals as goal

@@ -4,7 +4,7 @@ use Rattle.std.proofs.lemmas.Result.{IfOk-weaker}
 use Rattle.tree_read.proofs.CountLemmas.{leaf_count}
 use Rattle.tree_read.proofs.SlotLemmas.{hand-leaf}
 use Rattle.tree_read.proofs.OrderKeyLemmas.{keyed-from, others_kept}
-use Rattle.frozen_btree.specs.Makes.{MakesRoot}
+use Rattle.frozen_btree.specs.Changes.{MakesRoot}
 use Rattle.frozen_btree.proofs.LeafLemmas.{leaf-pairs, leaf-turns, leaf-owns}
 use Rattle.frozen_btree.proofs.whole_leaf.build_leaf.Goals as goal
 
