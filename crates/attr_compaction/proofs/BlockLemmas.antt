@@ -14,9 +14,10 @@ use Rattle.tree_read.specs.Pairs.{choose, seek}
 use Rattle.tree_read.specs.Trees.{tree_pairs}
 use Rattle.attr_images.specs.Postings.{vector, list_form, block_documents, IsBlock, IsPostingList}
 use Rattle.posting_store.specs.Lists.{IsList}
+use Rattle.posting_store.specs.Moves.{form_docs}
 use Rattle.posting_store.proofs.FormLemmas.{form_vector}
 use Rattle.posting_store.proofs.VectorLemmas.{vector_form}
-use Rattle.attr_compaction.specs.PhaseKeys.{first_item, form_docs}
+use Rattle.attr_compaction.specs.PhaseKeys.{first_item}
 use Rattle.attr_compaction.proofs.NextLemmas.{lt_cmp, past_number}
 
 -- ---- numbers and the blocks that they lie in

@@ -26,9 +26,10 @@ use Rattle.attr_compaction.specs.declared.plan.PlanKey.{PlanKey}
 use Rattle.attr_compaction.specs.declared.plan.PlanKey.TheVariants.{Pair}
 use Rattle.enum_dictionary.specs.Dictionaries.{behind, beside_value}
 use Rattle.posting_store.specs.Lists.{is_vector, IsList, IsPlain}
+use Rattle.posting_store.specs.Moves.{form_docs}
 use Rattle.posting_store.proofs.FormLemmas.{form_even, form_odd, plain_of, tree_at, tree_form}
 use Rattle.value_index.specs.Indexes.{IsIndex, IsValuePair}
-use Rattle.attr_compaction.specs.PhaseKeys.{first_item, form_docs, key_past, keys_of_pairs, next_in_list, IsListPair}
+use Rattle.attr_compaction.specs.PhaseKeys.{first_item, key_past, keys_of_pairs, next_in_list, IsListPair}
 use Rattle.posting_store.proofs.VectorLemmas.{counted_from}
 use Rattle.attr_compaction.proofs.BlockLemmas.{vector_filled}
 use Rattle.attr_compaction.proofs.NextLemmas.{lt_cmp, past_number}

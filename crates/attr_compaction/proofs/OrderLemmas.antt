@@ -20,10 +20,11 @@ use Rattle.attr_compaction.specs.Places.{key_cmp}
 use Rattle.attr_compaction.specs.declared.plan.PlanKey.{PlanKey}
 use Rattle.attr_compaction.specs.declared.plan.PlanKey.TheVariants.{Value, Doc, Pair}
 use Rattle.posting_store.specs.Lists.{is_vector, IsList, IsPlain}
+use Rattle.posting_store.specs.Moves.{form_docs}
 use Rattle.posting_store.proofs.FormLemmas.{plain_of, tree_at}
 use Rattle.value_index.specs.Indexes.{IsValuePair}
 use Rattle.attr_compaction.specs.KeysLaws.{PhaseKeysAscend}
-use Rattle.attr_compaction.specs.PhaseKeys.{document_keys, form_docs, keys_of_pairs, node_phase_keys, pair_keys, value_keys}
+use Rattle.attr_compaction.specs.PhaseKeys.{document_keys, keys_of_pairs, node_phase_keys, pair_keys, value_keys}
 use Rattle.posting_store.proofs.VectorLemmas.{counted_from}
 use Rattle.attr_compaction.proofs.BlockLemmas.{vector_ascends}
 use Rattle.attr_compaction.proofs.ListLemmas.{short_docs, tree_docs}

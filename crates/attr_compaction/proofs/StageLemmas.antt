@@ -20,7 +20,8 @@ use Rattle.attr_images.specs.Tables.{AttributeTrees}
 use Rattle.attr_images.specs.Values.{stored_value}
 use Rattle.attr_types.specs.declared.kind.ValueType.{ValueType}
 use Rattle.tree_read.specs.Trees.{tree_pairs}
-use Rattle.attr_compaction.specs.PhaseKeys.{document_keys, form_docs, key_past, keys_of_pairs, value_keys}
+use Rattle.attr_compaction.specs.PhaseKeys.{document_keys, key_past, keys_of_pairs, value_keys}
+use Rattle.posting_store.specs.Moves.{form_docs}
 use Rattle.attr_compaction.specs.Counts.{keys_of_phase, place_at}
 
 -- ---- orders

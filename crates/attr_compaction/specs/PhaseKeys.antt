@@ -1,15 +1,15 @@
 -- The keys of the phases of a compaction, from the trees of an attribute. Each phase has them in order.
-use Rattle.std.specs.Prelude.{◌≡◌, ◌*◌, ℕ, List, [], ◌∷◌, map, ◌++◌, Option, None, Some, nat_eq, nat_lt, if◌then◌else◌}
+use Rattle.std.specs.Prelude.{◌≡◌, ℕ, List, [], ◌∷◌, map, ◌++◌, Option, None, Some, nat_eq, nat_lt, if◌then◌else◌}
 use Rattle.std.specs.List.{find, flat_map}
 use Rattle.std.specs.Option.{option_map}
 use Rattle.std.specs.Ordering.{is_lt}
 use Rattle.entry_ref.specs.Records.{Records}
 use Rattle.tree_read.specs.Trees.{tree_pairs}
-use Rattle.attr_images.specs.Postings.{ListForm, short, tree, vector, list_form}
+use Rattle.attr_images.specs.Postings.{list_form}
 use Rattle.attr_images.specs.Values.{stored_value, IsValueRecord}
-use Rattle.attr_images.specs.declared.TheConstants.{BLOCK_DOCUMENTS}
 use Rattle.attr_types.specs.Value.{type_of}
 use Rattle.attr_types.specs.declared.kind.ValueType.{ValueType}
+use Rattle.posting_store.specs.Moves.{form_docs}
 use Rattle.value_index.specs.Indexes.{IsValuePair}
 use Rattle.attr_compaction.specs.Places.{key_cmp}
 use Rattle.attr_compaction.specs.declared.plan.TheConstants.{DOCUMENTS, KEYS, LISTS}
@@ -23,13 +23,6 @@ value_keys type m root = map (λ p. Value (stored_value type m p.0)) (tree_pairs
 -- the documents of a tree by document
 abbrev pub document_keys : Records → ℕ → List PlanKey
 document_keys m root = map (λ p. Doc p.0) (tree_pairs m root)
-
--- the documents of a list in the form of keys: a list that is a single record is one key, and a block of a bit vector is
--- the number with which its documents begin
-abbrev pub form_docs : Records → ListForm → List ℕ
-form_docs m (short ref) = 0 ∷ []
-form_docs m (tree root) = map (λ p. p.0) (tree_pairs m root)
-form_docs m (vector root) = map (λ p. BLOCK_DOCUMENTS * p.0) (tree_pairs m root)
 
 -- the documents in the lists of the values
 abbrev pub keys_of_pairs : ValueType → Records → List (ℕ × ℕ) → List PlanKey

@@ -22,4 +22,4 @@ pub use keys_laws::keys_law;
 pub use laws::place_law;
 pub use next::next_key;
 pub use plan::{DOCUMENTS, KEYS, LISTS, NODES, PHASES, Plan, PlanKey};
-pub use vectors::{is_vector, vector_root};
+pub use vectors::is_vector;

@@ -2,7 +2,8 @@ ghost use Rattle.std.specs.Prelude.{◌≡◌, ◌<◌, ◌/◌, ◌%◌, true, 
 ghost use Rattle.std.specs.List.{find};
 ghost use Rattle.attr_images.specs.Postings.{list_form};
 ghost use Rattle.posting_store.specs.Lists.{IsList, IsPlain};
-ghost use Rattle.attr_compaction.specs.PhaseKeys.{first_item, form_docs};
+ghost use Rattle.posting_store.specs.Moves.{form_docs};
+ghost use Rattle.attr_compaction.specs.PhaseKeys.{first_item};
 
 use crate::numbers::{first_number, number_past};
 use crate::vectors::{block_past, first_block, is_vector};

@@ -4,7 +4,8 @@ ghost use Rattle.std.specs.List.{find};
 ghost use Rattle.std.specs.Option.{option_map};
 ghost use Rattle.attr_images.specs.Postings.{list_form};
 ghost use Rattle.posting_store.specs.Lists.{is_vector, IsList, IsPlain};
-ghost use Rattle.attr_compaction.specs.PhaseKeys.{first_item, form_docs};
+ghost use Rattle.posting_store.specs.Moves.{form_docs};
+ghost use Rattle.attr_compaction.specs.PhaseKeys.{first_item};
 
 use crate::numbers::{first_number, number_past};
 use arena_api::Frozen;

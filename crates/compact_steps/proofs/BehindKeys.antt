@@ -20,8 +20,9 @@ use Rattle.attr_compaction.specs.declared.plan.PlanKey.TheVariants.{Value, Doc, 
 use Rattle.enum_dictionary.specs.Dictionaries.{behind, beside_value}
 use Rattle.attr_compaction.proofs.ListLemmas.{beside_pair, short_docs}
 use Rattle.attr_compaction.proofs.NextLemmas.{lt_cmp, past_number}
-use Rattle.attr_compaction.specs.PhaseKeys.{form_docs, keys_of_pairs, IsListPair}
+use Rattle.attr_compaction.specs.PhaseKeys.{keys_of_pairs, IsListPair}
 use Rattle.posting_store.specs.Lists.{IsPlain}
+use Rattle.posting_store.specs.Moves.{form_docs}
 use Rattle.compact_steps.specs.Sights.{IsRecordApart}
 use Rattle.compact_steps.proofs.Through.{keys_behind, past, whole_behind}
 

@@ -31,7 +31,8 @@ use Rattle.attr_types.specs.declared.value.Value.{Value as AnyValue}
 use Rattle.compaction_moves.specs.DocumentMoves.{AreItemsApart}
 use Rattle.enum_dictionary.specs.Dictionaries.{behind}
 use Rattle.attr_compaction.proofs.OrderLemmas.{phase_ascends}
-use Rattle.attr_compaction.specs.PhaseKeys.{document_keys, form_docs, pair_keys, phase_keys, value_keys}
+use Rattle.attr_compaction.specs.PhaseKeys.{document_keys, pair_keys, phase_keys, value_keys}
+use Rattle.posting_store.specs.Moves.{form_docs}
 use Rattle.value_index.specs.Indexes.{IsIndex, IsValuePair}
 use Rattle.compact_steps.specs.Passes.{GoesThrough}
 use Rattle.compact_steps.specs.Sights.{IsRecordApart}

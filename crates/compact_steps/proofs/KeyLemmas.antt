@@ -22,10 +22,11 @@ use Rattle.attr_compaction.specs.declared.plan.PlanKey.TheVariants.{Value, Doc, 
 use Rattle.attr_compaction.specs.declared.plan.TheConstants.{DOCUMENTS, KEYS, LISTS, PHASES}
 use Rattle.value_index.specs.Indexes.{index_reach}
 use Rattle.value_index.proofs.FormLemmas.{form_stays}
-use Rattle.attr_compaction.specs.PhaseKeys.{document_keys, form_docs, key_past, keys_of_pairs, pair_keys, value_keys, HasType}
+use Rattle.attr_compaction.specs.PhaseKeys.{document_keys, key_past, keys_of_pairs, pair_keys, value_keys, HasType}
 use Rattle.attr_steps.specs.Fields.{part_of, KeepForms}
 use Rattle.compaction_moves.proofs.BlockLemmas.{docs_same}
 use Rattle.posting_store.specs.Lists.{IsPlain}
+use Rattle.posting_store.specs.Moves.{form_docs}
 use Rattle.compact_steps.specs.Units.{keys_at, ArePlain, KeepKeys, KeepsKeys}
 
 -- ---- they stay where the records stay

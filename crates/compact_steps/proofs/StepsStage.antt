@@ -22,7 +22,8 @@ use Rattle.attr_types.specs.declared.kind.Kind.{Kind}
 use Rattle.attr_types.specs.declared.kind.ValueType.{ValueType}
 use Rattle.attr_types.specs.declared.value.Value.{Value}
 use Rattle.compaction_moves.specs.DocumentMoves.{AreItemsApart}
-use Rattle.attr_compaction.specs.PhaseKeys.{document_keys, form_docs, key_past, keys_of_pairs, phase_keys, value_keys}
+use Rattle.attr_compaction.specs.PhaseKeys.{document_keys, key_past, keys_of_pairs, phase_keys, value_keys}
+use Rattle.posting_store.specs.Moves.{form_docs}
 use Rattle.compaction_moves.proofs.PlanVisits.{end_visited, others_visited, stage_visited}
 use Rattle.compaction_moves.proofs.BlockLemmas.{block_key, start_in}
 use Rattle.compaction_moves.proofs.IndexClauses.{key_left, key_right}

@@ -38,9 +38,10 @@ use Rattle.enum_dictionary.specs.Dictionaries.{beside_value, entry_of}
 use Rattle.enum_dictionary.specs.declared.finding.DictEntry.{DictEntry}
 use Rattle.attr_compaction.proofs.ListLemmas.{tree_form_is, tree_numbers}
 use Rattle.attr_compaction.proofs.NextLemmas.{past_number}
-use Rattle.attr_compaction.specs.PhaseKeys.{form_docs, keys_of_pairs, pair_keys, phase_keys}
+use Rattle.attr_compaction.specs.PhaseKeys.{keys_of_pairs, pair_keys, phase_keys}
 use Rattle.posting_store.proofs.FormLemmas.{form_tree}
 use Rattle.posting_store.specs.Lists.{IsList, IsPlain}
+use Rattle.posting_store.specs.Moves.{form_docs}
 use Rattle.value_index.proofs.KeyLemmas.{reads_found}
 use Rattle.value_index.specs.Flows.{list_word}
 use Rattle.value_index.specs.Indexes.{IsIndex, IsValuePair}

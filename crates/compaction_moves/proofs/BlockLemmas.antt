@@ -1,5 +1,5 @@
 -- The blocks of a bit vector by their numbers, and what a list's form tells where its records stay.
-use Rattle.std.proofs.Common.{◌≡◌, ℕ, ◌*◌, ◌<◌, List, [], ◌∷◌, map, length, None, Some, Less, Equal, Greater, inl, inr, refl, sym, ap, ap₂, subst, ◌∙◌, arith, nat_cmp}
+use Rattle.std.proofs.Common.{◌≡◌, ℕ, ◌*◌, ◌/◌, ◌<◌, List, [], ◌∷◌, map, length, None, Some, Less, Equal, Greater, inl, inr, refl, sym, ap, ap₂, subst, ◌∙◌, arith, nat_cmp}
 use Rattle.std.proofs.lemmas.Cmp.{nat_cmp_total, tied_itself}
 use Rattle.std.specs.Cmp.{ranks}
 use Rattle.std.specs.List.{flat_map, AllByRecursion}
@@ -11,12 +11,14 @@ use Rattle.entry_ref.specs.Records.{Records, SameAt, Among}
 use Rattle.tree_read.specs.Pairs.{choose, lookup}
 use Rattle.tree_read.specs.ProofsForTrees.{SameAt-left, SameAt-right, tree_pairs-same}
 use Rattle.tree_read.specs.Trees.{tree_nodes, tree_pairs}
-use Rattle.attr_images.specs.Postings.{ListForm, short, tree, vector, dictionary_reach, list_form, postings_reach, IsBlock}
+use Rattle.frozen_btree.specs.Paths.{path_nodes, NoneIn}
+use Rattle.frozen_btree.proofs.TouchTreeLemmas.{path_nodes-same}
+use Rattle.attr_images.specs.Postings.{ListForm, short, tree, vector, dictionary_reach, list_form, postings_reach, IsBlock, IsPostingList}
 use Rattle.bit_vector.specs.Keeps.{block_at}
 use Rattle.posting_store.specs.Keeps.{form_block}
+use Rattle.posting_store.specs.Moves.{form_docs, FormIsApart}
 use Rattle.value_index.specs.Indexes.{index_reach}
 use Rattle.value_index.proofs.IndexLemmas.{pair_reach}
-use Rattle.attr_compaction.specs.PhaseKeys.{form_docs}
 use Rattle.compaction_moves.specs.IndexMoves.{lists_docs}
 use Rattle.compaction_moves.proofs.IndexPairs.{InPairs}
 
@@ -98,6 +100,18 @@ pub form_block_same : (m n : Records) (form : ListForm) (k : ℕ) → SameAt (po
 form_block_same m n (short ref) k same = refl
 form_block_same m n (tree root) k same = refl
 form_block_same m n (vector root) k same = block_same m n root k (nodes_of_vector m n root same)
+
+pub form_same : (bits buffer doc : ℕ) (m n : Records) (form : ListForm) → SameAt (postings_reach m form) m n → IsPostingList m form
+    → FormIsApart bits buffer doc m form → FormIsApart bits buffer doc n form
+form_same bits buffer doc m n (short ref) same is apart = apart
+form_same bits buffer doc m n (tree root) same is apart =
+    subst (NoneIn bits buffer) (sym (path_nodes-same m n (λ key. nat_cmp key doc) root same (λ some. is.0.node some))) apart
+form_same bits buffer doc m n (vector root) same is apart =
+    let nodes = nodes_of_vector m n root same in
+    record {
+      way = subst (NoneIn bits buffer) (sym (path_nodes-same m n (λ key. nat_cmp key (doc / 4096)) root nodes (λ some. is.0.node some))) apart.way;
+      block = λ r there. apart.block r (sym (block_same m n root (doc / 4096) nodes) ∙ there);
+    }
 
 pub docs_same : (m n : Records) (form : ListForm) → SameAt (postings_reach m form) m n → form_docs n form ≡ form_docs m form
 docs_same m n (short ref) same = refl

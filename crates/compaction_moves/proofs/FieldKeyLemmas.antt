@@ -16,7 +16,8 @@ use Rattle.attr_types.specs.Lawful.{IsDocNumber}
 use Rattle.attr_types.specs.Value.{type_of}
 use Rattle.attr_types.specs.declared.kind.ValueType.{ValueType}
 use Rattle.doc_vector.specs.Documents.{IsDocumentMap, IsDocumentPair}
-use Rattle.attr_compaction.specs.PhaseKeys.{document_keys, form_docs, key_past, keys_of_pairs, phase_keys, value_keys}
+use Rattle.attr_compaction.specs.PhaseKeys.{document_keys, key_past, keys_of_pairs, phase_keys, value_keys}
+use Rattle.posting_store.specs.Moves.{form_docs}
 
 -- a key of this phase: a value of the type, or a document's number
 abbrev pub IsFine : ValueType → ℕ → PlanKey → Type 0

@@ -29,7 +29,8 @@ use Rattle.enum_dictionary.specs.Dictionaries.{beside_value}
 use Rattle.value_index.specs.Indexes.{index_part, index_reach, key_at}
 use Rattle.value_index.proofs.IndexLemmas.{pair_reach}
 use Rattle.value_index.proofs.KeyLemmas.{among_left, among_right}
-use Rattle.attr_compaction.specs.PhaseKeys.{form_docs, keys_of_pairs}
+use Rattle.attr_compaction.specs.PhaseKeys.{keys_of_pairs}
+use Rattle.posting_store.specs.Moves.{form_docs}
 use Rattle.compaction_moves.specs.Visits.{IsAmongKeys}
 use Rattle.compaction_moves.proofs.PlanVisits.{none_behind}
 use Rattle.compaction_moves.proofs.BelowLemmas.{nodes_stay}

@@ -11,7 +11,8 @@ use Rattle.attr_types.specs.declared.kind.ValueType.{ValueType}
 use Rattle.attr_types.specs.declared.value.Value.{Value as AnyValue}
 use Rattle.attr_compaction.specs.declared.plan.PlanKey.{PlanKey}
 use Rattle.attr_compaction.specs.declared.plan.PlanKey.TheVariants.{Value, Doc, Pair}
-use Rattle.attr_compaction.specs.PhaseKeys.{document_keys, form_docs, keys_of_pairs, pair_keys, value_keys}
+use Rattle.attr_compaction.specs.PhaseKeys.{document_keys, keys_of_pairs, pair_keys, value_keys}
+use Rattle.posting_store.specs.Moves.{form_docs}
 use Rattle.compaction_moves.specs.IndexLaws.{KeysAreSame}
 
 abbrev Docs : Type 0

@@ -13,7 +13,6 @@ use Rattle.tree_read.specs.Trees.{tree_pairs}
 use Rattle.frozen_btree.specs.Changes.{tree}
 use Rattle.frozen_btree.specs.Paths.{path_nodes, NoneIn}
 use Rattle.frozen_btree.proofs.TouchTreeLemmas.{none-apart}
-use Rattle.attr_compaction.specs.PhaseKeys.{form_docs}
 use Rattle.attr_images.specs.Postings.{dictionary_reach, list_form}
 use Rattle.attr_images.specs.Values.{stored_value}
 use Rattle.attr_types.specs.Value.{type_of, value_cmp}
@@ -22,6 +21,7 @@ use Rattle.attr_types.specs.declared.value.Value.{Value}
 use Rattle.enum_dictionary.specs.Dictionaries.{beside_value, IsDictionary}
 use Rattle.enum_dictionary.proofs.DictionaryLemmas.{seen_same, IsValueTree}
 use Rattle.posting_store.specs.Lists.{IsPlain}
+use Rattle.posting_store.specs.Moves.{form_docs}
 use Rattle.value_index.specs.Indexes.{index_part, IsIndex, IsValuePair}
 use Rattle.value_index.proofs.ChangeLemmas.{shown_stay}
 use Rattle.value_index.proofs.IndexLemmas.{docs_at, pair_reach, pair_same}

@@ -12,7 +12,6 @@ use Rattle.store_api.proofs.PartLemmas.{after, owns-some, turns-as}
 use Rattle.tree_read.specs.ProofsForTrees.{all-same}
 use Rattle.tree_read.specs.Trees.{tree_pairs, tree_nodes}
 use Rattle.frozen_btree.specs.Changes.{tree}
-use Rattle.attr_compaction.specs.PhaseKeys.{form_docs}
 use Rattle.attr_images.specs.Postings.{index_of, list_form}
 use Rattle.attr_images.specs.Values.{stored_value, value_of, IsValueRecord}
 use Rattle.attr_types.specs.Value.{type_of, value_cmp}
@@ -24,6 +23,7 @@ use Rattle.posting_store.specs.Changes.{list_part}
 use Rattle.attr_images.specs.declared.TheConstants.{LEAST_DENSE}
 use Rattle.posting_store.specs.Lists.{list_at, list_reach, is_vector, IsList, IsPlain}
 use Rattle.posting_store.specs.ProofsForLists.{IsList-same, list_at-same}
+use Rattle.posting_store.specs.Moves.{form_docs}
 use Rattle.posting_store.proofs.FormLemmas.{at_form, reach_form}
 use Rattle.value_index.specs.Indexes.{index_part, key_at, IsIndex, IsKey, IsValuePair}
 use Rattle.value_index.proofs.ChangeLemmas.{shown_stay}

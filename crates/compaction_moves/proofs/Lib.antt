@@ -1,7 +1,6 @@
 pub mod PairLemmas
 pub mod IndexSetLemmas
 pub mod IndexKeyLemmas
-pub mod WordLemmas
 pub mod ListLemmas
 pub mod IndexNodeLemmas
 pub mod IndexUsedLemmas

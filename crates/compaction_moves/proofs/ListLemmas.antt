@@ -13,6 +13,7 @@ use Rattle.tree_read.specs.Pairs.{choose, lookup, lookup_pair, put}
 use Rattle.tree_read.proofs.PairLemmas.{lookup-of_pair}
 use Rattle.store_api.specs.Ledgers.{Ledger}
 use Rattle.store_api.specs.Parts.{Owns}
+use Rattle.store_api.specs.Units.{MakesWithin}
 use Rattle.store_api.specs.declared.store.StoreError.{StoreError}
 use Rattle.store_api.specs.Statuses.{in_use}
 use Rattle.store_api.proofs.PartLemmas.{turns-then}
@@ -31,6 +32,7 @@ use Rattle.posting_store.specs.Changes.{MakesList}
 use Rattle.posting_store.specs.Keeps.{list_block}
 use Rattle.posting_store.specs.Lists.{list_at, list_levels, list_reach, is_vector}
 use Rattle.posting_store.specs.ProofsForLists.{list_reach-same}
+use Rattle.posting_store.specs.Moves.{word_most, FormIsApart, MovesWord}
 use Rattle.posting_store.proofs.FormLemmas.{at_form, no_vector, plain_of, reach_form}
 use Rattle.posting_store.proofs.ListLemmas.{list_filled}
 use Rattle.value_index.specs.Flows.{list_word}
@@ -40,12 +42,11 @@ use Rattle.value_index.proofs.KeyLemmas.{pair_found, reads_found}
 use Rattle.value_index.proofs.OpenLemmas.{IsOpen, others, parts, same_self}
 use Rattle.value_index.proofs.PairLemmas.{keys, all_by_keys, among_put, key_put, lookup_pair_as}
 use Rattle.value_index.proofs.StepLemmas.{open_next, word_some}
-use Rattle.compaction_moves.specs.IndexMoves.{move_most, word_most, FormIsApart, MovesList, MovesWord}
-use Rattle.compaction_moves.proofs.BlockLemmas.{form_block_same}
+use Rattle.compaction_moves.specs.IndexMoves.{move_most, MovesList}
+use Rattle.compaction_moves.proofs.BlockLemmas.{form_block_same, form_same}
 use Rattle.compaction_moves.proofs.IndexKeyLemmas.{key_of}
 use Rattle.compaction_moves.proofs.IndexSetLemmas.{IsReady, key_stays, list_stays, ready_dictionary, ready_owns, rest_stays, set_docs, set_index}
 use Rattle.compaction_moves.proofs.IndexSetLemmas.{set_is, set_key, set_list, set_owns, set_pairs, set_plain, set_rest, set_turns}
-use Rattle.compaction_moves.proofs.WordLemmas.{form_same}
 
 -- a pair put in its own place
 put_found : (c : ℕ → Ordering) (p : ℕ × ℕ) (ps : List (ℕ × ℕ)) → lookup_pair c ps ≡ Some p → put c p ps ≡ ps
@@ -56,6 +57,18 @@ put_found c p (q ∷ ps) is =
       | Equal ↦ λ h. ap (λ (x : ℕ × ℕ). x ∷ ps) (sym (same_Some q p h))
       | Greater ↦ λ h. absurd (grind (arith, h))
     ]) is
+
+-- a list and its word
+pub moves_as : {H : Type 0} (bits buffer doc : ℕ) (a b : Ledger H) (m n : Records) (was list next word : ℕ) → was ≡ list → word ≡ next → MovesWord bits buffer doc a b m n was next
+    → MovesWord bits buffer doc a b m n list word
+moves_as bits buffer doc a b m n was list next word same is moves =
+    subst (λ x. MovesWord bits buffer doc a b m n list x) (sym is) (subst (λ x. MovesWord bits buffer doc a b m n x next) same moves)
+
+pub counts_as : {H : Type 0} (a b : Ledger H) (m : Records) (was list count : ℕ) → was ≡ list → length (list_at m list) ≡ count
+    → MakesWithin a b (word_most (is_vector was) (list_levels m was) (length (list_at m was))) → MakesWithin a b (word_most (is_vector list) (list_levels m list) count)
+counts_as a b m was list count same size made =
+    subst (λ k. MakesWithin a b (word_most (is_vector list) (list_levels m list) k)) size
+    (subst (λ x. MakesWithin a b (word_most (is_vector x) (list_levels m x) (length (list_at m x)))) same made)
 
 -- what a move makes, by what is found
 pub most_found : (value : Value) (m : Records) (root key word count w : ℕ) → lookup_pair (beside_value value m) (tree_pairs m root) ≡ Some (key, word)

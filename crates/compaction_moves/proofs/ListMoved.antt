@@ -33,16 +33,17 @@ use Rattle.attr_types.specs.Value.{type_of}
 use Rattle.attr_types.specs.declared.kind.ValueType.{ValueType}
 use Rattle.attr_types.specs.declared.value.Value.{Value}
 use Rattle.enum_dictionary.specs.Dictionaries.{beside_value}
-use Rattle.compaction_moves.specs.IndexMoves.{FormIsApart, MovesList}
+use Rattle.compaction_moves.specs.IndexMoves.{MovesList}
 use Rattle.compaction_moves.proofs.IndexKeyLemmas.{key_of}
 use Rattle.attr_compaction.proofs.OrderLemmas.{phase_ascends}
-use Rattle.attr_compaction.specs.PhaseKeys.{form_docs, pair_keys}
+use Rattle.attr_compaction.specs.PhaseKeys.{pair_keys}
 use Rattle.compaction_moves.specs.Visits.{place_at_key, IsAmongKeys}
 use Rattle.compaction_moves.proofs.PlanVisits.{all_before, next_visited}
 use Rattle.bit_vector.specs.Keeps.{block_at}
 use Rattle.bit_vector.specs.Moves.{IsBlockApart}
 use Rattle.posting_store.specs.Keeps.{form_block, list_block}
 use Rattle.posting_store.specs.Lists.{list_at, list_reach, is_vector, IsPlain}
+use Rattle.posting_store.specs.Moves.{form_docs, FormIsApart}
 use Rattle.posting_store.proofs.FormLemmas.{at_form, form_even, form_tree, form_vector, many_odd, plain_of, tree_at, tree_form, tree_reach}
 use Rattle.posting_store.proofs.VectorLemmas.{counted_from, vector_form, vector_list_reach}
 use Rattle.value_index.specs.Flows.{list_word}

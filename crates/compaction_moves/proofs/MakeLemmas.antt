@@ -37,10 +37,11 @@ use Rattle.value_index.specs.Indexes.{IsIndex}
 use Rattle.value_index.proofs.LevelLemmas.{dictionary_low, list_low}
 use Rattle.value_index.proofs.WalksCountLemmas.{levels_few, no_node, form_few}
 use Rattle.compaction_moves.specs.Counts.{key_nodes, most_nodes, one_record, IsLowColumn, MakesKey}
-use Rattle.compaction_moves.specs.IndexMoves.{key_most, move_most, word_most}
+use Rattle.compaction_moves.specs.IndexMoves.{key_most, move_most}
 use Rattle.bit_vector.specs.Changes.{vector_most}
 use Rattle.bit_vector.specs.Moves.{moved_nodes}
 use Rattle.posting_store.specs.Lists.{is_vector, IsPlain}
+use Rattle.posting_store.specs.Moves.{word_most}
 use Rattle.posting_store.proofs.FormLemmas.{no_vector}
 use Rattle.value_index.specs.Flows.{list_word}
 use Rattle.value_index.specs.Forms.{IsPlainIndex}

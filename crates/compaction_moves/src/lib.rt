@@ -20,9 +20,7 @@ mod indexes;
 mod laws;
 mod lists;
 mod lying;
-mod records;
 mod visits;
-mod words;
 
 pub use cleared_documents::{can_law, items_law, map_law};
 pub use document_moving::move_items;

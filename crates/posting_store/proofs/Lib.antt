@@ -9,3 +9,4 @@ pub mod LeafLemmas
 pub mod RefusalLemmas
 pub mod VectorLemmas
 pub mod RuleLemmas
+pub mod MoveLemmas

@@ -4,3 +4,4 @@ pub mod Changes
 pub mod Walks
 pub mod Laws
 pub mod Keeps
+pub mod Moves

@@ -3,12 +3,14 @@
 #![tactic(auto)]
 
 mod adding;
+mod copying;
 mod cursor;
 mod dropping;
 mod forming;
 mod items;
 mod laws;
 mod making;
+mod moving;
 mod posting;
 mod removing;
 mod replacing;
@@ -16,5 +18,6 @@ mod replacing;
 pub use adding::add;
 pub use cursor::{PostingCursor, count, walk};
 pub use laws::list_law;
+pub use moving::move_posting;
 pub use posting::Posting;
 pub use removing::remove;

@@ -1,11 +1,12 @@
--- A list made anew, of the same documents.
-use Rattle.std.proofs.Common.{◌≡◌, ◌≢◌, ℕ, ℤ, Some, ◌+◌, ◌*◌, ◌/◌, ◌%◌, ◌<◌, ◌≤◌, Bool, cond, nat_eq, List, [], ◌∷◌, map, length, true, false, true≢false, refl, sym, ap, subst, ◌∙◌, arith}
+-- A list moved: made anew, of the same documents.
+use Rattle.std.proofs.Common.{◌≡◌, ◌≢◌, ℕ, ℤ, suc, Some, ◌+◌, ◌*◌, ◌/◌, ◌%◌, ◌<◌, ◌≤◌, Bool, cond, nat_eq, List, [], ◌∷◌, map, length, true, false, true≢false, inl, refl, sym, ap, subst, ◌∙◌, arith}
 use Rattle.std.proofs.lemmas.Bool.{eqb-false, eqb-true, le-leb, lt-leb}
 use Rattle.std.proofs.lemmas.List.{length-map}
 use Rattle.std.specs.Ordering.{nat_cmp}
 use Rattle.std.specs.List.{AllByRecursion}
 use Rattle.entry_ref.specs.References.{buffer_of}
 use Rattle.entry_ref.specs.Records.{Records, SameAt, Among}
+use Rattle.store_api.specs.Calls.{IsUsedWidth}
 use Rattle.store_api.specs.Ledgers.{Ledger, capacity}
 use Rattle.store_api.specs.Parts.{Owns, Turns, count_in, entry, times}
 use Rattle.store_api.specs.Statuses.{in_use}
@@ -14,28 +15,28 @@ use Rattle.store_api.proofs.PartLemmas.{after, owns-some, turns-as}
 use Rattle.store_api.proofs.Times.{among-times}
 use Rattle.store_api.proofs.Uses.{in-uses}
 use Rattle.tree_read.specs.Trees.{tree_pairs, by_number, IsTree}
+use Rattle.tree_read.proofs.TreeLemmas.{root_of_many}
 use Rattle.frozen_btree.specs.Changes.{levels, tree as tree_part}
 use Rattle.frozen_btree.specs.Makes.{CountsNodes}
 use Rattle.frozen_btree.specs.Paths.{path_nodes, NoneIn}
-use Rattle.frozen_btree.proofs.TouchTreeLemmas.{path_nodes-same}
+use Rattle.frozen_btree.proofs.UsedLemmas.{node_used, used_at}
+use Rattle.attr_images.proofs.RootLemmas.{length-filled}
 use Rattle.array_store.specs.Adding.{AddsRecord, MakesOneOf}
-use Rattle.attr_images.specs.Postings.{ListForm, short, tree, vector, list_form, postings_reach, IsPostingList}
+use Rattle.attr_images.specs.Postings.{ListForm, short, tree, vector, list_form, IsPostingList}
 use Rattle.attr_images.specs.Words.{class_of, stored_items, unpacked, IsStoredList}
 use Rattle.posting_store.specs.Changes.{list_part, list_most, MakesList}
 use Rattle.posting_store.specs.Lists.{list_at, list_levels, list_reach, is_vector, AreDocuments, IsList, IsPlain}
-use Rattle.posting_store.proofs.ChangeLemmas.{counts_short, makes_short, makes_tree, replaces}
+use Rattle.posting_store.proofs.ChangeLemmas.{counts_short, counts_weaker, makes_short, makes_tree, replaces}
 use Rattle.posting_store.specs.Keeps.{form_block, list_block, KeepsListBlocks}
 use Rattle.posting_store.proofs.FlowLemmas.{flows_nothing, flows_vector, plain_block}
 use Rattle.posting_store.proofs.FormLemmas.{form_short, form_tree, form_vector, no_vector, short_at, short_few, short_reach, tree_at, tree_form, tree_levels, tree_reach}
 use Rattle.posting_store.proofs.VectorLemmas.{makes_vector, vector_counted, vector_list_at, vector_long, vector_owned, with_ones}
+use Rattle.posting_store.proofs.LeafLemmas.{tree_owned}
 use Rattle.posting_store.proofs.PairLemmas.{weighed, weighed-length}
-use Rattle.value_index.proofs.CountLemmas.{within_more}
-use Rattle.attr_compaction.specs.PhaseKeys.{form_docs}
 use Rattle.bit_vector.specs.Changes.{vector_most, vector_part, MakesVector}
 use Rattle.bit_vector.specs.Moves.{moved_nodes, MovesBlock}
 use Rattle.bit_vector.specs.Vectors.{vector_reach}
-use Rattle.compaction_moves.specs.IndexMoves.{word_most, FormIsApart, MovesWord}
-use Rattle.compaction_moves.proofs.BlockLemmas.{block_same, nodes_of_vector}
+use Rattle.posting_store.specs.Moves.{form_docs, word_most, FormIsApart, MovesWord}
 
 are_documents : (m : Records) (word : ℕ) → IsList m word → AreDocuments (list_at m word)
 are_documents m word list = record { ascends = list.ascends; numbers = list.numbers }
@@ -166,7 +167,7 @@ module _ (m : Records) (word ref : ℕ) (list : IsList m word) (plain : IsPlain 
       let few = short_few m word plain even list in
       let made : MakesOneOf (class_of (1 + length (list_at m word))) a b = subst (λ k. MakesOneOf (class_of (1 + k)) a b) (sym short_size) one in
       plain_most a b word (list_levels m word) (length (list_at m word)) plain
-      (within_more a b (list_most 0 (length (list_at m word))) (word_most false (list_levels m word) (length (list_at m word))) (short_most (list_levels m word) (length (list_at m word)) few)
+      (counts_weaker a b (list_most 0 (length (list_at m word))) (word_most false (list_levels m word) (length (list_at m word))) (short_most (list_levels m word) (length (list_at m word)) few)
       (counts_short a b (length (list_at m word)) few made))
 
 tree_apart : (bits buffer doc : ℕ) (n : Records) (next top : ℕ) → next ≡ 2 * top + 1 → IsPlain next
@@ -208,19 +209,6 @@ module _ {H : Type 0} (a b : Ledger H) (m n : Records) (word root : ℕ) (list :
       plain_most a b word (list_levels m word) (length (list_at m word)) plain
       (subst (λ h. MakesWithin a b (word_most false h (length (list_at m word)))) (sym (tree_levels m word root plain tree_is_word))
       (tree_within a b (levels m root) (length (list_at m word)) many made))
-
--- ---- apart still where its records stay
-pub form_same : (bits buffer doc : ℕ) (m n : Records) (form : ListForm) → SameAt (postings_reach m form) m n → IsPostingList m form
-    → FormIsApart bits buffer doc m form → FormIsApart bits buffer doc n form
-form_same bits buffer doc m n (short ref) same is apart = apart
-form_same bits buffer doc m n (tree root) same is apart =
-    subst (NoneIn bits buffer) (sym (path_nodes-same m n (λ key. nat_cmp key doc) root same (λ some. is.0.node some))) apart
-form_same bits buffer doc m n (vector root) same is apart =
-    let nodes = nodes_of_vector m n root same in
-    record {
-      way = subst (NoneIn bits buffer) (sym (path_nodes-same m n (λ key. nat_cmp key (doc / 4096)) root nodes (λ some. is.0.node some))) apart.way;
-      block = λ r there. apart.block r (sym (block_same m n root (doc / 4096) nodes) ∙ there);
-    }
 
 -- ---- a list that is a bit vector
 starts_of : (ps : List (ℕ × ℕ)) → map (λ p. 4096 * p.0) ps ≡ map (λ k. 4096 * k) (map (λ p. p.0) ps)
@@ -267,3 +255,19 @@ module _ {H : Type 0} (a b : Ledger H) (m n : Records) (word root : ℕ) (list :
 
   pub vector_most_made : MakesWithin a b (vector_most 1 moved_nodes) → MakesWithin a b (word_most (is_vector word) (list_levels m word) (length (list_at m word)))
   vector_most_made made = subst (λ (t : Bool). MakesWithin a b (word_most t (list_levels m word) (length (list_at m word)))) (sym dense) made
+
+-- ---- a refused move is one of a width of which a record was in use as it began
+pub short_used : {H : Type 0} (a : Ledger H) (m : Records) (word ref : ℕ) → IsList m word → IsPlain word → 0 < word → word % 2 ≡ 0 → ref ≡ word / 2 → Owns a m (list_part word ∷ [])
+    → IsUsedWidth a m (class_of (1 + length (stored_items (m ref))))
+short_used a m word ref list plain some even at owns =
+    let items = stored_items (m ref) in
+    let stored = short_stored m word ref list plain some even at in
+    let few = stored.few in
+    let size = ap length stored.words ∙ length-filled (length items ∷ items) (omega arith) in
+    used_at a m (entry ref) ref (class_of (1 + length items)) (short_owned m word ref list plain some even at a owns) (inl refl)
+    (size ∙ ap class_of (let e : suc (length items) ≡ 1 + length items = omega arith in e))
+
+pub tree_used : {H : Type 0} (a : Ledger H) (m : Records) (word root : ℕ) → IsList m word → IsPlain word → word ≡ 2 * root + 1 → Owns a m (list_part word ∷ []) → IsUsedWidth a m 34
+tree_used a m word root list plain is owns =
+    let form = tree_form m word root plain is list in
+    node_used a m root form.0.node (root_of_many m root form.1) (tree_owned a a m m word root list plain is owns)

@@ -7,37 +7,36 @@ use Rattle.posting_store.specs.Lists.{is_vector, list_at, list_levels}
 use Rattle.posting_store.proofs.RefusalLemmas.{of_one}
 use Rattle.store_api.specs.Calls.{IsUsedWidth}
 use Rattle.store_api.proofs.May.{may_do-same, may_do-then}
-use Rattle.value_index.proofs.CountLemmas.{within_dropped, within_none}
-use Rattle.compaction_moves.specs.IndexMoves.{word_most}
-use Rattle.compaction_moves.proofs.IndexUsedLemmas.{short_used}
-use Rattle.compaction_moves.proofs.WordLemmas.{old_record, short_apart, short_counts, short_moved, short_stored, word_kept}
-use Rattle.compaction_moves.proofs.lists.move_short.Goals as goal
+use Rattle.posting_store.proofs.ChangeLemmas.{counts_none, counts_then}
+use Rattle.posting_store.specs.Moves.{word_most}
+use Rattle.posting_store.proofs.MoveLemmas.{old_record, short_apart, short_counts, short_moved, short_stored, short_used, word_kept}
+use Rattle.posting_store.proofs.moving.move_short.Goals as goal
 
 pub returns-then-buffer-clause-moves : goal.returns-then-buffer-clause-moves
 returns-then-buffer-clause-moves g c =
-    let ref = c.record_of-record.result in
+    let ref = c.entry-record.result in
     let m = g.S.Frozen.records c.args.store.now in
     let apart : buffer_of g.row.OFFSET_BITS ref ≡ c.args.buffer → ⊥ = (λ e. let is = c.buffer.ensures.value in let other = c.if-buffer.true in absurd (omega arith)) in
     λ doc. word_kept g.row.OFFSET_BITS c.args.buffer doc (g.S.Store.ledger c.args.store.now) m c.args.list c.requires.list c.requires.owns
-    (short_apart m c.args.list ref c.requires.list c.requires.plain c.requires.some c.requires.short c.record_of-record.ensures g.row.OFFSET_BITS c.args.buffer doc apart)
+    (short_apart m c.args.list ref c.requires.list c.requires.plain c.requires.some c.requires.short c.entry-record.ensures g.row.OFFSET_BITS c.args.buffer doc apart)
 
 pub returns-then-buffer-clause-counts : goal.returns-then-buffer-clause-counts
 returns-then-buffer-clause-counts g c =
     let m = g.S.Frozen.records c.args.store.now in
-    within_none (g.S.Store.ledger c.args.store.now) (word_most (is_vector c.args.list) (list_levels m c.args.list) (length (list_at m c.args.list)))
+    counts_none (g.S.Store.ledger c.args.store.now) (word_most (is_vector c.args.list) (list_levels m c.args.list) (length (list_at m c.args.list)))
 
 pub copy_record-requires : goal.copy_record-requires
 copy_record-requires g c = (
   omega arith,
   (
     c.requires.unit,
-    short_stored (g.S.Frozen.records c.args.store.now) c.args.list c.record_of-record.result c.requires.list c.requires.plain c.requires.some c.requires.short c.record_of-record.ensures,
+    short_stored (g.S.Frozen.records c.args.store.now) c.args.list c.entry-record.result c.requires.list c.requires.plain c.requires.some c.requires.short c.entry-record.ensures,
   ),
 )
 
 pub returns-in_err-copy-clause-counts : goal.returns-in_err-copy-clause-counts
 returns-in_err-copy-clause-counts g c =
-    short_counts (g.S.Frozen.records c.args.store.now) c.args.list c.record_of-record.result c.requires.list c.requires.plain c.requires.some c.requires.short c.record_of-record.ensures
+    short_counts (g.S.Frozen.records c.args.store.now) c.args.list c.entry-record.result c.requires.list c.requires.plain c.requires.some c.requires.short c.entry-record.ensures
     (g.S.Store.ledger c.args.store.now) (g.S.Store.ledger c.copy_record.new.store) c.copy_record.ensures.counts
 
 pub returns-in_err-copy-clause-refuses : goal.returns-in_err-copy-clause-refuses
@@ -45,8 +44,8 @@ returns-in_err-copy-clause-refuses g c =
     let ledger = g.S.Store.ledger in
     let a = ledger c.args.store.now in
     let m = g.S.Frozen.records c.args.store.now in
-    let ref = c.record_of-record.result in
-    let used = short_used a m c.args.list ref c.requires.list c.requires.plain c.requires.some c.requires.short c.record_of-record.ensures c.requires.owns in
+    let ref = c.entry-record.result in
+    let used = short_used a m c.args.list ref c.requires.list c.requires.plain c.requires.some c.requires.short c.entry-record.ensures c.requires.owns in
     let p = err_from_is_err_and c.from_residual.result c.from_residual.ensures.1 in
     rw (p.1, p.2) (of_one (IsUsedWidth a m) a a (ledger c.copy_record.new.store) _ _ (may_do-same a) (class_width (1 + length (stored_items (m ref)))) used c.in_err-copy.ensures.refuses)
 
@@ -59,7 +58,7 @@ drop_one-requires g c =
       omega arith,
       (
         c.copy_record.ensures.may.unit ∙ c.requires.unit,
-        old_record (records s) c.args.list c.record_of-record.result c.requires.list c.requires.plain c.requires.some c.requires.short c.record_of-record.ensures
+        old_record (records s) c.args.list c.entry-record.result c.requires.list c.requires.plain c.requires.some c.requires.short c.entry-record.ensures
             g.row.OFFSET_BITS (ledger s) (ledger t) (records t) c.in_ok-copy.copy c.requires.owns c.in_ok-copy.ensures.adds c.in_ok-copy.ensures.items,
       ),
     )
@@ -71,9 +70,9 @@ returns-clause-moves g c =
     let s = c.args.store.now in
     let t = c.copy_record.new.store in
     let u = c.drop_one.new.store in
-    λ doc. short_moved (records s) c.args.list c.record_of-record.result c.requires.list c.requires.plain c.requires.some c.requires.short c.record_of-record.ensures
+    λ doc. short_moved (records s) c.args.list c.entry-record.result c.requires.list c.requires.plain c.requires.some c.requires.short c.entry-record.ensures
     g.row.OFFSET_BITS (ledger s) (ledger t) (records t) c.in_ok-copy.copy c.requires.owns c.in_ok-copy.ensures.adds c.in_ok-copy.ensures.items
-    (ledger u) (records u) c.drop_one.ensures.turns c.args.buffer doc c.short_word.result c.short_word.ensures.word c.short_word.ensures.plain
+    (ledger u) (records u) c.drop_one.ensures.turns c.args.buffer doc c.short.result c.short.ensures.word c.short.ensures.plain
     c.copy_record.ensures.may c.requires.sealed
 
 pub returns-clause-counts : goal.returns-clause-counts
@@ -82,8 +81,8 @@ returns-clause-counts g c =
     let m = g.S.Frozen.records c.args.store.now in
     let a = ledger c.args.store.now in
     let b = ledger c.copy_record.new.store in
-    within_dropped a b (ledger c.drop_one.new.store) (word_most (is_vector c.args.list) (list_levels m c.args.list) (length (list_at m c.args.list))) c.copy_record.ensures.may
-    (short_counts m c.args.list c.record_of-record.result c.requires.list c.requires.plain c.requires.some c.requires.short c.record_of-record.ensures
+    counts_then a b (ledger c.drop_one.new.store) (word_most (is_vector c.args.list) (list_levels m c.args.list) (length (list_at m c.args.list)))
+    (short_counts m c.args.list c.entry-record.result c.requires.list c.requires.plain c.requires.some c.requires.short c.entry-record.ensures
     a b c.copy_record.ensures.counts) c.drop_one.ensures.none_made
 
 pub returns-clause-may : goal.returns-clause-may
