@@ -48,11 +48,13 @@ fn under_guards<const OFFSET_BITS: u32, S: Store<OFFSET_BITS, Layout = AttrLayou
         return Ok(());
     };
     let guard = readers.hear(alloc, guard, fields)?;
-    compact_one(alloc, attribute, fields, course)?;
-    under_guards(alloc, attribute, fields, course, readers, left - 1)?;
+    let ended = match compact_one(alloc, attribute, fields, course) {
+        Ok(()) => under_guards(alloc, attribute, fields, course, readers, left - 1),
+        Err(error) => Err(error),
+    };
     let guard = readers.hear(alloc, guard, fields)?;
     let _ = guard.release();
-    Ok(())
+    ended
 }
 
 /// Makes three commits. Returns whether the run continues.

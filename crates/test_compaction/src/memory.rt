@@ -15,6 +15,25 @@ use attr_types::Fields;
 use std::alloc::{AllocError, Global};
 use word_arena::{Arena, Config, Limits, Writer};
 
+/// Makes a run over a writer that has committed nothing, beside its readers.
+fn run_beside(
+    alloc: Global,
+    writer: Writer<22, AttrLayout>,
+    fields: &Fields,
+    course: &mut Course,
+    readers: &mut Readers<22>,
+) -> Result<Outcome, AllocError>
+    requires some { 0 < length fields.now }
+    requires few { length fields.now ≤ MOST_FIELDS }
+    requires shape { (writer_of writer.place.me.0).sizes.shape ≡ shape_of (types_of fields.now) }
+    requires fresh { IsFresh (view_of writer.place.table_id (writer_of writer.place.me.0)) }
+{
+    let attribute = open(alloc, writer, fields, course.load)?;
+    let (store, ending) = play_out(alloc, attribute, fields, course, readers);
+    let watch = work_of(store).into_watch(ending.root);
+    finish(course, ending, &watch, readers.sights())
+}
+
 /// Makes a run over a writer that has committed nothing, with the readers that keep guards.
 fn run_seated(
     alloc: Global,
@@ -30,10 +49,7 @@ fn run_seated(
     let mut writer = writer;
     let mut readers = Readers::new(alloc);
     readers.add(&mut writer, course.load.guards, shape_of(fields))?;
-    let attribute = open(alloc, writer, fields, course.load)?;
-    let (store, ending) = play_out(alloc, attribute, fields, course, &mut readers);
-    let watch = work_of(store).into_watch(ending.root);
-    finish(course, ending, &watch, readers.sights())
+    run_beside(alloc, writer, fields, course, &mut readers)
 }
 
 /// Makes a run over a memory of this many buffers of 8,192 words.

@@ -111,12 +111,19 @@ impl<const OFFSET_BITS: u32> Readers<OFFSET_BITS> {
     {
         let (root, commit) = (guard.root(), guard.commit());
         let mut heard = Heard::new(alloc, guard);
-        if !ask_all(alloc, &mut heard, root, fields)? {
+        let is_sound = ask_all(alloc, &mut heard, root, fields);
+        let (guard, words) = heard.into_parts();
+        self.keep(Sight { commit, words }, is_sound)?;
+        Ok(guard)
+    }
+
+    /// Keeps what was read under a guard, and whether it was consistent in itself.
+    fn keep(&mut self, sight: Sight, is_sound: Result<bool, AllocError>) -> Result<(), AllocError> {
+        if !is_sound? {
             self.are_sound = false;
         }
-        let (guard, words) = heard.into_parts();
-        self.sights.push(Sight { commit, words })?;
-        Ok(guard)
+        self.sights.push(sight)?;
+        Ok(())
     }
 
     /// Returns whether everything read was consistent in itself.

@@ -1,7 +1,7 @@
 //! Values and items by the number of a document.
 use attr_types::{Field, FieldItems, Item, Items, Kind, Text, Value, ValueType};
 use std::alloc::{AllocError, Global};
-use test_kit::text_of;
+use test_kit::{push_number, text_of};
 
 /// Returns the zeros before a number, so that four digits follow the letter.
 fn front_of(number: u32) -> &'static str {
@@ -13,13 +13,19 @@ fn front_of(number: u32) -> &'static str {
     }
 }
 
-/// Returns the letter v, four digits, and a hundred letters x.
-fn text_at(alloc: Global, number: u32) -> Result<Text, AllocError> {
-    let front = front_of(number);
-    let mut text = format!(in alloc; "{front}{number}")?;
+/// Writes the letter v, four digits, and a hundred letters x.
+fn push_text(text: &mut String, number: u32) -> Result<(), AllocError> {
+    push_number(text, front_of(number), i64::from(number))?;
     for _ in 0..100 {
         text.push_str("x")?;
     }
+    Ok(())
+}
+
+/// Returns the letter v, four digits, and a hundred letters x.
+fn text_at(alloc: Global, number: u32) -> Result<Text, AllocError> {
+    let mut text = String::new(alloc);
+    push_text(&mut text, number)?;
     text_of(alloc, &text)
 }
 

@@ -46,7 +46,6 @@ struct Handed {
 #[derive(Drop)]
 pub struct Watch {
     alloc: Global,
-    fields: Fields,
     script: Script,
     /// One commit in this many is read by the slow checker, and counted.
     checks: usize,
@@ -66,7 +65,6 @@ impl Watch {
         let own = fields.clone()?;
         Ok(Watch {
             alloc,
-            fields: fields.clone()?,
             script: load.script,
             checks: load.checks as usize,
             keeps: load.guards > 0,
@@ -110,6 +108,20 @@ impl Watch {
         Ok(Some(census.image_in(self.alloc, records)?))
     }
 
+    /// Reads an image by the slow checker, and counts what it reaches.
+    fn read_whole(&self, records: &BTreeMap<u32, Vec<u64>>, root: u64) -> Result<Seen, CheckFault> {
+        let (alloc, fields) = (self.alloc, self.plain.fields());
+        let same = is_lawful(alloc, fields, records, root, &self.plain)?;
+        let census = take(alloc, fields.as_slice(), records, root)?;
+        let image = self.image_of(records, &census)?;
+        Ok(Seen {
+            same,
+            census: Some(census),
+            image,
+            free: 0,
+        })
+    }
+
     /// Compares an image with the plain table, completely or quickly.
     fn compare(
         &mut self,
@@ -122,20 +134,12 @@ impl Watch {
         if operations != u64::from(self.done) {
             return Ok(seen_quickly(false));
         }
-        let alloc = self.alloc;
-        if !whole {
-            let same = reads_as(alloc, self.fields.as_slice(), records, root, &self.plain)?;
-            return Ok(seen_quickly(same));
+        if whole {
+            return self.read_whole(records, root);
         }
-        let same = is_lawful(alloc, &self.fields, records, root, &self.plain)?;
-        let census = take(alloc, self.fields.as_slice(), records, root)?;
-        let image = self.image_of(records, &census)?;
-        Ok(Seen {
-            same,
-            census: Some(census),
-            image,
-            free: 0,
-        })
+        let fields = self.plain.fields().as_slice();
+        let same = reads_as(self.alloc, fields, records, root, &self.plain)?;
+        Ok(seen_quickly(same))
     }
 
     fn add(&mut self, seen: Result<Seen, CheckFault>, free: u32) -> Result<(), AllocError> {
