@@ -13,6 +13,7 @@ use Rattle.tree_read.proofs.SlotLemmas.{slot_pairs-leaf, slot_nodes-leaf, slot_p
 use Rattle.frozen_nodes.specs.Makes.{MakesNode}
 use Rattle.frozen_btree.specs.Changes.{MakesRoot}
 use Rattle.store_api.specs.Parts.{times}
+use Rattle.frozen_nodes.proofs.MadeLemmas.{made-balance}
 use Rattle.frozen_nodes.proofs.MakesLemmas.{makes-none}
 
 -- no slot is left
