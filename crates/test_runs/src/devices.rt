@@ -1,6 +1,7 @@
 //! One put and one query over devices that fail: a feed of 37 bytes and a report of 44.
-use crate::run::{line_of, outcome_of, told as told_in, words_in};
-use attr_io::{FakeSink, FakeSource};
+use crate::run::{line_of, outcome_of, told, words_in};
+use attr_io::{FakeSink, FakeSource, NoGate};
+use attr_run::Outcome;
 use std::alloc::{AllocError, Global};
 use std::io;
 use std::thread::Threads;
@@ -12,21 +13,61 @@ const FEED: &str = "{\"put\":\"id:n:t::1\",\"fields\":{\"f\":5}}\n";
 
 const REPORT: &str = "final at 1/1: 1/done 1 operations 0 skipped/";
 
-/// Returns what a run answers and writes, how many operations it loaded, and the faults of its source and its sink.
-fn told<R: Threads + Sync>(
-    rt: &HostRuntime,
+/// What a run over devices that do not fail answers and writes, and its counts.
+const DONE: &str = "0 final at 1/1: 1/done 1 operations 0 skipped/ 1 0 0";
+
+const READ_FAULT: &str = "4 attr: read fault/ 0 1 0";
+
+/// A call that no device comes to.
+const NONE: u64 = u64::MAX;
+
+/// The words of a run that saves its table.
+const SAVE: &str =
+    "--kind single --value long --readers 0 --buffers 8 --words 8192 --after --save 5";
+
+/// Returns what a run answers and writes: then at how many operations it was saved, or else how many it loaded and the
+/// faults of its source and its sink.
+fn told_of(
+    alloc: Global,
+    outcome: &Outcome,
+    reads: u64,
+    sink: &FakeSink,
+) -> Result<String, AllocError> {
+    let mut line = line_of(alloc, outcome.status.exit_code(), sink.taken())?;
+    if let Some(saved) = outcome.saved {
+        write!(line, " {saved}")?;
+        return Ok(line);
+    }
+    for count in [u64::from(outcome.loaded), reads, sink.faults()] {
+        write!(line, " {count}")?;
+    }
+    Ok(line)
+}
+
+fn told_by<R: Threads + Sync>(
     threads: &R,
+    alloc: Global,
+    words: &str,
     source: &mut FakeSource,
     sink: &mut FakeSink,
 ) -> Result<String, AllocError> {
-    let alloc = rt.alloc();
-    let words = words_in(alloc, WORDS)?;
+    let words = words_in(alloc, words)?;
     let outcome = outcome_of(threads, alloc, &words, source, sink);
-    let line = line_of(alloc, outcome.status.exit_code(), sink.taken())?;
-    let loaded = outcome.loaded;
-    let reads = source.faults();
-    let writes = sink.faults();
-    format!(in alloc; "{line} {loaded} {reads} {writes}")
+    told_of(alloc, &outcome, source.faults(), sink)
+}
+
+/// Makes a run over a source and a sink, each with the most bytes of a call and the call that fails.
+fn told_over<R: Threads + Sync>(
+    threads: &R,
+    alloc: Global,
+    words: &str,
+    feed: &str,
+    read: (usize, u64),
+    written: (usize, u64),
+) -> Result<String, AllocError> {
+    let mut source = FakeSource::create(alloc, feed.as_bytes(), read.0.max(1), &[read.1])?;
+    let mut sink = FakeSink::create(alloc, 100, written.0.max(1), &[written.1])?;
+    told_by(threads, alloc, words, &mut source, &mut sink)
 }
 
 fn note_call(
@@ -41,33 +82,15 @@ fn note_call(
     tally.note(rt, &case, found, wanted)
 }
 
-fn source_at<R: Threads + Sync>(
-    rt: &HostRuntime,
-    threads: &R,
-    call: u64,
-) -> Result<String, AllocError> {
-    let alloc = rt.alloc();
-    let mut source = FakeSource::create(alloc, FEED.as_bytes(), 1, &[call])?;
-    let mut sink = FakeSink::create(alloc, 100, 7, &[])?;
-    told(rt, threads, &mut source, &mut sink)
-}
-
-fn source_wanted(alloc: Global, call: u64) -> Result<String, AllocError> {
-    if call < 39 {
-        return String::from_str(alloc, "4 attr: read fault/ 0 1 0");
-    }
-    format!(in alloc; "0 {REPORT} 1 0 0")
-}
-
 fn compare_source<R: Threads + Sync>(
     rt: &HostRuntime,
     threads: &R,
     tally: &mut Tally,
     call: u64,
 ) -> io::Result<()> {
-    let found = source_at(rt, threads, call)?;
-    let wanted = source_wanted(rt.alloc(), call)?;
-    note_call(rt, tally, "source", call, &found, &wanted)
+    let found = told_over(threads, rt.alloc(), WORDS, FEED, (1, call), (7, NONE))?;
+    let wanted = if call < 39 { READ_FAULT } else { DONE };
+    note_call(rt, tally, "source", call, &found, wanted)
 }
 
 /// Tests sources of one byte in a call that fail in one call; call 38 would report the end of the feed.
@@ -82,17 +105,6 @@ fn compare_sources<R: Threads + Sync>(
     Ok(())
 }
 
-fn sink_at<R: Threads + Sync>(
-    rt: &HostRuntime,
-    threads: &R,
-    call: u64,
-) -> Result<String, AllocError> {
-    let alloc = rt.alloc();
-    let mut source = FakeSource::create(alloc, FEED.as_bytes(), 5, &[])?;
-    let mut sink = FakeSink::create(alloc, 100, 1, &[call])?;
-    told(rt, threads, &mut source, &mut sink)
-}
-
 /// Tests a sink that has taken this front of the report when it fails.
 fn compare_sink<R: Threads + Sync>(
     rt: &HostRuntime,
@@ -101,20 +113,9 @@ fn compare_sink<R: Threads + Sync>(
     call: u64,
     front: &str,
 ) -> io::Result<()> {
-    let found = sink_at(rt, threads, call)?;
+    let found = told_over(threads, rt.alloc(), WORDS, FEED, (5, NONE), (1, call))?;
     let wanted = format!(in rt.alloc(); "5 {front} 1 0 1")?;
     note_call(rt, tally, "sink", call, &found, &wanted)
-}
-
-fn compare_last<R: Threads + Sync>(
-    rt: &HostRuntime,
-    threads: &R,
-    tally: &mut Tally,
-    call: u64,
-) -> io::Result<()> {
-    let found = sink_at(rt, threads, call)?;
-    let wanted = format!(in rt.alloc(); "0 {REPORT} 1 0 0")?;
-    tally.note(rt, "sink after all calls", &found, &wanted)
 }
 
 /// Tests sinks of one byte in a call that fail in one call; the bytes before it were taken.
@@ -130,72 +131,36 @@ fn compare_sinks<R: Threads + Sync>(
         front.push(next)?;
         call = call.saturating_add(1);
     }
-    compare_last(rt, threads, tally, call)
+    compare_step(rt, threads, tally, FEED, (5, NONE), (1, call), DONE)
 }
 
-fn two_bytes_a_read<R: Threads + Sync>(
+/// Tests a run over devices.
+fn compare_step<R: Threads + Sync>(
     rt: &HostRuntime,
     threads: &R,
-) -> Result<String, AllocError> {
-    let alloc = rt.alloc();
-    let mut source = FakeSource::create(alloc, FEED.as_bytes(), 2, &[2])?;
-    let mut sink = FakeSink::create(alloc, 100, 100, &[])?;
-    told(rt, threads, &mut source, &mut sink)
+    tally: &mut Tally,
+    feed: &str,
+    read: (usize, u64),
+    written: (usize, u64),
+    wanted: &str,
+) -> io::Result<()> {
+    let found = told_over(threads, rt.alloc(), WORDS, feed, read, written)?;
+    tally.note(rt, "devices", &found, wanted)
 }
 
-fn seven_bytes_a_write<R: Threads + Sync>(
-    rt: &HostRuntime,
-    threads: &R,
-) -> Result<String, AllocError> {
-    let alloc = rt.alloc();
-    let mut source = FakeSource::create(alloc, &[], 2, &[])?;
-    let mut sink = FakeSink::create(alloc, 100, 7, &[2])?;
-    told(rt, threads, &mut source, &mut sink)
-}
-
-fn seven_bytes_of_room<R: Threads + Sync>(
-    rt: &HostRuntime,
-    threads: &R,
-) -> Result<String, AllocError> {
-    let words = words_in(rt.alloc(), WORDS)?;
-    told_in(threads, rt.alloc(), &words, &[], 7)
-}
-
-/// Tests steps of several bytes, and a sink in memory with too little space.
+/// Tests two bytes a read, seven bytes a write, and a sink in memory with too little space.
 fn compare_steps<R: Threads + Sync>(
     rt: &HostRuntime,
     threads: &R,
     tally: &mut Tally,
 ) -> io::Result<()> {
-    let read = two_bytes_a_read(rt, threads)?;
-    tally.note(rt, "two bytes a read", &read, "4 attr: read fault/ 0 1 0")?;
-    let written = seven_bytes_a_write(rt, threads)?;
-    tally.note(rt, "seven bytes a write", &written, "5 final a 0 0 1")?;
-    let taken = seven_bytes_of_room(rt, threads)?;
+    compare_step(rt, threads, tally, FEED, (2, 2), (100, NONE), READ_FAULT)?;
+    compare_step(rt, threads, tally, "", (2, NONE), (7, 2), "5 final a 0 0 1")?;
+    let taken = told(threads, rt.alloc(), WORDS, "", 7, &NoGate)?;
     tally.note(rt, "seven bytes of room", &taken, "5 final a")
 }
 
 /// Tests a save over a sink that fails: the front of its bytes, and at how many operations it was made.
-fn save_at<R: Threads + Sync>(
-    rt: &HostRuntime,
-    threads: &R,
-    call: u64,
-) -> Result<String, AllocError> {
-    let alloc = rt.alloc();
-    let words = words_in(
-        alloc,
-        "--kind single --value long --readers 0 --buffers 8 --words 8192 --after --save 5",
-    )?;
-    let mut source = FakeSource::create(alloc, FEED.as_bytes(), 5, &[])?;
-    let mut sink = FakeSink::create(alloc, 100, 4, &[call])?;
-    let outcome = outcome_of(threads, alloc, &words, &mut source, &mut sink);
-    let line = line_of(alloc, outcome.status.exit_code(), sink.taken())?;
-    match outcome.saved {
-        Some(saved) => format!(in alloc; "{line} {saved}"),
-        None => Ok(line),
-    }
-}
-
 fn compare_save<R: Threads + Sync>(
     rt: &HostRuntime,
     threads: &R,
@@ -203,7 +168,7 @@ fn compare_save<R: Threads + Sync>(
     call: u64,
     wanted: &str,
 ) -> io::Result<()> {
-    let found = save_at(rt, threads, call)?;
+    let found = told_over(threads, rt.alloc(), SAVE, FEED, (5, NONE), (4, call))?;
     note_call(rt, tally, "a save", call, &found, wanted)
 }
 

@@ -1,6 +1,6 @@
 //! Exit statuses: of each answer, and of real runs.
-use crate::run::{outcome_of, words_in};
-use attr_io::{SliceSource, VecSink};
+use crate::run::run_line;
+use attr_io::{NoGate, VecSink};
 use attr_run::{FeedFault, Outcome, Status, UsageCause, exit_of};
 use std::alloc::{AllocError, Global};
 use std::io;
@@ -55,10 +55,8 @@ fn run_of<R: Threads + Sync>(
     feed: &str,
     room: usize,
 ) -> Result<Outcome, AllocError> {
-    let words = words_in(alloc, words)?;
-    let mut source = SliceSource::new(feed.as_bytes());
     let mut sink = VecSink::create(alloc, room)?;
-    Ok(outcome_of(threads, alloc, &words, &mut source, &mut sink))
+    run_line(threads, alloc, words, feed, &mut sink, &NoGate)
 }
 
 /// Makes a real run, and compares the exit status of a program with it.
@@ -86,27 +84,19 @@ fn compare_runs<R: Threads + Sync>(
     tally: &mut Tally,
 ) -> io::Result<()> {
     let done = "--kind single --value long --readers 0 --buffers 8 --words 8192 5";
-    compare_run(rt, threads, tally, done, 4096, 0)?;
-    compare_run(rt, threads, tally, "--help", 4096, 0)?;
-    compare_run(rt, threads, tally, "--kind double --value long 5", 4096, 2)?;
-    compare_run(
-        rt,
-        threads,
-        tally,
-        "--kind single --value string 5",
-        4096,
-        2,
-    )?;
-    compare_run(
-        rt,
-        threads,
-        tally,
-        "--kind single --value string --readers 0",
-        4096,
-        3,
-    )?;
-    compare_run(rt, threads, tally, done, 7, 5)?;
-    compare_run(rt, threads, tally, FULL, 4096, 6)
+    let rows = [
+        (done, 4096, 0),
+        ("--help", 4096, 0),
+        ("--kind double --value long 5", 4096, 2),
+        ("--kind single --value string 5", 4096, 2),
+        ("--kind single --value string --readers 0", 4096, 3),
+        (done, 7, 5),
+        (FULL, 4096, 6),
+    ];
+    for (words, room, code) in rows {
+        compare_run(rt, threads, tally, words, room, code)?;
+    }
+    Ok(())
 }
 
 pub fn compare<R: Threads + Sync>(rt: &HostRuntime, threads: &R) -> io::Result<()> {

@@ -1,6 +1,8 @@
 //! The words of a running program, beginning with its name, also if they are not UTF-8.
-use crate::run::told;
+use crate::run::{line_of, outcome_of};
+use attr_io::{SliceSource, VecSink};
 use attr_run::Words;
+use std::alloc::{AllocError, Global};
 use std::env::FillError;
 use std::io;
 use std::rt::Env;
@@ -33,6 +35,29 @@ impl Env for Program<'_> {
     }
 }
 
+/// Returns what a run over an empty feed answers and writes.
+fn told<R: Threads + Sync>(
+    threads: &R,
+    alloc: Global,
+    words: &Words,
+) -> Result<String, AllocError> {
+    let mut source = SliceSource::new(&[]);
+    let mut sink = VecSink::create(alloc, 4096)?;
+    let outcome = outcome_of(threads, alloc, words, &mut source, &mut sink);
+    line_of(alloc, outcome.status.exit_code(), sink.taken())
+}
+
+/// Returns what a run with the words of a program answers and writes.
+fn told_by<R: Threads + Sync>(
+    threads: &R,
+    alloc: Global,
+    words: &[&[u8]],
+) -> Result<String, AllocError> {
+    let program = Program { words };
+    let words = Words::of_program(&(program, alloc))?;
+    told(threads, alloc, &words)
+}
+
 fn note<R: Threads + Sync>(
     rt: &HostRuntime,
     threads: &R,
@@ -41,10 +66,7 @@ fn note<R: Threads + Sync>(
     case: &str,
     wanted: &str,
 ) -> io::Result<()> {
-    let alloc = rt.alloc();
-    let program = Program { words };
-    let words = Words::of_program(&(program, alloc))?;
-    let found = told(threads, alloc, &words, &[], 4096)?;
+    let found = told_by(threads, rt.alloc(), words)?;
     tally.note(rt, case, &found, wanted)
 }
 

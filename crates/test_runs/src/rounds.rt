@@ -11,6 +11,17 @@ fn point_in<'a>(lines: &'a str, points: &[String], seen: usize) -> Option<(usize
     None
 }
 
+/// Returns what follows the front of a round.
+fn after_front<'a>(
+    alloc: Global,
+    lines: &'a str,
+    reader: u32,
+    round: u32,
+) -> Result<Option<&'a str>, AllocError> {
+    let front = format!(in alloc; "reader {reader} round {round} ")?;
+    Ok(lines.strip_prefix(front.as_str()))
+}
+
 /// Returns what follows the rounds of one reader, if each has the lines of a commit point and they never fall.
 fn after_reader<'a>(
     alloc: Global,
@@ -22,8 +33,7 @@ fn after_reader<'a>(
     let mut rest = lines;
     let mut seen = 0;
     for round in 1..=rounds {
-        let front = format!(in alloc; "reader {reader} round {round} ")?;
-        let Some(told) = rest.strip_prefix(front.as_str()) else {
+        let Some(told) = after_front(alloc, rest, reader, round)? else {
             return Ok(None);
         };
         let Some((at, next)) = point_in(told, points, seen) else {
@@ -67,19 +77,42 @@ fn last_lines(report: &str) -> Option<&str> {
     Some(lines)
 }
 
-/// Returns what a run without readers answered and wrote, with two rounds of each of two readers that saw everything
-/// loaded. A summary has no rounds.
-pub fn with_rounds(alloc: Global, line: &str) -> Result<String, AllocError> {
-    let Some((code, report)) = line.split_once(' ') else {
-        return String::from_str(alloc, line);
-    };
-    let Some(lines) = last_lines(report) else {
-        return String::from_str(alloc, line);
-    };
+/// Returns the exit status in a line, the report, and its last answers. A summary has no rounds.
+fn parts_of(line: &str) -> Option<(&str, &str, &str)> {
+    let (code, report) = line.split_once(' ')?;
     if report.starts_with("made ") {
-        return String::from_str(alloc, line);
+        return None;
     }
-    format!(in alloc;
-        "{code} reader 1 round 1 {lines}reader 1 round 2 {lines}reader 2 round 1 {lines}reader 2 round 2 {lines}{report}"
-    )
+    Some((code, report, last_lines(report)?))
+}
+
+/// Returns a report after two rounds of each of two readers.
+fn after_rounds(
+    alloc: Global,
+    code: &str,
+    report: &str,
+    lines: &str,
+) -> Result<String, AllocError> {
+    let mut told = String::from_str(alloc, code)?;
+    told.push_str(" ")?;
+    for round in [
+        "reader 1 round 1 ",
+        "reader 1 round 2 ",
+        "reader 2 round 1 ",
+        "reader 2 round 2 ",
+    ] {
+        told.push_str(round)?;
+        told.push_str(lines)?;
+    }
+    told.push_str(report)?;
+    Ok(told)
+}
+
+/// Returns what a run without readers answered and wrote, with two rounds of each of two readers that saw everything
+/// loaded, if it has a report.
+pub fn with_rounds(alloc: Global, line: &str) -> Result<String, AllocError> {
+    match parts_of(line) {
+        Some((code, report, lines)) => after_rounds(alloc, code, report, lines),
+        None => String::from_str(alloc, line),
+    }
 }

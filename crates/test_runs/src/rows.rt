@@ -15,12 +15,13 @@
 //! its operations. A third number above 0 asks how many of them were older than the last commit.
 //!
 //! Other lines are comments.
-use crate::run::{room, saved, told, words_in};
+use crate::run::{room, saved, told};
 use crate::{rounds, saver};
+use attr_io::NoGate;
 use std::alloc::{AllocError, Global};
 use std::io;
 use std::thread::Threads;
-use test_kit::Tally;
+use test_kit::{Tally, number_at};
 
 /// The number of bytes that a run may write.
 const ROOM: usize = 65_536;
@@ -50,24 +51,15 @@ impl Row {
 
     /// Takes a line of the feed, or the lines of a commit point. Returns whether it was one of these.
     fn take(&mut self, alloc: Global, line: &str) -> Result<bool, AllocError> {
-        if let Some(rest) = line.strip_prefix("feed ") {
-            self.feed.push_str(rest)?;
-            self.feed.push_str("\n")?;
-            return Ok(true);
+        let (kind, rest) = line.split_once(' ').unwrap_or((line, ""));
+        match kind {
+            "feed" => push_numbered(&mut self.feed, rest, "#")?,
+            "each" => push_each(alloc, &mut self.feed, rest)?,
+            "rests" => push_rests(alloc, &mut self.feed, rest)?,
+            "point" => self.points.push(String::from_str(alloc, rest)?)?,
+            _ => return Ok(false),
         }
-        if let Some(asked) = line.strip_prefix("each ") {
-            push_each(alloc, &mut self.feed, asked)?;
-            return Ok(true);
-        }
-        if let Some(asked) = line.strip_prefix("rests ") {
-            push_rests(alloc, &mut self.feed, asked)?;
-            return Ok(true);
-        }
-        if let Some(lines) = line.strip_prefix("point ") {
-            self.points.push(String::from_str(alloc, lines)?)?;
-            return Ok(true);
-        }
-        Ok(false)
+        Ok(true)
     }
 }
 
@@ -118,28 +110,45 @@ fn with_rest(alloc: Global, line: &str, rest: u32) -> Result<String, AllocError>
     Ok(whole)
 }
 
+/// Appends a line for a number, with the rest of it in place of each `%`.
+fn push_rest(
+    alloc: Global,
+    feed: &mut String,
+    line: &str,
+    number: u32,
+    rest: u32,
+) -> Result<(), AllocError> {
+    let line = with_rest(alloc, line, rest)?;
+    push_for(alloc, feed, &line, number)
+}
+
+/// Appends a line for a number.
+fn push_for(alloc: Global, feed: &mut String, line: &str, number: u32) -> Result<(), AllocError> {
+    let number = format!(in alloc; "{number}")?;
+    push_numbered(feed, line, &number)
+}
+
+/// Returns what follows some words of a line.
+fn after_words(line: &str, count: usize) -> &str {
+    line.splitn(count.saturating_add(1), ' ')
+        .skip(count)
+        .next()
+        .unwrap_or("")
+}
+
 fn push_rests(alloc: Global, feed: &mut String, asked: &str) -> Result<(), AllocError> {
-    let mut parts = asked.splitn(4, ' ');
-    let first = parts.next().unwrap_or("").parse::<u32>().unwrap_or(0);
-    let last = parts.next().unwrap_or("").parse::<u32>().unwrap_or(0);
-    let by = parts.next().unwrap_or("").parse::<u32>().unwrap_or(0);
-    let line = parts.next().unwrap_or("");
-    for number in first..=last {
-        let line = with_rest(alloc, line, number % by.max(1))?;
-        let number = format!(in alloc; "{number}")?;
-        push_numbered(feed, &line, &number)?;
+    let by = number_at(asked, 2);
+    let line = after_words(asked, 3);
+    for number in number_at(asked, 0)..=number_at(asked, 1) {
+        push_rest(alloc, feed, line, number, number % by.max(1))?;
     }
     Ok(())
 }
 
 fn push_each(alloc: Global, feed: &mut String, asked: &str) -> Result<(), AllocError> {
-    let mut parts = asked.splitn(3, ' ');
-    let first = parts.next().unwrap_or("").parse::<u32>().unwrap_or(0);
-    let last = parts.next().unwrap_or("").parse::<u32>().unwrap_or(0);
-    let line = parts.next().unwrap_or("");
-    for number in first..=last {
-        let number = format!(in alloc; "{number}")?;
-        push_numbered(feed, line, &number)?;
+    let line = after_words(asked, 2);
+    for number in number_at(asked, 0)..=number_at(asked, 1) {
+        push_for(alloc, feed, line, number)?;
     }
     Ok(())
 }
@@ -153,26 +162,15 @@ fn varied(alloc: Global, words: &str) -> Result<String, AllocError> {
     format!(in alloc; "--buffers 8 --words 8192 {words}")
 }
 
-/// Returns what a run with these words answers and writes.
-fn told_by<R: Threads + Sync>(
-    threads: &R,
-    alloc: Global,
-    words: &str,
-    feed: &[u8],
-) -> Result<String, AllocError> {
-    let words = words_in(alloc, words)?;
-    told(threads, alloc, &words, feed, ROOM)
-}
-
 fn compare_run<R: Threads + Sync>(
     rt: &HostRuntime,
     threads: &R,
     tally: &mut Tally,
     words: &str,
-    feed: &[u8],
+    feed: &str,
     wanted: &str,
 ) -> io::Result<()> {
-    let found = told_by(threads, rt.alloc(), words, feed)?;
+    let found = told(threads, rt.alloc(), words, feed, ROOM, &NoGate)?;
     tally.note(rt, words, &found, wanted)
 }
 
@@ -181,7 +179,7 @@ fn compare_varied<R: Threads + Sync>(
     threads: &R,
     tally: &mut Tally,
     words: &str,
-    feed: &[u8],
+    feed: &str,
     wanted: &str,
 ) -> io::Result<()> {
     let words = varied(rt.alloc(), words)?;
@@ -199,7 +197,7 @@ fn compare_wide<R: Threads + Sync>(
         return Ok(());
     }
     let words = format!(in rt.alloc(); "--wide --dense {}", row.words.as_str())?;
-    compare_varied(rt, threads, tally, &words, row.feed.as_bytes(), wanted)
+    compare_varied(rt, threads, tally, &words, &row.feed, wanted)
 }
 
 fn compare_after<R: Threads + Sync>(
@@ -215,7 +213,7 @@ fn compare_after<R: Threads + Sync>(
     };
     let words = format!(in alloc; "{front}--readers 2 --rounds 2 --after {back}")?;
     let wanted = rounds::with_rounds(alloc, wanted)?;
-    compare_varied(rt, threads, tally, &words, row.feed.as_bytes(), &wanted)
+    compare_varied(rt, threads, tally, &words, &row.feed, &wanted)
 }
 
 /// Returns whether a run wrote a report or a summary.
@@ -233,7 +231,7 @@ fn compare_said<R: Threads + Sync>(
     row: &Row,
     wanted: &str,
 ) -> io::Result<()> {
-    let feed = row.feed.as_bytes();
+    let feed = row.feed.as_str();
     compare_run(rt, threads, &mut tallies.runs, &row.words, feed, wanted)?;
     if row.feed.len() >= LONG {
         return Ok(());
@@ -255,7 +253,7 @@ fn told_beside<R: Threads + Sync>(
     readers: u32,
     count: u32,
 ) -> Result<String, AllocError> {
-    let found = told_by(threads, alloc, &row.words, row.feed.as_bytes())?;
+    let found = told(threads, alloc, &row.words, &row.feed, ROOM, &NoGate)?;
     rounds::without_rounds(alloc, &found, readers, count, &row.points)
 }
 
@@ -266,12 +264,9 @@ fn compare_beside<R: Threads + Sync>(
     row: &Row,
     asked: &str,
 ) -> io::Result<()> {
-    let mut parts = asked.splitn(3, ' ');
-    let readers = parts.next().unwrap_or("").parse::<u32>().unwrap_or(0);
-    let count = parts.next().unwrap_or("").parse::<u32>().unwrap_or(0);
-    let wanted = parts.next().unwrap_or("");
+    let (readers, count) = (number_at(asked, 0), number_at(asked, 1));
     let found = told_beside(threads, rt.alloc(), row, readers, count)?;
-    tally.note(rt, &row.words, &found, wanted)
+    tally.note(rt, &row.words, &found, after_words(asked, 2))
 }
 
 fn compare_room<R: Threads + Sync>(
@@ -281,8 +276,7 @@ fn compare_room<R: Threads + Sync>(
     row: &Row,
     wanted: &str,
 ) -> io::Result<()> {
-    let words = words_in(rt.alloc(), &row.words)?;
-    let found = room(threads, rt.alloc(), &words, row.feed.as_bytes())?;
+    let found = room(threads, rt.alloc(), &row.words, &row.feed)?;
     tally.note(rt, &row.words, &found, wanted)
 }
 
@@ -293,17 +287,8 @@ fn compare_saved<R: Threads + Sync>(
     row: &Row,
     wanted: &str,
 ) -> io::Result<()> {
-    let words = words_in(rt.alloc(), &row.words)?;
-    let found = saved(threads, rt.alloc(), &words, row.feed.as_bytes())?;
+    let found = saved(threads, rt.alloc(), &row.words, &row.feed)?;
     tally.note(rt, &row.words, &found, wanted)
-}
-
-/// The number at this place of a line, 0 where there is none.
-fn number_in(line: &str, place: usize) -> u64 {
-    match line.split(' ').skip(place).next() {
-        Some(word) => word.parse::<u64>().unwrap_or(0),
-        None => 0,
-    }
 }
 
 /// Compares the result of a row with a line, unless the line is a comment.
@@ -323,9 +308,9 @@ fn compare_row<R: Threads + Sync>(
         "torture" => saver::torture(
             rt,
             threads,
-            number_in(wanted, 0),
-            number_in(wanted, 1),
-            number_in(wanted, 2) > 0,
+            u64::from(number_at(wanted, 0)),
+            u64::from(number_at(wanted, 1)),
+            number_at(wanted, 2) > 0,
         ),
         _ => Ok(()),
     }

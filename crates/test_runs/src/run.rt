@@ -46,50 +46,56 @@ pub fn outcome_of<R: Threads + Sync, S: Source, K: Sink>(
     outcome_at(rt, alloc, words, source, sink, &NoGate)
 }
 
-/// Returns what a run answers and writes, into limited space.
-pub fn told<R: Threads + Sync>(
+/// Makes a run of the words of a line over a feed, with a sink in memory.
+pub fn run_line<R: Threads + Sync, G: Gate + Sync + 'static>(
     rt: &R,
     alloc: Global,
-    words: &Words,
-    feed: &[u8],
+    words: &str,
+    feed: &str,
+    sink: &mut VecSink,
+    gate: &G,
+) -> Result<Outcome, AllocError> {
+    let words = words_in(alloc, words)?;
+    let mut source = SliceSource::new(feed.as_bytes());
+    Ok(outcome_at(rt, alloc, &words, &mut source, sink, gate))
+}
+
+/// Returns what a run of the words of a line answers and writes, into limited space.
+pub fn told<R: Threads + Sync, G: Gate + Sync + 'static>(
+    rt: &R,
+    alloc: Global,
+    words: &str,
+    feed: &str,
     room: usize,
+    gate: &G,
 ) -> Result<String, AllocError> {
-    let mut source = SliceSource::new(feed);
     let mut sink = VecSink::create(alloc, room)?;
-    let outcome = outcome_of(rt, alloc, words, &mut source, &mut sink);
+    let outcome = run_line(rt, alloc, words, feed, &mut sink, gate)?;
     line_of(alloc, outcome.status.exit_code(), sink.taken())
+}
+
+fn hex_of(alloc: Global, code: u8, bytes: &[u8]) -> Result<String, AllocError> {
+    let mut line = format!(in alloc; "{code} ")?;
+    for byte in bytes {
+        write!(line, "{byte:02x}")?;
+    }
+    Ok(line)
 }
 
 /// Returns the exit status of a run and the bytes that it writes, in hexadecimal.
 pub fn saved<R: Threads + Sync>(
     rt: &R,
     alloc: Global,
-    words: &Words,
-    feed: &[u8],
+    words: &str,
+    feed: &str,
 ) -> Result<String, AllocError> {
-    let mut source = SliceSource::new(feed);
     let mut sink = VecSink::create(alloc, 4096)?;
-    let outcome = outcome_of(rt, alloc, words, &mut source, &mut sink);
-    let code = outcome.status.exit_code();
-    let mut line = format!(in alloc; "{code} ")?;
-    for byte in sink.taken() {
-        write!(line, "{byte:02x}")?;
-    }
-    Ok(line)
+    let outcome = run_line(rt, alloc, words, feed, &mut sink, &NoGate)?;
+    hex_of(alloc, outcome.status.exit_code(), sink.taken())
 }
 
-/// Returns the operation that ran out of space in a run, and how many buffers were then in use and held; otherwise
-/// its exit status.
-pub fn room<R: Threads + Sync>(
-    rt: &R,
-    alloc: Global,
-    words: &Words,
-    feed: &[u8],
-) -> Result<String, AllocError> {
-    let mut source = SliceSource::new(feed);
-    let mut sink = VecSink::create(alloc, 65_536)?;
-    let outcome = outcome_of(rt, alloc, words, &mut source, &mut sink);
-    match outcome.status {
+fn room_in(alloc: Global, status: &Status) -> Result<String, AllocError> {
+    match status {
         Status::Full {
             operation,
             active,
@@ -100,4 +106,17 @@ pub fn room<R: Threads + Sync>(
             format!(in alloc; "exit {code}")
         }
     }
+}
+
+/// Returns the operation that ran out of space in a run, and how many buffers were then in use and held; otherwise
+/// its exit status.
+pub fn room<R: Threads + Sync>(
+    rt: &R,
+    alloc: Global,
+    words: &str,
+    feed: &str,
+) -> Result<String, AllocError> {
+    let mut sink = VecSink::create(alloc, 65_536)?;
+    let outcome = run_line(rt, alloc, words, feed, &mut sink, &NoGate)?;
+    room_in(alloc, &outcome.status)
 }

@@ -1,16 +1,14 @@
 //! A save beside a loading that goes on: the saver has its guard, and is held until all is committed. So it is of an older commit than the
 //! last, and is the save of just its operations.
-use crate::run::{outcome_at, words_in};
-use attr_io::{Gate, NoGate, Point, SliceSource, VecSink};
+use crate::run::run_line;
+use crate::turns::{in_vain, wait};
+use attr_io::{Gate, NoGate, Point, VecSink};
 use attr_run::Outcome;
 use std::alloc::{AllocError, Global};
+use std::io;
 use std::sync::atomic::{AtomicU64, Ordering};
 use std::thread::Threads;
-use std::{io, thread};
 use test_kit::Tally;
-
-/// How often a thread looks whether the other has come.
-const TURNS: u64 = 50_000_000;
 
 const BESIDE: &str = "--kind single --value long --batch 1 --readers 0 --save";
 
@@ -39,30 +37,19 @@ impl Held {
         }
     }
 
-    /// Waits until a count is at least so much, or a thread gave up.
-    fn wait(&self, count: &AtomicU64, least: u64) {
-        for _ in 0..TURNS {
-            if count.load(Ordering::SeqCst) >= least || self.gave_up.load(Ordering::SeqCst) > 0 {
-                return;
-            }
-            thread::yield_now();
-        }
-        self.gave_up.fetch_add(1, Ordering::SeqCst);
-    }
-
     fn commit(&self, commit: u32) {
         self.committed.store(commit as u64, Ordering::SeqCst);
         if self.until > 0 && commit as u64 == self.at {
-            self.wait(&self.guarded, 1);
+            wait(&self.guarded, 1, &self.gave_up);
         }
     }
 
     fn start(&self, round: u32) {
         if round == 1 {
-            self.wait(&self.committed, self.at);
+            wait(&self.committed, self.at, &self.gave_up);
         } else {
             self.guarded.store(1, Ordering::SeqCst);
-            self.wait(&self.committed, self.until);
+            wait(&self.committed, self.until, &self.gave_up);
         }
     }
 }
@@ -89,7 +76,7 @@ fn feed_of(alloc: Global, documents: u64) -> Result<String, AllocError> {
     Ok(feed)
 }
 
-/// A run, and what it writes.
+/// Makes a run that puts this number of documents.
 fn run<R: Threads + Sync, G: Gate + Sync + 'static>(
     threads: &R,
     alloc: Global,
@@ -98,10 +85,8 @@ fn run<R: Threads + Sync, G: Gate + Sync + 'static>(
     gate: &G,
     sink: &mut VecSink,
 ) -> Result<Outcome, AllocError> {
-    let words = words_in(alloc, words)?;
     let feed = feed_of(alloc, documents)?;
-    let mut source = SliceSource::new(feed.as_bytes());
-    Ok(outcome_at(threads, alloc, &words, &mut source, sink, gate))
+    run_line(threads, alloc, words, &feed, sink, gate)
 }
 
 /// Returns the bytes of a save of this number of documents.
@@ -115,6 +100,32 @@ fn wanted<R: Threads + Sync>(
     Ok(sink)
 }
 
+/// Returns whether these bytes are the save of this number of documents.
+fn is_save<R: Threads + Sync>(
+    threads: &R,
+    alloc: Global,
+    documents: u32,
+    bytes: &[u8],
+) -> Result<bool, AllocError> {
+    let wanted = wanted(threads, alloc, u64::from(documents))?;
+    Ok(wanted.taken() == bytes)
+}
+
+/// Makes a save beside the loading of this number of documents. Returns how many operations it has, if all were loaded.
+fn save_beside<R: Threads + Sync>(
+    threads: &R,
+    alloc: Global,
+    documents: u64,
+    held: &Held,
+    sink: &mut VecSink,
+) -> Result<Option<u32>, AllocError> {
+    let outcome = run(threads, alloc, BESIDE, documents, held, sink)?;
+    if u64::from(outcome.loaded) != documents {
+        return Ok(None);
+    }
+    Ok(outcome.saved)
+}
+
 /// Returns the number of operations in a save that was made beside the loading, if its bytes are the save of these.
 fn saved_at<R: Threads + Sync>(
     threads: &R,
@@ -123,26 +134,13 @@ fn saved_at<R: Threads + Sync>(
     held: &Held,
 ) -> Result<Option<u32>, AllocError> {
     let mut sink = VecSink::create(alloc, 65536)?;
-    let outcome = run(threads, alloc, BESIDE, documents, held, &mut sink)?;
-    let Some(saved) = outcome.saved else {
+    let Some(saved) = save_beside(threads, alloc, documents, held, &mut sink)? else {
         return Ok(None);
     };
-    if u64::from(outcome.loaded) != documents {
-        return Ok(None);
+    if is_save(threads, alloc, saved, sink.taken())? {
+        return Ok(Some(saved));
     }
-    let wanted = wanted(threads, alloc, u64::from(saved))?;
-    if wanted.taken() != sink.taken() {
-        return Ok(None);
-    }
-    Ok(Some(saved))
-}
-
-fn in_vain(held: &Held) -> &'static str {
-    if held.gave_up.load(Ordering::SeqCst) == 0 {
-        "none"
-    } else {
-        "some"
-    }
+    Ok(None)
 }
 
 /// The saver has the guard of commit 2 and is held until all six are made.
@@ -152,12 +150,29 @@ fn compare_held<R: Threads + Sync>(
     tally: &mut Tally,
 ) -> io::Result<()> {
     let held = Held::new(2, 6);
-    let found = match saved_at(threads, rt.alloc(), 6, &held)? {
-        Some(saved) => format!(in rt.alloc(); "at {saved}")?,
-        None => String::from_str(rt.alloc(), "other bytes")?,
+    let found = saved_at(threads, rt.alloc(), 6, &held)?;
+    tally.judge(rt, "a save beside the loading is at 2", found == Some(2))?;
+    let found = in_vain(&held.gave_up);
+    tally.note(rt, "threads that waited in vain", found, "none")
+}
+
+/// Returns whether a save beside the loading is right, and counts it if it is older than the last commit.
+fn is_right<R: Threads + Sync>(
+    threads: &R,
+    alloc: Global,
+    least: u64,
+    commits: u64,
+    older: &mut u64,
+) -> Result<bool, AllocError> {
+    let held = Held::new(least, 0);
+    let Some(saved) = saved_at(threads, alloc, commits, &held)? else {
+        return Ok(false);
     };
-    tally.note(rt, "a save beside the loading", &found, "at 2")?;
-    tally.note(rt, "threads that waited in vain", in_vain(&held), "none")
+    let saved = u64::from(saved);
+    if saved < commits {
+        *older = older.saturating_add(1);
+    }
+    Ok(saved >= least && in_vain(&held.gave_up) == "none")
 }
 
 /// Saves beside loadings that wait for none, each from another commit on. How many are older than the last commit is the
@@ -173,23 +188,8 @@ pub fn torture<R: Threads + Sync>(
     let mut older: u64 = 0;
     for run in 0..runs {
         let least = run.saturating_mul(37) % commits.max(1);
-        let held = Held::new(least, 0);
-        let found = saved_at(threads, rt.alloc(), commits, &held)?;
-        let is_right = match found {
-            Some(saved) => {
-                if u64::from(saved) < commits {
-                    older = older.saturating_add(1);
-                }
-                u64::from(saved) >= least && in_vain(&held) == "none"
-            }
-            None => false,
-        };
-        tally.note(
-            rt,
-            "a save",
-            if is_right { "right" } else { "wrong" },
-            "right",
-        )?;
+        let is_right = is_right(threads, rt.alloc(), least, commits, &mut older)?;
+        tally.judge(rt, "a save beside the loading", is_right)?;
     }
     tally.print(rt, "saves beside loadings")?;
     if tells {

@@ -1,8 +1,8 @@
 //! Runs of two readers beside the loading in a fixed order: the gate holds each thread until the others have arrived.
 //! Readers on the loader's thread, or one after another, would not arrive, and a round at an older commit would have
 //! other lines.
-use crate::run::{line_of, outcome_at, words_in};
-use attr_io::{Gate, Point, SliceSource, VecSink};
+use crate::run::{run_line, told};
+use attr_io::{Gate, Point, VecSink};
 use attr_run::Outcome;
 use std::alloc::{AllocError, Global};
 use std::sync::atomic::{AtomicU64, Ordering};
@@ -30,6 +30,26 @@ const AT_TWO_AND_THREE: &str =
     "0 reader 1 round 1 at 2/1: 1 2/reader 1 round 2 at 3/1: 1 2 3/reader 2 round 1 at 2/1: 1 2/reader 2 round 2 at 3/1: 1 2 3/\
                                 final at 3/1: 1 2 3/done 3 operations 0 skipped/";
 
+/// Waits until a count is at least this great, or a thread gave up.
+pub fn wait(count: &AtomicU64, least: u64, gave_up: &AtomicU64) {
+    for _ in 0..TURNS {
+        if count.load(Ordering::SeqCst) >= least || gave_up.load(Ordering::SeqCst) > 0 {
+            return;
+        }
+        thread::yield_now();
+    }
+    gave_up.fetch_add(1, Ordering::SeqCst);
+}
+
+/// Returns whether threads waited in vain.
+pub fn in_vain(gave_up: &AtomicU64) -> &'static str {
+    if gave_up.load(Ordering::SeqCst) == 0 {
+        "none"
+    } else {
+        "some"
+    }
+}
+
 /// The progress of a run, and how often a thread gave up.
 #[derive(Drop)]
 struct Turns {
@@ -52,24 +72,14 @@ impl Turns {
         }
     }
 
-    /// Waits until a count is at least this great, or a thread gave up.
-    fn wait(&self, count: &AtomicU64, least: u64) {
-        for _ in 0..TURNS {
-            if count.load(Ordering::SeqCst) >= least || self.gave_up.load(Ordering::SeqCst) > 0 {
-                return;
-            }
-            thread::yield_now();
-        }
-        self.gave_up.fetch_add(1, Ordering::SeqCst);
-    }
-
     /// Holds a round until its commit is made, and the first round also until the other reader arrives.
     fn start(&self, round: u32) {
         self.come.fetch_add(1, Ordering::SeqCst);
         if round == 1 {
-            self.wait(&self.come, 2);
+            wait(&self.come, 2, &self.gave_up);
         }
-        self.wait(&self.committed, self.before.saturating_add(round as u64));
+        let least = self.before.saturating_add(round as u64);
+        wait(&self.committed, least, &self.gave_up);
     }
 
     /// Holds the loader until both readers have arrived at the round of its next commit: everything that they did
@@ -80,7 +90,7 @@ impl Turns {
             .saturating_add(1)
             .saturating_sub(self.before);
         if rounds <= 2 {
-            self.wait(&self.come, rounds.saturating_mul(2));
+            wait(&self.come, rounds.saturating_mul(2), &self.gave_up);
         }
     }
 }
@@ -96,18 +106,18 @@ impl Gate for Turns {
     }
 }
 
-/// Returns what a run answers and writes.
-fn told<R: Threads + Sync>(
-    threads: &R,
-    alloc: Global,
+/// Compares what a run tells, and whether its threads waited in vain.
+fn note(
+    rt: &HostRuntime,
+    tally: &mut Tally,
     turns: &Turns,
-    feed: &str,
-) -> Result<String, AllocError> {
-    let words = words_in(alloc, WORDS)?;
-    let mut source = SliceSource::new(feed.as_bytes());
-    let mut sink = VecSink::create(alloc, 4096)?;
-    let outcome = outcome_at(threads, alloc, &words, &mut source, &mut sink, turns);
-    line_of(alloc, outcome.status.exit_code(), sink.taken())
+    case: &str,
+    found: &str,
+    wanted: &str,
+) -> io::Result<()> {
+    tally.note(rt, case, found, wanted)?;
+    let found = in_vain(&turns.gave_up);
+    tally.note(rt, "threads that waited in vain", found, "none")
 }
 
 /// Makes a run with this many commits before that of the first round, and compares what it writes.
@@ -120,14 +130,15 @@ fn compare_turns<R: Threads + Sync>(
     wanted: &str,
 ) -> io::Result<()> {
     let turns = Turns::new(before);
-    let found = told(threads, rt.alloc(), &turns, feed)?;
-    tally.note(rt, "two readers, held at the gate", &found, wanted)?;
-    let in_vain = if turns.gave_up.load(Ordering::SeqCst) == 0 {
-        "none"
-    } else {
-        "some"
-    };
-    tally.note(rt, "threads that waited in vain", in_vain, "none")
+    let found = told(threads, rt.alloc(), WORDS, feed, 4096, &turns)?;
+    note(
+        rt,
+        tally,
+        &turns,
+        "two readers, held at the gate",
+        &found,
+        wanted,
+    )
 }
 
 /// Writes how many operations each round of a reader saw.
@@ -155,10 +166,8 @@ fn rounds_of<R: Threads + Sync>(
     words: &str,
     feed: &str,
 ) -> Result<String, AllocError> {
-    let words = words_in(alloc, words)?;
-    let mut source = SliceSource::new(feed.as_bytes());
     let mut sink = VecSink::create(alloc, 4096)?;
-    let outcome = outcome_at(threads, alloc, &words, &mut source, &mut sink, turns);
+    let outcome = run_line(threads, alloc, words, feed, &mut sink, turns)?;
     rounds_in(alloc, &outcome)
 }
 
@@ -174,13 +183,7 @@ fn compare_rounds<R: Threads + Sync>(
 ) -> io::Result<()> {
     let turns = Turns::new(before);
     let found = rounds_of(threads, rt.alloc(), &turns, words, feed)?;
-    tally.note(rt, words, &found, wanted)?;
-    let in_vain = if turns.gave_up.load(Ordering::SeqCst) == 0 {
-        "none"
-    } else {
-        "some"
-    };
-    tally.note(rt, "threads that waited in vain", in_vain, "none")
+    note(rt, tally, &turns, words, &found, wanted)
 }
 
 /// Tests both orders, with made operations and with a saved table.
