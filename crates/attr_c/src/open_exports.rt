@@ -16,14 +16,22 @@ use crate::state::{AnyOpen, AnyReader, Engine};
 use crate::told::Sizes;
 use std::alloc::Global;
 
+/// A box of a value, or the code of a refusal.
+fn boxed<T: Drop>(alloc: Global, value: T) -> Result<Box<T>, i32>
+    ensures made { IfOk result (λ made. made.value ≡ value) }
+    ensures memory { IfErr result (λ code. code ≡ MEMORY) }
+{
+    match Box::new(alloc, value) {
+        Ok(made) => Ok(made),
+        Err(_) => Err(MEMORY),
+    }
+}
+
 fn engine_of(alloc: Global, opened: AnyOpen) -> Result<Box<Engine>, i32>
     ensures made { IfOk result (λ engine. engine.value.open ≡ opened) }
     ensures memory { IfErr result (λ code. code ≡ MEMORY) }
 {
-    match Box::new(alloc, Engine { open: opened }) {
-        Ok(engine) => Ok(engine),
-        Err(_) => Err(MEMORY),
-    }
+    boxed(alloc, Engine { open: opened })
 }
 
 /// An engine over a new memory, which has no document; or the code of a refusal.

@@ -11,3 +11,17 @@ returns-clause-published g c = λ zero. on_ok_of c.commit-came.result (c.ended.e
 
 pub returns-clause-left : goal.returns-clause-left
 returns-clause-left g c = λ not. on_err_of c.commit-came.result (c.ended.ensures.other (λ zero. not (ap (λ (z : ℤ). to_z w32 (of_z w32 z)) zero))) c.commit-came.ensures.left
+
+pub returns-clause-told : goal.returns-clause-told
+returns-clause-told g c = λ zero.
+    c.ended.ensures.operations
+    ∙ on_ok_of c.commit-came.result (c.ended.ensures.ok (sym (to_z-of_z w32 c.ended.result (record { sfits = c.ended.type_inv })) ∙ zero)) c.commit-came.ensures.counts
+
+pub returns-clause-table : goal.returns-clause-table
+returns-clause-table g c = c.commit-came.ensures.table
+
+pub returns-clause-operations : goal.returns-clause-operations
+returns-clause-operations g c = c.commit-came.ensures.operations
+
+pub returns-clause-fields : goal.returns-clause-fields
+returns-clause-fields g c = c.commit-came.ensures.fields

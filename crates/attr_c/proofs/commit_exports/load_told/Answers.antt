@@ -8,3 +8,9 @@ returns-clause-whole g c = λ zero. on_ok_of c.load-came.result (c.ended.ensures
 
 pub returns-clause-front : goal.returns-clause-front
 returns-clause-front g c = λ not. on_err_of c.load-came.result (c.ended.ensures.other (λ zero. not (ap (λ (z : ℤ). to_z w32 (of_z w32 z)) zero))) c.load-came.ensures.front
+
+pub returns-clause-commit : goal.returns-clause-commit
+returns-clause-commit g c = c.load-came.ensures.commit
+
+pub returns-clause-fields : goal.returns-clause-fields
+returns-clause-fields g c = c.load-came.ensures.fields
