@@ -1,19 +1,25 @@
-ghost use Rattle.std.specs.Prelude.{◌<◌, ◌≤◌};
+ghost use Rattle.std.specs.Prelude.{◌≡◌, ◌<◌, ◌≤◌, true};
 ghost use Rattle.entry_ref.specs.References.{buffer_limit, offset_limit};
-ghost use Rattle.store_api.specs.Ledgers.{IsNew};
+ghost use Rattle.store_api.specs.Ledgers.{is_width, IsNew};
 
+use crate::of_arrays::is_array;
 use crate::of_commits::{are_replaced, is_emptied, is_kept};
-use crate::of_store::is_made_again;
+use crate::of_documents::{Made, Seen, is_map};
+use crate::of_forms::{is_dense, is_listed, is_walked};
+use crate::of_store::{is_full, is_made_again};
+use crate::of_values::{Given, is_order, is_stored};
 use crate::stores::new_store;
 use arena_api::Work;
+use array_store::class_of;
 use entry_store::EntryStore;
 use mem_work::OneRecord;
 use std::alloc::{AllocError, Global};
-use store_api::{Store, StoreError};
+use std::cmp::Ordering;
+use store_api::Store;
 
 /// A test of a new store.
 #[derive(Clone, Copy)]
-pub enum Case {
+pub enum Case<'a> {
     /// The expected entries before and after an undo.
     MadeAgain([u32; 4]),
     /// Records that replace each other under commits.
@@ -21,58 +27,126 @@ pub enum Case {
     /// What is made after a committed record was dropped.
     Kept,
     /// A victim, which is finished or not, and how many entries of 34 words are made after the next commit.
-    Emptied { finishes: bool, made: u32 },
+    Emptied(bool, u32),
+    /// Entries of the row's width are made until this many buffers are active and none is free: how many, and the last.
+    Full(u32, u32, u32),
+    /// An array of the first odd numbers: how many; its count, its first item and its last.
+    Array(usize, (u32, u64, u64)),
+    /// A value; the first word of its record, and the second one, if it is compared.
+    Value(Given<'a>, u64, Option<u64>),
+    /// A stored value, and its order with another one.
+    Order(Given<'a>, Given<'a>, Ordering),
+    /// A list of the documents from one to another with a weight; if one more document was added and removed; whether
+    /// the list is a tree, and the first two words of its record or its root.
+    List((u32, u32), i32, bool, (bool, u64, u64)),
+    /// A walk of such a list: how many documents it has, and the first and the last one with their weights.
+    Walk((u32, u32), i32, usize, [Option<(u32, i32)>; 2]),
+    /// A list of the first documents where bit vectors are wanted: the last one, and how many documents there are; if
+    /// one more was added and removed; and whether the list is a bit vector.
+    Dense(u32, u32, bool, bool),
+    /// A map by document, and what is seen of it.
+    Map(Made<'a>, Seen<'a>),
 }
 
-/// Whether all results were the expected ones, and how many entries of 2, 4, 34 and 1,024 words were made.
-#[derive(Clone, Copy)]
-pub struct Came {
-    pub is_right: bool,
-    pub twos: u64,
-    pub fours: u64,
-    pub nodes: u64,
-    pub arrays: u64,
+/// A test, a width, and how many entries of that width are then made.
+pub type Row<'a> = (Case<'a>, u32, u64);
+
+/// The offset bits of a store, its buffers, and a test of it.
+pub type StoreRow<'a> = (u32, u32, Row<'a>);
+
+/// Returns the width of a number, or the least one of arrays that holds it.
+fn width_of(number: u32) -> u32
+    ensures { is_width result ≡ true }
+{
+    if number == 34 {
+        return 34;
+    }
+    class_of(number.min(1024))
 }
 
+/// Returns whether a new store passes a test.
 fn is_met<const OFFSET_BITS: u32, S: Store<OFFSET_BITS, Layout = OneRecord>>(
+    alloc: Global,
     store: &mut S,
-    case: Case,
-) -> Result<bool, StoreError>
+    row: &Row,
+) -> Result<bool, AllocError>
     requires new { IsNew (S.ledger store.old) }
 {
-    match case {
-        Case::MadeAgain(wanted) => is_made_again(store, wanted),
-        Case::Replaced => are_replaced(store),
-        Case::Kept => is_kept(store),
-        Case::Emptied { finishes, made } => is_emptied(store, finishes, made),
+    match row.0 {
+        Case::MadeAgain(wanted) => Ok(is_made_again(store, wanted)),
+        Case::Replaced => Ok(are_replaced(store)),
+        Case::Kept => Ok(is_kept(store)),
+        Case::Emptied(finishes, made) => Ok(is_emptied(store, finishes, made)),
+        Case::Full(active, count, last) => Ok(is_full(
+            store,
+            active,
+            width_of(row.1),
+            (count, last),
+        )),
+        Case::Array(many, ends) => Ok(is_array(store, many, ends)),
+        Case::Value(given, first, second) => is_stored(alloc, store, given, first, second),
+        Case::Order(stored, given, wanted) => is_order(alloc, store, stored, given, wanted),
+        Case::List(docs, weight, again, wanted) => {
+            is_listed(alloc, store, docs, weight, again, wanted)
+        }
+        Case::Walk(docs, weight, many, ends) => is_walked(alloc, store, docs, weight, many, ends),
+        Case::Dense(last, documents, again, wanted) => {
+            is_dense(alloc, store, last, documents, again, wanted)
+        }
+        Case::Map(made, seen) => Ok(is_map(store, &made, &seen)),
     }
 }
 
-fn counted<const OFFSET_BITS: u32, W: Work<OFFSET_BITS>>(
-    store: &EntryStore<OFFSET_BITS, W>,
-    is_right: bool,
-) -> Came {
-    Came {
-        is_right,
-        twos: store.made(2),
-        fours: store.made(4),
-        nodes: store.made(34),
-        arrays: store.made(1024),
-    }
+/// Returns whether a new store passes a test, and the entries of a width are then as many as expected.
+fn is_met_in<const OFFSET_BITS: u32, W: Work<OFFSET_BITS, Layout = OneRecord>>(
+    alloc: Global,
+    store: &mut EntryStore<OFFSET_BITS, W>,
+    row: &Row,
+) -> Result<bool, AllocError>
+    requires new { IsNew (⟦<EntryStore<OFFSET_BITS, W> as Store<OFFSET_BITS>>⟧.ledger store.old) }
+{
+    let is_right = is_met(alloc, store, row)?;
+    Ok(is_right & (store.made(width_of(row.1)) == row.2))
 }
 
-/// Returns the result of a case over a new store with this many buffers.
-pub fn came_to<const OFFSET_BITS: u32>(
+/// The same in a store of its own.
+fn is_met_of<const OFFSET_BITS: u32>(
     alloc: Global,
     buffers: u32,
-    case: Case,
-) -> Result<Came, AllocError>
+    row: &Row,
+) -> Result<bool, AllocError>
     requires some { 1 ≤ buffers }
     requires few { buffers ≤ 1024 }
     requires named { buffers < buffer_limit OFFSET_BITS }
     requires offsets { 8192 ≤ offset_limit OFFSET_BITS }
 {
     let mut store = new_store::<OFFSET_BITS>(alloc, buffers)?;
-    let is_right = is_met::<OFFSET_BITS, _>(&mut store, case) == Ok(true);
-    Ok(counted(&store, is_right))
+    is_met_in::<OFFSET_BITS, _>(alloc, &mut store, row)
+}
+
+fn is_right_in(alloc: Global, row: &StoreRow) -> Result<bool, AllocError> {
+    if row.0 == 19 {
+        return is_met_of::<19>(alloc, row.1.max(1).min(1024), &row.2);
+    }
+    is_met_of::<22>(alloc, row.1.max(1).min(1023), &row.2)
+}
+
+/// Returns the number of the first row whose test fails, or how many rows there are.
+pub fn right_stores(alloc: Global, rows: &[StoreRow]) -> Result<usize, AllocError> {
+    for (i, row) in rows.iter().enumerate() {
+        if !is_right_in(alloc, row)? {
+            return Ok(i);
+        }
+    }
+    Ok(rows.len())
+}
+
+/// The same of stores of 22 bits with eight buffers.
+pub fn right_rows(alloc: Global, rows: &[Row]) -> Result<usize, AllocError> {
+    for (i, row) in rows.iter().enumerate() {
+        if !is_met_of::<22>(alloc, 8, row)? {
+            return Ok(i);
+        }
+    }
+    Ok(rows.len())
 }

@@ -4,13 +4,10 @@ ghost use Rattle.store_api.specs.Ledgers.{IsNew};
 ghost use Rattle.doc_vector.specs.Documents.{IsDocumentMap};
 ghost use Rattle.test_structures.specs.Holding.{HoldsMap};
 
-use crate::stores::new_store;
-use arena_api::{Frozen, Work};
+use arena_api::Frozen;
 use attr_types::Doc;
 use doc_vector::{get, remove, set, walk_from};
 use entry_ref::EntryRef;
-use entry_store::EntryStore;
-use std::alloc::{AllocError, Global};
 use store_api::{Store, StoreError};
 
 /// Returns the document of a number, or the nearest one if there is none.
@@ -50,7 +47,7 @@ fn take<const OFFSET_BITS: u32, S: Store<OFFSET_BITS>>(
 }
 
 /// Makes the map of these documents, each with the reference of its items, without those that are removed again.
-fn fill<const OFFSET_BITS: u32, S: Store<OFFSET_BITS>>(
+pub fn fill<const OFFSET_BITS: u32, S: Store<OFFSET_BITS>>(
     store: &mut S,
     pairs: &[(u32, u32)],
     taken: &[u32],
@@ -69,79 +66,43 @@ fn fill<const OFFSET_BITS: u32, S: Store<OFFSET_BITS>>(
     Ok(root)
 }
 
-/// Returns the pairs of a map from a document on.
-fn walked<const OFFSET_BITS: u32, F: Frozen<OFFSET_BITS>>(
-    alloc: Global,
+/// Returns whether a map has this many pairs from a document on, and these are the first of them.
+fn is_walk<const OFFSET_BITS: u32, F: Frozen<OFFSET_BITS>>(
     frozen: &mut F,
     root: EntryRef<OFFSET_BITS>,
     doc: Doc,
-) -> Result<Vec<(u64, u64)>, AllocError>
+    many: usize,
+    pairs: &[(u64, u64)],
+) -> bool
     requires { IsDocumentMap (F.records frozen.old) root }
 {
-    let mut pairs = Vec::new(alloc);
+    let mut count: usize = 0;
+    let mut is_right = true;
     let mut cursor = walk_from(frozen, root, doc);
     while !cursor.at_end() {
-        let key = cursor.key();
-        let value = cursor.value();
-        pairs.push((key, value))?;
+        let here = (cursor.key(), cursor.value());
+        is_right &= pairs.get(count).copied().unwrap_or(here) == here;
+        count = count.saturating_add(1);
         cursor.next(frozen);
     }
-    Ok(pairs)
+    is_right & (count == many)
 }
 
-/// What is seen of a map: whether its root is 0, the items of a document, and the pairs from that document on.
-#[derive(Drop)]
-pub struct Seen {
-    pub empty: bool,
-    pub items: Option<u32>,
-    pub pairs: Vec<(u64, u64)>,
-}
-
-/// Returns what is seen of a map at a document.
-fn look<const OFFSET_BITS: u32, S: Store<OFFSET_BITS>>(
-    alloc: Global,
+/// Returns whether a map has these items at a document, and from there on this many pairs, which begin with these.
+pub fn is_seen<const OFFSET_BITS: u32, S: Store<OFFSET_BITS>>(
     store: &mut S,
     root: EntryRef<OFFSET_BITS>,
     number: u32,
-) -> Result<Seen, AllocError>
+    items: Option<u32>,
+    many: usize,
+    pairs: &[(u64, u64)],
+) -> bool
     requires { IsDocumentMap (S.records store.old) root }
 {
     let doc = doc_of(number);
-    let items = match get(store, root, doc) {
+    let found = match get(store, root, doc) {
         Some(found) => Some(found.raw()),
         None => None,
     };
-    let pairs = walked(alloc, store, root, doc)?;
-    Ok(Seen {
-        empty: !root.valid(),
-        items,
-        pairs,
-    })
-}
-
-/// Fills a map in a new store, and looks at it at a document.
-fn fill_and_look<const OFFSET_BITS: u32, W: Work<OFFSET_BITS>>(
-    alloc: Global,
-    store: &mut EntryStore<OFFSET_BITS, W>,
-    pairs: &[(u32, u32)],
-    taken: &[u32],
-    number: u32,
-) -> Result<Seen, AllocError>
-    requires { IsNew (⟦<EntryStore<OFFSET_BITS, W> as Store<OFFSET_BITS>>⟧.ledger store.old) }
-{
-    match fill(store, pairs, taken) {
-        Ok(root) => look(alloc, store, root, number),
-        Err(_) => Err(AllocError),
-    }
-}
-
-/// Fills a map in a store of its own, and looks at it at a document.
-pub fn see(
-    alloc: Global,
-    pairs: &[(u32, u32)],
-    taken: &[u32],
-    number: u32,
-) -> Result<Seen, AllocError> {
-    let mut store = new_store::<22>(alloc, 8)?;
-    fill_and_look(alloc, &mut store, pairs, taken, number)
+    found == items && is_walk(store, root, doc, many, pairs)
 }

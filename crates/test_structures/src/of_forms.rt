@@ -1,209 +1,129 @@
-ghost use Rattle.std.specs.Prelude.{◌≡◌, ◌≤◌};
 ghost use Rattle.store_api.specs.Ledgers.{IsNew};
 
-use crate::steps::{dense_walk_of, form_of, walk_of};
-use crate::stores::new_store;
-use arena_api::Work;
-use entry_store::EntryStore;
+use crate::cases::{Case, Row, right_rows};
+use crate::steps::{made, walked, words_of};
+use attr_images::FIRST_VECTOR;
 use std::alloc::{AllocError, Global};
 use std::test::Fail;
 use store_api::Store;
 
-/// Returns what the list of these documents is in a new store, and how many records of width 16 were made.
-fn made_in<const OFFSET_BITS: u32, W: Work<OFFSET_BITS>>(
+/// Returns whether the list of the documents from one to another is a tree in a new store as expected, with these words;
+/// with `again`, after one more document was added and removed.
+pub fn is_listed<const OFFSET_BITS: u32, S: Store<OFFSET_BITS>>(
     alloc: Global,
-    store: &mut EntryStore<OFFSET_BITS, W>,
-    first: u32,
-    last: u32,
+    store: &mut S,
+    docs: (u32, u32),
     weight: i32,
     again: bool,
-) -> Result<((bool, u64, u64), u64), AllocError>
-    requires new { IsNew (⟦<EntryStore<OFFSET_BITS, W> as Store<OFFSET_BITS>>⟧.ledger store.old) }
-    requires first { 1 ≤ first }
-    requires last { last ≤ 1000 }
+    wanted: (bool, u64, u64),
+) -> Result<bool, AllocError>
+    requires new { IsNew (S.ledger store.old) }
 {
-    let form = form_of(alloc, store, first, last, weight, again)?;
-    Ok((form, store.made(16)))
-}
-
-/// The same in a store of its own.
-fn made(
-    alloc: Global,
-    first: u32,
-    last: u32,
-    weight: i32,
-    again: bool,
-) -> Result<((bool, u64, u64), u64), AllocError>
-    requires first { 1 ≤ first }
-    requires last { last ≤ 1000 }
-{
-    let mut store = new_store::<22>(alloc, 8)?;
-    made_in::<22, _>(alloc, &mut store, first, last, weight, again)
-}
-
-/// Returns whether the list of these documents is as expected; with `again`, the list after one more document was
-/// added and removed.
-fn is_made(
-    alloc: Global,
-    (first, last): (u32, u32),
-    weight: i32,
-    again: bool,
-    wanted: ((bool, u64, u64), u64),
-) -> Result<bool, AllocError> {
-    Ok(made(alloc, first.max(1), last.min(1000), weight, again)? == wanted)
-}
-
-#[test]
-fn a_list_is_a_record_up_to_eight(rt: HostRuntime) -> Result<(), Fail> {
-    let alloc = rt.alloc();
-    let rows = [
-        ((1, 8), false, ((false, 8, 4_294_967_297), 1)),
-        ((1, 9), false, ((true, 9, 9), 1)),
-        ((1, 8), true, ((false, 8, 4_294_967_297), 2)),
-        ((1, 9), true, ((true, 9, 9), 1)),
-    ];
-    for (docs, again, wanted) in rows {
-        let is_right = is_made(alloc, docs, 1, again, wanted)?;
-        assert!(rt; is_right, "{} documents", docs.1);
-    }
-    Ok(())
-}
-
-#[test]
-fn a_weight_has_32_bits(rt: HostRuntime) -> Result<(), Fail> {
-    let alloc = rt.alloc();
-    let rows = [
-        ((7, 7), -3, false, ((false, 1, 34_359_738_365), 0)),
-        ((1, 8), i32::MIN, true, ((false, 8, 6_442_450_944), 2)),
-        ((1, 8), i32::MAX, true, ((false, 8, 6_442_450_943), 2)),
-    ];
-    for (docs, weight, again, wanted) in rows {
-        let is_right = is_made(alloc, docs, weight, again, wanted)?;
-        assert!(rt; is_right, "{weight}");
-    }
-    Ok(())
-}
-
-/// Returns the documents from one to another, each with this weight, by a cursor over their list in a new store.
-fn walked_in<const OFFSET_BITS: u32, W: Work<OFFSET_BITS>>(
-    alloc: Global,
-    store: &mut EntryStore<OFFSET_BITS, W>,
-    first: u32,
-    last: u32,
-    weight: i32,
-) -> Result<Vec<(u32, i32)>, AllocError>
-    requires new { IsNew (⟦<EntryStore<OFFSET_BITS, W> as Store<OFFSET_BITS>>⟧.ledger store.old) }
-    requires first { 1 ≤ first }
-    requires last { last ≤ 1000 }
-{
-    walk_of(alloc, store, first, last, weight)
-}
-
-/// The same in a store of its own.
-fn walked(alloc: Global, first: u32, last: u32, weight: i32) -> Result<Vec<(u32, i32)>, AllocError>
-    requires first { 1 ≤ first }
-    requires last { last ≤ 1000 }
-{
-    let mut store = new_store::<22>(alloc, 8)?;
-    walked_in::<22, _>(alloc, &mut store, first, last, weight)
+    let list = made(alloc, store, docs, weight, false, 1000, again)?;
+    Ok(words_of(store, list) == wanted)
 }
 
 /// Returns whether a walk of the list of these documents has this many, from one document with its weight to another.
-fn is_walked(
+pub fn is_walked<const OFFSET_BITS: u32, S: Store<OFFSET_BITS>>(
     alloc: Global,
-    (first, last): (u32, u32),
+    store: &mut S,
+    docs: (u32, u32),
     weight: i32,
     many: usize,
     ends: [Option<(u32, i32)>; 2],
-) -> Result<bool, AllocError> {
-    let docs = walked(alloc, first.max(1), last.min(1000), weight)?;
-    Ok(docs.len() == many && [docs.first().copied(), docs.last().copied()] == ends)
-}
-
-#[test]
-fn a_walk_has_each_document_with_its_weight(rt: HostRuntime) -> Result<(), Fail> {
-    let alloc = rt.alloc();
-    let of_record = [Some((7, i32::MIN)), Some((8, i32::MIN))];
-    // a tree, with the ninth document as its last
-    let of_tree = [Some((992, i32::MAX)), Some((1000, i32::MAX))];
-    let rows = [
-        ((7, 8), i32::MIN, 2, of_record),
-        ((992, 1000), i32::MAX, 9, of_tree),
-        ((9, 8), 1, 0, [None, None]),
-    ];
-    for (docs, weight, many, ends) in rows {
-        let is_right = is_walked(alloc, docs, weight, many, ends)?;
-        assert!(rt; is_right, "{many} documents");
-    }
-    Ok(())
-}
-
-/// Returns whether the list of these documents is a bit vector, and the documents, in a new store.
-fn dense_in<const OFFSET_BITS: u32, W: Work<OFFSET_BITS>>(
-    alloc: Global,
-    store: &mut EntryStore<OFFSET_BITS, W>,
-    first: u32,
-    last: u32,
-    documents: u32,
-    again: bool,
-) -> Result<(bool, Vec<(u32, i32)>), AllocError>
-    requires new { IsNew (⟦<EntryStore<OFFSET_BITS, W> as Store<OFFSET_BITS>>⟧.ledger store.old) }
-    requires first { 1 ≤ first }
-    requires last { last ≤ 1000 }
+) -> Result<bool, AllocError>
+    requires new { IsNew (S.ledger store.old) }
 {
-    dense_walk_of(alloc, store, first, last, documents, again)
+    let list = made(alloc, store, docs, weight, false, 1000, false)?;
+    Ok(walked(store, list) == (many, ends))
 }
 
-/// The same in a store of its own.
-fn dense(
+/// Returns whether the list of the first documents is a bit vector as wanted, in a new store where bit vectors are wanted,
+/// and has each of them with weight 1; with `again`, after one more document was added and removed.
+pub fn is_dense<const OFFSET_BITS: u32, S: Store<OFFSET_BITS>>(
     alloc: Global,
-    first: u32,
-    last: u32,
-    documents: u32,
-    again: bool,
-) -> Result<(bool, Vec<(u32, i32)>), AllocError>
-    requires first { 1 ≤ first }
-    requires last { last ≤ 1000 }
-{
-    let mut store = new_store::<22>(alloc, 8)?;
-    dense_in::<22, _>(alloc, &mut store, first, last, documents, again)
-}
-
-/// Returns whether the list of the first documents is a bit vector as wanted, and has each of them with weight 1; with
-/// `again`, the list after one more document was added and removed.
-fn is_dense_as(
-    alloc: Global,
+    store: &mut S,
     last: u32,
     documents: u32,
     again: bool,
     wanted: bool,
-) -> Result<bool, AllocError> {
-    let (is_vector, docs) = dense(alloc, 1, last.min(1000), documents, again)?;
-    let ends = [docs.first().copied(), docs.last().copied()];
-    Ok(
-        is_vector == wanted
-            && docs.len() == last as usize
-            && ends == [Some((1, 1)), Some((last, 1))],
-    )
+) -> Result<bool, AllocError>
+    requires new { IsNew (S.ledger store.old) }
+{
+    let list = made(alloc, store, (1, last), 1, true, documents, again)?;
+    let is_vector = list.word() >= FIRST_VECTOR;
+    let ends = [Some((1, 1)), Some((last, 1))];
+    Ok(is_vector == wanted && walked(store, list) == (last as usize, ends))
 }
 
+/// The offset bits, the buffers, the list, and how many records of a width were made.
+const LISTS: [Row<'static>; 18] = [
+    // a list is a record up to eight
+    (
+        Case::List((1, 8), 1, false, (false, 8, 4_294_967_297)),
+        16,
+        1,
+    ),
+    (Case::List((1, 9), 1, false, (true, 9, 9)), 16, 1),
+    (
+        Case::List((1, 8), 1, true, (false, 8, 4_294_967_297)),
+        16,
+        2,
+    ),
+    (Case::List((1, 9), 1, true, (true, 9, 9)), 16, 1),
+    // a weight has 32 bits
+    (
+        Case::List((7, 7), -3, false, (false, 1, 34_359_738_365)),
+        16,
+        0,
+    ),
+    (
+        Case::List((1, 8), i32::MIN, true, (false, 8, 6_442_450_944)),
+        16,
+        2,
+    ),
+    (
+        Case::List((1, 8), i32::MAX, true, (false, 8, 6_442_450_943)),
+        16,
+        2,
+    ),
+    // a walk has each document with its weight; of a record, of a tree with the ninth document as its last, and of no list
+    (
+        Case::Walk(
+            (7, 8),
+            i32::MIN,
+            2,
+            [Some((7, i32::MIN)), Some((8, i32::MIN))],
+        ),
+        1024,
+        0,
+    ),
+    (
+        Case::Walk(
+            (992, 1000),
+            i32::MAX,
+            9,
+            [Some((992, i32::MAX)), Some((1000, i32::MAX))],
+        ),
+        1024,
+        0,
+    ),
+    (Case::Walk((9, 8), 1, 0, [None, None]), 1024, 0),
+    // a frequent list is a bit vector
+    (Case::Dense(8, 8, false, false), 1024, 0),
+    (Case::Dense(127, 127, false, false), 1024, 0),
+    (Case::Dense(128, 128, false, true), 1024, 0),
+    // the document that makes a bit vector is removed again
+    (Case::Dense(127, 128, true, false), 1024, 0),
+    (Case::Dense(128, 128, true, true), 1024, 0),
+    (Case::Dense(156, 5000, false, false), 1024, 0),
+    (Case::Dense(157, 5000, false, true), 1024, 0),
+    (Case::Dense(156, 5000, true, false), 1024, 0),
+];
+
 #[test]
-fn a_frequent_list_is_a_bit_vector(rt: HostRuntime) -> Result<(), Fail> {
-    let alloc = rt.alloc();
-    let rows = [
-        (8, 8, false, false),
-        (127, 127, false, false),
-        (128, 128, false, true),
-        // the document that makes a bit vector is removed again
-        (127, 128, true, false),
-        (128, 128, true, true),
-        (156, 5000, false, false),
-        (157, 5000, false, true),
-        (156, 5000, true, false),
-    ];
-    for (last, documents, again, wanted) in rows {
-        let is_right = is_dense_as(alloc, last, documents, again, wanted)?;
-        assert!(rt; is_right, "{last} of {documents}");
-    }
+fn a_list_has_the_form_of_its_documents(rt: HostRuntime) -> Result<(), Fail> {
+    let right = right_rows(rt.alloc(), &LISTS)?;
+    assert!(rt; right == LISTS.len(), "row {right}");
     Ok(())
 }

@@ -43,73 +43,76 @@ fn takes_all<const OFFSET_BITS: u32>(alloc: Global, steps: &[Step]) -> Result<bo
     Ok(is_right)
 }
 
-#[test]
-fn what_is_tagged_below_is_taken_in_order(rt: HostRuntime) -> Result<(), Fail> {
-    let rows: [&[Step]; 5] = [
-        // nothing is there, or nothing is tagged
-        &[
-            Step::Pop(9, None),
-            Step::Tag(1, 1),
-            Step::Push(1024),
-            Step::Pop(u64::MAX, None),
-        ],
-        // strictly below, in the order of the pushes
-        &[
-            Step::Push(1024),
-            Step::Push(2048),
-            Step::Tag(3, 5),
-            Step::Push(3072),
-            Step::Pop(3, None),
-            Step::Pop(4, Some(1024)),
-            Step::Pop(4, Some(2048)),
-            Step::Pop(4, None),
-            Step::Tag(4, 6),
-            Step::Pop(4, None),
-            Step::Pop(5, Some(3072)),
-            Step::Pop(5, None),
-        ],
-        // two commits of one generation, and a tag without an entry between them
-        &[
-            Step::Push(1),
-            Step::Tag(7, 1),
-            Step::Tag(7, 2),
-            Step::Push(2),
-            Step::Tag(7, 3),
-            Step::Pop(7, None),
-            Step::Pop(8, Some(1)),
-            Step::Push(3),
-            Step::Pop(8, Some(2)),
-            Step::Pop(8, None),
-        ],
-        // a generation that falls: the first below is not the first of the list
-        &[
-            Step::Push(1),
-            Step::Push(2),
-            Step::Tag(5, 1),
-            Step::Push(3),
-            Step::Push(4),
-            Step::Tag(2, 2),
-            Step::Pop(2, None),
-            Step::Pop(4, Some(3)),
-            Step::Pop(6, Some(1)),
-            Step::Pop(3, Some(4)),
-            Step::Pop(5, None),
-            Step::Pop(6, Some(2)),
-            Step::Pop(6, None),
-        ],
-        // the greatest numbers
-        &[
-            Step::Push(u32::MAX),
-            Step::Tag(u64::MAX - 1, u32::MAX),
-            Step::Pop(u64::MAX - 1, None),
-            Step::Pop(u64::MAX, Some(u32::MAX)),
-        ],
-    ];
-    for steps in rows {
-        let is_right = takes_all::<22>(rt.alloc(), steps)? & takes_all::<19>(rt.alloc(), steps)?;
-        assert!(rt; is_right);
+/// What is tagged below a generation is taken in order.
+const LISTS: [&[Step]; 5] = [
+    // nothing is there, or nothing is tagged
+    &[
+        Step::Pop(9, None),
+        Step::Tag(1, 1),
+        Step::Push(1024),
+        Step::Pop(u64::MAX, None),
+    ],
+    // strictly below, in the order of the pushes
+    &[
+        Step::Push(1024),
+        Step::Push(2048),
+        Step::Tag(3, 5),
+        Step::Push(3072),
+        Step::Pop(3, None),
+        Step::Pop(4, Some(1024)),
+        Step::Pop(4, Some(2048)),
+        Step::Pop(4, None),
+        Step::Tag(4, 6),
+        Step::Pop(4, None),
+        Step::Pop(5, Some(3072)),
+        Step::Pop(5, None),
+    ],
+    // two commits of one generation, and a tag without an entry between them
+    &[
+        Step::Push(1),
+        Step::Tag(7, 1),
+        Step::Tag(7, 2),
+        Step::Push(2),
+        Step::Tag(7, 3),
+        Step::Pop(7, None),
+        Step::Pop(8, Some(1)),
+        Step::Push(3),
+        Step::Pop(8, Some(2)),
+        Step::Pop(8, None),
+    ],
+    // a generation that falls: the first below is not the first of the list
+    &[
+        Step::Push(1),
+        Step::Push(2),
+        Step::Tag(5, 1),
+        Step::Push(3),
+        Step::Push(4),
+        Step::Tag(2, 2),
+        Step::Pop(2, None),
+        Step::Pop(4, Some(3)),
+        Step::Pop(6, Some(1)),
+        Step::Pop(3, Some(4)),
+        Step::Pop(5, None),
+        Step::Pop(6, Some(2)),
+        Step::Pop(6, None),
+    ],
+    // the greatest numbers
+    &[
+        Step::Push(u32::MAX),
+        Step::Tag(u64::MAX - 1, u32::MAX),
+        Step::Pop(u64::MAX - 1, None),
+        Step::Pop(u64::MAX, Some(u32::MAX)),
+    ],
+];
+
+/// Returns the number of the first list that takes another entry, or how many lists there are.
+fn right_lists(alloc: Global) -> Result<usize, AllocError> {
+    for (i, steps) in LISTS.iter().enumerate() {
+        if !(takes_all::<22>(alloc, steps)? & takes_all::<19>(alloc, steps)?) {
+            return Ok(i);
+        }
     }
-    Ok(())
+    Ok(LISTS.len())
 }
 
 /// Returns the entry that is removed first, of two that were pushed into reserved space for two.
@@ -123,8 +126,12 @@ fn first_of_two(alloc: Global) -> Result<Option<EntryRef<22>>, AllocError> {
 }
 
 #[test]
-fn room_is_for_so_many_pushes(rt: HostRuntime) -> Result<(), Fail> {
+fn what_is_tagged_below_is_taken_in_order(rt: HostRuntime) -> Result<(), Fail> {
+    let right = right_lists(rt.alloc())?;
     let first = first_of_two(rt.alloc())?;
-    assert!(rt; first == Some(EntryRef::new(1, 0)));
+    assert!(rt;
+        right == LISTS.len() && first == Some(EntryRef::new(1, 0)),
+        "list {right}"
+    );
     Ok(())
 }

@@ -15,25 +15,8 @@ enum Step {
     Closes(u32),
 }
 
-/// A step, and the queue after it: the oldest generation, the newest one with its hold, and the number of holds.
-#[derive(Clone, Copy)]
-struct Row {
-    step: Step,
-    oldest: u64,
-    newest: u64,
-    hold: u32,
-    len: u32,
-}
-
-const fn after(step: Step, oldest: u64, newest: u64, hold: u32, len: u32) -> Row {
-    Row {
-        step,
-        oldest,
-        newest,
-        hold,
-        len,
-    }
-}
+/// A step, and the queue after it: the oldest generation, the newest one, its hold, and the number of holds.
+type Row = (Step, u64, u64, u32, u32);
 
 /// Returns whether this hold is the next closed one, and opens it.
 fn opens(holds: &mut Holds, generation: u64, wanted: Option<u32>) -> bool {
@@ -84,65 +67,68 @@ fn takes(holds: &mut Holds, step: Step) -> bool {
 /// Returns whether the queue is as a row says.
 fn is_as(holds: &Holds, row: &Row) -> bool {
     let newest = holds.newest();
-    holds.oldest().generation == row.oldest
-        && newest.generation == row.newest
-        && newest.hold == row.hold
-        && holds.len() == row.len
+    holds.oldest().generation == row.1
+        && newest.generation == row.2
+        && newest.hold == row.3
+        && holds.len() == row.4
 }
 
 /// Returns whether each step of a run is taken, and the queue after it is the expected one.
 fn is_right_run(rows: &[Row]) -> bool {
     let mut holds = Holds::new();
+    let mut is_right = true;
     for row in rows {
-        if !takes(&mut holds, row.step) || !is_as(&holds, row) {
-            return false;
-        }
+        is_right &= takes(&mut holds, row.0);
+        is_right &= is_as(&holds, row);
     }
-    true
+    is_right
 }
 
-#[test]
-fn a_queue_after_each_step(rt: HostRuntime) {
-    let runs: [&[Row]; 4] = [
-        // a reader between the first commit and the third
-        &[
-            after(Step::Opens(1), 0, 1, 1, 2),
-            after(Step::Closes(1), 1, 1, 1, 1),
-            after(Step::Opens(0), 1, 2, 0, 2),
-            after(Step::Opens(2), 1, 3, 2, 3),
-            after(Step::Opens(3), 1, 4, 3, 4),
-            after(Step::Closes(3), 4, 4, 3, 1),
-        ],
-        // a reader over twenty commits
-        &[
-            after(Step::OpensAll, 0, 15, 15, 16),
-            after(Step::IsFull, 0, 15, 15, 16),
-            after(Step::Closes(15), 15, 15, 15, 1),
-            after(Step::Opens(0), 15, 16, 0, 2),
-            after(Step::Closes(1), 16, 16, 0, 1),
-            after(Step::Opens(1), 16, 17, 1, 2),
-        ],
-        // an unused newest hold is renewed, with older ones open and alone
-        &[
-            after(Step::Renews, 1, 1, 0, 1),
-            after(Step::Opens(1), 1, 2, 1, 2),
-            after(Step::Renews, 1, 3, 1, 2),
-            after(Step::Closes(1), 3, 3, 1, 1),
-            after(Step::Opens(0), 3, 4, 0, 2),
-        ],
-        // the closed hold with the lowest number is the next one
-        &[
-            after(Step::Opens(1), 0, 1, 1, 2),
-            after(Step::Opens(2), 0, 2, 2, 3),
-            after(Step::Closes(2), 2, 2, 2, 1),
-            after(Step::Opens(0), 2, 3, 0, 2),
-            after(Step::Opens(1), 2, 4, 1, 3),
-            after(Step::Opens(3), 2, 5, 3, 4),
-        ],
-    ];
-    for (number, rows) in runs.iter().enumerate() {
-        assert!(rt; is_right_run(rows), "run {number}");
+const RUNS: [&[Row]; 4] = [
+    // a reader between the first commit and the third
+    &[
+        (Step::Opens(1), 0, 1, 1, 2),
+        (Step::Closes(1), 1, 1, 1, 1),
+        (Step::Opens(0), 1, 2, 0, 2),
+        (Step::Opens(2), 1, 3, 2, 3),
+        (Step::Opens(3), 1, 4, 3, 4),
+        (Step::Closes(3), 4, 4, 3, 1),
+    ],
+    // a reader over twenty commits
+    &[
+        (Step::OpensAll, 0, 15, 15, 16),
+        (Step::IsFull, 0, 15, 15, 16),
+        (Step::Closes(15), 15, 15, 15, 1),
+        (Step::Opens(0), 15, 16, 0, 2),
+        (Step::Closes(1), 16, 16, 0, 1),
+        (Step::Opens(1), 16, 17, 1, 2),
+    ],
+    // an unused newest hold is renewed, with older ones open and alone
+    &[
+        (Step::Renews, 1, 1, 0, 1),
+        (Step::Opens(1), 1, 2, 1, 2),
+        (Step::Renews, 1, 3, 1, 2),
+        (Step::Closes(1), 3, 3, 1, 1),
+        (Step::Opens(0), 3, 4, 0, 2),
+    ],
+    // the closed hold with the lowest number is the next one
+    &[
+        (Step::Opens(1), 0, 1, 1, 2),
+        (Step::Opens(2), 0, 2, 2, 3),
+        (Step::Closes(2), 2, 2, 2, 1),
+        (Step::Opens(0), 2, 3, 0, 2),
+        (Step::Opens(1), 2, 4, 1, 3),
+        (Step::Opens(3), 2, 5, 3, 4),
+    ],
+];
+
+/// Returns whether each run is right.
+fn are_right_runs() -> bool {
+    let mut is_right = true;
+    for rows in RUNS {
+        is_right &= is_right_run(rows);
     }
+    is_right
 }
 
 /// Returns whether a hold keeps its first commit, and takes another one when it is renewed.
@@ -159,6 +145,6 @@ fn keeps_first_commit() -> bool {
 }
 
 #[test]
-fn an_entry_keeps_its_first_commit(rt: HostRuntime) {
-    assert!(rt; keeps_first_commit());
+fn a_queue_after_each_step(rt: HostRuntime) {
+    assert!(rt; are_right_runs() & keeps_first_commit());
 }

@@ -29,20 +29,15 @@ fn hands_out_all<const OFFSET_BITS: u32, W: Work<OFFSET_BITS>>(work: &mut W) -> 
     is_right & ((work.hand_out(2), work.free_buffers()) == (None, 0))
 }
 
-#[test]
-fn buffers_are_handed_out_from_the_lowest_on(rt: HostRuntime) -> Result<(), Fail> {
-    let mut work = MemWork::<22, OneRecord>::create(rt.alloc(), 3, 8192, 1)?;
-    let is_right = hands_out_three::<22, _>(&mut work) & has_no_record(rt.alloc(), &work)?;
-    assert!(rt; is_right);
-    Ok(())
+fn is_right_of_22(alloc: Global) -> Result<bool, AllocError> {
+    let mut work = MemWork::<22, OneRecord>::create(alloc, 3, 8192, 1)?;
+    Ok(hands_out_three::<22, _>(&mut work) & has_no_record(alloc, &work)?)
 }
 
-#[test]
-fn references_of_19_bits_name_1024_buffers(rt: HostRuntime) -> Result<(), Fail> {
-    let mut work = MemWork::<19, OneRecord>::create(rt.alloc(), 1024, 8192, 1)?;
-    let is_right = hands_out_all::<19, _>(&mut work);
-    assert!(rt; is_right);
-    Ok(())
+/// References of 19 bits name 1,024 buffers.
+fn is_right_of_19(alloc: Global) -> Result<bool, AllocError> {
+    let mut work = MemWork::<19, OneRecord>::create(alloc, 1024, 8192, 1)?;
+    Ok(hands_out_all::<19, _>(&mut work))
 }
 
 /// Returns whether a commit is counted, and stores nothing by itself.
@@ -55,8 +50,15 @@ fn is_counted(alloc: Global) -> Result<bool, AllocError> {
 }
 
 #[test]
-fn commits_are_counted(rt: HostRuntime) -> Result<(), Fail> {
-    let is_right = is_counted(rt.alloc())?;
-    assert!(rt; is_right);
+fn buffers_are_handed_out_from_the_lowest_on_and_commits_counted(
+    rt: HostRuntime,
+) -> Result<(), Fail> {
+    let alloc = rt.alloc();
+    let rights = [
+        is_right_of_22(alloc)?,
+        is_right_of_19(alloc)?,
+        is_counted(alloc)?,
+    ];
+    assert!(rt; rights == [true, true, true]);
     Ok(())
 }

@@ -16,8 +16,8 @@ fn is_reference<const OFFSET_BITS: u32>(offset: u32, buffer: u32, raw: u32) -> b
         && entry.valid() == (raw > 0)
 }
 
-#[test]
-fn a_reference_is_its_offset_and_its_buffer(rt: HostRuntime) {
+/// Returns whether each reference is its offset and its buffer.
+fn are_references() -> bool {
     // offset, buffer, reference
     let rows = [
         (0, 0, 0),
@@ -27,7 +27,9 @@ fn a_reference_is_its_offset_and_its_buffer(rt: HostRuntime) {
         (4_194_303, 1023, u32::MAX),
     ];
     for (offset, buffer, raw) in rows {
-        assert!(rt; is_reference::<22>(offset, buffer, raw), "{raw} of 22 bits");
+        if !is_reference::<22>(offset, buffer, raw) {
+            return false;
+        }
     }
     let rows = [
         (0, 0, 0),
@@ -37,12 +39,15 @@ fn a_reference_is_its_offset_and_its_buffer(rt: HostRuntime) {
         (524_287, 8191, u32::MAX),
     ];
     for (offset, buffer, raw) in rows {
-        assert!(rt; is_reference::<19>(offset, buffer, raw), "{raw} of 19 bits");
+        if !is_reference::<19>(offset, buffer, raw) {
+            return false;
+        }
     }
+    true
 }
 
-#[test]
-fn words_of_entries_stand_at_the_worked_places(rt: HostRuntime) {
+/// Returns whether words of entries stand at the worked places.
+fn are_places() -> bool {
     // number of buffers, words of each, width; offset, buffer, word; place
     let rows = [
         ((8, 8192, 34), (3, 2, 0), 16512),
@@ -51,20 +56,18 @@ fn words_of_entries_stand_at_the_worked_places(rt: HostRuntime) {
         ((2, 8, 2), (3, 1, 1), 35),
     ];
     for ((buffers, words, width), (offset, buffer, i), place) in rows {
-        let of_22 = place_of(
-            buffers,
-            words,
-            width,
-            EntryRef::<22>::new(offset, buffer),
-            i,
-        );
-        let of_19 = place_of(
-            buffers,
-            words,
-            width,
-            EntryRef::<19>::new(offset, buffer),
-            i,
-        );
-        assert!(rt; of_22 == place && of_19 == place, "{place}");
+        let of_22 = EntryRef::<22>::new(offset, buffer);
+        let of_19 = EntryRef::<19>::new(offset, buffer);
+        let found = place_of(buffers, words, width, of_22, i);
+        if found != place || place_of(buffers, words, width, of_19, i) != place {
+            return false;
+        }
     }
+    true
+}
+
+#[test]
+fn references_and_words_stand_at_the_worked_places(rt: HostRuntime) {
+    assert!(rt; are_references());
+    assert!(rt; are_places());
 }

@@ -4,7 +4,6 @@ ghost use Rattle.store_api.specs.Ledgers.{IsNew};
 ghost use Rattle.test_structures.specs.Held.{HoldsList};
 
 use arena_api::Frozen;
-use attr_images::FIRST_VECTOR;
 use attr_types::Doc;
 use entry_ref::EntryRef;
 use posting_store::{Posting, add, list_law, remove, walk};
@@ -87,7 +86,7 @@ fn listed<const OFFSET_BITS: u32, S: Store<OFFSET_BITS>>(
 }
 
 /// Returns whether a list is a tree, and the first two words of its record or its root.
-fn words_of<const OFFSET_BITS: u32, S: Store<OFFSET_BITS>>(
+pub fn words_of<const OFFSET_BITS: u32, S: Store<OFFSET_BITS>>(
     store: &mut S,
     list: Posting,
 ) -> (bool, u64, u64)
@@ -102,85 +101,56 @@ fn words_of<const OFFSET_BITS: u32, S: Store<OFFSET_BITS>>(
     (list.word() % 2 == 1, first, second)
 }
 
-/// Returns the documents of a list with their weights, by its cursor.
-fn walked<const OFFSET_BITS: u32, F: Frozen<OFFSET_BITS>>(
-    alloc: Global,
+/// Returns how many documents a list has, and the first and the last of them with their weights, by its cursor.
+pub fn walked<const OFFSET_BITS: u32, F: Frozen<OFFSET_BITS>>(
     frozen: &mut F,
     list: Posting,
-) -> Result<Vec<(u32, i32)>, AllocError>
+) -> (usize, [Option<(u32, i32)>; 2])
     requires { IsList (F.records frozen.old) list }
 {
-    let mut postings = Vec::new(alloc);
+    let mut count: usize = 0;
+    let mut first = None;
+    let mut last = None;
     let mut cursor = walk(frozen, list);
     while !cursor.at_end() {
         let doc = cursor.doc(frozen);
         let weight = cursor.weight(frozen);
-        postings.push((doc.number(), weight))?;
+        last = Some((doc.number(), weight));
+        first = first.or(last);
+        count = count.saturating_add(1);
         cursor.next(frozen);
     }
-    Ok(postings)
+    (count, [first, last])
 }
 
-/// Returns what the list of the documents from one to another is in a new store, as `words_of` describes it; with
-/// `again`, the list after one more document was added and removed.
-pub fn form_of<const OFFSET_BITS: u32, S: Store<OFFSET_BITS>>(
+/// Makes the list of the documents from one to another, each with this weight, in a new store; with `again`, one more
+/// document is added and removed.
+pub fn made<const OFFSET_BITS: u32, S: Store<OFFSET_BITS>>(
     alloc: Global,
     store: &mut S,
-    first: u32,
-    last: u32,
+    docs: (u32, u32),
     weight: i32,
-    again: bool,
-) -> Result<(bool, u64, u64), AllocError>
-    requires new { IsNew (S.ledger store.old) }
-    requires first { 1 ≤ first }
-    requires last { last ≤ 1000 }
-{
-    store.begin();
-    let list = listed(alloc, store, first, last, weight, false, 1000)?;
-    if !again {
-        return Ok(words_of(store, list));
-    }
-    let list = put_and_take(alloc, store, list, Doc::new(last + 1), weight, false, 1000)?;
-    Ok(words_of(store, list))
-}
-
-/// Returns the documents from one to another with their weights, by a cursor over their list in a new store.
-pub fn walk_of<const OFFSET_BITS: u32, S: Store<OFFSET_BITS>>(
-    alloc: Global,
-    store: &mut S,
-    first: u32,
-    last: u32,
-    weight: i32,
-) -> Result<Vec<(u32, i32)>, AllocError>
-    requires new { IsNew (S.ledger store.old) }
-    requires first { 1 ≤ first }
-    requires last { last ≤ 1000 }
-{
-    store.begin();
-    let list = listed(alloc, store, first, last, weight, false, 1000)?;
-    walked(alloc, store, list)
-}
-
-/// Returns whether the list of the documents from one to another is a bit vector in a new store where bit vectors are
-/// wanted, and its documents with their weights, by a cursor; with `again`, the list after one more document was added
-/// and removed.
-pub fn dense_walk_of<const OFFSET_BITS: u32, S: Store<OFFSET_BITS>>(
-    alloc: Global,
-    store: &mut S,
-    first: u32,
-    last: u32,
+    dense: bool,
     documents: u32,
     again: bool,
-) -> Result<(bool, Vec<(u32, i32)>), AllocError>
+) -> Result<Posting, AllocError>
     requires new { IsNew (S.ledger store.old) }
-    requires first { 1 ≤ first }
-    requires last { last ≤ 1000 }
+    requires one { dense ≡ true → weight ≡ pos 1 }
+    ensures { IfOk result (HoldsList dense (S.ledger store.new) (S.records store.new)) }
 {
     store.begin();
-    let list = listed(alloc, store, first, last, 1, true, documents)?;
+    let last = docs.1.min(1000);
+    let list = listed(alloc, store, docs.0.max(1), last, weight, dense, documents)?;
     if !again {
-        return Ok((list.word() >= FIRST_VECTOR, walked(alloc, store, list)?));
+        return Ok(list);
     }
-    let list = put_and_take(alloc, store, list, Doc::new(last + 1), 1, true, documents)?;
-    Ok((list.word() >= FIRST_VECTOR, walked(alloc, store, list)?))
+    put_and_take(
+        alloc,
+        store,
+        list,
+        Doc::new(last + 1),
+        weight,
+        dense,
+        documents,
+    )
 }

@@ -4,6 +4,7 @@ ghost use Rattle.store_api.specs.Ledgers.{is_width, IsNew};
 ghost use Rattle.store_api.specs.Units.{MayDo};
 ghost use Rattle.store_api.specs.Parts.{Turns};
 
+use arena_api::Oldest;
 use entry_store::EntryStore;
 use mem_work::{MemWork, OneRecord};
 use std::alloc::{AllocError, Global};
@@ -29,6 +30,27 @@ pub fn new_store<const OFFSET_BITS: u32>(
 
 /// How many entries of a width were made, the last of them, and why no more were made.
 pub type Filled = (u32, u32, Option<StoreError>);
+
+/// What is answered of holds where no reader is: the newest one, of this generation.
+pub fn newest(generation: u64) -> Oldest {
+    Oldest {
+        generation,
+        hold: 0,
+        found: 0,
+        newest: true,
+    }
+}
+
+/// Why a store of this many active buffers makes no more entries of a width, in a generation.
+pub fn full(width: u32, active: u32, generation: u64) -> Option<StoreError> {
+    let oldest = newest(generation);
+    Some(StoreError::Full {
+        width,
+        active,
+        held: 0,
+        oldest,
+    })
+}
 
 /// Makes entries of a width until no more can be made.
 pub fn fill<const OFFSET_BITS: u32, S: Store<OFFSET_BITS>>(store: &mut S, width: u32) -> Filled
