@@ -74,7 +74,15 @@ inline Setup read_words(int argc, char** argv) {
 }
 
 // ---- feed -----------------------------------------------------------------
-using J = rapidjson::Value;
+// With -DREADS a line is read in the way of the JSON crate that attr uses: 16 KiB of places are set to zero, and the values and strings of the
+// line are allocated one by one. Without it a line is read in its place, into a pool on the stack.
+#ifdef READS
+using Pool = rapidjson::CrtAllocator;
+#else
+using Pool = rapidjson::MemoryPoolAllocator<>;
+#endif
+using J = rapidjson::GenericValue<rapidjson::UTF8<>, Pool>;
+using Parsed = rapidjson::GenericDocument<rapidjson::UTF8<>, Pool>;
 inline string value_key(J const& v, Setup const& s) {
   if (s.text) { if (!v.IsString() || v.GetStringLength() > 1024) fail("BadValue", 3); return {v.GetString(), v.GetStringLength()}; }
   if (!v.IsInt64()) fail("BadValue", 3);
@@ -112,9 +120,14 @@ inline vector<Op> read_feed(Setup const& s) {
   for (size_t at = 0; at < got;) {
     size_t end = in.find('\n', at); in[end] = 0; char* line = &in[at]; at = end + 1;
     if (line[strspn(line, " \t\r")] == 0) continue;
-    rapidjson::MemoryPoolAllocator<> pools(pool, sizeof pool);
-    rapidjson::GenericDocument<rapidjson::UTF8<>, rapidjson::MemoryPoolAllocator<>> d(&pools, 256);
+#ifdef READS
+    memset(pool, 0, 16384); asm volatile("" : : "r"(pool) : "memory");
+    Parsed d; d.Parse<rapidjson::kParseValidateEncodingFlag>(line);
+#else
+    Pool pools(pool, sizeof pool);
+    Parsed d(&pools, 256);
     d.ParseInsitu<rapidjson::kParseValidateEncodingFlag | rapidjson::kParseInsituFlag>(line);
+#endif
     if (d.HasParseError()) fail("NotJson", 3);
     if (!d.IsObject()) fail("NoOperation", 3);
     auto put = d.FindMember("put"), up = d.FindMember("update"), rem = d.FindMember("remove"), no = d.MemberEnd();
