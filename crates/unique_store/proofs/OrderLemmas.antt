@@ -174,6 +174,27 @@ order_ends (suc n) (x ∷ xs) (y ∷ ys) past =
     fewer (inl h) = inl (omega arith)
     fewer (inr h) = inr (omega arith)
 
+-- first words that differ decide
+pub first_differs : (text bytes : List ℕ) → ((i : ℕ) → get_or text i 0 < 256) → ((i : ℕ) → get_or bytes i 0 < 256) → (word other : ℕ)
+    → word ≡ from_be_bytes w64 (take 8 (text ++ replicate 8 0)) → other ≡ from_be_bytes w64 (take 8 (bytes ++ replicate 8 0))
+    → (o : Ordering) → o ≡ nat_cmp word other → is_ne o ≡ true → o ≡ slice_cmp nat_cmp text bytes
+first_differs text bytes small given word other word_is other_is o is ne = by o is ne
+  where
+    behind : Ordering
+    behind = order (drop 8 text) (drop 8 bytes) (by_length text bytes)
+
+    all : ordering_then (nat_cmp word other) behind ≡ slice_cmp nat_cmp text bytes
+    all =
+        ap (λ w. ordering_then (nat_cmp w other) behind) (word_is ∙ word_big text)
+        ∙ ap (λ w. ordering_then (nat_cmp (big 8 text) w) behind) (other_is ∙ word_big bytes)
+        ∙ order_step 8 text bytes small given
+        ∙ order_begins text bytes
+
+    by : (o : Ordering) → o ≡ nat_cmp word other → is_ne o ≡ true → o ≡ slice_cmp nat_cmp text bytes
+    by Less is ne = ap (λ r. ordering_then r behind) is ∙ all
+    by Equal is ne = absurd (true≢false (sym ne))
+    by Greater is ne = ap (λ r. ordering_then r behind) is ∙ all
+
 -- a loop over words: those before place n are equal
 module _ (text bytes : List ℕ) (small : (i : ℕ) → get_or text i 0 < 256) (given : (i : ℕ) → get_or bytes i 0 < 256) (n : ℕ) where
   small_behind : (xs : List ℕ) → ((i : ℕ) → get_or xs i 0 < 256) → (i : ℕ) → get_or (drop n xs) i 0 < 256

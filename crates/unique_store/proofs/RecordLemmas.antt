@@ -1,7 +1,8 @@
 -- The record of a value, read.
-use Rattle.std.proofs.Common.{◌≡◌, ◌≢◌, ℕ, suc, ◌+◌, ◌-◌, ◌*◌, ◌/◌, ◌<◌, ◌≤◌, List, [], ◌∷◌, ◌++◌, length, get_or, take, drop, replicate, sym, ap, subst, ◌∙◌, arith, length-append, length-take, length-drop, Result, Ok}
-use Rattle.std.proofs.Common.{Err}
-use Rattle.std.proofs.lemmas.List.{take-append-drop, take-append-le, take_more, append-nil, get_or-drop}
+use Rattle.std.proofs.Common.{◌≡◌, ◌≢◌, ℕ, suc, ◌+◌, ◌-◌, ◌*◌, ◌/◌, ◌<◌, ◌≤◌, List, [], ◌∷◌, ◌++◌, length, get_or, take, drop, replicate, refl, sym, ap, subst, ◌∙◌, arith, length-append}
+use Rattle.std.proofs.Common.{length-take, length-drop, Result, Ok, Err, inl, inr}
+use Rattle.std.proofs.lemmas.Bool.{cases_lt}
+use Rattle.std.proofs.lemmas.List.{nil_from_length, take-append-drop, take-append-le, take_more, append-nil, get_or-drop}
 use Rattle.std.proofs.lemmas.Grind.{flat_map-append}
 use Rattle.std.specs.Int.{from_be_bytes, to_be_bytes, w64}
 use Rattle.std.specs.List.{flat_map}
@@ -62,6 +63,16 @@ module _ (ws : List ℕ) (record_of : IsValueRecord types.Text ws) where
       ap (λ xs. slice_index xs (1 + i)) record_of.words
       ∙ ap (λ j. slice_index (filled words) j) (let e : 1 + i ≡ suc i = omega arith in e)
       ∙ packed_at count i (stored_text ws) (replicate (class_of (length words) - length words) 0) low
+
+  -- the first word, which is 0 in the record of an empty text
+  pub text_first : slice_index ws 1 ≡ from_be_bytes w64 (take 8 (stored_text ws ++ replicate 8 0))
+  text_first = elim (cases_lt 0 (length (stored_text ws))) [
+      inl some ↦ text_word 0 (omega arith)
+    | inr none ↦
+      ap (λ xs. slice_index xs 1) record_of.words
+      ∙ subst (λ text. slice_index (filled (value_words (values.Text text))) 1 ≡ from_be_bytes w64 (take 8 (text ++ replicate 8 0)))
+        (sym (nil_from_length (stored_text ws) (omega arith))) refl
+  ]
 
 -- the words that hold a text's bytes are enough to read it
 pub text_read : (ws : List ℕ) (count n : ℕ) → count ≤ 8 * n → 1 + n ≤ length ws → slice_index ws 0 ≡ count

@@ -11,10 +11,9 @@ use attr_types::Value;
 use entry_ref::EntryRef;
 use std::cmp::Ordering;
 
-/// Compares a stored text with bytes. It reads words only until they differ. It is a function of its own so that the
-/// comparison of longs needs fewer registers.
+/// Compares a stored text with bytes, from their first words on.
 #[inline(never)]
-fn compare_text<const OFFSET_BITS: u32, F: Frozen<OFFSET_BITS>>(
+fn compare_words<const OFFSET_BITS: u32, F: Frozen<OFFSET_BITS>>(
     frozen: &mut F,
     stored: EntryRef<OFFSET_BITS>,
     bytes: &[u8],
@@ -34,6 +33,25 @@ fn compare_text<const OFFSET_BITS: u32, F: Frozen<OFFSET_BITS>>(
         rest = behind_eight(rest);
     }
     count.cmp(&bytes.len())
+}
+
+/// Compares a stored text with bytes. It reads words only until they differ: nearly always the first ones do, so these
+/// come before the length, and the rest is a function of its own.
+fn compare_text<const OFFSET_BITS: u32, F: Frozen<OFFSET_BITS>>(
+    frozen: &mut F,
+    stored: EntryRef<OFFSET_BITS>,
+    bytes: &[u8],
+) -> Ordering
+    requires record { IsValueRecord types.Text (F.records frozen.old stored) }
+    requires few { length bytes.now ≤ 1024 }
+    ensures answer { result ≡ slice_cmp nat_cmp (stored_text (F.records frozen.old stored.entry)) bytes.now }
+    ensures same { frozen.new ≡ frozen.old }
+{
+    let order = frozen.word(stored, 1).cmp(&first_word(bytes));
+    if order.is_ne() {
+        return order;
+    }
+    compare_words(frozen, stored, bytes)
 }
 
 /// Compares a stored value with a value of its type.

@@ -3,7 +3,7 @@ use Rattle.std.specs.Cmp.Lexicographic.{slice_cmp}
 use Rattle.std.specs.Ordering.{nat_cmp}
 use Rattle.attr_images.specs.Values.{stored_text}
 use Rattle.unique_store.proofs.OrderLemmas.{order, by_length}
-use Rattle.unique_store.proofs.comparing.compare_text.Given as goal
+use Rattle.unique_store.proofs.comparing.compare_words.Given as goal
 
 -- the words so far are equal
 abbrev pub invariant-loop-i : goal.invariant-loop-i
