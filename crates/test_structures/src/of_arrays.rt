@@ -6,7 +6,7 @@ use array_store::{add, class_of, count, get};
 use std::test::Fail;
 use store_api::{Store, StoreError};
 
-/// A number of words, and the class of an array with so many.
+/// How many words a record has to hold, and its class.
 const CLASSES: [(u32, u32); 9] = [
     (1, 2),
     (2, 2),

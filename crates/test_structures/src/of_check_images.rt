@@ -102,7 +102,7 @@ fn has_sizes(table: &[(u64, FieldItems)], documents: usize, attributes: usize) -
     }
 }
 
-/// Returns whether a table is the one that was wanted.
+/// Returns whether a table has what its row says.
 fn is_read(table: &[(u64, FieldItems)], read: Read) -> bool {
     match read {
         Read::Documents(first, count, number, texts, weight) => {

@@ -38,7 +38,7 @@ pub fn is_walked<const OFFSET_BITS: u32, S: Store<OFFSET_BITS>>(
     Ok(walked(store, list) == (many, ends))
 }
 
-/// Returns whether the list of the first documents is a bit vector as wanted, in a new store where bit vectors are wanted,
+/// Returns whether the list of the first documents is a bit vector exactly if `wanted`, in a new store with bit vectors,
 /// and has each of them with weight 1; with `again`, after one more document was added and removed.
 pub fn is_dense<const OFFSET_BITS: u32, S: Store<OFFSET_BITS>>(
     alloc: Global,
