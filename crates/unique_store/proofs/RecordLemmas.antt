@@ -67,10 +67,10 @@ module _ (ws : List ℕ) (record_of : IsValueRecord types.Text ws) where
   -- the first word, which is 0 in the record of an empty text
   pub text_first : slice_index ws 1 ≡ from_be_bytes w64 (take 8 (stored_text ws ++ replicate 8 0))
   text_first = elim (cases_lt 0 (length (stored_text ws))) [
-      inl some ↦ text_word 0 (omega arith)
+    | inl some ↦ text_word 0 (omega arith)
     | inr none ↦
-      ap (λ xs. slice_index xs 1) record_of.words
-      ∙ subst (λ text. slice_index (filled (value_words (values.Text text))) 1 ≡ from_be_bytes w64 (take 8 (text ++ replicate 8 0)))
+        ap (λ xs. slice_index xs 1) record_of.words
+        ∙ subst (λ text. slice_index (filled (value_words (values.Text text))) 1 ≡ from_be_bytes w64 (take 8 (text ++ replicate 8 0)))
         (sym (nil_from_length (stored_text ws) (omega arith))) refl
   ]
 
