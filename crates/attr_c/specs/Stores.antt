@@ -1,5 +1,6 @@
 -- How much of the store behind an engine is in use.
 use Rattle.std.specs.Prelude.{◌≡◌, ℕ, Bool}
+use Rattle.atomic_table.specs.Seated.{TableId}
 use Rattle.store_api.specs.Ledgers.{Ledger}
 use Rattle.store_api.specs.Usages.{IsUsage}
 use Rattle.store_api.specs.declared.store.Usage.{Usage}
@@ -18,13 +19,21 @@ abbrev pub ledger_over : {H : Type 0} → ℕ → H → WriterView → LedgerVie
 ledger_over bits home writer entries unit =
     ledger_of bits (view_of home writer) writer.sizes.shape (writer_records writer) (entries_of bits entries) unit
 
+abbrev pub open_ledger : AnyOpen → Ledger TableId
+open_ledger (Narrow o) =
+    let store = o.attribute.store in
+    ledger_over 22 store.work.place.table_id (writer_of store.work.place.me.0) store.entries store.unit
+open_ledger (Wide o) =
+    let store = o.attribute.store in
+    ledger_over 19 store.work.place.table_id (writer_of store.work.place.me.0) store.entries store.unit
+
+-- the bits of a reference for the place in a buffer
+abbrev pub open_bits : AnyOpen → ℕ
+open_bits (Narrow o) = 22
+open_bits (Wide o) = 19
+
 abbrev pub IsOpenUsage : AnyOpen → Usage → Type 0
-IsOpenUsage (Narrow o) usage =
-    let store = o.attribute.store in
-    IsUsage 22 (ledger_over 22 store.work.place.table_id (writer_of store.work.place.me.0) store.entries store.unit) usage
-IsOpenUsage (Wide o) usage =
-    let store = o.attribute.store in
-    IsUsage 19 (ledger_over 19 store.work.place.table_id (writer_of store.work.place.me.0) store.entries store.unit) usage
+IsOpenUsage o usage = IsUsage (open_bits o) (open_ledger o) usage
 
 -- the sizes of the memory behind an engine
 abbrev pub open_memory : AnyOpen → Sizes

@@ -1,8 +1,9 @@
 //! The documents of a save, put in one after another.
-ghost use Rattle.std.specs.Prelude.{◌≡◌, ◌+◌, true, length, IfOk, OnOk, OnErr, Ok};
+ghost use Rattle.std.specs.Prelude.{◌≡◌, ◌+◌, true, length, IfErr, IfOk, OnOk, OnErr, Ok};
 ghost use Rattle.attr_saver.specs.Fields.{read_of};
 ghost use Rattle.attr_types.specs.Table.{after_op};
 ghost use Rattle.attr_c.specs.Feeding.{Stays};
+ghost use Rattle.attr_c.specs.Stops.{IsBeforeStore, StopsOperation};
 ghost use Rattle.attr_c.specs.Loading.{put_of, IsSaveOf, LoadsFront, LoadsSave, PutsFront, PutsIn};
 
 use crate::feeding::apply;
@@ -51,6 +52,9 @@ fn apply_fitting<const OFFSET_BITS: u32, S: Store<OFFSET_BITS, Layout = AttrLayo
     ensures operations { OnOk result (open.new.attribute.operations ≡ open.old.attribute.operations + 1) }
     ensures left { OnErr result (Stays open.old.attribute.table open.new.attribute.table
         open.old.attribute.operations open.new.attribute.operations) }
+    ensures why { IfErr result (StopsOperation (S.ledger open.new.attribute.store) open.new.attribute.operations) }
+    ensures pool { open.new.pool ≡ open.old.pool }
+    ensures counts { open.new.counts ≡ open.old.counts }
     ensures commit { Stays open.old.attribute.committed open.new.attribute.committed
         open.old.attribute.committed_operations open.new.attribute.committed_operations }
     ensures fields { open.new.fields ≡ open.old.fields }
@@ -74,6 +78,9 @@ fn put_document<const OFFSET_BITS: u32, S: Store<OFFSET_BITS, Layout = AttrLayou
     ensures operations { OnOk result (open.new.attribute.operations ≡ open.old.attribute.operations + 1) }
     ensures left { OnErr result (Stays open.old.attribute.table open.new.attribute.table
         open.old.attribute.operations open.new.attribute.operations) }
+    ensures why { IfErr result (StopsOperation (S.ledger open.new.attribute.store) open.new.attribute.operations) }
+    ensures pool { open.new.pool ≡ open.old.pool }
+    ensures counts { open.new.counts ≡ open.old.counts }
     ensures commit { Stays open.old.attribute.committed open.new.attribute.committed
         open.old.attribute.committed_operations open.new.attribute.committed_operations }
     ensures fields { open.new.fields ≡ open.old.fields }
@@ -94,6 +101,9 @@ fn put_all<const OFFSET_BITS: u32, S: Store<OFFSET_BITS, Layout = AttrLayout>>(
         open.old.attribute.operations open.new.attribute.operations) }
     ensures front { OnErr result (PutsFront open.old.fields documents.items open.old.attribute.table open.new.attribute.table
         open.old.attribute.operations open.new.attribute.operations) }
+    ensures why { IfErr result (StopsOperation (S.ledger open.new.attribute.store) open.new.attribute.operations) }
+    ensures pool { open.new.pool ≡ open.old.pool }
+    ensures counts { open.new.counts ≡ open.old.counts }
     ensures commit { Stays open.old.attribute.committed open.new.attribute.committed
         open.old.attribute.committed_operations open.new.attribute.committed_operations }
     ensures fields { open.new.fields ≡ open.old.fields }
@@ -109,7 +119,9 @@ fn put_all<const OFFSET_BITS: u32, S: Store<OFFSET_BITS, Layout = AttrLayout>>(
 
 /// What bytes tell as a save.
 fn saved_in(alloc: Global, bytes: &[u8], told: &mut Told) -> Result<Saved, Stop>
-    ensures { IfOk result (λ saved. read_of bytes.now ≡ Ok saved) }
+    ensures saved { IfOk result (λ saved. read_of bytes.now ≡ Ok saved) }
+    ensures why { IfErr result IsBeforeStore }
+    ensures skipped { told.new.skipped ≡ told.old.skipped }
 {
     match read_saved(alloc, &mut SliceSource::new(bytes)) {
         Ok(saved) => Ok(saved),
@@ -133,6 +145,10 @@ pub fn load<const OFFSET_BITS: u32, S: Store<OFFSET_BITS, Layout = AttrLayout>>(
         open.old.attribute.operations open.new.attribute.operations) }
     ensures front { OnErr result (LoadsFront open.old.fields bytes.now open.old.attribute.table open.new.attribute.table
         open.old.attribute.operations open.new.attribute.operations) }
+    ensures why { IfErr result (StopsOperation (S.ledger open.new.attribute.store) open.new.attribute.operations) }
+    ensures pool { open.new.pool ≡ open.old.pool }
+    ensures counts { open.new.counts ≡ open.old.counts }
+    ensures skipped { told.new.skipped ≡ told.old.skipped }
     ensures commit { Stays open.old.attribute.committed open.new.attribute.committed
         open.old.attribute.committed_operations open.new.attribute.committed_operations }
     ensures fields { open.new.fields ≡ open.old.fields }

@@ -21,7 +21,7 @@ returns-clause-whole g c =
     let now = c.put_all.new.open.attribute in
     let is_of : IsSaveOf was.fields c.in-Ok.saved = c.is_of_fields.ensures c.if-not-is_of_fields.false in
     IfOk-weaker c.put_all.result _ _
-    (λ u puts. loads_whole was.fields was.attribute.table was.attribute.operations c.args.bytes.now now.table now.operations c.in-Ok.saved c.in-Ok.ensures is_of
+    (λ u puts. loads_whole was.fields was.attribute.table was.attribute.operations c.args.bytes.now now.table now.operations c.in-Ok.saved c.in-Ok.ensures.saved is_of
     (subst (λ (list : List SavedDocument). PutsIn was.fields list was.attribute.table now.table was.attribute.operations now.operations) c.into_vec.ensures puts))
     c.put_all.ensures.whole
 
@@ -30,6 +30,6 @@ returns-clause-front g c =
     let was = c.args.open.now in
     let now = c.put_all.new.open.attribute in
     IfErr-weaker c.put_all.result _ _
-    (λ stop front. loads_front was.fields was.attribute.table was.attribute.operations c.args.bytes.now now.table now.operations c.in-Ok.saved c.in-Ok.ensures
+    (λ stop front. loads_front was.fields was.attribute.table was.attribute.operations c.args.bytes.now now.table now.operations c.in-Ok.saved c.in-Ok.ensures.saved
     (subst (λ (list : List SavedDocument). PutsFront was.fields list was.attribute.table now.table was.attribute.operations now.operations) c.into_vec.ensures front))
     c.put_all.ensures.front

@@ -9,6 +9,8 @@ use Rattle.attr_c.proofs.loading.put_all.Goals as goal
 pub loop-document-init : goal.loop-document-init
 loop-document-init g c = record {
   puts = puts_none c.args.open.now.fields c.args.open.now.attribute.table c.args.open.now.attribute.operations;
+  pool = refl;
+  counts = refl;
   fields = refl;
   commit = record { table = refl; operations = refl };
   all = search rules;
@@ -26,6 +28,8 @@ loop-document-preserved g c =
     record {
       puts = puts_more was.fields was.attribute.table was.attribute.operations c.loop-document.yielded one mid.table now.table mid.operations now.operations i.puts table
           c.in-Ok.ensures.operations;
+      pool = c.in-Ok.ensures.pool ∙ i.pool;
+      counts = c.in-Ok.ensures.counts ∙ i.counts;
       fields = c.in-Ok.ensures.fields ∙ i.fields;
       commit = record { table = c.in-Ok.ensures.commit.table ∙ i.commit.table; operations = c.in-Ok.ensures.commit.operations ∙ i.commit.operations };
       all = moved_on c.loop-document.yielded (into_iter_items c.loop-document.document-iterator) (into_iter_items c.next.new.self) c.args.documents.items one rest i.all;
