@@ -10,7 +10,6 @@ use Rattle.attr_c.specs.declared.stop.Stop.{Stop}
 use Rattle.attr_c.specs.declared.stop.Stop.TheVariants as stops
 use Rattle.attr_c.specs.declared.told.Told.{Told}
 use Rattle.attribute_kinds.specs.Calls.{RefusesCommit, RefusesOperation}
-use Rattle.attribute_kinds.specs.Compacting.{RefusesKey}
 use Rattle.attribute_kinds.specs.declared.answers.AttrError.{AttrError}
 use Rattle.attribute_kinds.specs.declared.answers.AttrError.TheVariants as errors
 use Rattle.feed_reader.specs.declared.error.FeedError.{FeedError}
@@ -97,11 +96,7 @@ StopsOperation ledger operations (stops.Store error) = RefusedOperation ledger e
 StopsOperation ledger operations stops.Spent = operations ≡ 2 ^ 32 - 1
 StopsOperation ledger operations stop = Unit {0}
 
--- the store refused a commit, or a key of a compaction; nothing else stops these
+-- the store refused a commit; nothing else stops it
 abbrev pub StopsCommit : {H : Type 0} → Ledger H → Ledger H → Stop → Type 0
 StopsCommit old new (stops.Store error) = RefusesCommit old new error
 StopsCommit old new stop = ⊥
-
-abbrev pub StopsKey : {H : Type 0} → Ledger H → Ledger H → Stop → Type 0
-StopsKey old new (stops.Store error) = RefusesKey old new error
-StopsKey old new stop = ⊥

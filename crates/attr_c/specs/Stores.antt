@@ -10,7 +10,8 @@ use Rattle.word_arena.specs.Knows.{view_of}
 use Rattle.word_arena.specs.Ruled.{api_sizes, writer_of}
 use Rattle.gen_core.specs.Work.{writer_records}
 use Rattle.entry_ledger.specs.Ledgers.{LedgerView, entries_of}
-use Rattle.entry_store.specs.Standing.{ledger_of}
+use Rattle.entry_ref.specs.Records.{Records}
+use Rattle.entry_store.specs.Standing.{ledger_of, records_by_status, statuses}
 use Rattle.attr_c.specs.declared.state.AnyOpen.{AnyOpen}
 use Rattle.attr_c.specs.declared.state.AnyOpen.TheVariants.{Narrow, Wide}
 
@@ -18,6 +19,10 @@ use Rattle.attr_c.specs.declared.state.AnyOpen.TheVariants.{Narrow, Wide}
 abbrev pub ledger_over : {H : Type 0} → ℕ → H → WriterView → LedgerView → Bool → Ledger H
 ledger_over bits home writer entries unit =
     ledger_of bits (view_of home writer) writer.sizes.shape (writer_records writer) (entries_of bits entries) unit
+
+-- the records of such a store
+abbrev pub records_over : {H : Type 0} → ℕ → H → WriterView → LedgerView → Records
+records_over bits home writer entries = records_by_status (statuses (view_of home writer).commits (entries_of bits entries)) (writer_records writer)
 
 abbrev pub open_ledger : AnyOpen → Ledger TableId
 open_ledger (Narrow o) =

@@ -5,7 +5,9 @@ ghost use Rattle.attr_c.specs.Engines.{open_counts, open_waiting, KeepsWaiting, 
 ghost use Rattle.attr_c.specs.Feeding.{FedTo, Feeds, Stays, StopsFeed};
 ghost use Rattle.attr_c.specs.Holds.{with_skipped, CommitsAs};
 ghost use Rattle.attr_c.specs.Loading.{LoadsFront, LoadsSave};
-ghost use Rattle.attr_c.specs.Stops.{EndsBy, Stopped, StopsCommit, StopsKey, StopsOperation};
+ghost use Rattle.attr_c.specs.Compacting.{CompactsOpen, RefusesOpen, StepsAs, StopsStep};
+ghost use Rattle.attr_c.specs.Stops.{EndsBy, Stopped, StopsCommit, StopsOperation};
+ghost use Rattle.attribute_kinds.specs.Compacting.{CompactsTo, RefusesStep};
 ghost use Rattle.attr_c.specs.Stores.{open_bits, open_ledger, IsOpenUsage};
 ghost use Rattle.store_api.specs.Usages.{IsUsage};
 
@@ -49,6 +51,7 @@ fn ended(counts: &mut Counts, came: Result<(), Stop>, told: &mut Told) -> i32
     ensures same { result ≡ pos 0 → (counts.new ≡ counts.old) × (told.new ≡ told.old) }
     ensures ends { IfErr came (λ stop. EndsBy stop counts.old counts.new told.new result) }
     ensures skipped { told.new.skipped ≡ told.old.skipped }
+    ensures keys { told.new.keys ≡ told.old.keys }
     ensures line { told.new.line ≡ told.old.line }
     ensures place { told.new.place ≡ told.old.place }
     ensures operations { told.new.operations ≡ told.old.operations }
@@ -171,7 +174,11 @@ fn compact_told<const OFFSET_BITS: u32, S: Store<OFFSET_BITS, Layout = AttrLayou
     told: &mut Told,
 ) -> i32
     ensures counts { result ≡ pos 0 → open.new.counts ≡ open.old.counts }
-    ensures stopped { result ≢ pos 0 → Stopped (StopsKey (S.ledger open.old.attribute.store) (S.ledger open.new.attribute.store))
+    ensures steps { result ≡ pos 0 → StepsAs (CompactsTo OFFSET_BITS S.ledger S.records open.old.attribute open.new.attribute keys)
+        told.new }
+    ensures stopped { result ≢ pos 0 → Stopped
+        (StopsStep (CompactsTo OFFSET_BITS S.ledger S.records open.old.attribute open.new.attribute keys)
+        (RefusesStep OFFSET_BITS S.ledger S.records open.old.attribute open.new.attribute) told.new.keys)
         open.old.counts open.new.counts told.new result }
     ensures pool { open.new.pool ≡ open.old.pool }
     ensures table { open.new.attribute.table ≡ open.old.attribute.table }
@@ -194,7 +201,9 @@ pub extern "C" fn attr_compact(
 ) -> i32
     ensures tables { KeepsTables at.old.value.open at.new.value.open }
     ensures counts { result ≡ pos 0 → open_counts at.new.value.open ≡ open_counts at.old.value.open }
-    ensures stopped { result ≢ pos 0 → Stopped (StopsKey (open_ledger at.old.value.open) (open_ledger at.new.value.open))
+    ensures steps { result ≡ pos 0 → StepsAs (CompactsOpen at.old.value.open at.new.value.open keys) told.new }
+    ensures stopped { result ≢ pos 0 → Stopped (StopsStep (CompactsOpen at.old.value.open at.new.value.open keys)
+        (RefusesOpen at.old.value.open at.new.value.open) told.new.keys)
         (open_counts at.old.value.open) (open_counts at.new.value.open) told.new result }
     ensures waiting { KeepsWaiting at.old.value.open at.new.value.open }
 {

@@ -86,6 +86,7 @@ fn store_code(counts: &mut Counts, error: AttrError, told: &mut Told) -> i32
     ensures place { told.new.place ≡ told.old.place }
     ensures operations { told.new.operations ≡ told.old.operations }
     ensures skipped { told.new.skipped ≡ told.old.skipped }
+    ensures keys { told.new.keys ≡ told.old.keys }
 {
     match error {
         AttrError::Full {
@@ -112,6 +113,7 @@ pub fn code_of(counts: &mut Counts, stop: Stop, told: &mut Told) -> i32
     ensures ends { EndsBy stop counts.old counts.new told.new result }
     ensures failed { result ≢ pos 0 }
     ensures skipped { told.new.skipped ≡ told.old.skipped }
+    ensures keys { told.new.keys ≡ told.old.keys }
     ensures line { told.new.line ≡ told.old.line }
     ensures place { told.new.place ≡ told.old.place }
     ensures operations { told.new.operations ≡ told.old.operations }

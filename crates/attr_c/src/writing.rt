@@ -1,7 +1,9 @@
 //! Commits, and steps of a compaction.
 ghost use Rattle.std.specs.Prelude.{◌≡◌, IfErr, OnOk, OnErr};
 ghost use Rattle.attr_c.specs.Holds.{CommitsAs};
-ghost use Rattle.attr_c.specs.Stops.{StopsCommit, StopsKey};
+ghost use Rattle.attr_c.specs.Compacting.{StepsAs, StopsStep};
+ghost use Rattle.attr_c.specs.Stops.{StopsCommit};
+ghost use Rattle.attribute_kinds.specs.Compacting.{CompactsTo, RefusesStep};
 
 use crate::state::Open;
 use crate::stop::{Stop, note_advance, note_oldest};
@@ -53,7 +55,10 @@ pub fn compact<const OFFSET_BITS: u32, S: Store<OFFSET_BITS, Layout = AttrLayout
     keys: u32,
     told: &mut Told,
 ) -> Result<(), Stop>
-    ensures why { IfErr result (StopsKey (S.ledger open.old.attribute.store) (S.ledger open.new.attribute.store)) }
+    ensures steps { OnOk result (StepsAs (CompactsTo OFFSET_BITS S.ledger S.records open.old.attribute open.new.attribute keys)
+        told.new) }
+    ensures why { IfErr result (StopsStep (CompactsTo OFFSET_BITS S.ledger S.records open.old.attribute open.new.attribute keys)
+        (RefusesStep OFFSET_BITS S.ledger S.records open.old.attribute open.new.attribute) told.new.keys) }
     ensures pool { open.new.pool ≡ open.old.pool }
     ensures counts { open.new.counts ≡ open.old.counts }
     ensures table { open.new.attribute.table ≡ open.old.attribute.table }
@@ -62,6 +67,8 @@ pub fn compact<const OFFSET_BITS: u32, S: Store<OFFSET_BITS, Layout = AttrLayout
     ensures published { open.new.attribute.committed_operations ≡ open.old.attribute.committed_operations }
     ensures fields { open.new.fields ≡ open.old.fields }
 {
+    told.keys = 0;
+    told.finished = 0;
     match open.attribute.compact_step(alloc, keys) {
         Ok(Compacted::Idle) => Ok(()),
         Ok(Compacted::Moved { keys, stop: None }) => {
