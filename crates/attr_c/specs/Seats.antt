@@ -1,5 +1,5 @@
 -- What a reader's handle holds, as its callers see it, and what its calls say.
-use Rattle.std.specs.Prelude.{◌≡◌, ℕ, Bool, true, false, List, [], ◌∷◌, ◌++◌, length, Option, Some, None, Result, Ok}
+use Rattle.std.specs.Prelude.{◌≡◌, ◌≢◌, ℕ, Bool, true, false, List, [], ◌∷◌, ◌++◌, length, Option, Some, None, Result, Ok}
 use Rattle.gen_core.specs.Events.{released}
 use Rattle.word_arena.specs.Ruled.{reader_of, seen_number}
 use Rattle.attr_types.specs.Scores.{AskTree, answer_on, documents_in}
@@ -139,3 +139,33 @@ SeatsReader old new None = ⊥
 abbrev pub OpensSeat : AnyOpen → AnyOpen → Option Seat → Type 0
 OpensSeat old new (Some seat) = SeatsReader old new seat.place
 OpensSeat old new None = ⊥
+
+-- the readers that were not given away are the same
+abbrev pub SameWaiting : AnyOpen → AnyOpen → Type 0
+SameWaiting (opens.Narrow old) (opens.Narrow new) = new.pool.items ≡ old.pool.items
+SameWaiting (opens.Wide old) (opens.Wide new) = new.pool.items ≡ old.pool.items
+SameWaiting old new = ⊥
+
+-- the reader of a seat, without a guard
+abbrev pub IsReaderOf : Option Place → AnyReader → Type 0
+IsReaderOf (Some place) reader = Releases place reader
+IsReaderOf None reader = ⊥
+
+-- the reader of a seat is now the last that was not given away; the others are before it, as they were
+pub record TakesBack (old new : AnyOpen) (seat : Option Place) : Type 0 where
+  pub reader : AnyReader
+  pub is : IsReaderOf seat reader
+  pub last : TakesReader new old reader
+
+-- how many bits of a reference are for the place in a buffer
+abbrev pub open_bits : AnyOpen → ℕ
+open_bits (opens.Narrow o) = 22
+open_bits (opens.Wide o) = 19
+
+abbrev pub place_bits : Place → ℕ
+place_bits (Free r) = (reader_view r).reader.sizes.offset_bits
+place_bits (Kept k) = (kept_view k).reader.sizes.offset_bits
+
+-- a reader with the references of the other width
+abbrev pub IsForeign : AnyOpen → Place → Type 0
+IsForeign o place = place_bits place ≢ open_bits o
