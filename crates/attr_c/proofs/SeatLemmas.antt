@@ -5,7 +5,8 @@ use Rattle.attr_types.specs.Scores.{AskTree, answer_on, documents_in}
 use Rattle.query_text.specs.Asks.{ask_of}
 use Rattle.attr_c.specs.Kept.{KeptView, table_in}
 use Rattle.attr_c.specs.Said.{said}
-use Rattle.attr_c.specs.Seats.{AnswersText, CountsText, ByGuardOf, IsForeign, IsReaderOf, TellsCommit, open_bits}
+use Rattle.attr_c.specs.Seats.{AnswersText, CountsText, ByGuardOf, IsForeign, IsReaderOf, TellsCommit}
+use Rattle.attr_c.specs.Stores.{open_bits}
 use Rattle.attr_c.specs.declared.answer.Answer.{Answer}
 use Rattle.attr_c.specs.declared.seat.Place.{Place}
 use Rattle.attr_c.specs.declared.seat.Place.TheVariants.{Free, Kept}

@@ -44,8 +44,8 @@ open_waiting (Wide o) = length o.pool.items
 
 -- the readers that were not given away are the same
 abbrev pub KeepsWaiting : AnyOpen → AnyOpen → Type 0
-KeepsWaiting (Narrow old) (Narrow new) = new.pool ≡ old.pool
-KeepsWaiting (Wide old) (Wide new) = new.pool ≡ old.pool
+KeepsWaiting (Narrow old) (Narrow new) = new.pool.items ≡ old.pool.items
+KeepsWaiting (Wide old) (Wide new) = new.pool.items ≡ old.pool.items
 KeepsWaiting old new = ⊥
 
 -- a call that leaves the attributes, what was fed and what was committed as they were

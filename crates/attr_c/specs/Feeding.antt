@@ -82,9 +82,9 @@ RefusesLine fields bytes number (stops.Line error) = IfSome (row_of error) (λ r
 RefusesLine fields bytes number stop = Unit {0}
 
 -- why a feed stopped at its line of this number: the line is refused, or its operation was not applied
-pub record StopsFeed (fields : List Field) (bytes : List ℕ) (number : ℕ) (why : Stop → Type 0) (stop : Stop) : Type 0 where
-  pub line : RefusesLine fields bytes number stop
-  pub operation : why stop
+abbrev pub StopsFeed : List Field → List ℕ → ℕ → (Stop → Type 0) → Stop → Type 0
+StopsFeed fields bytes number why (stops.Line error) = RefusesLine fields bytes number (stops.Line error)
+StopsFeed fields bytes number why stop = why stop
 
 -- a whole feed: each of its operations was applied, in order, and so many of them changed nothing
 pub record Feeds (fields : List Field) (bytes : List ℕ) (old new : Table) (before after skipped : ℕ) : Type 0 where

@@ -7,6 +7,7 @@ use Rattle.attr_types.specs.declared.items.Item.{Item}
 use Rattle.query_text.specs.Asks.{ask_of}
 use Rattle.attr_c.specs.Kept.{KeptView, IsGuardOf, operations_of, table_in}
 use Rattle.attr_c.specs.Said.{said, items_of, save_of_table}
+use Rattle.attr_c.specs.Stores.{open_bits}
 use Rattle.attr_c.specs.declared.answer.Answer.{Answer}
 use Rattle.attr_c.specs.declared.answer.Answer.TheVariants.{Hits}
 use Rattle.attr_c.specs.declared.seat.AnyKept.{AnyKept}
@@ -140,12 +141,6 @@ abbrev pub OpensSeat : AnyOpen → AnyOpen → Option Seat → Type 0
 OpensSeat old new (Some seat) = SeatsReader old new seat.place
 OpensSeat old new None = ⊥
 
--- the readers that were not given away are the same
-abbrev pub SameWaiting : AnyOpen → AnyOpen → Type 0
-SameWaiting (opens.Narrow old) (opens.Narrow new) = new.pool.items ≡ old.pool.items
-SameWaiting (opens.Wide old) (opens.Wide new) = new.pool.items ≡ old.pool.items
-SameWaiting old new = ⊥
-
 -- the reader of a seat, without a guard
 abbrev pub IsReaderOf : Option Place → AnyReader → Type 0
 IsReaderOf (Some place) reader = Releases place reader
@@ -158,10 +153,6 @@ pub record TakesBack (old new : AnyOpen) (seat : Option Place) : Type 0 where
   pub last : TakesReader new old reader
 
 -- how many bits of a reference are for the place in a buffer
-abbrev pub open_bits : AnyOpen → ℕ
-open_bits (opens.Narrow o) = 22
-open_bits (opens.Wide o) = 19
-
 abbrev pub place_bits : Place → ℕ
 place_bits (Free r) = (reader_view r).reader.sizes.offset_bits
 place_bits (Kept k) = (kept_view k).reader.sizes.offset_bits

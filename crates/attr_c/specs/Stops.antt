@@ -79,22 +79,22 @@ pub record Stopped (cause : Stop → Type 0) (before after : Counts) (told : Tol
   pub is : cause stop
   pub ends : EndsBy stop before after told code
 
--- a stop before the store was asked
-abbrev pub IsBeforeStore : Stop → Type 0
-IsBeforeStore (stops.Store error) = ⊥
-IsBeforeStore stops.Spent = ⊥
-IsBeforeStore stop = Unit {0}
-
 -- the store refused an operation
 pub record RefusedOperation {H : Type 0} (ledger : Ledger H) (error : AttrError) : Type 0 where
   pub before : Ledger H
   pub refused : RefusesOperation before ledger error
 
--- why an operation was not applied: the store refused it, or the greatest number of operations was reached
+-- why an operation was not applied: the store refused it, the greatest number of operations was reached, or memory ran out
 abbrev pub StopsOperation : {H : Type 0} → Ledger H → ℕ → Stop → Type 0
 StopsOperation ledger operations (stops.Store error) = RefusedOperation ledger error
 StopsOperation ledger operations stops.Spent = operations ≡ 2 ^ 32 - 1
-StopsOperation ledger operations stop = Unit {0}
+StopsOperation ledger operations stops.Memory = Unit {0}
+StopsOperation ledger operations stop = ⊥
+
+-- the line was refused, or its operation was not applied
+abbrev pub LineOr : (Stop → Type 0) → Stop → Type 0
+LineOr why (stops.Line error) = Unit {0}
+LineOr why stop = why stop
 
 -- the store refused a commit; nothing else stops it
 abbrev pub StopsCommit : {H : Type 0} → Ledger H → Ledger H → Stop → Type 0

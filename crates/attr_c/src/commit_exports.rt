@@ -4,7 +4,7 @@ ghost use Rattle.attr_c.specs.Engines.{committed_of, committed_operations_of, fi
 ghost use Rattle.attr_c.specs.Engines.{open_counts, open_waiting, KeepsWaiting, TellsCounts};
 ghost use Rattle.attr_c.specs.Feeding.{FedTo, Feeds, Stays, StopsFeed};
 ghost use Rattle.attr_c.specs.Holds.{with_skipped, CommitsAs};
-ghost use Rattle.attr_c.specs.Loading.{LoadsFront, LoadsSave};
+ghost use Rattle.attr_c.specs.Loading.{LoadsFront, LoadsSave, StopsLoad};
 ghost use Rattle.attr_c.specs.Compacting.{CompactsOpen, RefusesOpen, StepsAs, StopsStep};
 ghost use Rattle.attr_c.specs.Stops.{EndsBy, Stopped, StopsCommit, StopsOperation};
 ghost use Rattle.attribute_kinds.specs.Compacting.{CompactsTo, RefusesStep};
@@ -228,7 +228,8 @@ fn load_told<const OFFSET_BITS: u32, S: Store<OFFSET_BITS, Layout = AttrLayout>>
     ensures count { open.new.attribute.operations ≡ open.old.attribute.operations + told.new.operations }
     ensures skipped { told.new.skipped ≡ told.old.skipped }
     ensures counts { result ≡ pos 0 → open.new.counts ≡ open.old.counts }
-    ensures stopped { result ≢ pos 0 → Stopped (StopsOperation (S.ledger open.new.attribute.store) open.new.attribute.operations)
+    ensures stopped { result ≢ pos 0 → Stopped (StopsLoad open.old.fields bytes.now told.new.place
+        (StopsOperation (S.ledger open.new.attribute.store) open.new.attribute.operations))
         open.old.counts open.new.counts told.new result }
     ensures pool { open.new.pool ≡ open.old.pool }
     ensures commit { Stays open.old.attribute.committed open.new.attribute.committed
@@ -256,7 +257,8 @@ pub extern "C" fn attr_load(
     ensures count { operations_of at.new.value ≡ operations_of at.old.value + told.new.operations }
     ensures skipped { told.new.skipped ≡ 0 }
     ensures counts { result ≡ pos 0 → open_counts at.new.value.open ≡ open_counts at.old.value.open }
-    ensures stopped { result ≢ pos 0 → Stopped (StopsOperation (open_ledger at.new.value.open) (operations_of at.new.value))
+    ensures stopped { result ≢ pos 0 → Stopped (StopsLoad (fields_of at.old.value) bytes.now told.new.place
+        (StopsOperation (open_ledger at.new.value.open) (operations_of at.new.value)))
         (open_counts at.old.value.open) (open_counts at.new.value.open) told.new result }
     ensures waiting { KeepsWaiting at.old.value.open at.new.value.open }
     ensures commit { Stays (committed_of at.old.value) (committed_of at.new.value)

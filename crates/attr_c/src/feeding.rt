@@ -5,7 +5,7 @@ ghost use Rattle.attr_types.specs.Table.{after_op};
 ghost use Rattle.feed_reader.specs.Lines.{lines_of};
 ghost use Rattle.attribute_kinds.specs.Calls.{applied_to};
 ghost use Rattle.attr_c.specs.Feeding.{skips_of, FedLine, FedTo, Feeds, IsOfNoLine, RefusesLine, Stays};
-ghost use Rattle.attr_c.specs.Stops.{StopsOperation};
+ghost use Rattle.attr_c.specs.Stops.{LineOr, StopsOperation};
 
 use crate::line::operation_in;
 use crate::split::split_line;
@@ -57,7 +57,7 @@ fn feed_line<const OFFSET_BITS: u32, S: Store<OFFSET_BITS, Layout = AttrLayout>>
     ensures fed { FedLine open.old.fields line.now open.old.attribute.table open.new.attribute.table
         open.old.attribute.operations open.new.attribute.operations result }
     ensures few { IfOk result (λ applied. IfSome applied (λ _. open.new.attribute.operations < 2 ^ 32)) }
-    ensures why { IfErr result (StopsOperation (S.ledger open.new.attribute.store) open.new.attribute.operations) }
+    ensures why { IfErr result (LineOr (StopsOperation (S.ledger open.new.attribute.store) open.new.attribute.operations)) }
     ensures pool { open.new.pool ≡ open.old.pool }
     ensures counts { open.new.counts ≡ open.old.counts }
     ensures commit { Stays open.old.attribute.committed open.new.attribute.committed
@@ -99,7 +99,7 @@ pub fn feed<const OFFSET_BITS: u32, S: Store<OFFSET_BITS, Layout = AttrLayout>>(
         open.old.attribute.table open.new.attribute.table open.old.attribute.operations open.new.attribute.operations
         told.new.skipped) }
     ensures refused { IfErr result (RefusesLine open.old.fields bytes.now told.new.line) }
-    ensures why { IfErr result (StopsOperation (S.ledger open.new.attribute.store) open.new.attribute.operations) }
+    ensures why { IfErr result (LineOr (StopsOperation (S.ledger open.new.attribute.store) open.new.attribute.operations)) }
     ensures pool { open.new.pool ≡ open.old.pool }
     ensures counts { open.new.counts ≡ open.old.counts }
     ensures commit { Stays open.old.attribute.committed open.new.attribute.committed

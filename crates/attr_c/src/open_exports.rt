@@ -3,9 +3,9 @@ ghost use Rattle.std.specs.Prelude.{◌≡◌, ◌≢◌, [], ◌∷◌, ◌++�
 ghost use Rattle.std.specs.Str.{IsUtf8};
 ghost use Rattle.word_arena.specs.Ruled.{reader_of};
 ghost use Rattle.attr_c.specs.Attributes.{fields_in};
-ghost use Rattle.attr_c.specs.Engines.{KeepsTables, open_counts};
+ghost use Rattle.attr_c.specs.Engines.{open_counts, KeepsTables, KeepsWaiting};
 ghost use Rattle.attr_c.specs.Opening.{InBounds, Opens, OpensEngine, RefusesOpening};
-ghost use Rattle.attr_c.specs.Seats.{HasNoReader, IsForeign, IsReaderOf, OpensSeat, SameWaiting, TakesBack, TakesReader};
+ghost use Rattle.attr_c.specs.Seats.{HasNoReader, IsForeign, IsReaderOf, OpensSeat, TakesBack, TakesReader};
 ghost use Rattle.attr_c.specs.declared.codes.TheConstants.{ATTRIBUTES, BOUNDS, LOST, MEMORY, NO_READER, NO_TEXT, OK};
 
 use crate::attributes::fields_in;
@@ -144,7 +144,7 @@ fn put_back(open: &mut AnyOpen, reader: AnyReader) -> i32
     ensures returned { result ≡ OK → TakesReader open.new open.old reader }
     ensures lost { result ≡ LOST → IsForeign open.old (Place.Free reader) }
     ensures others { result ≢ OK → result ≢ LOST → result ≡ MEMORY }
-    ensures left { result ≢ OK → SameWaiting open.old open.new }
+    ensures left { result ≢ OK → KeepsWaiting open.old open.new }
     ensures keeps { KeepsTables open.old open.new }
     ensures counts { open_counts open.new ≡ open_counts open.old }
 {
@@ -197,7 +197,7 @@ pub extern "C" fn attr_reader_return(alloc: Global, at: &mut HeldEngine, seat: H
     ensures returned { result ≡ OK → TakesBack at.old.value.open at.new.value.open seat.value.place }
     ensures lost { result ≡ LOST → IfSome seat.value.place (IsForeign at.old.value.open) }
     ensures others { result ≢ OK → result ≢ LOST → result ≡ MEMORY }
-    ensures left { result ≢ OK → SameWaiting at.old.value.open at.new.value.open }
+    ensures left { result ≢ OK → KeepsWaiting at.old.value.open at.new.value.open }
     ensures keeps { KeepsTables at.old.value.open at.new.value.open }
     ensures counts { open_counts at.new.value.open ≡ open_counts at.old.value.open }
 {

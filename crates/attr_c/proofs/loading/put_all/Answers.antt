@@ -1,9 +1,11 @@
-use Rattle.std.proofs.Common.{◌≡◌, ◌∷◌, List, ap, refl, ◌∙◌, rules}
+use Rattle.std.proofs.Common.{◌≡◌, ◌∷◌, List, ap, refl, subst, sym, ◌∙◌, rules}
 use Rattle.std.specs.Vec.Iter.{into_iter_items}
+use Rattle.attr_saver.specs.declared.saved.SavedDocument.{SavedDocument}
+use Rattle.attr_types.specs.Lawful.{OpFits}
 use Rattle.attr_types.specs.Table.{after_op}
 use Rattle.attr_types.specs.declared.field.Field.{Field}
 use Rattle.attr_c.specs.Loading.{put_of}
-use Rattle.attr_c.proofs.LoadLemmas.{moved_on, puts_front, puts_more, puts_none}
+use Rattle.attr_c.proofs.LoadLemmas.{moved_on, one_of_all, puts_front, puts_more, puts_none}
 use Rattle.attr_c.proofs.loading.put_all.Goals as goal
 
 pub loop-document-init : goal.loop-document-init
@@ -43,3 +45,12 @@ returns-in-Err-clause-front g c =
     let i = c.loop-document.invariant in
     puts_front was.fields was.attribute.table was.attribute.operations c.loop-document.yielded (into_iter_items c.loop-document.document-iterator) c.args.documents.items mid.table now.table
     mid.operations now.operations i.all i.puts c.in-Err.ensures.left
+
+pub put_document-requires : goal.put_document-requires
+put_document-requires g c =
+    let i = c.loop-document.invariant in
+    let one = c.in-Some.document in
+    let rest : into_iter_items c.loop-document.document-iterator ≡ one ∷ into_iter_items c.next.new.self = search rules in
+    subst (λ (fs : List Field). OpFits fs (put_of one)) (sym i.fields)
+    (one_of_all (λ (d : SavedDocument). OpFits c.args.open.now.fields (put_of d)) c.loop-document.yielded (into_iter_items c.loop-document.document-iterator) (into_iter_items c.next.new.self)
+        c.args.documents.items one rest i.all c.requires)

@@ -1,6 +1,7 @@
 use Rattle.std.proofs.Common.{◌≡◌, ap, subst, sym, ◌∙◌, w32}
 use Rattle.std.proofs.lemmas.Int.{to_z-of_z}
-use Rattle.attr_c.specs.Seats.{IsForeign, SameWaiting, TakesReader}
+use Rattle.attr_c.specs.Engines.{KeepsWaiting}
+use Rattle.attr_c.specs.Seats.{IsForeign, TakesReader}
 use Rattle.attr_c.specs.declared.seat.Place.TheVariants.{Free}
 use Rattle.attr_c.specs.declared.state.AnyOpen.{AnyOpen}
 use Rattle.attr_c.specs.declared.state.Engine.{Engine}
@@ -33,4 +34,4 @@ pub returns-in-Some-clause-left : goal.returns-in-Some-clause-left
 returns-in-Some-clause-left c = λ not_ok.
     let back = to_z-of_z w32 c.put_back.result (record { sfits = c.put_back.type_inv }) in
     let was = ap (λ (e : Engine). e.open) c.get_mut-engine.ensures.value in
-    subst (λ (o : AnyOpen). SameWaiting o c.put_back.new.open) was (c.put_back.ensures.left (λ is. not_ok (back ∙ is)))
+    subst (λ (o : AnyOpen). KeepsWaiting o c.put_back.new.open) was (c.put_back.ensures.left (λ is. not_ok (back ∙ is)))
