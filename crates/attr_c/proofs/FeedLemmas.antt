@@ -1,5 +1,6 @@
 -- What one line says, and what lines say one after another.
-use Rattle.std.proofs.Common.{if◌then◌else◌, Bool, ◌≡◌, ℕ, ◌+◌, ◌-◌, ◌^◌, ◌<◌, ◌≤◌, drop, slice_index_or, true, false, List, [], ◌∷◌, ◌++◌, length, Result, Ok, Err, Option, Some, None, refl, sym, ◌∙◌, ap, subst, arith, length-append}
+use Rattle.std.proofs.Common.{if◌then◌else◌, Bool, ◌≡◌, ℕ, ◌+◌, ◌-◌, ◌^◌, ◌<◌, ◌≤◌, drop, slice_index_or, true, false, List, []}
+use Rattle.std.proofs.Common.{◌∷◌, ◌++◌, length, Result, Ok, Err, Option, Some, None, refl, sym, ◌∙◌, ap, subst, arith, length-append}
 use Rattle.std.specs.List.{AllByRecursion}
 use Rattle.std.specs.Prelude.{IfSome}
 use Rattle.std.proofs.lemmas.List.{drop-drop}
@@ -29,7 +30,8 @@ pub record IsOneOp (fields : List Field) (line : List ℕ) (ops : List Op) : Typ
   pub says : op_of_line fields line ≡ Ok op
   pub fits : OpFits fields op
 
-one_op : (fields : List Field) (line : List ℕ) (ops : List Op) (r : Result Op Refusal) → op_of_line fields line ≡ r → with_op 1 r (Ok []) ≡ Ok ops → AllByRecursion (OpFits fields) ops → IsOneOp fields line ops
+one_op : (fields : List Field) (line : List ℕ) (ops : List Op) (r : Result Op Refusal) → op_of_line fields line ≡ r → with_op 1 r (Ok []) ≡ Ok ops
+    → AllByRecursion (OpFits fields) ops → IsOneOp fields line ops
 one_op fields line [] (Ok op) is e fit = cc
 one_op fields line (other ∷ []) (Ok op) is e fit =
     let same : op ∷ [] ≡ other ∷ [] = cc in

@@ -33,10 +33,12 @@ StopsStep steps refuses keys (stops.Store error) = (refuses error × (keys ≡ 0
 StopsStep steps refuses keys stop = ⊥
 
 -- the attributes of an engine, and the ledger and the records of its store
-abbrev pub compacts_by : {S H : Type 0} → AttributeView S → AttributeView S → ℕ → (S → Ledger H) → (S → Records) → ℕ → Compacted → Type 0
+abbrev pub compacts_by : {S H : Type 0} → AttributeView S → AttributeView S → ℕ → (S → Ledger H) → (S → Records)
+    → ℕ → Compacted → Type 0
 compacts_by old new bits ledger records keys compacted = CompactsTo bits ledger records old new keys compacted
 
-abbrev pub refuses_by : {S H : Type 0} → AttributeView S → AttributeView S → ℕ → (S → Ledger H) → (S → Records) → AttrError → Type 0
+abbrev pub refuses_by : {S H : Type 0} → AttributeView S → AttributeView S → ℕ → (S → Ledger H) → (S → Records)
+    → AttrError → Type 0
 refuses_by old new bits ledger records error = RefusesStep bits ledger records old new error
 
 abbrev pub CompactsOpen : AnyOpen → AnyOpen → ℕ → Compacted → Type 0

@@ -57,7 +57,8 @@ FedLine fields line old new before after (Err stop) = Stays old new before after
 
 -- a feed up to one of its lines: these operations were applied, and they are those of the feed before the rest, whose
 -- first line has this number; so many of them changed nothing
-pub record FedTo (fields : List Field) (bytes : List ℕ) (number : ℕ) (rest : List ℕ) (old new : Table) (before after skipped : ℕ) : Type 0 where
+pub record FedTo (fields : List Field) (bytes : List ℕ) (number : ℕ) (rest : List ℕ) (old new : Table)
+    (before after skipped : ℕ) : Type 0 where
   pub ops : List Op
   pub said : with_front ops (ops_of_lines fields number (lines_of rest)) ≡ feed_of fields bytes
   pub table : new ≡ after_ops fields old ops

@@ -1,5 +1,6 @@
 -- What a reader's handle holds, as its callers see it, and what its calls say.
-use Rattle.std.specs.Prelude.{◌≡◌, ◌≢◌, ℕ, Bool, true, false, List, [], ◌∷◌, ◌++◌, length, Option, Some, None, Result, Ok}
+use Rattle.std.specs.Prelude.{◌≡◌, ◌≢◌, ℕ, Bool, true, false, List, [], ◌∷◌, ◌++◌, length}
+use Rattle.std.specs.Prelude.{Option, Some, None, Result, Ok}
 use Rattle.gen_core.specs.Events.{released}
 use Rattle.word_arena.specs.Ruled.{reader_of, seen_number}
 use Rattle.attr_types.specs.Scores.{AskTree, answer_on, documents_in}

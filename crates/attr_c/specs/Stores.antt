@@ -22,7 +22,8 @@ ledger_over bits home writer entries unit =
 
 -- the records of such a store
 abbrev pub records_over : {H : Type 0} → ℕ → H → WriterView → LedgerView → Records
-records_over bits home writer entries = records_by_status (statuses (view_of home writer).commits (entries_of bits entries)) (writer_records writer)
+records_over bits home writer entries =
+    records_by_status (statuses (view_of home writer).commits (entries_of bits entries)) (writer_records writer)
 
 abbrev pub open_ledger : AnyOpen → Ledger TableId
 open_ledger (Narrow o) =

@@ -34,7 +34,8 @@ returns-in-Narrow-clause-stopped c = λ not.
     let now = c.feed_told.new.open in
     let told = c.feed_told.new.told in
     let code = to_z-of_z w32 c.feed_told.result (record { sfits = c.feed_told.type_inv }) in
-    subst (λ (o : AnyOpen). Stopped (StopsFeed (open_fields o) c.args.bytes.now told.line (StopsOperation (open_ledger (Narrow now)) now.attribute.operations)) (with_skipped told.skipped (open_counts o)) now.counts told (to_z w32 (of_z w32 c.feed_told.result))) (sym is)
+    subst (λ (o : AnyOpen). Stopped (StopsFeed (open_fields o) c.args.bytes.now told.line (StopsOperation (open_ledger (Narrow now)) now.attribute.operations))
+    (with_skipped told.skipped (open_counts o)) now.counts told (to_z w32 (of_z w32 c.feed_told.result))) (sym is)
     (stopped_as _ _ _ _ _ _ code (c.feed_told.ensures.stopped (λ zero. not (ap (λ (z : ℤ). to_z w32 (of_z w32 z)) zero))))
 
 pub returns-in-Wide-clause-stopped : goal.returns-in-Wide-clause-stopped
@@ -43,5 +44,6 @@ returns-in-Wide-clause-stopped c = λ not.
     let now = c.feed_told-in-Wide.new.open in
     let told = c.feed_told-in-Wide.new.told in
     let code = to_z-of_z w32 c.feed_told-in-Wide.result (record { sfits = c.feed_told-in-Wide.type_inv }) in
-    subst (λ (o : AnyOpen). Stopped (StopsFeed (open_fields o) c.args.bytes.now told.line (StopsOperation (open_ledger (Wide now)) now.attribute.operations)) (with_skipped told.skipped (open_counts o)) now.counts told (to_z w32 (of_z w32 c.feed_told-in-Wide.result))) (sym is)
+    subst (λ (o : AnyOpen). Stopped (StopsFeed (open_fields o) c.args.bytes.now told.line (StopsOperation (open_ledger (Wide now)) now.attribute.operations))
+    (with_skipped told.skipped (open_counts o)) now.counts told (to_z w32 (of_z w32 c.feed_told-in-Wide.result))) (sym is)
     (stopped_as _ _ _ _ _ _ code (c.feed_told-in-Wide.ensures.stopped (λ zero. not (ap (λ (z : ℤ). to_z w32 (of_z w32 z)) zero))))

@@ -31,7 +31,8 @@ returns-in-Narrow-clause-stopped c = λ not.
     let now = c.load_told.new.open in
     let told = c.load_told.new.told in
     let code = to_z-of_z w32 c.load_told.result (record { sfits = c.load_told.type_inv }) in
-    subst (λ (o : AnyOpen). Stopped (StopsLoad (open_fields o) c.args.bytes.now told.place (StopsOperation (open_ledger (Narrow now)) now.attribute.operations)) (open_counts o) now.counts told (to_z w32 (of_z w32 c.load_told.result))) (sym is)
+    subst (λ (o : AnyOpen). Stopped (StopsLoad (open_fields o) c.args.bytes.now told.place (StopsOperation (open_ledger (Narrow now)) now.attribute.operations))
+    (open_counts o) now.counts told (to_z w32 (of_z w32 c.load_told.result))) (sym is)
     (stopped_as _ _ _ _ _ _ code (c.load_told.ensures.stopped (λ zero. not (ap (λ (z : ℤ). to_z w32 (of_z w32 z)) zero))))
 
 pub returns-in-Wide-clause-stopped : goal.returns-in-Wide-clause-stopped
@@ -40,5 +41,6 @@ returns-in-Wide-clause-stopped c = λ not.
     let now = c.load_told-in-Wide.new.open in
     let told = c.load_told-in-Wide.new.told in
     let code = to_z-of_z w32 c.load_told-in-Wide.result (record { sfits = c.load_told-in-Wide.type_inv }) in
-    subst (λ (o : AnyOpen). Stopped (StopsLoad (open_fields o) c.args.bytes.now told.place (StopsOperation (open_ledger (Wide now)) now.attribute.operations)) (open_counts o) now.counts told (to_z w32 (of_z w32 c.load_told-in-Wide.result))) (sym is)
+    subst (λ (o : AnyOpen). Stopped (StopsLoad (open_fields o) c.args.bytes.now told.place (StopsOperation (open_ledger (Wide now)) now.attribute.operations))
+    (open_counts o) now.counts told (to_z w32 (of_z w32 c.load_told-in-Wide.result))) (sym is)
     (stopped_as _ _ _ _ _ _ code (c.load_told-in-Wide.ensures.stopped (λ zero. not (ap (λ (z : ℤ). to_z w32 (of_z w32 z)) zero))))

@@ -35,4 +35,5 @@ returns-clause-stopped g c = λ not.
     let code = to_z-of_z w32 c.ended.result (record { sfits = c.ended.type_inv }) in
     let failed = c.ended.ensures.other (λ zero. not (ap (λ (z : ℤ). to_z w32 (of_z w32 z)) zero)) in
     stopped_as _ _ _ _ _ _ code
-    (stopped_of (StopsCommit (ledger was.attribute.store) (ledger now.attribute.store)) c.commit-came.result was.counts _ c.ended.new.counts c.ended.new.told c.ended.result (on_err_of c.commit-came.result failed c.commit-came.ensures.still) failed c.commit-came.ensures.why c.ended.ensures.ends)
+    (stopped_of (StopsCommit (ledger was.attribute.store) (ledger now.attribute.store)) c.commit-came.result was.counts _ c.ended.new.counts c.ended.new.told c.ended.result
+    (on_err_of c.commit-came.result failed c.commit-came.ensures.still) failed c.commit-came.ensures.why c.ended.ensures.ends)

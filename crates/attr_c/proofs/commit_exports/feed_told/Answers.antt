@@ -7,11 +7,13 @@ use Rattle.attr_c.specs.Holds.{with_skipped}
 use Rattle.attr_c.proofs.commit_exports.feed_told.Goals as goal
 
 pub returns-clause-whole : goal.returns-clause-whole
-returns-clause-whole g c = λ zero. rw (c.ended.ensures.skipped) (on_ok_of c.feed-came.result (c.ended.ensures.ok (sym (to_z-of_z w32 c.ended.result (record { sfits = c.ended.type_inv })) ∙ zero)) c.feed-came.ensures.whole)
+returns-clause-whole g c = λ zero.
+    rw (c.ended.ensures.skipped) (on_ok_of c.feed-came.result (c.ended.ensures.ok (sym (to_z-of_z w32 c.ended.result (record { sfits = c.ended.type_inv })) ∙ zero)) c.feed-came.ensures.whole)
 
 pub returns-clause-front : goal.returns-clause-front
 returns-clause-front g c = λ not.
-    rw (c.ended.ensures.line, c.ended.ensures.place, c.ended.ensures.skipped) (on_err_of c.feed-came.result (c.ended.ensures.other (λ zero. not (ap (λ (z : ℤ). to_z w32 (of_z w32 z)) zero))) c.feed-came.ensures.front)
+    rw (c.ended.ensures.line, c.ended.ensures.place, c.ended.ensures.skipped)
+    (on_err_of c.feed-came.result (c.ended.ensures.other (λ zero. not (ap (λ (z : ℤ). to_z w32 (of_z w32 z)) zero))) c.feed-came.ensures.front)
 
 pub returns-clause-stopped : goal.returns-clause-stopped
 returns-clause-stopped g c = λ not.

@@ -28,5 +28,5 @@ returns-clause-stopped g c = λ not.
     let failed = c.ended.ensures.other (λ zero. not (ap (λ (z : ℤ). to_z w32 (of_z w32 z)) zero)) in
     subst (λ (n : ℕ). Stopped (StopsLoad was.fields bytes n why) was.counts c.ended.new.counts told (to_z w32 (of_z w32 c.ended.result))) (sym c.ended.ensures.place)
     (stopped_as _ _ _ _ _ _ code
-        (stopped_of (StopsLoad was.fields bytes c.load-came.new.told.place why) c.load-came.result was.counts _ c.ended.new.counts told c.ended.result c.load-came.ensures.counts failed
-            c.load-came.ensures.why c.ended.ensures.ends))
+    (stopped_of (StopsLoad was.fields bytes c.load-came.new.told.place why) c.load-came.result was.counts _ c.ended.new.counts told c.ended.result c.load-came.ensures.counts failed
+    c.load-came.ensures.why c.ended.ensures.ends))

@@ -74,4 +74,5 @@ pub returns-clause-whole : goal.returns-clause-whole
 returns-clause-whole g c =
     let was = c.args.open.now in
     let mid = c.loop-rest.open.attribute in
-    fed_whole was.fields c.args.bytes.now was.attribute.table mid.table was.attribute.operations mid.operations c.loop-rest.told.skipped (c.loop-rest.passed + 1) c.loop-rest.rest.now (search rules) c.loop-rest.invariant.fed
+    fed_whole was.fields c.args.bytes.now was.attribute.table mid.table was.attribute.operations mid.operations c.loop-rest.told.skipped (c.loop-rest.passed + 1)
+    c.loop-rest.rest.now (search rules) c.loop-rest.invariant.fed

@@ -1,4 +1,4 @@
-use Rattle.std.proofs.Common.{List, refl, sym, subst}
+use Rattle.std.proofs.Common.{List, refl, sym, subst, rules}
 use Rattle.std.specs.List.{AllByRecursion}
 use Rattle.std.proofs.lemmas.Result.{IfErr-weaker, IfOk-weaker}
 use Rattle.attr_saver.specs.declared.saved.SavedDocument.{SavedDocument}
@@ -41,10 +41,11 @@ pub put_all-requires : goal.put_all-requires
 put_all-requires g c =
     let fields = c.args.open.now.fields in
     let is_of : IsSaveOf fields c.in-Ok.saved = c.is_of_fields.ensures.yes c.if-not-is_of_fields.false in
-    subst (λ (list : List SavedDocument). AllByRecursion (λ d. OpFits fields (put_of d)) list) (sym c.into_vec.ensures) (puts_fit fields c.in-Ok.saved is_of c.in-Ok.ensures.lawful)
+    let fit = subst (λ (list : List SavedDocument). AllByRecursion (λ d. OpFits fields (put_of d)) list) (sym c.into_vec.ensures) (puts_fit fields c.in-Ok.saved is_of c.in-Ok.ensures.lawful) in
+    (search rules, fit)
 
 pub returns-in-Err-clause-why : goal.returns-in-Err-clause-why
-returns-in-Err-clause-why g c = save_or _ _ _ _ _ c.in-Err.stop c.in-Err.ensures
+returns-in-Err-clause-why g c = save_or _ _ _ _ _ c.in-Err.stop c.in-Err.ensures.why
 
 pub returns-then-not-is_of_fields-clause-why : goal.returns-then-not-is_of_fields-clause-why
 returns-then-not-is_of_fields-clause-why g c =
@@ -52,4 +53,3 @@ returns-then-not-is_of_fields-clause-why g c =
 
 pub returns-clause-why : goal.returns-clause-why
 returns-clause-why g c = IfErr-weaker c.put_all.result _ _ (λ stop why. load_or _ _ _ _ _ stop why) c.put_all.ensures.why
-

@@ -51,6 +51,7 @@ put_document-requires g c =
     let i = c.loop-document.invariant in
     let one = c.in-Some.document in
     let rest : into_iter_items c.loop-document.document-iterator ≡ one ∷ into_iter_items c.next.new.self = search rules in
-    subst (λ (fs : List Field). OpFits fs (put_of one)) (sym i.fields)
+    let fit = subst (λ (fs : List Field). OpFits fs (put_of one)) (sym i.fields)
     (one_of_all (λ (d : SavedDocument). OpFits c.args.open.now.fields (put_of d)) c.loop-document.yielded (into_iter_items c.loop-document.document-iterator) (into_iter_items c.next.new.self)
-        c.args.documents.items one rest i.all c.requires)
+    c.args.documents.items one rest i.all c.requires) in
+    (search rules, fit)
