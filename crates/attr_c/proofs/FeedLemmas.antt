@@ -12,7 +12,7 @@ use Rattle.feed_reader.specs.declared.error.FeedError.{FeedError}
 use Rattle.feed_reader.specs.declared.error.FeedError.TheVariants as errors
 use Rattle.feed_reader.specs.declared.refusal.Refusal.TheVariants as refusals
 use Rattle.feed_reader.specs.declared.refusal.LineError.TheVariants as line_errors
-use Rattle.feed_reader.specs.Feed.{Fault, feed_of, ops_of_lines, with_op, with_front, FeedFailsBy}
+use Rattle.feed_reader.specs.Feed.{feed_of, ops_of_lines, with_op, with_front, FeedFailsBy}
 use Rattle.feed_reader.specs.Grammar.{op_of_line}
 use Rattle.feed_reader.specs.Lines.{lines_of, is_blank}
 use Rattle.feed_reader.proofs.FeedLemmas.{lines_blank, lines_more, lines_end, lines_error, lines_start}
@@ -20,7 +20,7 @@ use Rattle.attr_types.specs.Table.{Table, after_op, after_ops, is_skipped, skipp
 use Rattle.attr_types.specs.declared.applied.Applied.{Applied}
 use Rattle.attr_types.specs.declared.applied.Applied.TheVariants.{Changed, Skipped}
 use Rattle.attribute_kinds.specs.Calls.{applied_to}
-use Rattle.attr_c.specs.Feeding.{skips_of, AppliesLine, Stays, SaysLine, FedLine, FedTo, Feeds, IsOfNoLine, RefusesLine, row_of}
+use Rattle.attr_c.specs.Feeding.{skips_of, AppliesLine, Stays, SaysLine, FedLine, FedTo, Feeds, IsOfNoLine, RefusesLine}
 use Rattle.attr_c.specs.declared.stop.Stop.{Stop}
 use Rattle.attr_c.specs.declared.stop.Stop.TheVariants as stops
 

@@ -1,6 +1,5 @@
 -- Why a call of the writer stops: its code, its cause, and what is told of a full store.
 use Rattle.std.specs.Prelude.{◌≡◌, ◌-◌, ◌^◌, ℕ, ℤ}
-use Rattle.arena_api.specs.declared.answers.Oldest.{Oldest}
 use Rattle.attr_c.specs.Holds.{with_oldest}
 use Rattle.attr_c.specs.declared.codes.TheConstants.{MEMORY, FULL, COMMITS_SPENT, OPERATIONS_SPENT}
 use Rattle.attr_c.specs.declared.codes.TheConstants.{NOT_JSON, NO_OPERATION, BAD_ID, BAD_VALUE, UNSUPPORTED, TOO_MANY_ITEMS}

@@ -1,4 +1,4 @@
-use Rattle.std.proofs.Common.{ℤ, ap, sym, ◌∙◌, w32, to_z, of_z, ◌≡◌, ℕ, subst}
+use Rattle.std.proofs.Common.{ℤ, ap, sym, ◌∙◌, w32, to_z, of_z, ℕ, subst}
 use Rattle.std.proofs.lemmas.Int.{to_z-of_z}
 use Rattle.attr_c.proofs.EndLemmas.{on_err_of, on_ok_of, feed_stops, stopped_as, stopped_of}
 use Rattle.attr_c.specs.Stops.{Stopped, StopsOperation}

@@ -1,4 +1,3 @@
-use Rattle.std.proofs.Common.{ℕ}
 use Rattle.attr_c.proofs.EndLemmas.{line_or}
 use Rattle.attr_c.proofs.FeedLemmas.{fed_stopped}
 use Rattle.attr_c.proofs.feeding.feed_line.Goals as goal

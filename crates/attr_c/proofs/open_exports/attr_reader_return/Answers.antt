@@ -1,4 +1,4 @@
-use Rattle.std.proofs.Common.{◌≡◌, ap, subst, sym, ◌∙◌, w32}
+use Rattle.std.proofs.Common.{ap, subst, sym, ◌∙◌, w32}
 use Rattle.std.proofs.lemmas.Int.{to_z-of_z}
 use Rattle.attr_c.specs.Engines.{KeepsWaiting}
 use Rattle.attr_c.specs.Seats.{IsForeign, TakesReader}

@@ -1,5 +1,4 @@
-use Rattle.std.proofs.Common.{◌≡◌, ◌∙◌, rules, w32, to_z, of_z}
-use Rattle.attr_c.specs.Engines.{KeepsWaiting}
+use Rattle.std.proofs.Common.{◌≡◌, ◌∙◌, rules, w32, to_z}
 use Rattle.attr_c.proofs.open_exports.put_back.Goals as goal
 use Rattle.attr_c.proofs.open_exports.put_back.Goals.{in-Narrow-Narrow, in-Narrow-Wide, in-Wide-Wide, in-Wide-Narrow}
 
