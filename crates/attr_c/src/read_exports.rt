@@ -72,7 +72,8 @@ fn answer_in(
     text: &[u8],
     told: &mut Answered,
 ) -> Result<Answer, i32>
-    ensures answers { IfOk result (λ answer. ByGuardOf seat.old.place seat.new.place (λ guard. AnswersText guard text.now told.new answer)) }
+    ensures answers { IfOk result (λ answer. ByGuardOf seat.old.place seat.new.place
+        (λ guard. AnswersText guard text.now told.new answer)) }
     ensures keeps { seat.new.answer ≡ seat.old.answer }
     ensures items { seat.new.items ≡ seat.old.items }
     ensures saved { seat.new.saved ≡ seat.old.saved }
