@@ -100,8 +100,9 @@ struct attr_sizes { uint32_t buffers, words, readers, wide, dense; };
  *
  *     year:single:long,tags:weightedset:string
  *
- * Writes the handle's pointer to *out, which is &engine.at of an attr_engine. ATTR_ATTRIBUTES: *place is the number of the
- * attribute, from 0, that has not this form. ATTR_BOUNDS, ATTR_MEMORY, ATTR_NO_TEXT: nothing was opened. */
+ * Writes the handle's pointer to *out, which is &engine.at of an attr_engine. The engine has sizes->readers readers to hand out.
+ * ATTR_ATTRIBUTES: *place is the number of the attribute, from 0, that has not this form. ATTR_BOUNDS, ATTR_MEMORY, ATTR_NO_TEXT:
+ * nothing was opened. */
 int32_t attr_open(const uint8_t *attributes, size_t length, const struct attr_sizes *sizes, void **out, uint64_t *place);
 
 /* Closes an engine. The readers that it handed out may go on at the last commit. They are closed by attr_reader_close. The words
@@ -178,11 +179,12 @@ void attr_counts(attr_engine *engine, struct attr_numbers *numbers);
 /* ---- readers ---- */
 
 /* Hands a reader out: writes its pointer to *out, which is &reader.at of an attr_reader. Called by the writer's thread.
- * ATTR_NO_READER: all are handed out. */
+ * ATTR_NO_READER: all are handed out. ATTR_MEMORY: no reader was handed out, and none is lost. */
 int32_t attr_reader_open(attr_engine *engine, void **out);
 
 /* Takes back a reader that this engine handed out, to be handed out again; its guard is released. Called by the writer's thread, when
- * no other thread uses the reader. ATTR_LOST: the reader is of an engine with other sizes; it is gone. */
+ * no other thread uses the reader. ATTR_LOST: the handle has no reader, or one of an engine with the other value of wide.
+ * ATTR_MEMORY: there was no memory to keep the reader. With both the reader is gone, and the others are as they were. */
 int32_t attr_reader_return(attr_engine *engine, attr_reader reader);
 
 /* Gives a reader up for good. It may be called after attr_close. */

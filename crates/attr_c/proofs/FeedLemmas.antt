@@ -1,6 +1,8 @@
 -- What one line says, and what lines say one after another.
-use Rattle.std.proofs.Common.{◌≡◌, ℕ, ◌+◌, ◌-◌, ◌<◌, ◌≤◌, drop, slice_index_or, true, false, List, [], ◌∷◌, ◌++◌, length, Result, Ok, Err, Option, Some, None, refl, sym, ◌∙◌, ap, subst, arith, length-append}
+use Rattle.std.proofs.Common.{if◌then◌else◌, Bool, ◌≡◌, ℕ, ◌+◌, ◌-◌, ◌^◌, ◌<◌, ◌≤◌, drop, slice_index_or, true, false, List, []}
+use Rattle.std.proofs.Common.{◌∷◌, ◌++◌, length, Result, Ok, Err, Option, Some, None, refl, sym, ◌∙◌, ap, subst, arith, length-append}
 use Rattle.std.specs.List.{AllByRecursion}
+use Rattle.std.specs.Prelude.{IfSome}
 use Rattle.std.proofs.lemmas.List.{drop-drop}
 use Rattle.attr_types.specs.Lawful.{OpFits}
 use Rattle.attr_types.specs.declared.field.Field.{Field}
@@ -10,13 +12,15 @@ use Rattle.feed_reader.specs.declared.error.FeedError.{FeedError}
 use Rattle.feed_reader.specs.declared.error.FeedError.TheVariants as errors
 use Rattle.feed_reader.specs.declared.refusal.Refusal.TheVariants as refusals
 use Rattle.feed_reader.specs.declared.refusal.LineError.TheVariants as line_errors
-use Rattle.feed_reader.specs.Feed.{Fault, feed_of, ops_of_lines, with_op, with_front, FeedFailsBy}
+use Rattle.feed_reader.specs.Feed.{feed_of, ops_of_lines, with_op, with_front, FeedFailsBy}
 use Rattle.feed_reader.specs.Grammar.{op_of_line}
 use Rattle.feed_reader.specs.Lines.{lines_of, is_blank}
 use Rattle.feed_reader.proofs.FeedLemmas.{lines_blank, lines_more, lines_end, lines_error, lines_start}
-use Rattle.attr_types.specs.Table.{Table, after_op, after_ops}
+use Rattle.attr_types.specs.Table.{Table, after_op, after_ops, is_skipped, skipped_ops}
 use Rattle.attr_types.specs.declared.applied.Applied.{Applied}
-use Rattle.attr_c.specs.Feeding.{AppliesLine, Stays, SaysLine, FedLine, FedTo, Feeds, IsOfNoLine, RefusesLine, row_of}
+use Rattle.attr_types.specs.declared.applied.Applied.TheVariants.{Changed, Skipped}
+use Rattle.attribute_kinds.specs.Calls.{applied_to}
+use Rattle.attr_c.specs.Feeding.{skips_of, AppliesLine, Stays, SaysLine, FedLine, FedTo, Feeds, IsOfNoLine, RefusesLine}
 use Rattle.attr_c.specs.declared.stop.Stop.{Stop}
 use Rattle.attr_c.specs.declared.stop.Stop.TheVariants as stops
 
@@ -26,7 +30,8 @@ pub record IsOneOp (fields : List Field) (line : List ℕ) (ops : List Op) : Typ
   pub says : op_of_line fields line ≡ Ok op
   pub fits : OpFits fields op
 
-one_op : (fields : List Field) (line : List ℕ) (ops : List Op) (r : Result Op Refusal) → op_of_line fields line ≡ r → with_op 1 r (Ok []) ≡ Ok ops → AllByRecursion (OpFits fields) ops → IsOneOp fields line ops
+one_op : (fields : List Field) (line : List ℕ) (ops : List Op) (r : Result Op Refusal) → op_of_line fields line ≡ r → with_op 1 r (Ok []) ≡ Ok ops
+    → AllByRecursion (OpFits fields) ops → IsOneOp fields line ops
 one_op fields line [] (Ok op) is e fit = cc
 one_op fields line (other ∷ []) (Ok op) is e fit =
     let same : op ∷ [] ≡ other ∷ [] = cc in
@@ -116,29 +121,82 @@ after_one_more : (fields : List Field) (ops : List Op) (op : Op) (table : Table)
 after_one_more fields [] op table = refl
 after_one_more fields (first ∷ ops) op table = after_one_more fields ops op (after_op fields table first)
 
+skipped_one_more : (fields : List Field) (ops : List Op) (op : Op) (table : Table)
+    → skipped_ops fields table (ops ++ op ∷ []) ≡ skipped_ops fields table ops + (if is_skipped fields (after_ops fields table ops) op then 1 else 0)
+skipped_one_more fields [] op table = omega arith
+skipped_one_more fields (first ∷ ops) op table = let more = skipped_one_more fields ops op (after_op fields table first) in omega (arith, more)
+
+skipped_few : (fields : List Field) (ops : List Op) (table : Table) → skipped_ops fields table ops ≤ length ops
+skipped_few fields [] table = omega arith
+skipped_few fields (op ∷ ops) table =
+    let few = skipped_few fields ops (after_op fields table op) in
+    let one = at_most_one (is_skipped fields table op) in
+    omega (arith, few, one)
+  where
+    at_most_one : (b : Bool) → (if b then 1 else 0) ≤ 1
+    at_most_one true = omega arith
+    at_most_one false = omega arith
+
+skips_one : (fields : List Field) (table : Table) (op : Op) (applied : Applied) → applied ≡ applied_to fields table op
+    → skips_of (Some applied) ≡ (if is_skipped fields table op then 1 else 0)
+skips_one fields table op applied is = ap (λ (a : Applied). skips_of (Some a)) is ∙ by (is_skipped fields table op)
+  where
+    by : (b : Bool) → skips_of (Some (if b then Skipped else Changed)) ≡ (if b then 1 else 0)
+    by true = refl
+    by false = refl
+
 module _ (fields : List Field) (bytes : List ℕ) where
-  pub fed_none : (old : Table) (before : ℕ) → FedTo fields bytes 1 bytes old old before before
-  fed_none old before = record { ops = []; said = lines_start fields bytes; table = refl; operations = omega arith }
+  pub fed_none : (old : Table) (before : ℕ) → FedTo fields bytes 1 bytes old old before before 0
+  fed_none old before = record { ops = []; said = lines_start fields bytes; table = refl; operations = omega arith; skips = refl }
+
+  -- no more operations changed nothing than were applied
+  pub fed_few : (number : ℕ) (rest : List ℕ) (old new : Table) (before after skipped : ℕ) → FedTo fields bytes number rest old new before after skipped → skipped + before ≤ after
+  fed_few number rest old new before after skipped fed =
+      let few = skipped_few fields fed.ops old in
+      let skips = fed.skips in
+      let operations = fed.operations in
+      omega (arith, few, skips, operations)
 
   -- no line is left
-  pub fed_whole : (old new : Table) (before after number : ℕ) (rest : List ℕ) → length rest ≡ 0 → FedTo fields bytes number rest old new before after → Feeds fields bytes old new before after
-  fed_whole old new before after number rest none fed =
-      record { ops = fed.ops; said = sym fed.said ∙ lines_end fields fed.ops number rest none; table = fed.table; operations = fed.operations }
+  -- the operations are few, so that those that changed nothing can be counted
+  pub fed_small : (number : ℕ) (rest line : List ℕ) (old mid new : Table) (before between after skipped : ℕ) (applied : Option Applied)
+      → FedTo fields bytes number rest old mid before between skipped → FedLine fields line mid new between after (Ok applied) → IfSome applied (λ _. after < 2 ^ 32) → skipped < 2 ^ 32
+      → skipped + skips_of applied < 2 ^ 32
+  fed_small number rest line old mid new before between after skipped None fed line_is few small = omega (arith, small)
+  fed_small number rest line old mid new before between after skipped (Some applied) fed line_is few small =
+      let one = at_most_one applied in
+      let count = fed_few number rest old mid before between skipped fed in
+      let more = line_is.operations in
+      omega (arith, one, count, more, few)
+    where
+      at_most_one : (applied : Applied) → skips_of (Some applied) ≤ 1
+      at_most_one Changed = omega arith
+      at_most_one Skipped = omega arith
 
-  module _ (old mid new : Table) (before between after : ℕ) (number : ℕ) (rest line left : List ℕ) (lines : lines_of rest ≡ line ∷ lines_of left) (fed : FedTo fields bytes number rest old mid before between) where
+  pub fed_whole : (old new : Table) (before after skipped number : ℕ) (rest : List ℕ) → length rest ≡ 0 → FedTo fields bytes number rest old new before after skipped
+      → Feeds fields bytes old new before after skipped
+  fed_whole old new before after skipped number rest none fed =
+      record { ops = fed.ops; said = sym fed.said ∙ lines_end fields fed.ops number rest none; table = fed.table; operations = fed.operations; skips = fed.skips }
+
+  module _ (old mid new : Table) (before between after skipped : ℕ) (number : ℕ) (rest line left : List ℕ) (lines : lines_of rest ≡ line ∷ lines_of left)
+      (fed : FedTo fields bytes number rest old mid before between skipped) where
     said_line : with_front fed.ops (ops_of_lines fields number (line ∷ lines_of left)) ≡ feed_of fields bytes
     said_line = ap (λ (ls : List (List ℕ)). with_front fed.ops (ops_of_lines fields number ls)) (sym lines) ∙ fed.said
 
-    pub fed_blank : is_blank line ≡ true → Stays mid new between after → FedTo fields bytes (number + 1) left old new before after
+    pub fed_blank : is_blank line ≡ true → Stays mid new between after → FedTo fields bytes (number + 1) left old new before after (skipped + 0)
     fed_blank blank stays = record {
       ops = fed.ops;
       said = ap (with_front fed.ops) (sym (lines_blank fields number line (lines_of left) blank)) ∙ said_line;
       table = stays.table ∙ fed.table;
       operations = stays.operations ∙ fed.operations;
+      skips = (let none : skipped + 0 ≡ skipped = omega arith in none) ∙ fed.skips;
     }
 
-    pub fed_more : AppliesLine fields line mid new between after → FedTo fields bytes (number + 1) left old new before after
-    fed_more one =
+    pub fed_more : (applied : Applied) → AppliesLine fields line mid new between after applied → FedTo fields bytes (number + 1) left old new before after (skipped + skips_of (Some applied))
+    fed_more applied one =
+        let skips = fed.skips in
+        let more = skipped_one_more fields fed.ops one.op old in
+        let this = skips_one fields mid one.op applied one.applied_is ∙ ap (λ (t : Table). if is_skipped fields t one.op then 1 else 0) fed.table in
         let was = fed.operations in
         let is = one.operations in
         let long = length-append fed.ops (one.op ∷ []) in
@@ -147,15 +205,18 @@ module _ (fields : List Field) (bytes : List ℕ) where
           said = sym (lines_more fields fed.ops one.op number line (lines_of left) one.some one.says) ∙ said_line;
           table = one.table ∙ ap (λ (t : Table). after_op fields t one.op) fed.table ∙ sym (after_one_more fields fed.ops one.op old);
           operations = omega (arith, was, is, long);
+          skips = omega (arith, skips, more, this);
         }
 
-    pub fed_on : (applied : Option Applied) → FedLine fields line mid new between after (Ok applied) → FedTo fields bytes (number + 1) left old new before after
+    pub fed_on : (applied : Option Applied) → FedLine fields line mid new between after (Ok applied) → FedTo fields bytes (number + 1) left old new before after (skipped + skips_of applied)
     fed_on None line_is = fed_blank line_is.0 line_is.1
-    fed_on (Some applied) line_is = fed_more line_is
+    fed_on (Some applied) line_is = fed_more applied line_is
 
     -- what was refused left all as it was
-    pub fed_still : (stop : Stop) → FedLine fields line mid new between after (Err stop) → FedTo fields bytes number rest old new before after
-    fed_still stop line_is = let stays = stays_at stop line_is in record { ops = fed.ops; said = fed.said; table = stays.table ∙ fed.table; operations = stays.operations ∙ fed.operations }
+    pub fed_still : (stop : Stop) → FedLine fields line mid new between after (Err stop) → FedTo fields bytes number rest old new before after skipped
+    fed_still stop line_is =
+        let stays = stays_at stop line_is in
+        record { ops = fed.ops; said = fed.said; table = stays.table ∙ fed.table; operations = stays.operations ∙ fed.operations; skips = fed.skips }
       where
         stays_at : (stop : Stop) → FedLine fields line mid new between after (Err stop) → Stays mid new between after
         stays_at (stops.Line error) line_is = line_is.2

@@ -1,11 +1,16 @@
 -- Documents of a save, put in one after another.
-use Rattle.std.proofs.Common.{◌≡◌, ℕ, ◌+◌, List, [], ◌∷◌, ◌++◌, length, take, Ok, refl, sym, ◌∙◌, ap, arith, length-append}
+use Rattle.std.proofs.Common.{◌≡◌, ℕ, ◌+◌, List, [], ◌∷◌, ◌++◌, length, take, Ok, refl, sym, subst, ◌∙◌, ap, arith, length-append}
 use Rattle.std.proofs.lemmas.Grind.{common_steps}
+use Rattle.std.specs.List.{AllByRecursion}
 use Rattle.attr_saver.specs.Fields.{read_of}
+use Rattle.attr_saver.specs.Lawful.{docs_of, IsLawfulSaved}
 use Rattle.attr_saver.specs.declared.saved.Saved.{Saved}
 use Rattle.attr_saver.specs.declared.saved.SavedDocument.{SavedDocument}
+use Rattle.attr_types.specs.Lawful.{IsDocNumber, ItemsFit, OpFits}
 use Rattle.attr_types.specs.Table.{Table, after_op, after_ops}
 use Rattle.attr_types.specs.declared.field.Field.{Field}
+use Rattle.attr_types.specs.declared.kind.Kind.{Kind}
+use Rattle.attr_types.specs.declared.kind.ValueType.{ValueType}
 use Rattle.attr_c.specs.Feeding.{Stays}
 use Rattle.attr_c.specs.Loading.{put_of, puts_of, PutsIn, PutsFront, IsSaveOf, LoadsSave, LoadsFront}
 
@@ -21,6 +26,28 @@ take_front (first ∷ front) rest = ap (λ (xs : List SavedDocument). first ∷ 
 -- one document more is behind
 pub moved_on : (front rest left all : List SavedDocument) (one : SavedDocument) → rest ≡ one ∷ left → front ++ rest ≡ all → (front ++ one ∷ []) ++ left ≡ all
 moved_on front rest left all one is whole = grind (arith, common_steps)
+
+-- what holds of all documents holds of the next one
+pub one_of_all : (P : SavedDocument → Type 0) (front rest left all : List SavedDocument) (one : SavedDocument) → rest ≡ one ∷ left → front ++ rest ≡ all → AllByRecursion P all → P one
+one_of_all P [] rest left all one is whole each =
+    let these : AllByRecursion P (one ∷ left) = subst (AllByRecursion P) (sym whole ∙ is) each in
+    these.0
+one_of_all P (first ∷ front) rest left all one is whole each =
+    let these : AllByRecursion P (first ∷ front ++ rest) = subst (AllByRecursion P) (sym whole) each in
+    one_of_all P front rest left (front ++ rest) one is refl these.1
+
+-- the documents of a lawful save fit its attribute
+fit_one : (field : Field) (kind : Kind) (type : ValueType) → kind ≡ field.kind → type ≡ field.value → (documents : List SavedDocument) → AllByRecursion IsDocNumber (docs_of documents)
+    → AllByRecursion (λ d. ItemsFit kind type d.items) documents → AllByRecursion (λ d. OpFits (field ∷ []) (put_of d)) documents
+fit_one field kind type kind_is type_is [] numbers items = tt
+fit_one field kind type kind_is type_is (d ∷ documents) numbers items =
+    let own = subst (λ (k : Kind). ItemsFit k field.value d.items) kind_is (subst (λ (t : ValueType). ItemsFit kind t d.items) type_is items.0) in
+    ((numbers.0, (own, tt)), fit_one field kind type kind_is type_is documents numbers.1 items.1)
+
+pub puts_fit : (fields : List Field) (saved : Saved) → IsSaveOf fields saved → IsLawfulSaved saved → AllByRecursion (λ d. OpFits fields (put_of d)) saved.table
+puts_fit fields saved is_of lawful =
+    subst (λ (fs : List Field). AllByRecursion (λ d. OpFits fs (put_of d)) saved.table) (sym is_of.sole)
+    (fit_one is_of.field saved.kind saved.value is_of.kind is_of.value saved.table lawful.column.numbers lawful.column.items)
 
 module _ (fields : List Field) (old : Table) (before : ℕ) where
   pub puts_none : PutsIn fields [] old old before before

@@ -1,13 +1,17 @@
 -- Calls by one guard.
-use Rattle.std.proofs.Common.{◌≡◌, ℕ, ℤ, List, Option, Some, None, Result, Ok, Err, ◌∙◌, ap}
-use Rattle.std.specs.Prelude.{IfOk}
+use Rattle.std.proofs.Common.{◌≡◌, ◌≢◌, ℕ, ℤ, List, Option, Some, None, Result, Ok, Err, ◌∙◌, ap, subst}
+use Rattle.std.specs.Prelude.{IfOk, IfSome}
 use Rattle.attr_types.specs.Scores.{AskTree, answer_on, documents_in}
 use Rattle.query_text.specs.Asks.{ask_of}
 use Rattle.attr_c.specs.Kept.{KeptView, table_in}
 use Rattle.attr_c.specs.Said.{said}
-use Rattle.attr_c.specs.Seats.{AnswersText, CountsText, ByGuardOf, TellsCommit}
+use Rattle.attr_c.specs.Seats.{AnswersText, CountsText, ByGuardOf, IsForeign, IsReaderOf, TellsCommit}
+use Rattle.attr_c.specs.Stores.{open_bits}
 use Rattle.attr_c.specs.declared.answer.Answer.{Answer}
 use Rattle.attr_c.specs.declared.seat.Place.{Place}
+use Rattle.attr_c.specs.declared.seat.Place.TheVariants.{Free, Kept}
+use Rattle.attr_c.specs.declared.state.AnyOpen.{AnyOpen}
+use Rattle.attr_c.specs.declared.state.AnyReader.{AnyReader}
 use Rattle.attr_c.specs.declared.told.Answered.{Answered}
 
 pub by_guard_weaker : (before after : Option Place) (P Q : KeptView → Type 0) → ((guard : KeptView) → P guard → Q guard) → ByGuardOf before after P → ByGuardOf before after Q
@@ -24,3 +28,9 @@ pub answers_text : (guard : KeptView) (text : List ℕ) (told : Answered) (ask :
     → IfOk result (AnswersText guard text told)
 answers_text guard text told ask (Ok answer) reads is count tells = record { ask = ask; reads = reads; answer_is = is; tells = tells; count = count }
 answers_text guard text told ask (Err code) reads is count tells = tt
+
+-- without its guard the reader of a seat has references of the same width
+pub foreign_seat : (o : AnyOpen) (seat : Option Place) (reader : AnyReader) → IsReaderOf seat reader → IsForeign o (Free reader) → IfSome seat (IsForeign o)
+foreign_seat o (Some (Free r)) reader is other = subst (λ (x : AnyReader). IsForeign o (Free x)) is other
+foreign_seat o (Some (Kept k)) reader is other = subst (λ (n : ℕ). n ≢ open_bits o) (ap (λ (v : KeptView). v.reader.sizes.offset_bits) is) other
+foreign_seat o None reader is other = absurd is

@@ -42,6 +42,12 @@ abbrev pub open_waiting : AnyOpen → ℕ
 open_waiting (Narrow o) = length o.pool.items
 open_waiting (Wide o) = length o.pool.items
 
+-- the readers that were not given away are the same
+abbrev pub KeepsWaiting : AnyOpen → AnyOpen → Type 0
+KeepsWaiting (Narrow old) (Narrow new) = new.pool.items ≡ old.pool.items
+KeepsWaiting (Wide old) (Wide new) = new.pool.items ≡ old.pool.items
+KeepsWaiting old new = ⊥
+
 -- a call that leaves the attributes, what was fed and what was committed as they were
 pub record KeepsTables (old new : AnyOpen) : Type 0 where
   pub fields : open_fields new ≡ open_fields old

@@ -1,8 +1,10 @@
 -- How lines change attributes.
 use Rattle.std.specs.Prelude.{◌≡◌, ℕ, ◌+◌, true, false, List, length, Option, Some, None, IfSome, Result, Ok, Err}
 use Rattle.attr_types.specs.Lawful.{OpFits}
-use Rattle.attr_types.specs.Table.{Table, after_op, after_ops}
+use Rattle.attr_types.specs.Table.{Table, after_op, after_ops, skipped_ops}
 use Rattle.attr_types.specs.declared.applied.Applied.{Applied}
+use Rattle.attr_types.specs.declared.applied.Applied.TheVariants.{Changed, Skipped}
+use Rattle.attribute_kinds.specs.Calls.{applied_to}
 use Rattle.attr_types.specs.declared.field.Field.{Field}
 use Rattle.attr_types.specs.declared.op.Op.{Op}
 use Rattle.feed_reader.specs.Feed.{feed_of, ops_of_lines, with_front, FeedFailsBy}
@@ -21,13 +23,20 @@ SaysLine fields line (Ok None) = is_blank line ≡ true
 SaysLine fields line (Ok (Some op)) = (is_blank line ≡ false) × (op_of_line fields line ≡ Ok op) × OpFits fields op
 SaysLine fields line (Err error) = (is_blank line ≡ false) × FeedFailsBy error (feed_of fields line)
 
--- a line was applied: its operation, or nothing if it is blank
-pub record AppliesLine (fields : List Field) (line : List ℕ) (old new : Table) (before after : ℕ) : Type 0 where
+-- the operation of a line was applied, with this result
+pub record AppliesLine (fields : List Field) (line : List ℕ) (old new : Table) (before after : ℕ) (applied : Applied) : Type 0 where
   pub op : Op
   pub some : is_blank line ≡ false
   pub says : op_of_line fields line ≡ Ok op
   pub table : new ≡ after_op fields old op
   pub operations : after ≡ before + 1
+  pub applied_is : applied ≡ applied_to fields old op
+
+-- how many operations of a line changed nothing
+abbrev pub skips_of : Option Applied → ℕ
+skips_of None = 0
+skips_of (Some Changed) = 0
+skips_of (Some Skipped) = 1
 
 -- a stop that is not the refusal of a line
 abbrev pub IsOfNoLine : Stop → Type 0
@@ -41,18 +50,20 @@ pub record Stays (old new : Table) (before after : ℕ) : Type 0 where
 
 abbrev pub FedLine : List Field → List ℕ → Table → Table → ℕ → ℕ → Result (Option Applied) Stop → Type 0
 FedLine fields line old new before after (Ok None) = (is_blank line ≡ true) × Stays old new before after
-FedLine fields line old new before after (Ok (Some applied)) = AppliesLine fields line old new before after
+FedLine fields line old new before after (Ok (Some applied)) = AppliesLine fields line old new before after applied
 FedLine fields line old new before after (Err (stops.Line error)) =
     (is_blank line ≡ false) × FeedFailsBy error (feed_of fields line) × Stays old new before after
 FedLine fields line old new before after (Err stop) = Stays old new before after
 
 -- a feed up to one of its lines: these operations were applied, and they are those of the feed before the rest, whose
--- first line has this number
-pub record FedTo (fields : List Field) (bytes : List ℕ) (number : ℕ) (rest : List ℕ) (old new : Table) (before after : ℕ) : Type 0 where
+-- first line has this number; so many of them changed nothing
+pub record FedTo (fields : List Field) (bytes : List ℕ) (number : ℕ) (rest : List ℕ) (old new : Table)
+    (before after skipped : ℕ) : Type 0 where
   pub ops : List Op
   pub said : with_front ops (ops_of_lines fields number (lines_of rest)) ≡ feed_of fields bytes
   pub table : new ≡ after_ops fields old ops
   pub operations : after ≡ before + length ops
+  pub skips : skipped ≡ skipped_ops fields old ops
 
 -- why a line is refused, without its number
 abbrev pub row_of : FeedError → Option Refusal
@@ -71,9 +82,15 @@ abbrev pub RefusesLine : List Field → List ℕ → ℕ → Stop → Type 0
 RefusesLine fields bytes number (stops.Line error) = IfSome (row_of error) (λ row. feed_of fields bytes ≡ Err (number, row))
 RefusesLine fields bytes number stop = Unit {0}
 
--- a whole feed: each of its operations was applied, in order
-pub record Feeds (fields : List Field) (bytes : List ℕ) (old new : Table) (before after : ℕ) : Type 0 where
+-- why a feed stopped at its line of this number: the line is refused, or its operation was not applied
+abbrev pub StopsFeed : List Field → List ℕ → ℕ → (Stop → Type 0) → Stop → Type 0
+StopsFeed fields bytes number why (stops.Line error) = RefusesLine fields bytes number (stops.Line error)
+StopsFeed fields bytes number why stop = why stop
+
+-- a whole feed: each of its operations was applied, in order, and so many of them changed nothing
+pub record Feeds (fields : List Field) (bytes : List ℕ) (old new : Table) (before after skipped : ℕ) : Type 0 where
   pub ops : List Op
   pub said : feed_of fields bytes ≡ Ok ops
   pub table : new ≡ after_ops fields old ops
   pub operations : after ≡ before + length ops
+  pub skips : skipped ≡ skipped_ops fields old ops

@@ -1,5 +1,5 @@
 -- What a save makes of attributes.
-use Rattle.std.specs.Prelude.{◌≡◌, ℕ, ◌+◌, List, [], ◌∷◌, length, map, take, Result, Ok}
+use Rattle.std.specs.Prelude.{◌≡◌, ℕ, ◌+◌, List, [], ◌∷◌, length, map, take, Result, Ok, Err}
 use Rattle.attr_saver.specs.Fields.{read_of}
 use Rattle.attr_saver.specs.declared.saved.Saved.{Saved}
 use Rattle.attr_saver.specs.declared.saved.SavedDocument.{SavedDocument}
@@ -7,6 +7,8 @@ use Rattle.attr_types.specs.Table.{Table, after_ops}
 use Rattle.attr_types.specs.declared.field.Field.{Field}
 use Rattle.attr_types.specs.declared.op.Op.{Op}
 use Rattle.attr_types.specs.declared.op.Op.TheVariants.{Put}
+use Rattle.attr_c.specs.declared.stop.Stop.{Stop}
+use Rattle.attr_c.specs.declared.stop.Stop.TheVariants as stops
 
 -- the operations that put documents in
 abbrev pub put_of : SavedDocument → Op
@@ -45,3 +47,22 @@ pub record LoadsFront (fields : List Field) (bytes : List ℕ) (old new : Table)
   pub documents : List SavedDocument
   pub puts : PutsIn fields documents old new before after
   pub front : (saved : Saved) → read_of bytes ≡ Ok saved → documents ≡ take (length documents) saved.table
+
+-- a save of another kind or value type, or there are several attributes
+pub record IsOfOther (fields : List Field) (bytes : List ℕ) : Type 0 where
+  pub saved : Saved
+  pub reads : read_of bytes ≡ Ok saved
+  pub other : IsSaveOf fields saved → ⊥
+
+-- what was read is no save, with the offset of the first wrong field, or memory ran out
+abbrev pub RefusesSave : List ℕ → ℕ → Stop → Type 0
+RefusesSave bytes place stops.Save = read_of bytes ≡ Err place
+RefusesSave bytes place stops.Memory = Unit {0}
+RefusesSave bytes place stop = ⊥
+
+-- why loading stopped: the bytes are no save, with the offset of the first wrong field; the save is of another attribute;
+-- or a document was not put in
+abbrev pub StopsLoad : List Field → List ℕ → ℕ → (Stop → Type 0) → Stop → Type 0
+StopsLoad fields bytes place why stops.Save = read_of bytes ≡ Err place
+StopsLoad fields bytes place why stops.Other = IsOfOther fields bytes
+StopsLoad fields bytes place why stop = why stop

@@ -1,5 +1,6 @@
 -- What a reader's handle holds, as its callers see it, and what its calls say.
-use Rattle.std.specs.Prelude.{◌≡◌, ℕ, Bool, true, false, List, [], ◌∷◌, ◌++◌, length, Option, Some, None, Result, Ok}
+use Rattle.std.specs.Prelude.{◌≡◌, ◌≢◌, ℕ, Bool, true, false, List, [], ◌∷◌, ◌++◌, length}
+use Rattle.std.specs.Prelude.{Option, Some, None, Result, Ok}
 use Rattle.gen_core.specs.Events.{released}
 use Rattle.word_arena.specs.Ruled.{reader_of, seen_number}
 use Rattle.attr_types.specs.Scores.{AskTree, answer_on, documents_in}
@@ -7,6 +8,7 @@ use Rattle.attr_types.specs.declared.items.Item.{Item}
 use Rattle.query_text.specs.Asks.{ask_of}
 use Rattle.attr_c.specs.Kept.{KeptView, IsGuardOf, operations_of, table_in}
 use Rattle.attr_c.specs.Said.{said, items_of, save_of_table}
+use Rattle.attr_c.specs.Stores.{open_bits}
 use Rattle.attr_c.specs.declared.answer.Answer.{Answer}
 use Rattle.attr_c.specs.declared.answer.Answer.TheVariants.{Hits}
 use Rattle.attr_c.specs.declared.seat.AnyKept.{AnyKept}
@@ -139,3 +141,23 @@ SeatsReader old new None = ⊥
 abbrev pub OpensSeat : AnyOpen → AnyOpen → Option Seat → Type 0
 OpensSeat old new (Some seat) = SeatsReader old new seat.place
 OpensSeat old new None = ⊥
+
+-- the reader of a seat, without a guard
+abbrev pub IsReaderOf : Option Place → AnyReader → Type 0
+IsReaderOf (Some place) reader = Releases place reader
+IsReaderOf None reader = ⊥
+
+-- the reader of a seat is now the last that was not given away; the others are before it, as they were
+pub record TakesBack (old new : AnyOpen) (seat : Option Place) : Type 0 where
+  pub reader : AnyReader
+  pub is : IsReaderOf seat reader
+  pub last : TakesReader new old reader
+
+-- how many bits of a reference are for the place in a buffer
+abbrev pub place_bits : Place → ℕ
+place_bits (Free r) = (reader_view r).reader.sizes.offset_bits
+place_bits (Kept k) = (kept_view k).reader.sizes.offset_bits
+
+-- a reader with the references of the other width
+abbrev pub IsForeign : AnyOpen → Place → Type 0
+IsForeign o place = place_bits place ≢ open_bits o

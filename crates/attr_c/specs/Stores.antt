@@ -1,5 +1,6 @@
 -- How much of the store behind an engine is in use.
 use Rattle.std.specs.Prelude.{◌≡◌, ℕ, Bool}
+use Rattle.atomic_table.specs.Seated.{TableId}
 use Rattle.store_api.specs.Ledgers.{Ledger}
 use Rattle.store_api.specs.Usages.{IsUsage}
 use Rattle.store_api.specs.declared.store.Usage.{Usage}
@@ -9,7 +10,8 @@ use Rattle.word_arena.specs.Knows.{view_of}
 use Rattle.word_arena.specs.Ruled.{api_sizes, writer_of}
 use Rattle.gen_core.specs.Work.{writer_records}
 use Rattle.entry_ledger.specs.Ledgers.{LedgerView, entries_of}
-use Rattle.entry_store.specs.Standing.{ledger_of}
+use Rattle.entry_ref.specs.Records.{Records}
+use Rattle.entry_store.specs.Standing.{ledger_of, records_by_status, statuses}
 use Rattle.attr_c.specs.declared.state.AnyOpen.{AnyOpen}
 use Rattle.attr_c.specs.declared.state.AnyOpen.TheVariants.{Narrow, Wide}
 
@@ -18,13 +20,26 @@ abbrev pub ledger_over : {H : Type 0} → ℕ → H → WriterView → LedgerVie
 ledger_over bits home writer entries unit =
     ledger_of bits (view_of home writer) writer.sizes.shape (writer_records writer) (entries_of bits entries) unit
 
+-- the records of such a store
+abbrev pub records_over : {H : Type 0} → ℕ → H → WriterView → LedgerView → Records
+records_over bits home writer entries =
+    records_by_status (statuses (view_of home writer).commits (entries_of bits entries)) (writer_records writer)
+
+abbrev pub open_ledger : AnyOpen → Ledger TableId
+open_ledger (Narrow o) =
+    let store = o.attribute.store in
+    ledger_over 22 store.work.place.table_id (writer_of store.work.place.me.0) store.entries store.unit
+open_ledger (Wide o) =
+    let store = o.attribute.store in
+    ledger_over 19 store.work.place.table_id (writer_of store.work.place.me.0) store.entries store.unit
+
+-- the bits of a reference for the place in a buffer
+abbrev pub open_bits : AnyOpen → ℕ
+open_bits (Narrow o) = 22
+open_bits (Wide o) = 19
+
 abbrev pub IsOpenUsage : AnyOpen → Usage → Type 0
-IsOpenUsage (Narrow o) usage =
-    let store = o.attribute.store in
-    IsUsage 22 (ledger_over 22 store.work.place.table_id (writer_of store.work.place.me.0) store.entries store.unit) usage
-IsOpenUsage (Wide o) usage =
-    let store = o.attribute.store in
-    IsUsage 19 (ledger_over 19 store.work.place.table_id (writer_of store.work.place.me.0) store.entries store.unit) usage
+IsOpenUsage o usage = IsUsage (open_bits o) (open_ledger o) usage
 
 -- the sizes of the memory behind an engine
 abbrev pub open_memory : AnyOpen → Sizes

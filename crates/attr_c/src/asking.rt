@@ -1,10 +1,12 @@
 //! The asks of a reader, at the commit of its guard.
-ghost use Rattle.std.specs.Prelude.{◌≡◌, ◌<◌, ◌^◌, length, IfOk, Ok};
+ghost use Rattle.std.specs.Prelude.{◌≡◌, ◌<◌, ◌^◌, length, IfErr, IfOk, Ok};
 ghost use Rattle.query_text.specs.Asks.{ask_of, AsksAs};
 ghost use Rattle.attr_types.specs.Scores.{ask_tree, answer_on, documents_in};
 ghost use Rattle.attr_c.specs.Kept.{table_in};
+ghost use Rattle.attr_c.specs.Refusals.{query_code, IsInBounds, RefusesItems, RefusesText, TellsPlace};
 ghost use Rattle.attr_c.specs.Said.{said};
 ghost use Rattle.attr_c.specs.Seats.{kept_view, AnswersText, ReadsItems, SavesTable, TellsCommit};
+ghost use Rattle.attr_c.specs.declared.codes.TheConstants.{MEMORY};
 
 use crate::answer::Answer;
 use crate::codes::{
@@ -17,7 +19,11 @@ use attr_types::{Ask, Doc, Fields, Items, QueryError};
 use query_text::parse_ask;
 use std::alloc::Global;
 
-fn code_of(error: QueryError, told: &mut Answered) -> i32 {
+/// The code of an error. Its place is told if it has one.
+fn code_of(error: QueryError, told: &mut Answered) -> i32
+    ensures code { result ≡ query_code error }
+    ensures place { TellsPlace error told.new }
+{
     match error {
         QueryError::Syntax { place } => {
             told.place = place;
@@ -37,7 +43,8 @@ fn code_of(error: QueryError, told: &mut Answered) -> i32 {
 /// Returns what a text asks for.
 fn ask_in(alloc: Global, text: &str, fields: &Fields, told: &mut Answered) -> Result<Ask, i32>
     requires { length fields.now < 2 ^ 32 }
-    ensures { IfOk result (λ ask. AsksAs (Ok ask) (ask_of fields.now text.now)) }
+    ensures asks { IfOk result (λ ask. AsksAs (Ok ask) (ask_of fields.now text.now)) }
+    ensures refused { IfErr result (RefusesText fields.now text.now told.new) }
 {
     match parse_ask(alloc, text, fields.as_slice()) {
         Ok(ask) => Ok(ask),
@@ -64,6 +71,7 @@ fn answer_to<const OFFSET_BITS: u32>(
     ensures answers { IfOk result (λ answer. said answer ≡ answer_on (ask_tree ask.now) (table_in kept.old)) }
     ensures count { IfOk result (λ answer. told.new.count ≡ documents_in (said answer)) }
     ensures tells { TellsCommit kept.old told.new }
+    ensures memory { IfErr result (λ code. code ≡ MEMORY) }
     ensures same { kept.new ≡ kept.old }
 {
     tell_commit(kept, told);
@@ -84,6 +92,7 @@ fn answer_of<const OFFSET_BITS: u32>(
     told: &mut Answered,
 ) -> Result<Answer, i32>
     ensures answers { IfOk result (AnswersText kept.old text.now told.new) }
+    ensures refused { IfErr result (RefusesText kept.old.fields text.now told.new) }
     ensures same { kept.new ≡ kept.old }
 {
     match ask_in(alloc, text, kept.fields(), told) {
@@ -101,6 +110,8 @@ fn items_of<const OFFSET_BITS: u32>(
     told: &mut Answered,
 ) -> Result<Items, i32>
     ensures items { IfOk result (ReadsItems kept.old doc field told.new) }
+    ensures within { IfOk result (λ items. IsInBounds kept.old.fields doc field) }
+    ensures refused { IfErr result (RefusesItems kept.old doc field) }
     ensures same { kept.new ≡ kept.old }
 {
     if field as usize >= kept.fields().len() || doc < 1 || doc > Doc::LAST {
@@ -124,6 +135,7 @@ fn save_of<const OFFSET_BITS: u32>(
     told: &mut Answered,
 ) -> Result<Vec<u8>, i32>
     ensures saves { IfOk result (λ bytes. SavesTable kept.old told.new bytes.items) }
+    ensures memory { IfErr result (λ code. code ≡ MEMORY) }
     ensures same { kept.new ≡ kept.old }
 {
     tell_commit(kept, told);
@@ -153,6 +165,7 @@ pub fn answer_any(
     told: &mut Answered,
 ) -> Result<Answer, i32>
     ensures answers { IfOk result (AnswersText (kept_view kept.old) text.now told.new) }
+    ensures refused { IfErr result (RefusesText (kept_view kept.old).fields text.now told.new) }
     ensures same { kept_view kept.new ≡ kept_view kept.old }
 {
     match kept {
@@ -169,6 +182,8 @@ pub fn items_any(
     told: &mut Answered,
 ) -> Result<Items, i32>
     ensures items { IfOk result (ReadsItems (kept_view kept.old) doc field told.new) }
+    ensures within { IfOk result (λ items. IsInBounds (kept_view kept.old).fields doc field) }
+    ensures refused { IfErr result (RefusesItems (kept_view kept.old) doc field) }
     ensures same { kept_view kept.new ≡ kept_view kept.old }
 {
     match kept {
@@ -179,6 +194,7 @@ pub fn items_any(
 
 pub fn save_any(alloc: Global, kept: &mut AnyKept, told: &mut Answered) -> Result<Vec<u8>, i32>
     ensures saves { IfOk result (λ bytes. SavesTable (kept_view kept.old) told.new bytes.items) }
+    ensures memory { IfErr result (λ code. code ≡ MEMORY) }
     ensures same { kept_view kept.new ≡ kept_view kept.old }
 {
     match kept {

@@ -1,10 +1,14 @@
 //! The calls from C with the writer's handle.
-ghost use Rattle.std.specs.Prelude.{◌≡◌, ◌≢◌, ◌+◌, pos, drop, length, min, IsOk, IsErr};
+ghost use Rattle.std.specs.Prelude.{◌≡◌, ◌≢◌, ◌+◌, pos, drop, length, min, IfErr, IsOk, IsErr};
 ghost use Rattle.attr_c.specs.Engines.{committed_of, committed_operations_of, fields_of, operations_of, table_of, usage_told, KeepsTables};
-ghost use Rattle.attr_c.specs.Engines.{open_counts, open_waiting, TellsCounts};
-ghost use Rattle.attr_c.specs.Feeding.{FedTo, Feeds, Stays};
-ghost use Rattle.attr_c.specs.Loading.{LoadsFront, LoadsSave};
-ghost use Rattle.attr_c.specs.Stores.{IsOpenUsage};
+ghost use Rattle.attr_c.specs.Engines.{open_counts, open_waiting, KeepsWaiting, TellsCounts};
+ghost use Rattle.attr_c.specs.Feeding.{FedTo, Feeds, Stays, StopsFeed};
+ghost use Rattle.attr_c.specs.Holds.{with_skipped, CommitsAs};
+ghost use Rattle.attr_c.specs.Loading.{LoadsFront, LoadsSave, StopsLoad};
+ghost use Rattle.attr_c.specs.Compacting.{CompactsOpen, RefusesOpen, StepsAs, StopsStep};
+ghost use Rattle.attr_c.specs.Stops.{EndsBy, Stopped, StopsCommit, StopsOperation};
+ghost use Rattle.attribute_kinds.specs.Compacting.{CompactsTo, RefusesStep};
+ghost use Rattle.attr_c.specs.Stores.{open_bits, open_ledger, IsOpenUsage};
 ghost use Rattle.store_api.specs.Usages.{IsUsage};
 
 use crate::codes::OK;
@@ -19,7 +23,9 @@ use attr_images::AttrLayout;
 use std::alloc::Global;
 use store_api::Store;
 
-fn no_told() -> Told {
+fn no_told() -> Told
+    ensures { result.skipped ≡ 0 }
+{
     Told {
         line: 0,
         place: 0,
@@ -42,6 +48,10 @@ fn no_told() -> Told {
 fn ended(counts: &mut Counts, came: Result<(), Stop>, told: &mut Told) -> i32
     ensures ok { result ≡ pos 0 → IsOk came }
     ensures other { result ≢ pos 0 → IsErr came }
+    ensures same { result ≡ pos 0 → (counts.new ≡ counts.old) × (told.new ≡ told.old) }
+    ensures ends { IfErr came (λ stop. EndsBy stop counts.old counts.new told.new result) }
+    ensures skipped { told.new.skipped ≡ told.old.skipped }
+    ensures keys { told.new.keys ≡ told.old.keys }
     ensures line { told.new.line ≡ told.old.line }
     ensures place { told.new.place ≡ told.old.place }
     ensures operations { told.new.operations ≡ told.old.operations }
@@ -60,10 +70,16 @@ fn feed_told<const OFFSET_BITS: u32, S: Store<OFFSET_BITS, Layout = AttrLayout>>
     told: &mut Told,
 ) -> i32
     ensures whole { result ≡ pos 0 → Feeds open.old.fields bytes.now open.old.attribute.table open.new.attribute.table
-        open.old.attribute.operations open.new.attribute.operations }
+        open.old.attribute.operations open.new.attribute.operations told.new.skipped }
     ensures front { result ≢ pos 0 → FedTo open.old.fields bytes.now told.new.line (drop told.new.place bytes.now)
-        open.old.attribute.table open.new.attribute.table open.old.attribute.operations open.new.attribute.operations }
+        open.old.attribute.table open.new.attribute.table open.old.attribute.operations open.new.attribute.operations
+        told.new.skipped }
     ensures count { open.new.attribute.operations ≡ open.old.attribute.operations + told.new.operations }
+    ensures counts { result ≡ pos 0 → open.new.counts ≡ with_skipped told.new.skipped open.old.counts }
+    ensures stopped { result ≢ pos 0 → Stopped (StopsFeed open.old.fields bytes.now told.new.line
+        (StopsOperation (S.ledger open.new.attribute.store) open.new.attribute.operations))
+        (with_skipped told.new.skipped open.old.counts) open.new.counts told.new result }
+    ensures pool { open.new.pool ≡ open.old.pool }
     ensures commit { Stays open.old.attribute.committed open.new.attribute.committed
         open.old.attribute.committed_operations open.new.attribute.committed_operations }
     ensures fields { open.new.fields ≡ open.old.fields }
@@ -84,9 +100,14 @@ pub extern "C" fn attr_feed(
     told: &mut Told,
 ) -> i32
     ensures whole { result ≡ pos 0 → Feeds (fields_of at.old.value) bytes.now (table_of at.old.value) (table_of at.new.value)
-        (operations_of at.old.value) (operations_of at.new.value) }
+        (operations_of at.old.value) (operations_of at.new.value) told.new.skipped }
     ensures front { result ≢ pos 0 → FedTo (fields_of at.old.value) bytes.now told.new.line (drop told.new.place bytes.now)
-        (table_of at.old.value) (table_of at.new.value) (operations_of at.old.value) (operations_of at.new.value) }
+        (table_of at.old.value) (table_of at.new.value) (operations_of at.old.value) (operations_of at.new.value) told.new.skipped }
+    ensures counts { result ≡ pos 0 → open_counts at.new.value.open ≡ with_skipped told.new.skipped (open_counts at.old.value.open) }
+    ensures stopped { result ≢ pos 0 → Stopped (StopsFeed (fields_of at.old.value) bytes.now told.new.line
+        (StopsOperation (open_ledger at.new.value.open) (operations_of at.new.value)))
+        (with_skipped told.new.skipped (open_counts at.old.value.open)) (open_counts at.new.value.open) told.new result }
+    ensures waiting { KeepsWaiting at.old.value.open at.new.value.open }
     ensures count { operations_of at.new.value ≡ operations_of at.old.value + told.new.operations }
     ensures commit { Stays (committed_of at.old.value) (committed_of at.new.value)
         (committed_operations_of at.old.value) (committed_operations_of at.new.value) }
@@ -107,6 +128,11 @@ fn commit_told<const OFFSET_BITS: u32, S: Store<OFFSET_BITS, Layout = AttrLayout
     ensures committed { result ≡ pos 0 → open.new.attribute.committed ≡ open.old.attribute.table }
     ensures published { result ≡ pos 0 → open.new.attribute.committed_operations ≡ open.old.attribute.operations }
     ensures told { result ≡ pos 0 → told.new.operations ≡ open.old.attribute.operations }
+    ensures counts { result ≡ pos 0 → CommitsAs OFFSET_BITS (S.ledger open.old.attribute.store) (S.ledger open.new.attribute.store)
+        open.old.counts open.new.counts told.new }
+    ensures stopped { result ≢ pos 0 → Stopped (StopsCommit (S.ledger open.old.attribute.store) (S.ledger open.new.attribute.store))
+        open.old.counts open.new.counts told.new result }
+    ensures pool { open.new.pool ≡ open.old.pool }
     ensures left { result ≢ pos 0 → (open.new.attribute.committed ≡ open.old.attribute.committed)
         × (open.new.attribute.committed_operations ≡ open.old.attribute.committed_operations) }
     ensures table { open.new.attribute.table ≡ open.old.attribute.table }
@@ -123,6 +149,11 @@ pub extern "C" fn attr_commit(at: &mut HeldEngine, told: &mut Told) -> i32
     ensures committed { result ≡ pos 0 → committed_of at.new.value ≡ table_of at.old.value }
     ensures published { result ≡ pos 0 → committed_operations_of at.new.value ≡ operations_of at.old.value }
     ensures told { result ≡ pos 0 → told.new.operations ≡ operations_of at.old.value }
+    ensures counts { result ≡ pos 0 → CommitsAs (open_bits at.old.value.open) (open_ledger at.old.value.open)
+        (open_ledger at.new.value.open) (open_counts at.old.value.open) (open_counts at.new.value.open) told.new }
+    ensures stopped { result ≢ pos 0 → Stopped (StopsCommit (open_ledger at.old.value.open) (open_ledger at.new.value.open))
+        (open_counts at.old.value.open) (open_counts at.new.value.open) told.new result }
+    ensures waiting { KeepsWaiting at.old.value.open at.new.value.open }
     ensures left { result ≢ pos 0 → KeepsTables at.old.value.open at.new.value.open }
     ensures table { table_of at.new.value ≡ table_of at.old.value }
     ensures operations { operations_of at.new.value ≡ operations_of at.old.value }
@@ -142,6 +173,14 @@ fn compact_told<const OFFSET_BITS: u32, S: Store<OFFSET_BITS, Layout = AttrLayou
     keys: u32,
     told: &mut Told,
 ) -> i32
+    ensures counts { result ≡ pos 0 → open.new.counts ≡ open.old.counts }
+    ensures steps { result ≡ pos 0 → StepsAs (CompactsTo OFFSET_BITS S.ledger S.records open.old.attribute open.new.attribute keys)
+        told.new }
+    ensures stopped { result ≢ pos 0 → Stopped
+        (StopsStep (CompactsTo OFFSET_BITS S.ledger S.records open.old.attribute open.new.attribute keys)
+        (RefusesStep OFFSET_BITS S.ledger S.records open.old.attribute open.new.attribute) told.new.keys)
+        open.old.counts open.new.counts told.new result }
+    ensures pool { open.new.pool ≡ open.old.pool }
     ensures table { open.new.attribute.table ≡ open.old.attribute.table }
     ensures operations { open.new.attribute.operations ≡ open.old.attribute.operations }
     ensures committed { open.new.attribute.committed ≡ open.old.attribute.committed }
@@ -160,7 +199,13 @@ pub extern "C" fn attr_compact(
     keys: u32,
     told: &mut Told,
 ) -> i32
-    ensures { KeepsTables at.old.value.open at.new.value.open }
+    ensures tables { KeepsTables at.old.value.open at.new.value.open }
+    ensures counts { result ≡ pos 0 → open_counts at.new.value.open ≡ open_counts at.old.value.open }
+    ensures steps { result ≡ pos 0 → StepsAs (CompactsOpen at.old.value.open at.new.value.open keys) told.new }
+    ensures stopped { result ≢ pos 0 → Stopped (StopsStep (CompactsOpen at.old.value.open at.new.value.open keys)
+        (RefusesOpen at.old.value.open at.new.value.open) told.new.keys)
+        (open_counts at.old.value.open) (open_counts at.new.value.open) told.new result }
+    ensures waiting { KeepsWaiting at.old.value.open at.new.value.open }
 {
     *told = no_told();
     let engine = at.get_mut();
@@ -181,6 +226,12 @@ fn load_told<const OFFSET_BITS: u32, S: Store<OFFSET_BITS, Layout = AttrLayout>>
     ensures front { result ≢ pos 0 → LoadsFront open.old.fields bytes.now open.old.attribute.table open.new.attribute.table
         open.old.attribute.operations open.new.attribute.operations }
     ensures count { open.new.attribute.operations ≡ open.old.attribute.operations + told.new.operations }
+    ensures skipped { told.new.skipped ≡ told.old.skipped }
+    ensures counts { result ≡ pos 0 → open.new.counts ≡ open.old.counts }
+    ensures stopped { result ≢ pos 0 → Stopped (StopsLoad open.old.fields bytes.now told.new.place
+        (StopsOperation (S.ledger open.new.attribute.store) open.new.attribute.operations))
+        open.old.counts open.new.counts told.new result }
+    ensures pool { open.new.pool ≡ open.old.pool }
     ensures commit { Stays open.old.attribute.committed open.new.attribute.committed
         open.old.attribute.committed_operations open.new.attribute.committed_operations }
     ensures fields { open.new.fields ≡ open.old.fields }
@@ -204,6 +255,12 @@ pub extern "C" fn attr_load(
     ensures front { result ≢ pos 0 → LoadsFront (fields_of at.old.value) bytes.now (table_of at.old.value) (table_of at.new.value)
         (operations_of at.old.value) (operations_of at.new.value) }
     ensures count { operations_of at.new.value ≡ operations_of at.old.value + told.new.operations }
+    ensures skipped { told.new.skipped ≡ 0 }
+    ensures counts { result ≡ pos 0 → open_counts at.new.value.open ≡ open_counts at.old.value.open }
+    ensures stopped { result ≢ pos 0 → Stopped (StopsLoad (fields_of at.old.value) bytes.now told.new.place
+        (StopsOperation (open_ledger at.new.value.open) (operations_of at.new.value)))
+        (open_counts at.old.value.open) (open_counts at.new.value.open) told.new result }
+    ensures waiting { KeepsWaiting at.old.value.open at.new.value.open }
     ensures commit { Stays (committed_of at.old.value) (committed_of at.new.value)
         (committed_operations_of at.old.value) (committed_operations_of at.new.value) }
     ensures fields { fields_of at.new.value ≡ fields_of at.old.value }

@@ -1,9 +1,11 @@
 //! Lines of a feed, applied one by one.
-ghost use Rattle.std.specs.Prelude.{◌≡◌, ◌+◌, ◌<◌, ◌∷◌, [], drop, length, OnOk, OnErr, IfErr};
+ghost use Rattle.std.specs.Prelude.{◌≡◌, ◌+◌, ◌<◌, ◌^◌, ◌∷◌, [], drop, length, OnOk, OnErr, IfErr, IfOk, IfSome};
 ghost use Rattle.attr_types.specs.Lawful.{OpFits};
 ghost use Rattle.attr_types.specs.Table.{after_op};
 ghost use Rattle.feed_reader.specs.Lines.{lines_of};
-ghost use Rattle.attr_c.specs.Feeding.{FedLine, FedTo, Feeds, IsOfNoLine, RefusesLine, Stays};
+ghost use Rattle.attribute_kinds.specs.Calls.{applied_to};
+ghost use Rattle.attr_c.specs.Feeding.{skips_of, FedLine, FedTo, Feeds, IsOfNoLine, RefusesLine, Stays};
+ghost use Rattle.attr_c.specs.Stops.{LineOr, StopsOperation};
 
 use crate::line::operation_in;
 use crate::split::split_line;
@@ -26,7 +28,12 @@ pub fn apply<const OFFSET_BITS: u32, S: Store<OFFSET_BITS, Layout = AttrLayout>>
     ensures operations { OnOk result (open.new.attribute.operations ≡ open.old.attribute.operations + 1) }
     ensures left { OnErr result ((open.new.attribute.table ≡ open.old.attribute.table)
         × (open.new.attribute.operations ≡ open.old.attribute.operations)) }
+    ensures applied { IfOk result (λ applied. applied ≡ applied_to open.old.fields open.old.attribute.table op.now) }
+    ensures few { OnOk result (open.new.attribute.operations < 2 ^ 32) }
     ensures kind { IfErr result IsOfNoLine }
+    ensures why { IfErr result (StopsOperation (S.ledger open.new.attribute.store) open.new.attribute.operations) }
+    ensures pool { open.new.pool ≡ open.old.pool }
+    ensures counts { open.new.counts ≡ open.old.counts }
     ensures commit { Stays open.old.attribute.committed open.new.attribute.committed
         open.old.attribute.committed_operations open.new.attribute.committed_operations }
     ensures fields { open.new.fields ≡ open.old.fields }
@@ -49,6 +56,10 @@ fn feed_line<const OFFSET_BITS: u32, S: Store<OFFSET_BITS, Layout = AttrLayout>>
     requires { 0 < length line.now → lines_of line.now ≡ line.now ∷ [] }
     ensures fed { FedLine open.old.fields line.now open.old.attribute.table open.new.attribute.table
         open.old.attribute.operations open.new.attribute.operations result }
+    ensures few { IfOk result (λ applied. IfSome applied (λ _. open.new.attribute.operations < 2 ^ 32)) }
+    ensures why { IfErr result (LineOr (StopsOperation (S.ledger open.new.attribute.store) open.new.attribute.operations)) }
+    ensures pool { open.new.pool ≡ open.old.pool }
+    ensures counts { open.new.counts ≡ open.old.counts }
     ensures commit { Stays open.old.attribute.committed open.new.attribute.committed
         open.old.attribute.committed_operations open.new.attribute.committed_operations }
     ensures fields { open.new.fields ≡ open.old.fields }
@@ -63,16 +74,19 @@ fn feed_line<const OFFSET_BITS: u32, S: Store<OFFSET_BITS, Layout = AttrLayout>>
     }
 }
 
-fn note_skip(told: &mut Told, applied: Option<Applied>)
-    ensures line { told.new.line ≡ told.old.line }
-    ensures place { told.new.place ≡ told.old.place }
+/// Returns how many operations of a line changed nothing.
+fn skips_of(applied: Option<Applied>) -> u32
+    ensures { result ≡ skips_of applied }
 {
-    if let Some(Applied::Skipped) = applied {
-        told.skipped = told.skipped.wrapping_add(1);
+    match applied {
+        Some(Applied::Skipped) => 1,
+        Some(Applied::Changed) => 0,
+        None => 0,
     }
 }
 
-/// Applies the operations of lines, one after another, up to a line that is refused, which is reported.
+/// Applies the operations of lines, one after another, up to a line that is refused, which is reported. Counts those
+/// that changed nothing.
 pub fn feed<const OFFSET_BITS: u32, S: Store<OFFSET_BITS, Layout = AttrLayout>>(
     alloc: Global,
     open: &mut Open<OFFSET_BITS, S>,
@@ -80,20 +94,25 @@ pub fn feed<const OFFSET_BITS: u32, S: Store<OFFSET_BITS, Layout = AttrLayout>>(
     told: &mut Told,
 ) -> Result<(), Stop>
     ensures whole { OnOk result (Feeds open.old.fields bytes.now open.old.attribute.table open.new.attribute.table
-        open.old.attribute.operations open.new.attribute.operations) }
+        open.old.attribute.operations open.new.attribute.operations told.new.skipped) }
     ensures front { OnErr result (FedTo open.old.fields bytes.now told.new.line (drop told.new.place bytes.now)
-        open.old.attribute.table open.new.attribute.table open.old.attribute.operations open.new.attribute.operations) }
+        open.old.attribute.table open.new.attribute.table open.old.attribute.operations open.new.attribute.operations
+        told.new.skipped) }
     ensures refused { IfErr result (RefusesLine open.old.fields bytes.now told.new.line) }
+    ensures why { IfErr result (LineOr (StopsOperation (S.ledger open.new.attribute.store) open.new.attribute.operations)) }
+    ensures pool { open.new.pool ≡ open.old.pool }
+    ensures counts { open.new.counts ≡ open.old.counts }
     ensures commit { Stays open.old.attribute.committed open.new.attribute.committed
         open.old.attribute.committed_operations open.new.attribute.committed_operations }
     ensures fields { open.new.fields ≡ open.old.fields }
 {
     let mut rest = bytes;
     let mut passed: u64 = 0;
+    told.skipped = 0;
     while !rest.is_empty() {
         let (line, after) = split_line(rest);
         match feed_line(alloc, open, line) {
-            Ok(applied) => note_skip(told, applied),
+            Ok(applied) => told.skipped += skips_of(applied),
             Err(stop) => {
                 told.line = passed + 1;
                 told.place = (bytes.len() - rest.len()) as u64;

@@ -1,9 +1,13 @@
 //! The documents of a save, put in one after another.
-ghost use Rattle.std.specs.Prelude.{◌≡◌, ◌+◌, true, length, IfOk, OnOk, OnErr, Ok};
+ghost use Rattle.std.specs.Prelude.{◌≡◌, ◌+◌, true, false, length, IfErr, IfOk, OnOk, OnErr, Ok};
+ghost use Rattle.std.specs.List.{AllByRecursion};
 ghost use Rattle.attr_saver.specs.Fields.{read_of};
+ghost use Rattle.attr_saver.specs.Lawful.{IsLawfulSaved};
+ghost use Rattle.attr_types.specs.Lawful.{OpFits};
 ghost use Rattle.attr_types.specs.Table.{after_op};
 ghost use Rattle.attr_c.specs.Feeding.{Stays};
-ghost use Rattle.attr_c.specs.Loading.{put_of, IsSaveOf, LoadsFront, LoadsSave, PutsFront, PutsIn};
+ghost use Rattle.attr_c.specs.Stops.{StopsOperation};
+ghost use Rattle.attr_c.specs.Loading.{put_of, IsSaveOf, LoadsFront, LoadsSave, PutsFront, PutsIn, RefusesSave, StopsLoad};
 
 use crate::feeding::apply;
 use crate::state::Open;
@@ -12,7 +16,7 @@ use crate::told::Told;
 use attr_images::AttrLayout;
 use attr_io::SliceSource;
 use attr_saver::{LoadError, Saved, SavedDocument, read_saved};
-use attr_types::{Field, FieldItems, Fields, Op, fits};
+use attr_types::{Field, FieldItems, Fields, Op};
 use std::alloc::{AllocError, Global};
 use store_api::Store;
 
@@ -20,12 +24,14 @@ use store_api::Store;
 fn is_of(field: &Field, saved: &Saved) -> bool
     ensures kind { result ≡ true → saved.now.kind ≡ field.now.kind }
     ensures value { result ≡ true → saved.now.value ≡ field.now.value }
+    ensures no { result ≡ false → saved.now.kind ≡ field.now.kind → saved.now.value ≡ field.now.value → ⊥ }
 {
     field.kind == saved.kind && field.value == saved.value
 }
 
 fn is_of_fields(fields: &Fields, saved: &Saved) -> bool
-    ensures { result ≡ true → IsSaveOf fields.now saved.now }
+    ensures yes { result ≡ true → IsSaveOf fields.now saved.now }
+    ensures no { result ≡ false → IsSaveOf fields.now saved.now → ⊥ }
 {
     match fields.as_slice() {
         [field] => is_of(field, saved),
@@ -41,45 +47,29 @@ fn op_of(alloc: Global, document: SavedDocument) -> Result<Op, AllocError>
     Ok(Op::Put { doc, items })
 }
 
-/// Applies an operation, if it is one of the attributes.
-fn apply_fitting<const OFFSET_BITS: u32, S: Store<OFFSET_BITS, Layout = AttrLayout>>(
-    alloc: Global,
-    open: &mut Open<OFFSET_BITS, S>,
-    op: &Op,
-) -> Result<(), Stop>
-    ensures table { OnOk result (open.new.attribute.table ≡ after_op open.old.fields open.old.attribute.table op.now) }
-    ensures operations { OnOk result (open.new.attribute.operations ≡ open.old.attribute.operations + 1) }
-    ensures left { OnErr result (Stays open.old.attribute.table open.new.attribute.table
-        open.old.attribute.operations open.new.attribute.operations) }
-    ensures commit { Stays open.old.attribute.committed open.new.attribute.committed
-        open.old.attribute.committed_operations open.new.attribute.committed_operations }
-    ensures fields { open.new.fields ≡ open.old.fields }
-{
-    if !fits(&open.fields, op) {
-        return Err(Stop::Other);
-    }
-    match apply(alloc, open, op) {
-        Ok(_) => Ok(()),
-        Err(stop) => Err(stop),
-    }
-}
-
 /// Puts a document in.
 fn put_document<const OFFSET_BITS: u32, S: Store<OFFSET_BITS, Layout = AttrLayout>>(
     alloc: Global,
     open: &mut Open<OFFSET_BITS, S>,
     document: SavedDocument,
 ) -> Result<(), Stop>
+    requires { OpFits open.old.fields (put_of document) }
     ensures table { OnOk result (open.new.attribute.table ≡ after_op open.old.fields open.old.attribute.table (put_of document)) }
     ensures operations { OnOk result (open.new.attribute.operations ≡ open.old.attribute.operations + 1) }
     ensures left { OnErr result (Stays open.old.attribute.table open.new.attribute.table
         open.old.attribute.operations open.new.attribute.operations) }
+    ensures why { IfErr result (StopsOperation (S.ledger open.new.attribute.store) open.new.attribute.operations) }
+    ensures pool { open.new.pool ≡ open.old.pool }
+    ensures counts { open.new.counts ≡ open.old.counts }
     ensures commit { Stays open.old.attribute.committed open.new.attribute.committed
         open.old.attribute.committed_operations open.new.attribute.committed_operations }
     ensures fields { open.new.fields ≡ open.old.fields }
 {
     match op_of(alloc, document) {
-        Ok(op) => apply_fitting(alloc, open, &op),
+        Ok(op) => match apply(alloc, open, &op) {
+            Ok(_) => Ok(()),
+            Err(stop) => Err(stop),
+        },
         Err(_) => Err(Stop::Memory),
     }
 }
@@ -90,10 +80,14 @@ fn put_all<const OFFSET_BITS: u32, S: Store<OFFSET_BITS, Layout = AttrLayout>>(
     open: &mut Open<OFFSET_BITS, S>,
     documents: Vec<SavedDocument>,
 ) -> Result<(), Stop>
+    requires { AllByRecursion (λ d. OpFits open.old.fields (put_of d)) documents.items }
     ensures whole { OnOk result (PutsIn open.old.fields documents.items open.old.attribute.table open.new.attribute.table
         open.old.attribute.operations open.new.attribute.operations) }
     ensures front { OnErr result (PutsFront open.old.fields documents.items open.old.attribute.table open.new.attribute.table
         open.old.attribute.operations open.new.attribute.operations) }
+    ensures why { IfErr result (StopsOperation (S.ledger open.new.attribute.store) open.new.attribute.operations) }
+    ensures pool { open.new.pool ≡ open.old.pool }
+    ensures counts { open.new.counts ≡ open.old.counts }
     ensures commit { Stays open.old.attribute.committed open.new.attribute.committed
         open.old.attribute.committed_operations open.new.attribute.committed_operations }
     ensures fields { open.new.fields ≡ open.old.fields }
@@ -109,7 +103,10 @@ fn put_all<const OFFSET_BITS: u32, S: Store<OFFSET_BITS, Layout = AttrLayout>>(
 
 /// What bytes tell as a save.
 fn saved_in(alloc: Global, bytes: &[u8], told: &mut Told) -> Result<Saved, Stop>
-    ensures { IfOk result (λ saved. read_of bytes.now ≡ Ok saved) }
+    ensures saved { IfOk result (λ saved. read_of bytes.now ≡ Ok saved) }
+    ensures lawful { IfOk result IsLawfulSaved }
+    ensures why { IfErr result (RefusesSave bytes.now told.new.place) }
+    ensures skipped { told.new.skipped ≡ told.old.skipped }
 {
     match read_saved(alloc, &mut SliceSource::new(bytes)) {
         Ok(saved) => Ok(saved),
@@ -133,6 +130,11 @@ pub fn load<const OFFSET_BITS: u32, S: Store<OFFSET_BITS, Layout = AttrLayout>>(
         open.old.attribute.operations open.new.attribute.operations) }
     ensures front { OnErr result (LoadsFront open.old.fields bytes.now open.old.attribute.table open.new.attribute.table
         open.old.attribute.operations open.new.attribute.operations) }
+    ensures why { IfErr result (StopsLoad open.old.fields bytes.now told.new.place
+        (StopsOperation (S.ledger open.new.attribute.store) open.new.attribute.operations)) }
+    ensures pool { open.new.pool ≡ open.old.pool }
+    ensures counts { open.new.counts ≡ open.old.counts }
+    ensures skipped { told.new.skipped ≡ told.old.skipped }
     ensures commit { Stays open.old.attribute.committed open.new.attribute.committed
         open.old.attribute.committed_operations open.new.attribute.committed_operations }
     ensures fields { open.new.fields ≡ open.old.fields }

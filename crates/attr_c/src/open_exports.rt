@@ -1,18 +1,19 @@
 //! What C calls to open, to close, and to hand readers out.
-ghost use Rattle.std.specs.Prelude.{◌≡◌, ◌≢◌, Err, IfErr, IfNone, IfOk, IfSome};
+ghost use Rattle.std.specs.Prelude.{◌≡◌, ◌≢◌, [], ◌∷◌, ◌++◌, Err, IfErr, IfNone, IfOk, IfSome, None};
 ghost use Rattle.std.specs.Str.{IsUtf8};
+ghost use Rattle.word_arena.specs.Ruled.{reader_of};
 ghost use Rattle.attr_c.specs.Attributes.{fields_in};
-ghost use Rattle.attr_c.specs.Engines.{KeepsTables};
+ghost use Rattle.attr_c.specs.Engines.{open_counts, KeepsTables, KeepsWaiting};
 ghost use Rattle.attr_c.specs.Opening.{InBounds, Opens, OpensEngine, RefusesOpening};
-ghost use Rattle.attr_c.specs.Seats.{HasNoReader, OpensSeat, TakesReader};
-ghost use Rattle.attr_c.specs.declared.codes.TheConstants.{ATTRIBUTES, BOUNDS, MEMORY, NO_READER, NO_TEXT, OK};
+ghost use Rattle.attr_c.specs.Seats.{HasNoReader, IsForeign, IsReaderOf, OpensSeat, TakesBack, TakesReader};
+ghost use Rattle.attr_c.specs.declared.codes.TheConstants.{ATTRIBUTES, BOUNDS, LOST, MEMORY, NO_READER, NO_TEXT, OK};
 
 use crate::attributes::fields_in;
 use crate::codes::{BOUNDS, LOST, MEMORY, NO_READER, NO_TEXT, OK};
 use crate::handles::{HeldEngine, HeldSeat, OpenedEngine, OpenedSeat};
 use crate::opening::{may_cross, opened_in_bounds};
 use crate::seat::{Place, Seat, reader_of};
-use crate::state::{AnyOpen, AnyReader, Engine};
+use crate::state::{AnyOpen, AnyReader, Engine, Waiting};
 use crate::told::Sizes;
 use std::alloc::Global;
 
@@ -94,34 +95,64 @@ pub extern "C" fn attr_close(alloc: Global, at: HeldEngine) {
 fn next_reader(open: &mut AnyOpen) -> Option<AnyReader>
     ensures taken { IfSome result (TakesReader open.old open.new) }
     ensures none { IfNone result (HasNoReader open.old) }
+    ensures left { IfNone result (open.new ≡ open.old) }
     ensures keeps { KeepsTables open.old open.new }
+    ensures counts { open_counts open.new ≡ open_counts open.old }
 {
     match open {
-        AnyOpen::Narrow(open) => match open.pool.pop() {
-            Some(waiting) => Some(AnyReader::Narrow(waiting)),
-            None => None,
-        },
-        AnyOpen::Wide(open) => match open.pool.pop() {
-            Some(waiting) => Some(AnyReader::Wide(waiting)),
-            None => None,
-        },
+        AnyOpen::Narrow(open) => {
+            if open.pool.is_empty() {
+                return None;
+            }
+            Some(AnyReader::Narrow(open.pool.take_last()))
+        }
+        AnyOpen::Wide(open) => {
+            if open.pool.is_empty() {
+                return None;
+            }
+            Some(AnyReader::Wide(open.pool.take_last()))
+        }
+    }
+}
+
+/// Gives up a reader that is not one of the engine's.
+fn lost<const OFFSET_BITS: u32>(waiting: Waiting<OFFSET_BITS>) -> i32
+    ensures code { result ≡ LOST }
+    ensures bits { (reader_of waiting.entry.reader.place.me.0).sizes.offset_bits ≡ OFFSET_BITS }
+{
+    drop(waiting);
+    LOST
+}
+
+/// Puts a reader after those that are to be given away.
+fn put_last<const OFFSET_BITS: u32>(
+    pool: &mut Vec<Waiting<OFFSET_BITS>>,
+    waiting: Waiting<OFFSET_BITS>,
+) -> i32
+    ensures last { result ≡ OK → pool.new.items ≡ pool.old.items ++ waiting.entry ∷ [] }
+    ensures left { result ≢ OK → pool.new.items ≡ pool.old.items }
+    ensures code { result ≢ OK → result ≡ MEMORY }
+{
+    match pool.push(waiting) {
+        Ok(()) => OK,
+        Err(_) => MEMORY,
     }
 }
 
 /// Puts a reader back to those that are to be given away.
 fn put_back(open: &mut AnyOpen, reader: AnyReader) -> i32
-    ensures { KeepsTables open.old open.new }
+    ensures returned { result ≡ OK → TakesReader open.new open.old reader }
+    ensures lost { result ≡ LOST → IsForeign open.old (Place.Free reader) }
+    ensures others { result ≢ OK → result ≢ LOST → result ≡ MEMORY }
+    ensures left { result ≢ OK → KeepsWaiting open.old open.new }
+    ensures keeps { KeepsTables open.old open.new }
+    ensures counts { open_counts open.new ≡ open_counts open.old }
 {
     match (open, reader) {
-        (AnyOpen::Narrow(open), AnyReader::Narrow(waiting)) => match open.pool.push(waiting) {
-            Ok(()) => OK,
-            Err(_) => MEMORY,
-        },
-        (AnyOpen::Wide(open), AnyReader::Wide(waiting)) => match open.pool.push(waiting) {
-            Ok(()) => OK,
-            Err(_) => MEMORY,
-        },
-        _ => LOST,
+        (AnyOpen::Narrow(open), AnyReader::Narrow(waiting)) => put_last(&mut open.pool, waiting),
+        (AnyOpen::Narrow(_), AnyReader::Wide(waiting)) => lost(waiting),
+        (AnyOpen::Wide(open), AnyReader::Wide(waiting)) => put_last(&mut open.pool, waiting),
+        (AnyOpen::Wide(_), AnyReader::Narrow(waiting)) => lost(waiting),
     }
 }
 
@@ -132,7 +163,9 @@ pub extern "C" fn attr_reader_open(alloc: Global, at: &mut HeldEngine, out: &mut
     ensures left { result ≢ OK → out.new ≡ out.old }
     ensures none { result ≡ NO_READER → HasNoReader at.old.value.open }
     ensures others { result ≢ OK → result ≢ NO_READER → result ≡ MEMORY }
+    ensures kept { result ≢ OK → at.new.value ≡ at.old.value }
     ensures keeps { KeepsTables at.old.value.open at.new.value.open }
+    ensures counts { open_counts at.new.value.open ≡ open_counts at.old.value.open }
 {
     let Ok(mut seat) = Box::new(alloc, may_cross(Seat::new(alloc))) else {
         return MEMORY;
@@ -147,7 +180,10 @@ pub extern "C" fn attr_reader_open(alloc: Global, at: &mut HeldEngine, out: &mut
 }
 
 /// The reader of a handle, without a guard.
-fn reader_in(alloc: Global, at: HeldSeat) -> Option<AnyReader> {
+fn reader_in(alloc: Global, at: HeldSeat) -> Option<AnyReader>
+    ensures some { IfSome result (IsReaderOf at.value.place) }
+    ensures none { IfNone result (at.value.place ≡ None) }
+{
     let Seat { place, .. } = Box::into_inner(at.into_box(alloc));
     match place {
         Some(place) => Some(reader_of(place)),
@@ -158,7 +194,12 @@ fn reader_in(alloc: Global, at: HeldSeat) -> Option<AnyReader> {
 /// Takes a reader back, to be handed out again.
 #[unsafe(no_mangle)]
 pub extern "C" fn attr_reader_return(alloc: Global, at: &mut HeldEngine, seat: HeldSeat) -> i32
-    ensures { KeepsTables at.old.value.open at.new.value.open }
+    ensures returned { result ≡ OK → TakesBack at.old.value.open at.new.value.open seat.value.place }
+    ensures lost { result ≡ LOST → IfSome seat.value.place (IsForeign at.old.value.open) }
+    ensures others { result ≢ OK → result ≢ LOST → result ≡ MEMORY }
+    ensures left { result ≢ OK → KeepsWaiting at.old.value.open at.new.value.open }
+    ensures keeps { KeepsTables at.old.value.open at.new.value.open }
+    ensures counts { open_counts at.new.value.open ≡ open_counts at.old.value.open }
 {
     let reader = reader_in(alloc, seat);
     let engine = at.get_mut();

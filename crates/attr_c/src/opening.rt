@@ -1,11 +1,11 @@
 //! A new memory, with its attributes and readers. It is freed with the last of these.
-ghost use Rattle.std.specs.Prelude.{◌≡◌, ◌≤◌, ◌<◌, ◌*◌, ◌^◌, true, false, length, IfOk, IfNone, IfSome};
+ghost use Rattle.std.specs.Prelude.{◌≡◌, ◌≤◌, ◌<◌, ◌+◌, ◌*◌, ◌^◌, true, false, length, IfOk, IfNone, IfSome};
 ghost use Rattle.attr_images.specs.Shapes.{shape_of, types_of};
 ghost use Rattle.attr_types.specs.declared.field.TheConstants.{MOST_FIELDS};
 ghost use Rattle.arena_api.specs.Calls.{IsFresh};
 ghost use Rattle.word_arena.specs.Knows.{core_sizes, view_of};
 ghost use Rattle.word_arena.specs.Ruled.{api_sizes, writer_of};
-ghost use Rattle.attr_c.specs.Engines.{AreNewCounts, HasNothing, IsOpened, open_counts};
+ghost use Rattle.attr_c.specs.Engines.{AreNewCounts, HasNothing, IsOpened, open_counts, open_waiting};
 ghost use Rattle.attr_c.specs.Opening.{InBounds};
 ghost use Rattle.attr_c.specs.Stores.{HasMemory, open_memory};
 
@@ -44,28 +44,30 @@ pub fn may_cross<T: Send>(value: T) -> T
     value
 }
 
-/// Returns one more reader, with the attributes; none if there can be no more.
+/// Returns one more reader, with the attributes.
 fn next_waiting<const OFFSET_BITS: u32>(
     writer: &mut Writer<OFFSET_BITS, AttrLayout>,
     fields: &Fields,
-) -> Result<Option<Waiting<OFFSET_BITS>>, AllocError>
+) -> Result<Waiting<OFFSET_BITS>, AllocError>
     requires few { length fields.now ≤ MOST_FIELDS }
+    requires room { (writer_of writer.old.place.me.0).made < 64 }
     requires shape { (writer_of writer.old.place.me.0).sizes.shape ≡ shape_of (types_of fields.now) }
     requires fresh { IsFresh (view_of writer.old.place.table_id (writer_of writer.old.place.me.0)) }
     ensures shape { (writer_of writer.new.place.me.0).sizes.shape ≡ shape_of (types_of fields.now) }
     ensures fresh { IsFresh (view_of writer.new.place.table_id (writer_of writer.new.place.me.0)) }
     ensures sizes { (writer_of writer.new.place.me.0).sizes ≡ (writer_of writer.old.place.me.0).sizes }
+    ensures made { (writer_of writer.new.place.me.0).made ≡ (writer_of writer.old.place.me.0).made + 1 }
 {
     match writer.reader() {
         Ok(reader) => match fields.clone() {
-            Ok(fields) => Ok(Some(Waiting { fields, reader })),
+            Ok(fields) => Ok(Waiting { fields, reader }),
             Err(_) => Err(AllocError),
         },
-        Err(_) => Ok(None),
+        Err(_) => unreachable!(),
     }
 }
 
-/// Returns readers, each with the attributes.
+/// Returns this many readers, each with the attributes.
 fn waiting<const OFFSET_BITS: u32>(
     alloc: Global,
     writer: &mut Writer<OFFSET_BITS, AttrLayout>,
@@ -73,20 +75,22 @@ fn waiting<const OFFSET_BITS: u32>(
     readers: u32,
 ) -> Result<Vec<Waiting<OFFSET_BITS>>, AllocError>
     requires few { length fields.now ≤ MOST_FIELDS }
+    requires few_readers { readers ≤ 64 }
+    requires none_made { (writer_of writer.old.place.me.0).made ≡ 0 }
     requires shape { (writer_of writer.old.place.me.0).sizes.shape ≡ shape_of (types_of fields.now) }
     requires fresh { IsFresh (view_of writer.old.place.table_id (writer_of writer.old.place.me.0)) }
     ensures shape { (writer_of writer.new.place.me.0).sizes.shape ≡ shape_of (types_of fields.now) }
     ensures fresh { IsFresh (view_of writer.new.place.table_id (writer_of writer.new.place.me.0)) }
     ensures sizes { (writer_of writer.new.place.me.0).sizes ≡ (writer_of writer.old.place.me.0).sizes }
+    ensures readers { IfOk result (λ pool. length pool.items ≡ readers) }
 {
     let mut pool = Vec::new(alloc);
-    for _ in 0..readers {
+    for i in 0..readers {
         match next_waiting(writer, fields) {
-            Ok(Some(waiting)) => match pool.push(waiting) {
+            Ok(waiting) => match pool.push(waiting) {
                 Ok(()) => (),
                 Err(_) => return Err(AllocError),
             },
-            Ok(None) => return Ok(pool),
             Err(error) => return Err(error),
         }
     }
@@ -166,6 +170,7 @@ fn narrow_writer(alloc: Global, config: Config) -> Result<Writer<22, AttrLayout>
     ensures shape { IfOk result (λ w. (writer_of w.place.me.0).sizes.shape ≡ config.shape) }
     ensures fresh { IfOk result (λ w. IsFresh (view_of w.place.table_id (writer_of w.place.me.0))) }
     ensures sizes { IfOk result (λ w. (writer_of w.place.me.0).sizes ≡ core_sizes 22 config) }
+    ensures none_made { IfOk result (λ w. (writer_of w.place.me.0).made ≡ 0) }
 {
     let (arena, token) = Arena::<22, AttrLayout>::create(alloc, config)?;
     arena.writer(alloc, token)
@@ -182,6 +187,7 @@ fn wide_writer(alloc: Global, config: Config) -> Result<Writer<19, AttrLayout>, 
     ensures shape { IfOk result (λ w. (writer_of w.place.me.0).sizes.shape ≡ config.shape) }
     ensures fresh { IfOk result (λ w. IsFresh (view_of w.place.table_id (writer_of w.place.me.0))) }
     ensures sizes { IfOk result (λ w. (writer_of w.place.me.0).sizes ≡ core_sizes 19 config) }
+    ensures none_made { IfOk result (λ w. (writer_of w.place.me.0).made ≡ 0) }
 {
     let (arena, token) = Arena::<19, AttrLayout>::create(alloc, config)?;
     arena.writer(alloc, token)
@@ -198,7 +204,10 @@ fn opened_over<const OFFSET_BITS: u32>(
     requires few { length fields ≤ MOST_FIELDS }
     requires shape { (writer_of writer.place.me.0).sizes.shape ≡ shape_of (types_of fields) }
     requires fresh { IsFresh (view_of writer.place.table_id (writer_of writer.place.me.0)) }
+    requires few_readers { sizes.now.readers ≤ 64 }
+    requires none_made { (writer_of writer.place.me.0).made ≡ 0 }
     ensures fields { IfOk result (λ o. o.fields ≡ fields) }
+    ensures readers { IfOk result (λ o. length o.pool.items ≡ sizes.now.readers) }
     ensures nothing { IfOk result (λ o. HasNothing o.attribute.table o.attribute.committed o.attribute.operations
         o.attribute.committed_operations) }
     ensures counts { IfOk result (λ o. AreNewCounts sizes.now o.counts) }
@@ -238,7 +247,9 @@ fn narrow_open(
     requires product { config.buffers * config.words ≤ 67108864 }
     requires generations { config.limits.generations < 2 ^ 48 }
     requires shape { config.shape ≡ shape_of (types_of fields) }
+    requires few_readers { sizes.now.readers ≤ 64 }
     ensures opened { IfOk result (IsOpened fields) }
+    ensures readers { IfOk result (λ o. open_waiting o ≡ sizes.now.readers) }
     ensures counts { IfOk result (λ o. AreNewCounts sizes.now (open_counts o)) }
     ensures memory { IfOk result (λ o. HasMemory config.buffers config.words (open_memory o)) }
 {
@@ -267,7 +278,9 @@ fn wide_open(
     requires product { config.buffers * config.words ≤ 67108864 }
     requires generations { config.limits.generations < 2 ^ 48 }
     requires shape { config.shape ≡ shape_of (types_of fields) }
+    requires few_readers { sizes.now.readers ≤ 64 }
     ensures opened { IfOk result (IsOpened fields) }
+    ensures readers { IfOk result (λ o. open_waiting o ≡ sizes.now.readers) }
     ensures counts { IfOk result (λ o. AreNewCounts sizes.now (open_counts o)) }
     ensures memory { IfOk result (λ o. HasMemory config.buffers config.words (open_memory o)) }
 {
@@ -308,6 +321,7 @@ fn opened_within(alloc: Global, fields: Fields, sizes: &Sizes) -> Result<AnyOpen
     requires few { length fields ≤ MOST_FIELDS }
     requires bounds { InBounds sizes.now }
     ensures opened { IfOk result (IsOpened fields) }
+    ensures readers { IfOk result (λ o. open_waiting o ≡ sizes.now.readers) }
     ensures counts { IfOk result (λ o. AreNewCounts sizes.now (open_counts o)) }
     ensures memory { IfOk result (λ o. HasMemory sizes.now.buffers sizes.now.words (open_memory o)) }
 {
@@ -329,6 +343,7 @@ pub fn opened_in_bounds(
     requires some { 0 < length fields }
     requires few { length fields ≤ MOST_FIELDS }
     ensures opened { IfOk result (λ found. IfSome found (IsOpened fields)) }
+    ensures readers { IfOk result (λ found. IfSome found (λ o. open_waiting o ≡ sizes.now.readers)) }
     ensures counts { IfOk result (λ found. IfSome found (λ o. AreNewCounts sizes.now (open_counts o))) }
     ensures memory { IfOk result (λ found. IfSome found (λ o. HasMemory sizes.now.buffers sizes.now.words (open_memory o))) }
     ensures bounds { IfOk result (λ found. IfSome found (λ _. InBounds sizes.now)) }

@@ -1,7 +1,10 @@
 //! What C calls with a reader's handle.
-ghost use Rattle.std.specs.Prelude.{◌≡◌, ◌≢◌, pos, Some, None, option_map, slice_get, IfOk};
+ghost use Rattle.std.specs.Prelude.{◌≡◌, ◌≢◌, pos, Some, None, option_map, slice_get, IfErr, IfOk};
+ghost use Rattle.std.specs.Str.{IsUtf8};
 ghost use Rattle.attr_c.specs.Copies.{documents_of, item_told, scores_told, text_in, Copies};
+ghost use Rattle.attr_c.specs.Refusals.{IsInBounds, RefusesItems, RefusesText};
 ghost use Rattle.attr_c.specs.Seats.{AnswersText, ByGuardOf, CountsText, HoldsGuard, ReadsItems, ReleasesGuard, SavesTable};
+ghost use Rattle.attr_c.specs.declared.codes.TheConstants.{LOST, MEMORY, NO_TEXT, OK};
 
 use crate::answer::{Answer, copy_hits, copy_scores};
 use crate::asking::{answer_any, items_any, save_any, tell_any};
@@ -21,17 +24,16 @@ fn no_answer() -> Answered {
     }
 }
 
-/// The code of a refusal, which is none of success.
-fn refused(code: i32) -> i32
-    ensures { result ≢ pos 0 }
-{
-    if code == OK { LOST } else { code }
-}
-
 /// Takes a guard of the last commit, and keeps it until it is released. Where there is one it stays.
 #[unsafe(no_mangle)]
 pub extern "C" fn attr_hold(at: &mut HeldSeat, told: &mut Answered) -> i32
-    ensures { result ≡ pos 0 → HoldsGuard at.old.value.place at.new.value.place told.new }
+    ensures holds { result ≡ OK → HoldsGuard at.old.value.place at.new.value.place told.new }
+    ensures lost { result ≢ OK → result ≡ LOST }
+    ensures none { result ≢ OK → at.old.value.place ≡ None }
+    ensures left { result ≢ OK → at.new.value ≡ at.old.value }
+    ensures answer { at.new.value.answer ≡ at.old.value.answer }
+    ensures items { at.new.value.items ≡ at.old.value.items }
+    ensures saved { at.new.value.saved ≡ at.old.value.saved }
 {
     *told = no_answer();
     let seat = at.get_mut();
@@ -47,7 +49,13 @@ pub extern "C" fn attr_hold(at: &mut HeldSeat, told: &mut Answered) -> i32
 /// Gives the guard back.
 #[unsafe(no_mangle)]
 pub extern "C" fn attr_release(at: &mut HeldSeat) -> i32
-    ensures { result ≡ pos 0 → ReleasesGuard at.old.value.place at.new.value.place }
+    ensures releases { result ≡ OK → ReleasesGuard at.old.value.place at.new.value.place }
+    ensures lost { result ≢ OK → result ≡ LOST }
+    ensures none { result ≢ OK → at.old.value.place ≡ None }
+    ensures left { result ≢ OK → at.new.value ≡ at.old.value }
+    ensures answer { at.new.value.answer ≡ at.old.value.answer }
+    ensures items { at.new.value.items ≡ at.old.value.items }
+    ensures saved { at.new.value.saved ≡ at.old.value.saved }
 {
     let seat = at.get_mut();
     let Some(place) = seat.place.take() else {
@@ -64,8 +72,20 @@ fn answer_in(
     text: &[u8],
     told: &mut Answered,
 ) -> Result<Answer, i32>
-    ensures answers { IfOk result (λ answer. ByGuardOf seat.old.place seat.new.place (λ guard. AnswersText guard text.now told.new answer)) }
+    ensures answers { IfOk result (λ answer. ByGuardOf seat.old.place seat.new.place
+        (λ guard. AnswersText guard text.now told.new answer)) }
     ensures keeps { seat.new.answer ≡ seat.old.answer }
+    ensures items { seat.new.items ≡ seat.old.items }
+    ensures saved { seat.new.saved ≡ seat.old.saved }
+    ensures not_ok { IfErr result (λ code. code ≢ OK) }
+    ensures text { IfErr result (λ code. code ≢ NO_TEXT → IsUtf8 text.now) }
+    ensures text_ok { IfOk result (λ answer. IsUtf8 text.now) }
+    ensures no_text { IfErr result (λ code. code ≡ NO_TEXT → IsUtf8 text.now → ⊥) }
+    ensures left_no_text { IfErr result (λ code. code ≡ NO_TEXT → seat.new ≡ seat.old) }
+    ensures lost { IfErr result (λ code. code ≡ LOST → seat.old.place ≡ None) }
+    ensures left_lost { IfErr result (λ code. code ≡ LOST → seat.new ≡ seat.old) }
+    ensures refused { IfErr result (λ code. code ≢ NO_TEXT → code ≢ LOST → ByGuardOf seat.old.place seat.new.place
+        (λ guard. RefusesText guard.fields text.now told.new code)) }
 {
     let Ok(text) = str::from_utf8(text) else {
         return Err(NO_TEXT);
@@ -87,8 +107,18 @@ pub extern "C" fn attr_ask(
     text: &[u8],
     told: &mut Answered,
 ) -> i32
-    ensures { result ≡ pos 0 → ByGuardOf at.old.value.place at.new.value.place
+    ensures answers { result ≡ OK → ByGuardOf at.old.value.place at.new.value.place
         (λ guard. AnswersText guard text.now told.new at.new.value.answer) }
+    ensures text { result ≢ NO_TEXT → IsUtf8 text.now }
+    ensures no_text { result ≡ NO_TEXT → IsUtf8 text.now → ⊥ }
+    ensures lost { result ≡ LOST → at.old.value.place ≡ None }
+    ensures refused { result ≢ OK → result ≢ NO_TEXT → result ≢ LOST → ByGuardOf at.old.value.place at.new.value.place
+        (λ guard. RefusesText guard.fields text.now told.new result) }
+    ensures left_no_text { result ≡ NO_TEXT → at.new.value ≡ at.old.value }
+    ensures left_lost { result ≡ LOST → at.new.value ≡ at.old.value }
+    ensures answer { result ≢ OK → at.new.value.answer ≡ at.old.value.answer }
+    ensures items { at.new.value.items ≡ at.old.value.items }
+    ensures saved { at.new.value.saved ≡ at.old.value.saved }
 {
     *told = no_answer();
     let seat = at.get_mut();
@@ -97,7 +127,7 @@ pub extern "C" fn attr_ask(
             seat.answer = answer;
             OK
         }
-        Err(code) => refused(code),
+        Err(code) => code,
     }
 }
 
@@ -109,13 +139,22 @@ pub extern "C" fn attr_count(
     text: &[u8],
     told: &mut Answered,
 ) -> i32
-    ensures counts { result ≡ pos 0 → ByGuardOf at.old.value.place at.new.value.place (λ guard. CountsText guard text.now told.new) }
+    ensures counts { result ≡ OK → ByGuardOf at.old.value.place at.new.value.place (λ guard. CountsText guard text.now told.new) }
+    ensures text { result ≢ NO_TEXT → IsUtf8 text.now }
+    ensures no_text { result ≡ NO_TEXT → IsUtf8 text.now → ⊥ }
+    ensures lost { result ≡ LOST → at.old.value.place ≡ None }
+    ensures refused { result ≢ OK → result ≢ NO_TEXT → result ≢ LOST → ByGuardOf at.old.value.place at.new.value.place
+        (λ guard. RefusesText guard.fields text.now told.new result) }
+    ensures left_no_text { result ≡ NO_TEXT → at.new.value ≡ at.old.value }
+    ensures left_lost { result ≡ LOST → at.new.value ≡ at.old.value }
     ensures answer { at.new.value.answer ≡ at.old.value.answer }
+    ensures items { at.new.value.items ≡ at.old.value.items }
+    ensures saved { at.new.value.saved ≡ at.old.value.saved }
 {
     *told = no_answer();
     match answer_in(alloc, at.get_mut(), text, told) {
         Ok(_) => OK,
-        Err(code) => refused(code),
+        Err(code) => code,
     }
 }
 
@@ -146,8 +185,16 @@ pub extern "C" fn attr_items(
     field: u32,
     told: &mut Answered,
 ) -> i32
-    ensures { result ≡ pos 0 → ByGuardOf at.old.value.place at.new.value.place
+    ensures reads { result ≡ OK → ByGuardOf at.old.value.place at.new.value.place
         (λ guard. ReadsItems guard doc field told.new at.new.value.items) }
+    ensures within { result ≡ OK → ByGuardOf at.old.value.place at.new.value.place (λ guard. IsInBounds guard.fields doc field) }
+    ensures lost { result ≡ LOST → at.old.value.place ≡ None }
+    ensures refused { result ≢ OK → result ≢ LOST → ByGuardOf at.old.value.place at.new.value.place
+        (λ guard. RefusesItems guard doc field result) }
+    ensures left { result ≡ LOST → at.new.value ≡ at.old.value }
+    ensures answer { at.new.value.answer ≡ at.old.value.answer }
+    ensures items { result ≢ OK → at.new.value.items ≡ at.old.value.items }
+    ensures saved { at.new.value.saved ≡ at.old.value.saved }
 {
     *told = no_answer();
     let seat = at.get_mut();
@@ -162,7 +209,7 @@ pub extern "C" fn attr_items(
             seat.items = items;
             OK
         }
-        Err(code) => refused(code),
+        Err(code) => code,
     }
 }
 
@@ -188,8 +235,14 @@ pub extern "C" fn attr_item_text(at: &mut HeldSeat, number: usize, into: &mut [u
 /// Saves the first attribute. The reader keeps the bytes until it saves again.
 #[unsafe(no_mangle)]
 pub extern "C" fn attr_save(alloc: Global, at: &mut HeldSeat, told: &mut Answered) -> i32
-    ensures { result ≡ pos 0 → ByGuardOf at.old.value.place at.new.value.place
+    ensures saves { result ≡ OK → ByGuardOf at.old.value.place at.new.value.place
         (λ guard. SavesTable guard told.new at.new.value.saved.items) }
+    ensures lost { result ≡ LOST → at.old.value.place ≡ None }
+    ensures refused { result ≢ OK → result ≢ LOST → ByGuardOf at.old.value.place at.new.value.place (λ guard. result ≡ MEMORY) }
+    ensures left { result ≡ LOST → at.new.value ≡ at.old.value }
+    ensures answer { at.new.value.answer ≡ at.old.value.answer }
+    ensures items { at.new.value.items ≡ at.old.value.items }
+    ensures saved { result ≢ OK → at.new.value.saved ≡ at.old.value.saved }
 {
     *told = no_answer();
     let seat = at.get_mut();
@@ -204,7 +257,7 @@ pub extern "C" fn attr_save(alloc: Global, at: &mut HeldSeat, told: &mut Answere
             seat.saved = bytes;
             OK
         }
-        Err(code) => refused(code),
+        Err(code) => code,
     }
 }
 

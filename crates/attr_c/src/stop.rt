@@ -1,6 +1,7 @@
 //! Why a call of the writer stops.
 ghost use Rattle.std.specs.Prelude.{◌≡◌, ◌≢◌, pos, slice_index};
 ghost use Rattle.attr_c.specs.Holds.{with_hold, with_oldest};
+ghost use Rattle.attr_c.specs.Stops.{line_code, noted_error, store_code, EndsBy, TellsError};
 
 use crate::codes::{
     BAD_ID, BAD_SAVE, BAD_VALUE, COMMITS_SPENT, FULL, LINE_TOO_LONG, MEMORY, NO_OPERATION,
@@ -30,7 +31,8 @@ pub enum Stop {
 
 /// Returns the code of a line's refusal.
 fn line_code(error: FeedError) -> i32
-    ensures { result ≢ pos 0 }
+    ensures code { result ≡ line_code error }
+    ensures failed { result ≢ pos 0 }
 {
     match error {
         FeedError::NotJson { .. } => NOT_JSON,
@@ -76,10 +78,15 @@ pub fn note_advance(counts: &mut Counts, advance: Advance, commit: u32)
 
 /// Returns the code of the store's refusal, and writes its details.
 fn store_code(counts: &mut Counts, error: AttrError, told: &mut Told) -> i32
-    ensures code { result ≢ pos 0 }
+    ensures code { result ≡ store_code error }
+    ensures failed { result ≢ pos 0 }
+    ensures counts { counts.new ≡ noted_error error counts.old }
+    ensures tells { TellsError error counts.new told.new }
     ensures line { told.new.line ≡ told.old.line }
     ensures place { told.new.place ≡ told.old.place }
     ensures operations { told.new.operations ≡ told.old.operations }
+    ensures skipped { told.new.skipped ≡ told.old.skipped }
+    ensures keys { told.new.keys ≡ told.old.keys }
 {
     match error {
         AttrError::Full {
@@ -103,7 +110,10 @@ fn store_code(counts: &mut Counts, error: AttrError, told: &mut Told) -> i32
 
 /// Returns the code of a stop, and writes its details.
 pub fn code_of(counts: &mut Counts, stop: Stop, told: &mut Told) -> i32
-    ensures code { result ≢ pos 0 }
+    ensures ends { EndsBy stop counts.old counts.new told.new result }
+    ensures failed { result ≢ pos 0 }
+    ensures skipped { told.new.skipped ≡ told.old.skipped }
+    ensures keys { told.new.keys ≡ told.old.keys }
     ensures line { told.new.line ≡ told.old.line }
     ensures place { told.new.place ≡ told.old.place }
     ensures operations { told.new.operations ≡ told.old.operations }

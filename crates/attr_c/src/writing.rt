@@ -1,5 +1,9 @@
 //! Commits, and steps of a compaction.
-ghost use Rattle.std.specs.Prelude.{◌≡◌, OnOk, OnErr};
+ghost use Rattle.std.specs.Prelude.{◌≡◌, IfErr, OnOk, OnErr};
+ghost use Rattle.attr_c.specs.Holds.{CommitsAs};
+ghost use Rattle.attr_c.specs.Compacting.{StepsAs, StopsStep};
+ghost use Rattle.attr_c.specs.Stops.{StopsCommit};
+ghost use Rattle.attribute_kinds.specs.Compacting.{CompactsTo, RefusesStep};
 
 use crate::state::Open;
 use crate::stop::{Stop, note_advance, note_oldest};
@@ -17,6 +21,11 @@ pub fn commit<const OFFSET_BITS: u32, S: Store<OFFSET_BITS, Layout = AttrLayout>
     ensures committed { OnOk result (open.new.attribute.committed ≡ open.old.attribute.table) }
     ensures published { OnOk result (open.new.attribute.committed_operations ≡ open.old.attribute.operations) }
     ensures counts { OnOk result (told.new.operations ≡ open.old.attribute.operations) }
+    ensures commits { OnOk result (CommitsAs OFFSET_BITS (S.ledger open.old.attribute.store) (S.ledger open.new.attribute.store)
+        open.old.counts open.new.counts told.new) }
+    ensures why { IfErr result (StopsCommit (S.ledger open.old.attribute.store) (S.ledger open.new.attribute.store)) }
+    ensures still { OnErr result (open.new.counts ≡ open.old.counts) }
+    ensures pool { open.new.pool ≡ open.old.pool }
     ensures left { OnErr result ((open.new.attribute.committed ≡ open.old.attribute.committed)
         × (open.new.attribute.committed_operations ≡ open.old.attribute.committed_operations)) }
     ensures table { open.new.attribute.table ≡ open.old.attribute.table }
@@ -46,12 +55,20 @@ pub fn compact<const OFFSET_BITS: u32, S: Store<OFFSET_BITS, Layout = AttrLayout
     keys: u32,
     told: &mut Told,
 ) -> Result<(), Stop>
+    ensures steps { OnOk result (StepsAs (CompactsTo OFFSET_BITS S.ledger S.records open.old.attribute open.new.attribute keys)
+        told.new) }
+    ensures why { IfErr result (StopsStep (CompactsTo OFFSET_BITS S.ledger S.records open.old.attribute open.new.attribute keys)
+        (RefusesStep OFFSET_BITS S.ledger S.records open.old.attribute open.new.attribute) told.new.keys) }
+    ensures pool { open.new.pool ≡ open.old.pool }
+    ensures counts { open.new.counts ≡ open.old.counts }
     ensures table { open.new.attribute.table ≡ open.old.attribute.table }
     ensures operations { open.new.attribute.operations ≡ open.old.attribute.operations }
     ensures committed { open.new.attribute.committed ≡ open.old.attribute.committed }
     ensures published { open.new.attribute.committed_operations ≡ open.old.attribute.committed_operations }
     ensures fields { open.new.fields ≡ open.old.fields }
 {
+    told.keys = 0;
+    told.finished = 0;
     match open.attribute.compact_step(alloc, keys) {
         Ok(Compacted::Idle) => Ok(()),
         Ok(Compacted::Moved { keys, stop: None }) => {

@@ -10,4 +10,4 @@ returns-in-Ok-clause-answers g c =
     let text = c.args.text.now in
     let e = c.answer_to.ensures in
     answers_text c.args.kept.now text c.answer_to.new.told (ask_tree c.in-Ok.ask) c.answer_to.result
-    (ap (λ (fields : List Field). ask_of fields text) (sym c.fields.ensures.fields) ∙ c.in-Ok.ensures) e.answers e.count e.tells
+    (ap (λ (fields : List Field). ask_of fields text) (sym c.fields.ensures.fields) ∙ c.in-Ok.ensures.asks) e.answers e.count e.tells

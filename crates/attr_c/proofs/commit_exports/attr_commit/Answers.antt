@@ -1,8 +1,11 @@
 use Rattle.std.proofs.Common.{◌≡◌, ℤ, sym, ap, subst, ◌∙◌, rules, w32, to_z, of_z}
 use Rattle.std.proofs.lemmas.Int.{to_z-of_z}
-use Rattle.attr_c.specs.Engines.{open_operations, open_table, KeepsTables}
+use Rattle.attr_c.specs.Engines.{open_operations, open_table, KeepsTables, open_counts}
 use Rattle.attr_c.specs.declared.state.AnyOpen.{AnyOpen}
 use Rattle.attr_c.specs.declared.state.AnyOpen.TheVariants.{Narrow, Wide}
+use Rattle.attr_c.proofs.EndLemmas.{stopped_as}
+use Rattle.attr_c.specs.Stores.{open_ledger}
+use Rattle.attr_c.specs.Stops.{Stopped, StopsCommit}
 use Rattle.attr_c.proofs.commit_exports.attr_commit.Goals as goal
 
 pub returns-in-Narrow-clause-committed : goal.returns-in-Narrow-clause-committed
@@ -56,3 +59,21 @@ returns-in-Wide-clause-left c = λ not.
     let left = e.left (λ zero. not (ap (λ (z : ℤ). to_z w32 (of_z w32 z)) zero)) in
     subst (λ (o : AnyOpen). KeepsTables o (Wide c.commit_told-in-Wide.new.open)) (sym is)
     (record { fields = e.fields; table = e.table; operations = e.operations; committed = left.0; published = left.1 })
+
+pub returns-in-Narrow-clause-stopped : goal.returns-in-Narrow-clause-stopped
+returns-in-Narrow-clause-stopped c = λ not.
+    let is : c.args.at.now.value.open ≡ Narrow c.in-Narrow.open = search rules in
+    let now = c.commit_told.new.open in
+    let told = c.commit_told.new.told in
+    let code = to_z-of_z w32 c.commit_told.result (record { sfits = c.commit_told.type_inv }) in
+    subst (λ (o : AnyOpen). Stopped (StopsCommit (open_ledger o) (open_ledger (Narrow now))) (open_counts o) now.counts told (to_z w32 (of_z w32 c.commit_told.result))) (sym is)
+    (stopped_as _ _ _ _ _ _ code (c.commit_told.ensures.stopped (λ zero. not (ap (λ (z : ℤ). to_z w32 (of_z w32 z)) zero))))
+
+pub returns-in-Wide-clause-stopped : goal.returns-in-Wide-clause-stopped
+returns-in-Wide-clause-stopped c = λ not.
+    let is : c.args.at.now.value.open ≡ Wide c.in-Wide.open = search rules in
+    let now = c.commit_told-in-Wide.new.open in
+    let told = c.commit_told-in-Wide.new.told in
+    let code = to_z-of_z w32 c.commit_told-in-Wide.result (record { sfits = c.commit_told-in-Wide.type_inv }) in
+    subst (λ (o : AnyOpen). Stopped (StopsCommit (open_ledger o) (open_ledger (Wide now))) (open_counts o) now.counts told (to_z w32 (of_z w32 c.commit_told-in-Wide.result))) (sym is)
+    (stopped_as _ _ _ _ _ _ code (c.commit_told-in-Wide.ensures.stopped (λ zero. not (ap (λ (z : ℤ). to_z w32 (of_z w32 z)) zero))))

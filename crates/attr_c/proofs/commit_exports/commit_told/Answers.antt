@@ -1,6 +1,7 @@
 use Rattle.std.proofs.Common.{ℤ, ap, sym, ◌∙◌, w32, to_z, of_z}
 use Rattle.std.proofs.lemmas.Int.{to_z-of_z}
-use Rattle.attr_c.proofs.EndLemmas.{on_err_of, on_ok_of}
+use Rattle.attr_c.proofs.EndLemmas.{on_err_of, on_ok_of, stopped_as, stopped_of}
+use Rattle.attr_c.specs.Stops.{StopsCommit}
 use Rattle.attr_c.proofs.commit_exports.commit_told.Goals as goal
 
 pub returns-clause-committed : goal.returns-clause-committed
@@ -25,3 +26,14 @@ returns-clause-operations g c = c.commit-came.ensures.operations
 
 pub returns-clause-fields : goal.returns-clause-fields
 returns-clause-fields g c = c.commit-came.ensures.fields
+
+pub returns-clause-stopped : goal.returns-clause-stopped
+returns-clause-stopped g c = λ not.
+    let ledger = g.S.Store.ledger in
+    let was = c.args.open.now in
+    let now = c.commit-came.new.open in
+    let code = to_z-of_z w32 c.ended.result (record { sfits = c.ended.type_inv }) in
+    let failed = c.ended.ensures.other (λ zero. not (ap (λ (z : ℤ). to_z w32 (of_z w32 z)) zero)) in
+    stopped_as _ _ _ _ _ _ code
+    (stopped_of (StopsCommit (ledger was.attribute.store) (ledger now.attribute.store)) c.commit-came.result was.counts _ c.ended.new.counts c.ended.new.told c.ended.result
+    (on_err_of c.commit-came.result failed c.commit-came.ensures.still) failed c.commit-came.ensures.why c.ended.ensures.ends)

@@ -1,6 +1,8 @@
-use Rattle.std.proofs.Common.{ℤ, ap, sym, ◌∙◌, w32, to_z, of_z}
+use Rattle.std.proofs.Common.{ℕ, ℤ, ap, sym, subst, ◌∙◌, w32, to_z, of_z}
 use Rattle.std.proofs.lemmas.Int.{to_z-of_z}
-use Rattle.attr_c.proofs.EndLemmas.{on_err_of, on_ok_of}
+use Rattle.attr_c.proofs.EndLemmas.{on_err_of, on_ok_of, stopped_as, stopped_of}
+use Rattle.attr_c.specs.Loading.{StopsLoad}
+use Rattle.attr_c.specs.Stops.{Stopped, StopsOperation}
 use Rattle.attr_c.proofs.commit_exports.load_told.Goals as goal
 
 pub returns-clause-whole : goal.returns-clause-whole
@@ -14,3 +16,17 @@ returns-clause-commit g c = c.load-came.ensures.commit
 
 pub returns-clause-fields : goal.returns-clause-fields
 returns-clause-fields g c = c.load-came.ensures.fields
+
+pub returns-clause-stopped : goal.returns-clause-stopped
+returns-clause-stopped g c = λ not.
+    let was = c.args.open.now in
+    let now = c.load-came.new.open in
+    let told = c.ended.new.told in
+    let bytes = c.args.bytes.now in
+    let why = StopsOperation (g.S.Store.ledger now.attribute.store) now.attribute.operations in
+    let code = to_z-of_z w32 c.ended.result (record { sfits = c.ended.type_inv }) in
+    let failed = c.ended.ensures.other (λ zero. not (ap (λ (z : ℤ). to_z w32 (of_z w32 z)) zero)) in
+    subst (λ (n : ℕ). Stopped (StopsLoad was.fields bytes n why) was.counts c.ended.new.counts told (to_z w32 (of_z w32 c.ended.result))) (sym c.ended.ensures.place)
+    (stopped_as _ _ _ _ _ _ code
+    (stopped_of (StopsLoad was.fields bytes c.load-came.new.told.place why) c.load-came.result was.counts _ c.ended.new.counts told c.ended.result c.load-came.ensures.counts failed
+    c.load-came.ensures.why c.ended.ensures.ends))

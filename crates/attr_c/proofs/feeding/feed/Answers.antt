@@ -1,17 +1,33 @@
-use Rattle.std.proofs.Common.{◌+◌, List, refl, subst, rules, ◌∙◌, arith, Ok, Err}
+use Rattle.std.proofs.Common.{◌+◌, ℕ, List, refl, sym, subst, rules, ◌∙◌, arith, Ok, Err}
 use Rattle.attr_types.specs.declared.field.Field.{Field}
-use Rattle.attr_c.specs.Feeding.{FedLine}
-use Rattle.attr_c.proofs.FeedLemmas.{drop_none, drop_on, fed_none, fed_on, fed_refused, fed_whole}
+use Rattle.attr_c.specs.Feeding.{FedLine, FedTo}
+use Rattle.attr_c.proofs.FeedLemmas.{drop_none, drop_on, fed_none, fed_on, fed_refused, fed_small, fed_whole}
 use Rattle.attr_c.proofs.feeding.feed.Goals as goal
 
 pub loop-rest-init : goal.loop-rest-init
 loop-rest-init g c = record {
   fed = fed_none c.args.open.now.fields c.args.bytes.now c.args.open.now.attribute.table c.args.open.now.attribute.operations;
+  pool = refl;
+  counts = refl;
   fields = refl;
   commit = record { table = refl; operations = refl };
   at = drop_none c.args.bytes.now;
+  small = omega arith;
   few = omega arith;
 }
+
+pub overflow_add-told : goal.overflow_add-told
+overflow_add-told g c =
+    let was = c.args.open.now in
+    let mid = c.loop-rest.open.attribute in
+    let now = c.feed_line.new.open.attribute in
+    let i = c.loop-rest.invariant in
+    let line = c.split_line.result.0.now in
+    let fed = subst (λ (fs : List Field). FedLine fs line mid.table now.table mid.operations now.operations (Ok c.in-Ok.applied)) i.fields c.in-Ok.ensures.fed in
+    let is = c.skips_of.ensures in
+    let small = fed_small was.fields c.args.bytes.now (c.loop-rest.passed + 1) c.loop-rest.rest.now line was.attribute.table mid.table now.table was.attribute.operations mid.operations now.operations
+    c.loop-rest.told.skipped c.in-Ok.applied i.fed fed c.in-Ok.ensures.few i.small in
+    record { fits = omega (arith, small, is) }
 
 pub loop-rest-preserved : goal.loop-rest-preserved
 loop-rest-preserved g c =
@@ -19,18 +35,27 @@ loop-rest-preserved g c =
     let mid = c.loop-rest.open.attribute in
     let now = c.feed_line.new.open.attribute in
     let i = c.loop-rest.invariant in
+    let skipped = c.loop-rest.told.skipped in
     let rest = c.loop-rest.rest.now in
     let line = c.split_line.result.0.now in
     let after = c.split_line.result.1.now in
     let fed = subst (λ (fs : List Field). FedLine fs line mid.table now.table mid.operations now.operations (Ok c.in-Ok.applied)) i.fields c.in-Ok.ensures.fed in
     let shorter = c.split_line.ensures.shorter in
     let few = i.few in
+    let is = c.skips_of.ensures in
+    let small = fed_small was.fields c.args.bytes.now (c.loop-rest.passed + 1) rest line was.attribute.table mid.table now.table was.attribute.operations mid.operations now.operations skipped
+    c.in-Ok.applied i.fed fed c.in-Ok.ensures.few i.small in
     record {
-      fed = fed_on was.fields c.args.bytes.now was.attribute.table mid.table now.table was.attribute.operations mid.operations now.operations (c.loop-rest.passed + 1) rest line after
-          c.split_line.ensures.lines i.fed c.in-Ok.applied fed;
+      fed = subst (λ (n : ℕ). FedTo was.fields c.args.bytes.now (c.loop-rest.passed + 1 + 1) after was.attribute.table now.table was.attribute.operations now.operations (skipped + n))
+          (sym c.skips_of.ensures)
+          (fed_on was.fields c.args.bytes.now was.attribute.table mid.table now.table was.attribute.operations mid.operations now.operations skipped (c.loop-rest.passed + 1) rest line after
+          c.split_line.ensures.lines i.fed c.in-Ok.applied fed);
+      pool = c.in-Ok.ensures.pool ∙ i.pool;
+      counts = c.in-Ok.ensures.counts ∙ i.counts;
       fields = c.in-Ok.ensures.fields ∙ i.fields;
       commit = record { table = c.in-Ok.ensures.commit.table ∙ i.commit.table; operations = c.in-Ok.ensures.commit.operations ∙ i.commit.operations };
       at = drop_on c.args.bytes.now rest after i.at c.split_line.ensures.rest (omega (arith, shorter)) (omega (arith, few));
+      small = omega (arith, small, is);
       few = omega (arith, few, shorter);
     }
 
@@ -42,11 +67,12 @@ returns-in-Err-clause-refused g c =
     let i = c.loop-rest.invariant in
     let line = c.split_line.result.0.now in
     let fed = subst (λ (fs : List Field). FedLine fs line mid.table now.table mid.operations now.operations (Err c.in-Err.stop)) i.fields c.in-Err.ensures.fed in
-    fed_refused was.fields c.args.bytes.now was.attribute.table mid.table now.table was.attribute.operations mid.operations now.operations (c.loop-rest.passed + 1) c.loop-rest.rest.now line
+    fed_refused was.fields c.args.bytes.now was.attribute.table mid.table now.table was.attribute.operations mid.operations now.operations c.loop-rest.told.skipped (c.loop-rest.passed + 1) c.loop-rest.rest.now line
     c.split_line.result.1.now c.split_line.ensures.lines i.fed c.in-Err.stop c.split_line.ensures.alone fed
 
 pub returns-clause-whole : goal.returns-clause-whole
 returns-clause-whole g c =
     let was = c.args.open.now in
     let mid = c.loop-rest.open.attribute in
-    fed_whole was.fields c.args.bytes.now was.attribute.table mid.table was.attribute.operations mid.operations (c.loop-rest.passed + 1) c.loop-rest.rest.now (search rules) c.loop-rest.invariant.fed
+    fed_whole was.fields c.args.bytes.now was.attribute.table mid.table was.attribute.operations mid.operations c.loop-rest.told.skipped (c.loop-rest.passed + 1)
+    c.loop-rest.rest.now (search rules) c.loop-rest.invariant.fed

@@ -1,8 +1,11 @@
-use Rattle.std.proofs.Common.{List, refl, subst}
+use Rattle.std.proofs.Common.{List, refl, sym, subst, rules}
+use Rattle.std.specs.List.{AllByRecursion}
 use Rattle.std.proofs.lemmas.Result.{IfErr-weaker, IfOk-weaker}
 use Rattle.attr_saver.specs.declared.saved.SavedDocument.{SavedDocument}
-use Rattle.attr_c.specs.Loading.{IsSaveOf, PutsFront, PutsIn}
-use Rattle.attr_c.proofs.LoadLemmas.{loads_front, loads_none, loads_whole}
+use Rattle.attr_types.specs.Lawful.{OpFits}
+use Rattle.attr_c.specs.Loading.{put_of, IsSaveOf, PutsFront, PutsIn}
+use Rattle.attr_c.proofs.EndLemmas.{load_or, save_or}
+use Rattle.attr_c.proofs.LoadLemmas.{loads_front, loads_none, loads_whole, puts_fit}
 use Rattle.attr_c.proofs.loading.load.Goals as goal
 
 pub returns-in-Err-clause-front : goal.returns-in-Err-clause-front
@@ -19,9 +22,9 @@ pub returns-clause-whole : goal.returns-clause-whole
 returns-clause-whole g c =
     let was = c.args.open.now in
     let now = c.put_all.new.open.attribute in
-    let is_of : IsSaveOf was.fields c.in-Ok.saved = c.is_of_fields.ensures c.if-not-is_of_fields.false in
+    let is_of : IsSaveOf was.fields c.in-Ok.saved = c.is_of_fields.ensures.yes c.if-not-is_of_fields.false in
     IfOk-weaker c.put_all.result _ _
-    (λ u puts. loads_whole was.fields was.attribute.table was.attribute.operations c.args.bytes.now now.table now.operations c.in-Ok.saved c.in-Ok.ensures is_of
+    (λ u puts. loads_whole was.fields was.attribute.table was.attribute.operations c.args.bytes.now now.table now.operations c.in-Ok.saved c.in-Ok.ensures.saved is_of
     (subst (λ (list : List SavedDocument). PutsIn was.fields list was.attribute.table now.table was.attribute.operations now.operations) c.into_vec.ensures puts))
     c.put_all.ensures.whole
 
@@ -30,6 +33,23 @@ returns-clause-front g c =
     let was = c.args.open.now in
     let now = c.put_all.new.open.attribute in
     IfErr-weaker c.put_all.result _ _
-    (λ stop front. loads_front was.fields was.attribute.table was.attribute.operations c.args.bytes.now now.table now.operations c.in-Ok.saved c.in-Ok.ensures
+    (λ stop front. loads_front was.fields was.attribute.table was.attribute.operations c.args.bytes.now now.table now.operations c.in-Ok.saved c.in-Ok.ensures.saved
     (subst (λ (list : List SavedDocument). PutsFront was.fields list was.attribute.table now.table was.attribute.operations now.operations) c.into_vec.ensures front))
     c.put_all.ensures.front
+
+pub put_all-requires : goal.put_all-requires
+put_all-requires g c =
+    let fields = c.args.open.now.fields in
+    let is_of : IsSaveOf fields c.in-Ok.saved = c.is_of_fields.ensures.yes c.if-not-is_of_fields.false in
+    let fit = subst (λ (list : List SavedDocument). AllByRecursion (λ d. OpFits fields (put_of d)) list) (sym c.into_vec.ensures) (puts_fit fields c.in-Ok.saved is_of c.in-Ok.ensures.lawful) in
+    (search rules, fit)
+
+pub returns-in-Err-clause-why : goal.returns-in-Err-clause-why
+returns-in-Err-clause-why g c = save_or _ _ _ _ _ c.in-Err.stop c.in-Err.ensures.why
+
+pub returns-then-not-is_of_fields-clause-why : goal.returns-then-not-is_of_fields-clause-why
+returns-then-not-is_of_fields-clause-why g c =
+    record { saved = c.in-Ok.saved; reads = c.in-Ok.ensures.saved; other = c.is_of_fields.ensures.no c.if-not-is_of_fields.true }
+
+pub returns-clause-why : goal.returns-clause-why
+returns-clause-why g c = IfErr-weaker c.put_all.result _ _ (λ stop why. load_or _ _ _ _ _ stop why) c.put_all.ensures.why

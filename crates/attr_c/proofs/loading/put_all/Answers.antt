@@ -1,14 +1,18 @@
-use Rattle.std.proofs.Common.{◌≡◌, ◌∷◌, List, ap, refl, ◌∙◌, rules}
+use Rattle.std.proofs.Common.{◌≡◌, ◌∷◌, List, ap, refl, subst, sym, ◌∙◌, rules}
 use Rattle.std.specs.Vec.Iter.{into_iter_items}
+use Rattle.attr_saver.specs.declared.saved.SavedDocument.{SavedDocument}
+use Rattle.attr_types.specs.Lawful.{OpFits}
 use Rattle.attr_types.specs.Table.{after_op}
 use Rattle.attr_types.specs.declared.field.Field.{Field}
 use Rattle.attr_c.specs.Loading.{put_of}
-use Rattle.attr_c.proofs.LoadLemmas.{moved_on, puts_front, puts_more, puts_none}
+use Rattle.attr_c.proofs.LoadLemmas.{moved_on, one_of_all, puts_front, puts_more, puts_none}
 use Rattle.attr_c.proofs.loading.put_all.Goals as goal
 
 pub loop-document-init : goal.loop-document-init
 loop-document-init g c = record {
   puts = puts_none c.args.open.now.fields c.args.open.now.attribute.table c.args.open.now.attribute.operations;
+  pool = refl;
+  counts = refl;
   fields = refl;
   commit = record { table = refl; operations = refl };
   all = search rules;
@@ -26,6 +30,8 @@ loop-document-preserved g c =
     record {
       puts = puts_more was.fields was.attribute.table was.attribute.operations c.loop-document.yielded one mid.table now.table mid.operations now.operations i.puts table
           c.in-Ok.ensures.operations;
+      pool = c.in-Ok.ensures.pool ∙ i.pool;
+      counts = c.in-Ok.ensures.counts ∙ i.counts;
       fields = c.in-Ok.ensures.fields ∙ i.fields;
       commit = record { table = c.in-Ok.ensures.commit.table ∙ i.commit.table; operations = c.in-Ok.ensures.commit.operations ∙ i.commit.operations };
       all = moved_on c.loop-document.yielded (into_iter_items c.loop-document.document-iterator) (into_iter_items c.next.new.self) c.args.documents.items one rest i.all;
@@ -39,3 +45,13 @@ returns-in-Err-clause-front g c =
     let i = c.loop-document.invariant in
     puts_front was.fields was.attribute.table was.attribute.operations c.loop-document.yielded (into_iter_items c.loop-document.document-iterator) c.args.documents.items mid.table now.table
     mid.operations now.operations i.all i.puts c.in-Err.ensures.left
+
+pub put_document-requires : goal.put_document-requires
+put_document-requires g c =
+    let i = c.loop-document.invariant in
+    let one = c.in-Some.document in
+    let rest : into_iter_items c.loop-document.document-iterator ≡ one ∷ into_iter_items c.next.new.self = search rules in
+    let fit = subst (λ (fs : List Field). OpFits fs (put_of one)) (sym i.fields)
+    (one_of_all (λ (d : SavedDocument). OpFits c.args.open.now.fields (put_of d)) c.loop-document.yielded (into_iter_items c.loop-document.document-iterator) (into_iter_items c.next.new.self)
+    c.args.documents.items one rest i.all c.requires) in
+    (search rules, fit)

@@ -8,6 +8,8 @@ use Rattle.attr_c.proofs.loading.put_all.Given as goal
 abbrev pub invariant-loop-document : goal.invariant-loop-document
 invariant-loop-document g l = record {
   puts : PutsIn l.fn.open.fields l.yielded l.fn.open.attribute.table l.open.attribute.table l.fn.open.attribute.operations l.open.attribute.operations;
+  pool : l.open.pool ≡ l.fn.open.pool;
+  counts : l.open.counts ≡ l.fn.open.counts;
   fields : l.open.fields ≡ l.fn.open.fields;
   commit : Stays l.fn.open.attribute.committed l.open.attribute.committed l.fn.open.attribute.committed_operations l.open.attribute.committed_operations;
   all : l.yielded ++ into_iter_items l.document-iterator ≡ l.fn.documents.items;

@@ -1,0 +1,16 @@
+use Rattle.std.proofs.Common.{◌≡◌, sym, subst, rules}
+use Rattle.attr_c.specs.Engines.{usage_told}
+use Rattle.attr_c.specs.Stores.{IsOpenUsage}
+use Rattle.attr_c.specs.declared.state.AnyOpen.{AnyOpen}
+use Rattle.attr_c.specs.declared.state.AnyOpen.TheVariants.{Narrow, Wide}
+use Rattle.attr_c.proofs.commit_exports.attr_counts.Goals as goal
+
+pub returns-in-Narrow-clause-usage : goal.returns-in-Narrow-clause-usage
+returns-in-Narrow-clause-usage c =
+    let is : c.args.at.now.value.open ≡ Narrow c.in-Narrow.open = search rules in
+    subst (λ (o : AnyOpen). IsOpenUsage o (usage_told c.counts_of.result)) (sym is) c.counts_of.ensures.usage
+
+pub returns-in-Wide-clause-usage : goal.returns-in-Wide-clause-usage
+returns-in-Wide-clause-usage c =
+    let is : c.args.at.now.value.open ≡ Wide c.in-Wide.open = search rules in
+    subst (λ (o : AnyOpen). IsOpenUsage o (usage_told c.counts_of-in-Wide.result)) (sym is) c.counts_of-in-Wide.ensures.usage

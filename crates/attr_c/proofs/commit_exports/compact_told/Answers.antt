@@ -1,0 +1,27 @@
+use Rattle.std.proofs.Common.{ℕ, ℤ, ap, sym, subst, ◌∙◌, w32, to_z, of_z}
+use Rattle.std.proofs.lemmas.Int.{to_z-of_z}
+use Rattle.attr_c.proofs.EndLemmas.{on_ok_of, stopped_as, stopped_of}
+use Rattle.attribute_kinds.specs.Compacting.{CompactsTo, RefusesStep}
+use Rattle.attr_c.specs.Compacting.{StopsStep}
+use Rattle.attr_c.specs.Stops.{Stopped}
+use Rattle.attr_c.proofs.commit_exports.compact_told.Goals as goal
+
+pub returns-clause-steps : goal.returns-clause-steps
+returns-clause-steps g c = λ zero.
+    let ok = c.ended.ensures.ok (sym (to_z-of_z w32 c.ended.result (record { sfits = c.ended.type_inv })) ∙ zero) in
+    let same = c.ended.ensures.same (sym (to_z-of_z w32 c.ended.result (record { sfits = c.ended.type_inv })) ∙ zero) in
+    rw (same.1) (on_ok_of c.compact-came.result ok c.compact-came.ensures.steps)
+
+pub returns-clause-stopped : goal.returns-clause-stopped
+returns-clause-stopped g c = λ not.
+    let was = c.args.open.now in
+    let now = c.compact-came.new.open in
+    let told = c.ended.new.told in
+    let code = to_z-of_z w32 c.ended.result (record { sfits = c.ended.type_inv }) in
+    let failed = c.ended.ensures.other (λ zero. not (ap (λ (z : ℤ). to_z w32 (of_z w32 z)) zero)) in
+    let steps = CompactsTo g.row.OFFSET_BITS g.S.Store.ledger g.S.Frozen.records was.attribute now.attribute c.args.keys in
+    let refuses = RefusesStep g.row.OFFSET_BITS g.S.Store.ledger g.S.Frozen.records was.attribute now.attribute in
+    subst (λ (n : ℕ). Stopped (StopsStep steps refuses n) was.counts c.ended.new.counts told (to_z w32 (of_z w32 c.ended.result))) (sym c.ended.ensures.keys)
+    (stopped_as _ _ _ _ _ _ code
+    (stopped_of (StopsStep steps refuses c.compact-came.new.told.keys) c.compact-came.result was.counts _ c.ended.new.counts told c.ended.result c.compact-came.ensures.counts failed
+    c.compact-came.ensures.why c.ended.ensures.ends))
