@@ -8,13 +8,16 @@
 // -DBUFFERS entries lie in buffers of one width each, which the first word of the
 // buffer holds, and a reference names the buffer and the offset in it, as the
 // engine's do. With -DUNITS an operation can be undone: an entry that was made
-// before it stays until it is done, and what it made is listed. With
-// PEER_TIMES set it tells how many words of how many entries it had to store, and
-// how many of these it left since they were there.
+// before it stays until it is done, and what it made is listed. With -DNEAR a node
+// takes, where it is free, the place that the node which it replaces had replaced
+// itself, which most often holds nearly the same words; other entries take the place
+// that has been free for longest. With PEER_TIMES set it tells how many words of how
+// many entries it had to store, and how many of these it left since they were there.
 // Left out: compaction, holds (readers have a slot each), counts for a monitor.
 #include "peer_common.h"
 #include <atomic>
 #include <array>
+#include <deque>
 #include <memory>
 
 using namespace peer;
@@ -61,10 +64,33 @@ struct Design {
   void put(size_t at, uint64_t w) { words[at].store(w, ORDER); }
 #endif
   static uint32_t width_of(uint32_t n) { uint32_t w = 2; while (w < n) w *= 2; return w; }
-  Ref make(uint32_t width, uint64_t const* w, uint32_t n) {
-    Ref r;
-    if (!free_by[width].empty()) { r = free_by[width].back(); free_by[width].pop_back(); }
-    else r = fresh_entry(width);
+#ifdef NEAR
+  // By entry: the place that it replaced, and how often it was freed, 0 while it is in use. A queue may have an entry that was taken since.
+  vector<Ref> replaced; vector<uint32_t> freed; std::deque<std::pair<Ref, uint32_t>> waiting[1025]; uint32_t frees = 0;
+  void set_free(Ref r, uint32_t width) {
+    if (freed.size() <= mark(r)) { freed.resize(mark(r) + (1 << 16)); replaced.resize(freed.size()); }
+    freed[mark(r)] = ++frees; waiting[width].push_back({r, frees});
+  }
+  Ref take(uint32_t width, Ref near) {
+    Ref aim = near && mark(near) < replaced.size() ? replaced[mark(near)] : 0, r = 0;
+    if (aim && freed[mark(aim)]) r = aim;
+    while (!r && !waiting[width].empty()) {
+      auto [first, when] = waiting[width].front(); waiting[width].pop_front();
+      if (freed[mark(first)] == when) r = first;
+    }
+    if (!r) r = fresh_entry(width);
+    if (replaced.size() <= mark(r)) { replaced.resize(mark(r) + (1 << 16)); freed.resize(replaced.size()); }
+    freed[mark(r)] = 0; replaced[mark(r)] = near; return r;
+  }
+#else
+  void set_free(Ref r, uint32_t width) { free_by[width].push_back(r); }
+  Ref take(uint32_t width, Ref) {
+    if (free_by[width].empty()) return fresh_entry(width);
+    Ref r = free_by[width].back(); free_by[width].pop_back(); return r;
+  }
+#endif
+  Ref make(uint32_t width, uint64_t const* w, uint32_t n, Ref near = 0) {
+    Ref r = take(width, near);
     size_t at = place(r);
     for (uint32_t i = 0; i < width; i++) put(at + i, i < n ? w[i] : 0);
     stored += width; entries++; made_in[mark(r)] = unit; made.push_back(r); return r;
@@ -75,11 +101,11 @@ struct Design {
 #ifdef UNITS
     if (made && made != unit) { late.push_back({r, width}); return; }
 #endif
-    if (made) { made = 0; free_by[width].push_back(r); } else dropping.push_back({r, width});
+    if (made) { made = 0; set_free(r, width); } else dropping.push_back({r, width});
   }
   void end_unit() {
 #ifdef UNITS
-    for (auto& d : late) { made_in[mark(d.ref)] = 0; free_by[d.width].push_back(d.ref); }
+    for (auto& d : late) { made_in[mark(d.ref)] = 0; set_free(d.ref, d.width); }
     late.clear(); unit++;
 #endif
   }
@@ -103,10 +129,10 @@ struct Design {
   struct Node { uint32_t level, used; uint64_t k[17], v[17]; };
   Node load(Ref r) const { Node n; uint64_t h = get(r, 0); n.level = h >> 8; n.used = h & 255; for (uint32_t i = 0; i < n.used; i++) n.k[i] = get(r, 2 + i); for (uint32_t i = 0; i < n.used; i++) n.v[i] = get(r, 18 + i); return n; }
   uint64_t total(Ref r) const { return get(r, 1); }
-  Ref save(Node const& n, uint32_t from, uint32_t to) {
+  Ref save(Node const& n, uint32_t from, uint32_t to, Ref near = 0) {
     uint64_t w[34] = {}; w[0] = uint64_t(n.level) << 8 | (to - from);
     for (uint32_t i = from; i < to; i++) { w[2 + i - from] = n.k[i]; w[18 + i - from] = n.v[i]; w[1] += n.level ? total(n.v[i]) : 1; }
-    return make(34, w, 34);
+    return make(34, w, 34, near);
   }
   template <class C> uint32_t lower(Ref r, uint32_t used, C const& c) const { uint32_t lo = 0, hi = used; while (lo < hi) { uint32_t m = (lo + hi) / 2; if (c(get(r, 2 + m)) < 0) lo = m + 1; else hi = m; } return lo; }
   // The tree with the pair in it: one node, or two where it was split. `c` says stored against sought.
@@ -122,8 +148,8 @@ struct Design {
       if (b) { for (uint32_t j = n.used; j > i + 1; j--) { n.k[j] = n.k[j - 1]; n.v[j] = n.v[j - 1]; } n.k[i + 1] = last(b); n.v[i + 1] = b; n.used++; }
     }
     drop(r, 34);
-    if (n.used <= 16) return {save(n, 0, n.used), 0};
-    return {save(n, 0, 8), save(n, 8, n.used)};
+    if (n.used <= 16) return {save(n, 0, n.used, r), 0};
+    return {save(n, 0, 8, r), save(n, 8, n.used)};
   }
   uint64_t last(Ref r) const { return get(r, 1 + (get(r, 0) & 255)); }
   template <class C> Ref insert(Ref root, C const& c, uint64_t key, uint64_t value) {
@@ -144,15 +170,15 @@ struct Design {
         if ((get(a, 0) & 255) < 8 && n.used > 1) {  // with a neighbour: one node, or two that share
           uint32_t l = i ? i - 1 : 0; Node x = load(n.v[l]), y = load(n.v[l + 1]); uint32_t sum = x.used + y.used;
           uint64_t k[34], v[34]; std::copy(x.k, x.k + x.used, k); std::copy(y.k, y.k + y.used, k + x.used); std::copy(x.v, x.v + x.used, v); std::copy(y.v, y.v + y.used, v + x.used);
-          drop(n.v[l], 34); drop(n.v[l + 1], 34);
-          auto part = [&](uint32_t f, uint32_t t) { Node z; z.level = x.level; z.used = t - f; std::copy(k + f, k + t, z.k); std::copy(v + f, v + t, z.v); return save(z, 0, z.used); };
-          if (sum <= 16) { n.v[l] = part(0, sum); n.k[l] = last(n.v[l]); cut(l + 1); }
-          else { n.v[l] = part(0, sum / 2); n.v[l + 1] = part(sum / 2, sum); n.k[l] = last(n.v[l]); n.k[l + 1] = last(n.v[l + 1]); }
+          Ref one = n.v[l], two = n.v[l + 1]; drop(one, 34); drop(two, 34);
+          auto part = [&](uint32_t f, uint32_t t, Ref near) { Node z; z.level = x.level; z.used = t - f; std::copy(k + f, k + t, z.k); std::copy(v + f, v + t, z.v); return save(z, 0, z.used, near); };
+          if (sum <= 16) { n.v[l] = part(0, sum, one); n.k[l] = last(n.v[l]); cut(l + 1); }
+          else { n.v[l] = part(0, sum / 2, one); n.v[l + 1] = part(sum / 2, sum, two); n.k[l] = last(n.v[l]); n.k[l + 1] = last(n.v[l + 1]); }
         }
       }
     }
     drop(r, 34);
-    return n.used ? save(n, 0, n.used) : 0;
+    return n.used ? save(n, 0, n.used, r) : 0;
   }
   template <class C> Ref remove(Ref root, C const& c) {
     root = remove_at(root, c);
@@ -245,7 +271,7 @@ struct Design {
     made.clear();
     held.push_back({generation, std::move(dropping)}); dropping.clear();
     uint64_t oldest = generation; for (auto& s : slots) if (uint64_t g = s.load()) oldest = std::min(oldest, g - 1);
-    size_t done = 0; for (; done < held.size() && held[done].first <= oldest; done++) for (auto& d : held[done].second) free_by[d.width].push_back(d.ref);
+    size_t done = 0; for (; done < held.size() && held[done].first <= oldest; done++) for (auto& d : held[done].second) set_free(d.ref, d.width);
     held.erase(held.begin(), held.begin() + done);
   }
   size_t store_bytes() { return used * 8; }
