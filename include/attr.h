@@ -138,7 +138,7 @@ struct attr_told {
 int32_t attr_feed(attr_engine *engine, const uint8_t *lines, size_t length, struct attr_told *told);
 
 /* Commits what was applied: from then on new answers are of this commit. ATTR_FULL, ATTR_COMMITS_SPENT: there is no new commit, and
- * what was applied stays to be committed. told->oldest and told->is_held say which commit readers hold. */
+ * what was applied stays to be committed. With ATTR_OK and ATTR_FULL told->oldest and told->is_held say which commit readers hold. */
 int32_t attr_commit(attr_engine *engine, struct attr_told *told);
 
 /* Goes so many keys on in a compaction, which gathers scattered entries so that a buffer comes free; 256 keys after each commit
