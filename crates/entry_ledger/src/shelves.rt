@@ -213,7 +213,8 @@ impl Shelves {
         ensures takes { IfSome result (Takes self.old self.new width) }
     {
         let row = place_of(width);
-        let at = self.open[row].place_of_oldest()?;
+        let turn = self.made[row];
+        let at = self.open[row].place_in_turn(turn)?;
         let buffer = self.open[row].number_at(at);
         self.made[row] = self.made[row].saturating_add(1);
         let shelf = &mut self.shelves[buffer as usize];

@@ -40,8 +40,8 @@ impl Stack {
         self.list.last().copied()
     }
 
-    /// The place of the number that was put first but for the lowest, or of the lowest where there is no other.
-    pub fn place_of_oldest(&self) -> Option<u32>
+    /// The place of one of the numbers but the lowest, each in its turn, or of the lowest where there is no other.
+    pub fn place_in_turn(&self, turn: u64) -> Option<u32>
         ensures none { IfNone result (self.now.list ≡ []) }
         ensures some { IfSome result (λ i. (i < length self.now.list) × (i ≡ 0 → length self.now.list ≡ 1)) }
     {
@@ -52,7 +52,8 @@ impl Stack {
         if count == 1 {
             return Some(0);
         }
-        Some(1)
+        let others = u32::try_from(count - 1).unwrap_or(u32::MAX);
+        Some(1 + (turn % u64::from(others)) as u32)
     }
 
     /// The number at a place.

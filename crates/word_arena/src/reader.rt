@@ -217,18 +217,13 @@ impl<const OFFSET_BITS: u32, L: Layout> Guarded<OFFSET_BITS, L> {
         ensures same { self.new ≡ self.old }
     {
         let arena = &*self.arena;
+        let (buffers, words) = (arena.sizes.buffers as u32, arena.sizes.words as u32);
         let first = first_word(&arena.sizes, entry.buffer());
         let width = arena
             .table
             .shared
             .load::<LoadWord<L>>(&mut self.place, first) as u32;
-        place_of(
-            arena.sizes.buffers as u32,
-            arena.sizes.words as u32,
-            width,
-            entry,
-            i,
-        )
+        place_of(buffers, words, width, entry, i)
     }
 }
 
