@@ -12,7 +12,7 @@ use Rattle.feed_reader.specs.declared.error.FeedError.{FeedError}
 use Rattle.feed_reader.specs.declared.error.FeedError.TheVariants as errors
 use Rattle.feed_reader.specs.declared.refusal.Refusal.TheVariants as refusals
 use Rattle.feed_reader.specs.declared.refusal.LineError.TheVariants as line_errors
-use Rattle.feed_reader.specs.Feed.{feed_of, ops_of_lines, with_op, with_front, FeedFailsBy}
+use Rattle.feed_reader.specs.Feed.{feed_of, most_bytes, ops_of_lines, with_op, with_front, FeedFailsBy}
 use Rattle.feed_reader.specs.Grammar.{op_of_line}
 use Rattle.feed_reader.specs.Lines.{lines_of, is_blank}
 use Rattle.feed_reader.proofs.FeedLemmas.{lines_blank, lines_more, lines_end, lines_error, lines_start}
@@ -20,7 +20,7 @@ use Rattle.attr_types.specs.Table.{Table, after_op, after_ops, is_skipped, skipp
 use Rattle.attr_types.specs.declared.applied.Applied.{Applied}
 use Rattle.attr_types.specs.declared.applied.Applied.TheVariants.{Changed, Skipped}
 use Rattle.attribute_kinds.specs.Calls.{applied_to}
-use Rattle.attr_c.specs.Feeding.{skips_of, AppliesLine, Stays, SaysLine, FedLine, FedTo, Feeds, IsOfNoLine, RefusesLine}
+use Rattle.attr_c.specs.Feeding.{skips_of, AppliesLine, Stays, SaysLine, FailsLine, FedLine, FedTo, Feeds, IfLine, IsOfNoLine, RefusesLine}
 use Rattle.attr_c.specs.declared.stop.Stop.{Stop}
 use Rattle.attr_c.specs.declared.stop.Stop.TheVariants as stops
 
@@ -59,28 +59,42 @@ row_said : (fields : List Field) (line : List ℕ) (n : ℕ) (row : Refusal) →
 row_said fields line n row alone blank e = one_row (op_of_line fields line) n row (sym (alone_says fields line alone blank) ∙ e)
 
 -- a line that is refused by itself is so among the others
-pub refused_line : (fields : List Field) (bytes : List ℕ) (front : List Op) (number : ℕ) (line : List ℕ) (lines : List (List ℕ)) (error : FeedError) → lines_of line ≡ line ∷ [] → is_blank line ≡ false
-    → FeedFailsBy error (feed_of fields line) → with_front front (ops_of_lines fields number (line ∷ lines)) ≡ feed_of fields bytes → RefusesLine fields bytes number (stops.Line error)
-refused_line fields bytes front number line lines error alone blank fails said = by_row error fails
+pub refused_line : (fields : List Field) (bytes rest : List ℕ) (front : List Op) (number : ℕ) (line : List ℕ) (lines : List (List ℕ)) (error : FeedError) → lines_of rest ≡ line ∷ lines
+    → lines_of line ≡ line ∷ [] → is_blank line ≡ false → FailsLine fields line error → with_front front (ops_of_lines fields number (line ∷ lines)) ≡ feed_of fields bytes
+    → RefusesLine fields bytes number rest error
+refused_line fields bytes rest front number line lines error first alone blank fails said = by_row error fails
   where
     at : (row : Refusal) (n : ℕ) → feed_of fields line ≡ Err (n, row) → feed_of fields bytes ≡ Err (number, row)
     at row n e = lines_error fields bytes front (line_errors.Refused row) number line lines blank (row_said fields line n row alone blank e) said
 
-    by_row : (error : FeedError) → FeedFailsBy error (feed_of fields line) → RefusesLine fields bytes number (stops.Line error)
+    by_row : (error : FeedError) → FailsLine fields line error → RefusesLine fields bytes number rest error
     by_row (errors.NotJson n) e = at refusals.NotJson n e
     by_row (errors.NoOperation n) e = at refusals.NoOperation n e
     by_row (errors.BadId n) e = at refusals.BadId n e
     by_row (errors.BadValue n) e = at refusals.BadValue n e
     by_row (errors.Unsupported n) e = at refusals.Unsupported n e
     by_row (errors.TooManyItems n) e = at refusals.TooManyItems n e
-    by_row errors.FeedTooLong e = tt
-    by_row errors.ReadFault e = tt
+    by_row errors.FeedTooLong e = record { line = line; lines = lines; first = first; long = e }
+    by_row errors.ReadFault e = absurd e
     by_row errors.Memory e = tt
 
 -- a line that is not blank has a byte
 pub filled : (line : List ℕ) → is_blank line ≡ false → 0 < length line
 filled [] blank = cc
 filled (b ∷ line) blank = omega arith
+
+-- what a feed of one line says of its error
+pub fails_line : (fields : List Field) (line : List ℕ) (error : FeedError) → FeedFailsBy error (feed_of fields line) → (error ≡ errors.FeedTooLong → most_bytes < length line)
+    → (error ≡ errors.ReadFault → ⊥) → FailsLine fields line error
+fails_line fields line (errors.NotJson n) says long fault = says
+fails_line fields line (errors.NoOperation n) says long fault = says
+fails_line fields line (errors.BadId n) says long fault = says
+fails_line fields line (errors.BadValue n) says long fault = says
+fails_line fields line (errors.Unsupported n) says long fault = says
+fails_line fields line (errors.TooManyItems n) says long fault = says
+fails_line fields line errors.FeedTooLong says long fault = long refl
+fails_line fields line errors.ReadFault says long fault = fault refl
+fails_line fields line errors.Memory says long fault = tt
 
 -- what was read of a line is its one operation
 pub says_popped : (fields : List Field) (line : List ℕ) (ops items : List Op) (len : ℕ) (result : Option Op) → IsOneOp fields line ops → items ≡ ops → len ≡ length items
@@ -226,8 +240,9 @@ module _ (fields : List Field) (bytes : List ℕ) where
         stays_at stops.Other line_is = line_is
         stays_at stops.Memory line_is = line_is
 
-    pub fed_refused : (stop : Stop) → (0 < length line → lines_of line ≡ line ∷ []) → FedLine fields line mid new between after (Err stop) → RefusesLine fields bytes number stop
-    fed_refused (stops.Line error) alone line_is = refused_line fields bytes fed.ops number line (lines_of left) error (alone (filled line line_is.0)) line_is.0 line_is.1 said_line
+    pub fed_refused : (stop : Stop) → (0 < length line → lines_of line ≡ line ∷ []) → FedLine fields line mid new between after (Err stop) → IfLine (RefusesLine fields bytes number rest) stop
+    fed_refused (stops.Line error) alone line_is =
+        refused_line fields bytes rest fed.ops number line (lines_of left) error lines (alone (filled line line_is.0)) line_is.0 line_is.1 said_line
     fed_refused (stops.Store error) alone line_is = tt
     fed_refused stops.Spent alone line_is = tt
     fed_refused stops.Save alone line_is = tt

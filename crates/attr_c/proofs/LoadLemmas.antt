@@ -1,7 +1,8 @@
 -- Documents of a save, put in one after another.
-use Rattle.std.proofs.Common.{◌≡◌, ℕ, ◌+◌, List, [], ◌∷◌, ◌++◌, length, take, Ok, refl, sym, subst, ◌∙◌, ap, arith, length-append}
+use Rattle.std.proofs.Common.{◌≡◌, ℕ, ◌+◌, List, [], ◌∷◌, ◌++◌, length, take, Ok, Some, refl, sym, subst, ◌∙◌, ap, arith, length-append}
 use Rattle.std.proofs.lemmas.Grind.{common_steps}
 use Rattle.std.specs.List.{AllByRecursion}
+use Rattle.std.specs.Prelude.{slice_get}
 use Rattle.attr_saver.specs.Fields.{read_of}
 use Rattle.attr_saver.specs.Lawful.{docs_of, IsLawfulSaved}
 use Rattle.attr_saver.specs.declared.saved.Saved.{Saved}
@@ -9,10 +10,11 @@ use Rattle.attr_saver.specs.declared.saved.SavedDocument.{SavedDocument}
 use Rattle.attr_types.specs.Lawful.{IsDocNumber, ItemsFit, OpFits}
 use Rattle.attr_types.specs.Table.{Table, after_op, after_ops}
 use Rattle.attr_types.specs.declared.field.Field.{Field}
+use Rattle.attr_types.specs.declared.op.Op.{Op}
 use Rattle.attr_types.specs.declared.kind.Kind.{Kind}
 use Rattle.attr_types.specs.declared.kind.ValueType.{ValueType}
 use Rattle.attr_c.specs.Feeding.{Stays}
-use Rattle.attr_c.specs.Loading.{put_of, puts_of, PutsIn, PutsFront, IsSaveOf, LoadsSave, LoadsFront}
+use Rattle.attr_c.specs.Loading.{put_of, puts_of, PutsIn, PutsFront, IsNextPut, IsSaveOf, LoadsSave, LoadsFront}
 
 after_puts : (fields : List Field) (documents : List SavedDocument) (one : SavedDocument) (table : Table)
     → after_ops fields table (puts_of (documents ++ one ∷ [])) ≡ after_op fields (after_ops fields table (puts_of documents)) (put_of one)
@@ -35,6 +37,21 @@ one_of_all P [] rest left all one is whole each =
 one_of_all P (first ∷ front) rest left all one is whole each =
     let these : AllByRecursion P (first ∷ front ++ rest) = subst (AllByRecursion P) (sym whole) each in
     one_of_all P front rest left (front ++ rest) one is refl these.1
+
+-- the document after a front is the next one
+get_behind : (front left : List SavedDocument) (one : SavedDocument) → slice_get (front ++ one ∷ left) (length front) ≡ Some one
+get_behind [] left one = refl
+get_behind (first ∷ front) left one = get_behind front left one
+
+pub next_put : (fields : List Field) (front rest left all : List SavedDocument) (one : SavedDocument) (old mid : Table) (before between after : ℕ) → rest ≡ one ∷ left → front ++ rest ≡ all
+    → PutsIn fields front old mid before between → after ≡ between → (op : Op) → op ≡ put_of one → IsNextPut all before after op
+next_put fields front rest left all one old mid before between after is whole puts stays op op_is = record {
+  done = length front;
+  so_far = stays ∙ puts.operations;
+  document = one;
+  at = ap (λ (xs : List SavedDocument). slice_get xs (length front)) (sym whole ∙ ap (λ (xs : List SavedDocument). front ++ xs) is) ∙ get_behind front left one;
+  puts = op_is;
+}
 
 -- the documents of a lawful save fit its attribute
 fit_one : (field : Field) (kind : Kind) (type : ValueType) → kind ≡ field.kind → type ≡ field.value → (documents : List SavedDocument) → AllByRecursion IsDocNumber (docs_of documents)

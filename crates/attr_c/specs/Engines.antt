@@ -1,5 +1,5 @@
 -- What the writer's handle holds, as its callers see it.
-use Rattle.std.specs.Prelude.{◌≡◌, ◌<◌, ◌≤◌, ℕ, List, [], length}
+use Rattle.std.specs.Prelude.{◌≡◌, ◌<◌, ◌≤◌, ℕ, Bool, List, [], length}
 use Rattle.attr_types.specs.Table.{Table}
 use Rattle.attr_types.specs.declared.field.Field.{Field}
 use Rattle.attr_types.specs.declared.field.TheConstants.{MOST_FIELDS}
@@ -23,6 +23,11 @@ open_table (Wide o) = o.attribute.table
 abbrev pub open_operations : AnyOpen → ℕ
 open_operations (Narrow o) = o.attribute.operations
 open_operations (Wide o) = o.attribute.operations
+
+-- whether bit vectors are wanted
+abbrev pub open_dense : AnyOpen → Bool
+open_dense (Narrow o) = o.attribute.dense
+open_dense (Wide o) = o.attribute.dense
 
 -- the table of the last commit, and its number of operations
 abbrev pub open_committed : AnyOpen → Table
@@ -51,6 +56,7 @@ KeepsWaiting old new = ⊥
 -- a call that leaves the attributes, what was fed and what was committed as they were
 pub record KeepsTables (old new : AnyOpen) : Type 0 where
   pub fields : open_fields new ≡ open_fields old
+  pub dense : open_dense new ≡ open_dense old
   pub table : open_table new ≡ open_table old
   pub operations : open_operations new ≡ open_operations old
   pub committed : open_committed new ≡ open_committed old
@@ -104,6 +110,9 @@ usage_told told = record {
 
 abbrev pub fields_of : Engine → List Field
 fields_of e = open_fields e.open
+
+abbrev pub dense_of : Engine → Bool
+dense_of e = open_dense e.open
 
 abbrev pub table_of : Engine → Table
 table_of e = open_table e.open

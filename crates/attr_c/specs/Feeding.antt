@@ -1,5 +1,5 @@
 -- How lines change attributes.
-use Rattle.std.specs.Prelude.{◌≡◌, ℕ, ◌+◌, true, false, List, length, Option, Some, None, IfSome, Result, Ok, Err}
+use Rattle.std.specs.Prelude.{◌≡◌, ℕ, ◌+◌, ◌<◌, ◌∷◌, true, false, List, length, Option, Some, None, IfSome, Result, Ok, Err}
 use Rattle.attr_types.specs.Lawful.{OpFits}
 use Rattle.attr_types.specs.Table.{Table, after_op, after_ops, skipped_ops}
 use Rattle.attr_types.specs.declared.applied.Applied.{Applied}
@@ -7,7 +7,7 @@ use Rattle.attr_types.specs.declared.applied.Applied.TheVariants.{Changed, Skipp
 use Rattle.attribute_kinds.specs.Calls.{applied_to}
 use Rattle.attr_types.specs.declared.field.Field.{Field}
 use Rattle.attr_types.specs.declared.op.Op.{Op}
-use Rattle.feed_reader.specs.Feed.{feed_of, ops_of_lines, with_front, FeedFailsBy}
+use Rattle.feed_reader.specs.Feed.{feed_of, most_bytes, ops_of_lines, with_front, FeedFailsBy}
 use Rattle.feed_reader.specs.Grammar.{op_of_line}
 use Rattle.feed_reader.specs.Lines.{lines_of, is_blank}
 use Rattle.feed_reader.specs.declared.error.FeedError.{FeedError}
@@ -17,11 +17,17 @@ use Rattle.feed_reader.specs.declared.refusal.Refusal.TheVariants as refusals
 use Rattle.attr_c.specs.declared.stop.Stop.{Stop}
 use Rattle.attr_c.specs.declared.stop.Stop.TheVariants as stops
 
--- the content of one line: none if it is blank, otherwise its operation, or the refusal of a feed of this line alone
+-- why a line is refused: its content is, as a feed of its own; or it is longer than a feed may be
+abbrev pub FailsLine : List Field → List ℕ → FeedError → Type 0
+FailsLine fields line errors.FeedTooLong = most_bytes < length line
+FailsLine fields line errors.ReadFault = ⊥
+FailsLine fields line error = FeedFailsBy error (feed_of fields line)
+
+-- the content of one line: none if it is blank, otherwise its operation, or its refusal
 abbrev pub SaysLine : List Field → List ℕ → Result (Option Op) FeedError → Type 0
 SaysLine fields line (Ok None) = is_blank line ≡ true
 SaysLine fields line (Ok (Some op)) = (is_blank line ≡ false) × (op_of_line fields line ≡ Ok op) × OpFits fields op
-SaysLine fields line (Err error) = (is_blank line ≡ false) × FeedFailsBy error (feed_of fields line)
+SaysLine fields line (Err error) = (is_blank line ≡ false) × FailsLine fields line error
 
 -- the operation of a line was applied, with this result
 pub record AppliesLine (fields : List Field) (line : List ℕ) (old new : Table) (before after : ℕ) (applied : Applied) : Type 0 where
@@ -52,7 +58,7 @@ abbrev pub FedLine : List Field → List ℕ → Table → Table → ℕ → ℕ
 FedLine fields line old new before after (Ok None) = (is_blank line ≡ true) × Stays old new before after
 FedLine fields line old new before after (Ok (Some applied)) = AppliesLine fields line old new before after applied
 FedLine fields line old new before after (Err (stops.Line error)) =
-    (is_blank line ≡ false) × FeedFailsBy error (feed_of fields line) × Stays old new before after
+    (is_blank line ≡ false) × FailsLine fields line error × Stays old new before after
 FedLine fields line old new before after (Err stop) = Stays old new before after
 
 -- a feed up to one of its lines: these operations were applied, and they are those of the feed before the rest, whose
@@ -77,15 +83,42 @@ row_of errors.FeedTooLong = None
 row_of errors.ReadFault = None
 row_of errors.Memory = None
 
--- if a line is refused, it is the first faulty line of the feed
-abbrev pub RefusesLine : List Field → List ℕ → ℕ → Stop → Type 0
-RefusesLine fields bytes number (stops.Line error) = IfSome (row_of error) (λ row. feed_of fields bytes ≡ Err (number, row))
-RefusesLine fields bytes number stop = Unit {0}
+-- the first of these lines has more bytes than a line may have
+pub record BeginsTooLong (rest : List ℕ) : Type 0 where
+  pub line : List ℕ
+  pub lines : List (List ℕ)
+  pub first : lines_of rest ≡ line ∷ lines
+  pub long : most_bytes < length line
 
--- why a feed stopped at its line of this number: the line is refused, or its operation was not applied
-abbrev pub StopsFeed : List Field → List ℕ → ℕ → (Stop → Type 0) → Stop → Type 0
-StopsFeed fields bytes number why (stops.Line error) = RefusesLine fields bytes number (stops.Line error)
-StopsFeed fields bytes number why stop = why stop
+-- why the line of this number is refused, with which the rest of a feed begins: it is the first faulty line of the feed,
+-- or too long
+abbrev pub RefusesLine : List Field → List ℕ → ℕ → List ℕ → FeedError → Type 0
+RefusesLine fields bytes number rest errors.FeedTooLong = BeginsTooLong rest
+RefusesLine fields bytes number rest errors.ReadFault = ⊥
+RefusesLine fields bytes number rest error = IfSome (row_of error) (λ row. feed_of fields bytes ≡ Err (number, row))
+
+-- if a line is refused, this is why
+abbrev pub IfLine : (FeedError → Type 0) → Stop → Type 0
+IfLine refuses (stops.Line error) = refuses error
+IfLine refuses stop = Unit {0}
+
+-- why a feed stopped at its line of this number, with which the rest begins: the line is refused, or its operation was
+-- not applied
+abbrev pub StopsFeed : List Field → List ℕ → ℕ → List ℕ → (Stop → Type 0) → Stop → Type 0
+StopsFeed fields bytes number rest why (stops.Line error) = RefusesLine fields bytes number rest error
+StopsFeed fields bytes number rest why stop = why stop
+
+-- the operation of a line
+pub record IsOpOf (fields : List Field) (line : List ℕ) (op : Op) : Type 0 where
+  pub some : is_blank line ≡ false
+  pub says : op_of_line fields line ≡ Ok op
+
+-- the operation of the first of these lines
+pub record IsFirstOp (fields : List Field) (rest : List ℕ) (op : Op) : Type 0 where
+  pub line : List ℕ
+  pub lines : List (List ℕ)
+  pub first : lines_of rest ≡ line ∷ lines
+  pub is : IsOpOf fields line op
 
 -- a whole feed: each of its operations was applied, in order, and so many of them changed nothing
 pub record Feeds (fields : List Field) (bytes : List ℕ) (old new : Table) (before after skipped : ℕ) : Type 0 where

@@ -1,5 +1,5 @@
 -- What a save makes of attributes.
-use Rattle.std.specs.Prelude.{◌≡◌, ℕ, ◌+◌, List, [], ◌∷◌, length, map, take, Result, Ok, Err}
+use Rattle.std.specs.Prelude.{◌≡◌, ℕ, ◌+◌, List, [], ◌∷◌, length, map, take, slice_get, Some, Result, Ok, Err}
 use Rattle.attr_saver.specs.Fields.{read_of}
 use Rattle.attr_saver.specs.declared.saved.Saved.{Saved}
 use Rattle.attr_saver.specs.declared.saved.SavedDocument.{SavedDocument}
@@ -47,6 +47,20 @@ pub record LoadsFront (fields : List Field) (bytes : List ℕ) (old new : Table)
   pub documents : List SavedDocument
   pub puts : PutsIn fields documents old new before after
   pub front : (saved : Saved) → read_of bytes ≡ Ok saved → documents ≡ take (length documents) saved.table
+
+-- the operation that puts in the document after those that made so many operations of so many before
+pub record IsNextPut (documents : List SavedDocument) (before after : ℕ) (op : Op) : Type 0 where
+  pub done : ℕ
+  pub so_far : after ≡ before + done
+  pub document : SavedDocument
+  pub at : slice_get documents done ≡ Some document
+  pub puts : op ≡ put_of document
+
+-- the same for the documents of a save
+pub record IsNextLoaded (bytes : List ℕ) (before after : ℕ) (op : Op) : Type 0 where
+  pub saved : Saved
+  pub reads : read_of bytes ≡ Ok saved
+  pub is_next : IsNextPut saved.table before after op
 
 -- a save of another kind or value type, or there are several attributes
 pub record IsOfOther (fields : List Field) (bytes : List ℕ) : Type 0 where

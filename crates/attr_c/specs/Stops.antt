@@ -1,5 +1,5 @@
 -- Why a call of the writer stops: its code, its cause, and what is told of a full store.
-use Rattle.std.specs.Prelude.{◌≡◌, ◌-◌, ◌^◌, ℕ, ℤ}
+use Rattle.std.specs.Prelude.{◌≡◌, ◌-◌, ◌^◌, ℕ, ℤ, List}
 use Rattle.attr_c.specs.Holds.{with_oldest}
 use Rattle.attr_c.specs.declared.codes.TheConstants.{MEMORY, FULL, COMMITS_SPENT, OPERATIONS_SPENT}
 use Rattle.attr_c.specs.declared.codes.TheConstants.{NOT_JSON, NO_OPERATION, BAD_ID, BAD_VALUE, UNSUPPORTED, TOO_MANY_ITEMS}
@@ -8,12 +8,21 @@ use Rattle.attr_c.specs.declared.state.Counts.{Counts}
 use Rattle.attr_c.specs.declared.stop.Stop.{Stop}
 use Rattle.attr_c.specs.declared.stop.Stop.TheVariants as stops
 use Rattle.attr_c.specs.declared.told.Told.{Told}
-use Rattle.attribute_kinds.specs.Calls.{RefusesCommit, RefusesOperation}
+use Rattle.attr_c.specs.Stores.{ledger_over}
+use Rattle.attr_c.specs.declared.state.AnyOpen.{AnyOpen}
+use Rattle.attr_c.specs.declared.state.AnyOpen.TheVariants.{Narrow, Wide}
+use Rattle.attr_types.specs.declared.field.Field.{Field}
+use Rattle.attr_types.specs.declared.op.Op.{Op}
+use Rattle.attr_steps.specs.Counts.{MakesOperation}
+use Rattle.attribute_kinds.specs.Calls.{IsForRoot, KeepsStore, RefusesCommit, RefusesOperation}
+use Rattle.attribute_kinds.specs.Counts.{LacksBuffers, NamesWidth, SparesOf}
+use Rattle.attribute_kinds.specs.Views.{AttributeView}
 use Rattle.attribute_kinds.specs.declared.answers.AttrError.{AttrError}
 use Rattle.attribute_kinds.specs.declared.answers.AttrError.TheVariants as errors
 use Rattle.feed_reader.specs.declared.error.FeedError.{FeedError}
 use Rattle.feed_reader.specs.declared.error.FeedError.TheVariants as lines
 use Rattle.store_api.specs.Ledgers.{Ledger}
+use Rattle.word_arena.specs.Ruled.{writer_of}
 
 abbrev pub line_code : FeedError → ℤ
 line_code (lines.NotJson line) = NOT_JSON
@@ -78,24 +87,44 @@ pub record Stopped (cause : Stop → Type 0) (before after : Counts) (told : Tol
   pub is : cause stop
   pub ends : EndsBy stop before after told code
 
--- the store refused an operation
-pub record RefusedOperation {H : Type 0} (ledger : Ledger H) (error : AttrError) : Type 0 where
+-- the store refused the next operation on these attributes, after those of this call before it: it was full for a width
+-- that this operation needs, and had few spare entries of it
+pub record RefusedOperation {S H : Type 0} (old now : AttributeView S) (next : Op → Type 0) (ledger : S → Ledger H) (error : AttrError)
+    : Type 0 where
+  pub op : Op
+  pub is_next : next op
   pub before : Ledger H
-  pub refused : RefusesOperation before ledger error
+  pub since : KeepsStore (ledger old.store) before
+  pub keeps : KeepsStore before (ledger now.store)
+  pub made : MakesOperation now.dense before (ledger now.store) now.fields now.table op
+  pub refused : RefusesOperation before (ledger now.store) error
+  pub width : NamesWidth now.dense now.fields now.table op error
+  pub spares : SparesOf now.dense (ledger now.store) now.fields now.table op error
+  pub room : LacksBuffers now.dense before now.fields now.table op error
 
--- why an operation was not applied: the store refused it, the greatest number of operations was reached, or memory ran out
-abbrev pub StopsOperation : {H : Type 0} → Ledger H → ℕ → Stop → Type 0
-StopsOperation ledger operations (stops.Store error) = RefusedOperation ledger error
-StopsOperation ledger operations stops.Spent = operations ≡ 2 ^ 32 - 1
-StopsOperation ledger operations stops.Memory = Unit {0}
-StopsOperation ledger operations stop = ⊥
+-- why the next operation was not applied: the store refused it, the greatest number of operations was reached, or memory
+-- ran out
+abbrev pub StopsOperation : {S H : Type 0} → AttributeView S → AttributeView S → (Op → Type 0) → (S → Ledger H) → Stop → Type 0
+StopsOperation old now next ledger (stops.Store error) = RefusedOperation old now next ledger error
+StopsOperation old now next ledger stops.Spent = now.operations ≡ 2 ^ 32 - 1
+StopsOperation old now next ledger stops.Memory = Unit {0}
+StopsOperation old now next ledger stop = ⊥
+
+abbrev pub StopsOpen : AnyOpen → AnyOpen → (Op → Type 0) → Stop → Type 0
+StopsOpen (Narrow old) (Narrow new) next =
+    StopsOperation old.attribute new.attribute next
+    (λ store. ledger_over 22 store.work.place.table_id (writer_of store.work.place.me.0) store.entries store.unit)
+StopsOpen (Wide old) (Wide new) next =
+    StopsOperation old.attribute new.attribute next
+    (λ store. ledger_over 19 store.work.place.table_id (writer_of store.work.place.me.0) store.entries store.unit)
+StopsOpen old new next = λ stop. ⊥
 
 -- the line was refused, or its operation was not applied
 abbrev pub LineOr : (Stop → Type 0) → Stop → Type 0
 LineOr why (stops.Line error) = Unit {0}
 LineOr why stop = why stop
 
--- the store refused a commit; nothing else stops it
-abbrev pub StopsCommit : {H : Type 0} → Ledger H → Ledger H → Stop → Type 0
-StopsCommit old new (stops.Store error) = RefusesCommit old new error
-StopsCommit old new stop = ⊥
+-- the store refused a commit, for the width of the root record if it was full; nothing else stops it
+abbrev pub StopsCommit : {H : Type 0} → List Field → Ledger H → Ledger H → Stop → Type 0
+StopsCommit fields old new (stops.Store error) = RefusesCommit old new error × IsForRoot fields error
+StopsCommit fields old new stop = ⊥

@@ -1,12 +1,12 @@
 //! The calls from C with the writer's handle.
 ghost use Rattle.std.specs.Prelude.{◌≡◌, ◌≢◌, ◌+◌, pos, drop, length, min, IfErr, IsOk, IsErr};
-ghost use Rattle.attr_c.specs.Engines.{committed_of, committed_operations_of, fields_of, operations_of, table_of, usage_told, KeepsTables};
+ghost use Rattle.attr_c.specs.Engines.{committed_of, committed_operations_of, dense_of, fields_of, operations_of, table_of, usage_told, KeepsTables};
 ghost use Rattle.attr_c.specs.Engines.{open_counts, open_waiting, KeepsWaiting, TellsCounts};
-ghost use Rattle.attr_c.specs.Feeding.{FedTo, Feeds, Stays, StopsFeed};
+ghost use Rattle.attr_c.specs.Feeding.{FedTo, Feeds, IsFirstOp, Stays, StopsFeed};
 ghost use Rattle.attr_c.specs.Holds.{with_skipped, CommitsAs};
-ghost use Rattle.attr_c.specs.Loading.{LoadsFront, LoadsSave, StopsLoad};
+ghost use Rattle.attr_c.specs.Loading.{IsNextLoaded, LoadsFront, LoadsSave, StopsLoad};
 ghost use Rattle.attr_c.specs.Compacting.{CompactsOpen, RefusesOpen, StepsAs, StopsStep};
-ghost use Rattle.attr_c.specs.Stops.{EndsBy, Stopped, StopsCommit, StopsOperation};
+ghost use Rattle.attr_c.specs.Stops.{EndsBy, Stopped, StopsCommit, StopsOpen, StopsOperation};
 ghost use Rattle.attribute_kinds.specs.Compacting.{CompactsTo, RefusesStep};
 ghost use Rattle.attr_c.specs.Stores.{open_bits, open_ledger, IsOpenUsage};
 ghost use Rattle.store_api.specs.Usages.{IsUsage};
@@ -76,13 +76,14 @@ fn feed_told<const OFFSET_BITS: u32, S: Store<OFFSET_BITS, Layout = AttrLayout>>
         told.new.skipped }
     ensures count { open.new.attribute.operations ≡ open.old.attribute.operations + told.new.operations }
     ensures counts { result ≡ pos 0 → open.new.counts ≡ with_skipped told.new.skipped open.old.counts }
-    ensures stopped { result ≢ pos 0 → Stopped (StopsFeed open.old.fields bytes.now told.new.line
-        (StopsOperation (S.ledger open.new.attribute.store) open.new.attribute.operations))
+    ensures stopped { result ≢ pos 0 → Stopped (StopsFeed open.old.fields bytes.now told.new.line (drop told.new.place bytes.now)
+        (StopsOperation open.old.attribute open.new.attribute (IsFirstOp open.old.fields (drop told.new.place bytes.now)) S.ledger))
         (with_skipped told.new.skipped open.old.counts) open.new.counts told.new result }
     ensures pool { open.new.pool ≡ open.old.pool }
     ensures commit { Stays open.old.attribute.committed open.new.attribute.committed
         open.old.attribute.committed_operations open.new.attribute.committed_operations }
     ensures fields { open.new.fields ≡ open.old.fields }
+    ensures dense { open.new.attribute.dense ≡ open.old.attribute.dense }
 {
     let before = open.attribute.operations();
     let came = feed(alloc, open, bytes, told);
@@ -104,14 +105,15 @@ pub extern "C" fn attr_feed(
     ensures front { result ≢ pos 0 → FedTo (fields_of at.old.value) bytes.now told.new.line (drop told.new.place bytes.now)
         (table_of at.old.value) (table_of at.new.value) (operations_of at.old.value) (operations_of at.new.value) told.new.skipped }
     ensures counts { result ≡ pos 0 → open_counts at.new.value.open ≡ with_skipped told.new.skipped (open_counts at.old.value.open) }
-    ensures stopped { result ≢ pos 0 → Stopped (StopsFeed (fields_of at.old.value) bytes.now told.new.line
-        (StopsOperation (open_ledger at.new.value.open) (operations_of at.new.value)))
+    ensures stopped { result ≢ pos 0 → Stopped (StopsFeed (fields_of at.old.value) bytes.now told.new.line (drop told.new.place bytes.now)
+        (StopsOpen at.old.value.open at.new.value.open (IsFirstOp (fields_of at.old.value) (drop told.new.place bytes.now))))
         (with_skipped told.new.skipped (open_counts at.old.value.open)) (open_counts at.new.value.open) told.new result }
     ensures waiting { KeepsWaiting at.old.value.open at.new.value.open }
     ensures count { operations_of at.new.value ≡ operations_of at.old.value + told.new.operations }
     ensures commit { Stays (committed_of at.old.value) (committed_of at.new.value)
         (committed_operations_of at.old.value) (committed_operations_of at.new.value) }
     ensures fields { fields_of at.new.value ≡ fields_of at.old.value }
+    ensures dense { dense_of at.new.value ≡ dense_of at.old.value }
 {
     *told = no_told();
     let engine = at.get_mut();
@@ -130,7 +132,7 @@ fn commit_told<const OFFSET_BITS: u32, S: Store<OFFSET_BITS, Layout = AttrLayout
     ensures told { result ≡ pos 0 → told.new.operations ≡ open.old.attribute.operations }
     ensures counts { result ≡ pos 0 → CommitsAs OFFSET_BITS (S.ledger open.old.attribute.store) (S.ledger open.new.attribute.store)
         open.old.counts open.new.counts told.new }
-    ensures stopped { result ≢ pos 0 → Stopped (StopsCommit (S.ledger open.old.attribute.store) (S.ledger open.new.attribute.store))
+    ensures stopped { result ≢ pos 0 → Stopped (StopsCommit open.old.fields (S.ledger open.old.attribute.store) (S.ledger open.new.attribute.store))
         open.old.counts open.new.counts told.new result }
     ensures pool { open.new.pool ≡ open.old.pool }
     ensures left { result ≢ pos 0 → (open.new.attribute.committed ≡ open.old.attribute.committed)
@@ -138,6 +140,7 @@ fn commit_told<const OFFSET_BITS: u32, S: Store<OFFSET_BITS, Layout = AttrLayout
     ensures table { open.new.attribute.table ≡ open.old.attribute.table }
     ensures operations { open.new.attribute.operations ≡ open.old.attribute.operations }
     ensures fields { open.new.fields ≡ open.old.fields }
+    ensures dense { open.new.attribute.dense ≡ open.old.attribute.dense }
 {
     let came = commit(open, told);
     ended(&mut open.counts, came, told)
@@ -151,13 +154,14 @@ pub extern "C" fn attr_commit(at: &mut HeldEngine, told: &mut Told) -> i32
     ensures told { result ≡ pos 0 → told.new.operations ≡ operations_of at.old.value }
     ensures counts { result ≡ pos 0 → CommitsAs (open_bits at.old.value.open) (open_ledger at.old.value.open)
         (open_ledger at.new.value.open) (open_counts at.old.value.open) (open_counts at.new.value.open) told.new }
-    ensures stopped { result ≢ pos 0 → Stopped (StopsCommit (open_ledger at.old.value.open) (open_ledger at.new.value.open))
+    ensures stopped { result ≢ pos 0 → Stopped (StopsCommit (fields_of at.old.value) (open_ledger at.old.value.open) (open_ledger at.new.value.open))
         (open_counts at.old.value.open) (open_counts at.new.value.open) told.new result }
     ensures waiting { KeepsWaiting at.old.value.open at.new.value.open }
     ensures left { result ≢ pos 0 → KeepsTables at.old.value.open at.new.value.open }
     ensures table { table_of at.new.value ≡ table_of at.old.value }
     ensures operations { operations_of at.new.value ≡ operations_of at.old.value }
     ensures fields { fields_of at.new.value ≡ fields_of at.old.value }
+    ensures dense { dense_of at.new.value ≡ dense_of at.old.value }
 {
     *told = no_told();
     let engine = at.get_mut();
@@ -186,6 +190,7 @@ fn compact_told<const OFFSET_BITS: u32, S: Store<OFFSET_BITS, Layout = AttrLayou
     ensures committed { open.new.attribute.committed ≡ open.old.attribute.committed }
     ensures published { open.new.attribute.committed_operations ≡ open.old.attribute.committed_operations }
     ensures fields { open.new.fields ≡ open.old.fields }
+    ensures dense { open.new.attribute.dense ≡ open.old.attribute.dense }
 {
     let came = compact(alloc, open, keys, told);
     ended(&mut open.counts, came, told)
@@ -229,12 +234,14 @@ fn load_told<const OFFSET_BITS: u32, S: Store<OFFSET_BITS, Layout = AttrLayout>>
     ensures skipped { told.new.skipped ≡ told.old.skipped }
     ensures counts { result ≡ pos 0 → open.new.counts ≡ open.old.counts }
     ensures stopped { result ≢ pos 0 → Stopped (StopsLoad open.old.fields bytes.now told.new.place
-        (StopsOperation (S.ledger open.new.attribute.store) open.new.attribute.operations))
+        (StopsOperation open.old.attribute open.new.attribute
+        (IsNextLoaded bytes.now open.old.attribute.operations open.new.attribute.operations) S.ledger))
         open.old.counts open.new.counts told.new result }
     ensures pool { open.new.pool ≡ open.old.pool }
     ensures commit { Stays open.old.attribute.committed open.new.attribute.committed
         open.old.attribute.committed_operations open.new.attribute.committed_operations }
     ensures fields { open.new.fields ≡ open.old.fields }
+    ensures dense { open.new.attribute.dense ≡ open.old.attribute.dense }
 {
     let before = open.attribute.operations();
     let came = load(alloc, open, bytes, told);
@@ -258,12 +265,13 @@ pub extern "C" fn attr_load(
     ensures skipped { told.new.skipped ≡ 0 }
     ensures counts { result ≡ pos 0 → open_counts at.new.value.open ≡ open_counts at.old.value.open }
     ensures stopped { result ≢ pos 0 → Stopped (StopsLoad (fields_of at.old.value) bytes.now told.new.place
-        (StopsOperation (open_ledger at.new.value.open) (operations_of at.new.value)))
+        (StopsOpen at.old.value.open at.new.value.open (IsNextLoaded bytes.now (operations_of at.old.value) (operations_of at.new.value))))
         (open_counts at.old.value.open) (open_counts at.new.value.open) told.new result }
     ensures waiting { KeepsWaiting at.old.value.open at.new.value.open }
     ensures commit { Stays (committed_of at.old.value) (committed_of at.new.value)
         (committed_operations_of at.old.value) (committed_operations_of at.new.value) }
     ensures fields { fields_of at.new.value ≡ fields_of at.old.value }
+    ensures dense { dense_of at.new.value ≡ dense_of at.old.value }
 {
     *told = no_told();
     let engine = at.get_mut();

@@ -3,8 +3,8 @@ ghost use Rattle.std.specs.Prelude.{◌≡◌, ◌+◌, ◌<◌, ◌^◌, ◌∷
 ghost use Rattle.attr_types.specs.Lawful.{OpFits};
 ghost use Rattle.attr_types.specs.Table.{after_op};
 ghost use Rattle.feed_reader.specs.Lines.{lines_of};
-ghost use Rattle.attribute_kinds.specs.Calls.{applied_to};
-ghost use Rattle.attr_c.specs.Feeding.{skips_of, FedLine, FedTo, Feeds, IsOfNoLine, RefusesLine, Stays};
+ghost use Rattle.attribute_kinds.specs.Calls.{applied_to, KeepsStore};
+ghost use Rattle.attr_c.specs.Feeding.{skips_of, FedLine, FedTo, Feeds, IfLine, IsFirstOp, IsOfNoLine, IsOpOf, RefusesLine, Stays};
 ghost use Rattle.attr_c.specs.Stops.{LineOr, StopsOperation};
 
 use crate::line::operation_in;
@@ -31,12 +31,14 @@ pub fn apply<const OFFSET_BITS: u32, S: Store<OFFSET_BITS, Layout = AttrLayout>>
     ensures applied { IfOk result (λ applied. applied ≡ applied_to open.old.fields open.old.attribute.table op.now) }
     ensures few { OnOk result (open.new.attribute.operations < 2 ^ 32) }
     ensures kind { IfErr result IsOfNoLine }
-    ensures why { IfErr result (StopsOperation (S.ledger open.new.attribute.store) open.new.attribute.operations) }
+    ensures why { IfErr result (StopsOperation open.old.attribute open.new.attribute (λ next. next ≡ op.now) S.ledger) }
     ensures pool { open.new.pool ≡ open.old.pool }
     ensures counts { open.new.counts ≡ open.old.counts }
     ensures commit { Stays open.old.attribute.committed open.new.attribute.committed
         open.old.attribute.committed_operations open.new.attribute.committed_operations }
     ensures fields { open.new.fields ≡ open.old.fields }
+    ensures keeps { KeepsStore (S.ledger open.old.attribute.store) (S.ledger open.new.attribute.store) }
+    ensures dense { open.new.attribute.dense ≡ open.old.attribute.dense }
 {
     if open.attribute.operations() == u32::MAX {
         return Err(Stop::Spent);
@@ -57,12 +59,14 @@ fn feed_line<const OFFSET_BITS: u32, S: Store<OFFSET_BITS, Layout = AttrLayout>>
     ensures fed { FedLine open.old.fields line.now open.old.attribute.table open.new.attribute.table
         open.old.attribute.operations open.new.attribute.operations result }
     ensures few { IfOk result (λ applied. IfSome applied (λ _. open.new.attribute.operations < 2 ^ 32)) }
-    ensures why { IfErr result (LineOr (StopsOperation (S.ledger open.new.attribute.store) open.new.attribute.operations)) }
+    ensures why { IfErr result (LineOr (StopsOperation open.old.attribute open.new.attribute (IsOpOf open.old.fields line.now) S.ledger)) }
     ensures pool { open.new.pool ≡ open.old.pool }
     ensures counts { open.new.counts ≡ open.old.counts }
     ensures commit { Stays open.old.attribute.committed open.new.attribute.committed
         open.old.attribute.committed_operations open.new.attribute.committed_operations }
     ensures fields { open.new.fields ≡ open.old.fields }
+    ensures keeps { KeepsStore (S.ledger open.old.attribute.store) (S.ledger open.new.attribute.store) }
+    ensures dense { open.new.attribute.dense ≡ open.old.attribute.dense }
 {
     match operation_in(alloc, &open.fields, line) {
         Ok(Some(op)) => match apply(alloc, open, &op) {
@@ -98,13 +102,15 @@ pub fn feed<const OFFSET_BITS: u32, S: Store<OFFSET_BITS, Layout = AttrLayout>>(
     ensures front { OnErr result (FedTo open.old.fields bytes.now told.new.line (drop told.new.place bytes.now)
         open.old.attribute.table open.new.attribute.table open.old.attribute.operations open.new.attribute.operations
         told.new.skipped) }
-    ensures refused { IfErr result (RefusesLine open.old.fields bytes.now told.new.line) }
-    ensures why { IfErr result (LineOr (StopsOperation (S.ledger open.new.attribute.store) open.new.attribute.operations)) }
+    ensures refused { IfErr result (IfLine (RefusesLine open.old.fields bytes.now told.new.line (drop told.new.place bytes.now))) }
+    ensures why { IfErr result (LineOr (StopsOperation open.old.attribute open.new.attribute
+        (IsFirstOp open.old.fields (drop told.new.place bytes.now)) S.ledger)) }
     ensures pool { open.new.pool ≡ open.old.pool }
     ensures counts { open.new.counts ≡ open.old.counts }
     ensures commit { Stays open.old.attribute.committed open.new.attribute.committed
         open.old.attribute.committed_operations open.new.attribute.committed_operations }
     ensures fields { open.new.fields ≡ open.old.fields }
+    ensures dense { open.new.attribute.dense ≡ open.old.attribute.dense }
 {
     let mut rest = bytes;
     let mut passed: u64 = 0;

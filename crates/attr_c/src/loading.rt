@@ -6,8 +6,9 @@ ghost use Rattle.attr_saver.specs.Lawful.{IsLawfulSaved};
 ghost use Rattle.attr_types.specs.Lawful.{OpFits};
 ghost use Rattle.attr_types.specs.Table.{after_op};
 ghost use Rattle.attr_c.specs.Feeding.{Stays};
+ghost use Rattle.attribute_kinds.specs.Calls.{KeepsStore};
 ghost use Rattle.attr_c.specs.Stops.{StopsOperation};
-ghost use Rattle.attr_c.specs.Loading.{put_of, IsSaveOf, LoadsFront, LoadsSave, PutsFront, PutsIn, RefusesSave, StopsLoad};
+ghost use Rattle.attr_c.specs.Loading.{put_of, IsNextLoaded, IsNextPut, IsSaveOf, LoadsFront, LoadsSave, PutsFront, PutsIn, RefusesSave, StopsLoad};
 
 use crate::feeding::apply;
 use crate::state::Open;
@@ -58,12 +59,14 @@ fn put_document<const OFFSET_BITS: u32, S: Store<OFFSET_BITS, Layout = AttrLayou
     ensures operations { OnOk result (open.new.attribute.operations ≡ open.old.attribute.operations + 1) }
     ensures left { OnErr result (Stays open.old.attribute.table open.new.attribute.table
         open.old.attribute.operations open.new.attribute.operations) }
-    ensures why { IfErr result (StopsOperation (S.ledger open.new.attribute.store) open.new.attribute.operations) }
+    ensures why { IfErr result (StopsOperation open.old.attribute open.new.attribute (λ next. next ≡ put_of document) S.ledger) }
     ensures pool { open.new.pool ≡ open.old.pool }
     ensures counts { open.new.counts ≡ open.old.counts }
     ensures commit { Stays open.old.attribute.committed open.new.attribute.committed
         open.old.attribute.committed_operations open.new.attribute.committed_operations }
     ensures fields { open.new.fields ≡ open.old.fields }
+    ensures keeps { KeepsStore (S.ledger open.old.attribute.store) (S.ledger open.new.attribute.store) }
+    ensures dense { open.new.attribute.dense ≡ open.old.attribute.dense }
 {
     match op_of(alloc, document) {
         Ok(op) => match apply(alloc, open, &op) {
@@ -85,12 +88,14 @@ fn put_all<const OFFSET_BITS: u32, S: Store<OFFSET_BITS, Layout = AttrLayout>>(
         open.old.attribute.operations open.new.attribute.operations) }
     ensures front { OnErr result (PutsFront open.old.fields documents.items open.old.attribute.table open.new.attribute.table
         open.old.attribute.operations open.new.attribute.operations) }
-    ensures why { IfErr result (StopsOperation (S.ledger open.new.attribute.store) open.new.attribute.operations) }
+    ensures why { IfErr result (StopsOperation open.old.attribute open.new.attribute
+        (IsNextPut documents.items open.old.attribute.operations open.new.attribute.operations) S.ledger) }
     ensures pool { open.new.pool ≡ open.old.pool }
     ensures counts { open.new.counts ≡ open.old.counts }
     ensures commit { Stays open.old.attribute.committed open.new.attribute.committed
         open.old.attribute.committed_operations open.new.attribute.committed_operations }
     ensures fields { open.new.fields ≡ open.old.fields }
+    ensures dense { open.new.attribute.dense ≡ open.old.attribute.dense }
 {
     for document in documents {
         match put_document(alloc, open, document) {
@@ -131,13 +136,15 @@ pub fn load<const OFFSET_BITS: u32, S: Store<OFFSET_BITS, Layout = AttrLayout>>(
     ensures front { OnErr result (LoadsFront open.old.fields bytes.now open.old.attribute.table open.new.attribute.table
         open.old.attribute.operations open.new.attribute.operations) }
     ensures why { IfErr result (StopsLoad open.old.fields bytes.now told.new.place
-        (StopsOperation (S.ledger open.new.attribute.store) open.new.attribute.operations)) }
+        (StopsOperation open.old.attribute open.new.attribute
+        (IsNextLoaded bytes.now open.old.attribute.operations open.new.attribute.operations) S.ledger)) }
     ensures pool { open.new.pool ≡ open.old.pool }
     ensures counts { open.new.counts ≡ open.old.counts }
     ensures skipped { told.new.skipped ≡ told.old.skipped }
     ensures commit { Stays open.old.attribute.committed open.new.attribute.committed
         open.old.attribute.committed_operations open.new.attribute.committed_operations }
     ensures fields { open.new.fields ≡ open.old.fields }
+    ensures dense { open.new.attribute.dense ≡ open.old.attribute.dense }
 {
     let saved = match saved_in(alloc, bytes, told) {
         Ok(saved) => saved,

@@ -1,11 +1,11 @@
 //! A new memory, with its attributes and readers. It is freed with the last of these.
-ghost use Rattle.std.specs.Prelude.{◌≡◌, ◌≤◌, ◌<◌, ◌+◌, ◌*◌, ◌^◌, true, false, length, IfOk, IfNone, IfSome};
+ghost use Rattle.std.specs.Prelude.{◌≡◌, ◌≤◌, ◌<◌, ◌+◌, ◌*◌, ◌^◌, true, false, length, nat_eq, not, IfOk, IfNone, IfSome};
 ghost use Rattle.attr_images.specs.Shapes.{shape_of, types_of};
 ghost use Rattle.attr_types.specs.declared.field.TheConstants.{MOST_FIELDS};
 ghost use Rattle.arena_api.specs.Calls.{IsFresh};
 ghost use Rattle.word_arena.specs.Knows.{core_sizes, view_of};
 ghost use Rattle.word_arena.specs.Ruled.{api_sizes, writer_of};
-ghost use Rattle.attr_c.specs.Engines.{AreNewCounts, HasNothing, IsOpened, open_counts, open_waiting};
+ghost use Rattle.attr_c.specs.Engines.{AreNewCounts, HasNothing, IsOpened, open_counts, open_dense, open_waiting};
 ghost use Rattle.attr_c.specs.Opening.{InBounds};
 ghost use Rattle.attr_c.specs.Stores.{HasMemory, open_memory};
 
@@ -208,6 +208,7 @@ fn opened_over<const OFFSET_BITS: u32>(
     requires none_made { (writer_of writer.place.me.0).made ≡ 0 }
     ensures fields { IfOk result (λ o. o.fields ≡ fields) }
     ensures readers { IfOk result (λ o. length o.pool.items ≡ sizes.now.readers) }
+    ensures dense { IfOk result (λ o. o.attribute.dense ≡ not (nat_eq sizes.now.dense 0)) }
     ensures nothing { IfOk result (λ o. HasNothing o.attribute.table o.attribute.committed o.attribute.operations
         o.attribute.committed_operations) }
     ensures counts { IfOk result (λ o. AreNewCounts sizes.now o.counts) }
@@ -250,6 +251,7 @@ fn narrow_open(
     requires few_readers { sizes.now.readers ≤ 64 }
     ensures opened { IfOk result (IsOpened fields) }
     ensures readers { IfOk result (λ o. open_waiting o ≡ sizes.now.readers) }
+    ensures dense { IfOk result (λ o. open_dense o ≡ not (nat_eq sizes.now.dense 0)) }
     ensures counts { IfOk result (λ o. AreNewCounts sizes.now (open_counts o)) }
     ensures memory { IfOk result (λ o. HasMemory config.buffers config.words (open_memory o)) }
 {
@@ -281,6 +283,7 @@ fn wide_open(
     requires few_readers { sizes.now.readers ≤ 64 }
     ensures opened { IfOk result (IsOpened fields) }
     ensures readers { IfOk result (λ o. open_waiting o ≡ sizes.now.readers) }
+    ensures dense { IfOk result (λ o. open_dense o ≡ not (nat_eq sizes.now.dense 0)) }
     ensures counts { IfOk result (λ o. AreNewCounts sizes.now (open_counts o)) }
     ensures memory { IfOk result (λ o. HasMemory config.buffers config.words (open_memory o)) }
 {
@@ -322,6 +325,7 @@ fn opened_within(alloc: Global, fields: Fields, sizes: &Sizes) -> Result<AnyOpen
     requires bounds { InBounds sizes.now }
     ensures opened { IfOk result (IsOpened fields) }
     ensures readers { IfOk result (λ o. open_waiting o ≡ sizes.now.readers) }
+    ensures dense { IfOk result (λ o. open_dense o ≡ not (nat_eq sizes.now.dense 0)) }
     ensures counts { IfOk result (λ o. AreNewCounts sizes.now (open_counts o)) }
     ensures memory { IfOk result (λ o. HasMemory sizes.now.buffers sizes.now.words (open_memory o)) }
 {
@@ -344,6 +348,7 @@ pub fn opened_in_bounds(
     requires few { length fields ≤ MOST_FIELDS }
     ensures opened { IfOk result (λ found. IfSome found (IsOpened fields)) }
     ensures readers { IfOk result (λ found. IfSome found (λ o. open_waiting o ≡ sizes.now.readers)) }
+    ensures dense { IfOk result (λ found. IfSome found (λ o. open_dense o ≡ not (nat_eq sizes.now.dense 0))) }
     ensures counts { IfOk result (λ found. IfSome found (λ o. AreNewCounts sizes.now (open_counts o))) }
     ensures memory { IfOk result (λ found. IfSome found (λ o. HasMemory sizes.now.buffers sizes.now.words (open_memory o))) }
     ensures bounds { IfOk result (λ found. IfSome found (λ _. InBounds sizes.now)) }

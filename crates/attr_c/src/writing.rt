@@ -23,7 +23,7 @@ pub fn commit<const OFFSET_BITS: u32, S: Store<OFFSET_BITS, Layout = AttrLayout>
     ensures counts { OnOk result (told.new.operations ≡ open.old.attribute.operations) }
     ensures commits { OnOk result (CommitsAs OFFSET_BITS (S.ledger open.old.attribute.store) (S.ledger open.new.attribute.store)
         open.old.counts open.new.counts told.new) }
-    ensures why { IfErr result (StopsCommit (S.ledger open.old.attribute.store) (S.ledger open.new.attribute.store)) }
+    ensures why { IfErr result (StopsCommit open.old.fields (S.ledger open.old.attribute.store) (S.ledger open.new.attribute.store)) }
     ensures still { OnErr result (open.new.counts ≡ open.old.counts) }
     ensures pool { open.new.pool ≡ open.old.pool }
     ensures left { OnErr result ((open.new.attribute.committed ≡ open.old.attribute.committed)
@@ -31,6 +31,7 @@ pub fn commit<const OFFSET_BITS: u32, S: Store<OFFSET_BITS, Layout = AttrLayout>
     ensures table { open.new.attribute.table ≡ open.old.attribute.table }
     ensures operations { open.new.attribute.operations ≡ open.old.attribute.operations }
     ensures fields { open.new.fields ≡ open.old.fields }
+    ensures dense { open.new.attribute.dense ≡ open.old.attribute.dense }
 {
     match open.attribute.commit() {
         Ok(info) => {
@@ -66,6 +67,7 @@ pub fn compact<const OFFSET_BITS: u32, S: Store<OFFSET_BITS, Layout = AttrLayout
     ensures committed { open.new.attribute.committed ≡ open.old.attribute.committed }
     ensures published { open.new.attribute.committed_operations ≡ open.old.attribute.committed_operations }
     ensures fields { open.new.fields ≡ open.old.fields }
+    ensures dense { open.new.attribute.dense ≡ open.old.attribute.dense }
 {
     told.keys = 0;
     told.finished = 0;

@@ -1,6 +1,6 @@
 use Rattle.std.proofs.Common.{◌≡◌, ℤ, sym, ap, subst, ◌∙◌, rules, w32, to_z, of_z}
 use Rattle.std.proofs.lemmas.Int.{to_z-of_z}
-use Rattle.attr_c.specs.Engines.{open_operations, open_table, KeepsTables, open_counts}
+use Rattle.attr_c.specs.Engines.{open_fields, open_operations, open_table, KeepsTables, open_counts}
 use Rattle.attr_c.specs.declared.state.AnyOpen.{AnyOpen}
 use Rattle.attr_c.specs.declared.state.AnyOpen.TheVariants.{Narrow, Wide}
 use Rattle.attr_c.proofs.EndLemmas.{stopped_as}
@@ -50,7 +50,7 @@ returns-in-Narrow-clause-left c = λ not.
     let e = c.commit_told.ensures in
     let left = e.left (λ zero. not (ap (λ (z : ℤ). to_z w32 (of_z w32 z)) zero)) in
     subst (λ (o : AnyOpen). KeepsTables o (Narrow c.commit_told.new.open)) (sym is)
-    (record { fields = e.fields; table = e.table; operations = e.operations; committed = left.0; published = left.1 })
+    (record { fields = e.fields; dense = e.dense; table = e.table; operations = e.operations; committed = left.0; published = left.1 })
 
 pub returns-in-Wide-clause-left : goal.returns-in-Wide-clause-left
 returns-in-Wide-clause-left c = λ not.
@@ -58,7 +58,7 @@ returns-in-Wide-clause-left c = λ not.
     let e = c.commit_told-in-Wide.ensures in
     let left = e.left (λ zero. not (ap (λ (z : ℤ). to_z w32 (of_z w32 z)) zero)) in
     subst (λ (o : AnyOpen). KeepsTables o (Wide c.commit_told-in-Wide.new.open)) (sym is)
-    (record { fields = e.fields; table = e.table; operations = e.operations; committed = left.0; published = left.1 })
+    (record { fields = e.fields; dense = e.dense; table = e.table; operations = e.operations; committed = left.0; published = left.1 })
 
 pub returns-in-Narrow-clause-stopped : goal.returns-in-Narrow-clause-stopped
 returns-in-Narrow-clause-stopped c = λ not.
@@ -66,7 +66,7 @@ returns-in-Narrow-clause-stopped c = λ not.
     let now = c.commit_told.new.open in
     let told = c.commit_told.new.told in
     let code = to_z-of_z w32 c.commit_told.result (record { sfits = c.commit_told.type_inv }) in
-    subst (λ (o : AnyOpen). Stopped (StopsCommit (open_ledger o) (open_ledger (Narrow now))) (open_counts o) now.counts told (to_z w32 (of_z w32 c.commit_told.result))) (sym is)
+    subst (λ (o : AnyOpen). Stopped (StopsCommit (open_fields o) (open_ledger o) (open_ledger (Narrow now))) (open_counts o) now.counts told (to_z w32 (of_z w32 c.commit_told.result))) (sym is)
     (stopped_as _ _ _ _ _ _ code (c.commit_told.ensures.stopped (λ zero. not (ap (λ (z : ℤ). to_z w32 (of_z w32 z)) zero))))
 
 pub returns-in-Wide-clause-stopped : goal.returns-in-Wide-clause-stopped
@@ -75,5 +75,5 @@ returns-in-Wide-clause-stopped c = λ not.
     let now = c.commit_told-in-Wide.new.open in
     let told = c.commit_told-in-Wide.new.told in
     let code = to_z-of_z w32 c.commit_told-in-Wide.result (record { sfits = c.commit_told-in-Wide.type_inv }) in
-    subst (λ (o : AnyOpen). Stopped (StopsCommit (open_ledger o) (open_ledger (Wide now))) (open_counts o) now.counts told (to_z w32 (of_z w32 c.commit_told-in-Wide.result))) (sym is)
+    subst (λ (o : AnyOpen). Stopped (StopsCommit (open_fields o) (open_ledger o) (open_ledger (Wide now))) (open_counts o) now.counts told (to_z w32 (of_z w32 c.commit_told-in-Wide.result))) (sym is)
     (stopped_as _ _ _ _ _ _ code (c.commit_told-in-Wide.ensures.stopped (λ zero. not (ap (λ (z : ℤ). to_z w32 (of_z w32 z)) zero))))

@@ -1,12 +1,11 @@
 use Rattle.std.proofs.Common.{◌≡◌, ℤ, drop, sym, ap, subst, rules, w32, to_z, of_z}
 use Rattle.attr_c.specs.Engines.{open_fields, open_operations, open_table, open_counts}
-use Rattle.attr_c.specs.Feeding.{FedTo, StopsFeed}
+use Rattle.attr_c.specs.Feeding.{FedTo, IsFirstOp, StopsFeed}
 use Rattle.attr_c.specs.declared.state.AnyOpen.{AnyOpen}
 use Rattle.attr_c.specs.declared.state.AnyOpen.TheVariants.{Narrow, Wide}
 use Rattle.attr_c.proofs.EndLemmas.{stopped_as}
-use Rattle.attr_c.specs.Stores.{open_ledger}
 use Rattle.std.proofs.lemmas.Int.{to_z-of_z}
-use Rattle.attr_c.specs.Stops.{Stopped, StopsOperation}
+use Rattle.attr_c.specs.Stops.{Stopped, StopsOpen}
 use Rattle.attr_c.specs.Holds.{with_skipped}
 use Rattle.attr_c.proofs.commit_exports.attr_feed.Goals as goal
 
@@ -34,7 +33,7 @@ returns-in-Narrow-clause-stopped c = λ not.
     let now = c.feed_told.new.open in
     let told = c.feed_told.new.told in
     let code = to_z-of_z w32 c.feed_told.result (record { sfits = c.feed_told.type_inv }) in
-    subst (λ (o : AnyOpen). Stopped (StopsFeed (open_fields o) c.args.bytes.now told.line (StopsOperation (open_ledger (Narrow now)) now.attribute.operations))
+    subst (λ (o : AnyOpen). Stopped (StopsFeed (open_fields o) c.args.bytes.now told.line (drop told.place c.args.bytes.now) (StopsOpen o (Narrow now) (IsFirstOp (open_fields o) (drop told.place c.args.bytes.now))))
     (with_skipped told.skipped (open_counts o)) now.counts told (to_z w32 (of_z w32 c.feed_told.result))) (sym is)
     (stopped_as _ _ _ _ _ _ code (c.feed_told.ensures.stopped (λ zero. not (ap (λ (z : ℤ). to_z w32 (of_z w32 z)) zero))))
 
@@ -44,6 +43,6 @@ returns-in-Wide-clause-stopped c = λ not.
     let now = c.feed_told-in-Wide.new.open in
     let told = c.feed_told-in-Wide.new.told in
     let code = to_z-of_z w32 c.feed_told-in-Wide.result (record { sfits = c.feed_told-in-Wide.type_inv }) in
-    subst (λ (o : AnyOpen). Stopped (StopsFeed (open_fields o) c.args.bytes.now told.line (StopsOperation (open_ledger (Wide now)) now.attribute.operations))
+    subst (λ (o : AnyOpen). Stopped (StopsFeed (open_fields o) c.args.bytes.now told.line (drop told.place c.args.bytes.now) (StopsOpen o (Wide now) (IsFirstOp (open_fields o) (drop told.place c.args.bytes.now))))
     (with_skipped told.skipped (open_counts o)) now.counts told (to_z w32 (of_z w32 c.feed_told-in-Wide.result))) (sym is)
     (stopped_as _ _ _ _ _ _ code (c.feed_told-in-Wide.ensures.stopped (λ zero. not (ap (λ (z : ℤ). to_z w32 (of_z w32 z)) zero))))

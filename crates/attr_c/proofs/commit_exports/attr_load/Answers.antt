@@ -1,12 +1,11 @@
 use Rattle.std.proofs.Common.{◌≡◌, ℤ, sym, ap, subst, rules, w32, to_z, of_z}
 use Rattle.attr_c.specs.Engines.{open_fields, open_operations, open_table, open_counts}
-use Rattle.attr_c.specs.Loading.{LoadsFront, StopsLoad}
+use Rattle.attr_c.specs.Loading.{IsNextLoaded, LoadsFront, StopsLoad}
 use Rattle.attr_c.specs.declared.state.AnyOpen.{AnyOpen}
 use Rattle.attr_c.specs.declared.state.AnyOpen.TheVariants.{Narrow, Wide}
 use Rattle.attr_c.proofs.EndLemmas.{stopped_as}
-use Rattle.attr_c.specs.Stores.{open_ledger}
 use Rattle.std.proofs.lemmas.Int.{to_z-of_z}
-use Rattle.attr_c.specs.Stops.{Stopped, StopsOperation}
+use Rattle.attr_c.specs.Stops.{Stopped, StopsOpen}
 use Rattle.attr_c.proofs.commit_exports.attr_load.Goals as goal
 
 pub returns-in-Narrow-clause-front : goal.returns-in-Narrow-clause-front
@@ -31,7 +30,7 @@ returns-in-Narrow-clause-stopped c = λ not.
     let now = c.load_told.new.open in
     let told = c.load_told.new.told in
     let code = to_z-of_z w32 c.load_told.result (record { sfits = c.load_told.type_inv }) in
-    subst (λ (o : AnyOpen). Stopped (StopsLoad (open_fields o) c.args.bytes.now told.place (StopsOperation (open_ledger (Narrow now)) now.attribute.operations))
+    subst (λ (o : AnyOpen). Stopped (StopsLoad (open_fields o) c.args.bytes.now told.place (StopsOpen o (Narrow now) (IsNextLoaded c.args.bytes.now (open_operations o) now.attribute.operations)))
     (open_counts o) now.counts told (to_z w32 (of_z w32 c.load_told.result))) (sym is)
     (stopped_as _ _ _ _ _ _ code (c.load_told.ensures.stopped (λ zero. not (ap (λ (z : ℤ). to_z w32 (of_z w32 z)) zero))))
 
@@ -41,6 +40,6 @@ returns-in-Wide-clause-stopped c = λ not.
     let now = c.load_told-in-Wide.new.open in
     let told = c.load_told-in-Wide.new.told in
     let code = to_z-of_z w32 c.load_told-in-Wide.result (record { sfits = c.load_told-in-Wide.type_inv }) in
-    subst (λ (o : AnyOpen). Stopped (StopsLoad (open_fields o) c.args.bytes.now told.place (StopsOperation (open_ledger (Wide now)) now.attribute.operations))
+    subst (λ (o : AnyOpen). Stopped (StopsLoad (open_fields o) c.args.bytes.now told.place (StopsOpen o (Wide now) (IsNextLoaded c.args.bytes.now (open_operations o) now.attribute.operations)))
     (open_counts o) now.counts told (to_z w32 (of_z w32 c.load_told-in-Wide.result))) (sym is)
     (stopped_as _ _ _ _ _ _ code (c.load_told-in-Wide.ensures.stopped (λ zero. not (ap (λ (z : ℤ). to_z w32 (of_z w32 z)) zero))))

@@ -27,6 +27,9 @@ returns-clause-operations g c = c.commit-came.ensures.operations
 pub returns-clause-fields : goal.returns-clause-fields
 returns-clause-fields g c = c.commit-came.ensures.fields
 
+pub returns-clause-dense : goal.returns-clause-dense
+returns-clause-dense g c = c.commit-came.ensures.dense
+
 pub returns-clause-stopped : goal.returns-clause-stopped
 returns-clause-stopped g c = λ not.
     let ledger = g.S.Store.ledger in
@@ -35,5 +38,5 @@ returns-clause-stopped g c = λ not.
     let code = to_z-of_z w32 c.ended.result (record { sfits = c.ended.type_inv }) in
     let failed = c.ended.ensures.other (λ zero. not (ap (λ (z : ℤ). to_z w32 (of_z w32 z)) zero)) in
     stopped_as _ _ _ _ _ _ code
-    (stopped_of (StopsCommit (ledger was.attribute.store) (ledger now.attribute.store)) c.commit-came.result was.counts _ c.ended.new.counts c.ended.new.told c.ended.result
+    (stopped_of (StopsCommit was.fields (ledger was.attribute.store) (ledger now.attribute.store)) c.commit-came.result was.counts _ c.ended.new.counts c.ended.new.told c.ended.result
     (on_err_of c.commit-came.result failed c.commit-came.ensures.still) failed c.commit-came.ensures.why c.ended.ensures.ends)

@@ -1,8 +1,8 @@
-use Rattle.std.proofs.Common.{ℤ, ap, sym, ◌∙◌, w32, to_z, of_z, ℕ, subst}
+use Rattle.std.proofs.Common.{ℤ, drop, ap, sym, ◌∙◌, w32, to_z, of_z, ℕ, subst}
 use Rattle.std.proofs.lemmas.Int.{to_z-of_z}
 use Rattle.attr_c.proofs.EndLemmas.{on_err_of, on_ok_of, feed_stops, stopped_as, stopped_of}
 use Rattle.attr_c.specs.Stops.{Stopped, StopsOperation}
-use Rattle.attr_c.specs.Feeding.{StopsFeed}
+use Rattle.attr_c.specs.Feeding.{IsFirstOp, StopsFeed}
 use Rattle.attr_c.specs.Holds.{with_skipped}
 use Rattle.attr_c.proofs.commit_exports.feed_told.Goals as goal
 
@@ -21,10 +21,14 @@ returns-clause-stopped g c = λ not.
     let fed = c.feed-came.new.open in
     let told = c.ended.new.told in
     let bytes = c.args.bytes.now in
-    let why = StopsOperation (g.S.Store.ledger fed.attribute.store) fed.attribute.operations in
+    let first = c.feed-came.new.told in
+    let why = λ (place : ℕ). StopsOperation was.attribute fed.attribute (IsFirstOp was.fields (drop place bytes)) g.S.Store.ledger in
+    let cause = λ (line place : ℕ). StopsFeed was.fields bytes line (drop place bytes) (why place) in
     let code = to_z-of_z w32 c.ended.result (record { sfits = c.ended.type_inv }) in
     let failed = c.ended.ensures.other (λ zero. not (ap (λ (z : ℤ). to_z w32 (of_z w32 z)) zero)) in
     let same = ap (λ (n : ℕ). with_skipped n fed.counts) (c.from.ensures ∙ sym c.ended.ensures.skipped) ∙ ap (with_skipped told.skipped) c.feed-came.ensures.counts in
-    let stops = feed_stops c.feed-came.result was.fields bytes c.feed-came.new.told.line why c.feed-came.ensures.refused c.feed-came.ensures.why in
-    subst (λ (n : ℕ). Stopped (StopsFeed was.fields bytes n why) (with_skipped told.skipped was.counts) c.ended.new.counts told (to_z w32 (of_z w32 c.ended.result))) (sym c.ended.ensures.line)
-    (stopped_as _ _ _ _ _ _ code (stopped_of (StopsFeed was.fields bytes c.feed-came.new.told.line why) c.feed-came.result _ _ c.ended.new.counts told c.ended.result same failed stops c.ended.ensures.ends))
+    let stops = feed_stops c.feed-came.result was.fields bytes first.line (drop first.place bytes) (why first.place) c.feed-came.ensures.refused c.feed-came.ensures.why in
+    let end = to_z w32 (of_z w32 c.ended.result) in
+    subst (λ (n : ℕ). Stopped (cause n told.place) (with_skipped told.skipped was.counts) c.ended.new.counts told end) (sym c.ended.ensures.line)
+    (subst (λ (n : ℕ). Stopped (cause first.line n) (with_skipped told.skipped was.counts) c.ended.new.counts told end) (sym c.ended.ensures.place)
+    (stopped_as _ _ _ _ _ _ code (stopped_of (cause first.line first.place) c.feed-came.result _ _ c.ended.new.counts told c.ended.result same failed stops c.ended.ensures.ends)))

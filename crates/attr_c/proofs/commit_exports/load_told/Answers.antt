@@ -1,7 +1,7 @@
 use Rattle.std.proofs.Common.{ℕ, ℤ, ap, sym, subst, ◌∙◌, w32, to_z, of_z}
 use Rattle.std.proofs.lemmas.Int.{to_z-of_z}
 use Rattle.attr_c.proofs.EndLemmas.{on_err_of, on_ok_of, stopped_as, stopped_of}
-use Rattle.attr_c.specs.Loading.{StopsLoad}
+use Rattle.attr_c.specs.Loading.{IsNextLoaded, StopsLoad}
 use Rattle.attr_c.specs.Stops.{Stopped, StopsOperation}
 use Rattle.attr_c.proofs.commit_exports.load_told.Goals as goal
 
@@ -17,13 +17,16 @@ returns-clause-commit g c = c.load-came.ensures.commit
 pub returns-clause-fields : goal.returns-clause-fields
 returns-clause-fields g c = c.load-came.ensures.fields
 
+pub returns-clause-dense : goal.returns-clause-dense
+returns-clause-dense g c = c.load-came.ensures.dense
+
 pub returns-clause-stopped : goal.returns-clause-stopped
 returns-clause-stopped g c = λ not.
     let was = c.args.open.now in
     let now = c.load-came.new.open in
     let told = c.ended.new.told in
     let bytes = c.args.bytes.now in
-    let why = StopsOperation (g.S.Store.ledger now.attribute.store) now.attribute.operations in
+    let why = StopsOperation was.attribute now.attribute (IsNextLoaded bytes was.attribute.operations now.attribute.operations) g.S.Store.ledger in
     let code = to_z-of_z w32 c.ended.result (record { sfits = c.ended.type_inv }) in
     let failed = c.ended.ensures.other (λ zero. not (ap (λ (z : ℤ). to_z w32 (of_z w32 z)) zero)) in
     subst (λ (n : ℕ). Stopped (StopsLoad was.fields bytes n why) was.counts c.ended.new.counts told (to_z w32 (of_z w32 c.ended.result))) (sym c.ended.ensures.place)

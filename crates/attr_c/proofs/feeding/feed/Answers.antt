@@ -1,6 +1,10 @@
-use Rattle.std.proofs.Common.{◌+◌, ℕ, List, refl, sym, subst, rules, ◌∙◌, arith, Ok, Err}
+use Rattle.std.proofs.Common.{◌+◌, ◌-◌, ℕ, List, length, drop, ap, refl, sym, subst, rules, ◌∙◌, arith, Ok, Err}
 use Rattle.attr_types.specs.declared.field.Field.{Field}
-use Rattle.attr_c.specs.Feeding.{FedLine, FedTo}
+use Rattle.feed_reader.specs.Lines.{lines_of}
+use Rattle.attr_c.specs.Feeding.{FedLine, FedTo, IfLine, IsFirstOp, IsOpOf, RefusesLine}
+use Rattle.attr_steps.proofs.StepLemmas.{keeps_same}
+use Rattle.compact_steps.proofs.WalkLemmas.{keeps_then}
+use Rattle.attr_c.proofs.EndLemmas.{line_since, line_wider}
 use Rattle.attr_c.proofs.FeedLemmas.{drop_none, drop_on, fed_none, fed_on, fed_refused, fed_small, fed_whole}
 use Rattle.attr_c.proofs.feeding.feed.Goals as goal
 
@@ -10,6 +14,8 @@ loop-rest-init g c = record {
   pool = refl;
   counts = refl;
   fields = refl;
+  dense = refl;
+  keeps = keeps_same (g.S.Store.ledger c.args.open.now.attribute.store);
   commit = record { table = refl; operations = refl };
   at = drop_none c.args.bytes.now;
   small = omega arith;
@@ -31,6 +37,7 @@ overflow_add-told g c =
 
 pub loop-rest-preserved : goal.loop-rest-preserved
 loop-rest-preserved g c =
+    let ledger = g.S.Store.ledger in
     let was = c.args.open.now in
     let mid = c.loop-rest.open.attribute in
     let now = c.feed_line.new.open.attribute in
@@ -53,6 +60,8 @@ loop-rest-preserved g c =
       pool = c.in-Ok.ensures.pool ∙ i.pool;
       counts = c.in-Ok.ensures.counts ∙ i.counts;
       fields = c.in-Ok.ensures.fields ∙ i.fields;
+      dense = c.in-Ok.ensures.dense ∙ i.dense;
+      keeps = keeps_then (ledger was.attribute.store) (ledger mid.store) (ledger now.store) i.keeps c.in-Ok.ensures.keeps;
       commit = record { table = c.in-Ok.ensures.commit.table ∙ i.commit.table; operations = c.in-Ok.ensures.commit.operations ∙ i.commit.operations };
       at = drop_on c.args.bytes.now rest after i.at c.split_line.ensures.rest (omega (arith, shorter)) (omega (arith, few));
       small = omega (arith, small, is);
@@ -67,8 +76,32 @@ returns-in-Err-clause-refused g c =
     let i = c.loop-rest.invariant in
     let line = c.split_line.result.0.now in
     let fed = subst (λ (fs : List Field). FedLine fs line mid.table now.table mid.operations now.operations (Err c.in-Err.stop)) i.fields c.in-Err.ensures.fed in
-    fed_refused was.fields c.args.bytes.now was.attribute.table mid.table now.table was.attribute.operations mid.operations now.operations c.loop-rest.told.skipped (c.loop-rest.passed + 1) c.loop-rest.rest.now line
-    c.split_line.result.1.now c.split_line.ensures.lines i.fed c.in-Err.stop c.split_line.ensures.alone fed
+    subst (λ (rest : List ℕ). IfLine (RefusesLine was.fields c.args.bytes.now (c.loop-rest.passed + 1) rest) c.in-Err.stop) i.at
+    (fed_refused was.fields c.args.bytes.now was.attribute.table mid.table now.table was.attribute.operations mid.operations now.operations c.loop-rest.told.skipped (c.loop-rest.passed + 1)
+    c.loop-rest.rest.now line c.split_line.result.1.now c.split_line.ensures.lines i.fed c.in-Err.stop c.split_line.ensures.alone fed)
+
+pub returns-in-Err-clause-why : goal.returns-in-Err-clause-why
+returns-in-Err-clause-why g c =
+    let was = c.args.open.now in
+    let mid = c.loop-rest.open in
+    let now = c.feed_line.new.open.attribute in
+    let ledger = g.S.Store.ledger in
+    let bytes = c.args.bytes.now in
+    let i = c.loop-rest.invariant in
+    let rest = c.loop-rest.rest.now in
+    let line = c.split_line.result.0.now in
+    let place = length bytes - length rest in
+    line_wider was.attribute now ledger (IsOpOf mid.fields line) (IsFirstOp was.fields (drop place bytes))
+    (λ op is. record {
+      line = line;
+      lines = lines_of c.split_line.result.1.now;
+      first = ap lines_of (sym i.at) ∙ c.split_line.ensures.lines;
+      is = subst (λ (fs : List Field). IsOpOf fs line op) i.fields is;
+    })
+    c.in-Err.stop (line_since was.attribute mid.attribute now ledger (IsOpOf mid.fields line) i.keeps c.in-Err.stop c.in-Err.ensures.why)
+
+pub returns-in-Err-clause-dense : goal.returns-in-Err-clause-dense
+returns-in-Err-clause-dense g c = c.in-Err.ensures.dense ∙ c.loop-rest.invariant.dense
 
 pub returns-clause-whole : goal.returns-clause-whole
 returns-clause-whole g c =

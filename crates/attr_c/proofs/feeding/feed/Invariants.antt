@@ -1,4 +1,5 @@
 use Rattle.std.proofs.Common.{◌≡◌, ◌+◌, ◌-◌, ◌^◌, ◌<◌, ◌≤◌, length, drop}
+use Rattle.attribute_kinds.specs.Calls.{KeepsStore}
 use Rattle.attr_c.specs.Feeding.{FedTo, Stays}
 use Rattle.attr_c.proofs.feeding.feed.Given as goal
 
@@ -10,6 +11,8 @@ invariant-loop-rest g l = record {
   pool : l.open.pool ≡ l.fn.open.pool;
   counts : l.open.counts ≡ l.fn.open.counts;
   fields : l.open.fields ≡ l.fn.open.fields;
+  dense : l.open.attribute.dense ≡ l.fn.open.attribute.dense;
+  keeps : KeepsStore (g.S.Store.ledger l.fn.open.attribute.store) (g.S.Store.ledger l.open.attribute.store);
   at : l.rest ≡ drop (length l.fn.bytes - length l.rest) l.fn.bytes;
   commit : Stays l.fn.open.attribute.committed l.open.attribute.committed l.fn.open.attribute.committed_operations l.open.attribute.committed_operations;
   small : l.told.skipped < 2 ^ 32;

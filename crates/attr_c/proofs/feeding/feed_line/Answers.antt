@@ -1,4 +1,6 @@
-use Rattle.attr_c.proofs.EndLemmas.{line_or}
+use Rattle.std.proofs.Common.{◌≡◌, subst, sym, rules, Ok, Some}
+use Rattle.attr_c.specs.Feeding.{IsOpOf, SaysLine}
+use Rattle.attr_c.proofs.EndLemmas.{line_or, stops_wider}
 use Rattle.attr_c.proofs.FeedLemmas.{fed_stopped}
 use Rattle.attr_c.proofs.feeding.feed_line.Goals as goal
 
@@ -11,4 +13,14 @@ returns-in-Ok-Some-clause-fed g c =
     (record { table = left.0; operations = left.1 })
 
 pub returns-in-Ok-Some-clause-why : goal.returns-in-Ok-Some-clause-why
-returns-in-Ok-Some-clause-why g c = line_or _ _ c.in-Err-apply.stop c.in-Err-apply.ensures.why
+returns-in-Ok-Some-clause-why g c =
+    let was = c.args.open.now.attribute in
+    let now = c.apply.new.open.attribute in
+    let ledger = g.S.Store.ledger in
+    let fields = c.args.open.now.fields in
+    let line = c.args.line.now in
+    let is : c.operation_in.result ≡ Ok (Some c.in-Ok-Some.op) = search rules in
+    let said = subst (SaysLine fields line) is c.operation_in.ensures in
+    let one : IsOpOf fields line c.in-Ok-Some.op = record { some = said.0; says = said.1 } in
+    line_or was now ledger (IsOpOf fields line) c.in-Err-apply.stop
+    (stops_wider was now ledger (λ next. next ≡ c.in-Ok-Some.op) (IsOpOf fields line) (λ op same. subst (IsOpOf fields line) (sym same) one) c.in-Err-apply.stop c.in-Err-apply.ensures.why)

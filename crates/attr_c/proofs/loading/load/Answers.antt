@@ -3,8 +3,8 @@ use Rattle.std.specs.List.{AllByRecursion}
 use Rattle.std.proofs.lemmas.Result.{IfErr-weaker, IfOk-weaker}
 use Rattle.attr_saver.specs.declared.saved.SavedDocument.{SavedDocument}
 use Rattle.attr_types.specs.Lawful.{OpFits}
-use Rattle.attr_c.specs.Loading.{put_of, IsSaveOf, PutsFront, PutsIn}
-use Rattle.attr_c.proofs.EndLemmas.{load_or, save_or}
+use Rattle.attr_c.specs.Loading.{put_of, IsNextLoaded, IsNextPut, IsSaveOf, PutsFront, PutsIn}
+use Rattle.attr_c.proofs.EndLemmas.{load_or, save_or, stops_wider}
 use Rattle.attr_c.proofs.LoadLemmas.{loads_front, loads_none, loads_whole, puts_fit}
 use Rattle.attr_c.proofs.loading.load.Goals as goal
 
@@ -45,11 +45,26 @@ put_all-requires g c =
     (search rules, fit)
 
 pub returns-in-Err-clause-why : goal.returns-in-Err-clause-why
-returns-in-Err-clause-why g c = save_or _ _ _ _ _ c.in-Err.stop c.in-Err.ensures.why
+returns-in-Err-clause-why g c =
+    let was = c.args.open.now.attribute in
+    save_or was was g.S.Store.ledger (IsNextLoaded c.args.bytes.now was.operations was.operations) _ _ _ c.in-Err.stop c.in-Err.ensures.why
 
 pub returns-then-not-is_of_fields-clause-why : goal.returns-then-not-is_of_fields-clause-why
 returns-then-not-is_of_fields-clause-why g c =
     record { saved = c.in-Ok.saved; reads = c.in-Ok.ensures.saved; other = c.is_of_fields.ensures.no c.if-not-is_of_fields.true }
 
 pub returns-clause-why : goal.returns-clause-why
-returns-clause-why g c = IfErr-weaker c.put_all.result _ _ (λ stop why. load_or _ _ _ _ _ stop why) c.put_all.ensures.why
+returns-clause-why g c =
+    let was = c.args.open.now.attribute in
+    let now = c.put_all.new.open.attribute in
+    let ledger = g.S.Store.ledger in
+    let bytes = c.args.bytes.now in
+    let next = IsNextLoaded bytes was.operations now.operations in
+    IfErr-weaker c.put_all.result _ _
+    (λ stop why. load_or was now ledger next _ _ _ stop
+    (stops_wider was now ledger (IsNextPut c.into_vec.result.items was.operations now.operations) next
+    (λ op is. record {
+      saved = c.in-Ok.saved;
+      reads = c.in-Ok.ensures.saved;
+      is_next = subst (λ (list : List SavedDocument). IsNextPut list was.operations now.operations op) c.into_vec.ensures is;
+    }) stop why)) c.put_all.ensures.why

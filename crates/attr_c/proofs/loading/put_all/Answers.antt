@@ -4,8 +4,11 @@ use Rattle.attr_saver.specs.declared.saved.SavedDocument.{SavedDocument}
 use Rattle.attr_types.specs.Lawful.{OpFits}
 use Rattle.attr_types.specs.Table.{after_op}
 use Rattle.attr_types.specs.declared.field.Field.{Field}
-use Rattle.attr_c.specs.Loading.{put_of}
-use Rattle.attr_c.proofs.LoadLemmas.{moved_on, one_of_all, puts_front, puts_more, puts_none}
+use Rattle.attr_c.specs.Loading.{put_of, IsNextPut}
+use Rattle.attr_steps.proofs.StepLemmas.{keeps_same}
+use Rattle.compact_steps.proofs.WalkLemmas.{keeps_then}
+use Rattle.attr_c.proofs.EndLemmas.{stops_since, stops_wider}
+use Rattle.attr_c.proofs.LoadLemmas.{moved_on, next_put, one_of_all, puts_front, puts_more, puts_none}
 use Rattle.attr_c.proofs.loading.put_all.Goals as goal
 
 pub loop-document-init : goal.loop-document-init
@@ -14,12 +17,15 @@ loop-document-init g c = record {
   pool = refl;
   counts = refl;
   fields = refl;
+  dense = refl;
+  keeps = keeps_same (g.S.Store.ledger c.args.open.now.attribute.store);
   commit = record { table = refl; operations = refl };
   all = search rules;
 }
 
 pub loop-document-preserved : goal.loop-document-preserved
 loop-document-preserved g c =
+    let ledger = g.S.Store.ledger in
     let was = c.args.open.now in
     let mid = c.loop-document.open.attribute in
     let now = c.put_document.new.open.attribute in
@@ -33,6 +39,8 @@ loop-document-preserved g c =
       pool = c.in-Ok.ensures.pool ∙ i.pool;
       counts = c.in-Ok.ensures.counts ∙ i.counts;
       fields = c.in-Ok.ensures.fields ∙ i.fields;
+      dense = c.in-Ok.ensures.dense ∙ i.dense;
+      keeps = keeps_then (ledger was.attribute.store) (ledger mid.store) (ledger now.store) i.keeps c.in-Ok.ensures.keeps;
       commit = record { table = c.in-Ok.ensures.commit.table ∙ i.commit.table; operations = c.in-Ok.ensures.commit.operations ∙ i.commit.operations };
       all = moved_on c.loop-document.yielded (into_iter_items c.loop-document.document-iterator) (into_iter_items c.next.new.self) c.args.documents.items one rest i.all;
     }
@@ -45,6 +53,22 @@ returns-in-Err-clause-front g c =
     let i = c.loop-document.invariant in
     puts_front was.fields was.attribute.table was.attribute.operations c.loop-document.yielded (into_iter_items c.loop-document.document-iterator) c.args.documents.items mid.table now.table
     mid.operations now.operations i.all i.puts c.in-Err.ensures.left
+
+pub returns-in-Err-clause-why : goal.returns-in-Err-clause-why
+returns-in-Err-clause-why g c =
+    let was = c.args.open.now.attribute in
+    let mid = c.loop-document.open.attribute in
+    let now = c.put_document.new.open.attribute in
+    let i = c.loop-document.invariant in
+    let one = c.in-Some.document in
+    let rest : into_iter_items c.loop-document.document-iterator ≡ one ∷ into_iter_items c.next.new.self = search rules in
+    stops_wider was now g.S.Store.ledger (λ next. next ≡ put_of one) (IsNextPut c.args.documents.items was.operations now.operations)
+    (λ op is. next_put c.args.open.now.fields c.loop-document.yielded (into_iter_items c.loop-document.document-iterator) (into_iter_items c.next.new.self) c.args.documents.items one was.table mid.table
+    was.operations mid.operations now.operations rest i.all i.puts c.in-Err.ensures.left.operations op is)
+    c.in-Err.stop (stops_since was mid now g.S.Store.ledger (λ next. next ≡ put_of one) i.keeps c.in-Err.stop c.in-Err.ensures.why)
+
+pub returns-in-Err-clause-dense : goal.returns-in-Err-clause-dense
+returns-in-Err-clause-dense g c = c.in-Err.ensures.dense ∙ c.loop-document.invariant.dense
 
 pub put_document-requires : goal.put_document-requires
 put_document-requires g c =

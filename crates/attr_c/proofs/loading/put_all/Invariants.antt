@@ -1,5 +1,6 @@
 use Rattle.std.proofs.Common.{◌≡◌, ◌++◌}
 use Rattle.std.specs.Vec.Iter.{into_iter_items}
+use Rattle.attribute_kinds.specs.Calls.{KeepsStore}
 use Rattle.attr_c.specs.Feeding.{Stays}
 use Rattle.attr_c.specs.Loading.{PutsIn}
 use Rattle.attr_c.proofs.loading.put_all.Given as goal
@@ -11,6 +12,8 @@ invariant-loop-document g l = record {
   pool : l.open.pool ≡ l.fn.open.pool;
   counts : l.open.counts ≡ l.fn.open.counts;
   fields : l.open.fields ≡ l.fn.open.fields;
+  dense : l.open.attribute.dense ≡ l.fn.open.attribute.dense;
+  keeps : KeepsStore (g.S.Store.ledger l.fn.open.attribute.store) (g.S.Store.ledger l.open.attribute.store);
   commit : Stays l.fn.open.attribute.committed l.open.attribute.committed l.fn.open.attribute.committed_operations l.open.attribute.committed_operations;
   all : l.yielded ++ into_iter_items l.document-iterator ≡ l.fn.documents.items;
 }
