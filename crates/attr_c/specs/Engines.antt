@@ -1,5 +1,7 @@
 -- What the writer's handle holds, as its callers see it.
 use Rattle.std.specs.Prelude.{◌≡◌, ◌<◌, ◌≤◌, ℕ, Bool, List, [], length}
+use Rattle.std.specs.List.{AllByRecursion}
+use Rattle.atomic_table.specs.Seated.{TableId}
 use Rattle.attr_types.specs.Table.{Table}
 use Rattle.attr_types.specs.declared.field.Field.{Field}
 use Rattle.attr_types.specs.declared.field.TheConstants.{MOST_FIELDS}
@@ -29,6 +31,11 @@ abbrev pub open_dense : AnyOpen → Bool
 open_dense (Narrow o) = o.attribute.dense
 open_dense (Wide o) = o.attribute.dense
 
+-- the memory behind the attributes
+abbrev pub open_home : AnyOpen → TableId
+open_home (Narrow o) = o.attribute.store.work.place.table_id
+open_home (Wide o) = o.attribute.store.work.place.table_id
+
 -- the table of the last commit, and its number of operations
 abbrev pub open_committed : AnyOpen → Table
 open_committed (Narrow o) = o.attribute.committed
@@ -47,16 +54,24 @@ abbrev pub open_waiting : AnyOpen → ℕ
 open_waiting (Narrow o) = length o.pool.items
 open_waiting (Wide o) = length o.pool.items
 
+-- the readers that were not given away are of these attributes, and of the memory behind them
+abbrev pub HasOwnReaders : AnyOpen → Type 0
+HasOwnReaders (Narrow o) =
+    AllByRecursion (λ w. (w.fields ≡ o.fields) × (w.reader.place.table_id ≡ o.attribute.store.work.place.table_id)) o.pool.items
+HasOwnReaders (Wide o) =
+    AllByRecursion (λ w. (w.fields ≡ o.fields) × (w.reader.place.table_id ≡ o.attribute.store.work.place.table_id)) o.pool.items
+
 -- the readers that were not given away are the same
 abbrev pub KeepsWaiting : AnyOpen → AnyOpen → Type 0
 KeepsWaiting (Narrow old) (Narrow new) = new.pool.items ≡ old.pool.items
 KeepsWaiting (Wide old) (Wide new) = new.pool.items ≡ old.pool.items
 KeepsWaiting old new = ⊥
 
--- a call that leaves the attributes, what was fed and what was committed as they were
+-- a call that leaves the attributes, their memory, what was fed and what was committed as they were
 pub record KeepsTables (old new : AnyOpen) : Type 0 where
   pub fields : open_fields new ≡ open_fields old
   pub dense : open_dense new ≡ open_dense old
+  pub home : open_home new ≡ open_home old
   pub table : open_table new ≡ open_table old
   pub operations : open_operations new ≡ open_operations old
   pub committed : open_committed new ≡ open_committed old
@@ -113,6 +128,9 @@ fields_of e = open_fields e.open
 
 abbrev pub dense_of : Engine → Bool
 dense_of e = open_dense e.open
+
+abbrev pub home_of : Engine → TableId
+home_of e = open_home e.open
 
 abbrev pub table_of : Engine → Table
 table_of e = open_table e.open

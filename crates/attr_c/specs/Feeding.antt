@@ -1,5 +1,6 @@
 -- How lines change attributes.
-use Rattle.std.specs.Prelude.{◌≡◌, ℕ, ◌+◌, ◌<◌, ◌∷◌, true, false, List, length, Option, Some, None, IfSome, Result, Ok, Err}
+use Rattle.std.specs.Prelude.{◌≡◌, ℕ, ◌+◌, ◌<◌, ◌≤◌, true, false, List, ◌∷◌, length, drop}
+use Rattle.std.specs.Prelude.{Option, Some, None, IfSome, Result, Ok, Err}
 use Rattle.attr_types.specs.Lawful.{OpFits}
 use Rattle.attr_types.specs.Table.{Table, after_op, after_ops, skipped_ops}
 use Rattle.attr_types.specs.declared.applied.Applied.{Applied}
@@ -89,6 +90,12 @@ pub record BeginsTooLong (rest : List ℕ) : Type 0 where
   pub lines : List (List ℕ)
   pub first : lines_of rest ≡ line ∷ lines
   pub long : most_bytes < length line
+
+-- the line that begins at a place ends before another one, where the lines behind it begin
+pub record IsLineBetween (bytes : List ℕ) (place next : ℕ) : Type 0 where
+  pub line : List ℕ
+  pub lines : lines_of (drop place bytes) ≡ line ∷ lines_of (drop next bytes)
+  pub within : next ≤ length bytes
 
 -- why the line of this number is refused, with which the rest of a feed begins: it is the first faulty line of the feed,
 -- or too long

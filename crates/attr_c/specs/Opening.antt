@@ -1,7 +1,7 @@
 -- What a call that opens an engine says.
 use Rattle.std.specs.Prelude.{◌≡◌, ◌≢◌, ◌≤◌, ◌*◌, ℕ, not, nat_eq, List, Option, Some, None, Ok, Err, ℤ}
 use Rattle.attr_c.specs.Attributes.{fields_in}
-use Rattle.attr_c.specs.Engines.{AreNewCounts, IsNewEngine, dense_of, fields_of, open_counts, open_waiting}
+use Rattle.attr_c.specs.Engines.{AreNewCounts, HasOwnReaders, IsNewEngine, dense_of, fields_of, open_counts, open_waiting}
 use Rattle.attr_c.specs.Stores.{HasMemory, open_memory}
 use Rattle.attr_c.specs.declared.codes.TheConstants.{OK, MEMORY, BOUNDS, ATTRIBUTES, NO_TEXT}
 use Rattle.attr_c.specs.declared.state.Engine.{Engine}
@@ -17,8 +17,8 @@ pub record InBounds (sizes : Sizes) : Type 0 where
   pub few_in_all : sizes.buffers * sizes.words ≤ 67108864
   pub few_readers : sizes.readers ≤ 64
 
--- a new engine, which has the attributes that the text names, and as many readers to hand out as were asked for; it keeps
--- bit vectors if they are wanted
+-- a new engine, which has the attributes that the text names, and as many readers of them to hand out as were asked for;
+-- it keeps bit vectors if they are wanted
 pub record Opens (text : List ℕ) (sizes : Sizes) (engine : Engine) : Type 0 where
   pub is_new : IsNewEngine engine
   pub reads : fields_in text ≡ Ok (fields_of engine)
@@ -26,6 +26,7 @@ pub record Opens (text : List ℕ) (sizes : Sizes) (engine : Engine) : Type 0 wh
   pub memory : HasMemory sizes.buffers sizes.words (open_memory engine.open)
   pub counts : AreNewCounts sizes (open_counts engine.open)
   pub readers : open_waiting engine.open ≡ sizes.readers
+  pub own : HasOwnReaders engine.open
   pub dense : dense_of engine ≡ not (nat_eq sizes.dense 0)
 
 -- the engine that was written for C

@@ -104,7 +104,8 @@ pub record RefusedOperation {S H : Type 0} (old now : AttributeView S) (next : O
 
 -- why the next operation was not applied: the store refused it, the greatest number of operations was reached, or memory
 -- ran out
-abbrev pub StopsOperation : {S H : Type 0} → AttributeView S → AttributeView S → (Op → Type 0) → (S → Ledger H) → Stop → Type 0
+abbrev pub StopsOperation : {S H : Type 0} → AttributeView S → AttributeView S → (Op → Type 0) → (S → Ledger H)
+    → Stop → Type 0
 StopsOperation old now next ledger (stops.Store error) = RefusedOperation old now next ledger error
 StopsOperation old now next ledger stops.Spent = now.operations ≡ 2 ^ 32 - 1
 StopsOperation old now next ledger stops.Memory = Unit {0}

@@ -1,8 +1,9 @@
 //! The calls from C with the writer's handle.
 ghost use Rattle.std.specs.Prelude.{◌≡◌, ◌≢◌, ◌+◌, pos, drop, length, min, IfErr, IsOk, IsErr};
-ghost use Rattle.attr_c.specs.Engines.{committed_of, committed_operations_of, dense_of, fields_of, operations_of, table_of, usage_told, KeepsTables};
+ghost use Rattle.attr_c.specs.Engines.{committed_of, committed_operations_of, dense_of, fields_of, home_of, operations_of, table_of};
+ghost use Rattle.attr_c.specs.Engines.{usage_told, KeepsTables};
 ghost use Rattle.attr_c.specs.Engines.{open_counts, open_waiting, KeepsWaiting, TellsCounts};
-ghost use Rattle.attr_c.specs.Feeding.{FedTo, Feeds, IsFirstOp, Stays, StopsFeed};
+ghost use Rattle.attr_c.specs.Feeding.{FedTo, Feeds, IsFirstOp, IsLineBetween, Stays, StopsFeed};
 ghost use Rattle.attr_c.specs.Holds.{with_skipped, CommitsAs};
 ghost use Rattle.attr_c.specs.Loading.{IsNextLoaded, LoadsFront, LoadsSave, StopsLoad};
 ghost use Rattle.attr_c.specs.Compacting.{CompactsOpen, RefusesOpen, StepsAs, StopsStep};
@@ -54,6 +55,7 @@ fn ended(counts: &mut Counts, came: Result<(), Stop>, told: &mut Told) -> i32
     ensures keys { told.new.keys ≡ told.old.keys }
     ensures line { told.new.line ≡ told.old.line }
     ensures place { told.new.place ≡ told.old.place }
+    ensures next { told.new.next ≡ told.old.next }
     ensures operations { told.new.operations ≡ told.old.operations }
 {
     match came {
@@ -74,6 +76,7 @@ fn feed_told<const OFFSET_BITS: u32, S: Store<OFFSET_BITS, Layout = AttrLayout>>
     ensures front { result ≢ pos 0 → FedTo open.old.fields bytes.now told.new.line (drop told.new.place bytes.now)
         open.old.attribute.table open.new.attribute.table open.old.attribute.operations open.new.attribute.operations
         told.new.skipped }
+    ensures next { result ≢ pos 0 → IsLineBetween bytes.now told.new.place told.new.next }
     ensures count { open.new.attribute.operations ≡ open.old.attribute.operations + told.new.operations }
     ensures counts { result ≡ pos 0 → open.new.counts ≡ with_skipped told.new.skipped open.old.counts }
     ensures stopped { result ≢ pos 0 → Stopped (StopsFeed open.old.fields bytes.now told.new.line (drop told.new.place bytes.now)
@@ -84,6 +87,7 @@ fn feed_told<const OFFSET_BITS: u32, S: Store<OFFSET_BITS, Layout = AttrLayout>>
         open.old.attribute.committed_operations open.new.attribute.committed_operations }
     ensures fields { open.new.fields ≡ open.old.fields }
     ensures dense { open.new.attribute.dense ≡ open.old.attribute.dense }
+    ensures home { (S.ledger open.new.attribute.store).work.home ≡ (S.ledger open.old.attribute.store).work.home }
 {
     let before = open.attribute.operations();
     let came = feed(alloc, open, bytes, told);
@@ -104,9 +108,11 @@ pub extern "C" fn attr_feed(
         (operations_of at.old.value) (operations_of at.new.value) told.new.skipped }
     ensures front { result ≢ pos 0 → FedTo (fields_of at.old.value) bytes.now told.new.line (drop told.new.place bytes.now)
         (table_of at.old.value) (table_of at.new.value) (operations_of at.old.value) (operations_of at.new.value) told.new.skipped }
+    ensures next { result ≢ pos 0 → IsLineBetween bytes.now told.new.place told.new.next }
     ensures counts { result ≡ pos 0 → open_counts at.new.value.open ≡ with_skipped told.new.skipped (open_counts at.old.value.open) }
-    ensures stopped { result ≢ pos 0 → Stopped (StopsFeed (fields_of at.old.value) bytes.now told.new.line (drop told.new.place bytes.now)
-        (StopsOpen at.old.value.open at.new.value.open (IsFirstOp (fields_of at.old.value) (drop told.new.place bytes.now))))
+    ensures stopped { result ≢ pos 0 → Stopped (StopsFeed (fields_of at.old.value) bytes.now told.new.line
+        (drop told.new.place bytes.now) (StopsOpen at.old.value.open at.new.value.open
+        (IsFirstOp (fields_of at.old.value) (drop told.new.place bytes.now))))
         (with_skipped told.new.skipped (open_counts at.old.value.open)) (open_counts at.new.value.open) told.new result }
     ensures waiting { KeepsWaiting at.old.value.open at.new.value.open }
     ensures count { operations_of at.new.value ≡ operations_of at.old.value + told.new.operations }
@@ -114,6 +120,7 @@ pub extern "C" fn attr_feed(
         (committed_operations_of at.old.value) (committed_operations_of at.new.value) }
     ensures fields { fields_of at.new.value ≡ fields_of at.old.value }
     ensures dense { dense_of at.new.value ≡ dense_of at.old.value }
+    ensures home { home_of at.new.value ≡ home_of at.old.value }
 {
     *told = no_told();
     let engine = at.get_mut();
@@ -132,8 +139,8 @@ fn commit_told<const OFFSET_BITS: u32, S: Store<OFFSET_BITS, Layout = AttrLayout
     ensures told { result ≡ pos 0 → told.new.operations ≡ open.old.attribute.operations }
     ensures counts { result ≡ pos 0 → CommitsAs OFFSET_BITS (S.ledger open.old.attribute.store) (S.ledger open.new.attribute.store)
         open.old.counts open.new.counts told.new }
-    ensures stopped { result ≢ pos 0 → Stopped (StopsCommit open.old.fields (S.ledger open.old.attribute.store) (S.ledger open.new.attribute.store))
-        open.old.counts open.new.counts told.new result }
+    ensures stopped { result ≢ pos 0 → Stopped (StopsCommit open.old.fields (S.ledger open.old.attribute.store)
+        (S.ledger open.new.attribute.store)) open.old.counts open.new.counts told.new result }
     ensures pool { open.new.pool ≡ open.old.pool }
     ensures left { result ≢ pos 0 → (open.new.attribute.committed ≡ open.old.attribute.committed)
         × (open.new.attribute.committed_operations ≡ open.old.attribute.committed_operations) }
@@ -141,6 +148,7 @@ fn commit_told<const OFFSET_BITS: u32, S: Store<OFFSET_BITS, Layout = AttrLayout
     ensures operations { open.new.attribute.operations ≡ open.old.attribute.operations }
     ensures fields { open.new.fields ≡ open.old.fields }
     ensures dense { open.new.attribute.dense ≡ open.old.attribute.dense }
+    ensures home { (S.ledger open.new.attribute.store).work.home ≡ (S.ledger open.old.attribute.store).work.home }
 {
     let came = commit(open, told);
     ended(&mut open.counts, came, told)
@@ -154,14 +162,15 @@ pub extern "C" fn attr_commit(at: &mut HeldEngine, told: &mut Told) -> i32
     ensures told { result ≡ pos 0 → told.new.operations ≡ operations_of at.old.value }
     ensures counts { result ≡ pos 0 → CommitsAs (open_bits at.old.value.open) (open_ledger at.old.value.open)
         (open_ledger at.new.value.open) (open_counts at.old.value.open) (open_counts at.new.value.open) told.new }
-    ensures stopped { result ≢ pos 0 → Stopped (StopsCommit (fields_of at.old.value) (open_ledger at.old.value.open) (open_ledger at.new.value.open))
-        (open_counts at.old.value.open) (open_counts at.new.value.open) told.new result }
+    ensures stopped { result ≢ pos 0 → Stopped (StopsCommit (fields_of at.old.value) (open_ledger at.old.value.open)
+        (open_ledger at.new.value.open)) (open_counts at.old.value.open) (open_counts at.new.value.open) told.new result }
     ensures waiting { KeepsWaiting at.old.value.open at.new.value.open }
     ensures left { result ≢ pos 0 → KeepsTables at.old.value.open at.new.value.open }
     ensures table { table_of at.new.value ≡ table_of at.old.value }
     ensures operations { operations_of at.new.value ≡ operations_of at.old.value }
     ensures fields { fields_of at.new.value ≡ fields_of at.old.value }
     ensures dense { dense_of at.new.value ≡ dense_of at.old.value }
+    ensures home { home_of at.new.value ≡ home_of at.old.value }
 {
     *told = no_told();
     let engine = at.get_mut();
@@ -191,6 +200,7 @@ fn compact_told<const OFFSET_BITS: u32, S: Store<OFFSET_BITS, Layout = AttrLayou
     ensures published { open.new.attribute.committed_operations ≡ open.old.attribute.committed_operations }
     ensures fields { open.new.fields ≡ open.old.fields }
     ensures dense { open.new.attribute.dense ≡ open.old.attribute.dense }
+    ensures home { (S.ledger open.new.attribute.store).work.home ≡ (S.ledger open.old.attribute.store).work.home }
 {
     let came = compact(alloc, open, keys, told);
     ended(&mut open.counts, came, told)
@@ -242,6 +252,7 @@ fn load_told<const OFFSET_BITS: u32, S: Store<OFFSET_BITS, Layout = AttrLayout>>
         open.old.attribute.committed_operations open.new.attribute.committed_operations }
     ensures fields { open.new.fields ≡ open.old.fields }
     ensures dense { open.new.attribute.dense ≡ open.old.attribute.dense }
+    ensures home { (S.ledger open.new.attribute.store).work.home ≡ (S.ledger open.old.attribute.store).work.home }
 {
     let before = open.attribute.operations();
     let came = load(alloc, open, bytes, told);
@@ -272,6 +283,7 @@ pub extern "C" fn attr_load(
         (committed_operations_of at.old.value) (committed_operations_of at.new.value) }
     ensures fields { fields_of at.new.value ≡ fields_of at.old.value }
     ensures dense { dense_of at.new.value ≡ dense_of at.old.value }
+    ensures home { home_of at.new.value ≡ home_of at.old.value }
 {
     *told = no_told();
     let engine = at.get_mut();

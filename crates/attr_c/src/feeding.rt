@@ -4,7 +4,8 @@ ghost use Rattle.attr_types.specs.Lawful.{OpFits};
 ghost use Rattle.attr_types.specs.Table.{after_op};
 ghost use Rattle.feed_reader.specs.Lines.{lines_of};
 ghost use Rattle.attribute_kinds.specs.Calls.{applied_to, KeepsStore};
-ghost use Rattle.attr_c.specs.Feeding.{skips_of, FedLine, FedTo, Feeds, IfLine, IsFirstOp, IsOfNoLine, IsOpOf, RefusesLine, Stays};
+ghost use Rattle.attr_c.specs.Feeding.{skips_of, FedLine, FedTo, Feeds, IsOfNoLine, IsOpOf, Stays};
+ghost use Rattle.attr_c.specs.Feeding.{IfLine, IsFirstOp, IsLineBetween, RefusesLine};
 ghost use Rattle.attr_c.specs.Stops.{LineOr, StopsOperation};
 
 use crate::line::operation_in;
@@ -102,6 +103,7 @@ pub fn feed<const OFFSET_BITS: u32, S: Store<OFFSET_BITS, Layout = AttrLayout>>(
     ensures front { OnErr result (FedTo open.old.fields bytes.now told.new.line (drop told.new.place bytes.now)
         open.old.attribute.table open.new.attribute.table open.old.attribute.operations open.new.attribute.operations
         told.new.skipped) }
+    ensures next { OnErr result (IsLineBetween bytes.now told.new.place told.new.next) }
     ensures refused { IfErr result (IfLine (RefusesLine open.old.fields bytes.now told.new.line (drop told.new.place bytes.now))) }
     ensures why { IfErr result (LineOr (StopsOperation open.old.attribute open.new.attribute
         (IsFirstOp open.old.fields (drop told.new.place bytes.now)) S.ledger)) }
@@ -111,6 +113,7 @@ pub fn feed<const OFFSET_BITS: u32, S: Store<OFFSET_BITS, Layout = AttrLayout>>(
         open.old.attribute.committed_operations open.new.attribute.committed_operations }
     ensures fields { open.new.fields ≡ open.old.fields }
     ensures dense { open.new.attribute.dense ≡ open.old.attribute.dense }
+    ensures home { (S.ledger open.new.attribute.store).work.home ≡ (S.ledger open.old.attribute.store).work.home }
 {
     let mut rest = bytes;
     let mut passed: u64 = 0;

@@ -8,7 +8,8 @@ ghost use Rattle.attr_types.specs.Table.{after_op};
 ghost use Rattle.attr_c.specs.Feeding.{Stays};
 ghost use Rattle.attribute_kinds.specs.Calls.{KeepsStore};
 ghost use Rattle.attr_c.specs.Stops.{StopsOperation};
-ghost use Rattle.attr_c.specs.Loading.{put_of, IsNextLoaded, IsNextPut, IsSaveOf, LoadsFront, LoadsSave, PutsFront, PutsIn, RefusesSave, StopsLoad};
+ghost use Rattle.attr_c.specs.Loading.{put_of, IsNextPut, IsSaveOf, PutsFront, PutsIn, RefusesSave};
+ghost use Rattle.attr_c.specs.Loading.{IsNextLoaded, LoadsFront, LoadsSave, StopsLoad};
 
 use crate::feeding::apply;
 use crate::state::Open;
@@ -96,6 +97,7 @@ fn put_all<const OFFSET_BITS: u32, S: Store<OFFSET_BITS, Layout = AttrLayout>>(
         open.old.attribute.committed_operations open.new.attribute.committed_operations }
     ensures fields { open.new.fields ≡ open.old.fields }
     ensures dense { open.new.attribute.dense ≡ open.old.attribute.dense }
+    ensures home { (S.ledger open.new.attribute.store).work.home ≡ (S.ledger open.old.attribute.store).work.home }
 {
     for document in documents {
         match put_document(alloc, open, document) {
@@ -145,6 +147,7 @@ pub fn load<const OFFSET_BITS: u32, S: Store<OFFSET_BITS, Layout = AttrLayout>>(
         open.old.attribute.committed_operations open.new.attribute.committed_operations }
     ensures fields { open.new.fields ≡ open.old.fields }
     ensures dense { open.new.attribute.dense ≡ open.old.attribute.dense }
+    ensures home { (S.ledger open.new.attribute.store).work.home ≡ (S.ledger open.old.attribute.store).work.home }
 {
     let saved = match saved_in(alloc, bytes, told) {
         Ok(saved) => saved,

@@ -1,11 +1,13 @@
 //! A new memory, with its attributes and readers. It is freed with the last of these.
-ghost use Rattle.std.specs.Prelude.{◌≡◌, ◌≤◌, ◌<◌, ◌+◌, ◌*◌, ◌^◌, true, false, length, nat_eq, not, IfOk, IfNone, IfSome};
+ghost use Rattle.std.specs.Prelude.{◌≡◌, ◌≤◌, ◌<◌, ◌+◌, ◌*◌, ◌^◌, true, false, length, nat_eq, not};
+ghost use Rattle.std.specs.Prelude.{IfOk, IfNone, IfSome};
+ghost use Rattle.std.specs.List.{AllByRecursion};
 ghost use Rattle.attr_images.specs.Shapes.{shape_of, types_of};
 ghost use Rattle.attr_types.specs.declared.field.TheConstants.{MOST_FIELDS};
 ghost use Rattle.arena_api.specs.Calls.{IsFresh};
 ghost use Rattle.word_arena.specs.Knows.{core_sizes, view_of};
 ghost use Rattle.word_arena.specs.Ruled.{api_sizes, writer_of};
-ghost use Rattle.attr_c.specs.Engines.{AreNewCounts, HasNothing, IsOpened, open_counts, open_dense, open_waiting};
+ghost use Rattle.attr_c.specs.Engines.{AreNewCounts, HasNothing, HasOwnReaders, IsOpened, open_counts, open_dense, open_waiting};
 ghost use Rattle.attr_c.specs.Opening.{InBounds};
 ghost use Rattle.attr_c.specs.Stores.{HasMemory, open_memory};
 
@@ -57,6 +59,8 @@ fn next_waiting<const OFFSET_BITS: u32>(
     ensures fresh { IsFresh (view_of writer.new.place.table_id (writer_of writer.new.place.me.0)) }
     ensures sizes { (writer_of writer.new.place.me.0).sizes ≡ (writer_of writer.old.place.me.0).sizes }
     ensures made { (writer_of writer.new.place.me.0).made ≡ (writer_of writer.old.place.me.0).made + 1 }
+    ensures table { writer.new.place.table_id ≡ writer.old.place.table_id }
+    ensures own { IfOk result (λ w. (w.fields ≡ fields.now) × (w.reader.place.table_id ≡ writer.old.place.table_id)) }
 {
     match writer.reader() {
         Ok(reader) => match fields.clone() {
@@ -83,6 +87,9 @@ fn waiting<const OFFSET_BITS: u32>(
     ensures fresh { IsFresh (view_of writer.new.place.table_id (writer_of writer.new.place.me.0)) }
     ensures sizes { (writer_of writer.new.place.me.0).sizes ≡ (writer_of writer.old.place.me.0).sizes }
     ensures readers { IfOk result (λ pool. length pool.items ≡ readers) }
+    ensures table { writer.new.place.table_id ≡ writer.old.place.table_id }
+    ensures own { IfOk result (λ pool. AllByRecursion (λ w. (w.fields ≡ fields.now)
+        × (w.reader.place.table_id ≡ writer.old.place.table_id)) pool.items) }
 {
     let mut pool = Vec::new(alloc);
     for i in 0..readers {
@@ -208,6 +215,9 @@ fn opened_over<const OFFSET_BITS: u32>(
     requires none_made { (writer_of writer.place.me.0).made ≡ 0 }
     ensures fields { IfOk result (λ o. o.fields ≡ fields) }
     ensures readers { IfOk result (λ o. length o.pool.items ≡ sizes.now.readers) }
+    ensures own { IfOk result (λ o. AllByRecursion (λ w. (w.fields ≡ o.fields) × (w.reader.place.table_id
+        ≡ (⟦<EntryStore<OFFSET_BITS, Writer<OFFSET_BITS, AttrLayout>> as Store<OFFSET_BITS>>⟧.ledger o.attribute.store).work.home))
+        o.pool.items) }
     ensures dense { IfOk result (λ o. o.attribute.dense ≡ not (nat_eq sizes.now.dense 0)) }
     ensures nothing { IfOk result (λ o. HasNothing o.attribute.table o.attribute.committed o.attribute.operations
         o.attribute.committed_operations) }
@@ -251,6 +261,7 @@ fn narrow_open(
     requires few_readers { sizes.now.readers ≤ 64 }
     ensures opened { IfOk result (IsOpened fields) }
     ensures readers { IfOk result (λ o. open_waiting o ≡ sizes.now.readers) }
+    ensures own { IfOk result HasOwnReaders }
     ensures dense { IfOk result (λ o. open_dense o ≡ not (nat_eq sizes.now.dense 0)) }
     ensures counts { IfOk result (λ o. AreNewCounts sizes.now (open_counts o)) }
     ensures memory { IfOk result (λ o. HasMemory config.buffers config.words (open_memory o)) }
@@ -283,6 +294,7 @@ fn wide_open(
     requires few_readers { sizes.now.readers ≤ 64 }
     ensures opened { IfOk result (IsOpened fields) }
     ensures readers { IfOk result (λ o. open_waiting o ≡ sizes.now.readers) }
+    ensures own { IfOk result HasOwnReaders }
     ensures dense { IfOk result (λ o. open_dense o ≡ not (nat_eq sizes.now.dense 0)) }
     ensures counts { IfOk result (λ o. AreNewCounts sizes.now (open_counts o)) }
     ensures memory { IfOk result (λ o. HasMemory config.buffers config.words (open_memory o)) }
@@ -325,6 +337,7 @@ fn opened_within(alloc: Global, fields: Fields, sizes: &Sizes) -> Result<AnyOpen
     requires bounds { InBounds sizes.now }
     ensures opened { IfOk result (IsOpened fields) }
     ensures readers { IfOk result (λ o. open_waiting o ≡ sizes.now.readers) }
+    ensures own { IfOk result HasOwnReaders }
     ensures dense { IfOk result (λ o. open_dense o ≡ not (nat_eq sizes.now.dense 0)) }
     ensures counts { IfOk result (λ o. AreNewCounts sizes.now (open_counts o)) }
     ensures memory { IfOk result (λ o. HasMemory sizes.now.buffers sizes.now.words (open_memory o)) }
@@ -348,6 +361,7 @@ pub fn opened_in_bounds(
     requires few { length fields ≤ MOST_FIELDS }
     ensures opened { IfOk result (λ found. IfSome found (IsOpened fields)) }
     ensures readers { IfOk result (λ found. IfSome found (λ o. open_waiting o ≡ sizes.now.readers)) }
+    ensures own { IfOk result (λ found. IfSome found HasOwnReaders) }
     ensures dense { IfOk result (λ found. IfSome found (λ o. open_dense o ≡ not (nat_eq sizes.now.dense 0))) }
     ensures counts { IfOk result (λ found. IfSome found (λ o. AreNewCounts sizes.now (open_counts o))) }
     ensures memory { IfOk result (λ found. IfSome found (λ o. HasMemory sizes.now.buffers sizes.now.words (open_memory o))) }

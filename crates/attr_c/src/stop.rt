@@ -84,6 +84,7 @@ fn store_code(counts: &mut Counts, error: AttrError, told: &mut Told) -> i32
     ensures tells { TellsError error counts.new told.new }
     ensures line { told.new.line ≡ told.old.line }
     ensures place { told.new.place ≡ told.old.place }
+    ensures next { told.new.next ≡ told.old.next }
     ensures operations { told.new.operations ≡ told.old.operations }
     ensures skipped { told.new.skipped ≡ told.old.skipped }
     ensures keys { told.new.keys ≡ told.old.keys }
@@ -116,6 +117,7 @@ pub fn code_of(counts: &mut Counts, stop: Stop, told: &mut Told) -> i32
     ensures keys { told.new.keys ≡ told.old.keys }
     ensures line { told.new.line ≡ told.old.line }
     ensures place { told.new.place ≡ told.old.place }
+    ensures next { told.new.next ≡ told.old.next }
     ensures operations { told.new.operations ≡ told.old.operations }
 {
     match stop {

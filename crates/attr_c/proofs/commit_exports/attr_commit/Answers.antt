@@ -50,7 +50,7 @@ returns-in-Narrow-clause-left c = λ not.
     let e = c.commit_told.ensures in
     let left = e.left (λ zero. not (ap (λ (z : ℤ). to_z w32 (of_z w32 z)) zero)) in
     subst (λ (o : AnyOpen). KeepsTables o (Narrow c.commit_told.new.open)) (sym is)
-    (record { fields = e.fields; dense = e.dense; table = e.table; operations = e.operations; committed = left.0; published = left.1 })
+    (record { fields = e.fields; dense = e.dense; home = e.home; table = e.table; operations = e.operations; committed = left.0; published = left.1 })
 
 pub returns-in-Wide-clause-left : goal.returns-in-Wide-clause-left
 returns-in-Wide-clause-left c = λ not.
@@ -58,7 +58,7 @@ returns-in-Wide-clause-left c = λ not.
     let e = c.commit_told-in-Wide.ensures in
     let left = e.left (λ zero. not (ap (λ (z : ℤ). to_z w32 (of_z w32 z)) zero)) in
     subst (λ (o : AnyOpen). KeepsTables o (Wide c.commit_told-in-Wide.new.open)) (sym is)
-    (record { fields = e.fields; dense = e.dense; table = e.table; operations = e.operations; committed = left.0; published = left.1 })
+    (record { fields = e.fields; dense = e.dense; home = e.home; table = e.table; operations = e.operations; committed = left.0; published = left.1 })
 
 pub returns-in-Narrow-clause-stopped : goal.returns-in-Narrow-clause-stopped
 returns-in-Narrow-clause-stopped c = λ not.

@@ -30,6 +30,9 @@ returns-clause-fields g c = c.commit-came.ensures.fields
 pub returns-clause-dense : goal.returns-clause-dense
 returns-clause-dense g c = c.commit-came.ensures.dense
 
+pub returns-clause-home : goal.returns-clause-home
+returns-clause-home g c = c.commit-came.ensures.home
+
 pub returns-clause-stopped : goal.returns-clause-stopped
 returns-clause-stopped g c = λ not.
     let ledger = g.S.Store.ledger in

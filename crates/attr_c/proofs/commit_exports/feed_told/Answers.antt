@@ -15,6 +15,11 @@ returns-clause-front g c = λ not.
     rw (c.ended.ensures.line, c.ended.ensures.place, c.ended.ensures.skipped)
     (on_err_of c.feed-came.result (c.ended.ensures.other (λ zero. not (ap (λ (z : ℤ). to_z w32 (of_z w32 z)) zero))) c.feed-came.ensures.front)
 
+pub returns-clause-next : goal.returns-clause-next
+returns-clause-next g c = λ not.
+    rw (c.ended.ensures.place, c.ended.ensures.next)
+    (on_err_of c.feed-came.result (c.ended.ensures.other (λ zero. not (ap (λ (z : ℤ). to_z w32 (of_z w32 z)) zero))) c.feed-came.ensures.next)
+
 pub returns-clause-stopped : goal.returns-clause-stopped
 returns-clause-stopped g c = λ not.
     let was = c.args.open.now in

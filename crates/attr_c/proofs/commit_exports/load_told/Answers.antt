@@ -20,6 +20,9 @@ returns-clause-fields g c = c.load-came.ensures.fields
 pub returns-clause-dense : goal.returns-clause-dense
 returns-clause-dense g c = c.load-came.ensures.dense
 
+pub returns-clause-home : goal.returns-clause-home
+returns-clause-home g c = c.load-came.ensures.home
+
 pub returns-clause-stopped : goal.returns-clause-stopped
 returns-clause-stopped g c = λ not.
     let was = c.args.open.now in

@@ -1,4 +1,4 @@
-use Rattle.std.proofs.Common.{◌+◌, ◌-◌, ℕ, List, length, drop, ap, refl, sym, subst, rules, ◌∙◌, arith, Ok, Err}
+use Rattle.std.proofs.Common.{◌+◌, ◌-◌, ◌∷◌, ℕ, List, length, drop, ap, refl, sym, subst, rules, ◌∙◌, arith, Ok, Err}
 use Rattle.attr_types.specs.declared.field.Field.{Field}
 use Rattle.feed_reader.specs.Lines.{lines_of}
 use Rattle.attr_c.specs.Feeding.{FedLine, FedTo, IfLine, IsFirstOp, IsOpOf, RefusesLine}
@@ -99,6 +99,21 @@ returns-in-Err-clause-why g c =
       is = subst (λ (fs : List Field). IsOpOf fs line op) i.fields is;
     })
     c.in-Err.stop (line_since was.attribute mid.attribute now ledger (IsOpOf mid.fields line) i.keeps c.in-Err.stop c.in-Err.ensures.why)
+
+pub returns-in-Err-clause-next : goal.returns-in-Err-clause-next
+returns-in-Err-clause-next g c =
+    let bytes = c.args.bytes.now in
+    let i = c.loop-rest.invariant in
+    let rest = c.loop-rest.rest.now in
+    let line = c.split_line.result.0.now in
+    let after = c.split_line.result.1.now in
+    let shorter = c.split_line.ensures.shorter in
+    let few = i.few in
+    let behind = drop_on bytes rest after i.at c.split_line.ensures.rest (omega (arith, shorter)) (omega (arith, few)) in
+    record { line = line; lines = ap lines_of (sym i.at) ∙ c.split_line.ensures.lines ∙ ap (λ (xs : List ℕ). line ∷ lines_of xs) behind; within = omega arith }
+
+pub returns-in-Err-clause-home : goal.returns-in-Err-clause-home
+returns-in-Err-clause-home g c = c.in-Err.ensures.keeps.home ∙ c.loop-rest.invariant.keeps.home
 
 pub returns-in-Err-clause-dense : goal.returns-in-Err-clause-dense
 returns-in-Err-clause-dense g c = c.in-Err.ensures.dense ∙ c.loop-rest.invariant.dense

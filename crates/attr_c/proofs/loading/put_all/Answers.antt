@@ -67,6 +67,9 @@ returns-in-Err-clause-why g c =
     was.operations mid.operations now.operations rest i.all i.puts c.in-Err.ensures.left.operations op is)
     c.in-Err.stop (stops_since was mid now g.S.Store.ledger (λ next. next ≡ put_of one) i.keeps c.in-Err.stop c.in-Err.ensures.why)
 
+pub returns-in-Err-clause-home : goal.returns-in-Err-clause-home
+returns-in-Err-clause-home g c = c.in-Err.ensures.keeps.home ∙ c.loop-document.invariant.keeps.home
+
 pub returns-in-Err-clause-dense : goal.returns-in-Err-clause-dense
 returns-in-Err-clause-dense g c = c.in-Err.ensures.dense ∙ c.loop-document.invariant.dense
 
