@@ -27,6 +27,9 @@ returns-in-Wide-clause-front c = λ not.
     subst (λ (o : AnyOpen). FedTo (open_fields o) bytes told.line (drop told.place bytes) (open_table o) now.table (open_operations o) now.operations told.skipped) (sym is)
     (c.feed_told-in-Wide.ensures.front (λ zero. not (ap (λ (z : ℤ). to_z w32 (of_z w32 z)) zero)))
 
+pub returns-in-Narrow-clause-next : goal.returns-in-Narrow-clause-next
+returns-in-Narrow-clause-next c = λ not. c.feed_told.ensures.next (λ zero. not (ap (λ (z : ℤ). to_z w32 (of_z w32 z)) zero))
+
 pub returns-in-Narrow-clause-stopped : goal.returns-in-Narrow-clause-stopped
 returns-in-Narrow-clause-stopped c = λ not.
     let is : c.args.at.now.value.open ≡ Narrow c.in-Narrow.open = search rules in
@@ -36,6 +39,9 @@ returns-in-Narrow-clause-stopped c = λ not.
     subst (λ (o : AnyOpen). Stopped (StopsFeed (open_fields o) c.args.bytes.now told.line (drop told.place c.args.bytes.now) (StopsOpen o (Narrow now) (IsFirstOp (open_fields o) (drop told.place c.args.bytes.now))))
     (with_skipped told.skipped (open_counts o)) now.counts told (to_z w32 (of_z w32 c.feed_told.result))) (sym is)
     (stopped_as _ _ _ _ _ _ code (c.feed_told.ensures.stopped (λ zero. not (ap (λ (z : ℤ). to_z w32 (of_z w32 z)) zero))))
+
+pub returns-in-Wide-clause-next : goal.returns-in-Wide-clause-next
+returns-in-Wide-clause-next c = λ not. c.feed_told-in-Wide.ensures.next (λ zero. not (ap (λ (z : ℤ). to_z w32 (of_z w32 z)) zero))
 
 pub returns-in-Wide-clause-stopped : goal.returns-in-Wide-clause-stopped
 returns-in-Wide-clause-stopped c = λ not.
