@@ -247,6 +247,9 @@ inline void ascending(Docs& d) {  // sort and drop doubles; a bitmap where that 
 template <class R> void hits(R& reader, Query const& q, Docs& out) {
   out.clear();
   if (q.form == 'L') { reader.leaf(q.span, out); if (!q.span.point()) ascending(out); return; }
+#ifdef MARKS
+  if (q.form == 'A' && q.kids.size() == 2 && q.kids[0].span.point() && q.kids[1].span.point() && reader.both(q.kids[0].span, q.kids[1].span, out)) return;
+#endif
   vector<Docs> parts(q.kids.size());
   for (size_t i = 0; i < parts.size(); i++) hits(reader, q.kids[i], parts[i]);
   if (q.form == 'O') { if (parts.size() == 1) { out.swap(parts[0]); return; } for (auto& p : parts) out.insert(out.end(), p.begin(), p.end()); ascending(out); return; }

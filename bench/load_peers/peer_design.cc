@@ -13,6 +13,9 @@
 // itself, which most often holds nearly the same words; other entries take the place
 // that has been free for longest. With PEER_TIMES set it tells how many words of how
 // many entries it had to store, and how many of these it left since they were there.
+// With -DMARKS a reader computes the place of a node once, reads of a leaf its keys
+// alone, and answers an And of two values by the bits of the shorter list, as the
+// engine does: what these trees allow a plain program.
 // Left out: compaction, holds (readers have a slot each), counts for a monitor.
 #include "peer_common.h"
 #include <atomic>
@@ -201,6 +204,14 @@ struct Design {
       if (!(h >> 8 ? walk(Ref(get(r, 18 + i)), i == from ? c : nullptr, f) : f(get(r, 2 + i), get(r, 18 + i)))) return false;
     return true;
   }
+#ifdef MARKS
+  // The keys of a tree: the place of each node is computed once, and of a leaf no value is read.
+  template <class F> void keys(Ref r, uint32_t level, F const& f) const {
+    std::atomic<uint64_t> const* at = &words[place(r)]; uint32_t used = at[0].load() & 255;
+    if (level) for (uint32_t i = 0; i < used; i++) keys(Ref(at[18 + i].load()), level - 1, f);
+    else for (uint32_t i = 0; i < used; i++) f(uint32_t(at[2 + i].load()));
+  }
+#endif
   struct ByNumber { uint64_t n; int operator()(uint64_t k) const { return k < n ? -1 : k > n; } };
 
   // -- postings
@@ -286,8 +297,25 @@ struct Design {
     }
     void end() { slot.store(0); }
     uint32_t documents() { return docs ? e.total(docs) : 0; }
+#ifdef MARKS
+    template <class F> void keys(Ref r, F const& f) { e.keys(r, e.get(r, 0) >> 8, f); }
+    uint64_t list_of(Span const& s) { Sought k(s.lo); uint64_t key, v = 0; if (dict) e.find(dict, [&](uint64_t q) { return e.compare(q, k); }, key, v); return v; }
+    // The documents of both values: bits of the shorter list, and the longer is read along them.
+    bool both(Span const& x, Span const& y, Docs& out) {
+      uint64_t a = list_of(x), b = list_of(y);
+      if (!(a & b & 1)) return false;
+      Ref s = a / 2, l = b / 2; if (e.total(s) > e.total(l)) std::swap(s, l);
+      thread_local vector<uint64_t> bits; size_t words = e.last(s) / 64 + 1; bits.assign(words, 0); uint64_t* m = bits.data();
+      keys(s, [&](uint32_t d) { m[d >> 6] |= 1ull << (d & 63); });
+      keys(l, [&](uint32_t d) { if (d >> 6 < words && m[d >> 6] >> (d & 63) & 1) out.push_back(d); });
+      return true;
+    }
+    void list(uint64_t p, Docs& out) {
+      if (p & 1) keys(Ref(p / 2), [&](uint32_t d) { out.push_back(d); });
+#else
     void list(uint64_t p, Docs& out) {
       if (p & 1) e.walk(Ref(p / 2), (ByNumber*)nullptr, [&](uint64_t k, uint64_t) { out.push_back(k); return true; });
+#endif
       else for (uint64_t i = 0, n = e.get(p / 2, 0); i < n; i++) out.push_back(e.get(p / 2, 1 + i) >> 32);
     }
     void leaf(Span const& s, Docs& out) {
