@@ -42,6 +42,12 @@ pub record IsEmptySeat (seat : Seat) : Type 0 where
   pub no_items : seat.items ≡ []
   pub no_save : seat.saved.items ≡ []
 
+-- no answer, no items and no save are kept
+pub record KeepsNothing (seat : Seat) : Type 0 where
+  pub no_answer : seat.answer ≡ Hits []
+  pub no_items : seat.items ≡ []
+  pub no_save : seat.saved.items ≡ []
+
 -- a guard that a reader took
 pub record IsTaken (reader guard : KeptView) : Type 0 where
   pub fields : guard.fields ≡ reader.fields
@@ -137,9 +143,9 @@ SeatsReader old new (Some (Free reader)) = TakesReader old new reader
 SeatsReader old new (Some (Kept reader)) = ⊥
 SeatsReader old new None = ⊥
 
--- the seat that was written for C
+-- the seat that was written for C keeps nothing yet
 abbrev pub OpensSeat : AnyOpen → AnyOpen → Option Seat → Type 0
-OpensSeat old new (Some seat) = SeatsReader old new seat.place
+OpensSeat old new (Some seat) = SeatsReader old new seat.place × KeepsNothing seat
 OpensSeat old new None = ⊥
 
 -- the reader of a seat, without a guard
