@@ -133,8 +133,8 @@ struct attr_told {
  *
  * ATTR_OK: all lines were applied. A code from 21 to 27: line told->line, the bytes from told->place up to told->next, is refused,
  * and changed nothing; the lines before it are applied. To go on without it, call again with lines + told->next; else stop.
- * ATTR_FULL, ATTR_MEMORY, ATTR_OPERATIONS_SPENT: the same, but the line is good, and may be given again from told->place once there
- * is room. What was applied is seen by readers after the next commit. */
+ * ATTR_FULL, ATTR_OPERATIONS_SPENT: the same, but the line may be given again from told->place once there is room. ATTR_MEMORY: the
+ * same, but it is not told whether the line is good. What was applied is seen by readers after the next commit. */
 int32_t attr_feed(attr_engine *engine, const uint8_t *lines, size_t length, struct attr_told *told);
 
 /* Commits what was applied: from then on new answers are of this commit. ATTR_FULL, ATTR_COMMITS_SPENT: there is no new commit, and
@@ -143,7 +143,8 @@ int32_t attr_commit(attr_engine *engine, struct attr_told *told);
 
 /* Goes so many keys on in a compaction, which gathers scattered entries so that a buffer comes free; 256 keys after each commit
  * serve well. It changes no answer. An emptied buffer is free once the next commit is made and no reader holds an earlier one.
- * ATTR_OK with keys and finished 0: nothing is worth a step. ATTR_FULL: told->keys were visited, and the next one found no room. */
+ * ATTR_OK with keys and finished 0: nothing is worth a step, or an emptied buffer waits for the next commit. ATTR_FULL, ATTR_MEMORY:
+ * told->keys were visited, and the next one found no room or no memory. */
 int32_t attr_compact(attr_engine *engine, uint32_t keys, struct attr_told *told);
 
 /* Puts the documents of a save in, each by a put. The engine has one attribute, of the save's kind and value type. ATTR_BAD_SAVE:
@@ -229,7 +230,7 @@ size_t attr_scores(attr_reader *reader, size_t first, struct attr_score *into, s
  * stand in its order, those of a weighted set ascend by value. ATTR_NO_DOCUMENT: it is not there at answer->commit. */
 int32_t attr_items(attr_reader *reader, uint32_t document, uint32_t field, struct attr_answer *answer);
 
-/* One of them, by its number from 0. ATTR_BOUNDS: there are fewer. */
+/* One of them, by its number from 0. ATTR_BOUNDS: there are fewer, and nothing is written. */
 struct attr_item_told {
     int64_t number;         /* a long, else 0 */
     uint64_t length;        /* how many bytes a string has, else 0 */
