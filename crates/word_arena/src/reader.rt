@@ -227,6 +227,32 @@ impl<const OFFSET_BITS: u32, L: Layout> Guarded<OFFSET_BITS, L> {
     }
 }
 
+/// Loads words of a record of the guarded commit from place `at` on, where its word `first` is.
+fn load_words<const OFFSET_BITS: u32, L: Layout>(
+    arena: &Arena<OFFSET_BITS, L>,
+    seat: &mut Place,
+    entry: EntryRef<OFFSET_BITS>,
+    first: u32,
+    at: u64,
+    into: &mut [u64],
+)
+    requires guard { (hold : ℕ) × (found : ℕ)
+        × IsGuard OFFSET_BITS arena.now.table.shared.table_id arena.now.sizes hold found seat.old.table_id (bare seat.old.me) }
+    requires there { first + length into.old ≤ length (words_at (seen_image (reader_of seat.old.me.0)) entry) }
+    requires at { at ≡ place OFFSET_BITS arena.now.sizes.buffers arena.now.sizes.words
+        (length (words_at (seen_image (reader_of seat.old.me.0)) entry)) entry first }
+    ensures words { into.new ≡ take (length into.old)
+        (drop first (words_at (seen_image (reader_of seat.old.me.0)) entry.entry)) }
+    ensures same { seat.new ≡ seat.old }
+{
+    for i in 0..into.len() {
+        into[i] = arena
+            .table
+            .shared
+            .load::<LoadWord<L>>(seat, at as usize + i);
+    }
+}
+
 impl<const OFFSET_BITS: u32, L: Layout> Frozen<OFFSET_BITS> for Guarded<OFFSET_BITS, L> {
     ghost use Rattle.word_arena.specs.ProofsForGuards.{guard_references};
 
@@ -258,13 +284,8 @@ impl<const OFFSET_BITS: u32, L: Layout> Frozen<OFFSET_BITS> for Guarded<OFFSET_B
             return;
         }
         let place = self.place_of_word(entry, first);
-        for i in 0..into.len() {
-            let arena = &*self.arena;
-            into[i] = arena
-                .table
-                .shared
-                .load::<LoadWord<L>>(&mut self.place, place as usize + i);
-        }
+        let arena = &*self.arena;
+        load_words(arena, &mut self.place, entry, first, place, into);
     }
 
     ghost references = { λ g. guard_references g.stands };

@@ -1,9 +1,11 @@
 //! The one writer.
-ghost use Rattle.std.specs.Prelude.{take, drop, ◌≡◌, ◌+◌, ◌*◌, ◌^◌, ◌<◌, ◌≤◌, ℕ, length, [], IfOk, IfErr, slice_get, Some, All};
+ghost use Rattle.std.specs.Prelude.{take, drop, ◌≡◌, ◌+◌, ◌*◌, ◌^◌, ◌<◌, ◌≤◌, ℕ, List, length, [], IfOk, IfErr, slice_get, Some, All};
 ghost use Rattle.entry_ref.specs.Images.{words_at};
 ghost use Rattle.entry_ref.specs.Places.{place};
 ghost use Rattle.gen_core.specs.declared.views.View.TheVariants.{Writer as WriterSees};
+ghost use Rattle.gen_core.specs.declared.views.Buffer.{Buffer as WriterBuffer};
 ghost use Rattle.gen_core.specs.Views.{IsCommit};
+ghost use Rattle.generation_handler.specs.declared.HoldEntry.{HoldEntry};
 ghost use Rattle.gen_core.specs.Work.{writer_records};
 ghost use Rattle.gen_core.specs.Events.{opening_view, with_reader, newcomer, joined};
 ghost use Rattle.arena_api.specs.Calls.{IsFresh};
@@ -130,6 +132,29 @@ impl<const OFFSET_BITS: u32, L: Layout> Writer<OFFSET_BITS, L> {
     }
 }
 
+/// Loads words of a record of the writer from place `at` on, where its word `first` is.
+fn load_words<const OFFSET_BITS: u32, L: Layout>(
+    arena: &Arena<OFFSET_BITS, L>,
+    seat: &mut Place,
+    entry: EntryRef<OFFSET_BITS>,
+    first: u32,
+    at: u64,
+    into: &mut [u64],
+)
+    requires desk { (buffers : List WriterBuffer) × (holds : List HoldEntry) × (last : ℕ) × (made : ℕ)
+        × IsDesk OFFSET_BITS arena.now.table.shared.table_id arena.now.sizes buffers holds last made seat.old.table_id
+        (bare seat.old.me) }
+    requires there { first + length into.old ≤ length (writer_records (writer_of seat.old.me.0) entry) }
+    requires at { at ≡ place OFFSET_BITS arena.now.sizes.buffers arena.now.sizes.words
+        (length (writer_records (writer_of seat.old.me.0) entry)) entry first }
+    ensures words { into.new ≡ take (length into.old) (drop first (writer_records (writer_of seat.old.me.0) entry.entry)) }
+    ensures same { seat.new ≡ seat.old }
+{
+    for i in 0..into.len() {
+        into[i] = arena.table.shared.load::<LoadOwn<L>>(seat, at as usize + i);
+    }
+}
+
 impl<const OFFSET_BITS: u32, L: Layout> Frozen<OFFSET_BITS> for Writer<OFFSET_BITS, L> {
     ghost use Rattle.word_arena.specs.ProofsForWork.{desk_bits, work_references};
 
@@ -161,13 +186,8 @@ impl<const OFFSET_BITS: u32, L: Layout> Frozen<OFFSET_BITS> for Writer<OFFSET_BI
             return;
         }
         let place = self.place_of_word(entry, first);
-        for i in 0..into.len() {
-            let arena = self.seats.arena();
-            into[i] = arena
-                .table
-                .shared
-                .load::<LoadOwn<L>>(&mut self.place, place as usize + i);
-        }
+        let arena = self.seats.arena();
+        load_words(arena, &mut self.place, entry, first, place, into);
     }
 
     ghost references = { λ w. work_references (writer_of w.place.me.0) w.stands.good OFFSET_BITS (desk_bits w.stands) w.stands.limits };
