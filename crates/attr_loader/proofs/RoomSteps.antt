@@ -280,9 +280,10 @@ module _ {H : Type 0} (dense : Bool) (old new : Ledger H) (fields : List Field) 
   -- the record of 512 words was refused
   widest_none : (width : ℕ) → width ≡ 512 → IsOperationWidth dense fields table op width → more 1024 ≡ 0
   widest_none width is names =
-      told names.number names.field (slice_get_within fields names.number names.field names.field_is) names.field_is
-      (subst (IsFieldWidth (wants dense names.field.kind) names.field.kind (column_of names.number (after_op fields table op)) (items_if_there (document_before table op) names.number)
-      (items_if_there (document_after fields table op) names.number)) is names.is)
+      let changed = names.is in
+      told changed.number changed.field (slice_get_within fields changed.number changed.field changed.field_is) changed.field_is
+      (subst (IsFieldWidth (wants dense changed.field.kind) changed.field.kind (column_of changed.number (after_op fields table op)) (items_if_there (document_before table op) changed.number)
+      (items_if_there (document_after fields table op) changed.number)) is changed.is)
     where
       told : (number : ℕ) (field : Field) → number < length fields → slice_get fields number ≡ Some field
           → IsFieldWidth (wants dense field.kind) field.kind (column_of number (after_op fields table op)) (items_if_there (document_before table op) number) (items_if_there (document_after fields table op) number) 512

@@ -1,9 +1,10 @@
 -- The document after an operation.
 use Rattle.std.proofs.Common.{◌≡◌, Bool, ℕ, cond, List, Option, Some, None, sym, ap, subst, ◌∙◌}
 use Rattle.std.proofs.lemmas.Cmp.{nat_cmp_total, tied_itself}
-use Rattle.std.specs.Option.{unwrap_or}
+use Rattle.std.specs.Option.{is_none, unwrap_or}
 use Rattle.std.specs.Ordering.{is_eq}
 use Rattle.store_api.specs.declared.store.StoreError.{StoreError}
+use Rattle.store_api.specs.declared.store.StoreError.TheVariants as errors
 use Rattle.attr_types.proofs.EntryLemmas.{lookup-remove}
 use Rattle.attr_types.proofs.TableLemmas.{Sound, put_is_there}
 use Rattle.attr_types.specs.Table.{Table, after_op, document_at, step, with_document, without_document}
@@ -37,6 +38,10 @@ module _ (fields : List Field) (table : Table) (op : Op) (before after : Option 
   -- of which width it was refused, by the table after it
   pub width_after : (dense : Bool) (next : Table) (e : StoreError) → step fields table op ≡ Some next → IsFullAmong (IsChangedWidth dense fields next before after) e → IsFullAmong
       (IsOperationWidth dense fields table op) e
-  width_after dense next e made full =
-      subst (λ (t : Table). IsFullAmong (IsChangedWidth dense fields t (document_before table op) (document_after fields table op)) e) (sym (ap (λ (o : Option Table). unwrap_or o table) made))
-      (of_operation (λ was is. IsFullAmong (IsChangedWidth dense fields next was is) e) full)
+  width_after dense next (errors.Full width active held oldest) made full = record {
+    changes = ap (λ (o : Option Table). is_none o) made;
+    is =
+        subst (λ (t : Table). IsChangedWidth dense fields t (document_before table op) (document_after fields table op) width) (sym (ap (λ (o : Option Table). unwrap_or o table) made))
+        (of_operation (λ was is. IsChangedWidth dense fields next was is width) full);
+  }
+  width_after dense next errors.Memory made full = tt
