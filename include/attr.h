@@ -101,8 +101,8 @@ struct attr_sizes { uint32_t buffers, words, readers, wide, dense; };
  *     year:single:long,tags:weightedset:string
  *
  * Writes the handle's pointer to *out, which is &engine.at of an attr_engine. The engine has sizes->readers readers to hand out.
- * ATTR_ATTRIBUTES: *place is the number of the attribute, from 0, that has not this form. ATTR_BOUNDS, ATTR_MEMORY, ATTR_NO_TEXT:
- * nothing was opened. */
+ * ATTR_ATTRIBUTES: *place is the number of the attribute, from 0, that has not this form; else it is 0. ATTR_BOUNDS, ATTR_MEMORY,
+ * ATTR_NO_TEXT: nothing was opened. */
 int32_t attr_open(const uint8_t *attributes, size_t length, const struct attr_sizes *sizes, void **out, uint64_t *place);
 
 /* Closes an engine. The readers that it handed out may go on at the last commit. They are closed by attr_reader_close. The words
@@ -111,6 +111,7 @@ void attr_close(attr_engine engine);
 
 /* ---- writing: the calls of one thread ---- */
 
+/* What such a call tells. A number that it does not name is 0. */
 struct attr_told {
     uint64_t line;          /* attr_feed: the line that is refused, from 1 */
     uint64_t place;         /* where that line begins; attr_load: the field of the save that is no good */
@@ -119,11 +120,11 @@ struct attr_told {
     uint32_t skipped;       /* how many of these changed nothing */
     uint32_t commit;        /* attr_commit: its number, from 1 */
     uint32_t width;         /* ATTR_FULL: the words of the entry for which there was no room */
-    uint32_t active;        /* how many buffers are in use */
-    uint32_t held;          /* how many wait until readers have left the commits that had them */
-    uint32_t oldest;        /* the reader that holds most holds this commit or a later one */
+    uint32_t active;        /* ATTR_FULL: how many buffers are in use */
+    uint32_t held;          /* ATTR_FULL: how many wait until readers have left the commits that had them */
+    uint32_t oldest;        /* ATTR_FULL, attr_commit: the reader that holds most holds this commit or a later one */
     uint32_t is_held;       /* 1 where there is such a reader, 0 where none holds anything but the last commit */
-    uint32_t keys;          /* attr_compact: how many keys it visited */
+    uint32_t keys;          /* attr_compact: how many keys it visited, 0 where it emptied a buffer */
     uint32_t finished;      /* 1 where it emptied a buffer */
     uint32_t buffer;        /* which one */
 };
@@ -191,6 +192,7 @@ int32_t attr_reader_return(attr_engine *engine, attr_reader reader);
 /* Gives a reader up for good. It may be called after attr_close. */
 void attr_reader_close(attr_reader reader);
 
+/* What such a call tells. A number that it does not name is 0; with ATTR_MEMORY the numbers say nothing. */
 struct attr_answer {
     uint32_t commit;        /* the commit that answered, 0 before the first */
     uint32_t operations;    /* how many operations it has */
@@ -230,7 +232,7 @@ size_t attr_scores(attr_reader *reader, size_t first, struct attr_score *into, s
  * stand in its order, those of a weighted set ascend by value. ATTR_NO_DOCUMENT: it is not there at answer->commit. */
 int32_t attr_items(attr_reader *reader, uint32_t document, uint32_t field, struct attr_answer *answer);
 
-/* One of them, by its number from 0. ATTR_BOUNDS: there are fewer, and nothing is written. */
+/* One of them, by its number from 0. ATTR_BOUNDS: there are fewer, and all that is told is 0. */
 struct attr_item_told {
     int64_t number;         /* a long, else 0 */
     uint64_t length;        /* how many bytes a string has, else 0 */

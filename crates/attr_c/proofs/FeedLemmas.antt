@@ -1,6 +1,6 @@
 -- What one line says, and what lines say one after another.
 use Rattle.std.proofs.Common.{if◌then◌else◌, Bool, ◌≡◌, ℕ, ◌+◌, ◌-◌, ◌^◌, ◌<◌, ◌≤◌, drop, slice_index_or, true, false, List, []}
-use Rattle.std.proofs.Common.{◌∷◌, ◌++◌, length, Result, Ok, Err, Option, Some, None, refl, sym, ◌∙◌, ap, subst, arith, length-append}
+use Rattle.std.proofs.Common.{◌∷◌, ◌++◌, length, Result, Ok, Err, Option, Some, None, refl, sym, ◌∙◌, ap, subst, arith, append_assoc, append-nil, length-append}
 use Rattle.std.specs.List.{AllByRecursion}
 use Rattle.std.specs.Prelude.{IfSome}
 use Rattle.std.proofs.lemmas.List.{drop-drop}
@@ -12,10 +12,10 @@ use Rattle.feed_reader.specs.declared.error.FeedError.{FeedError}
 use Rattle.feed_reader.specs.declared.error.FeedError.TheVariants as errors
 use Rattle.feed_reader.specs.declared.refusal.Refusal.TheVariants as refusals
 use Rattle.feed_reader.specs.declared.refusal.LineError.TheVariants as line_errors
-use Rattle.feed_reader.specs.Feed.{feed_of, most_bytes, ops_of_lines, with_op, with_front, FeedFailsBy}
+use Rattle.feed_reader.specs.Feed.{feed_of, most_bytes, ops_of_lines, with_op, with_front, Fault, FeedFailsBy}
 use Rattle.feed_reader.specs.Grammar.{op_of_line}
 use Rattle.feed_reader.specs.Lines.{lines_of, is_blank}
-use Rattle.feed_reader.proofs.FeedLemmas.{lines_blank, lines_more, lines_end, lines_error, lines_start}
+use Rattle.feed_reader.proofs.FeedLemmas.{lines_blank, lines_more, lines_end, lines_error}
 use Rattle.attr_types.specs.Table.{Table, after_op, after_ops, is_skipped, skipped_ops}
 use Rattle.attr_types.specs.declared.applied.Applied.{Applied}
 use Rattle.attr_types.specs.declared.applied.Applied.TheVariants.{Changed, Skipped}
@@ -159,9 +159,83 @@ skips_one fields table op applied is = ap (λ (a : Applied). skips_of (Some a)) 
     by true = refl
     by false = refl
 
+-- ---- lines before others
+
+front_none : (r : Result (List Op) Fault) → with_front [] r ≡ r
+front_none (Ok ops) = refl
+front_none (Err fault) = refl
+
+front_of : (op : Op) (front : List Op) (r : Result (List Op) Fault) → with_front (op ∷ []) (with_front front r) ≡ with_front (op ∷ front) r
+front_of op front (Ok ops) = refl
+front_of op front (Err fault) = refl
+
+no_ops : (fields : List Field) (n : ℕ) → ops_of_lines fields n [] ≡ Ok []
+unfolding ops_of_lines
+no_ops fields n = refl
+
+fault_at : (fields : List Field) (n : ℕ) (line : List ℕ) (lines : List (List ℕ)) (refusal : Refusal) → is_blank line ≡ false → op_of_line fields line ≡ Err refusal
+    → ops_of_lines fields n (line ∷ lines) ≡ Err (n, refusal)
+unfolding ops_of_lines
+fault_at fields n line lines refusal e o = rw (e, o) refl
+
+-- one line more
+module _ (fields : List Field) (more : List (List ℕ)) (n : ℕ) (line : List ℕ) (lines : List (List ℕ)) (ops : List Op) (is : ops_of_lines fields n (line ∷ lines) ≡ Ok ops)
+    (behind : (os : List Op) → ops_of_lines fields (n + 1) lines ≡ Ok os → ops_of_lines fields (n + 1) (lines ++ more) ≡ with_front os (ops_of_lines fields ((n + 1) + length lines) more)) where
+  abbrev rest : ℕ → Result (List Op) Fault
+  rest k = ops_of_lines fields k more
+
+  on : (n + 1) + length lines ≡ n + length (line ∷ lines)
+  on = omega arith
+
+  by_rest : (op : Op) → is_blank line ≡ false → op_of_line fields line ≡ Ok op → (r : Result (List Op) Fault) → ops_of_lines fields (n + 1) lines ≡ r → with_front (op ∷ []) r ≡ Ok ops
+      → ops_of_lines fields n (line ∷ (lines ++ more)) ≡ with_front ops (rest (n + length (line ∷ lines)))
+  by_rest op blank says (Ok others) here whole =
+      let all : op ∷ others ≡ ops = cc in
+      sym (front_none (ops_of_lines fields n (line ∷ (lines ++ more)))) ∙ lines_more fields [] op n line (lines ++ more) blank says
+      ∙ ap (with_front (op ∷ [])) (behind others here) ∙ front_of op others (rest ((n + 1) + length lines))
+      ∙ ap (λ (k : ℕ). with_front (op ∷ others) (rest k)) on ∙ ap (λ (os : List Op). with_front os (rest (n + length (line ∷ lines)))) all
+  by_rest op blank says (Err fault) here whole = cc
+
+  by_op : (r : Result Op Refusal) → is_blank line ≡ false → op_of_line fields line ≡ r → ops_of_lines fields n (line ∷ (lines ++ more)) ≡ with_front ops (rest (n + length (line ∷ lines)))
+  by_op (Ok op) blank says =
+      by_rest op blank says (ops_of_lines fields (n + 1) lines) refl (sym (lines_more fields [] op n line lines blank says) ∙ front_none (ops_of_lines fields n (line ∷ lines)) ∙ is)
+  by_op (Err refusal) blank says = (let two : ◌≡◌ {A = Result (List Op) Fault} (Err (n, refusal)) (Ok ops) = sym (fault_at fields n line lines refusal blank says) ∙ is in cc)
+
+  before_by : (b : Bool) → is_blank line ≡ b → ops_of_lines fields n (line ∷ (lines ++ more)) ≡ with_front ops (rest (n + length (line ∷ lines)))
+  before_by true blank =
+      lines_blank fields n line (lines ++ more) blank ∙ behind ops (sym (lines_blank fields n line lines blank) ∙ is) ∙ ap (λ (k : ℕ). with_front ops (rest k)) on
+  before_by false blank = by_op (op_of_line fields line) blank refl
+
+-- the operations of lines come before those of the lines behind them
+ops_before : (fields : List Field) (more : List (List ℕ)) (n : ℕ) (lines : List (List ℕ)) (ops : List Op) → ops_of_lines fields n lines ≡ Ok ops
+    → ops_of_lines fields n (lines ++ more) ≡ with_front ops (ops_of_lines fields (n + length lines) more)
+ops_before fields more n [] ops is =
+    let none : [] ≡ ops = (let two : ◌≡◌ {A = Result (List Op) Fault} (Ok []) (Ok ops) = sym (no_ops fields n) ∙ is in cc) in
+    let here : n ≡ n + 0 = omega arith in
+    ap (λ (k : ℕ). ops_of_lines fields k more) here ∙ sym (front_none (ops_of_lines fields (n + 0) more)) ∙ ap (λ (os : List Op). with_front os (ops_of_lines fields (n + 0) more)) none
+ops_before fields more n (line ∷ lines) ops is = before_by fields more n line lines ops is (ops_before fields more (n + 1) lines) (is_blank line) refl
+
+-- ---- a feed up to one of its lines
 module _ (fields : List Field) (bytes : List ℕ) where
+  -- the feed is these operations and those of the rest
+  said_before : (number : ℕ) (rest : List ℕ) (old new : Table) (before after skipped : ℕ) (fed : FedTo fields bytes number rest old new before after skipped)
+      → with_front fed.ops (ops_of_lines fields number (lines_of rest)) ≡ feed_of fields bytes
+  unfolding feed_of
+  said_before number rest old new before after skipped fed =
+      let is : 1 + length fed.lines ≡ number = (let n = fed.number_is in omega (arith, n)) in
+      sym (ap (ops_of_lines fields 1) fed.split ∙ ops_before fields (lines_of rest) 1 fed.lines fed.ops fed.said ∙ ap (λ (n : ℕ). with_front fed.ops (ops_of_lines fields n (lines_of rest))) is)
+
   pub fed_none : (old : Table) (before : ℕ) → FedTo fields bytes 1 bytes old old before before 0
-  fed_none old before = record { ops = []; said = lines_start fields bytes; table = refl; operations = omega arith; skips = refl }
+  fed_none old before = record {
+    lines = [];
+    split = refl;
+    number_is = refl;
+    ops = [];
+    said = no_ops fields 1;
+    table = refl;
+    operations = omega arith;
+    skips = refl;
+  }
 
   -- no more operations changed nothing than were applied
   pub fed_few : (number : ℕ) (rest : List ℕ) (old new : Table) (before after skipped : ℕ) → FedTo fields bytes number rest old new before after skipped → skipped + before ≤ after
@@ -190,17 +264,33 @@ module _ (fields : List Field) (bytes : List ℕ) where
   pub fed_whole : (old new : Table) (before after skipped number : ℕ) (rest : List ℕ) → length rest ≡ 0 → FedTo fields bytes number rest old new before after skipped
       → Feeds fields bytes old new before after skipped
   fed_whole old new before after skipped number rest none fed =
-      record { ops = fed.ops; said = sym fed.said ∙ lines_end fields fed.ops number rest none; table = fed.table; operations = fed.operations; skips = fed.skips }
+      record { ops = fed.ops; said = sym (said_before number rest old new before after skipped fed) ∙ lines_end fields fed.ops number rest none; table = fed.table; operations = fed.operations; skips = fed.skips }
 
   module _ (old mid new : Table) (before between after skipped : ℕ) (number : ℕ) (rest line left : List ℕ) (lines : lines_of rest ≡ line ∷ lines_of left)
       (fed : FedTo fields bytes number rest old mid before between skipped) where
     said_line : with_front fed.ops (ops_of_lines fields number (line ∷ lines_of left)) ≡ feed_of fields bytes
-    said_line = ap (λ (ls : List (List ℕ)). with_front fed.ops (ops_of_lines fields number ls)) (sym lines) ∙ fed.said
+    said_line = ap (λ (ls : List (List ℕ)). with_front fed.ops (ops_of_lines fields number ls)) (sym lines) ∙ said_before number rest old mid before between skipped fed
+
+    -- the line is now before the rest
+    split_on : lines_of bytes ≡ (fed.lines ++ line ∷ []) ++ lines_of left
+    split_on = fed.split ∙ ap (λ (ls : List (List ℕ)). fed.lines ++ ls) lines ∙ sym (append_assoc fed.lines (line ∷ []) (lines_of left))
+
+    number_on : number + 1 ≡ length (fed.lines ++ line ∷ []) + 1
+    number_on = let long = length-append fed.lines (line ∷ []) in let is = fed.number_is in omega (arith, long, is)
+
+    said_on : ops_of_lines fields 1 (fed.lines ++ line ∷ []) ≡ with_front fed.ops (ops_of_lines fields (1 + length fed.lines) (line ∷ []))
+    said_on = ops_before fields (line ∷ []) 1 fed.lines fed.ops fed.said
+
+    end_on : (ops : List Op) (n : ℕ) → with_front ops (ops_of_lines fields n []) ≡ Ok ops
+    end_on ops n = ap (with_front ops) (no_ops fields n) ∙ ap Ok (append-nil ops)
 
     pub fed_blank : is_blank line ≡ true → Stays mid new between after → FedTo fields bytes (number + 1) left old new before after (skipped + 0)
     fed_blank blank stays = record {
+      lines = fed.lines ++ line ∷ [];
+      split = split_on;
+      number_is = number_on;
       ops = fed.ops;
-      said = ap (with_front fed.ops) (sym (lines_blank fields number line (lines_of left) blank)) ∙ said_line;
+      said = said_on ∙ ap (with_front fed.ops) (lines_blank fields (1 + length fed.lines) line [] blank) ∙ end_on fed.ops (1 + length fed.lines + 1);
       table = stays.table ∙ fed.table;
       operations = stays.operations ∙ fed.operations;
       skips = (let none : skipped + 0 ≡ skipped = omega arith in none) ∙ fed.skips;
@@ -215,8 +305,11 @@ module _ (fields : List Field) (bytes : List ℕ) where
         let is = one.operations in
         let long = length-append fed.ops (one.op ∷ []) in
         record {
+          lines = fed.lines ++ line ∷ [];
+          split = split_on;
+          number_is = number_on;
           ops = fed.ops ++ one.op ∷ [];
-          said = sym (lines_more fields fed.ops one.op number line (lines_of left) one.some one.says) ∙ said_line;
+          said = said_on ∙ lines_more fields fed.ops one.op (1 + length fed.lines) line [] one.some one.says ∙ end_on (fed.ops ++ one.op ∷ []) (1 + length fed.lines + 1);
           table = one.table ∙ ap (λ (t : Table). after_op fields t one.op) fed.table ∙ sym (after_one_more fields fed.ops one.op old);
           operations = omega (arith, was, is, long);
           skips = omega (arith, skips, more, this);
@@ -230,7 +323,16 @@ module _ (fields : List Field) (bytes : List ℕ) where
     pub fed_still : (stop : Stop) → FedLine fields line mid new between after (Err stop) → FedTo fields bytes number rest old new before after skipped
     fed_still stop line_is =
         let stays = stays_at stop line_is in
-        record { ops = fed.ops; said = fed.said; table = stays.table ∙ fed.table; operations = stays.operations ∙ fed.operations; skips = fed.skips }
+        record {
+          lines = fed.lines;
+          split = fed.split;
+          number_is = fed.number_is;
+          ops = fed.ops;
+          said = fed.said;
+          table = stays.table ∙ fed.table;
+          operations = stays.operations ∙ fed.operations;
+          skips = fed.skips;
+        }
       where
         stays_at : (stop : Stop) → FedLine fields line mid new between after (Err stop) → Stays mid new between after
         stays_at (stops.Line error) line_is = line_is.2

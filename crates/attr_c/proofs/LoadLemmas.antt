@@ -92,12 +92,20 @@ module _ (fields : List Field) (old : Table) (before : ℕ) where
     pub loads_whole : (saved : Saved) → read_of bytes ≡ Ok saved → IsSaveOf fields saved → PutsIn fields saved.table old new before after → LoadsSave fields bytes old new before after
     loads_whole saved reads is_of puts = record { saved = saved; reads = reads; is_of = is_of; puts = puts }
 
-    pub loads_front : (saved : Saved) → read_of bytes ≡ Ok saved → PutsFront fields saved.table old new before after → LoadsFront fields bytes old new before after
-    loads_front saved reads front = record {
+    pub loads_front : (saved : Saved) → read_of bytes ≡ Ok saved → IsSaveOf fields saved → PutsFront fields saved.table old new before after → LoadsFront fields bytes old new before after
+    loads_front saved reads is_of front = record {
       documents = front.documents;
       puts = front.puts;
       front = λ other says. let same : saved ≡ other = cc in front.front ∙ ap (λ (s : Saved). take (length front.documents) s.table) same;
+      broken = λ place says. cc;
+      other = λ is. let says = is.reads in let same : saved ≡ is.saved = cc in absurd (is.other (subst (IsSaveOf fields) same is_of));
     }
 
     pub loads_none : Stays old new before after → LoadsFront fields bytes old new before after
-    loads_none stays = record { documents = []; puts = record { table = stays.table; operations = let same = stays.operations in omega (arith, same) }; front = λ saved says. refl }
+    loads_none stays = record {
+      documents = [];
+      puts = record { table = stays.table; operations = let same = stays.operations in omega (arith, same) };
+      front = λ saved says. refl;
+      broken = λ place says. refl;
+      other = λ is. refl;
+    }

@@ -1,5 +1,5 @@
 -- A save by the first column of a table.
-use Rattle.std.proofs.Common.{◌≡◌, ◌≤◌, ℕ, List, [], ◌∷◌, map, length, refl, sym, ap, subst, ◌∙◌, Some}
+use Rattle.std.proofs.Common.{◌≡◌, ℕ, List, [], ◌∷◌, map, refl, sym, ap, subst, ◌∙◌, Some}
 use Rattle.std.specs.Prelude.{slice_get}
 use Rattle.attr_index.specs.Columns.{Column, column_of}
 use Rattle.attr_saver.specs.Laws.{FirstColumnIsLawful}

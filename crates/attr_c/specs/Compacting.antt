@@ -1,5 +1,5 @@
 -- A step of a compaction, and what is told of it.
-use Rattle.std.specs.Prelude.{◌≡◌, ℕ, ◌⊎◌, Some}
+use Rattle.std.specs.Prelude.{◌≡◌, ℕ, ◌⊎◌, Some, None}
 use Rattle.attr_c.specs.Stores.{ledger_over, records_over}
 use Rattle.attr_c.specs.declared.state.AnyOpen.{AnyOpen}
 use Rattle.attr_c.specs.declared.state.AnyOpen.TheVariants.{Narrow, Wide}
@@ -15,11 +15,12 @@ use Rattle.entry_ref.specs.Records.{Records}
 use Rattle.store_api.specs.Ledgers.{Ledger}
 use Rattle.word_arena.specs.Ruled.{writer_of}
 
--- how many keys were visited, and which buffer was emptied
+-- how many keys were visited, or which buffer was emptied; a step that the store stopped is not told as a step
 abbrev pub TellsStep : Compacted → Told → Type 0
-TellsStep Idle told = (told.keys ≡ 0) × (told.finished ≡ 0)
-TellsStep (Moved keys stop) told = (told.keys ≡ keys) × (told.finished ≡ 0)
-TellsStep (Finished buffer) told = (told.finished ≡ 1) × (told.buffer ≡ buffer)
+TellsStep Idle told = (told.keys ≡ 0) × (told.finished ≡ 0) × (told.buffer ≡ 0)
+TellsStep (Moved keys None) told = (told.keys ≡ keys) × (told.finished ≡ 0) × (told.buffer ≡ 0)
+TellsStep (Moved keys (Some error)) told = ⊥
+TellsStep (Finished buffer) told = (told.keys ≡ 0) × (told.finished ≡ 1) × (told.buffer ≡ buffer)
 
 -- a step, as it is told
 pub record StepsAs (steps : Compacted → Type 0) (told : Told) : Type 0 where

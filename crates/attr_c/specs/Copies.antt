@@ -46,6 +46,10 @@ value_told weight (Text text) = record { number = pos 0; length = length text; w
 abbrev pub item_told : Item → ItemTold
 item_told item = value_told item.weight item.value
 
+-- what C is told where there is no item
+abbrev pub no_item : ItemTold
+no_item = record { number = pos 0; length = 0; weight = pos 0; is_text = 0 }
+
 -- the text of a value, and of the item of a number; none where there is no such text
 abbrev pub value_text : Value → List ℕ
 value_text (Long number) = []

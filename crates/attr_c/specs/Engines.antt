@@ -1,11 +1,12 @@
 -- What the writer's handle holds, as its callers see it.
-use Rattle.std.specs.Prelude.{◌≡◌, ◌<◌, ◌≤◌, ℕ, Bool, List, [], length}
+use Rattle.std.specs.Prelude.{◌≡◌, ◌<◌, ◌≤◌, ℕ, Bool, List, [], length, replicate}
 use Rattle.std.specs.List.{AllByRecursion}
 use Rattle.atomic_table.specs.Seated.{TableId}
 use Rattle.attr_types.specs.Table.{Table}
 use Rattle.attr_types.specs.declared.field.Field.{Field}
 use Rattle.attr_types.specs.declared.field.TheConstants.{MOST_FIELDS}
 use Rattle.store_api.specs.declared.store.Usage.{Usage}
+use Rattle.attr_c.specs.Stores.{open_ledger}
 use Rattle.attr_c.specs.declared.told.CountsTold.{CountsTold}
 use Rattle.attr_c.specs.declared.told.Sizes.{Sizes}
 use Rattle.attr_c.specs.declared.state.Counts.{Counts}
@@ -67,6 +68,12 @@ KeepsWaiting (Narrow old) (Narrow new) = new.pool.items ≡ old.pool.items
 KeepsWaiting (Wide old) (Wide new) = new.pool.items ≡ old.pool.items
 KeepsWaiting old new = ⊥
 
+-- the attributes and their store are the same
+abbrev pub KeepsAttributes : AnyOpen → AnyOpen → Type 0
+KeepsAttributes (Narrow old) (Narrow new) = new.attribute ≡ old.attribute
+KeepsAttributes (Wide old) (Wide new) = new.attribute ≡ old.attribute
+KeepsAttributes old new = ⊥
+
 -- a call that leaves the attributes, their memory, what was fed and what was committed as they were
 pub record KeepsTables (old new : AnyOpen) : Type 0 where
   pub fields : open_fields new ≡ open_fields old
@@ -84,13 +91,15 @@ pub record HasNothing (table committed : Table) (operations published : ℕ) : T
   pub operations_are : operations ≡ 0
   pub published_are : published ≡ 0
 
--- the attributes that were asked for, and nothing else
+-- the attributes that were asked for, and nothing else: no commit either
 pub record IsOpened (fields : List Field) (o : AnyOpen) : Type 0 where
   pub fields_are : open_fields o ≡ fields
+  pub no_commit : (open_ledger o).work.commits.last ≡ 0
   pub has_nothing : HasNothing (open_table o) (open_committed o) (open_operations o) (open_committed_operations o)
 
--- one to eight attributes, and nothing else
+-- one to eight attributes, and nothing else: no commit either
 pub record IsNewEngine (e : Engine) : Type 0 where
+  pub no_commit : (open_ledger e.open).work.commits.last ≡ 0
   pub some : 0 < length (open_fields e.open)
   pub few : length (open_fields e.open) ≤ MOST_FIELDS
   pub has_nothing : HasNothing (open_table e.open) (open_committed e.open) (open_operations e.open) (open_committed_operations e.open)
@@ -101,6 +110,8 @@ pub record AreNewCounts (sizes : Sizes) (counts : Counts) : Type 0 where
   pub skipped_is : counts.skipped ≡ 0
   pub commit_is : counts.commit ≡ 0
   pub committed_is : counts.committed ≡ 0
+  pub no_hold : counts.since ≡ replicate 16 0
+  pub oldest_is : counts.oldest ≡ 0
   pub no_reader : counts.is_held ≡ 0
 
 -- the numbers that the engine keeps for a monitor

@@ -1,5 +1,5 @@
 -- How lines change attributes.
-use Rattle.std.specs.Prelude.{◌≡◌, ℕ, ◌+◌, ◌<◌, ◌≤◌, true, false, List, ◌∷◌, length, drop}
+use Rattle.std.specs.Prelude.{◌≡◌, ℕ, ◌+◌, ◌<◌, ◌≤◌, true, false, List, ◌∷◌, ◌++◌, length, drop}
 use Rattle.std.specs.Prelude.{Option, Some, None, IfSome, Result, Ok, Err}
 use Rattle.attr_types.specs.Lawful.{OpFits}
 use Rattle.attr_types.specs.Table.{Table, after_op, after_ops, skipped_ops}
@@ -8,7 +8,7 @@ use Rattle.attr_types.specs.declared.applied.Applied.TheVariants.{Changed, Skipp
 use Rattle.attribute_kinds.specs.Calls.{applied_to}
 use Rattle.attr_types.specs.declared.field.Field.{Field}
 use Rattle.attr_types.specs.declared.op.Op.{Op}
-use Rattle.feed_reader.specs.Feed.{feed_of, most_bytes, ops_of_lines, with_front, FeedFailsBy}
+use Rattle.feed_reader.specs.Feed.{feed_of, most_bytes, ops_of_lines, FeedFailsBy}
 use Rattle.feed_reader.specs.Grammar.{op_of_line}
 use Rattle.feed_reader.specs.Lines.{lines_of, is_blank}
 use Rattle.feed_reader.specs.declared.error.FeedError.{FeedError}
@@ -62,12 +62,15 @@ FedLine fields line old new before after (Err (stops.Line error)) =
     (is_blank line ≡ false) × FailsLine fields line error × Stays old new before after
 FedLine fields line old new before after (Err stop) = Stays old new before after
 
--- a feed up to one of its lines: these operations were applied, and they are those of the feed before the rest, whose
--- first line has this number; so many of them changed nothing
+-- a feed up to one of its lines, whose number is one more than there are lines before it: the operations of these lines
+-- were applied, and so many of them changed nothing
 pub record FedTo (fields : List Field) (bytes : List ℕ) (number : ℕ) (rest : List ℕ) (old new : Table)
     (before after skipped : ℕ) : Type 0 where
+  pub lines : List (List ℕ)
+  pub split : lines_of bytes ≡ lines ++ lines_of rest
+  pub number_is : number ≡ length lines + 1
   pub ops : List Op
-  pub said : with_front ops (ops_of_lines fields number (lines_of rest)) ≡ feed_of fields bytes
+  pub said : ops_of_lines fields 1 lines ≡ Ok ops
   pub table : new ≡ after_ops fields old ops
   pub operations : after ≡ before + length ops
   pub skips : skipped ≡ skipped_ops fields old ops

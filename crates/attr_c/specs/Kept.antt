@@ -1,5 +1,6 @@
 -- A reader under a guard.
 use Rattle.std.specs.Prelude.{◌≡◌, ℕ, ◌≤◌, List, ◌∷◌, length}
+use Rattle.atomic_table.specs.Seated.{TableId}
 use Rattle.entry_ref.specs.Images.{words_at}
 use Rattle.gen_core.specs.declared.views.ReaderView.{ReaderView}
 use Rattle.word_arena.specs.Ruled.{seen_image, seen_number}
@@ -9,9 +10,10 @@ use Rattle.attr_types.specs.Table.{Table}
 use Rattle.attr_types.specs.declared.field.Field.{Field}
 use Rattle.attr_types.specs.declared.field.TheConstants.{MOST_FIELDS}
 
--- the attributes for the asks, and what the reader has seen, the guarded commit first
+-- the attributes for the asks, the memory that is read, and what the reader has seen, the guarded commit first
 pub record KeptView : Type 0 where
   pub fields : List Field
+  pub home : TableId
   pub reader : ReaderView
 
 -- the guarded commit is one of these attributes

@@ -1,5 +1,5 @@
 -- What a save makes of attributes.
-use Rattle.std.specs.Prelude.{◌≡◌, ℕ, ◌+◌, List, [], ◌∷◌, length, map, take, slice_get, Some, Result, Ok, Err}
+use Rattle.std.specs.Prelude.{◌≡◌, ℕ, ◌+◌, List, [], ◌∷◌, length, map, take, slice_get, Some, Ok, Err}
 use Rattle.attr_saver.specs.Fields.{read_of}
 use Rattle.attr_saver.specs.declared.saved.Saved.{Saved}
 use Rattle.attr_saver.specs.declared.saved.SavedDocument.{SavedDocument}
@@ -9,6 +9,7 @@ use Rattle.attr_types.specs.declared.op.Op.{Op}
 use Rattle.attr_types.specs.declared.op.Op.TheVariants.{Put}
 use Rattle.attr_c.specs.declared.stop.Stop.{Stop}
 use Rattle.attr_c.specs.declared.stop.Stop.TheVariants as stops
+use Rattle.attr_c.specs.declared.told.Told.{Told}
 
 -- the operations that put documents in
 abbrev pub put_of : SavedDocument → Op
@@ -42,11 +43,19 @@ pub record PutsFront (fields : List Field) (all : List SavedDocument) (old new :
   pub puts : PutsIn fields documents old new before after
   pub front : documents ≡ take (length documents) all
 
--- some documents of a save were put in, the first ones; none where the bytes are no save
+-- a save of another kind or value type, or there are several attributes
+pub record IsOfOther (fields : List Field) (bytes : List ℕ) : Type 0 where
+  pub saved : Saved
+  pub reads : read_of bytes ≡ Ok saved
+  pub other : IsSaveOf fields saved → ⊥
+
+-- some documents of a save were put in, the first ones; none where the bytes are no save, or one of another attribute
 pub record LoadsFront (fields : List Field) (bytes : List ℕ) (old new : Table) (before after : ℕ) : Type 0 where
   pub documents : List SavedDocument
   pub puts : PutsIn fields documents old new before after
   pub front : (saved : Saved) → read_of bytes ≡ Ok saved → documents ≡ take (length documents) saved.table
+  pub broken : (place : ℕ) → read_of bytes ≡ Err place → documents ≡ []
+  pub other : IsOfOther fields bytes → documents ≡ []
 
 -- the operation that puts in the document after those that made so many operations of so many before
 pub record IsNextPut (documents : List SavedDocument) (before after : ℕ) (op : Op) : Type 0 where
@@ -62,12 +71,6 @@ pub record IsNextLoaded (bytes : List ℕ) (before after : ℕ) (op : Op) : Type
   pub reads : read_of bytes ≡ Ok saved
   pub is_next : IsNextPut saved.table before after op
 
--- a save of another kind or value type, or there are several attributes
-pub record IsOfOther (fields : List Field) (bytes : List ℕ) : Type 0 where
-  pub saved : Saved
-  pub reads : read_of bytes ≡ Ok saved
-  pub other : IsSaveOf fields saved → ⊥
-
 -- what was read is no save, with the offset of the first wrong field, or memory ran out
 abbrev pub RefusesSave : List ℕ → ℕ → Stop → Type 0
 RefusesSave bytes place stops.Save = read_of bytes ≡ Err place
@@ -80,3 +83,8 @@ abbrev pub StopsLoad : List Field → List ℕ → ℕ → (Stop → Type 0) →
 StopsLoad fields bytes place why stops.Save = read_of bytes ≡ Err place
 StopsLoad fields bytes place why stops.Other = IsOfOther fields bytes
 StopsLoad fields bytes place why stop = why stop
+
+-- a place is told only of bytes that are no save
+abbrev pub TellsPlaceOf : Told → Told → Stop → Type 0
+TellsPlaceOf old new stops.Save = Unit {0}
+TellsPlaceOf old new stop = new.place ≡ old.place

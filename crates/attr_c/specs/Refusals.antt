@@ -7,6 +7,7 @@ use Rattle.attr_types.specs.declared.field.Field.{Field}
 use Rattle.query_text.specs.Asks.{ask_of, RefusesBy}
 use Rattle.attr_c.specs.Kept.{KeptView, table_in}
 use Rattle.attr_c.specs.Said.{items_of}
+use Rattle.attr_c.specs.Seats.{TellsCommit}
 use Rattle.attr_c.specs.declared.codes.TheConstants.{BOUNDS, MEMORY, NO_DOCUMENT}
 use Rattle.attr_c.specs.declared.codes.TheConstants.{NO_FIELD, OUT_OF_RANGE, SYNTAX, TOO_DEEP, WRONG_TYPE}
 use Rattle.attr_c.specs.declared.told.Answered.{Answered}
@@ -40,9 +41,10 @@ pub record IsInBounds (fields : List Field) (document field : ℕ) : Type 0 wher
   pub attribute : field < length fields
   pub number : IsDocNumber document
 
--- why no items are read: a number is out of bounds, the document does not exist, or memory ran out
-pub record RefusesItems (guard : KeptView) (document field : ℕ) (code : ℤ) : Type 0 where
+-- why no items are read: a number is out of bounds, the document is not there at the commit that is told, or memory ran out
+pub record RefusesItems (guard : KeptView) (document field : ℕ) (told : Answered) (code : ℤ) : Type 0 where
   pub bounds : code ≡ BOUNDS → IsInBounds guard.fields document field → ⊥
   pub within : code ≢ BOUNDS → IsInBounds guard.fields document field
   pub none : code ≡ NO_DOCUMENT → items_of field document (table_in guard) ≡ None
+  pub commit : code ≡ NO_DOCUMENT → TellsCommit guard told
   pub others : code ≢ BOUNDS → code ≢ NO_DOCUMENT → code ≡ MEMORY

@@ -1,6 +1,6 @@
 -- What a reader's handle holds, as its callers see it, and what its calls say.
 use Rattle.std.specs.Prelude.{◌≡◌, ◌≢◌, ℕ, Bool, true, false, List, [], ◌∷◌, ◌++◌, length}
-use Rattle.std.specs.Prelude.{Option, Some, None, Result, Ok}
+use Rattle.std.specs.Prelude.{Option, Some, None, Ok}
 use Rattle.gen_core.specs.Events.{released}
 use Rattle.word_arena.specs.Ruled.{reader_of, seen_number}
 use Rattle.attr_types.specs.Scores.{AskTree, answer_on, documents_in}
@@ -22,10 +22,10 @@ use Rattle.attr_c.specs.declared.state.AnyReader.{AnyReader}
 use Rattle.attr_c.specs.declared.state.AnyReader.TheVariants as readers
 use Rattle.attr_c.specs.declared.told.Answered.{Answered}
 
--- the attributes that a reader is asked of, and what it has seen
+-- the attributes that a reader is asked of, the memory that it reads, and what it has seen
 abbrev pub reader_view : AnyReader → KeptView
-reader_view (readers.Narrow w) = record { fields = w.fields; reader = reader_of w.reader.place.me.0 }
-reader_view (readers.Wide w) = record { fields = w.fields; reader = reader_of w.reader.place.me.0 }
+reader_view (readers.Narrow w) = record { fields = w.fields; home = w.reader.place.table_id; reader = reader_of w.reader.place.me.0 }
+reader_view (readers.Wide w) = record { fields = w.fields; home = w.reader.place.table_id; reader = reader_of w.reader.place.me.0 }
 
 abbrev pub kept_view : AnyKept → KeptView
 kept_view (kept.Narrow k) = k
@@ -35,22 +35,21 @@ abbrev pub is_kept : Place → Bool
 is_kept (Free r) = false
 is_kept (Kept k) = true
 
--- a seat without a reader, which keeps nothing
-pub record IsEmptySeat (seat : Seat) : Type 0 where
-  pub no_reader : seat.place ≡ None
-  pub no_answer : seat.answer ≡ Hits []
-  pub no_items : seat.items ≡ []
-  pub no_save : seat.saved.items ≡ []
-
 -- no answer, no items and no save are kept
 pub record KeepsNothing (seat : Seat) : Type 0 where
   pub no_answer : seat.answer ≡ Hits []
   pub no_items : seat.items ≡ []
   pub no_save : seat.saved.items ≡ []
 
+-- a seat without a reader, which keeps nothing
+pub record IsEmptySeat (seat : Seat) : Type 0 where
+  pub no_reader : seat.place ≡ None
+  pub keeps : KeepsNothing seat
+
 -- a guard that a reader took
 pub record IsTaken (reader guard : KeptView) : Type 0 where
   pub fields : guard.fields ≡ reader.fields
+  pub home : guard.home ≡ reader.home
   pub guard_is : IsGuardOf reader.reader guard.reader
 
 -- the guard that a place has, or takes

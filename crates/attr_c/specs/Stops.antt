@@ -1,6 +1,7 @@
 -- Why a call of the writer stops: its code, its cause, and what is told of a full store.
-use Rattle.std.specs.Prelude.{◌≡◌, ◌-◌, ◌^◌, ℕ, ℤ, List}
+use Rattle.std.specs.Prelude.{◌≡◌, ◌+◌, ◌-◌, ◌^◌, ℕ, ℤ, List, length}
 use Rattle.attr_c.specs.Holds.{with_oldest}
+use Rattle.attr_c.specs.Making.{MakesAll}
 use Rattle.attr_c.specs.declared.codes.TheConstants.{MEMORY, FULL, COMMITS_SPENT, OPERATIONS_SPENT}
 use Rattle.attr_c.specs.declared.codes.TheConstants.{NOT_JSON, NO_OPERATION, BAD_ID, BAD_VALUE, UNSUPPORTED, TOO_MANY_ITEMS}
 use Rattle.attr_c.specs.declared.codes.TheConstants.{LINE_TOO_LONG, BAD_SAVE, OTHER_SAVE}
@@ -11,6 +12,7 @@ use Rattle.attr_c.specs.declared.told.Told.{Told}
 use Rattle.attr_c.specs.Stores.{ledger_over}
 use Rattle.attr_c.specs.declared.state.AnyOpen.{AnyOpen}
 use Rattle.attr_c.specs.declared.state.AnyOpen.TheVariants.{Narrow, Wide}
+use Rattle.attr_types.specs.Table.{after_ops}
 use Rattle.attr_types.specs.declared.field.Field.{Field}
 use Rattle.attr_types.specs.declared.op.Op.{Op}
 use Rattle.attr_steps.specs.Counts.{MakesOperation}
@@ -87,13 +89,17 @@ pub record Stopped (cause : Stop → Type 0) (before after : Counts) (told : Tol
   pub is : cause stop
   pub ends : EndsBy stop before after told code
 
--- the store refused the next operation on these attributes, after those of this call before it: it was full for a width
--- that this operation needs, and had few spare entries of it
+-- the store refused the next operation on these attributes, after those of this call before it, which alone made entries:
+-- it was full for a width that this operation may need, and had few spare entries of it
 pub record RefusedOperation {S H : Type 0} (old now : AttributeView S) (next : Op → Type 0) (ledger : S → Ledger H) (error : AttrError)
     : Type 0 where
   pub op : Op
   pub is_next : next op
+  pub ops : List Op
+  pub table : now.table ≡ after_ops old.fields old.table ops
+  pub count : now.operations ≡ old.operations + length ops
   pub before : Ledger H
+  pub so_far : MakesAll old.dense old.fields (ledger old.store) before old.table ops
   pub since : KeepsStore (ledger old.store) before
   pub keeps : KeepsStore before (ledger now.store)
   pub made : MakesOperation now.dense before (ledger now.store) now.fields now.table op
@@ -102,12 +108,18 @@ pub record RefusedOperation {S H : Type 0} (old now : AttributeView S) (next : O
   pub spares : SparesOf now.dense (ledger now.store) now.fields now.table op error
   pub room : LacksBuffers now.dense before now.fields now.table op error
 
+-- the greatest number of operations was reached before the next one
+pub record SpentBefore (operations : ℕ) (next : Op → Type 0) : Type 0 where
+  pub most : operations ≡ 2 ^ 32 - 1
+  pub op : Op
+  pub is_next : next op
+
 -- why the next operation was not applied: the store refused it, the greatest number of operations was reached, or memory
 -- ran out
 abbrev pub StopsOperation : {S H : Type 0} → AttributeView S → AttributeView S → (Op → Type 0) → (S → Ledger H)
     → Stop → Type 0
 StopsOperation old now next ledger (stops.Store error) = RefusedOperation old now next ledger error
-StopsOperation old now next ledger stops.Spent = now.operations ≡ 2 ^ 32 - 1
+StopsOperation old now next ledger stops.Spent = SpentBefore now.operations next
 StopsOperation old now next ledger stops.Memory = Unit {0}
 StopsOperation old now next ledger stop = ⊥
 

@@ -46,7 +46,9 @@ abbrev pub open_memory : AnyOpen → Sizes
 open_memory (Narrow o) = api_sizes (writer_of o.attribute.store.work.place.me.0).sizes
 open_memory (Wide o) = api_sizes (writer_of o.attribute.store.work.place.me.0).sizes
 
--- a memory of this many buffers of this many words
-pub record HasMemory (buffers words : ℕ) (sizes : Sizes) : Type 0 where
+-- a memory of this many buffers of this many words, for so many commits and generations
+pub record HasMemory (buffers words commits generations : ℕ) (sizes : Sizes) : Type 0 where
   pub buffers_are : sizes.buffers ≡ buffers
   pub words_are : sizes.words ≡ words
+  pub commits_are : sizes.commits ≡ commits
+  pub generations_are : sizes.generations ≡ generations

@@ -1,11 +1,12 @@
 //! The asks of a reader, at the commit of its guard.
-ghost use Rattle.std.specs.Prelude.{◌≡◌, ◌<◌, ◌^◌, length, IfErr, IfOk, Ok};
+ghost use Rattle.std.specs.Prelude.{◌≡◌, ◌<◌, ◌^◌, length, IfErr, IfOk, OnOk, Ok};
 ghost use Rattle.query_text.specs.Asks.{ask_of, AsksAs};
 ghost use Rattle.attr_types.specs.Scores.{ask_tree, answer_on, documents_in};
 ghost use Rattle.attr_c.specs.Kept.{table_in};
 ghost use Rattle.attr_c.specs.Refusals.{query_code, IsInBounds, RefusesItems, RefusesText, TellsPlace};
 ghost use Rattle.attr_c.specs.Said.{said};
 ghost use Rattle.attr_c.specs.Seats.{kept_view, AnswersText, ReadsItems, SavesTable, TellsCommit};
+ghost use Rattle.attr_c.specs.Telling.{code_in, with_commit, AnswersBy};
 ghost use Rattle.attr_c.specs.declared.codes.TheConstants.{MEMORY};
 
 use crate::answer::Answer;
@@ -23,6 +24,7 @@ use std::alloc::Global;
 fn code_of(error: QueryError, told: &mut Answered) -> i32
     ensures code { result ≡ query_code error }
     ensures place { TellsPlace error told.new }
+    ensures by { AnswersBy told.old told.new result }
 {
     match error {
         QueryError::Syntax { place } => {
@@ -45,6 +47,8 @@ fn ask_in(alloc: Global, text: &str, fields: &Fields, told: &mut Answered) -> Re
     requires { length fields.now < 2 ^ 32 }
     ensures asks { IfOk result (λ ask. AsksAs (Ok ask) (ask_of fields.now text.now)) }
     ensures refused { IfErr result (RefusesText fields.now text.now told.new) }
+    ensures none { OnOk result (told.new ≡ told.old) }
+    ensures by { IfErr result (AnswersBy told.old told.new) }
 {
     match parse_ask(alloc, text, fields.as_slice()) {
         Ok(ask) => Ok(ask),
@@ -55,6 +59,7 @@ fn ask_in(alloc: Global, text: &str, fields: &Fields, told: &mut Answered) -> Re
 /// Writes which commit answers.
 fn tell_commit<const OFFSET_BITS: u32>(kept: &mut Kept<OFFSET_BITS>, told: &mut Answered)
     ensures tells { TellsCommit kept.old told.new }
+    ensures only { told.new ≡ with_commit told.new told.old }
     ensures same { kept.new ≡ kept.old }
 {
     told.commit = kept.commit();
@@ -72,6 +77,7 @@ fn answer_to<const OFFSET_BITS: u32>(
     ensures count { IfOk result (λ answer. told.new.count ≡ documents_in (said answer)) }
     ensures tells { TellsCommit kept.old told.new }
     ensures memory { IfErr result (λ code. code ≡ MEMORY) }
+    ensures by { AnswersBy told.old told.new (code_in result) }
     ensures same { kept.new ≡ kept.old }
 {
     tell_commit(kept, told);
@@ -93,6 +99,7 @@ fn answer_of<const OFFSET_BITS: u32>(
 ) -> Result<Answer, i32>
     ensures answers { IfOk result (AnswersText kept.old text.now told.new) }
     ensures refused { IfErr result (RefusesText kept.old.fields text.now told.new) }
+    ensures by { AnswersBy told.old told.new (code_in result) }
     ensures same { kept.new ≡ kept.old }
 {
     match ask_in(alloc, text, kept.fields(), told) {
@@ -111,7 +118,8 @@ fn items_of<const OFFSET_BITS: u32>(
 ) -> Result<Items, i32>
     ensures items { IfOk result (ReadsItems kept.old doc field told.new) }
     ensures within { IfOk result (λ items. IsInBounds kept.old.fields doc field) }
-    ensures refused { IfErr result (RefusesItems kept.old doc field) }
+    ensures refused { IfErr result (RefusesItems kept.old doc field told.new) }
+    ensures by { AnswersBy told.old told.new (code_in result) }
     ensures same { kept.new ≡ kept.old }
 {
     if field as usize >= kept.fields().len() || doc < 1 || doc > Doc::LAST {
@@ -136,6 +144,7 @@ fn save_of<const OFFSET_BITS: u32>(
 ) -> Result<Vec<u8>, i32>
     ensures saves { IfOk result (λ bytes. SavesTable kept.old told.new bytes.items) }
     ensures memory { IfErr result (λ code. code ≡ MEMORY) }
+    ensures by { AnswersBy told.old told.new (code_in result) }
     ensures same { kept.new ≡ kept.old }
 {
     tell_commit(kept, told);
@@ -150,6 +159,7 @@ fn save_of<const OFFSET_BITS: u32>(
 
 pub fn tell_any(kept: &mut AnyKept, told: &mut Answered)
     ensures tells { TellsCommit (kept_view kept.old) told.new }
+    ensures only { told.new ≡ with_commit told.new told.old }
     ensures same { kept_view kept.new ≡ kept_view kept.old }
 {
     match kept {
@@ -166,6 +176,7 @@ pub fn answer_any(
 ) -> Result<Answer, i32>
     ensures answers { IfOk result (AnswersText (kept_view kept.old) text.now told.new) }
     ensures refused { IfErr result (RefusesText (kept_view kept.old).fields text.now told.new) }
+    ensures by { AnswersBy told.old told.new (code_in result) }
     ensures same { kept_view kept.new ≡ kept_view kept.old }
 {
     match kept {
@@ -183,7 +194,8 @@ pub fn items_any(
 ) -> Result<Items, i32>
     ensures items { IfOk result (ReadsItems (kept_view kept.old) doc field told.new) }
     ensures within { IfOk result (λ items. IsInBounds (kept_view kept.old).fields doc field) }
-    ensures refused { IfErr result (RefusesItems (kept_view kept.old) doc field) }
+    ensures refused { IfErr result (RefusesItems (kept_view kept.old) doc field told.new) }
+    ensures by { AnswersBy told.old told.new (code_in result) }
     ensures same { kept_view kept.new ≡ kept_view kept.old }
 {
     match kept {
@@ -195,6 +207,7 @@ pub fn items_any(
 pub fn save_any(alloc: Global, kept: &mut AnyKept, told: &mut Answered) -> Result<Vec<u8>, i32>
     ensures saves { IfOk result (λ bytes. SavesTable (kept_view kept.old) told.new bytes.items) }
     ensures memory { IfErr result (λ code. code ≡ MEMORY) }
+    ensures by { AnswersBy told.old told.new (code_in result) }
     ensures same { kept_view kept.new ≡ kept_view kept.old }
 {
     match kept {

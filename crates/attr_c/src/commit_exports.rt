@@ -1,13 +1,22 @@
 //! The calls from C with the writer's handle.
-ghost use Rattle.std.specs.Prelude.{◌≡◌, ◌≢◌, ◌+◌, pos, drop, length, min, IfErr, IsOk, IsErr};
+ghost use Rattle.std.specs.Prelude.{◌≡◌, ◌≢◌, ◌+◌, ◌*◌, pos, drop, length, min, IfErr, IsOk, IsErr};
 ghost use Rattle.attr_c.specs.Engines.{committed_of, committed_operations_of, dense_of, fields_of, home_of, operations_of, table_of};
 ghost use Rattle.attr_c.specs.Engines.{usage_told, KeepsTables};
 ghost use Rattle.attr_c.specs.Engines.{open_counts, open_waiting, KeepsWaiting, TellsCounts};
 ghost use Rattle.attr_c.specs.Feeding.{FedTo, Feeds, IsFirstOp, IsLineBetween, Stays, StopsFeed};
 ghost use Rattle.attr_c.specs.Holds.{with_skipped, CommitsAs};
 ghost use Rattle.attr_c.specs.Loading.{IsNextLoaded, LoadsFront, LoadsSave, StopsLoad};
+ghost use Rattle.attr_c.specs.Making.{MakesFrom, MakesOpen, NotByStore};
 ghost use Rattle.attr_c.specs.Compacting.{CompactsOpen, RefusesOpen, StepsAs, StopsStep};
+ghost use Rattle.attr_c.specs.Telling.{no_told, with_committed, with_count, with_fed, with_keys, with_line, with_place, with_step};
+ghost use Rattle.attr_c.specs.Telling.{TellsBy};
 ghost use Rattle.attr_c.specs.Stops.{EndsBy, Stopped, StopsCommit, StopsOpen, StopsOperation};
+ghost use Rattle.attr_c.specs.declared.codes.TheConstants.{BAD_SAVE};
+ghost use Rattle.array_store.specs.Adding.{MakesOneOf};
+ghost use Rattle.attr_images.specs.Words.{class_of};
+ghost use Rattle.attribute_kinds.specs.Calls.{KeepsStore, KeepsStoreBut};
+ghost use Rattle.attribute_kinds.specs.Counts.{HasNoVectors};
+ghost use Rattle.compact_steps.specs.Counts.{MakesKeys};
 ghost use Rattle.attribute_kinds.specs.Compacting.{CompactsTo, RefusesStep};
 ghost use Rattle.attr_c.specs.Stores.{open_bits, open_ledger, IsOpenUsage};
 ghost use Rattle.store_api.specs.Usages.{IsUsage};
@@ -25,7 +34,7 @@ use std::alloc::Global;
 use store_api::Store;
 
 fn no_told() -> Told
-    ensures { result.skipped ≡ 0 }
+    ensures { result ≡ no_told }
 {
     Told {
         line: 0,
@@ -51,8 +60,10 @@ fn ended(counts: &mut Counts, came: Result<(), Stop>, told: &mut Told) -> i32
     ensures other { result ≢ pos 0 → IsErr came }
     ensures same { result ≡ pos 0 → (counts.new ≡ counts.old) × (told.new ≡ told.old) }
     ensures ends { IfErr came (λ stop. EndsBy stop counts.old counts.new told.new result) }
+    ensures tells { TellsBy told.old told.old told.new result }
     ensures skipped { told.new.skipped ≡ told.old.skipped }
     ensures keys { told.new.keys ≡ told.old.keys }
+    ensures finished { told.new.finished ≡ told.old.finished }
     ensures line { told.new.line ≡ told.old.line }
     ensures place { told.new.place ≡ told.old.place }
     ensures next { told.new.next ≡ told.old.next }
@@ -79,6 +90,7 @@ fn feed_told<const OFFSET_BITS: u32, S: Store<OFFSET_BITS, Layout = AttrLayout>>
     ensures next { result ≢ pos 0 → IsLineBetween bytes.now told.new.place told.new.next }
     ensures count { open.new.attribute.operations ≡ open.old.attribute.operations + told.new.operations }
     ensures counts { result ≡ pos 0 → open.new.counts ≡ with_skipped told.new.skipped open.old.counts }
+    ensures tells { TellsBy (with_fed told.new told.old) (with_line told.new (with_fed told.new told.old)) told.new result }
     ensures stopped { result ≢ pos 0 → Stopped (StopsFeed open.old.fields bytes.now told.new.line (drop told.new.place bytes.now)
         (StopsOperation open.old.attribute open.new.attribute (IsFirstOp open.old.fields (drop told.new.place bytes.now)) S.ledger))
         (with_skipped told.new.skipped open.old.counts) open.new.counts told.new result }
@@ -87,7 +99,8 @@ fn feed_told<const OFFSET_BITS: u32, S: Store<OFFSET_BITS, Layout = AttrLayout>>
         open.old.attribute.committed_operations open.new.attribute.committed_operations }
     ensures fields { open.new.fields ≡ open.old.fields }
     ensures dense { open.new.attribute.dense ≡ open.old.attribute.dense }
-    ensures home { (S.ledger open.new.attribute.store).work.home ≡ (S.ledger open.old.attribute.store).work.home }
+    ensures keeps { KeepsStore (S.ledger open.old.attribute.store) (S.ledger open.new.attribute.store) }
+    ensures made { NotByStore result → MakesFrom open.old.attribute open.new.attribute S.ledger }
 {
     let before = open.attribute.operations();
     let came = feed(alloc, open, bytes, told);
@@ -110,6 +123,7 @@ pub extern "C" fn attr_feed(
         (table_of at.old.value) (table_of at.new.value) (operations_of at.old.value) (operations_of at.new.value) told.new.skipped }
     ensures next { result ≢ pos 0 → IsLineBetween bytes.now told.new.place told.new.next }
     ensures counts { result ≡ pos 0 → open_counts at.new.value.open ≡ with_skipped told.new.skipped (open_counts at.old.value.open) }
+    ensures tells { TellsBy (with_fed told.new no_told) (with_line told.new (with_fed told.new no_told)) told.new result }
     ensures stopped { result ≢ pos 0 → Stopped (StopsFeed (fields_of at.old.value) bytes.now told.new.line
         (drop told.new.place bytes.now) (StopsOpen at.old.value.open at.new.value.open
         (IsFirstOp (fields_of at.old.value) (drop told.new.place bytes.now))))
@@ -121,6 +135,8 @@ pub extern "C" fn attr_feed(
     ensures fields { fields_of at.new.value ≡ fields_of at.old.value }
     ensures dense { dense_of at.new.value ≡ dense_of at.old.value }
     ensures home { home_of at.new.value ≡ home_of at.old.value }
+    ensures store { KeepsStore (open_ledger at.old.value.open) (open_ledger at.new.value.open) }
+    ensures made { NotByStore result → MakesOpen at.old.value.open at.new.value.open }
 {
     *told = no_told();
     let engine = at.get_mut();
@@ -139,6 +155,7 @@ fn commit_told<const OFFSET_BITS: u32, S: Store<OFFSET_BITS, Layout = AttrLayout
     ensures told { result ≡ pos 0 → told.new.operations ≡ open.old.attribute.operations }
     ensures counts { result ≡ pos 0 → CommitsAs OFFSET_BITS (S.ledger open.old.attribute.store) (S.ledger open.new.attribute.store)
         open.old.counts open.new.counts told.new }
+    ensures tells { TellsBy (with_committed told.new told.old) told.old told.new result }
     ensures stopped { result ≢ pos 0 → Stopped (StopsCommit open.old.fields (S.ledger open.old.attribute.store)
         (S.ledger open.new.attribute.store)) open.old.counts open.new.counts told.new result }
     ensures pool { open.new.pool ≡ open.old.pool }
@@ -149,6 +166,9 @@ fn commit_told<const OFFSET_BITS: u32, S: Store<OFFSET_BITS, Layout = AttrLayout
     ensures fields { open.new.fields ≡ open.old.fields }
     ensures dense { open.new.attribute.dense ≡ open.old.attribute.dense }
     ensures home { (S.ledger open.new.attribute.store).work.home ≡ (S.ledger open.old.attribute.store).work.home }
+    ensures keeps { result ≢ pos 0 → KeepsStore (S.ledger open.old.attribute.store) (S.ledger open.new.attribute.store) }
+    ensures makes { MakesOneOf (class_of (1 + 2 * length open.old.fields)) (S.ledger open.old.attribute.store)
+        (S.ledger open.new.attribute.store) }
 {
     let came = commit(open, told);
     ended(&mut open.counts, came, told)
@@ -162,6 +182,7 @@ pub extern "C" fn attr_commit(at: &mut HeldEngine, told: &mut Told) -> i32
     ensures told { result ≡ pos 0 → told.new.operations ≡ operations_of at.old.value }
     ensures counts { result ≡ pos 0 → CommitsAs (open_bits at.old.value.open) (open_ledger at.old.value.open)
         (open_ledger at.new.value.open) (open_counts at.old.value.open) (open_counts at.new.value.open) told.new }
+    ensures tells { TellsBy (with_committed told.new no_told) no_told told.new result }
     ensures stopped { result ≢ pos 0 → Stopped (StopsCommit (fields_of at.old.value) (open_ledger at.old.value.open)
         (open_ledger at.new.value.open)) (open_counts at.old.value.open) (open_counts at.new.value.open) told.new result }
     ensures waiting { KeepsWaiting at.old.value.open at.new.value.open }
@@ -171,6 +192,9 @@ pub extern "C" fn attr_commit(at: &mut HeldEngine, told: &mut Told) -> i32
     ensures fields { fields_of at.new.value ≡ fields_of at.old.value }
     ensures dense { dense_of at.new.value ≡ dense_of at.old.value }
     ensures home { home_of at.new.value ≡ home_of at.old.value }
+    ensures store { result ≢ pos 0 → KeepsStore (open_ledger at.old.value.open) (open_ledger at.new.value.open) }
+    ensures makes { MakesOneOf (class_of (1 + 2 * length (fields_of at.old.value))) (open_ledger at.old.value.open)
+        (open_ledger at.new.value.open) }
 {
     *told = no_told();
     let engine = at.get_mut();
@@ -189,6 +213,7 @@ fn compact_told<const OFFSET_BITS: u32, S: Store<OFFSET_BITS, Layout = AttrLayou
     ensures counts { result ≡ pos 0 → open.new.counts ≡ open.old.counts }
     ensures steps { result ≡ pos 0 → StepsAs (CompactsTo OFFSET_BITS S.ledger S.records open.old.attribute open.new.attribute keys)
         told.new }
+    ensures tells { TellsBy (with_step told.new told.old) (with_keys told.new told.old) told.new result }
     ensures stopped { result ≢ pos 0 → Stopped
         (StopsStep (CompactsTo OFFSET_BITS S.ledger S.records open.old.attribute open.new.attribute keys)
         (RefusesStep OFFSET_BITS S.ledger S.records open.old.attribute open.new.attribute) told.new.keys)
@@ -201,6 +226,9 @@ fn compact_told<const OFFSET_BITS: u32, S: Store<OFFSET_BITS, Layout = AttrLayou
     ensures fields { open.new.fields ≡ open.old.fields }
     ensures dense { open.new.attribute.dense ≡ open.old.attribute.dense }
     ensures home { (S.ledger open.new.attribute.store).work.home ≡ (S.ledger open.old.attribute.store).work.home }
+    ensures keeps { KeepsStoreBut (S.ledger open.old.attribute.store) (S.ledger open.new.attribute.store) }
+    ensures makes { MakesKeys (HasNoVectors open.old.attribute.dense open.old.attribute.table) open.old.fields
+        open.old.attribute.table (S.ledger open.old.attribute.store) (S.ledger open.new.attribute.store) keys }
 {
     let came = compact(alloc, open, keys, told);
     ended(&mut open.counts, came, told)
@@ -215,8 +243,12 @@ pub extern "C" fn attr_compact(
     told: &mut Told,
 ) -> i32
     ensures tables { KeepsTables at.old.value.open at.new.value.open }
+    ensures store { KeepsStoreBut (open_ledger at.old.value.open) (open_ledger at.new.value.open) }
+    ensures makes { MakesKeys (HasNoVectors (dense_of at.old.value) (table_of at.old.value)) (fields_of at.old.value)
+        (table_of at.old.value) (open_ledger at.old.value.open) (open_ledger at.new.value.open) keys }
     ensures counts { result ≡ pos 0 → open_counts at.new.value.open ≡ open_counts at.old.value.open }
     ensures steps { result ≡ pos 0 → StepsAs (CompactsOpen at.old.value.open at.new.value.open keys) told.new }
+    ensures tells { TellsBy (with_step told.new no_told) (with_keys told.new no_told) told.new result }
     ensures stopped { result ≢ pos 0 → Stopped (StopsStep (CompactsOpen at.old.value.open at.new.value.open keys)
         (RefusesOpen at.old.value.open at.new.value.open) told.new.keys)
         (open_counts at.old.value.open) (open_counts at.new.value.open) told.new result }
@@ -241,8 +273,9 @@ fn load_told<const OFFSET_BITS: u32, S: Store<OFFSET_BITS, Layout = AttrLayout>>
     ensures front { result ≢ pos 0 → LoadsFront open.old.fields bytes.now open.old.attribute.table open.new.attribute.table
         open.old.attribute.operations open.new.attribute.operations }
     ensures count { open.new.attribute.operations ≡ open.old.attribute.operations + told.new.operations }
-    ensures skipped { told.new.skipped ≡ told.old.skipped }
     ensures counts { result ≡ pos 0 → open.new.counts ≡ open.old.counts }
+    ensures tells { TellsBy (with_count told.new told.old) (with_place told.new (with_count told.new told.old)) told.new result }
+    ensures place { result ≢ BAD_SAVE → told.new.place ≡ told.old.place }
     ensures stopped { result ≢ pos 0 → Stopped (StopsLoad open.old.fields bytes.now told.new.place
         (StopsOperation open.old.attribute open.new.attribute
         (IsNextLoaded bytes.now open.old.attribute.operations open.new.attribute.operations) S.ledger))
@@ -252,7 +285,8 @@ fn load_told<const OFFSET_BITS: u32, S: Store<OFFSET_BITS, Layout = AttrLayout>>
         open.old.attribute.committed_operations open.new.attribute.committed_operations }
     ensures fields { open.new.fields ≡ open.old.fields }
     ensures dense { open.new.attribute.dense ≡ open.old.attribute.dense }
-    ensures home { (S.ledger open.new.attribute.store).work.home ≡ (S.ledger open.old.attribute.store).work.home }
+    ensures keeps { KeepsStore (S.ledger open.old.attribute.store) (S.ledger open.new.attribute.store) }
+    ensures made { NotByStore result → MakesFrom open.old.attribute open.new.attribute S.ledger }
 {
     let before = open.attribute.operations();
     let came = load(alloc, open, bytes, told);
@@ -273,8 +307,9 @@ pub extern "C" fn attr_load(
     ensures front { result ≢ pos 0 → LoadsFront (fields_of at.old.value) bytes.now (table_of at.old.value) (table_of at.new.value)
         (operations_of at.old.value) (operations_of at.new.value) }
     ensures count { operations_of at.new.value ≡ operations_of at.old.value + told.new.operations }
-    ensures skipped { told.new.skipped ≡ 0 }
     ensures counts { result ≡ pos 0 → open_counts at.new.value.open ≡ open_counts at.old.value.open }
+    ensures tells { TellsBy (with_count told.new no_told) (with_place told.new (with_count told.new no_told)) told.new result }
+    ensures place { result ≢ BAD_SAVE → told.new.place ≡ 0 }
     ensures stopped { result ≢ pos 0 → Stopped (StopsLoad (fields_of at.old.value) bytes.now told.new.place
         (StopsOpen at.old.value.open at.new.value.open (IsNextLoaded bytes.now (operations_of at.old.value) (operations_of at.new.value))))
         (open_counts at.old.value.open) (open_counts at.new.value.open) told.new result }
@@ -284,6 +319,8 @@ pub extern "C" fn attr_load(
     ensures fields { fields_of at.new.value ≡ fields_of at.old.value }
     ensures dense { dense_of at.new.value ≡ dense_of at.old.value }
     ensures home { home_of at.new.value ≡ home_of at.old.value }
+    ensures store { KeepsStore (open_ledger at.old.value.open) (open_ledger at.new.value.open) }
+    ensures made { NotByStore result → MakesOpen at.old.value.open at.new.value.open }
 {
     *told = no_told();
     let engine = at.get_mut();

@@ -1,6 +1,7 @@
 //! What was answered, copied out.
 ghost use Rattle.std.specs.Prelude.{◌≡◌, ◌≢◌, pos, Some, None, option_map, slice_get};
-ghost use Rattle.attr_c.specs.Copies.{item_told, text_in, Copies};
+ghost use Rattle.attr_c.specs.Copies.{item_told, no_item, text_in, Copies};
+ghost use Rattle.attr_c.specs.declared.codes.TheConstants.{BOUNDS, OK};
 
 use crate::codes::{BOUNDS, OK};
 use crate::told::ItemTold;
@@ -41,17 +42,33 @@ fn told_item(item: &Item) -> ItemTold
     }
 }
 
-/// Tells the item of a number, from 0.
+fn no_item() -> ItemTold
+    ensures { result ≡ no_item }
+{
+    ItemTold {
+        number: 0,
+        length: 0,
+        weight: 0,
+        is_text: 0,
+    }
+}
+
+/// Tells the item of a number, from 0. If there is none, all that is told is 0.
 pub fn item_at(items: &[Item], number: usize, told: &mut ItemTold) -> i32
     ensures there { result ≡ pos 0 → option_map item_told (slice_get items.now number) ≡ Some told.new }
     ensures none { result ≢ pos 0 → slice_get items.now number ≡ None }
+    ensures bounds { result ≢ OK → result ≡ BOUNDS }
+    ensures zeros { result ≢ OK → told.new ≡ no_item }
 {
     match items.get(number) {
         Some(item) => {
             *told = told_item(item);
             OK
         }
-        None => BOUNDS,
+        None => {
+            *told = no_item();
+            BOUNDS
+        }
     }
 }
 

@@ -6,7 +6,9 @@ ghost use Rattle.feed_reader.specs.Lines.{lines_of};
 ghost use Rattle.attribute_kinds.specs.Calls.{applied_to, KeepsStore};
 ghost use Rattle.attr_c.specs.Feeding.{skips_of, FedLine, FedTo, Feeds, IsOfNoLine, IsOpOf, Stays};
 ghost use Rattle.attr_c.specs.Feeding.{IfLine, IsFirstOp, IsLineBetween, RefusesLine};
+ghost use Rattle.attr_c.specs.Making.{MakesFrom, UnlessRefused};
 ghost use Rattle.attr_c.specs.Stops.{LineOr, StopsOperation};
+ghost use Rattle.attr_c.specs.Telling.{with_line};
 
 use crate::line::operation_in;
 use crate::split::split_line;
@@ -33,6 +35,7 @@ pub fn apply<const OFFSET_BITS: u32, S: Store<OFFSET_BITS, Layout = AttrLayout>>
     ensures few { OnOk result (open.new.attribute.operations < 2 ^ 32) }
     ensures kind { IfErr result IsOfNoLine }
     ensures why { IfErr result (StopsOperation open.old.attribute open.new.attribute (λ next. next ≡ op.now) S.ledger) }
+    ensures made { UnlessRefused result (MakesFrom open.old.attribute open.new.attribute S.ledger) }
     ensures pool { open.new.pool ≡ open.old.pool }
     ensures counts { open.new.counts ≡ open.old.counts }
     ensures commit { Stays open.old.attribute.committed open.new.attribute.committed
@@ -61,6 +64,7 @@ fn feed_line<const OFFSET_BITS: u32, S: Store<OFFSET_BITS, Layout = AttrLayout>>
         open.old.attribute.operations open.new.attribute.operations result }
     ensures few { IfOk result (λ applied. IfSome applied (λ _. open.new.attribute.operations < 2 ^ 32)) }
     ensures why { IfErr result (LineOr (StopsOperation open.old.attribute open.new.attribute (IsOpOf open.old.fields line.now) S.ledger)) }
+    ensures made { UnlessRefused result (MakesFrom open.old.attribute open.new.attribute S.ledger) }
     ensures pool { open.new.pool ≡ open.old.pool }
     ensures counts { open.new.counts ≡ open.old.counts }
     ensures commit { Stays open.old.attribute.committed open.new.attribute.committed
@@ -103,17 +107,20 @@ pub fn feed<const OFFSET_BITS: u32, S: Store<OFFSET_BITS, Layout = AttrLayout>>(
     ensures front { OnErr result (FedTo open.old.fields bytes.now told.new.line (drop told.new.place bytes.now)
         open.old.attribute.table open.new.attribute.table open.old.attribute.operations open.new.attribute.operations
         told.new.skipped) }
+    ensures tells { OnOk result (told.new ≡ record told.old { skipped = told.new.skipped }) }
+    ensures tells_line { OnErr result (told.new ≡ with_line told.new (record told.old { skipped = told.new.skipped })) }
     ensures next { OnErr result (IsLineBetween bytes.now told.new.place told.new.next) }
     ensures refused { IfErr result (IfLine (RefusesLine open.old.fields bytes.now told.new.line (drop told.new.place bytes.now))) }
     ensures why { IfErr result (LineOr (StopsOperation open.old.attribute open.new.attribute
         (IsFirstOp open.old.fields (drop told.new.place bytes.now)) S.ledger)) }
+    ensures made { UnlessRefused result (MakesFrom open.old.attribute open.new.attribute S.ledger) }
     ensures pool { open.new.pool ≡ open.old.pool }
     ensures counts { open.new.counts ≡ open.old.counts }
     ensures commit { Stays open.old.attribute.committed open.new.attribute.committed
         open.old.attribute.committed_operations open.new.attribute.committed_operations }
     ensures fields { open.new.fields ≡ open.old.fields }
     ensures dense { open.new.attribute.dense ≡ open.old.attribute.dense }
-    ensures home { (S.ledger open.new.attribute.store).work.home ≡ (S.ledger open.old.attribute.store).work.home }
+    ensures keeps { KeepsStore (S.ledger open.old.attribute.store) (S.ledger open.new.attribute.store) }
 {
     let mut rest = bytes;
     let mut passed: u64 = 0;

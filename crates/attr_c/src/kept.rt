@@ -30,7 +30,7 @@ impl<const OFFSET_BITS: u32> Model for Kept<OFFSET_BITS> {
 
     ghost Value = { KeptView };
 
-    ghost view = { λ k. record { fields = k.fields; reader = reader_of k.guard.place.me.0 } };
+    ghost view = { λ k. record { fields = k.fields; home = k.guard.place.table_id; reader = reader_of k.guard.place.me.0 } };
 
     ghost invariant = { λ k. IsKept k.fields (reader_of k.guard.place.me.0) };
 }
@@ -39,6 +39,7 @@ impl<const OFFSET_BITS: u32> Kept<OFFSET_BITS> {
     /// Takes a guard of the last commit.
     pub fn new(waiting: Waiting<OFFSET_BITS>) -> Kept<OFFSET_BITS>
         ensures fields { result.fields ≡ waiting.entry.fields }
+        ensures home { result.home ≡ waiting.entry.reader.place.table_id }
         ensures guard { IsGuardOf (reader_of waiting.entry.reader.place.me.0) result.reader }
     {
         let Waiting { fields, reader } = waiting;
@@ -49,6 +50,7 @@ impl<const OFFSET_BITS: u32> Kept<OFFSET_BITS> {
     /// Releases the guard.
     pub fn release(self) -> Waiting<OFFSET_BITS>
         ensures fields { result.fields ≡ self.entry.fields }
+        ensures home { result.reader.place.table_id ≡ self.entry.home }
         ensures idle { reader_of result.reader.place.me.0 ≡ released self.entry.reader }
     {
         let Kept { fields, guard } = self;

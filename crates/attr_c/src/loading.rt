@@ -7,8 +7,10 @@ ghost use Rattle.attr_types.specs.Lawful.{OpFits};
 ghost use Rattle.attr_types.specs.Table.{after_op};
 ghost use Rattle.attr_c.specs.Feeding.{Stays};
 ghost use Rattle.attribute_kinds.specs.Calls.{KeepsStore};
+ghost use Rattle.attr_c.specs.Making.{MakesFrom, UnlessRefused};
 ghost use Rattle.attr_c.specs.Stops.{StopsOperation};
-ghost use Rattle.attr_c.specs.Loading.{put_of, IsNextPut, IsSaveOf, PutsFront, PutsIn, RefusesSave};
+ghost use Rattle.attr_c.specs.Telling.{with_place};
+ghost use Rattle.attr_c.specs.Loading.{put_of, IsNextPut, IsSaveOf, PutsFront, PutsIn, RefusesSave, TellsPlaceOf};
 ghost use Rattle.attr_c.specs.Loading.{IsNextLoaded, LoadsFront, LoadsSave, StopsLoad};
 
 use crate::feeding::apply;
@@ -61,6 +63,7 @@ fn put_document<const OFFSET_BITS: u32, S: Store<OFFSET_BITS, Layout = AttrLayou
     ensures left { OnErr result (Stays open.old.attribute.table open.new.attribute.table
         open.old.attribute.operations open.new.attribute.operations) }
     ensures why { IfErr result (StopsOperation open.old.attribute open.new.attribute (λ next. next ≡ put_of document) S.ledger) }
+    ensures made { UnlessRefused result (MakesFrom open.old.attribute open.new.attribute S.ledger) }
     ensures pool { open.new.pool ≡ open.old.pool }
     ensures counts { open.new.counts ≡ open.old.counts }
     ensures commit { Stays open.old.attribute.committed open.new.attribute.committed
@@ -91,13 +94,14 @@ fn put_all<const OFFSET_BITS: u32, S: Store<OFFSET_BITS, Layout = AttrLayout>>(
         open.old.attribute.operations open.new.attribute.operations) }
     ensures why { IfErr result (StopsOperation open.old.attribute open.new.attribute
         (IsNextPut documents.items open.old.attribute.operations open.new.attribute.operations) S.ledger) }
+    ensures made { UnlessRefused result (MakesFrom open.old.attribute open.new.attribute S.ledger) }
     ensures pool { open.new.pool ≡ open.old.pool }
     ensures counts { open.new.counts ≡ open.old.counts }
     ensures commit { Stays open.old.attribute.committed open.new.attribute.committed
         open.old.attribute.committed_operations open.new.attribute.committed_operations }
     ensures fields { open.new.fields ≡ open.old.fields }
     ensures dense { open.new.attribute.dense ≡ open.old.attribute.dense }
-    ensures home { (S.ledger open.new.attribute.store).work.home ≡ (S.ledger open.old.attribute.store).work.home }
+    ensures keeps { KeepsStore (S.ledger open.old.attribute.store) (S.ledger open.new.attribute.store) }
 {
     for document in documents {
         match put_document(alloc, open, document) {
@@ -113,7 +117,9 @@ fn saved_in(alloc: Global, bytes: &[u8], told: &mut Told) -> Result<Saved, Stop>
     ensures saved { IfOk result (λ saved. read_of bytes.now ≡ Ok saved) }
     ensures lawful { IfOk result IsLawfulSaved }
     ensures why { IfErr result (RefusesSave bytes.now told.new.place) }
-    ensures skipped { told.new.skipped ≡ told.old.skipped }
+    ensures tells { OnOk result (told.new ≡ told.old) }
+    ensures tells_place { told.new ≡ with_place told.new told.old }
+    ensures place { IfErr result (TellsPlaceOf told.old told.new) }
 {
     match read_saved(alloc, &mut SliceSource::new(bytes)) {
         Ok(saved) => Ok(saved),
@@ -140,14 +146,17 @@ pub fn load<const OFFSET_BITS: u32, S: Store<OFFSET_BITS, Layout = AttrLayout>>(
     ensures why { IfErr result (StopsLoad open.old.fields bytes.now told.new.place
         (StopsOperation open.old.attribute open.new.attribute
         (IsNextLoaded bytes.now open.old.attribute.operations open.new.attribute.operations) S.ledger)) }
+    ensures made { UnlessRefused result (MakesFrom open.old.attribute open.new.attribute S.ledger) }
     ensures pool { open.new.pool ≡ open.old.pool }
     ensures counts { open.new.counts ≡ open.old.counts }
-    ensures skipped { told.new.skipped ≡ told.old.skipped }
+    ensures tells { OnOk result (told.new ≡ told.old) }
+    ensures tells_place { told.new ≡ with_place told.new told.old }
+    ensures place { IfErr result (TellsPlaceOf told.old told.new) }
     ensures commit { Stays open.old.attribute.committed open.new.attribute.committed
         open.old.attribute.committed_operations open.new.attribute.committed_operations }
     ensures fields { open.new.fields ≡ open.old.fields }
     ensures dense { open.new.attribute.dense ≡ open.old.attribute.dense }
-    ensures home { (S.ledger open.new.attribute.store).work.home ≡ (S.ledger open.old.attribute.store).work.home }
+    ensures keeps { KeepsStore (S.ledger open.old.attribute.store) (S.ledger open.new.attribute.store) }
 {
     let saved = match saved_in(alloc, bytes, told) {
         Ok(saved) => saved,

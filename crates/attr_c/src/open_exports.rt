@@ -1,9 +1,9 @@
 //! What C calls to open, to close, and to hand readers out.
-ghost use Rattle.std.specs.Prelude.{◌≡◌, ◌≢◌, [], ◌∷◌, ◌++◌, Err, IfErr, IfNone, IfOk, IfSome, None};
+ghost use Rattle.std.specs.Prelude.{◌≡◌, ◌≢◌, [], ◌∷◌, ◌++◌, Err, IfErr, IfNone, IfOk, IfSome, None, OnOk};
 ghost use Rattle.std.specs.Str.{IsUtf8};
 ghost use Rattle.word_arena.specs.Ruled.{reader_of};
 ghost use Rattle.attr_c.specs.Attributes.{fields_in};
-ghost use Rattle.attr_c.specs.Engines.{open_counts, KeepsTables, KeepsWaiting};
+ghost use Rattle.attr_c.specs.Engines.{open_counts, KeepsAttributes, KeepsTables, KeepsWaiting};
 ghost use Rattle.attr_c.specs.Opening.{InBounds, Opens, OpensEngine, RefusesOpening};
 ghost use Rattle.attr_c.specs.Seats.{HasNoReader, IsForeign, IsReaderOf, OpensSeat, TakesBack, TakesReader};
 ghost use Rattle.attr_c.specs.declared.codes.TheConstants.{ATTRIBUTES, BOUNDS, LOST, MEMORY, NO_READER, NO_TEXT, OK};
@@ -39,6 +39,8 @@ fn engine_of(alloc: Global, opened: AnyOpen) -> Result<Box<Engine>, i32>
 fn new_engine(alloc: Global, text: &str, sizes: &Sizes, place: &mut u64) -> Result<Box<Engine>, i32>
     ensures made { IfOk result (λ engine. Opens text.now sizes.now engine.value) }
     ensures refused { IfErr result (RefusesOpening text.now sizes.now place.new) }
+    ensures no_place { OnOk result (place.new ≡ place.old) }
+    ensures place { IfErr result (λ code. code ≢ ATTRIBUTES → code ≢ MEMORY → place.new ≡ place.old) }
 {
     let fields = match fields_in(alloc, text) {
         Ok(fields) => fields,
@@ -69,6 +71,7 @@ pub extern "C" fn attr_open(
     ensures text { result ≢ NO_TEXT → IsUtf8 attributes.now }
     ensures no_text { result ≡ NO_TEXT → IsUtf8 attributes.now → ⊥ }
     ensures broken { result ≡ ATTRIBUTES → fields_in attributes.now ≡ Err place.new }
+    ensures place { result ≢ ATTRIBUTES → result ≢ MEMORY → place.new ≡ 0 }
     ensures bounds { result ≡ BOUNDS → InBounds sizes.now → ⊥ }
     ensures others { result ≢ OK → result ≢ NO_TEXT → result ≢ ATTRIBUTES → result ≢ BOUNDS → result ≡ MEMORY }
 {
@@ -97,6 +100,7 @@ fn next_reader(open: &mut AnyOpen) -> Option<AnyReader>
     ensures none { IfNone result (HasNoReader open.old) }
     ensures left { IfNone result (open.new ≡ open.old) }
     ensures keeps { KeepsTables open.old open.new }
+    ensures same { KeepsAttributes open.old open.new }
     ensures counts { open_counts open.new ≡ open_counts open.old }
 {
     match open {
@@ -146,6 +150,7 @@ fn put_back(open: &mut AnyOpen, reader: AnyReader) -> i32
     ensures others { result ≢ OK → result ≢ LOST → result ≡ MEMORY }
     ensures left { result ≢ OK → KeepsWaiting open.old open.new }
     ensures keeps { KeepsTables open.old open.new }
+    ensures same { KeepsAttributes open.old open.new }
     ensures counts { open_counts open.new ≡ open_counts open.old }
 {
     match (open, reader) {
@@ -165,6 +170,7 @@ pub extern "C" fn attr_reader_open(alloc: Global, at: &mut HeldEngine, out: &mut
     ensures others { result ≢ OK → result ≢ NO_READER → result ≡ MEMORY }
     ensures kept { result ≢ OK → at.new.value ≡ at.old.value }
     ensures keeps { KeepsTables at.old.value.open at.new.value.open }
+    ensures same { KeepsAttributes at.old.value.open at.new.value.open }
     ensures counts { open_counts at.new.value.open ≡ open_counts at.old.value.open }
 {
     let Ok(mut seat) = Box::new(alloc, may_cross(Seat::new(alloc))) else {
@@ -199,6 +205,7 @@ pub extern "C" fn attr_reader_return(alloc: Global, at: &mut HeldEngine, seat: H
     ensures others { result ≢ OK → result ≢ LOST → result ≡ MEMORY }
     ensures left { result ≢ OK → KeepsWaiting at.old.value.open at.new.value.open }
     ensures keeps { KeepsTables at.old.value.open at.new.value.open }
+    ensures same { KeepsAttributes at.old.value.open at.new.value.open }
     ensures counts { open_counts at.new.value.open ≡ open_counts at.old.value.open }
 {
     let reader = reader_in(alloc, seat);

@@ -8,8 +8,9 @@ ghost use Rattle.arena_api.specs.Calls.{IsFresh};
 ghost use Rattle.word_arena.specs.Knows.{core_sizes, view_of};
 ghost use Rattle.word_arena.specs.Ruled.{api_sizes, writer_of};
 ghost use Rattle.attr_c.specs.Engines.{AreNewCounts, HasNothing, HasOwnReaders, IsOpened, open_counts, open_dense, open_waiting};
-ghost use Rattle.attr_c.specs.Opening.{InBounds};
-ghost use Rattle.attr_c.specs.Stores.{HasMemory, open_memory};
+ghost use Rattle.attr_c.specs.Opening.{bits_for, InBounds};
+ghost use Rattle.attr_c.specs.Stores.{HasMemory, open_bits, open_ledger, open_memory};
+ghost use Rattle.word_arena.specs.declared.config.TheConstants.{MOST_COMMITS, MOST_GENERATIONS};
 
 use crate::state::{AnyOpen, Counts, Open, Waiting};
 use crate::told::Sizes;
@@ -87,6 +88,7 @@ fn waiting<const OFFSET_BITS: u32>(
     ensures fresh { IsFresh (view_of writer.new.place.table_id (writer_of writer.new.place.me.0)) }
     ensures sizes { (writer_of writer.new.place.me.0).sizes ≡ (writer_of writer.old.place.me.0).sizes }
     ensures readers { IfOk result (λ pool. length pool.items ≡ readers) }
+    ensures made { IfOk result (λ pool. (writer_of writer.new.place.me.0).made ≡ readers) }
     ensures table { writer.new.place.table_id ≡ writer.old.place.table_id }
     ensures own { IfOk result (λ pool. AllByRecursion (λ w. (w.fields ≡ fields.now)
         × (w.reader.place.table_id ≡ writer.old.place.table_id)) pool.items) }
@@ -153,7 +155,8 @@ fn config_of(fields: &Fields, sizes: &Sizes) -> Config
     ensures buffers { result.buffers ≡ sizes.now.buffers }
     ensures words { result.words ≡ sizes.now.words }
     ensures shape { result.shape ≡ shape_of (types_of fields.now) }
-    ensures generations { result.limits.generations < 2 ^ 48 }
+    ensures commits { result.limits.commits ≡ MOST_COMMITS }
+    ensures generations { result.limits.generations ≡ MOST_GENERATIONS }
 {
     Config {
         buffers: sizes.buffers,
@@ -215,6 +218,9 @@ fn opened_over<const OFFSET_BITS: u32>(
     requires none_made { (writer_of writer.place.me.0).made ≡ 0 }
     ensures fields { IfOk result (λ o. o.fields ≡ fields) }
     ensures readers { IfOk result (λ o. length o.pool.items ≡ sizes.now.readers) }
+    ensures made { IfOk result (λ o.
+        (⟦<EntryStore<OFFSET_BITS, Writer<OFFSET_BITS, AttrLayout>> as Store<OFFSET_BITS>>⟧.ledger o.attribute.store).work.made
+        ≡ sizes.now.readers) }
     ensures own { IfOk result (λ o. AllByRecursion (λ w. (w.fields ≡ o.fields) × (w.reader.place.table_id
         ≡ (⟦<EntryStore<OFFSET_BITS, Writer<OFFSET_BITS, AttrLayout>> as Store<OFFSET_BITS>>⟧.ledger o.attribute.store).work.home))
         o.pool.items) }
@@ -225,6 +231,9 @@ fn opened_over<const OFFSET_BITS: u32>(
     ensures memory { IfOk result (λ o.
         (⟦<EntryStore<OFFSET_BITS, Writer<OFFSET_BITS, AttrLayout>> as Store<OFFSET_BITS>>⟧.ledger o.attribute.store).work.sizes
         ≡ api_sizes (writer_of writer.entry.place.me.0).sizes) }
+    ensures no_commit { IfOk result (λ o.
+        (⟦<EntryStore<OFFSET_BITS, Writer<OFFSET_BITS, AttrLayout>> as Store<OFFSET_BITS>>⟧.ledger o.attribute.store).work.commits.last
+        ≡ 0) }
 {
     let mut writer = writer;
     let pool = match waiting(alloc, &mut writer, &fields, sizes.readers) {
@@ -261,10 +270,13 @@ fn narrow_open(
     requires few_readers { sizes.now.readers ≤ 64 }
     ensures opened { IfOk result (IsOpened fields) }
     ensures readers { IfOk result (λ o. open_waiting o ≡ sizes.now.readers) }
+    ensures made { IfOk result (λ o. (open_ledger o).work.made ≡ sizes.now.readers) }
     ensures own { IfOk result HasOwnReaders }
     ensures dense { IfOk result (λ o. open_dense o ≡ not (nat_eq sizes.now.dense 0)) }
     ensures counts { IfOk result (λ o. AreNewCounts sizes.now (open_counts o)) }
-    ensures memory { IfOk result (λ o. HasMemory config.buffers config.words (open_memory o)) }
+    ensures memory { IfOk result (λ o. HasMemory config.buffers config.words config.limits.commits config.limits.generations
+        (open_memory o)) }
+    ensures bits { IfOk result (λ o. open_bits o ≡ 22) }
 {
     match narrow_writer(alloc, config) {
         Ok(writer) => match opened_over(alloc, writer, fields, sizes) {
@@ -294,10 +306,13 @@ fn wide_open(
     requires few_readers { sizes.now.readers ≤ 64 }
     ensures opened { IfOk result (IsOpened fields) }
     ensures readers { IfOk result (λ o. open_waiting o ≡ sizes.now.readers) }
+    ensures made { IfOk result (λ o. (open_ledger o).work.made ≡ sizes.now.readers) }
     ensures own { IfOk result HasOwnReaders }
     ensures dense { IfOk result (λ o. open_dense o ≡ not (nat_eq sizes.now.dense 0)) }
     ensures counts { IfOk result (λ o. AreNewCounts sizes.now (open_counts o)) }
-    ensures memory { IfOk result (λ o. HasMemory config.buffers config.words (open_memory o)) }
+    ensures memory { IfOk result (λ o. HasMemory config.buffers config.words config.limits.commits config.limits.generations
+        (open_memory o)) }
+    ensures bits { IfOk result (λ o. open_bits o ≡ 19) }
 {
     match wide_writer(alloc, config) {
         Ok(writer) => match opened_over(alloc, writer, fields, sizes) {
@@ -337,10 +352,12 @@ fn opened_within(alloc: Global, fields: Fields, sizes: &Sizes) -> Result<AnyOpen
     requires bounds { InBounds sizes.now }
     ensures opened { IfOk result (IsOpened fields) }
     ensures readers { IfOk result (λ o. open_waiting o ≡ sizes.now.readers) }
+    ensures made { IfOk result (λ o. (open_ledger o).work.made ≡ sizes.now.readers) }
     ensures own { IfOk result HasOwnReaders }
     ensures dense { IfOk result (λ o. open_dense o ≡ not (nat_eq sizes.now.dense 0)) }
     ensures counts { IfOk result (λ o. AreNewCounts sizes.now (open_counts o)) }
-    ensures memory { IfOk result (λ o. HasMemory sizes.now.buffers sizes.now.words (open_memory o)) }
+    ensures memory { IfOk result (λ o. HasMemory sizes.now.buffers sizes.now.words MOST_COMMITS MOST_GENERATIONS (open_memory o)) }
+    ensures bits { IfOk result (λ o. open_bits o ≡ bits_for sizes.now) }
 {
     let config = config_of(&fields, sizes);
     if sizes.wide == 0 {
@@ -361,10 +378,13 @@ pub fn opened_in_bounds(
     requires few { length fields ≤ MOST_FIELDS }
     ensures opened { IfOk result (λ found. IfSome found (IsOpened fields)) }
     ensures readers { IfOk result (λ found. IfSome found (λ o. open_waiting o ≡ sizes.now.readers)) }
+    ensures made { IfOk result (λ found. IfSome found (λ o. (open_ledger o).work.made ≡ sizes.now.readers)) }
     ensures own { IfOk result (λ found. IfSome found HasOwnReaders) }
     ensures dense { IfOk result (λ found. IfSome found (λ o. open_dense o ≡ not (nat_eq sizes.now.dense 0))) }
     ensures counts { IfOk result (λ found. IfSome found (λ o. AreNewCounts sizes.now (open_counts o))) }
-    ensures memory { IfOk result (λ found. IfSome found (λ o. HasMemory sizes.now.buffers sizes.now.words (open_memory o))) }
+    ensures memory { IfOk result (λ found. IfSome found (λ o. HasMemory sizes.now.buffers sizes.now.words MOST_COMMITS
+        MOST_GENERATIONS (open_memory o))) }
+    ensures bits { IfOk result (λ found. IfSome found (λ o. open_bits o ≡ bits_for sizes.now)) }
     ensures bounds { IfOk result (λ found. IfSome found (λ _. InBounds sizes.now)) }
     ensures refused { IfOk result (λ found. IfNone found (InBounds sizes.now → ⊥)) }
 {

@@ -1,10 +1,11 @@
 //! What C calls with a reader's handle.
 ghost use Rattle.std.specs.Prelude.{◌≡◌, ◌≢◌, pos, Some, None, option_map, slice_get, IfErr, IfOk};
 ghost use Rattle.std.specs.Str.{IsUtf8};
-ghost use Rattle.attr_c.specs.Copies.{documents_of, item_told, scores_told, text_in, Copies};
+ghost use Rattle.attr_c.specs.Copies.{documents_of, item_told, no_item, scores_told, text_in, Copies};
 ghost use Rattle.attr_c.specs.Refusals.{IsInBounds, RefusesItems, RefusesText};
 ghost use Rattle.attr_c.specs.Seats.{AnswersText, ByGuardOf, CountsText, HoldsGuard, ReadsItems, ReleasesGuard, SavesTable};
-ghost use Rattle.attr_c.specs.declared.codes.TheConstants.{LOST, MEMORY, NO_TEXT, OK};
+ghost use Rattle.attr_c.specs.Telling.{code_in, no_answer, AnswersBy};
+ghost use Rattle.attr_c.specs.declared.codes.TheConstants.{BOUNDS, LOST, MEMORY, NO_TEXT, OK};
 
 use crate::answer::{Answer, copy_hits, copy_scores};
 use crate::asking::{answer_any, items_any, save_any, tell_any};
@@ -15,7 +16,9 @@ use crate::seat::{Place, Seat, kept_of, left, reader_of};
 use crate::told::{Answered, ItemTold, Scored};
 use std::alloc::Global;
 
-fn no_answer() -> Answered {
+fn no_answer() -> Answered
+    ensures { result ≡ no_answer }
+{
     Answered {
         commit: 0,
         operations: 0,
@@ -28,6 +31,8 @@ fn no_answer() -> Answered {
 #[unsafe(no_mangle)]
 pub extern "C" fn attr_hold(at: &mut HeldSeat, told: &mut Answered) -> i32
     ensures holds { result ≡ OK → HoldsGuard at.old.value.place at.new.value.place told.new }
+    ensures by { AnswersBy no_answer told.new result }
+    ensures no_count { told.new.count ≡ 0 }
     ensures lost { result ≢ OK → result ≡ LOST }
     ensures none { result ≢ OK → at.old.value.place ≡ None }
     ensures left { result ≢ OK → at.new.value ≡ at.old.value }
@@ -74,6 +79,7 @@ fn answer_in(
 ) -> Result<Answer, i32>
     ensures answers { IfOk result (λ answer. ByGuardOf seat.old.place seat.new.place
         (λ guard. AnswersText guard text.now told.new answer)) }
+    ensures by { AnswersBy told.old told.new (code_in result) }
     ensures keeps { seat.new.answer ≡ seat.old.answer }
     ensures items { seat.new.items ≡ seat.old.items }
     ensures saved { seat.new.saved ≡ seat.old.saved }
@@ -111,6 +117,7 @@ pub extern "C" fn attr_ask(
         (λ guard. AnswersText guard text.now told.new at.new.value.answer) }
     ensures text { result ≢ NO_TEXT → IsUtf8 text.now }
     ensures no_text { result ≡ NO_TEXT → IsUtf8 text.now → ⊥ }
+    ensures by { AnswersBy no_answer told.new result }
     ensures lost { result ≡ LOST → at.old.value.place ≡ None }
     ensures refused { result ≢ OK → result ≢ NO_TEXT → result ≢ LOST → ByGuardOf at.old.value.place at.new.value.place
         (λ guard. RefusesText guard.fields text.now told.new result) }
@@ -142,6 +149,7 @@ pub extern "C" fn attr_count(
     ensures counts { result ≡ OK → ByGuardOf at.old.value.place at.new.value.place (λ guard. CountsText guard text.now told.new) }
     ensures text { result ≢ NO_TEXT → IsUtf8 text.now }
     ensures no_text { result ≡ NO_TEXT → IsUtf8 text.now → ⊥ }
+    ensures by { AnswersBy no_answer told.new result }
     ensures lost { result ≡ LOST → at.old.value.place ≡ None }
     ensures refused { result ≢ OK → result ≢ NO_TEXT → result ≢ LOST → ByGuardOf at.old.value.place at.new.value.place
         (λ guard. RefusesText guard.fields text.now told.new result) }
@@ -188,9 +196,10 @@ pub extern "C" fn attr_items(
     ensures reads { result ≡ OK → ByGuardOf at.old.value.place at.new.value.place
         (λ guard. ReadsItems guard doc field told.new at.new.value.items) }
     ensures within { result ≡ OK → ByGuardOf at.old.value.place at.new.value.place (λ guard. IsInBounds guard.fields doc field) }
+    ensures by { AnswersBy no_answer told.new result }
     ensures lost { result ≡ LOST → at.old.value.place ≡ None }
     ensures refused { result ≢ OK → result ≢ LOST → ByGuardOf at.old.value.place at.new.value.place
-        (λ guard. RefusesItems guard doc field result) }
+        (λ guard. RefusesItems guard doc field told.new result) }
     ensures left { result ≡ LOST → at.new.value ≡ at.old.value }
     ensures answer { at.new.value.answer ≡ at.old.value.answer }
     ensures items { result ≢ OK → at.new.value.items ≡ at.old.value.items }
@@ -213,11 +222,13 @@ pub extern "C" fn attr_items(
     }
 }
 
-/// Tells an item of those that were read last.
+/// Tells an item of those that were read last. If there is no item of that number, all that is told is 0.
 #[unsafe(no_mangle)]
 pub extern "C" fn attr_item(at: &mut HeldSeat, number: usize, told: &mut ItemTold) -> i32
     ensures there { result ≡ pos 0 → option_map item_told (slice_get at.old.value.items number) ≡ Some told.new }
     ensures none { result ≢ pos 0 → slice_get at.old.value.items number ≡ None }
+    ensures bounds { result ≢ OK → result ≡ BOUNDS }
+    ensures zeros { result ≢ OK → told.new ≡ no_item }
     ensures same { at.new.value ≡ at.old.value }
 {
     item_at(at.get_mut().items.as_slice(), number, told)
@@ -237,6 +248,7 @@ pub extern "C" fn attr_item_text(at: &mut HeldSeat, number: usize, into: &mut [u
 pub extern "C" fn attr_save(alloc: Global, at: &mut HeldSeat, told: &mut Answered) -> i32
     ensures saves { result ≡ OK → ByGuardOf at.old.value.place at.new.value.place
         (λ guard. SavesTable guard told.new at.new.value.saved.items) }
+    ensures by { AnswersBy no_answer told.new result }
     ensures lost { result ≡ LOST → at.old.value.place ≡ None }
     ensures refused { result ≢ OK → result ≢ LOST → ByGuardOf at.old.value.place at.new.value.place (λ guard. result ≡ MEMORY) }
     ensures left { result ≡ LOST → at.new.value ≡ at.old.value }

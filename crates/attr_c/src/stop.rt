@@ -2,6 +2,7 @@
 ghost use Rattle.std.specs.Prelude.{◌≡◌, ◌≢◌, pos, slice_index};
 ghost use Rattle.attr_c.specs.Holds.{with_hold, with_oldest};
 ghost use Rattle.attr_c.specs.Stops.{line_code, noted_error, store_code, EndsBy, TellsError};
+ghost use Rattle.attr_c.specs.Telling.{TellsBy};
 
 use crate::codes::{
     BAD_ID, BAD_SAVE, BAD_VALUE, COMMITS_SPENT, FULL, LINE_TOO_LONG, MEMORY, NO_OPERATION,
@@ -81,13 +82,15 @@ fn store_code(counts: &mut Counts, error: AttrError, told: &mut Told) -> i32
     ensures code { result ≡ store_code error }
     ensures failed { result ≢ pos 0 }
     ensures counts { counts.new ≡ noted_error error counts.old }
-    ensures tells { TellsError error counts.new told.new }
+    ensures error { TellsError error counts.new told.new }
+    ensures tells { TellsBy told.old told.old told.new result }
     ensures line { told.new.line ≡ told.old.line }
     ensures place { told.new.place ≡ told.old.place }
     ensures next { told.new.next ≡ told.old.next }
     ensures operations { told.new.operations ≡ told.old.operations }
     ensures skipped { told.new.skipped ≡ told.old.skipped }
     ensures keys { told.new.keys ≡ told.old.keys }
+    ensures finished { told.new.finished ≡ told.old.finished }
 {
     match error {
         AttrError::Full {
@@ -112,9 +115,11 @@ fn store_code(counts: &mut Counts, error: AttrError, told: &mut Told) -> i32
 /// Returns the code of a stop, and writes its details.
 pub fn code_of(counts: &mut Counts, stop: Stop, told: &mut Told) -> i32
     ensures ends { EndsBy stop counts.old counts.new told.new result }
+    ensures tells { TellsBy told.old told.old told.new result }
     ensures failed { result ≢ pos 0 }
     ensures skipped { told.new.skipped ≡ told.old.skipped }
     ensures keys { told.new.keys ≡ told.old.keys }
+    ensures finished { told.new.finished ≡ told.old.finished }
     ensures line { told.new.line ≡ told.old.line }
     ensures place { told.new.place ≡ told.old.place }
     ensures next { told.new.next ≡ told.old.next }

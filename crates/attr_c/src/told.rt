@@ -37,7 +37,7 @@ pub struct Told {
     /// The earliest commit on which the oldest reader may stand, and whether there is such a reader.
     pub oldest: u32,
     pub is_held: u32,
-    /// For a step of a compaction: how many keys it visited, whether it emptied a buffer, and which.
+    /// For a step of a compaction: how many keys it visited (0 if it emptied a buffer), whether it emptied a buffer, and which.
     pub keys: u32,
     pub finished: u32,
     pub buffer: u32,

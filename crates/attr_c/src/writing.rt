@@ -1,8 +1,14 @@
 //! Commits, and steps of a compaction.
-ghost use Rattle.std.specs.Prelude.{◌≡◌, IfErr, OnOk, OnErr};
+ghost use Rattle.std.specs.Prelude.{◌≡◌, ◌+◌, ◌*◌, length, IfErr, OnOk, OnErr};
+ghost use Rattle.array_store.specs.Adding.{MakesOneOf};
+ghost use Rattle.attr_images.specs.Words.{class_of};
+ghost use Rattle.attribute_kinds.specs.Counts.{HasNoVectors};
+ghost use Rattle.compact_steps.specs.Counts.{MakesKeys};
 ghost use Rattle.attr_c.specs.Holds.{CommitsAs};
 ghost use Rattle.attr_c.specs.Compacting.{StepsAs, StopsStep};
 ghost use Rattle.attr_c.specs.Stops.{StopsCommit};
+ghost use Rattle.attr_c.specs.Telling.{with_committed, with_keys, with_step};
+ghost use Rattle.attribute_kinds.specs.Calls.{KeepsStore, KeepsStoreBut};
 ghost use Rattle.attribute_kinds.specs.Compacting.{CompactsTo, RefusesStep};
 
 use crate::state::Open;
@@ -23,6 +29,8 @@ pub fn commit<const OFFSET_BITS: u32, S: Store<OFFSET_BITS, Layout = AttrLayout>
     ensures counts { OnOk result (told.new.operations ≡ open.old.attribute.operations) }
     ensures commits { OnOk result (CommitsAs OFFSET_BITS (S.ledger open.old.attribute.store) (S.ledger open.new.attribute.store)
         open.old.counts open.new.counts told.new) }
+    ensures tells { OnOk result (told.new ≡ with_committed told.new told.old) }
+    ensures tells_none { OnErr result (told.new ≡ told.old) }
     ensures why { IfErr result (StopsCommit open.old.fields (S.ledger open.old.attribute.store) (S.ledger open.new.attribute.store)) }
     ensures still { OnErr result (open.new.counts ≡ open.old.counts) }
     ensures pool { open.new.pool ≡ open.old.pool }
@@ -33,6 +41,9 @@ pub fn commit<const OFFSET_BITS: u32, S: Store<OFFSET_BITS, Layout = AttrLayout>
     ensures fields { open.new.fields ≡ open.old.fields }
     ensures dense { open.new.attribute.dense ≡ open.old.attribute.dense }
     ensures home { (S.ledger open.new.attribute.store).work.home ≡ (S.ledger open.old.attribute.store).work.home }
+    ensures keeps { OnErr result (KeepsStore (S.ledger open.old.attribute.store) (S.ledger open.new.attribute.store)) }
+    ensures makes { MakesOneOf (class_of (1 + 2 * length open.old.fields)) (S.ledger open.old.attribute.store)
+        (S.ledger open.new.attribute.store) }
 {
     match open.attribute.commit() {
         Ok(info) => {
@@ -61,6 +72,8 @@ pub fn compact<const OFFSET_BITS: u32, S: Store<OFFSET_BITS, Layout = AttrLayout
         told.new) }
     ensures why { IfErr result (StopsStep (CompactsTo OFFSET_BITS S.ledger S.records open.old.attribute open.new.attribute keys)
         (RefusesStep OFFSET_BITS S.ledger S.records open.old.attribute open.new.attribute) told.new.keys) }
+    ensures tells { OnOk result (told.new ≡ with_step told.new told.old) }
+    ensures tells_keys { OnErr result (told.new ≡ with_keys told.new told.old) }
     ensures pool { open.new.pool ≡ open.old.pool }
     ensures counts { open.new.counts ≡ open.old.counts }
     ensures table { open.new.attribute.table ≡ open.old.attribute.table }
@@ -70,9 +83,13 @@ pub fn compact<const OFFSET_BITS: u32, S: Store<OFFSET_BITS, Layout = AttrLayout
     ensures fields { open.new.fields ≡ open.old.fields }
     ensures dense { open.new.attribute.dense ≡ open.old.attribute.dense }
     ensures home { (S.ledger open.new.attribute.store).work.home ≡ (S.ledger open.old.attribute.store).work.home }
+    ensures keeps { KeepsStoreBut (S.ledger open.old.attribute.store) (S.ledger open.new.attribute.store) }
+    ensures makes { MakesKeys (HasNoVectors open.old.attribute.dense open.old.attribute.table) open.old.fields
+        open.old.attribute.table (S.ledger open.old.attribute.store) (S.ledger open.new.attribute.store) keys }
 {
     told.keys = 0;
     told.finished = 0;
+    told.buffer = 0;
     match open.attribute.compact_step(alloc, keys) {
         Ok(Compacted::Idle) => Ok(()),
         Ok(Compacted::Moved { keys, stop: None }) => {

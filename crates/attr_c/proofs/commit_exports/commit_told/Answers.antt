@@ -1,7 +1,8 @@
-use Rattle.std.proofs.Common.{ℤ, ap, sym, ◌∙◌, w32, to_z, of_z}
+use Rattle.std.proofs.Common.{ℤ, ap, sym, ◌∙◌, w32, to_z, of_z, refl, subst}
 use Rattle.std.proofs.lemmas.Int.{to_z-of_z}
-use Rattle.attr_c.proofs.EndLemmas.{on_err_of, on_ok_of, stopped_as, stopped_of}
+use Rattle.attr_c.proofs.EndLemmas.{on_err_of, on_ok_of, stopped_as, stopped_of, tells_over}
 use Rattle.attr_c.specs.Stops.{StopsCommit}
+use Rattle.attr_c.specs.Telling.{with_committed, TellsBy}
 use Rattle.attr_c.proofs.commit_exports.commit_told.Goals as goal
 
 pub returns-clause-committed : goal.returns-clause-committed
@@ -43,3 +44,20 @@ returns-clause-stopped g c = λ not.
     stopped_as _ _ _ _ _ _ code
     (stopped_of (StopsCommit was.fields (ledger was.attribute.store) (ledger now.attribute.store)) c.commit-came.result was.counts _ c.ended.new.counts c.ended.new.told c.ended.result
     (on_err_of c.commit-came.result failed c.commit-came.ensures.still) failed c.commit-came.ensures.why c.ended.ensures.ends)
+
+pub returns-clause-keeps : goal.returns-clause-keeps
+returns-clause-keeps g c = λ not. on_err_of c.commit-came.result (c.ended.ensures.other (λ zero. not (ap (λ (z : ℤ). to_z w32 (of_z w32 z)) zero))) c.commit-came.ensures.keeps
+
+pub returns-clause-makes : goal.returns-clause-makes
+returns-clause-makes g c = c.commit-came.ensures.makes
+
+pub returns-clause-tells : goal.returns-clause-tells
+returns-clause-tells g c =
+    let old = c.args.told.now in
+    let new = c.ended.new.told in
+    let code = to_z-of_z w32 c.ended.result (record { sfits = c.ended.type_inv }) in
+    subst (λ (z : ℤ). TellsBy (with_committed new old) (old) new z) (sym code)
+    (tells_over (λ t. with_committed t old) (λ t. old) (λ a b. refl) (c.commit-came.new.told) new c.ended.result
+    (λ zero. on_ok_of c.commit-came.result (c.ended.ensures.ok zero) c.commit-came.ensures.tells)
+    (λ not. on_err_of c.commit-came.result (c.ended.ensures.other not) c.commit-came.ensures.tells_none)
+    c.ended.ensures.tells)

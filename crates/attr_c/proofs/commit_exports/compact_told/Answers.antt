@@ -1,9 +1,10 @@
-use Rattle.std.proofs.Common.{ℕ, ℤ, ap, sym, subst, ◌∙◌, w32, to_z, of_z}
+use Rattle.std.proofs.Common.{ℕ, ℤ, ap, sym, subst, ◌∙◌, w32, to_z, of_z, refl}
 use Rattle.std.proofs.lemmas.Int.{to_z-of_z}
-use Rattle.attr_c.proofs.EndLemmas.{on_ok_of, stopped_as, stopped_of}
+use Rattle.attr_c.proofs.EndLemmas.{on_err_of, on_ok_of, stopped_as, stopped_of, tells_over}
 use Rattle.attribute_kinds.specs.Compacting.{CompactsTo, RefusesStep}
 use Rattle.attr_c.specs.Compacting.{StopsStep}
 use Rattle.attr_c.specs.Stops.{Stopped}
+use Rattle.attr_c.specs.Telling.{with_keys, with_step, TellsBy}
 use Rattle.attr_c.proofs.commit_exports.compact_told.Goals as goal
 
 pub returns-clause-steps : goal.returns-clause-steps
@@ -25,3 +26,20 @@ returns-clause-stopped g c = λ not.
     (stopped_as _ _ _ _ _ _ code
     (stopped_of (StopsStep steps refuses c.compact-came.new.told.keys) c.compact-came.result was.counts _ c.ended.new.counts told c.ended.result c.compact-came.ensures.counts failed
     c.compact-came.ensures.why c.ended.ensures.ends))
+
+pub returns-clause-keeps : goal.returns-clause-keeps
+returns-clause-keeps g c = c.compact-came.ensures.keeps
+
+pub returns-clause-makes : goal.returns-clause-makes
+returns-clause-makes g c = c.compact-came.ensures.makes
+
+pub returns-clause-tells : goal.returns-clause-tells
+returns-clause-tells g c =
+    let old = c.args.told.now in
+    let new = c.ended.new.told in
+    let code = to_z-of_z w32 c.ended.result (record { sfits = c.ended.type_inv }) in
+    subst (λ (z : ℤ). TellsBy (with_step new old) (with_keys new old) new z) (sym code)
+    (tells_over (λ t. with_step t old) (λ t. with_keys t old) (λ a b. refl) (c.compact-came.new.told) new c.ended.result
+    (λ zero. on_ok_of c.compact-came.result (c.ended.ensures.ok zero) c.compact-came.ensures.tells)
+    (λ not. on_err_of c.compact-came.result (c.ended.ensures.other not) c.compact-came.ensures.tells_keys)
+    c.ended.ensures.tells)

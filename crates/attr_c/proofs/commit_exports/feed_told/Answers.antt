@@ -1,9 +1,11 @@
-use Rattle.std.proofs.Common.{ℤ, drop, ap, sym, ◌∙◌, w32, to_z, of_z, ℕ, subst}
+use Rattle.std.proofs.Common.{◌-◌, ℤ, drop, ap, sym, ◌∙◌, w32, to_z, of_z, ℕ, subst, refl}
 use Rattle.std.proofs.lemmas.Int.{to_z-of_z}
-use Rattle.attr_c.proofs.EndLemmas.{on_err_of, on_ok_of, feed_stops, stopped_as, stopped_of}
+use Rattle.attr_c.proofs.EndLemmas.{made_as, on_err_of, on_ok_of, feed_stops, stopped_as, stopped_of, tells_over}
 use Rattle.attr_c.specs.Stops.{Stopped, StopsOperation}
 use Rattle.attr_c.specs.Feeding.{IsFirstOp, StopsFeed}
 use Rattle.attr_c.specs.Holds.{with_skipped}
+use Rattle.attr_c.specs.Telling.{with_fed, with_line, TellsBy}
+use Rattle.attr_c.specs.declared.told.Told.{Told}
 use Rattle.attr_c.proofs.commit_exports.feed_told.Goals as goal
 
 pub returns-clause-whole : goal.returns-clause-whole
@@ -37,3 +39,18 @@ returns-clause-stopped g c = λ not.
     subst (λ (n : ℕ). Stopped (cause n told.place) (with_skipped told.skipped was.counts) c.ended.new.counts told end) (sym c.ended.ensures.line)
     (subst (λ (n : ℕ). Stopped (cause first.line n) (with_skipped told.skipped was.counts) c.ended.new.counts told end) (sym c.ended.ensures.place)
     (stopped_as _ _ _ _ _ _ code (stopped_of (cause first.line first.place) c.feed-came.result _ _ c.ended.new.counts told c.ended.result same failed stops c.ended.ensures.ends)))
+
+pub returns-clause-made : goal.returns-clause-made
+returns-clause-made g c = made_as c.feed-came.result _ _ _ c.ended.result _ (to_z-of_z w32 c.ended.result (record { sfits = c.ended.type_inv })) c.feed-came.ensures.made c.ended.ensures.ends
+
+pub returns-clause-tells : goal.returns-clause-tells
+returns-clause-tells g c =
+    let old = c.args.told.now in
+    let new = c.ended.new.told in
+    let count = c.operations.result - c.operations-before.result in
+    let code = to_z-of_z w32 c.ended.result (record { sfits = c.ended.type_inv }) in
+    subst (λ (z : ℤ). TellsBy (with_fed new old) (with_line new (with_fed new old)) new z) (sym code)
+    (tells_over (λ t. with_fed t old) (λ t. with_line t (with_fed t old)) (λ a b. refl) (record c.feed-came.new.told { operations = count }) new c.ended.result
+    (λ zero. ap (λ (t : Told). record t { operations = count }) (on_ok_of c.feed-came.result (c.ended.ensures.ok zero) c.feed-came.ensures.tells))
+    (λ not. ap (λ (t : Told). record t { operations = count }) (on_err_of c.feed-came.result (c.ended.ensures.other not) c.feed-came.ensures.tells_line))
+    c.ended.ensures.tells)

@@ -1,8 +1,10 @@
-use Rattle.std.proofs.Common.{ℕ, ℤ, ap, sym, subst, ◌∙◌, w32, to_z, of_z}
+use Rattle.std.proofs.Common.{◌-◌, ℕ, ℤ, ap, sym, subst, ◌∙◌, w32, to_z, of_z, refl}
 use Rattle.std.proofs.lemmas.Int.{to_z-of_z}
-use Rattle.attr_c.proofs.EndLemmas.{on_err_of, on_ok_of, stopped_as, stopped_of}
+use Rattle.attr_c.proofs.EndLemmas.{made_as, on_err_of, on_ok_of, place_as, stopped_as, stopped_of, tells_over}
 use Rattle.attr_c.specs.Loading.{IsNextLoaded, StopsLoad}
 use Rattle.attr_c.specs.Stops.{Stopped, StopsOperation}
+use Rattle.attr_c.specs.Telling.{with_count, with_place, TellsBy}
+use Rattle.attr_c.specs.declared.told.Told.{Told}
 use Rattle.attr_c.proofs.commit_exports.load_told.Goals as goal
 
 pub returns-clause-whole : goal.returns-clause-whole
@@ -20,8 +22,8 @@ returns-clause-fields g c = c.load-came.ensures.fields
 pub returns-clause-dense : goal.returns-clause-dense
 returns-clause-dense g c = c.load-came.ensures.dense
 
-pub returns-clause-home : goal.returns-clause-home
-returns-clause-home g c = c.load-came.ensures.home
+pub returns-clause-keeps : goal.returns-clause-keeps
+returns-clause-keeps g c = c.load-came.ensures.keeps
 
 pub returns-clause-stopped : goal.returns-clause-stopped
 returns-clause-stopped g c = λ not.
@@ -36,3 +38,24 @@ returns-clause-stopped g c = λ not.
     (stopped_as _ _ _ _ _ _ code
     (stopped_of (StopsLoad was.fields bytes c.load-came.new.told.place why) c.load-came.result was.counts _ c.ended.new.counts told c.ended.result c.load-came.ensures.counts failed
     c.load-came.ensures.why c.ended.ensures.ends))
+
+pub returns-clause-made : goal.returns-clause-made
+returns-clause-made g c = made_as c.load-came.result _ _ _ c.ended.result _ (to_z-of_z w32 c.ended.result (record { sfits = c.ended.type_inv })) c.load-came.ensures.made c.ended.ensures.ends
+
+pub returns-clause-tells : goal.returns-clause-tells
+returns-clause-tells g c =
+    let old = c.args.told.now in
+    let new = c.ended.new.told in
+    let count = c.operations.result - c.operations-before.result in
+    let code = to_z-of_z w32 c.ended.result (record { sfits = c.ended.type_inv }) in
+    subst (λ (z : ℤ). TellsBy (with_count new old) (with_place new (with_count new old)) new z) (sym code)
+    (tells_over (λ t. with_count t old) (λ t. with_place t (with_count t old)) (λ a b. refl) (record c.load-came.new.told { operations = count }) new c.ended.result
+    (λ zero. ap (λ (t : Told). record t { operations = count }) (on_ok_of c.load-came.result (c.ended.ensures.ok zero) c.load-came.ensures.tells))
+    (λ not. ap (λ (t : Told). record t { operations = count }) c.load-came.ensures.tells_place)
+    c.ended.ensures.tells)
+
+pub returns-clause-place : goal.returns-clause-place
+returns-clause-place g c = λ not.
+    c.ended.ensures.place
+    ∙ place_as c.load-came.result c.args.told.now c.load-came.new.told _ _ c.ended.new.told c.ended.result c.load-came.ensures.tells c.load-came.ensures.place c.ended.ensures.ends
+    (λ bad. not (ap (λ (z : ℤ). to_z w32 (of_z w32 z)) bad))

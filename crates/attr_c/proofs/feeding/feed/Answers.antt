@@ -1,21 +1,25 @@
 use Rattle.std.proofs.Common.{◌+◌, ◌-◌, ◌∷◌, ℕ, List, length, drop, ap, refl, sym, subst, rules, ◌∙◌, arith, Ok, Err}
 use Rattle.attr_types.specs.declared.field.Field.{Field}
 use Rattle.feed_reader.specs.Lines.{lines_of}
+use Rattle.attr_c.specs.declared.told.Told.{Told}
 use Rattle.attr_c.specs.Feeding.{FedLine, FedTo, IfLine, IsFirstOp, IsOpOf, RefusesLine}
 use Rattle.attr_steps.proofs.StepLemmas.{keeps_same}
 use Rattle.compact_steps.proofs.WalkLemmas.{keeps_then}
-use Rattle.attr_c.proofs.EndLemmas.{line_since, line_wider}
+use Rattle.attr_c.proofs.EndLemmas.{line_since, line_wider, unless_map}
+use Rattle.attr_c.proofs.MakingLemmas.{from_none, from_then}
 use Rattle.attr_c.proofs.FeedLemmas.{drop_none, drop_on, fed_none, fed_on, fed_refused, fed_small, fed_whole}
 use Rattle.attr_c.proofs.feeding.feed.Goals as goal
 
 pub loop-rest-init : goal.loop-rest-init
 loop-rest-init g c = record {
   fed = fed_none c.args.open.now.fields c.args.bytes.now c.args.open.now.attribute.table c.args.open.now.attribute.operations;
+  told = refl;
   pool = refl;
   counts = refl;
   fields = refl;
   dense = refl;
   keeps = keeps_same (g.S.Store.ledger c.args.open.now.attribute.store);
+  made = from_none g.S.Store.ledger c.args.open.now.attribute;
   commit = record { table = refl; operations = refl };
   at = drop_none c.args.bytes.now;
   small = omega arith;
@@ -57,11 +61,13 @@ loop-rest-preserved g c =
           (sym c.skips_of.ensures)
           (fed_on was.fields c.args.bytes.now was.attribute.table mid.table now.table was.attribute.operations mid.operations now.operations skipped (c.loop-rest.passed + 1) rest line after
           c.split_line.ensures.lines i.fed c.in-Ok.applied fed);
+      told = ap (λ (t : Told). record t { skipped = skipped + c.skips_of.result }) i.told;
       pool = c.in-Ok.ensures.pool ∙ i.pool;
       counts = c.in-Ok.ensures.counts ∙ i.counts;
       fields = c.in-Ok.ensures.fields ∙ i.fields;
       dense = c.in-Ok.ensures.dense ∙ i.dense;
       keeps = keeps_then (ledger was.attribute.store) (ledger mid.store) (ledger now.store) i.keeps c.in-Ok.ensures.keeps;
+      made = from_then ledger was.attribute mid now i.made c.in-Ok.ensures.made;
       commit = record { table = c.in-Ok.ensures.commit.table ∙ i.commit.table; operations = c.in-Ok.ensures.commit.operations ∙ i.commit.operations };
       at = drop_on c.args.bytes.now rest after i.at c.split_line.ensures.rest (omega (arith, shorter)) (omega (arith, few));
       small = omega (arith, small, is);
@@ -98,7 +104,7 @@ returns-in-Err-clause-why g c =
       first = ap lines_of (sym i.at) ∙ c.split_line.ensures.lines;
       is = subst (λ (fs : List Field). IsOpOf fs line op) i.fields is;
     })
-    c.in-Err.stop (line_since was.attribute mid.attribute now ledger (IsOpOf mid.fields line) i.keeps c.in-Err.stop c.in-Err.ensures.why)
+    c.in-Err.stop (line_since was.attribute mid.attribute now ledger (IsOpOf mid.fields line) i.keeps i.made c.in-Err.stop c.in-Err.ensures.why)
 
 pub returns-in-Err-clause-next : goal.returns-in-Err-clause-next
 returns-in-Err-clause-next g c =
@@ -112,8 +118,10 @@ returns-in-Err-clause-next g c =
     let behind = drop_on bytes rest after i.at c.split_line.ensures.rest (omega (arith, shorter)) (omega (arith, few)) in
     record { line = line; lines = ap lines_of (sym i.at) ∙ c.split_line.ensures.lines ∙ ap (λ (xs : List ℕ). line ∷ lines_of xs) behind; within = omega arith }
 
-pub returns-in-Err-clause-home : goal.returns-in-Err-clause-home
-returns-in-Err-clause-home g c = c.in-Err.ensures.keeps.home ∙ c.loop-rest.invariant.keeps.home
+pub returns-in-Err-clause-keeps : goal.returns-in-Err-clause-keeps
+returns-in-Err-clause-keeps g c =
+    let ledger = g.S.Store.ledger in
+    keeps_then (ledger c.args.open.now.attribute.store) (ledger c.loop-rest.open.attribute.store) (ledger c.feed_line.new.open.attribute.store) c.loop-rest.invariant.keeps c.in-Err.ensures.keeps
 
 pub returns-in-Err-clause-dense : goal.returns-in-Err-clause-dense
 returns-in-Err-clause-dense g c = c.in-Err.ensures.dense ∙ c.loop-rest.invariant.dense
@@ -124,3 +132,7 @@ returns-clause-whole g c =
     let mid = c.loop-rest.open.attribute in
     fed_whole was.fields c.args.bytes.now was.attribute.table mid.table was.attribute.operations mid.operations c.loop-rest.told.skipped (c.loop-rest.passed + 1)
     c.loop-rest.rest.now (search rules) c.loop-rest.invariant.fed
+
+pub returns-in-Err-clause-made : goal.returns-in-Err-clause-made
+returns-in-Err-clause-made g c =
+    unless_map c.in-Err.stop (from_then g.S.Store.ledger c.args.open.now.attribute c.loop-rest.open.attribute c.feed_line.new.open.attribute c.loop-rest.invariant.made) c.in-Err.ensures.made

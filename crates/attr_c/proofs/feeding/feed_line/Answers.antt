@@ -2,6 +2,7 @@ use Rattle.std.proofs.Common.{◌≡◌, subst, sym, rules, Ok, Some}
 use Rattle.attr_c.specs.Feeding.{IsOpOf, SaysLine}
 use Rattle.attr_c.proofs.EndLemmas.{line_or, stops_wider}
 use Rattle.attr_c.proofs.FeedLemmas.{fed_stopped}
+use Rattle.attr_c.proofs.MakingLemmas.{from_none}
 use Rattle.attr_c.proofs.feeding.feed_line.Goals as goal
 
 pub returns-in-Ok-Some-clause-fed : goal.returns-in-Ok-Some-clause-fed
@@ -24,3 +25,6 @@ returns-in-Ok-Some-clause-why g c =
     let one : IsOpOf fields line c.in-Ok-Some.op = record { some = said.0; says = said.1 } in
     line_or was now ledger (IsOpOf fields line) c.in-Err-apply.stop
     (stops_wider was now ledger (λ next. next ≡ c.in-Ok-Some.op) (IsOpOf fields line) (λ op same. subst (IsOpOf fields line) (sym same) one) c.in-Err-apply.stop c.in-Err-apply.ensures.why)
+
+pub returns-in-Ok-None-clause-made : goal.returns-in-Ok-None-clause-made
+returns-in-Ok-None-clause-made g c = from_none g.S.Store.ledger c.args.open.now.attribute

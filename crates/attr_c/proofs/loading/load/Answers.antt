@@ -1,11 +1,14 @@
-use Rattle.std.proofs.Common.{List, refl, sym, subst, rules}
+use Rattle.std.proofs.Common.{ap, List, refl, sym, subst, rules}
 use Rattle.std.specs.List.{AllByRecursion}
 use Rattle.std.proofs.lemmas.Result.{IfErr-weaker, IfOk-weaker}
 use Rattle.attr_saver.specs.declared.saved.SavedDocument.{SavedDocument}
 use Rattle.attr_types.specs.Lawful.{OpFits}
 use Rattle.attr_c.specs.Loading.{put_of, IsNextLoaded, IsNextPut, IsSaveOf, PutsFront, PutsIn}
-use Rattle.attr_c.proofs.EndLemmas.{load_or, save_or, stops_wider}
+use Rattle.attr_c.proofs.EndLemmas.{load_or, place_left, save_or, stops_wider, unless_any}
+use Rattle.attr_c.proofs.MakingLemmas.{from_none}
 use Rattle.attr_c.proofs.LoadLemmas.{loads_front, loads_none, loads_whole, puts_fit}
+use Rattle.attr_steps.proofs.StepLemmas.{keeps_same}
+use Rattle.attr_c.specs.declared.told.Told.{Told}
 use Rattle.attr_c.proofs.loading.load.Goals as goal
 
 pub returns-in-Err-clause-front : goal.returns-in-Err-clause-front
@@ -32,8 +35,9 @@ pub returns-clause-front : goal.returns-clause-front
 returns-clause-front g c =
     let was = c.args.open.now in
     let now = c.put_all.new.open.attribute in
+    let is_of : IsSaveOf was.fields c.in-Ok.saved = c.is_of_fields.ensures.yes c.if-not-is_of_fields.false in
     IfErr-weaker c.put_all.result _ _
-    (λ stop front. loads_front was.fields was.attribute.table was.attribute.operations c.args.bytes.now now.table now.operations c.in-Ok.saved c.in-Ok.ensures.saved
+    (λ stop front. loads_front was.fields was.attribute.table was.attribute.operations c.args.bytes.now now.table now.operations c.in-Ok.saved c.in-Ok.ensures.saved is_of
     (subst (λ (list : List SavedDocument). PutsFront was.fields list was.attribute.table now.table was.attribute.operations now.operations) c.into_vec.ensures front))
     c.put_all.ensures.front
 
@@ -68,3 +72,19 @@ returns-clause-why g c =
       reads = c.in-Ok.ensures.saved;
       is_next = subst (λ (list : List SavedDocument). IsNextPut list was.operations now.operations op) c.into_vec.ensures is;
     }) stop why)) c.put_all.ensures.why
+
+pub returns-in-Err-clause-keeps : goal.returns-in-Err-clause-keeps
+returns-in-Err-clause-keeps g c = keeps_same (g.S.Store.ledger c.args.open.now.attribute.store)
+
+pub returns-then-not-is_of_fields-clause-keeps : goal.returns-then-not-is_of_fields-clause-keeps
+returns-then-not-is_of_fields-clause-keeps g c = keeps_same (g.S.Store.ledger c.args.open.now.attribute.store)
+
+pub returns-clause-place : goal.returns-clause-place
+returns-clause-place g c =
+    IfErr-weaker c.put_all.result _ _ (λ stop u. place_left c.args.told.now c.saved_in.new.told stop (ap (λ (t : Told). t.place) c.in-Ok.ensures.tells)) c.put_all.ensures.why
+
+pub returns-in-Err-clause-made : goal.returns-in-Err-clause-made
+returns-in-Err-clause-made g c = unless_any c.in-Err.stop (from_none g.S.Store.ledger c.args.open.now.attribute)
+
+pub returns-then-not-is_of_fields-clause-made : goal.returns-then-not-is_of_fields-clause-made
+returns-then-not-is_of_fields-clause-made g c = from_none g.S.Store.ledger c.args.open.now.attribute

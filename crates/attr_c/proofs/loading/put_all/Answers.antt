@@ -7,7 +7,8 @@ use Rattle.attr_types.specs.declared.field.Field.{Field}
 use Rattle.attr_c.specs.Loading.{put_of, IsNextPut}
 use Rattle.attr_steps.proofs.StepLemmas.{keeps_same}
 use Rattle.compact_steps.proofs.WalkLemmas.{keeps_then}
-use Rattle.attr_c.proofs.EndLemmas.{stops_since, stops_wider}
+use Rattle.attr_c.proofs.EndLemmas.{stops_since, stops_wider, unless_map}
+use Rattle.attr_c.proofs.MakingLemmas.{from_none, from_then}
 use Rattle.attr_c.proofs.LoadLemmas.{moved_on, next_put, one_of_all, puts_front, puts_more, puts_none}
 use Rattle.attr_c.proofs.loading.put_all.Goals as goal
 
@@ -19,6 +20,7 @@ loop-document-init g c = record {
   fields = refl;
   dense = refl;
   keeps = keeps_same (g.S.Store.ledger c.args.open.now.attribute.store);
+  made = from_none g.S.Store.ledger c.args.open.now.attribute;
   commit = record { table = refl; operations = refl };
   all = search rules;
 }
@@ -41,6 +43,7 @@ loop-document-preserved g c =
       fields = c.in-Ok.ensures.fields ∙ i.fields;
       dense = c.in-Ok.ensures.dense ∙ i.dense;
       keeps = keeps_then (ledger was.attribute.store) (ledger mid.store) (ledger now.store) i.keeps c.in-Ok.ensures.keeps;
+      made = from_then ledger was.attribute mid now i.made c.in-Ok.ensures.made;
       commit = record { table = c.in-Ok.ensures.commit.table ∙ i.commit.table; operations = c.in-Ok.ensures.commit.operations ∙ i.commit.operations };
       all = moved_on c.loop-document.yielded (into_iter_items c.loop-document.document-iterator) (into_iter_items c.next.new.self) c.args.documents.items one rest i.all;
     }
@@ -65,10 +68,12 @@ returns-in-Err-clause-why g c =
     stops_wider was now g.S.Store.ledger (λ next. next ≡ put_of one) (IsNextPut c.args.documents.items was.operations now.operations)
     (λ op is. next_put c.args.open.now.fields c.loop-document.yielded (into_iter_items c.loop-document.document-iterator) (into_iter_items c.next.new.self) c.args.documents.items one was.table mid.table
     was.operations mid.operations now.operations rest i.all i.puts c.in-Err.ensures.left.operations op is)
-    c.in-Err.stop (stops_since was mid now g.S.Store.ledger (λ next. next ≡ put_of one) i.keeps c.in-Err.stop c.in-Err.ensures.why)
+    c.in-Err.stop (stops_since was mid now g.S.Store.ledger (λ next. next ≡ put_of one) i.keeps i.made c.in-Err.stop c.in-Err.ensures.why)
 
-pub returns-in-Err-clause-home : goal.returns-in-Err-clause-home
-returns-in-Err-clause-home g c = c.in-Err.ensures.keeps.home ∙ c.loop-document.invariant.keeps.home
+pub returns-in-Err-clause-keeps : goal.returns-in-Err-clause-keeps
+returns-in-Err-clause-keeps g c =
+    let ledger = g.S.Store.ledger in
+    keeps_then (ledger c.args.open.now.attribute.store) (ledger c.loop-document.open.attribute.store) (ledger c.put_document.new.open.attribute.store) c.loop-document.invariant.keeps c.in-Err.ensures.keeps
 
 pub returns-in-Err-clause-dense : goal.returns-in-Err-clause-dense
 returns-in-Err-clause-dense g c = c.in-Err.ensures.dense ∙ c.loop-document.invariant.dense
@@ -82,3 +87,7 @@ put_document-requires g c =
     (one_of_all (λ (d : SavedDocument). OpFits c.args.open.now.fields (put_of d)) c.loop-document.yielded (into_iter_items c.loop-document.document-iterator) (into_iter_items c.next.new.self)
     c.args.documents.items one rest i.all c.requires) in
     (search rules, fit)
+
+pub returns-in-Err-clause-made : goal.returns-in-Err-clause-made
+returns-in-Err-clause-made g c =
+    unless_map c.in-Err.stop (from_then g.S.Store.ledger c.args.open.now.attribute c.loop-document.open.attribute c.put_document.new.open.attribute c.loop-document.invariant.made) c.in-Err.ensures.made

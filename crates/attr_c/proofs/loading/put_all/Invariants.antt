@@ -3,6 +3,7 @@ use Rattle.std.specs.Vec.Iter.{into_iter_items}
 use Rattle.attribute_kinds.specs.Calls.{KeepsStore}
 use Rattle.attr_c.specs.Feeding.{Stays}
 use Rattle.attr_c.specs.Loading.{PutsIn}
+use Rattle.attr_c.specs.Making.{MakesFrom}
 use Rattle.attr_c.proofs.loading.put_all.Given as goal
 
 -- the documents so far were put in
@@ -14,6 +15,7 @@ invariant-loop-document g l = record {
   fields : l.open.fields ≡ l.fn.open.fields;
   dense : l.open.attribute.dense ≡ l.fn.open.attribute.dense;
   keeps : KeepsStore (g.S.Store.ledger l.fn.open.attribute.store) (g.S.Store.ledger l.open.attribute.store);
+  made : MakesFrom l.fn.open.attribute l.open.attribute g.S.Store.ledger;
   commit : Stays l.fn.open.attribute.committed l.open.attribute.committed l.fn.open.attribute.committed_operations l.open.attribute.committed_operations;
   all : l.yielded ++ into_iter_items l.document-iterator ≡ l.fn.documents.items;
 }

@@ -1,4 +1,4 @@
-use Rattle.std.proofs.Common.{◌≡◌, ◌∙◌, ℕ, List, ap, subst}
+use Rattle.std.proofs.Common.{◌∙◌, ℕ, List, ap, subst}
 use Rattle.std.proofs.lemmas.Result.{IfOk-weaker}
 use Rattle.attr_images.specs.Images.{operations_at, table_of, IsLawfulImage}
 use Rattle.attr_images.specs.Shapes.{shape_of, types_of}

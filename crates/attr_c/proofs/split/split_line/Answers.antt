@@ -1,6 +1,5 @@
 use Rattle.std.proofs.Common.{ap, ◌∙◌, ◌∷◌}
 use Rattle.std.proofs.lemmas.List.{take_rest}
-use Rattle.feed_reader.specs.Lines.{lines_of}
 use Rattle.feed_reader.proofs.LinesLemmas.{first_line, last_line}
 use Rattle.attr_c.proofs.SplitLemmas.{alone_line, no_lines}
 use Rattle.attr_c.proofs.split.split_line.Goals as goal
