@@ -1,8 +1,10 @@
-//! A run: operations with commits between them, followed by compactions, over either memory.
+//! A run: operations with commits between them, followed by compactions.
 ghost use Rattle.std.specs.Prelude.{◌≡◌, ◌<◌, ◌≤◌, length, IfOk};
 ghost use Rattle.arena_api.specs.Calls.{IsFresh};
 ghost use Rattle.attr_images.specs.Shapes.{shape_of, types_of};
 ghost use Rattle.attr_types.specs.declared.field.TheConstants.{MOST_FIELDS};
+ghost use Rattle.word_arena.specs.Knows.{view_of};
+ghost use Rattle.word_arena.specs.Ruled.{writer_of};
 
 use crate::course::{Course, Load};
 use crate::guards::keep_guards;
@@ -12,25 +14,26 @@ use crate::sights::Sight;
 use crate::steps::{load_all, take_steps};
 use crate::watch::Watch;
 use crate::watched::Watched;
-use arena_api::{Frozen, Work};
+use arena_api::Work;
 use attr_images::AttrLayout;
 use attr_types::Fields;
 use attribute_kinds::Attribute;
 use entry_store::EntryStore;
 use std::alloc::{AllocError, Global};
 use store_api::Store;
+use word_arena::Writer;
 
 /// Creates attributes without documents over a work whose commits are watched.
-pub fn open<const OFFSET_BITS: u32, W: Work<OFFSET_BITS, Layout = AttrLayout> + Drop>(
+pub fn open(
     alloc: Global,
-    work: W,
+    work: Writer<22, AttrLayout>,
     fields: &Fields,
     load: Load,
-) -> Result<Attribute<OFFSET_BITS, EntryStore<OFFSET_BITS, Watched<OFFSET_BITS, W>>>, AllocError>
+) -> Result<Attribute<22, EntryStore<22, Watched>>, AllocError>
     requires some { 0 < length fields.now }
     requires few { length fields.now ≤ MOST_FIELDS }
-    requires shape { W.shape work ≡ shape_of (types_of fields.now) }
-    requires fresh { IsFresh (W.knows work) }
+    requires shape { (writer_of work.place.me.0).sizes.shape ≡ shape_of (types_of fields.now) }
+    requires fresh { IsFresh (view_of work.place.table_id (writer_of work.place.me.0)) }
     ensures fields { IfOk result (λ a. a.fields ≡ fields.now) }
 {
     let watch = Watch::new(alloc, fields, load)?;

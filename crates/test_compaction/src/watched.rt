@@ -6,27 +6,32 @@ ghost use Rattle.entry_ref.specs.Places.{IsEntry};
 ghost use Rattle.entry_ref.specs.Records.{HasWord, word_at, with_words};
 ghost use Rattle.arena_api.specs.Works.{active_width};
 ghost use Rattle.arena_api.specs.Calls.{MayStore, InNoCommit, AddsCommit, with_stored, padded, next_image, published};
+ghost use Rattle.gen_core.specs.Work.{writer_records};
+ghost use Rattle.word_arena.specs.Knows.{view_of};
+ghost use Rattle.word_arena.specs.Ruled.{writer_of};
 
 use crate::watch::Watch;
 use crate::words::Words;
 use arena_api::{Advance, Frozen, Oldest, Work};
-use entry_ref::EntryRef;
+use attr_images::AttrLayout;
+use entry_ref::{EntryRef, Layout};
 use std::alloc::Global;
+use word_arena::{Home, Writer};
 
 /// A work whose commits are watched, with a copy of what is stored in it.
 #[derive(Drop)]
-pub struct Watched<const OFFSET_BITS: u32, W: Work<OFFSET_BITS>> {
-    work: W,
+pub struct Watched {
+    work: Writer<22, AttrLayout>,
     stored: Words,
     watch: Watch,
 }
 
-impl<const OFFSET_BITS: u32, W: Work<OFFSET_BITS>> Watched<OFFSET_BITS, W> {
+impl Watched {
     /// Returns a work in which nothing was stored, with its watch.
-    pub fn new(alloc: Global, work: W, watch: Watch) -> Self
-        ensures knows { ⟦<Watched<OFFSET_BITS, W> as Work<OFFSET_BITS>>⟧.knows result ≡ W.knows work }
-        ensures records { ⟦<Watched<OFFSET_BITS, W> as Frozen<OFFSET_BITS>>⟧.records result ≡ W.records work }
-        ensures shape { ⟦<Watched<OFFSET_BITS, W> as Frozen<OFFSET_BITS>>⟧.shape result ≡ W.shape work }
+    pub fn new(alloc: Global, work: Writer<22, AttrLayout>, watch: Watch) -> Self
+        ensures knows { ⟦<Watched as Work<22>>⟧.knows result ≡ ⟦<Writer<22, AttrLayout> as Work<22>>⟧.knows work }
+        ensures records { ⟦<Watched as Frozen<22>>⟧.records result ≡ ⟦<Writer<22, AttrLayout> as Frozen<22>>⟧.records work }
+        ensures shape { ⟦<Watched as Frozen<22>>⟧.shape result ≡ ⟦<Writer<22, AttrLayout> as Frozen<22>>⟧.shape work }
     {
         Watched {
             work,
@@ -34,9 +39,7 @@ impl<const OFFSET_BITS: u32, W: Work<OFFSET_BITS>> Watched<OFFSET_BITS, W> {
             watch,
         }
     }
-}
 
-impl<const OFFSET_BITS: u32, W: Work<OFFSET_BITS> + Drop> Watched<OFFSET_BITS, W> {
     /// Returns what was seen, after a last look at the last commit.
     pub fn into_watch(self, root: u64) -> Watch {
         let Watched {
@@ -51,71 +54,76 @@ impl<const OFFSET_BITS: u32, W: Work<OFFSET_BITS> + Drop> Watched<OFFSET_BITS, W
     }
 }
 
-impl<const OFFSET_BITS: u32, W: Work<OFFSET_BITS>> Frozen<OFFSET_BITS> for Watched<OFFSET_BITS, W> {
-    ghost shape = { λ s. W.shape s.work };
+impl Frozen<22> for Watched {
+    ghost use Rattle.word_arena.specs.ProofsForWork.{desk_bits, work_references};
 
-    ghost records = { λ s. W.records s.work };
+    ghost shape = { λ s. (writer_of s.work.place.me.0).sizes.shape };
 
-    fn word(&mut self, entry: EntryRef<OFFSET_BITS>, i: u32) -> u64
-        requires { HasWord (⟦<Watched<OFFSET_BITS, W> as Frozen<OFFSET_BITS>>⟧.records self.old) entry i }
-        ensures value { result ≡ word_at (⟦<Watched<OFFSET_BITS, W> as Frozen<OFFSET_BITS>>⟧.records self.old) entry.entry i }
+    ghost records = { λ s. writer_records (writer_of s.work.place.me.0) };
+
+    fn word(&mut self, entry: EntryRef<22>, i: u32) -> u64
+        requires { HasWord (⟦<Watched as Frozen<22>>⟧.records self.old) entry i }
+        ensures value { result ≡ word_at (⟦<Watched as Frozen<22>>⟧.records self.old) entry i }
         ensures same { self.new ≡ self.old }
     {
         self.work.word(entry, i)
     }
 
-    fn read(&mut self, entry: EntryRef<OFFSET_BITS>, first: u32, into: &mut [u64])
-        requires there { first + length into.old ≤ length (⟦<Watched<OFFSET_BITS, W> as Frozen<OFFSET_BITS>>⟧.records self.old entry) }
+    fn read(&mut self, entry: EntryRef<22>, first: u32, into: &mut [u64])
+        requires there { first + length into.old ≤ length (⟦<Watched as Frozen<22>>⟧.records self.old entry) }
         requires few { first + length into.old < 2 ^ 32 }
         ensures words { into.new ≡ take (length into.old) (drop first
-            (⟦<Watched<OFFSET_BITS, W> as Frozen<OFFSET_BITS>>⟧.records self.old entry.entry)) }
+            (⟦<Watched as Frozen<22>>⟧.records self.old entry)) }
         ensures same { self.new ≡ self.old }
     {
         self.work.read(entry, first, into);
     }
 
-    ghost references = { λ s. W.references s.work };
+    ghost references = { λ s. work_references (writer_of s.work.place.me.0) s.work.stands.good 22 (desk_bits s.work.stands) s.work.stands.limits };
 }
 
-impl<const OFFSET_BITS: u32, W: Work<OFFSET_BITS>> Work<OFFSET_BITS> for Watched<OFFSET_BITS, W> {
-    type Layout = W::Layout;
+impl Work<22> for Watched {
+    ghost use Rattle.word_arena.specs.ProofsForWork.{desk_bits, work_queue, work_order, work_only, work_held, work_entries, work_kept};
+    ghost use Rattle.word_arena.specs.ProofsForWork.{work_last, work_whole, work_stored, work_tags};
 
-    type Home = W::Home;
+    type Layout = AttrLayout;
 
-    ghost knows = { λ s. W.knows s.work };
+    type Home = Home;
 
-    fn store(&mut self, entry: EntryRef<OFFSET_BITS>, i: u32, word: u64)
-        requires { MayStore OFFSET_BITS (⟦<Watched<OFFSET_BITS, W> as Work<OFFSET_BITS>>⟧.knows self.old) entry i }
-        ensures knows { ⟦<Watched<OFFSET_BITS, W> as Work<OFFSET_BITS>>⟧.knows self.new
-            ≡ record (⟦<Watched<OFFSET_BITS, W> as Work<OFFSET_BITS>>⟧.knows self.old) {
+    ghost knows = { λ s. view_of s.work.place.table_id (writer_of s.work.place.me.0) };
+
+    fn store(&mut self, entry: EntryRef<22>, i: u32, word: u64)
+        requires { MayStore 22 (⟦<Watched as Work<22>>⟧.knows self.old) entry i }
+        ensures knows { ⟦<Watched as Work<22>>⟧.knows self.new
+            ≡ record (⟦<Watched as Work<22>>⟧.knows self.old) {
               stored = with_stored
-                  (⟦<Watched<OFFSET_BITS, W> as Work<OFFSET_BITS>>⟧.knows self.old).stored entry.entry i word;
+                  (⟦<Watched as Work<22>>⟧.knows self.old).stored entry i word;
             } }
-        ensures others { (q : ℕ) → q ≢ entry.entry
-            → ⟦<Watched<OFFSET_BITS, W> as Frozen<OFFSET_BITS>>⟧.records self.new q
-            ≡ ⟦<Watched<OFFSET_BITS, W> as Frozen<OFFSET_BITS>>⟧.records self.old q }
-        ensures shape { ⟦<Watched<OFFSET_BITS, W> as Frozen<OFFSET_BITS>>⟧.shape self.new
-            ≡ ⟦<Watched<OFFSET_BITS, W> as Frozen<OFFSET_BITS>>⟧.shape self.old }
+        ensures others { (q : ℕ) → q ≢ entry
+            → ⟦<Watched as Frozen<22>>⟧.records self.new q
+            ≡ ⟦<Watched as Frozen<22>>⟧.records self.old q }
+        ensures shape { ⟦<Watched as Frozen<22>>⟧.shape self.new
+            ≡ ⟦<Watched as Frozen<22>>⟧.shape self.old }
     {
         self.stored.store(entry.raw(), i, word);
         self.work.store(entry, i, word);
     }
 
-    fn put(&mut self, entry: EntryRef<OFFSET_BITS>, width: u32, words: &[u64])
-        requires entry { IsEntry OFFSET_BITS (⟦<Watched<OFFSET_BITS, W> as Work<OFFSET_BITS>>⟧.knows self.old).sizes.buffers
-            (⟦<Watched<OFFSET_BITS, W> as Work<OFFSET_BITS>>⟧.knows self.old).sizes.words width entry }
-        requires width { active_width ((⟦<Watched<OFFSET_BITS, W> as Work<OFFSET_BITS>>⟧.knows self.old).buffer
-            (buffer_of OFFSET_BITS entry)) ≡ width }
+    fn put(&mut self, entry: EntryRef<22>, width: u32, words: &[u64])
+        requires entry { IsEntry 22 (⟦<Watched as Work<22>>⟧.knows self.old).sizes.buffers
+            (⟦<Watched as Work<22>>⟧.knows self.old).sizes.words width entry }
+        requires width { active_width ((⟦<Watched as Work<22>>⟧.knows self.old).buffer
+            (buffer_of 22 entry)) ≡ width }
         requires fits { length words.now ≤ width }
-        requires unkept { InNoCommit (⟦<Watched<OFFSET_BITS, W> as Work<OFFSET_BITS>>⟧.knows self.old).commits entry }
-        ensures records { ⟦<Watched<OFFSET_BITS, W> as Frozen<OFFSET_BITS>>⟧.records self.new
-            ≡ with_words (⟦<Watched<OFFSET_BITS, W> as Frozen<OFFSET_BITS>>⟧.records self.old) entry.entry (padded words.now width) }
-        ensures knows { ⟦<Watched<OFFSET_BITS, W> as Work<OFFSET_BITS>>⟧.knows self.new
-            ≡ record (⟦<Watched<OFFSET_BITS, W> as Work<OFFSET_BITS>>⟧.knows self.old) {
-              stored = (⟦<Watched<OFFSET_BITS, W> as Work<OFFSET_BITS>>⟧.knows self.new).stored;
+        requires unkept { InNoCommit (⟦<Watched as Work<22>>⟧.knows self.old).commits entry }
+        ensures records { ⟦<Watched as Frozen<22>>⟧.records self.new
+            ≡ with_words (⟦<Watched as Frozen<22>>⟧.records self.old) entry (padded words.now width) }
+        ensures knows { ⟦<Watched as Work<22>>⟧.knows self.new
+            ≡ record (⟦<Watched as Work<22>>⟧.knows self.old) {
+              stored = (⟦<Watched as Work<22>>⟧.knows self.new).stored;
             } }
-        ensures shape { ⟦<Watched<OFFSET_BITS, W> as Frozen<OFFSET_BITS>>⟧.shape self.new
-            ≡ ⟦<Watched<OFFSET_BITS, W> as Frozen<OFFSET_BITS>>⟧.shape self.old }
+        ensures shape { ⟦<Watched as Frozen<22>>⟧.shape self.new
+            ≡ ⟦<Watched as Frozen<22>>⟧.shape self.old }
     {
         self.stored.put(entry.raw(), words, width);
         self.work.put(entry, width, words);
@@ -129,26 +137,26 @@ impl<const OFFSET_BITS: u32, W: Work<OFFSET_BITS>> Work<OFFSET_BITS> for Watched
         found
     }
 
-    fn publish(&mut self, root: EntryRef<OFFSET_BITS>) -> u32
-        requires lawful { W.Layout.lawful (⟦<Watched<OFFSET_BITS, W> as Frozen<OFFSET_BITS>>⟧.shape self.old)
-            (⟦<Watched<OFFSET_BITS, W> as Frozen<OFFSET_BITS>>⟧.records self.old) root }
-        requires room { (⟦<Watched<OFFSET_BITS, W> as Work<OFFSET_BITS>>⟧.knows self.old).commits.last
-            < (⟦<Watched<OFFSET_BITS, W> as Work<OFFSET_BITS>>⟧.knows self.old).sizes.commits }
-        ensures number { result ≡ (⟦<Watched<OFFSET_BITS, W> as Work<OFFSET_BITS>>⟧.knows self.old).commits.last + 1 }
-        ensures commit { AddsCommit (⟦<Watched<OFFSET_BITS, W> as Work<OFFSET_BITS>>⟧.knows self.old).commits
-            (⟦<Watched<OFFSET_BITS, W> as Work<OFFSET_BITS>>⟧.knows self.new).commits
-            (next_image W.Layout.reaches (⟦<Watched<OFFSET_BITS, W> as Frozen<OFFSET_BITS>>⟧.shape self.old)
-            (⟦<Watched<OFFSET_BITS, W> as Frozen<OFFSET_BITS>>⟧.records self.old) root.entry) }
-        ensures knows { ⟦<Watched<OFFSET_BITS, W> as Work<OFFSET_BITS>>⟧.knows self.new
-            ≡ published (⟦<Watched<OFFSET_BITS, W> as Work<OFFSET_BITS>>⟧.knows self.old)
-            (⟦<Watched<OFFSET_BITS, W> as Work<OFFSET_BITS>>⟧.knows self.new).commits
-            (next_image W.Layout.reaches (⟦<Watched<OFFSET_BITS, W> as Frozen<OFFSET_BITS>>⟧.shape self.old)
-            (⟦<Watched<OFFSET_BITS, W> as Frozen<OFFSET_BITS>>⟧.records self.old) root.entry) }
-        ensures records { ⟦<Watched<OFFSET_BITS, W> as Frozen<OFFSET_BITS>>⟧.records self.new
-            ≡ words_at (next_image W.Layout.reaches (⟦<Watched<OFFSET_BITS, W> as Frozen<OFFSET_BITS>>⟧.shape self.old)
-            (⟦<Watched<OFFSET_BITS, W> as Frozen<OFFSET_BITS>>⟧.records self.old) root.entry) }
-        ensures shape { ⟦<Watched<OFFSET_BITS, W> as Frozen<OFFSET_BITS>>⟧.shape self.new
-            ≡ ⟦<Watched<OFFSET_BITS, W> as Frozen<OFFSET_BITS>>⟧.shape self.old }
+    fn publish(&mut self, root: EntryRef<22>) -> u32
+        requires lawful { ⟦<AttrLayout as Layout>⟧.lawful (⟦<Watched as Frozen<22>>⟧.shape self.old)
+            (⟦<Watched as Frozen<22>>⟧.records self.old) root }
+        requires room { (⟦<Watched as Work<22>>⟧.knows self.old).commits.last
+            < (⟦<Watched as Work<22>>⟧.knows self.old).sizes.commits }
+        ensures number { result ≡ (⟦<Watched as Work<22>>⟧.knows self.old).commits.last + 1 }
+        ensures commit { AddsCommit (⟦<Watched as Work<22>>⟧.knows self.old).commits
+            (⟦<Watched as Work<22>>⟧.knows self.new).commits
+            (next_image ⟦<AttrLayout as Layout>⟧.reaches (⟦<Watched as Frozen<22>>⟧.shape self.old)
+            (⟦<Watched as Frozen<22>>⟧.records self.old) root) }
+        ensures knows { ⟦<Watched as Work<22>>⟧.knows self.new
+            ≡ published (⟦<Watched as Work<22>>⟧.knows self.old)
+            (⟦<Watched as Work<22>>⟧.knows self.new).commits
+            (next_image ⟦<AttrLayout as Layout>⟧.reaches (⟦<Watched as Frozen<22>>⟧.shape self.old)
+            (⟦<Watched as Frozen<22>>⟧.records self.old) root) }
+        ensures records { ⟦<Watched as Frozen<22>>⟧.records self.new
+            ≡ words_at (next_image ⟦<AttrLayout as Layout>⟧.reaches (⟦<Watched as Frozen<22>>⟧.shape self.old)
+            (⟦<Watched as Frozen<22>>⟧.records self.old) root) }
+        ensures shape { ⟦<Watched as Frozen<22>>⟧.shape self.new
+            ≡ ⟦<Watched as Frozen<22>>⟧.shape self.old }
     {
         let free = self.work.free_buffers();
         let number = self.work.publish(root);
@@ -186,27 +194,27 @@ impl<const OFFSET_BITS: u32, W: Work<OFFSET_BITS>> Work<OFFSET_BITS> for Watched
         self.work.commits_left()
     }
 
-    ghost limits = { λ s. W.limits s.work };
+    ghost limits = { λ s. s.work.stands.limits };
 
-    ghost total_words = { λ s. W.total_words s.work };
+    ghost total_words = { λ s. s.work.stands.product };
 
-    ghost queue = { λ s. W.queue s.work };
+    ghost queue = { λ s. work_queue (writer_of s.work.place.me.0) s.work.stands.good 22 (desk_bits s.work.stands) s.work.place.table_id };
 
-    ghost order = { λ s. W.order s.work };
+    ghost order = { λ s. work_order (writer_of s.work.place.me.0) s.work.stands.good 22 (desk_bits s.work.stands) s.work.place.table_id };
 
-    ghost entries = { λ s. W.entries s.work };
+    ghost entries = { λ s. work_entries (writer_of s.work.place.me.0) s.work.stands.good 22 (desk_bits s.work.stands) };
 
-    ghost kept = { λ s. W.kept s.work };
+    ghost kept = { λ s n r k. work_kept (writer_of s.work.place.me.0) s.work.stands.good 22 (desk_bits s.work.stands) n r k.from k.to };
 
-    ghost last = { λ s. W.last s.work };
+    ghost last = { λ s. work_last (writer_of s.work.place.me.0) s.work.stands.good 22 (desk_bits s.work.stands) };
 
-    ghost whole = { λ s. W.whole s.work };
+    ghost whole = { λ s. work_whole (writer_of s.work.place.me.0) s.work.stands.good 22 (desk_bits s.work.stands) };
 
-    ghost only = { λ s. W.only s.work };
+    ghost only = { λ s. work_only (writer_of s.work.place.me.0) s.work.stands.good 22 (desk_bits s.work.stands) };
 
-    ghost stored = { λ s. W.stored s.work };
+    ghost stored = { λ s. work_stored s.work.place.table_id (writer_of s.work.place.me.0) 22 (desk_bits s.work.stands) };
 
-    ghost held = { λ s. W.held s.work };
+    ghost held = { λ s. work_held (writer_of s.work.place.me.0) s.work.stands.good 22 (desk_bits s.work.stands) s.work.place.table_id };
 
-    ghost tags = { λ s. W.tags s.work };
+    ghost tags = { λ s. work_tags (writer_of s.work.place.me.0) s.work.stands.good 22 (desk_bits s.work.stands) };
 }
