@@ -31,6 +31,28 @@ pub trait Frozen<const OFFSET_BITS: u32> {
         }
     }
 
+    /// Returns word `i` of a record of this width, as `word` does.
+    fn word_of(&mut self, entry: EntryRef<OFFSET_BITS>, width: u32, i: u32) -> u64
+        requires width { length (records self.old entry) ≡ width }
+        requires there { i < width }
+        ensures value { result ≡ word_at (records self.old) entry.entry i }
+        ensures same { self.new ≡ self.old }
+    {
+        let _ = width;
+        self.word(entry, i)
+    }
+
+    /// Reads words of a record of this width into `into`, as `read` does.
+    fn read_of(&mut self, entry: EntryRef<OFFSET_BITS>, width: u32, first: u32, into: &mut [u64])
+        requires width { length (records self.old entry) ≡ width }
+        requires there { first + length into.old ≤ width }
+        ensures words { into.new ≡ take (length into.old) (drop first (records self.old entry.entry)) }
+        ensures same { self.new ≡ self.old }
+    {
+        let _ = width;
+        self.read(entry, first, into);
+    }
+
     // a record's reference fits in 32 bits
     ghost references: { (s : Self) (r : ℕ) → 0 < length (records s r) → r < 2 ^ 32 };
 }

@@ -334,6 +334,28 @@ impl<const OFFSET_BITS: u32, W: Work<OFFSET_BITS>> Frozen<OFFSET_BITS>
         self.work.read(entry, first, into);
     }
 
+    fn word_of(&mut self, entry: EntryRef<OFFSET_BITS>, width: u32, i: u32) -> u64
+        requires width { length (⟦<EntryStore<OFFSET_BITS, W> as Frozen<OFFSET_BITS>>⟧.records self.old entry) ≡ width }
+        requires there { i < width }
+        ensures value { result ≡ word_at (⟦<EntryStore<OFFSET_BITS, W> as Frozen<OFFSET_BITS>>⟧.records self.old) entry.entry i }
+        ensures same { self.new ≡ self.old }
+    {
+        self.work.word_of(entry, width, i)
+    }
+
+    fn read_of(&mut self, entry: EntryRef<OFFSET_BITS>, width: u32, first: u32, into: &mut [u64])
+        requires width { length (⟦<EntryStore<OFFSET_BITS, W> as Frozen<OFFSET_BITS>>⟧.records self.old entry) ≡ width }
+        requires there { first + length into.old ≤ width }
+        ensures words { into.new ≡ take (length into.old) (drop first
+            (⟦<EntryStore<OFFSET_BITS, W> as Frozen<OFFSET_BITS>>⟧.records self.old entry.entry)) }
+        ensures same { self.new ≡ self.old }
+    {
+        if into.is_empty() {
+            return;
+        }
+        self.work.read_of(entry, width, first, into);
+    }
+
     ghost references = { λ s. store_references OFFSET_BITS (W.knows s.work) (W.records s.work) (entries_of OFFSET_BITS s.entries)
         s.unit s.stands (W.references s.work) };
 }

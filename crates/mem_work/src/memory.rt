@@ -109,6 +109,27 @@ impl<const OFFSET_BITS: u32, L: Layout> Frozen<OFFSET_BITS> for MemWork<OFFSET_B
         }
     }
 
+    fn word_of(&mut self, entry: EntryRef<OFFSET_BITS>, width: u32, i: u32) -> u64
+        requires width { length (⟦<MemWork<OFFSET_BITS, L> as Frozen<OFFSET_BITS>>⟧.records self.old entry) ≡ width }
+        requires there { i < width }
+        ensures value { result ≡ word_at (⟦<MemWork<OFFSET_BITS, L> as Frozen<OFFSET_BITS>>⟧.records self.old) entry.entry i }
+        ensures same { self.new ≡ self.old }
+    {
+        let _ = width;
+        self.word(entry, i)
+    }
+
+    fn read_of(&mut self, entry: EntryRef<OFFSET_BITS>, width: u32, first: u32, into: &mut [u64])
+        requires width { length (⟦<MemWork<OFFSET_BITS, L> as Frozen<OFFSET_BITS>>⟧.records self.old entry) ≡ width }
+        requires there { first + length into.old ≤ width }
+        ensures words { into.new ≡ take (length into.old)
+            (drop first (⟦<MemWork<OFFSET_BITS, L> as Frozen<OFFSET_BITS>>⟧.records self.old entry.entry)) }
+        ensures same { self.new ≡ self.old }
+    {
+        let _ = width;
+        self.read(entry, first, into);
+    }
+
     ghost references = { λ s. memory_references L.reaches s.shape s.cells.table.items s.cells.stamps.items
         OFFSET_BITS s.cells.buffers s.cells.words s.last s.root s.cells.few_words s.cells.offsets };
 }

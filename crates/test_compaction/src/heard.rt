@@ -85,5 +85,25 @@ impl<const OFFSET_BITS: u32, F: Frozen<OFFSET_BITS>> Frozen<OFFSET_BITS> for Hea
         self.words.note_all(entry.raw(), first, into);
     }
 
+    fn word_of(&mut self, entry: EntryRef<OFFSET_BITS>, width: u32, i: u32) -> u64
+        requires width { length (F.records self.old entry) ≡ width }
+        requires there { i < width }
+        ensures value { result ≡ word_at (F.records self.old) entry.entry i }
+        ensures same { self.new ≡ self.old }
+    {
+        let _ = width;
+        self.word(entry, i)
+    }
+
+    fn read_of(&mut self, entry: EntryRef<OFFSET_BITS>, width: u32, first: u32, into: &mut [u64])
+        requires width { length (F.records self.old entry) ≡ width }
+        requires there { first + length into.old ≤ width }
+        ensures words { into.new ≡ take (length into.old) (drop first (F.records self.old entry.entry)) }
+        ensures same { self.new ≡ self.old }
+    {
+        let _ = width;
+        self.read(entry, first, into);
+    }
+
     ghost references = { λ h. F.references h };
 }

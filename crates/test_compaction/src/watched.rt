@@ -79,6 +79,25 @@ impl Frozen<22> for Watched {
         self.work.read(entry, first, into);
     }
 
+    fn word_of(&mut self, entry: EntryRef<22>, width: u32, i: u32) -> u64
+        requires width { length (⟦<Watched as Frozen<22>>⟧.records self.old entry) ≡ width }
+        requires there { i < width }
+        ensures value { result ≡ word_at (⟦<Watched as Frozen<22>>⟧.records self.old) entry i }
+        ensures same { self.new ≡ self.old }
+    {
+        self.work.word_of(entry, width, i)
+    }
+
+    fn read_of(&mut self, entry: EntryRef<22>, width: u32, first: u32, into: &mut [u64])
+        requires width { length (⟦<Watched as Frozen<22>>⟧.records self.old entry) ≡ width }
+        requires there { first + length into.old ≤ width }
+        ensures words { into.new ≡ take (length into.old)
+            (drop first (⟦<Watched as Frozen<22>>⟧.records self.old entry)) }
+        ensures same { self.new ≡ self.old }
+    {
+        self.work.read_of(entry, width, first, into);
+    }
+
     ghost references = { λ s. work_references (writer_of s.work.place.me.0) s.work.stands.good 22 (desk_bits s.work.stands) s.work.stands.limits };
 }
 

@@ -41,5 +41,25 @@ impl Frozen<22> for Held {
         into.copy_from_slice(part);
     }
 
+    fn word_of(&mut self, entry: EntryRef<22>, width: u32, i: u32) -> u64
+        requires width { length (seen self.old.records entry) ≡ width }
+        requires there { i < width }
+        ensures value { result ≡ word_at (seen self.old.records) entry i }
+        ensures same { self.new ≡ self.old }
+    {
+        let _ = width;
+        self.word(entry, i)
+    }
+
+    fn read_of(&mut self, entry: EntryRef<22>, width: u32, first: u32, into: &mut [u64])
+        requires width { length (seen self.old.records entry) ≡ width }
+        requires there { first + length into.old ≤ width }
+        ensures words { into.new ≡ take (length into.old) (drop first (seen self.old.records entry)) }
+        ensures same { self.new ≡ self.old }
+    {
+        let _ = width;
+        self.read(entry, first, into);
+    }
+
     ghost references = { λ s. references s.records };
 }

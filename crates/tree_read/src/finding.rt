@@ -6,7 +6,7 @@ ghost use Rattle.tree_read.specs.Keys.{AllReadable, Ascends, seen_by};
 ghost use Rattle.tree_read.specs.Pairs.{lookup, lookup_pair};
 ghost use Rattle.tree_read.specs.NodePlaces.{IsSlot, IsFound, IsLacking};
 
-use crate::{FIRST_KEY, FIRST_VALUE, KeyOrder, read_head};
+use crate::{FIRST_KEY, FIRST_VALUE, KeyOrder, NODE_WORDS, read_head, read_used};
 use arena_api::Frozen;
 use entry_ref::EntryRef;
 use std::cmp::Ordering;
@@ -26,7 +26,7 @@ fn compare_slot<const OFFSET_BITS: u32, F: Frozen<OFFSET_BITS>, K: KeyOrder<OFFS
         (slice_index (node_keys (F.records frozen.old node.entry)) slot) }
     ensures same { frozen.new ≡ frozen.old }
 {
-    let stored = frozen.word(node, FIRST_KEY as u32 + slot);
+    let stored = frozen.word_of(node, NODE_WORDS as u32, FIRST_KEY as u32 + slot);
     key.compare(frozen, stored)
 }
 
@@ -96,13 +96,13 @@ fn find_below<const OFFSET_BITS: u32, F: Frozen<OFFSET_BITS>, K: KeyOrder<OFFSET
         (pairs_below (F.records frozen.old) level node.entry) }
     ensures same { frozen.new ≡ frozen.old }
 {
-    let used = read_head(frozen, node).used;
+    let used = read_used(frozen, node);
     let slot = seek_slot(frozen, node, used, key);
     if slot == used {
         *pair = None;
         return;
     }
-    let value = frozen.word(node, FIRST_VALUE as u32 + slot);
+    let value = frozen.word_of(node, NODE_WORDS as u32, FIRST_VALUE as u32 + slot);
     if level > 0 {
         find_below(
             frozen,
@@ -114,7 +114,10 @@ fn find_below<const OFFSET_BITS: u32, F: Frozen<OFFSET_BITS>, K: KeyOrder<OFFSET
         return;
     }
     if is_at(frozen, node, slot, key) {
-        *pair = Some((frozen.word(node, FIRST_KEY as u32 + slot), value));
+        *pair = Some((
+            frozen.word_of(node, NODE_WORDS as u32, FIRST_KEY as u32 + slot),
+            value,
+        ));
         return;
     }
     *pair = None;

@@ -47,7 +47,7 @@ fn take_leaf<const OFFSET_BITS: u32, F: Frozen<OFFSET_BITS>, T: TakesKeys>(
     ensures same { frozen.new ≡ frozen.old }
 {
     let mut words = [0; FIRST_VALUE];
-    frozen.read(leaf, 0, &mut words);
+    frozen.read_of(leaf, NODE_WORDS as u32, 0, &mut words);
     taker.take(used_keys(&words))
 }
 

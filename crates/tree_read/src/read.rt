@@ -18,7 +18,7 @@ pub fn read_words<const OFFSET_BITS: u32, F: Frozen<OFFSET_BITS>>(
     ensures words { into.new ≡ F.records frozen.old node.entry }
     ensures same { frozen.new ≡ frozen.old }
 {
-    frozen.read(node, 0, into);
+    frozen.read_of(node, NODE_WORDS as u32, 0, into);
 }
 
 /// The contents of word 0 of a node.
@@ -43,6 +43,18 @@ pub fn read_head<const OFFSET_BITS: u32, F: Frozen<OFFSET_BITS>>(
         level: word / LEVEL_BASE,
         used: (word % LEVEL_BASE) as u32,
     }
+}
+
+/// Reads the number of used slots of a node.
+pub fn read_used<const OFFSET_BITS: u32, F: Frozen<OFFSET_BITS>>(
+    frozen: &mut F,
+    node: EntryRef<OFFSET_BITS>,
+) -> u32
+    requires { length (F.records frozen.old node) ≡ NODE_WORDS }
+    ensures used { result ≡ used_of (F.records frozen.old node.entry) }
+    ensures same { frozen.new ≡ frozen.old }
+{
+    (frozen.word_of(node, NODE_WORDS as u32, 0) % LEVEL_BASE) as u32
 }
 
 /// Returns the number of used slots of a node with these words.

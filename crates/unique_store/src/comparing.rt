@@ -36,9 +36,7 @@ fn compare_words<const OFFSET_BITS: u32, F: Frozen<OFFSET_BITS>>(
 }
 
 /// Compares a stored text with bytes. It reads words only until they differ: nearly always the first ones do, so these
-/// come before the length. This and the rest are functions of their own, so that the comparison of longs needs fewer
-/// registers.
-#[inline(never)]
+/// come before the length. The rest is a function of its own, so that the comparison of longs needs fewer registers.
 fn compare_text<const OFFSET_BITS: u32, F: Frozen<OFFSET_BITS>>(
     frozen: &mut F,
     stored: EntryRef<OFFSET_BITS>,

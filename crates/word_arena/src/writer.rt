@@ -190,5 +190,36 @@ impl<const OFFSET_BITS: u32, L: Layout> Frozen<OFFSET_BITS> for Writer<OFFSET_BI
         load_words(arena, &mut self.place, entry, first, place, into);
     }
 
+    fn word_of(&mut self, entry: EntryRef<OFFSET_BITS>, width: u32, i: u32) -> u64
+        requires width { length (⟦<Writer<OFFSET_BITS, L> as Frozen<OFFSET_BITS>>⟧.records self.old entry) ≡ width }
+        requires there { i < width }
+        ensures value { result ≡ word_at (⟦<Writer<OFFSET_BITS, L> as Frozen<OFFSET_BITS>>⟧.records self.old) entry.entry i }
+        ensures same { self.new ≡ self.old }
+    {
+        let arena = self.seats.arena();
+        let (buffers, words) = (arena.sizes.buffers as u32, arena.sizes.words as u32);
+        let place = place_of(buffers, words, width, entry, i);
+        arena
+            .table
+            .shared
+            .load::<LoadOwn<L>>(&mut self.place, place as usize)
+    }
+
+    fn read_of(&mut self, entry: EntryRef<OFFSET_BITS>, width: u32, first: u32, into: &mut [u64])
+        requires width { length (⟦<Writer<OFFSET_BITS, L> as Frozen<OFFSET_BITS>>⟧.records self.old entry) ≡ width }
+        requires there { first + length into.old ≤ width }
+        ensures words { into.new ≡ take (length into.old)
+            (drop first (⟦<Writer<OFFSET_BITS, L> as Frozen<OFFSET_BITS>>⟧.records self.old entry.entry)) }
+        ensures same { self.new ≡ self.old }
+    {
+        if into.is_empty() {
+            return;
+        }
+        let arena = self.seats.arena();
+        let (buffers, words) = (arena.sizes.buffers as u32, arena.sizes.words as u32);
+        let place = place_of(buffers, words, width, entry, first);
+        load_words(arena, &mut self.place, entry, first, place, into);
+    }
+
     ghost references = { λ w. work_references (writer_of w.place.me.0) w.stands.good OFFSET_BITS (desk_bits w.stands) w.stands.limits };
 }

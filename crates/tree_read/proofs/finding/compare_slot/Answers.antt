@@ -3,7 +3,17 @@ use Rattle.entry_ref.specs.Records.{word_at}
 use Rattle.tree_read.specs.Nodes.{level_of, used_of}
 use Rattle.tree_read.specs.Keys.{seen_by}
 use Rattle.tree_read.proofs.ChildLemmas.{keys-length, slot-key, get_or-node_keys}
+use Rattle.tree_read.proofs.ReadLemmas.{node-room, node-size}
 use Rattle.tree_read.proofs.finding.compare_slot.Goals as goal
+
+pub word_of-stored-requires : goal.word_of-stored-requires
+word_of-stored-requires g c =
+    let m = g.F.Frozen.records c.args.frozen.now in
+    let node = c.args.node in
+    let size = keys-length m 1 (level_of (m node)) node c.requires.node in
+    let room = node-room m 1 (level_of (m node)) node c.requires.node in
+    let asked = c.requires.slot in
+    (omega arith, (node-size m 1 (level_of (m node)) node c.requires.node, omega arith))
 
 pub compare-requires : goal.compare-requires
 compare-requires g c =
@@ -15,9 +25,9 @@ compare-requires g c =
     let size = keys-length m 1 (level_of (m node)) node c.requires.node in
     let asked = c.requires.slot in
     let low : slot < used_of (m node) = omega arith in
-    let stored : c.word-stored.result ≡ word_at m node (2 + slot) = c.word-stored.ensures.value in
+    let stored : c.word_of-stored.result ≡ word_at m node (2 + slot) = c.word_of-stored.ensures.value in
     let key : can m (word_at m node (2 + slot)) = slot-key (can m) m 1 (level_of (m node)) node slot c.requires.node c.requires.readable low in
-    subst (λ (f : g.row.F.Denot). can (records f) c.word-stored.result) (sym c.word-stored.ensures.same) (subst (can m) (sym stored) key)
+    subst (λ (f : g.row.F.Denot). can (records f) c.word_of-stored.result) (sym c.word_of-stored.ensures.same) (subst (can m) (sym stored) key)
 
 pub returns-clause-answer : goal.returns-clause-answer
 returns-clause-answer g c =
@@ -30,7 +40,7 @@ returns-clause-answer g c =
     let asked = c.requires.slot in
     let low : slot < used_of (m node) = omega arith in
     let sought = key.sought c.args.key.now in
-    let stored : c.word-stored.result ≡ word_at m node (2 + slot) = c.word-stored.ensures.value in
+    let stored : c.word_of-stored.result ≡ word_at m node (2 + slot) = c.word_of-stored.ensures.value in
     c.compare.ensures.answer
-    ∙ ap (λ (f : g.row.F.Denot). seen_by key.read key.order sought (records f) c.word-stored.result) c.word-stored.ensures.same
+    ∙ ap (λ (f : g.row.F.Denot). seen_by key.read key.order sought (records f) c.word_of-stored.result) c.word_of-stored.ensures.same
     ∙ ap (seen_by key.read key.order sought m) (stored ∙ sym (get_or-node_keys (m node) slot low))

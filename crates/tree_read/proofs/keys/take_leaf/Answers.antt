@@ -5,23 +5,22 @@ use Rattle.tree_read.proofs.ReadLemmas.{node-size, node-room, node-keys-all}
 use Rattle.tree_read.proofs.SearchKeyLemmas.{cut-keys, cut-used, leaf-keys}
 use Rattle.tree_read.proofs.keys.take_leaf.Goals as goal
 
-pub read-requires : goal.read-requires
-read-requires g c =
+pub read_of-requires : goal.read_of-requires
+read_of-requires g c =
     let m = g.F.Frozen.records c.args.frozen.now in
-    let size = node-size m 1 0 c.args.leaf c.requires.node in
-    (omega arith, (omega arith, omega arith))
+    (omega arith, (node-size m 1 0 c.args.leaf c.requires.node, omega arith))
 
 pub used_keys-requires : goal.used_keys-requires
 used_keys-requires g c =
     let m = g.F.Frozen.records c.args.frozen.now in
     let room = node-room m 1 0 c.args.leaf c.requires.node in
-    let used : used_of c.read.new.into ≡ used_of (m c.args.leaf) = ap used_of c.read.ensures.words ∙ cut-used (m c.args.leaf) in
+    let used : used_of c.read_of.new.into ≡ used_of (m c.args.leaf) = ap used_of c.read_of.ensures.words ∙ cut-used (m c.args.leaf) in
     omega arith
 
 keys-are : (g : _) (c : goal.After-used_keys g) → c.used_keys.result.now ≡ node_keys (g.F.Frozen.records c.args.frozen.now c.args.leaf)
 keys-are g c =
     let m = g.F.Frozen.records c.args.frozen.now in
-    c.used_keys.ensures ∙ ap node_keys c.read.ensures.words ∙ cut-keys (m c.args.leaf) (node-room m 1 0 c.args.leaf c.requires.node)
+    c.used_keys.ensures ∙ ap node_keys c.read_of.ensures.words ∙ cut-keys (m c.args.leaf) (node-room m 1 0 c.args.leaf c.requires.node)
 
 pub take-requires : goal.take-requires
 take-requires g c =
@@ -32,6 +31,6 @@ take-requires g c =
 pub returns-clause-takes : goal.returns-clause-takes
 returns-clause-takes g c =
     let m = g.F.Frozen.records c.args.frozen.now in
-    let keys = c.used_keys.ensures ∙ ap node_keys c.read.ensures.words ∙ cut-keys (m c.args.leaf) (node-room m 1 0 c.args.leaf c.requires.node) in
+    let keys = c.used_keys.ensures ∙ ap node_keys c.read_of.ensures.words ∙ cut-keys (m c.args.leaf) (node-room m 1 0 c.args.leaf c.requires.node) in
     subst (λ (ks : List ℕ). OnOk c.take.result (g.T.TakesKeys.takes c.args.taker.now ks c.take.new.self))
     (keys ∙ sym (leaf-keys m c.args.leaf c.requires.node)) c.take.ensures
