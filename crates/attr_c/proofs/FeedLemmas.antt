@@ -20,7 +20,7 @@ use Rattle.attr_types.specs.Table.{Table, after_op, after_ops, is_skipped, skipp
 use Rattle.attr_types.specs.declared.applied.Applied.{Applied}
 use Rattle.attr_types.specs.declared.applied.Applied.TheVariants.{Changed, Skipped}
 use Rattle.attribute_kinds.specs.Calls.{applied_to}
-use Rattle.attr_c.specs.Feeding.{skips_of, AppliesLine, Stays, SaysLine, FailsLine, FedLine, FedTo, Feeds, IfLine, IsOfNoLine, RefusesLine}
+use Rattle.attr_c.specs.Feeding.{skips_of, AppliesLine, AreOpsOf, Stays, SaysLine, FailsLine, FedLine, FedTo, Feeds, IfLine, IsOfNoLine, IsOpOf, IsSaidBefore, RefusesLine}
 use Rattle.attr_c.specs.declared.stop.Stop.{Stop}
 use Rattle.attr_c.specs.declared.stop.Stop.TheVariants as stops
 
@@ -218,24 +218,27 @@ ops_before fields more n (line ∷ lines) ops is = before_by fields more n line 
 -- ---- a feed up to one of its lines
 module _ (fields : List Field) (bytes : List ℕ) where
   -- the feed is these operations and those of the rest
+  said_all : (rest : List ℕ) (ops : List Op) (front : IsSaidBefore fields bytes rest ops) → with_front ops (ops_of_lines fields (1 + length front.lines) (lines_of rest)) ≡ feed_of fields bytes
+  unfolding feed_of
+  said_all rest ops front = sym (ap (ops_of_lines fields 1) front.split ∙ ops_before fields (lines_of rest) 1 front.lines ops front.said)
+
   said_before : (number : ℕ) (rest : List ℕ) (old new : Table) (before after skipped : ℕ) (fed : FedTo fields bytes number rest old new before after skipped)
       → with_front fed.ops (ops_of_lines fields number (lines_of rest)) ≡ feed_of fields bytes
-  unfolding feed_of
   said_before number rest old new before after skipped fed =
-      let is : 1 + length fed.lines ≡ number = (let n = fed.number_is in omega (arith, n)) in
-      sym (ap (ops_of_lines fields 1) fed.split ∙ ops_before fields (lines_of rest) 1 fed.lines fed.ops fed.said ∙ ap (λ (n : ℕ). with_front fed.ops (ops_of_lines fields n (lines_of rest))) is)
+      let is : number ≡ 1 + length fed.front.lines = (let n = fed.number_is in omega (arith, n)) in
+      ap (λ (n : ℕ). with_front fed.ops (ops_of_lines fields n (lines_of rest))) is ∙ said_all rest fed.ops fed.front
+
+  -- nothing is before the whole
+  pub said_none : IsSaidBefore fields bytes bytes []
+  said_none = record { lines = []; split = refl; said = no_ops fields 1 }
+
+  -- no line is left
+  pub said_whole : (rest : List ℕ) (ops : List Op) → length rest ≡ 0 → IsSaidBefore fields bytes rest ops → feed_of fields bytes ≡ Ok ops
+  said_whole rest ops none front = sym (said_all rest ops front) ∙ lines_end fields ops (1 + length front.lines) rest none
 
   pub fed_none : (old : Table) (before : ℕ) → FedTo fields bytes 1 bytes old old before before 0
-  fed_none old before = record {
-    lines = [];
-    split = refl;
-    number_is = refl;
-    ops = [];
-    said = no_ops fields 1;
-    table = refl;
-    operations = omega arith;
-    skips = refl;
-  }
+  unfolding said_none
+  fed_none old before = record { ops = []; front = said_none; number_is = refl; table = refl; operations = omega arith; skips = refl }
 
   -- no more operations changed nothing than were applied
   pub fed_few : (number : ℕ) (rest : List ℕ) (old new : Table) (before after skipped : ℕ) → FedTo fields bytes number rest old new before after skipped → skipped + before ≤ after
@@ -245,7 +248,6 @@ module _ (fields : List Field) (bytes : List ℕ) where
       let operations = fed.operations in
       omega (arith, few, skips, operations)
 
-  -- no line is left
   -- the operations are few, so that those that changed nothing can be counted
   pub fed_small : (number : ℕ) (rest line : List ℕ) (old mid new : Table) (before between after skipped : ℕ) (applied : Option Applied)
       → FedTo fields bytes number rest old mid before between skipped → FedLine fields line mid new between after (Ok applied) → IfSome applied (λ _. after < 2 ^ 32) → skipped < 2 ^ 32
@@ -264,39 +266,59 @@ module _ (fields : List Field) (bytes : List ℕ) where
   pub fed_whole : (old new : Table) (before after skipped number : ℕ) (rest : List ℕ) → length rest ≡ 0 → FedTo fields bytes number rest old new before after skipped
       → Feeds fields bytes old new before after skipped
   fed_whole old new before after skipped number rest none fed =
-      record { ops = fed.ops; said = sym (said_before number rest old new before after skipped fed) ∙ lines_end fields fed.ops number rest none; table = fed.table; operations = fed.operations; skips = fed.skips }
+      record { ops = fed.ops; said = said_whole rest fed.ops none fed.front; table = fed.table; operations = fed.operations; skips = fed.skips }
+
+  -- a line more is before the rest
+  module _ (rest line left : List ℕ) (lines : lines_of rest ≡ line ∷ lines_of left) (ops : List Op) (front : IsSaidBefore fields bytes rest ops) where
+    split_on : lines_of bytes ≡ (front.lines ++ line ∷ []) ++ lines_of left
+    split_on = front.split ∙ ap (λ (ls : List (List ℕ)). front.lines ++ ls) lines ∙ sym (append_assoc front.lines (line ∷ []) (lines_of left))
+
+    said_on : ops_of_lines fields 1 (front.lines ++ line ∷ []) ≡ with_front ops (ops_of_lines fields (1 + length front.lines) (line ∷ []))
+    said_on = ops_before fields (line ∷ []) 1 front.lines ops front.said
+
+    end_on : (os : List Op) (n : ℕ) → with_front os (ops_of_lines fields n []) ≡ Ok os
+    end_on os n = ap (with_front os) (no_ops fields n) ∙ ap Ok (append-nil os)
+
+    pub said_blank : is_blank line ≡ true → IsSaidBefore fields bytes left ops
+    said_blank blank = record {
+      lines = front.lines ++ line ∷ [];
+      split = split_on;
+      said = said_on ∙ ap (with_front ops) (lines_blank fields (1 + length front.lines) line [] blank) ∙ end_on ops (1 + length front.lines + 1);
+    }
+
+    pub said_one : (op : Op) → IsOpOf fields line op → IsSaidBefore fields bytes left (ops ++ op ∷ [])
+    said_one op is = record {
+      lines = front.lines ++ line ∷ [];
+      split = split_on;
+      said = said_on ∙ lines_more fields ops op (1 + length front.lines) line [] is.some is.says ∙ end_on (ops ++ op ∷ []) (1 + length front.lines + 1);
+    }
+
+    pub said_more : (more : List Op) → AreOpsOf fields line more → IsSaidBefore fields bytes left (ops ++ more)
+    said_more [] is = subst (IsSaidBefore fields bytes left) (sym (append-nil ops)) (said_blank is)
+    said_more (op ∷ []) is = said_one op is
+    said_more (op ∷ another ∷ more) is = absurd is
 
   module _ (old mid new : Table) (before between after skipped : ℕ) (number : ℕ) (rest line left : List ℕ) (lines : lines_of rest ≡ line ∷ lines_of left)
       (fed : FedTo fields bytes number rest old mid before between skipped) where
     said_line : with_front fed.ops (ops_of_lines fields number (line ∷ lines_of left)) ≡ feed_of fields bytes
     said_line = ap (λ (ls : List (List ℕ)). with_front fed.ops (ops_of_lines fields number ls)) (sym lines) ∙ said_before number rest old mid before between skipped fed
 
-    -- the line is now before the rest
-    split_on : lines_of bytes ≡ (fed.lines ++ line ∷ []) ++ lines_of left
-    split_on = fed.split ∙ ap (λ (ls : List (List ℕ)). fed.lines ++ ls) lines ∙ sym (append_assoc fed.lines (line ∷ []) (lines_of left))
-
-    number_on : number + 1 ≡ length (fed.lines ++ line ∷ []) + 1
-    number_on = let long = length-append fed.lines (line ∷ []) in let is = fed.number_is in omega (arith, long, is)
-
-    said_on : ops_of_lines fields 1 (fed.lines ++ line ∷ []) ≡ with_front fed.ops (ops_of_lines fields (1 + length fed.lines) (line ∷ []))
-    said_on = ops_before fields (line ∷ []) 1 fed.lines fed.ops fed.said
-
-    end_on : (ops : List Op) (n : ℕ) → with_front ops (ops_of_lines fields n []) ≡ Ok ops
-    end_on ops n = ap (with_front ops) (no_ops fields n) ∙ ap Ok (append-nil ops)
+    number_on : number + 1 ≡ length (fed.front.lines ++ line ∷ []) + 1
+    number_on = let long = length-append fed.front.lines (line ∷ []) in let is = fed.number_is in omega (arith, long, is)
 
     pub fed_blank : is_blank line ≡ true → Stays mid new between after → FedTo fields bytes (number + 1) left old new before after (skipped + 0)
+    unfolding said_blank
     fed_blank blank stays = record {
-      lines = fed.lines ++ line ∷ [];
-      split = split_on;
-      number_is = number_on;
       ops = fed.ops;
-      said = said_on ∙ ap (with_front fed.ops) (lines_blank fields (1 + length fed.lines) line [] blank) ∙ end_on fed.ops (1 + length fed.lines + 1);
+      front = said_blank rest line left lines fed.ops fed.front blank;
+      number_is = number_on;
       table = stays.table ∙ fed.table;
       operations = stays.operations ∙ fed.operations;
       skips = (let none : skipped + 0 ≡ skipped = omega arith in none) ∙ fed.skips;
     }
 
     pub fed_more : (applied : Applied) → AppliesLine fields line mid new between after applied → FedTo fields bytes (number + 1) left old new before after (skipped + skips_of (Some applied))
+    unfolding said_one
     fed_more applied one =
         let skips = fed.skips in
         let more = skipped_one_more fields fed.ops one.op old in
@@ -305,11 +327,9 @@ module _ (fields : List Field) (bytes : List ℕ) where
         let is = one.operations in
         let long = length-append fed.ops (one.op ∷ []) in
         record {
-          lines = fed.lines ++ line ∷ [];
-          split = split_on;
-          number_is = number_on;
           ops = fed.ops ++ one.op ∷ [];
-          said = said_on ∙ lines_more fields fed.ops one.op (1 + length fed.lines) line [] one.some one.says ∙ end_on (fed.ops ++ one.op ∷ []) (1 + length fed.lines + 1);
+          front = said_one rest line left lines fed.ops fed.front one.op (record { some = one.some; says = one.says });
+          number_is = number_on;
           table = one.table ∙ ap (λ (t : Table). after_op fields t one.op) fed.table ∙ sym (after_one_more fields fed.ops one.op old);
           operations = omega (arith, was, is, long);
           skips = omega (arith, skips, more, this);
@@ -323,16 +343,7 @@ module _ (fields : List Field) (bytes : List ℕ) where
     pub fed_still : (stop : Stop) → FedLine fields line mid new between after (Err stop) → FedTo fields bytes number rest old new before after skipped
     fed_still stop line_is =
         let stays = stays_at stop line_is in
-        record {
-          lines = fed.lines;
-          split = fed.split;
-          number_is = fed.number_is;
-          ops = fed.ops;
-          said = fed.said;
-          table = stays.table ∙ fed.table;
-          operations = stays.operations ∙ fed.operations;
-          skips = fed.skips;
-        }
+        record { ops = fed.ops; front = fed.front; number_is = fed.number_is; table = stays.table ∙ fed.table; operations = stays.operations ∙ fed.operations; skips = fed.skips }
       where
         stays_at : (stop : Stop) → FedLine fields line mid new between after (Err stop) → Stays mid new between after
         stays_at (stops.Line error) line_is = line_is.2

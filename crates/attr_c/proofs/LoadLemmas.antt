@@ -1,5 +1,5 @@
 -- Documents of a save, put in one after another.
-use Rattle.std.proofs.Common.{◌≡◌, ℕ, ◌+◌, List, [], ◌∷◌, ◌++◌, length, take, Ok, Some, refl, sym, subst, ◌∙◌, ap, arith, length-append}
+use Rattle.std.proofs.Common.{◌≡◌, ℕ, ◌+◌, List, [], ◌∷◌, ◌++◌, length, take, Ok, Some, refl, sym, subst, ◌∙◌, ap, arith, append-nil, length-append}
 use Rattle.std.proofs.lemmas.Grind.{common_steps}
 use Rattle.std.specs.List.{AllByRecursion}
 use Rattle.std.specs.Prelude.{slice_get}
@@ -14,7 +14,7 @@ use Rattle.attr_types.specs.declared.op.Op.{Op}
 use Rattle.attr_types.specs.declared.kind.Kind.{Kind}
 use Rattle.attr_types.specs.declared.kind.ValueType.{ValueType}
 use Rattle.attr_c.specs.Feeding.{Stays}
-use Rattle.attr_c.specs.Loading.{put_of, puts_of, PutsIn, PutsFront, IsNextPut, IsSaveOf, LoadsSave, LoadsFront}
+use Rattle.attr_c.specs.Loading.{put_of, puts_of, AreFirstOf, ArePuts, PutsIn, PutsFront, IsNextPut, IsSaveOf, LoadsSave, LoadsFront}
 
 after_puts : (fields : List Field) (documents : List SavedDocument) (one : SavedDocument) (table : Table)
     → after_ops fields table (puts_of (documents ++ one ∷ [])) ≡ after_op fields (after_ops fields table (puts_of documents)) (put_of one)
@@ -66,6 +66,48 @@ puts_fit fields saved is_of lawful =
     subst (λ (fs : List Field). AllByRecursion (λ d. OpFits fs (put_of d)) saved.table) (sym is_of.sole)
     (fit_one is_of.field saved.kind saved.value is_of.kind is_of.value saved.table lawful.column.numbers lawful.column.items)
 
+-- the first documents of a save of the attribute
+pub first_of : (fields : List Field) (bytes : List ℕ) (saved : Saved) → read_of bytes ≡ Ok saved → IsSaveOf fields saved → (documents : List SavedDocument)
+    → documents ≡ take (length documents) saved.table → AreFirstOf fields bytes documents
+first_of fields bytes saved reads is_of documents front = record {
+  front = λ other says. let same : saved ≡ other = cc in front ∙ ap (λ (s : Saved). take (length documents) s.table) same;
+  broken = λ place says. cc;
+  other = λ is. let says = is.reads in let same : saved ≡ is.saved = cc in absurd (is.other (subst (IsSaveOf fields) same is_of));
+}
+
+pub none_of : (fields : List Field) (bytes : List ℕ) → AreFirstOf fields bytes []
+none_of fields bytes = record { front = λ saved says. refl; broken = λ place says. refl; other = λ is. refl }
+
+-- no operation puts in no document
+pub no_puts : (which : List SavedDocument → Type 0) → which [] → ArePuts which []
+no_puts which is = record { documents = []; which_are = is; ops_are = refl }
+
+puts_end : (documents : List SavedDocument) (one : SavedDocument) → puts_of documents ++ put_of one ∷ [] ≡ puts_of (documents ++ one ∷ [])
+puts_end [] one = refl
+puts_end (first ∷ documents) one = ap (λ (os : List Op). put_of first ∷ os) (puts_end documents one)
+
+-- one document more is put in
+pub puts_one_more : (documents : List SavedDocument) (one : SavedDocument) (xs ys : List Op) → xs ≡ puts_of documents → ys ≡ put_of one ∷ [] → xs ++ ys ≡ puts_of (documents ++ one ∷ [])
+puts_one_more documents one xs ys first second =
+    ap (λ (os : List Op). os ++ ys) first ∙ ap (λ (os : List Op). puts_of documents ++ os) second ∙ puts_end documents one
+
+-- what was put in of documents is a front of them
+pub puts_before : (front rest all : List SavedDocument) (xs ys : List Op) → front ++ rest ≡ all → xs ≡ puts_of front → ys ≡ [] → ArePuts (λ f. f ≡ take (length f) all) (xs ++ ys)
+puts_before front rest all xs ys whole first none = record {
+  documents = front;
+  which_are = take_front front rest ∙ ap (take (length front)) whole;
+  ops_are = ap (λ (os : List Op). xs ++ os) none ∙ append-nil xs ∙ first;
+}
+
+-- a front of the documents of a save of the attribute
+pub first_puts : (fields : List Field) (bytes : List ℕ) (saved : Saved) → read_of bytes ≡ Ok saved → IsSaveOf fields saved → (all : List SavedDocument) → all ≡ saved.table
+    → (ops : List Op) → ArePuts (λ f. f ≡ take (length f) all) ops → ArePuts (AreFirstOf fields bytes) ops
+first_puts fields bytes saved reads is_of all same ops are = record {
+  documents = are.documents;
+  which_are = first_of fields bytes saved reads is_of are.documents (are.which_are ∙ ap (take (length are.documents)) same);
+  ops_are = are.ops_are;
+}
+
 module _ (fields : List Field) (old : Table) (before : ℕ) where
   pub puts_none : PutsIn fields [] old old before before
   puts_none = record { table = refl; operations = omega arith }
@@ -96,16 +138,12 @@ module _ (fields : List Field) (old : Table) (before : ℕ) where
     loads_front saved reads is_of front = record {
       documents = front.documents;
       puts = front.puts;
-      front = λ other says. let same : saved ≡ other = cc in front.front ∙ ap (λ (s : Saved). take (length front.documents) s.table) same;
-      broken = λ place says. cc;
-      other = λ is. let says = is.reads in let same : saved ≡ is.saved = cc in absurd (is.other (subst (IsSaveOf fields) same is_of));
+      first = first_of fields bytes saved reads is_of front.documents front.front;
     }
 
     pub loads_none : Stays old new before after → LoadsFront fields bytes old new before after
     loads_none stays = record {
       documents = [];
       puts = record { table = stays.table; operations = let same = stays.operations in omega (arith, same) };
-      front = λ saved says. refl;
-      broken = λ place says. refl;
-      other = λ is. refl;
+      first = none_of fields bytes;
     }

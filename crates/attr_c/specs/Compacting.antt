@@ -1,19 +1,15 @@
 -- A step of a compaction, and what is told of it.
 use Rattle.std.specs.Prelude.{◌≡◌, ℕ, ◌⊎◌, Some, None}
-use Rattle.attr_c.specs.Stores.{ledger_over, records_over}
+use Rattle.attr_c.specs.Engines.{open_plan}
+use Rattle.attr_c.specs.Stores.{open_bits, open_ledger, OfOpen}
 use Rattle.attr_c.specs.declared.state.AnyOpen.{AnyOpen}
-use Rattle.attr_c.specs.declared.state.AnyOpen.TheVariants.{Narrow, Wide}
 use Rattle.attr_c.specs.declared.stop.Stop.{Stop}
 use Rattle.attr_c.specs.declared.stop.Stop.TheVariants as stops
 use Rattle.attr_c.specs.declared.told.Told.{Told}
-use Rattle.attribute_kinds.specs.Compacting.{CompactsTo, RefusesStep}
-use Rattle.attribute_kinds.specs.Views.{AttributeView}
+use Rattle.attribute_kinds.specs.Compacting.{CompactsTo, IsIdle, RefusesStep}
 use Rattle.attribute_kinds.specs.declared.answers.AttrError.{AttrError}
 use Rattle.attribute_kinds.specs.declared.answers.Compacted.{Compacted}
 use Rattle.attribute_kinds.specs.declared.answers.Compacted.TheVariants.{Idle, Moved, Finished}
-use Rattle.entry_ref.specs.Records.{Records}
-use Rattle.store_api.specs.Ledgers.{Ledger}
-use Rattle.word_arena.specs.Ruled.{writer_of}
 
 -- how many keys were visited, or which buffer was emptied; a step that the store stopped is not told as a step
 abbrev pub TellsStep : Compacted → Told → Type 0
@@ -33,33 +29,14 @@ abbrev pub StopsStep : (Compacted → Type 0) → (AttrError → Type 0) → ℕ
 StopsStep steps refuses keys (stops.Store error) = (refuses error × (keys ≡ 0)) ⊎ steps (Moved keys (Some error))
 StopsStep steps refuses keys stop = ⊥
 
--- the attributes of an engine, and the ledger and the records of its store
-abbrev pub compacts_by : {S H : Type 0} → AttributeView S → AttributeView S → ℕ → (S → Ledger H) → (S → Records)
-    → ℕ → Compacted → Type 0
-compacts_by old new bits ledger records keys compacted = CompactsTo bits ledger records old new keys compacted
-
-abbrev pub refuses_by : {S H : Type 0} → AttributeView S → AttributeView S → ℕ → (S → Ledger H) → (S → Records)
-    → AttrError → Type 0
-refuses_by old new bits ledger records error = RefusesStep bits ledger records old new error
-
+-- the same of the attributes of an engine
 abbrev pub CompactsOpen : AnyOpen → AnyOpen → ℕ → Compacted → Type 0
-CompactsOpen (Narrow old) (Narrow new) =
-    compacts_by old.attribute new.attribute 22
-    (λ store. ledger_over 22 store.work.place.table_id (writer_of store.work.place.me.0) store.entries store.unit)
-    (λ store. records_over 22 store.work.place.table_id (writer_of store.work.place.me.0) store.entries)
-CompactsOpen (Wide old) (Wide new) =
-    compacts_by old.attribute new.attribute 19
-    (λ store. ledger_over 19 store.work.place.table_id (writer_of store.work.place.me.0) store.entries store.unit)
-    (λ store. records_over 19 store.work.place.table_id (writer_of store.work.place.me.0) store.entries)
-CompactsOpen old new = λ keys compacted. ⊥
+CompactsOpen old new keys compacted =
+    OfOpen (λ store bits before now ledger records. CompactsTo bits ledger records before now keys compacted) old new
 
 abbrev pub RefusesOpen : AnyOpen → AnyOpen → AttrError → Type 0
-RefusesOpen (Narrow old) (Narrow new) =
-    refuses_by old.attribute new.attribute 22
-    (λ store. ledger_over 22 store.work.place.table_id (writer_of store.work.place.me.0) store.entries store.unit)
-    (λ store. records_over 22 store.work.place.table_id (writer_of store.work.place.me.0) store.entries)
-RefusesOpen (Wide old) (Wide new) =
-    refuses_by old.attribute new.attribute 19
-    (λ store. ledger_over 19 store.work.place.table_id (writer_of store.work.place.me.0) store.entries store.unit)
-    (λ store. records_over 19 store.work.place.table_id (writer_of store.work.place.me.0) store.entries)
-RefusesOpen old new = λ error. ⊥
+RefusesOpen old new error = OfOpen (λ store bits before now ledger records. RefusesStep bits ledger records before now error) old new
+
+-- no compaction is in progress, and none would begin
+abbrev pub IsIdleOpen : AnyOpen → Type 0
+IsIdleOpen o = IsIdle (open_bits o) (open_ledger o) (open_plan o)

@@ -1,12 +1,20 @@
 -- What the writer's handle holds, as its callers see it.
-use Rattle.std.specs.Prelude.{◌≡◌, ◌<◌, ◌≤◌, ℕ, Bool, List, [], length, replicate}
+use Rattle.std.specs.Prelude.{◌≡◌, ◌<◌, ◌≤◌, ℕ, Bool, true, List, [], length, replicate, Option, None}
 use Rattle.std.specs.List.{AllByRecursion}
 use Rattle.atomic_table.specs.Seated.{TableId}
+use Rattle.arena_api.specs.Works.{is_free}
+use Rattle.attr_compaction.specs.Places.{PlanView}
+use Rattle.attr_images.specs.Tables.{AttributeTrees}
 use Rattle.attr_types.specs.Table.{Table}
 use Rattle.attr_types.specs.declared.field.Field.{Field}
 use Rattle.attr_types.specs.declared.field.TheConstants.{MOST_FIELDS}
+use Rattle.attr_types.specs.declared.op.Op.{Op}
+use Rattle.store_api.specs.Ledgers.{Ledger, no_counts}
 use Rattle.store_api.specs.declared.store.Usage.{Usage}
-use Rattle.attr_c.specs.Stores.{open_ledger}
+use Rattle.attr_c.specs.Applying.{Applies, LeavesAttributes}
+use Rattle.attr_c.specs.Stops.{StopsOperation}
+use Rattle.attr_c.specs.Stores.{open_ledger, OfOpen}
+use Rattle.attr_c.specs.declared.stop.Stop.{Stop}
 use Rattle.attr_c.specs.declared.told.CountsTold.{CountsTold}
 use Rattle.attr_c.specs.declared.told.Sizes.{Sizes}
 use Rattle.attr_c.specs.declared.state.Counts.{Counts}
@@ -32,12 +40,25 @@ abbrev pub open_dense : AnyOpen → Bool
 open_dense (Narrow o) = o.attribute.dense
 open_dense (Wide o) = o.attribute.dense
 
+-- the trees of the attributes, and the compaction in progress
+abbrev pub open_trees : AnyOpen → List AttributeTrees
+open_trees (Narrow o) = o.attribute.trees
+open_trees (Wide o) = o.attribute.trees
+
+abbrev pub open_plan : AnyOpen → Option PlanView
+open_plan (Narrow o) = o.attribute.plan
+open_plan (Wide o) = o.attribute.plan
+
 -- the memory behind the attributes
 abbrev pub open_home : AnyOpen → TableId
 open_home (Narrow o) = o.attribute.store.work.place.table_id
 open_home (Wide o) = o.attribute.store.work.place.table_id
 
--- the table of the last commit, and its number of operations
+-- the root record of the last commit, its table and its number of operations
+abbrev pub open_root : AnyOpen → ℕ
+open_root (Narrow o) = o.attribute.root
+open_root (Wide o) = o.attribute.root
+
 abbrev pub open_committed : AnyOpen → Table
 open_committed (Narrow o) = o.attribute.committed
 open_committed (Wide o) = o.attribute.committed
@@ -81,28 +102,54 @@ pub record KeepsTables (old new : AnyOpen) : Type 0 where
   pub home : open_home new ≡ open_home old
   pub table : open_table new ≡ open_table old
   pub operations : open_operations new ≡ open_operations old
+  pub root : open_root new ≡ open_root old
   pub committed : open_committed new ≡ open_committed old
   pub published : open_committed_operations new ≡ open_committed_operations old
 
--- no document, nothing applied, nothing committed
-pub record HasNothing (table committed : Table) (operations published : ℕ) : Type 0 where
+-- operations of which this holds were applied to the attributes of an engine
+abbrev pub AppliesOpen : (List Op → Type 0) → AnyOpen → AnyOpen → Type 0
+AppliesOpen which old new = OfOpen (λ store bits before now ledger records. Applies ledger which before now) old new
+
+-- all but the store of the attributes is the same, and in it each entry and each record
+abbrev pub LeavesOpen : AnyOpen → AnyOpen → Type 0
+LeavesOpen old new = OfOpen (λ store bits before now ledger records. LeavesAttributes ledger records before now) old new
+
+-- why the next operation was not applied
+abbrev pub StopsOpen : (List Op → Type 0) → (Op → Type 0) → AnyOpen → AnyOpen → Stop → Type 0
+StopsOpen which next old new stop =
+    OfOpen (λ store bits before now ledger records. StopsOperation ledger records which next before now stop) old new
+
+-- no document, nothing applied, nothing committed, and no compaction in progress
+pub record HasNothing (table committed : Table) (operations published root : ℕ) (plan : Option PlanView) : Type 0 where
   pub table_is : table ≡ []
   pub committed_is : committed ≡ []
   pub operations_are : operations ≡ 0
   pub published_are : published ≡ 0
+  pub root_is : root ≡ 0
+  pub plan_is : plan ≡ None
 
--- the attributes that were asked for, and nothing else: no commit either
+-- no commit, no entry, and no buffer in use
+pub record HasNewStore {H : Type 0} (ledger : Ledger H) : Type 0 where
+  pub no_commit : ledger.work.commits.last ≡ 0
+  pub no_entry : (width : ℕ) → ledger.of_width width ≡ no_counts
+  pub no_buffer : (b : ℕ) → is_free (ledger.work.buffer b) ≡ true
+
+-- nothing but attributes
+pub record IsNewOpen (o : AnyOpen) : Type 0 where
+  pub store_is : HasNewStore (open_ledger o)
+  pub has_nothing : HasNothing (open_table o) (open_committed o) (open_operations o) (open_committed_operations o) (open_root o)
+      (open_plan o)
+
+-- the attributes that were asked for, and nothing else
 pub record IsOpened (fields : List Field) (o : AnyOpen) : Type 0 where
   pub fields_are : open_fields o ≡ fields
-  pub no_commit : (open_ledger o).work.commits.last ≡ 0
-  pub has_nothing : HasNothing (open_table o) (open_committed o) (open_operations o) (open_committed_operations o)
+  pub is_new : IsNewOpen o
 
--- one to eight attributes, and nothing else: no commit either
+-- one to eight attributes, and nothing else
 pub record IsNewEngine (e : Engine) : Type 0 where
-  pub no_commit : (open_ledger e.open).work.commits.last ≡ 0
   pub some : 0 < length (open_fields e.open)
   pub few : length (open_fields e.open) ≤ MOST_FIELDS
-  pub has_nothing : HasNothing (open_table e.open) (open_committed e.open) (open_operations e.open) (open_committed_operations e.open)
+  pub is_new : IsNewOpen e.open
 
 -- nothing counted, but the sizes
 pub record AreNewCounts (sizes : Sizes) (counts : Counts) : Type 0 where
@@ -151,6 +198,15 @@ operations_of e = open_operations e.open
 
 abbrev pub committed_of : Engine → Table
 committed_of e = open_committed e.open
+
+abbrev pub root_of : Engine → ℕ
+root_of e = open_root e.open
+
+abbrev pub trees_of : Engine → List AttributeTrees
+trees_of e = open_trees e.open
+
+abbrev pub plan_of : Engine → Option PlanView
+plan_of e = open_plan e.open
 
 abbrev pub committed_operations_of : Engine → ℕ
 committed_operations_of e = open_committed_operations e.open

@@ -1,5 +1,5 @@
 -- How lines change attributes.
-use Rattle.std.specs.Prelude.{◌≡◌, ℕ, ◌+◌, ◌<◌, ◌≤◌, true, false, List, ◌∷◌, ◌++◌, length, drop}
+use Rattle.std.specs.Prelude.{◌≡◌, ℕ, ◌+◌, ◌<◌, ◌≤◌, true, false, List, [], ◌∷◌, ◌++◌, length, drop}
 use Rattle.std.specs.Prelude.{Option, Some, None, IfSome, Result, Ok, Err}
 use Rattle.attr_types.specs.Lawful.{OpFits}
 use Rattle.attr_types.specs.Table.{Table, after_op, after_ops, skipped_ops}
@@ -62,15 +62,19 @@ FedLine fields line old new before after (Err (stops.Line error)) =
     (is_blank line ≡ false) × FailsLine fields line error × Stays old new before after
 FedLine fields line old new before after (Err stop) = Stays old new before after
 
+-- the operations of the lines of a feed before the rest of it
+pub record IsSaidBefore (fields : List Field) (bytes rest : List ℕ) (ops : List Op) : Type 0 where
+  pub lines : List (List ℕ)
+  pub split : lines_of bytes ≡ lines ++ lines_of rest
+  pub said : ops_of_lines fields 1 lines ≡ Ok ops
+
 -- a feed up to one of its lines, whose number is one more than there are lines before it: the operations of these lines
 -- were applied, and so many of them changed nothing
 pub record FedTo (fields : List Field) (bytes : List ℕ) (number : ℕ) (rest : List ℕ) (old new : Table)
     (before after skipped : ℕ) : Type 0 where
-  pub lines : List (List ℕ)
-  pub split : lines_of bytes ≡ lines ++ lines_of rest
-  pub number_is : number ≡ length lines + 1
   pub ops : List Op
-  pub said : ops_of_lines fields 1 lines ≡ Ok ops
+  pub front : IsSaidBefore fields bytes rest ops
+  pub number_is : number ≡ length front.lines + 1
   pub table : new ≡ after_ops fields old ops
   pub operations : after ≡ before + length ops
   pub skips : skipped ≡ skipped_ops fields old ops
@@ -115,13 +119,19 @@ IfLine refuses stop = Unit {0}
 -- why a feed stopped at its line of this number, with which the rest begins: the line is refused, or its operation was
 -- not applied
 abbrev pub StopsFeed : List Field → List ℕ → ℕ → List ℕ → (Stop → Type 0) → Stop → Type 0
-StopsFeed fields bytes number rest why (stops.Line error) = RefusesLine fields bytes number rest error
+StopsFeed fields bytes number rest why (stops.Line error) = RefusesLine fields bytes number rest error × why (stops.Line error)
 StopsFeed fields bytes number rest why stop = why stop
 
 -- the operation of a line
 pub record IsOpOf (fields : List Field) (line : List ℕ) (op : Op) : Type 0 where
   pub some : is_blank line ≡ false
   pub says : op_of_line fields line ≡ Ok op
+
+-- the operations of a line: none if it is blank, otherwise one
+abbrev pub AreOpsOf : List Field → List ℕ → List Op → Type 0
+AreOpsOf fields line [] = is_blank line ≡ true
+AreOpsOf fields line (op ∷ []) = IsOpOf fields line op
+AreOpsOf fields line (op ∷ more ∷ ops) = ⊥
 
 -- the operation of the first of these lines
 pub record IsFirstOp (fields : List Field) (rest : List ℕ) (op : Op) : Type 0 where

@@ -1,5 +1,6 @@
 -- What is noted of the holds for a monitor.
 use Rattle.std.specs.Prelude.{◌≡◌, ◌+◌, ◌%◌, ◌^◌, ℕ, if◌then◌else◌, slice_index, slice_set}
+use Rattle.arena_api.specs.Calls.{told_after}
 use Rattle.arena_api.specs.Works.{last_image}
 use Rattle.arena_api.specs.declared.answers.Advance.{Advance}
 use Rattle.arena_api.specs.declared.answers.Advance.TheVariants.{To, NoHold, Spent}
@@ -24,8 +25,8 @@ with_hold counts (NoHold holds found) commit = counts
 with_hold counts (Spent generation) commit = counts
 
 -- a commit of so many operations, and what readers hold after it
-abbrev pub with_commit : CommitInfo → Counts → Counts
-with_commit info counts = record (with_oldest (with_hold counts info.advance info.commit) info.oldest) {
+abbrev pub noted_commit : CommitInfo → Counts → Counts
+noted_commit info counts = record (with_oldest (with_hold counts info.advance info.commit) info.oldest) {
   commit = info.commit;
   committed = info.operations;
 }
@@ -39,7 +40,8 @@ pub record CommitsAs {H : Type 0} (bits : ℕ) (old new : Ledger H) (before afte
   pub info : CommitInfo
   pub commits : CommitsImage bits old new (last_image new.work.commits) info
   pub number : info.commit ≡ old.work.commits.last + 1
-  pub counts_are : after ≡ with_commit info before
+  pub readers_told : new.work.told ≡ told_after old.work.told (last_image new.work.commits)
+  pub counts_are : after ≡ noted_commit info before
   pub commit_is : told.commit ≡ info.commit
   pub operations_are : told.operations ≡ info.operations
   pub oldest_is : told.oldest ≡ after.oldest

@@ -49,13 +49,29 @@ pub record IsOfOther (fields : List Field) (bytes : List ℕ) : Type 0 where
   pub reads : read_of bytes ≡ Ok saved
   pub other : IsSaveOf fields saved → ⊥
 
--- some documents of a save were put in, the first ones; none where the bytes are no save, or one of another attribute
-pub record LoadsFront (fields : List Field) (bytes : List ℕ) (old new : Table) (before after : ℕ) : Type 0 where
-  pub documents : List SavedDocument
-  pub puts : PutsIn fields documents old new before after
+-- the first documents of a save; none where the bytes are no save, or one of another attribute
+pub record AreFirstOf (fields : List Field) (bytes : List ℕ) (documents : List SavedDocument) : Type 0 where
   pub front : (saved : Saved) → read_of bytes ≡ Ok saved → documents ≡ take (length documents) saved.table
   pub broken : (place : ℕ) → read_of bytes ≡ Err place → documents ≡ []
   pub other : IsOfOther fields bytes → documents ≡ []
+
+-- such documents were put in
+pub record LoadsFront (fields : List Field) (bytes : List ℕ) (old new : Table) (before after : ℕ) : Type 0 where
+  pub documents : List SavedDocument
+  pub puts : PutsIn fields documents old new before after
+  pub first : AreFirstOf fields bytes documents
+
+-- all documents of a save
+pub record AreAllOf (bytes : List ℕ) (documents : List SavedDocument) : Type 0 where
+  pub saved : Saved
+  pub reads : read_of bytes ≡ Ok saved
+  pub all : documents ≡ saved.table
+
+-- operations that put in such documents
+pub record ArePuts (which : List SavedDocument → Type 0) (ops : List Op) : Type 0 where
+  pub documents : List SavedDocument
+  pub which_are : which documents
+  pub ops_are : ops ≡ puts_of documents
 
 -- the operation that puts in the document after those that made so many operations of so many before
 pub record IsNextPut (documents : List SavedDocument) (before after : ℕ) (op : Op) : Type 0 where
@@ -79,10 +95,10 @@ RefusesSave bytes place stop = ⊥
 
 -- why loading stopped: the bytes are no save, with the offset of the first wrong field; the save is of another attribute;
 -- or a document was not put in
-abbrev pub StopsLoad : List Field → List ℕ → ℕ → (Stop → Type 0) → Stop → Type 0
-StopsLoad fields bytes place why stops.Save = read_of bytes ≡ Err place
-StopsLoad fields bytes place why stops.Other = IsOfOther fields bytes
-StopsLoad fields bytes place why stop = why stop
+abbrev pub StopsLoad : List Field → List ℕ → ℕ → Type 0 → (Stop → Type 0) → Stop → Type 0
+StopsLoad fields bytes place applied why stops.Save = (read_of bytes ≡ Err place) × applied
+StopsLoad fields bytes place applied why stops.Other = IsOfOther fields bytes × applied
+StopsLoad fields bytes place applied why stop = why stop
 
 -- a place is told only of bytes that are no save
 abbrev pub TellsPlaceOf : Told → Told → Stop → Type 0

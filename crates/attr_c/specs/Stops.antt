@@ -1,7 +1,7 @@
 -- Why a call of the writer stops: its code, its cause, and what is told of a full store.
-use Rattle.std.specs.Prelude.{◌≡◌, ◌+◌, ◌-◌, ◌^◌, ℕ, ℤ, List, length}
+use Rattle.std.specs.Prelude.{◌≡◌, ◌-◌, ◌^◌, ℕ, ℤ, List}
 use Rattle.attr_c.specs.Holds.{with_oldest}
-use Rattle.attr_c.specs.Making.{MakesAll}
+use Rattle.attr_c.specs.Applying.{Applies, LeavesAttributes}
 use Rattle.attr_c.specs.declared.codes.TheConstants.{MEMORY, FULL, COMMITS_SPENT, OPERATIONS_SPENT}
 use Rattle.attr_c.specs.declared.codes.TheConstants.{NOT_JSON, NO_OPERATION, BAD_ID, BAD_VALUE, UNSUPPORTED, TOO_MANY_ITEMS}
 use Rattle.attr_c.specs.declared.codes.TheConstants.{LINE_TOO_LONG, BAD_SAVE, OTHER_SAVE}
@@ -9,22 +9,18 @@ use Rattle.attr_c.specs.declared.state.Counts.{Counts}
 use Rattle.attr_c.specs.declared.stop.Stop.{Stop}
 use Rattle.attr_c.specs.declared.stop.Stop.TheVariants as stops
 use Rattle.attr_c.specs.declared.told.Told.{Told}
-use Rattle.attr_c.specs.Stores.{ledger_over}
-use Rattle.attr_c.specs.declared.state.AnyOpen.{AnyOpen}
-use Rattle.attr_c.specs.declared.state.AnyOpen.TheVariants.{Narrow, Wide}
-use Rattle.attr_types.specs.Table.{after_ops}
 use Rattle.attr_types.specs.declared.field.Field.{Field}
 use Rattle.attr_types.specs.declared.op.Op.{Op}
 use Rattle.attr_steps.specs.Counts.{MakesOperation}
-use Rattle.attribute_kinds.specs.Calls.{IsForRoot, KeepsStore, RefusesCommit, RefusesOperation}
+use Rattle.attribute_kinds.specs.Calls.{IsForRoot, RefusesCommit, RefusesOperation}
 use Rattle.attribute_kinds.specs.Counts.{LacksBuffers, NamesWidth, SparesOf}
 use Rattle.attribute_kinds.specs.Views.{AttributeView}
 use Rattle.attribute_kinds.specs.declared.answers.AttrError.{AttrError}
 use Rattle.attribute_kinds.specs.declared.answers.AttrError.TheVariants as errors
 use Rattle.feed_reader.specs.declared.error.FeedError.{FeedError}
 use Rattle.feed_reader.specs.declared.error.FeedError.TheVariants as lines
+use Rattle.entry_ref.specs.Records.{Records}
 use Rattle.store_api.specs.Ledgers.{Ledger}
-use Rattle.word_arena.specs.Ruled.{writer_of}
 
 abbrev pub line_code : FeedError → ℤ
 line_code (lines.NotJson line) = NOT_JSON
@@ -89,24 +85,20 @@ pub record Stopped (cause : Stop → Type 0) (before after : Counts) (told : Tol
   pub is : cause stop
   pub ends : EndsBy stop before after told code
 
--- the store refused the next operation on these attributes, after those of this call before it, which alone made entries:
--- it was full for a width that this operation may need, and had few spare entries of it
-pub record RefusedOperation {S H : Type 0} (old now : AttributeView S) (next : Op → Type 0) (ledger : S → Ledger H) (error : AttrError)
-    : Type 0 where
+-- the store refused the next operation, after those that were applied before it, and left the attributes as they were: it
+-- was full for a width that this operation may need, and had few spare entries of it
+pub record RefusedOperation {S H : Type 0} (ledger : S → Ledger H) (records : S → Records) (which : List Op → Type 0)
+    (next : Op → Type 0) (old now : AttributeView S) (error : AttrError) : Type 0 where
   pub op : Op
   pub is_next : next op
-  pub ops : List Op
-  pub table : now.table ≡ after_ops old.fields old.table ops
-  pub count : now.operations ≡ old.operations + length ops
-  pub before : Ledger H
-  pub so_far : MakesAll old.dense old.fields (ledger old.store) before old.table ops
-  pub since : KeepsStore (ledger old.store) before
-  pub keeps : KeepsStore before (ledger now.store)
-  pub made : MakesOperation now.dense before (ledger now.store) now.fields now.table op
-  pub refused : RefusesOperation before (ledger now.store) error
-  pub width : NamesWidth now.dense now.fields now.table op error
-  pub spares : SparesOf now.dense (ledger now.store) now.fields now.table op error
-  pub room : LacksBuffers now.dense before now.fields now.table op error
+  pub before : AttributeView S
+  pub so_far : Applies ledger which old before
+  pub leaves : LeavesAttributes ledger records before now
+  pub made : MakesOperation before.dense (ledger before.store) (ledger now.store) before.fields before.table op
+  pub refused : RefusesOperation (ledger before.store) (ledger now.store) error
+  pub width : NamesWidth before.dense before.fields before.table op error
+  pub spares : SparesOf before.dense (ledger now.store) before.fields before.table op error
+  pub room : LacksBuffers before.dense (ledger before.store) before.fields before.table op error
 
 -- the greatest number of operations was reached before the next one
 pub record SpentBefore (operations : ℕ) (next : Op → Type 0) : Type 0 where
@@ -114,28 +106,19 @@ pub record SpentBefore (operations : ℕ) (next : Op → Type 0) : Type 0 where
   pub op : Op
   pub is_next : next op
 
--- why the next operation was not applied: the store refused it, the greatest number of operations was reached, or memory
--- ran out
-abbrev pub StopsOperation : {S H : Type 0} → AttributeView S → AttributeView S → (Op → Type 0) → (S → Ledger H)
-    → Stop → Type 0
-StopsOperation old now next ledger (stops.Store error) = RefusedOperation old now next ledger error
-StopsOperation old now next ledger stops.Spent = SpentBefore now.operations next
-StopsOperation old now next ledger stops.Memory = Unit {0}
-StopsOperation old now next ledger stop = ⊥
+-- why the next operation was not applied, after those that were: the store refused it, the greatest number of operations
+-- was reached, or memory ran out
+abbrev pub StopsOperation : {S H : Type 0} → (S → Ledger H) → (S → Records) → (List Op → Type 0) → (Op → Type 0)
+    → AttributeView S → AttributeView S → Stop → Type 0
+StopsOperation ledger records which next old now (stops.Store error) = RefusedOperation ledger records which next old now error
+StopsOperation ledger records which next old now stops.Spent = SpentBefore now.operations next × Applies ledger which old now
+StopsOperation ledger records which next old now stops.Memory = Applies ledger which old now
+StopsOperation ledger records which next old now stop = ⊥
 
-abbrev pub StopsOpen : AnyOpen → AnyOpen → (Op → Type 0) → Stop → Type 0
-StopsOpen (Narrow old) (Narrow new) next =
-    StopsOperation old.attribute new.attribute next
-    (λ store. ledger_over 22 store.work.place.table_id (writer_of store.work.place.me.0) store.entries store.unit)
-StopsOpen (Wide old) (Wide new) next =
-    StopsOperation old.attribute new.attribute next
-    (λ store. ledger_over 19 store.work.place.table_id (writer_of store.work.place.me.0) store.entries store.unit)
-StopsOpen old new next = λ stop. ⊥
-
--- the line was refused, or its operation was not applied
-abbrev pub LineOr : (Stop → Type 0) → Stop → Type 0
-LineOr why (stops.Line error) = Unit {0}
-LineOr why stop = why stop
+-- a line was refused, and this was applied before it, or its operation was not applied
+abbrev pub LineOr : Type 0 → (Stop → Type 0) → Stop → Type 0
+LineOr applied why (stops.Line error) = applied
+LineOr applied why stop = why stop
 
 -- the store refused a commit, for the width of the root record if it was full; nothing else stops it
 abbrev pub StopsCommit : {H : Type 0} → List Field → Ledger H → Ledger H → Stop → Type 0

@@ -12,6 +12,7 @@ use Rattle.gen_core.specs.Work.{writer_records}
 use Rattle.entry_ledger.specs.Ledgers.{LedgerView, entries_of}
 use Rattle.entry_ref.specs.Records.{Records}
 use Rattle.entry_store.specs.Standing.{ledger_of, records_by_status, statuses}
+use Rattle.attribute_kinds.specs.Views.{AttributeView}
 use Rattle.attr_c.specs.declared.state.AnyOpen.{AnyOpen}
 use Rattle.attr_c.specs.declared.state.AnyOpen.TheVariants.{Narrow, Wide}
 
@@ -32,6 +33,20 @@ open_ledger (Narrow o) =
 open_ledger (Wide o) =
     let store = o.attribute.store in
     ledger_over 19 store.work.place.table_id (writer_of store.work.place.me.0) store.entries store.unit
+
+-- what holds of the attributes of an engine before and after a call, by the bits of a reference for the place in a buffer, and
+-- by the ledger and the records of their store
+abbrev pub OfOpen : ((S : Type 0) → ℕ → AttributeView S → AttributeView S → (S → Ledger TableId) → (S → Records) → Type 0)
+    → AnyOpen → AnyOpen → Type 0
+OfOpen holds (Narrow old) (Narrow new) =
+    holds _ 22 old.attribute new.attribute
+    (λ store. ledger_over 22 store.work.place.table_id (writer_of store.work.place.me.0) store.entries store.unit)
+    (λ store. records_over 22 store.work.place.table_id (writer_of store.work.place.me.0) store.entries)
+OfOpen holds (Wide old) (Wide new) =
+    holds _ 19 old.attribute new.attribute
+    (λ store. ledger_over 19 store.work.place.table_id (writer_of store.work.place.me.0) store.entries store.unit)
+    (λ store. records_over 19 store.work.place.table_id (writer_of store.work.place.me.0) store.entries)
+OfOpen holds old new = ⊥
 
 -- the bits of a reference for the place in a buffer
 abbrev pub open_bits : AnyOpen → ℕ

@@ -1,23 +1,26 @@
 //! The calls from C with the writer's handle.
-ghost use Rattle.std.specs.Prelude.{◌≡◌, ◌≢◌, ◌+◌, ◌*◌, pos, drop, length, min, IfErr, IsOk, IsErr};
+ghost use Rattle.std.specs.Prelude.{◌≡◌, ◌≢◌, ◌+◌, ◌*◌, pos, drop, length, min, Ok, IfErr, OnOk, IsOk, IsErr};
+ghost use Rattle.attr_c.specs.Applying.{Applies, LeavesAttributes};
 ghost use Rattle.attr_c.specs.Engines.{committed_of, committed_operations_of, dense_of, fields_of, home_of, operations_of, table_of};
+ghost use Rattle.attr_c.specs.Engines.{plan_of, root_of, trees_of, AppliesOpen, KeepsAttributes, LeavesOpen, StopsOpen};
 ghost use Rattle.attr_c.specs.Engines.{usage_told, KeepsTables};
 ghost use Rattle.attr_c.specs.Engines.{open_counts, open_waiting, KeepsWaiting, TellsCounts};
-ghost use Rattle.attr_c.specs.Feeding.{FedTo, Feeds, IsFirstOp, IsLineBetween, Stays, StopsFeed};
+ghost use Rattle.attr_c.specs.Feeding.{FedTo, Feeds, IsFirstOp, IsLineBetween, IsSaidBefore, Stays, StopsFeed};
 ghost use Rattle.attr_c.specs.Holds.{with_skipped, CommitsAs};
-ghost use Rattle.attr_c.specs.Loading.{IsNextLoaded, LoadsFront, LoadsSave, StopsLoad};
-ghost use Rattle.attr_c.specs.Making.{MakesFrom, MakesOpen, NotByStore};
-ghost use Rattle.attr_c.specs.Compacting.{CompactsOpen, RefusesOpen, StepsAs, StopsStep};
+ghost use Rattle.attr_c.specs.Loading.{AreAllOf, AreFirstOf, ArePuts, IsNextLoaded, LoadsFront, LoadsSave, StopsLoad};
+ghost use Rattle.attr_c.specs.Compacting.{CompactsOpen, IsIdleOpen, RefusesOpen, StepsAs, StopsStep, TellsStep};
 ghost use Rattle.attr_c.specs.Telling.{no_told, with_committed, with_count, with_fed, with_keys, with_line, with_place, with_step};
 ghost use Rattle.attr_c.specs.Telling.{TellsBy};
-ghost use Rattle.attr_c.specs.Stops.{EndsBy, Stopped, StopsCommit, StopsOpen, StopsOperation};
-ghost use Rattle.attr_c.specs.declared.codes.TheConstants.{BAD_SAVE};
+ghost use Rattle.attr_c.specs.Stops.{EndsBy, LineOr, Stopped, StopsCommit, StopsOperation};
+ghost use Rattle.attr_c.specs.declared.codes.TheConstants.{BAD_SAVE, COMMITS_SPENT};
 ghost use Rattle.array_store.specs.Adding.{MakesOneOf};
 ghost use Rattle.attr_images.specs.Words.{class_of};
-ghost use Rattle.attribute_kinds.specs.Calls.{KeepsStore, KeepsStoreBut};
+ghost use Rattle.attribute_kinds.specs.Calls.{HasCommit, KeepsStore, KeepsStoreBut};
 ghost use Rattle.attribute_kinds.specs.Counts.{HasNoVectors};
 ghost use Rattle.compact_steps.specs.Counts.{MakesKeys};
-ghost use Rattle.attribute_kinds.specs.Compacting.{CompactsTo, RefusesStep};
+ghost use Rattle.attribute_kinds.specs.Compacting.{CompactsTo, IsIdle, RefusesStep};
+ghost use Rattle.attribute_kinds.specs.declared.answers.Compacted.TheVariants.{Idle};
+ghost use Rattle.feed_reader.specs.Feed.{feed_of};
 ghost use Rattle.attr_c.specs.Stores.{open_bits, open_ledger, IsOpenUsage};
 ghost use Rattle.store_api.specs.Usages.{IsUsage};
 
@@ -58,6 +61,7 @@ fn no_told() -> Told
 fn ended(counts: &mut Counts, came: Result<(), Stop>, told: &mut Told) -> i32
     ensures ok { result ≡ pos 0 → IsOk came }
     ensures other { result ≢ pos 0 → IsErr came }
+    ensures fine { OnOk came (result ≡ pos 0) }
     ensures same { result ≡ pos 0 → (counts.new ≡ counts.old) × (told.new ≡ told.old) }
     ensures ends { IfErr came (λ stop. EndsBy stop counts.old counts.new told.new result) }
     ensures tells { TellsBy told.old told.old told.new result }
@@ -91,16 +95,21 @@ fn feed_told<const OFFSET_BITS: u32, S: Store<OFFSET_BITS, Layout = AttrLayout>>
     ensures count { open.new.attribute.operations ≡ open.old.attribute.operations + told.new.operations }
     ensures counts { result ≡ pos 0 → open.new.counts ≡ with_skipped told.new.skipped open.old.counts }
     ensures tells { TellsBy (with_fed told.new told.old) (with_line told.new (with_fed told.new told.old)) told.new result }
+    ensures done { result ≡ pos 0 → Applies S.ledger (λ ops. feed_of open.old.fields bytes.now ≡ Ok ops)
+        open.old.attribute open.new.attribute }
     ensures stopped { result ≢ pos 0 → Stopped (StopsFeed open.old.fields bytes.now told.new.line (drop told.new.place bytes.now)
-        (StopsOperation open.old.attribute open.new.attribute (IsFirstOp open.old.fields (drop told.new.place bytes.now)) S.ledger))
+        (LineOr (Applies S.ledger (IsSaidBefore open.old.fields bytes.now (drop told.new.place bytes.now))
+        open.old.attribute open.new.attribute)
+        (StopsOperation S.ledger S.records (IsSaidBefore open.old.fields bytes.now (drop told.new.place bytes.now))
+        (IsFirstOp open.old.fields (drop told.new.place bytes.now)) open.old.attribute open.new.attribute)))
         (with_skipped told.new.skipped open.old.counts) open.new.counts told.new result }
     ensures pool { open.new.pool ≡ open.old.pool }
     ensures commit { Stays open.old.attribute.committed open.new.attribute.committed
         open.old.attribute.committed_operations open.new.attribute.committed_operations }
     ensures fields { open.new.fields ≡ open.old.fields }
     ensures dense { open.new.attribute.dense ≡ open.old.attribute.dense }
+    ensures plan { open.new.attribute.plan ≡ open.old.attribute.plan }
     ensures keeps { KeepsStore (S.ledger open.old.attribute.store) (S.ledger open.new.attribute.store) }
-    ensures made { NotByStore result → MakesFrom open.old.attribute open.new.attribute S.ledger }
 {
     let before = open.attribute.operations();
     let came = feed(alloc, open, bytes, told);
@@ -124,9 +133,14 @@ pub extern "C" fn attr_feed(
     ensures next { result ≢ pos 0 → IsLineBetween bytes.now told.new.place told.new.next }
     ensures counts { result ≡ pos 0 → open_counts at.new.value.open ≡ with_skipped told.new.skipped (open_counts at.old.value.open) }
     ensures tells { TellsBy (with_fed told.new no_told) (with_line told.new (with_fed told.new no_told)) told.new result }
+    ensures done { result ≡ pos 0 → AppliesOpen (λ ops. feed_of (fields_of at.old.value) bytes.now ≡ Ok ops)
+        at.old.value.open at.new.value.open }
     ensures stopped { result ≢ pos 0 → Stopped (StopsFeed (fields_of at.old.value) bytes.now told.new.line
-        (drop told.new.place bytes.now) (StopsOpen at.old.value.open at.new.value.open
-        (IsFirstOp (fields_of at.old.value) (drop told.new.place bytes.now))))
+        (drop told.new.place bytes.now)
+        (LineOr (AppliesOpen (IsSaidBefore (fields_of at.old.value) bytes.now (drop told.new.place bytes.now))
+        at.old.value.open at.new.value.open)
+        (StopsOpen (IsSaidBefore (fields_of at.old.value) bytes.now (drop told.new.place bytes.now))
+        (IsFirstOp (fields_of at.old.value) (drop told.new.place bytes.now)) at.old.value.open at.new.value.open)))
         (with_skipped told.new.skipped (open_counts at.old.value.open)) (open_counts at.new.value.open) told.new result }
     ensures waiting { KeepsWaiting at.old.value.open at.new.value.open }
     ensures count { operations_of at.new.value ≡ operations_of at.old.value + told.new.operations }
@@ -134,9 +148,9 @@ pub extern "C" fn attr_feed(
         (committed_operations_of at.old.value) (committed_operations_of at.new.value) }
     ensures fields { fields_of at.new.value ≡ fields_of at.old.value }
     ensures dense { dense_of at.new.value ≡ dense_of at.old.value }
+    ensures plan { plan_of at.new.value ≡ plan_of at.old.value }
     ensures home { home_of at.new.value ≡ home_of at.old.value }
     ensures store { KeepsStore (open_ledger at.old.value.open) (open_ledger at.new.value.open) }
-    ensures made { NotByStore result → MakesOpen at.old.value.open at.new.value.open }
 {
     *told = no_told();
     let engine = at.get_mut();
@@ -159,14 +173,16 @@ fn commit_told<const OFFSET_BITS: u32, S: Store<OFFSET_BITS, Layout = AttrLayout
     ensures stopped { result ≢ pos 0 → Stopped (StopsCommit open.old.fields (S.ledger open.old.attribute.store)
         (S.ledger open.new.attribute.store)) open.old.counts open.new.counts told.new result }
     ensures pool { open.new.pool ≡ open.old.pool }
-    ensures left { result ≢ pos 0 → (open.new.attribute.committed ≡ open.old.attribute.committed)
-        × (open.new.attribute.committed_operations ≡ open.old.attribute.committed_operations) }
+    ensures left { result ≢ pos 0 → LeavesAttributes S.ledger S.records open.old.attribute open.new.attribute }
+    ensures spent { (S.ledger open.old.attribute.store).work.commits.last ≡ (S.ledger open.old.attribute.store).work.sizes.commits
+        → result ≡ COMMITS_SPENT }
+    ensures trees { open.new.attribute.trees ≡ open.old.attribute.trees }
+    ensures plan { open.new.attribute.plan ≡ open.old.attribute.plan }
     ensures table { open.new.attribute.table ≡ open.old.attribute.table }
     ensures operations { open.new.attribute.operations ≡ open.old.attribute.operations }
     ensures fields { open.new.fields ≡ open.old.fields }
     ensures dense { open.new.attribute.dense ≡ open.old.attribute.dense }
     ensures home { (S.ledger open.new.attribute.store).work.home ≡ (S.ledger open.old.attribute.store).work.home }
-    ensures keeps { result ≢ pos 0 → KeepsStore (S.ledger open.old.attribute.store) (S.ledger open.new.attribute.store) }
     ensures makes { MakesOneOf (class_of (1 + 2 * length open.old.fields)) (S.ledger open.old.attribute.store)
         (S.ledger open.new.attribute.store) }
 {
@@ -186,13 +202,16 @@ pub extern "C" fn attr_commit(at: &mut HeldEngine, told: &mut Told) -> i32
     ensures stopped { result ≢ pos 0 → Stopped (StopsCommit (fields_of at.old.value) (open_ledger at.old.value.open)
         (open_ledger at.new.value.open)) (open_counts at.old.value.open) (open_counts at.new.value.open) told.new result }
     ensures waiting { KeepsWaiting at.old.value.open at.new.value.open }
-    ensures left { result ≢ pos 0 → KeepsTables at.old.value.open at.new.value.open }
+    ensures left { result ≢ pos 0 → LeavesOpen at.old.value.open at.new.value.open }
+    ensures spent { (open_ledger at.old.value.open).work.commits.last ≡ (open_ledger at.old.value.open).work.sizes.commits
+        → result ≡ COMMITS_SPENT }
+    ensures trees { trees_of at.new.value ≡ trees_of at.old.value }
     ensures table { table_of at.new.value ≡ table_of at.old.value }
     ensures operations { operations_of at.new.value ≡ operations_of at.old.value }
     ensures fields { fields_of at.new.value ≡ fields_of at.old.value }
     ensures dense { dense_of at.new.value ≡ dense_of at.old.value }
+    ensures plan { plan_of at.new.value ≡ plan_of at.old.value }
     ensures home { home_of at.new.value ≡ home_of at.old.value }
-    ensures store { result ≢ pos 0 → KeepsStore (open_ledger at.old.value.open) (open_ledger at.new.value.open) }
     ensures makes { MakesOneOf (class_of (1 + 2 * length (fields_of at.old.value))) (open_ledger at.old.value.open)
         (open_ledger at.new.value.open) }
 {
@@ -213,6 +232,8 @@ fn compact_told<const OFFSET_BITS: u32, S: Store<OFFSET_BITS, Layout = AttrLayou
     ensures counts { result ≡ pos 0 → open.new.counts ≡ open.old.counts }
     ensures steps { result ≡ pos 0 → StepsAs (CompactsTo OFFSET_BITS S.ledger S.records open.old.attribute open.new.attribute keys)
         told.new }
+    ensures idle { IsIdle OFFSET_BITS (S.ledger open.old.attribute.store) open.old.attribute.plan
+        → (result ≡ pos 0) × (open.new.attribute ≡ open.old.attribute) × TellsStep Idle told.new }
     ensures tells { TellsBy (with_step told.new told.old) (with_keys told.new told.old) told.new result }
     ensures stopped { result ≢ pos 0 → Stopped
         (StopsStep (CompactsTo OFFSET_BITS S.ledger S.records open.old.attribute open.new.attribute keys)
@@ -221,6 +242,7 @@ fn compact_told<const OFFSET_BITS: u32, S: Store<OFFSET_BITS, Layout = AttrLayou
     ensures pool { open.new.pool ≡ open.old.pool }
     ensures table { open.new.attribute.table ≡ open.old.attribute.table }
     ensures operations { open.new.attribute.operations ≡ open.old.attribute.operations }
+    ensures root { open.new.attribute.root ≡ open.old.attribute.root }
     ensures committed { open.new.attribute.committed ≡ open.old.attribute.committed }
     ensures published { open.new.attribute.committed_operations ≡ open.old.attribute.committed_operations }
     ensures fields { open.new.fields ≡ open.old.fields }
@@ -248,6 +270,8 @@ pub extern "C" fn attr_compact(
         (table_of at.old.value) (open_ledger at.old.value.open) (open_ledger at.new.value.open) keys }
     ensures counts { result ≡ pos 0 → open_counts at.new.value.open ≡ open_counts at.old.value.open }
     ensures steps { result ≡ pos 0 → StepsAs (CompactsOpen at.old.value.open at.new.value.open keys) told.new }
+    ensures idle { IsIdleOpen at.old.value.open → (result ≡ pos 0) × KeepsAttributes at.old.value.open at.new.value.open
+        × TellsStep Idle told.new }
     ensures tells { TellsBy (with_step told.new no_told) (with_keys told.new no_told) told.new result }
     ensures stopped { result ≢ pos 0 → Stopped (StopsStep (CompactsOpen at.old.value.open at.new.value.open keys)
         (RefusesOpen at.old.value.open at.new.value.open) told.new.keys)
@@ -276,17 +300,20 @@ fn load_told<const OFFSET_BITS: u32, S: Store<OFFSET_BITS, Layout = AttrLayout>>
     ensures counts { result ≡ pos 0 → open.new.counts ≡ open.old.counts }
     ensures tells { TellsBy (with_count told.new told.old) (with_place told.new (with_count told.new told.old)) told.new result }
     ensures place { result ≢ BAD_SAVE → told.new.place ≡ told.old.place }
+    ensures done { result ≡ pos 0 → Applies S.ledger (ArePuts (AreAllOf bytes.now)) open.old.attribute open.new.attribute }
     ensures stopped { result ≢ pos 0 → Stopped (StopsLoad open.old.fields bytes.now told.new.place
-        (StopsOperation open.old.attribute open.new.attribute
-        (IsNextLoaded bytes.now open.old.attribute.operations open.new.attribute.operations) S.ledger))
+        (Applies S.ledger (ArePuts (AreFirstOf open.old.fields bytes.now)) open.old.attribute open.new.attribute)
+        (StopsOperation S.ledger S.records (ArePuts (AreFirstOf open.old.fields bytes.now))
+        (IsNextLoaded bytes.now open.old.attribute.operations open.new.attribute.operations)
+        open.old.attribute open.new.attribute))
         open.old.counts open.new.counts told.new result }
     ensures pool { open.new.pool ≡ open.old.pool }
     ensures commit { Stays open.old.attribute.committed open.new.attribute.committed
         open.old.attribute.committed_operations open.new.attribute.committed_operations }
     ensures fields { open.new.fields ≡ open.old.fields }
     ensures dense { open.new.attribute.dense ≡ open.old.attribute.dense }
+    ensures plan { open.new.attribute.plan ≡ open.old.attribute.plan }
     ensures keeps { KeepsStore (S.ledger open.old.attribute.store) (S.ledger open.new.attribute.store) }
-    ensures made { NotByStore result → MakesFrom open.old.attribute open.new.attribute S.ledger }
 {
     let before = open.attribute.operations();
     let came = load(alloc, open, bytes, told);
@@ -310,17 +337,20 @@ pub extern "C" fn attr_load(
     ensures counts { result ≡ pos 0 → open_counts at.new.value.open ≡ open_counts at.old.value.open }
     ensures tells { TellsBy (with_count told.new no_told) (with_place told.new (with_count told.new no_told)) told.new result }
     ensures place { result ≢ BAD_SAVE → told.new.place ≡ 0 }
+    ensures done { result ≡ pos 0 → AppliesOpen (ArePuts (AreAllOf bytes.now)) at.old.value.open at.new.value.open }
     ensures stopped { result ≢ pos 0 → Stopped (StopsLoad (fields_of at.old.value) bytes.now told.new.place
-        (StopsOpen at.old.value.open at.new.value.open (IsNextLoaded bytes.now (operations_of at.old.value) (operations_of at.new.value))))
+        (AppliesOpen (ArePuts (AreFirstOf (fields_of at.old.value) bytes.now)) at.old.value.open at.new.value.open)
+        (StopsOpen (ArePuts (AreFirstOf (fields_of at.old.value) bytes.now))
+        (IsNextLoaded bytes.now (operations_of at.old.value) (operations_of at.new.value)) at.old.value.open at.new.value.open))
         (open_counts at.old.value.open) (open_counts at.new.value.open) told.new result }
     ensures waiting { KeepsWaiting at.old.value.open at.new.value.open }
     ensures commit { Stays (committed_of at.old.value) (committed_of at.new.value)
         (committed_operations_of at.old.value) (committed_operations_of at.new.value) }
     ensures fields { fields_of at.new.value ≡ fields_of at.old.value }
     ensures dense { dense_of at.new.value ≡ dense_of at.old.value }
+    ensures plan { plan_of at.new.value ≡ plan_of at.old.value }
     ensures home { home_of at.new.value ≡ home_of at.old.value }
     ensures store { KeepsStore (open_ledger at.old.value.open) (open_ledger at.new.value.open) }
-    ensures made { NotByStore result → MakesOpen at.old.value.open at.new.value.open }
 {
     *told = no_told();
     let engine = at.get_mut();
@@ -337,6 +367,8 @@ fn counts_of<const OFFSET_BITS: u32, S: Store<OFFSET_BITS, Layout = AttrLayout>>
     ensures usage { IsUsage OFFSET_BITS (S.ledger open.now.attribute.store) (usage_told result) }
     ensures counts { TellsCounts open.now.counts result }
     ensures readers { result.readers ≡ min (length open.now.pool.items) 64 }
+    ensures commit { HasCommit (S.ledger open.now.attribute.store) open.now.fields open.now.attribute.root
+        open.now.attribute.committed open.now.attribute.committed_operations }
 {
     let counts = &open.counts;
     let usage = open.attribute.usage();
@@ -366,6 +398,8 @@ pub extern "C" fn attr_counts(at: &mut HeldEngine, told: &mut CountsTold)
     ensures usage { IsOpenUsage at.old.value.open (usage_told told.new) }
     ensures counts { TellsCounts (open_counts at.old.value.open) told.new }
     ensures readers { told.new.readers ≡ min (open_waiting at.old.value.open) 64 }
+    ensures commit { HasCommit (open_ledger at.old.value.open) (fields_of at.old.value) (root_of at.old.value)
+        (committed_of at.old.value) (committed_operations_of at.old.value) }
 {
     *told = match &at.get_mut().open {
         AnyOpen::Narrow(open) => counts_of(open),

@@ -1,12 +1,13 @@
 //! Lines of a feed, applied one by one.
-ghost use Rattle.std.specs.Prelude.{◌≡◌, ◌+◌, ◌<◌, ◌^◌, ◌∷◌, [], drop, length, OnOk, OnErr, IfErr, IfOk, IfSome};
+ghost use Rattle.std.specs.Prelude.{◌≡◌, ◌+◌, ◌<◌, ◌^◌, ◌∷◌, [], drop, length, Ok, OnOk, OnErr, IfErr, IfOk, IfSome};
 ghost use Rattle.attr_types.specs.Lawful.{OpFits};
 ghost use Rattle.attr_types.specs.Table.{after_op};
 ghost use Rattle.feed_reader.specs.Lines.{lines_of};
 ghost use Rattle.attribute_kinds.specs.Calls.{applied_to, KeepsStore};
-ghost use Rattle.attr_c.specs.Feeding.{skips_of, FedLine, FedTo, Feeds, IsOfNoLine, IsOpOf, Stays};
-ghost use Rattle.attr_c.specs.Feeding.{IfLine, IsFirstOp, IsLineBetween, RefusesLine};
-ghost use Rattle.attr_c.specs.Making.{MakesFrom, UnlessRefused};
+ghost use Rattle.feed_reader.specs.Feed.{feed_of};
+ghost use Rattle.attr_c.specs.Feeding.{skips_of, AreOpsOf, FedLine, FedTo, Feeds, IsOfNoLine, IsOpOf, Stays};
+ghost use Rattle.attr_c.specs.Feeding.{IfLine, IsFirstOp, IsLineBetween, IsSaidBefore, RefusesLine};
+ghost use Rattle.attr_c.specs.Applying.{Applies};
 ghost use Rattle.attr_c.specs.Stops.{LineOr, StopsOperation};
 ghost use Rattle.attr_c.specs.Telling.{with_line};
 
@@ -34,8 +35,9 @@ pub fn apply<const OFFSET_BITS: u32, S: Store<OFFSET_BITS, Layout = AttrLayout>>
     ensures applied { IfOk result (λ applied. applied ≡ applied_to open.old.fields open.old.attribute.table op.now) }
     ensures few { OnOk result (open.new.attribute.operations < 2 ^ 32) }
     ensures kind { IfErr result IsOfNoLine }
-    ensures why { IfErr result (StopsOperation open.old.attribute open.new.attribute (λ next. next ≡ op.now) S.ledger) }
-    ensures made { UnlessRefused result (MakesFrom open.old.attribute open.new.attribute S.ledger) }
+    ensures why { IfErr result (StopsOperation S.ledger S.records (λ ops. ops ≡ []) (λ next. next ≡ op.now)
+        open.old.attribute open.new.attribute) }
+    ensures done { OnOk result (Applies S.ledger (λ ops. ops ≡ op.now ∷ []) open.old.attribute open.new.attribute) }
     ensures pool { open.new.pool ≡ open.old.pool }
     ensures counts { open.new.counts ≡ open.old.counts }
     ensures commit { Stays open.old.attribute.committed open.new.attribute.committed
@@ -43,6 +45,7 @@ pub fn apply<const OFFSET_BITS: u32, S: Store<OFFSET_BITS, Layout = AttrLayout>>
     ensures fields { open.new.fields ≡ open.old.fields }
     ensures keeps { KeepsStore (S.ledger open.old.attribute.store) (S.ledger open.new.attribute.store) }
     ensures dense { open.new.attribute.dense ≡ open.old.attribute.dense }
+    ensures plan { open.new.attribute.plan ≡ open.old.attribute.plan }
 {
     if open.attribute.operations() == u32::MAX {
         return Err(Stop::Spent);
@@ -63,8 +66,9 @@ fn feed_line<const OFFSET_BITS: u32, S: Store<OFFSET_BITS, Layout = AttrLayout>>
     ensures fed { FedLine open.old.fields line.now open.old.attribute.table open.new.attribute.table
         open.old.attribute.operations open.new.attribute.operations result }
     ensures few { IfOk result (λ applied. IfSome applied (λ _. open.new.attribute.operations < 2 ^ 32)) }
-    ensures why { IfErr result (LineOr (StopsOperation open.old.attribute open.new.attribute (IsOpOf open.old.fields line.now) S.ledger)) }
-    ensures made { UnlessRefused result (MakesFrom open.old.attribute open.new.attribute S.ledger) }
+    ensures why { IfErr result (LineOr (Applies S.ledger (λ ops. ops ≡ []) open.old.attribute open.new.attribute)
+        (StopsOperation S.ledger S.records (λ ops. ops ≡ []) (IsOpOf open.old.fields line.now) open.old.attribute open.new.attribute)) }
+    ensures done { OnOk result (Applies S.ledger (AreOpsOf open.old.fields line.now) open.old.attribute open.new.attribute) }
     ensures pool { open.new.pool ≡ open.old.pool }
     ensures counts { open.new.counts ≡ open.old.counts }
     ensures commit { Stays open.old.attribute.committed open.new.attribute.committed
@@ -72,6 +76,7 @@ fn feed_line<const OFFSET_BITS: u32, S: Store<OFFSET_BITS, Layout = AttrLayout>>
     ensures fields { open.new.fields ≡ open.old.fields }
     ensures keeps { KeepsStore (S.ledger open.old.attribute.store) (S.ledger open.new.attribute.store) }
     ensures dense { open.new.attribute.dense ≡ open.old.attribute.dense }
+    ensures plan { open.new.attribute.plan ≡ open.old.attribute.plan }
 {
     match operation_in(alloc, &open.fields, line) {
         Ok(Some(op)) => match apply(alloc, open, &op) {
@@ -111,15 +116,19 @@ pub fn feed<const OFFSET_BITS: u32, S: Store<OFFSET_BITS, Layout = AttrLayout>>(
     ensures tells_line { OnErr result (told.new ≡ with_line told.new (record told.old { skipped = told.new.skipped })) }
     ensures next { OnErr result (IsLineBetween bytes.now told.new.place told.new.next) }
     ensures refused { IfErr result (IfLine (RefusesLine open.old.fields bytes.now told.new.line (drop told.new.place bytes.now))) }
-    ensures why { IfErr result (LineOr (StopsOperation open.old.attribute open.new.attribute
-        (IsFirstOp open.old.fields (drop told.new.place bytes.now)) S.ledger)) }
-    ensures made { UnlessRefused result (MakesFrom open.old.attribute open.new.attribute S.ledger) }
+    ensures why { IfErr result (LineOr
+        (Applies S.ledger (IsSaidBefore open.old.fields bytes.now (drop told.new.place bytes.now)) open.old.attribute open.new.attribute)
+        (StopsOperation S.ledger S.records (IsSaidBefore open.old.fields bytes.now (drop told.new.place bytes.now))
+        (IsFirstOp open.old.fields (drop told.new.place bytes.now)) open.old.attribute open.new.attribute)) }
+    ensures done { OnOk result (Applies S.ledger (λ ops. feed_of open.old.fields bytes.now ≡ Ok ops)
+        open.old.attribute open.new.attribute) }
     ensures pool { open.new.pool ≡ open.old.pool }
     ensures counts { open.new.counts ≡ open.old.counts }
     ensures commit { Stays open.old.attribute.committed open.new.attribute.committed
         open.old.attribute.committed_operations open.new.attribute.committed_operations }
     ensures fields { open.new.fields ≡ open.old.fields }
     ensures dense { open.new.attribute.dense ≡ open.old.attribute.dense }
+    ensures plan { open.new.attribute.plan ≡ open.old.attribute.plan }
     ensures keeps { KeepsStore (S.ledger open.old.attribute.store) (S.ledger open.new.attribute.store) }
 {
     let mut rest = bytes;

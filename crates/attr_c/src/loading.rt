@@ -1,5 +1,5 @@
 //! The documents of a save, put in one after another.
-ghost use Rattle.std.specs.Prelude.{◌≡◌, ◌+◌, true, false, length, IfErr, IfOk, OnOk, OnErr, Ok};
+ghost use Rattle.std.specs.Prelude.{◌≡◌, ◌+◌, ◌∷◌, [], true, false, length, take, IfErr, IfOk, OnOk, OnErr, Ok};
 ghost use Rattle.std.specs.List.{AllByRecursion};
 ghost use Rattle.attr_saver.specs.Fields.{read_of};
 ghost use Rattle.attr_saver.specs.Lawful.{IsLawfulSaved};
@@ -7,11 +7,11 @@ ghost use Rattle.attr_types.specs.Lawful.{OpFits};
 ghost use Rattle.attr_types.specs.Table.{after_op};
 ghost use Rattle.attr_c.specs.Feeding.{Stays};
 ghost use Rattle.attribute_kinds.specs.Calls.{KeepsStore};
-ghost use Rattle.attr_c.specs.Making.{MakesFrom, UnlessRefused};
+ghost use Rattle.attr_c.specs.Applying.{Applies};
 ghost use Rattle.attr_c.specs.Stops.{StopsOperation};
 ghost use Rattle.attr_c.specs.Telling.{with_place};
-ghost use Rattle.attr_c.specs.Loading.{put_of, IsNextPut, IsSaveOf, PutsFront, PutsIn, RefusesSave, TellsPlaceOf};
-ghost use Rattle.attr_c.specs.Loading.{IsNextLoaded, LoadsFront, LoadsSave, StopsLoad};
+ghost use Rattle.attr_c.specs.Loading.{put_of, puts_of, IsNextPut, IsSaveOf, PutsFront, PutsIn, RefusesSave, TellsPlaceOf};
+ghost use Rattle.attr_c.specs.Loading.{AreAllOf, AreFirstOf, ArePuts, IsNextLoaded, LoadsFront, LoadsSave, StopsLoad};
 
 use crate::feeding::apply;
 use crate::state::Open;
@@ -62,8 +62,9 @@ fn put_document<const OFFSET_BITS: u32, S: Store<OFFSET_BITS, Layout = AttrLayou
     ensures operations { OnOk result (open.new.attribute.operations ≡ open.old.attribute.operations + 1) }
     ensures left { OnErr result (Stays open.old.attribute.table open.new.attribute.table
         open.old.attribute.operations open.new.attribute.operations) }
-    ensures why { IfErr result (StopsOperation open.old.attribute open.new.attribute (λ next. next ≡ put_of document) S.ledger) }
-    ensures made { UnlessRefused result (MakesFrom open.old.attribute open.new.attribute S.ledger) }
+    ensures why { IfErr result (StopsOperation S.ledger S.records (λ ops. ops ≡ []) (λ next. next ≡ put_of document)
+        open.old.attribute open.new.attribute) }
+    ensures done { OnOk result (Applies S.ledger (λ ops. ops ≡ put_of document ∷ []) open.old.attribute open.new.attribute) }
     ensures pool { open.new.pool ≡ open.old.pool }
     ensures counts { open.new.counts ≡ open.old.counts }
     ensures commit { Stays open.old.attribute.committed open.new.attribute.committed
@@ -71,6 +72,7 @@ fn put_document<const OFFSET_BITS: u32, S: Store<OFFSET_BITS, Layout = AttrLayou
     ensures fields { open.new.fields ≡ open.old.fields }
     ensures keeps { KeepsStore (S.ledger open.old.attribute.store) (S.ledger open.new.attribute.store) }
     ensures dense { open.new.attribute.dense ≡ open.old.attribute.dense }
+    ensures plan { open.new.attribute.plan ≡ open.old.attribute.plan }
 {
     match op_of(alloc, document) {
         Ok(op) => match apply(alloc, open, &op) {
@@ -92,15 +94,18 @@ fn put_all<const OFFSET_BITS: u32, S: Store<OFFSET_BITS, Layout = AttrLayout>>(
         open.old.attribute.operations open.new.attribute.operations) }
     ensures front { OnErr result (PutsFront open.old.fields documents.items open.old.attribute.table open.new.attribute.table
         open.old.attribute.operations open.new.attribute.operations) }
-    ensures why { IfErr result (StopsOperation open.old.attribute open.new.attribute
-        (IsNextPut documents.items open.old.attribute.operations open.new.attribute.operations) S.ledger) }
-    ensures made { UnlessRefused result (MakesFrom open.old.attribute open.new.attribute S.ledger) }
+    ensures why { IfErr result (StopsOperation S.ledger S.records
+        (ArePuts (λ front. front ≡ take (length front) documents.items))
+        (IsNextPut documents.items open.old.attribute.operations open.new.attribute.operations)
+        open.old.attribute open.new.attribute) }
+    ensures done { OnOk result (Applies S.ledger (λ ops. ops ≡ puts_of documents.items) open.old.attribute open.new.attribute) }
     ensures pool { open.new.pool ≡ open.old.pool }
     ensures counts { open.new.counts ≡ open.old.counts }
     ensures commit { Stays open.old.attribute.committed open.new.attribute.committed
         open.old.attribute.committed_operations open.new.attribute.committed_operations }
     ensures fields { open.new.fields ≡ open.old.fields }
     ensures dense { open.new.attribute.dense ≡ open.old.attribute.dense }
+    ensures plan { open.new.attribute.plan ≡ open.old.attribute.plan }
     ensures keeps { KeepsStore (S.ledger open.old.attribute.store) (S.ledger open.new.attribute.store) }
 {
     for document in documents {
@@ -144,9 +149,11 @@ pub fn load<const OFFSET_BITS: u32, S: Store<OFFSET_BITS, Layout = AttrLayout>>(
     ensures front { OnErr result (LoadsFront open.old.fields bytes.now open.old.attribute.table open.new.attribute.table
         open.old.attribute.operations open.new.attribute.operations) }
     ensures why { IfErr result (StopsLoad open.old.fields bytes.now told.new.place
-        (StopsOperation open.old.attribute open.new.attribute
-        (IsNextLoaded bytes.now open.old.attribute.operations open.new.attribute.operations) S.ledger)) }
-    ensures made { UnlessRefused result (MakesFrom open.old.attribute open.new.attribute S.ledger) }
+        (Applies S.ledger (ArePuts (AreFirstOf open.old.fields bytes.now)) open.old.attribute open.new.attribute)
+        (StopsOperation S.ledger S.records (ArePuts (AreFirstOf open.old.fields bytes.now))
+        (IsNextLoaded bytes.now open.old.attribute.operations open.new.attribute.operations)
+        open.old.attribute open.new.attribute)) }
+    ensures done { OnOk result (Applies S.ledger (ArePuts (AreAllOf bytes.now)) open.old.attribute open.new.attribute) }
     ensures pool { open.new.pool ≡ open.old.pool }
     ensures counts { open.new.counts ≡ open.old.counts }
     ensures tells { OnOk result (told.new ≡ told.old) }
@@ -156,6 +163,7 @@ pub fn load<const OFFSET_BITS: u32, S: Store<OFFSET_BITS, Layout = AttrLayout>>(
         open.old.attribute.committed_operations open.new.attribute.committed_operations }
     ensures fields { open.new.fields ≡ open.old.fields }
     ensures dense { open.new.attribute.dense ≡ open.old.attribute.dense }
+    ensures plan { open.new.attribute.plan ≡ open.old.attribute.plan }
     ensures keeps { KeepsStore (S.ledger open.old.attribute.store) (S.ledger open.new.attribute.store) }
 {
     let saved = match saved_in(alloc, bytes, told) {

@@ -7,7 +7,8 @@ ghost use Rattle.attr_types.specs.declared.field.TheConstants.{MOST_FIELDS};
 ghost use Rattle.arena_api.specs.Calls.{IsFresh};
 ghost use Rattle.word_arena.specs.Knows.{core_sizes, view_of};
 ghost use Rattle.word_arena.specs.Ruled.{api_sizes, writer_of};
-ghost use Rattle.attr_c.specs.Engines.{AreNewCounts, HasNothing, HasOwnReaders, IsOpened, open_counts, open_dense, open_waiting};
+ghost use Rattle.attr_c.specs.Engines.{AreNewCounts, HasNewStore, HasNothing, HasOwnReaders, IsOpened};
+ghost use Rattle.attr_c.specs.Engines.{open_counts, open_dense, open_waiting};
 ghost use Rattle.attr_c.specs.Opening.{bits_for, InBounds};
 ghost use Rattle.attr_c.specs.Stores.{HasMemory, open_bits, open_ledger, open_memory};
 ghost use Rattle.word_arena.specs.declared.config.TheConstants.{MOST_COMMITS, MOST_GENERATIONS};
@@ -122,7 +123,9 @@ fn running<const OFFSET_BITS: u32>(
     requires fresh { IsFresh (view_of writer.place.table_id (writer_of writer.place.me.0)) }
     ensures fields { IfOk result (λ a. a.fields ≡ fields.now) }
     ensures dense { IfOk result (λ a. a.dense ≡ dense) }
-    ensures nothing { IfOk result (λ a. HasNothing a.table a.committed a.operations a.committed_operations) }
+    ensures nothing { IfOk result (λ a. HasNothing a.table a.committed a.operations a.committed_operations a.root a.plan) }
+    ensures store { IfOk result (λ a. HasNewStore
+        (⟦<EntryStore<OFFSET_BITS, Writer<OFFSET_BITS, AttrLayout>> as Store<OFFSET_BITS>>⟧.ledger a.store)) }
     ensures memory { IfOk result (λ a.
         (⟦<EntryStore<OFFSET_BITS, Writer<OFFSET_BITS, AttrLayout>> as Store<OFFSET_BITS>>⟧.ledger a.store).work
         ≡ view_of writer.entry.place.table_id (writer_of writer.entry.place.me.0)) }
@@ -226,14 +229,13 @@ fn opened_over<const OFFSET_BITS: u32>(
         o.pool.items) }
     ensures dense { IfOk result (λ o. o.attribute.dense ≡ not (nat_eq sizes.now.dense 0)) }
     ensures nothing { IfOk result (λ o. HasNothing o.attribute.table o.attribute.committed o.attribute.operations
-        o.attribute.committed_operations) }
+        o.attribute.committed_operations o.attribute.root o.attribute.plan) }
     ensures counts { IfOk result (λ o. AreNewCounts sizes.now o.counts) }
     ensures memory { IfOk result (λ o.
         (⟦<EntryStore<OFFSET_BITS, Writer<OFFSET_BITS, AttrLayout>> as Store<OFFSET_BITS>>⟧.ledger o.attribute.store).work.sizes
         ≡ api_sizes (writer_of writer.entry.place.me.0).sizes) }
-    ensures no_commit { IfOk result (λ o.
-        (⟦<EntryStore<OFFSET_BITS, Writer<OFFSET_BITS, AttrLayout>> as Store<OFFSET_BITS>>⟧.ledger o.attribute.store).work.commits.last
-        ≡ 0) }
+    ensures store { IfOk result (λ o. HasNewStore
+        (⟦<EntryStore<OFFSET_BITS, Writer<OFFSET_BITS, AttrLayout>> as Store<OFFSET_BITS>>⟧.ledger o.attribute.store)) }
 {
     let mut writer = writer;
     let pool = match waiting(alloc, &mut writer, &fields, sizes.readers) {

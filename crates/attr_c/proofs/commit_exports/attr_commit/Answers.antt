@@ -2,8 +2,7 @@ use Rattle.std.proofs.Common.{◌≡◌, ◌+◌, ◌*◌, length, ℤ, sym, ap,
 use Rattle.std.proofs.lemmas.Int.{to_z-of_z}
 use Rattle.array_store.specs.Adding.{MakesOneOf}
 use Rattle.attr_images.specs.Words.{class_of}
-use Rattle.attribute_kinds.specs.Calls.{KeepsStore}
-use Rattle.attr_c.specs.Engines.{open_fields, open_operations, open_table, KeepsTables, open_counts}
+use Rattle.attr_c.specs.Engines.{open_fields, open_operations, open_table, open_counts, LeavesOpen}
 use Rattle.attr_c.specs.declared.state.AnyOpen.{AnyOpen}
 use Rattle.attr_c.specs.declared.state.AnyOpen.TheVariants.{Narrow, Wide}
 use Rattle.attr_c.proofs.EndLemmas.{stopped_as, tells_as}
@@ -48,22 +47,6 @@ returns-in-Wide-clause-told c = λ zero.
     let ok = sym (to_z-of_z w32 c.commit_told-in-Wide.result (record { sfits = c.commit_told-in-Wide.type_inv })) ∙ zero in
     subst (λ (o : AnyOpen). c.commit_told-in-Wide.new.told.operations ≡ open_operations o) (sym is) (c.commit_told-in-Wide.ensures.told ok)
 
-pub returns-in-Narrow-clause-left : goal.returns-in-Narrow-clause-left
-returns-in-Narrow-clause-left c = λ not.
-    let is : c.args.at.now.value.open ≡ Narrow c.in-Narrow.open = search rules in
-    let e = c.commit_told.ensures in
-    let left = e.left (λ zero. not (ap (λ (z : ℤ). to_z w32 (of_z w32 z)) zero)) in
-    subst (λ (o : AnyOpen). KeepsTables o (Narrow c.commit_told.new.open)) (sym is)
-    (record { fields = e.fields; dense = e.dense; home = e.home; table = e.table; operations = e.operations; committed = left.0; published = left.1 })
-
-pub returns-in-Wide-clause-left : goal.returns-in-Wide-clause-left
-returns-in-Wide-clause-left c = λ not.
-    let is : c.args.at.now.value.open ≡ Wide c.in-Wide.open = search rules in
-    let e = c.commit_told-in-Wide.ensures in
-    let left = e.left (λ zero. not (ap (λ (z : ℤ). to_z w32 (of_z w32 z)) zero)) in
-    subst (λ (o : AnyOpen). KeepsTables o (Wide c.commit_told-in-Wide.new.open)) (sym is)
-    (record { fields = e.fields; dense = e.dense; home = e.home; table = e.table; operations = e.operations; committed = left.0; published = left.1 })
-
 pub returns-in-Narrow-clause-stopped : goal.returns-in-Narrow-clause-stopped
 returns-in-Narrow-clause-stopped c = λ not.
     let is : c.args.at.now.value.open ≡ Narrow c.in-Narrow.open = search rules in
@@ -82,30 +65,46 @@ returns-in-Wide-clause-stopped c = λ not.
     subst (λ (o : AnyOpen). Stopped (StopsCommit (open_fields o) (open_ledger o) (open_ledger (Wide now))) (open_counts o) now.counts told (to_z w32 (of_z w32 c.commit_told-in-Wide.result))) (sym is)
     (stopped_as _ _ _ _ _ _ code (c.commit_told-in-Wide.ensures.stopped (λ zero. not (ap (λ (z : ℤ). to_z w32 (of_z w32 z)) zero))))
 
-pub returns-in-Narrow-clause-store : goal.returns-in-Narrow-clause-store
-returns-in-Narrow-clause-store c = λ not.
+pub returns-in-Narrow-clause-left : goal.returns-in-Narrow-clause-left
+returns-in-Narrow-clause-left c = λ not.
     let is : c.args.at.now.value.open ≡ Narrow c.in-Narrow.open = search rules in
-    subst (λ (o : AnyOpen). KeepsStore (open_ledger o) (open_ledger (Narrow c.commit_told.new.open))) (sym is) (c.commit_told.ensures.keeps (λ zero. not (ap (λ (z : ℤ). to_z w32 (of_z w32 z)) zero)))
+    subst (λ (o : AnyOpen). LeavesOpen o (Narrow c.commit_told.new.open)) (sym is) (c.commit_told.ensures.left (λ zero. not (ap (λ (z : ℤ). to_z w32 (of_z w32 z)) zero)))
 
-pub returns-in-Wide-clause-store : goal.returns-in-Wide-clause-store
-returns-in-Wide-clause-store c = λ not.
-    let is : c.args.at.now.value.open ≡ Wide c.in-Wide.open = search rules in
-    subst (λ (o : AnyOpen). KeepsStore (open_ledger o) (open_ledger (Wide c.commit_told-in-Wide.new.open))) (sym is) (c.commit_told-in-Wide.ensures.keeps (λ zero. not (ap (λ (z : ℤ). to_z w32 (of_z w32 z)) zero)))
+pub returns-in-Narrow-clause-spent : goal.returns-in-Narrow-clause-spent
+returns-in-Narrow-clause-spent c = λ last.
+    let is : c.args.at.now.value.open ≡ Narrow c.in-Narrow.open = search rules in
+    to_z-of_z w32 c.commit_told.result (record { sfits = c.commit_told.type_inv })
+    ∙ c.commit_told.ensures.spent (subst (λ (o : AnyOpen). (open_ledger o).work.commits.last ≡ (open_ledger o).work.sizes.commits) is last)
 
 pub returns-in-Narrow-clause-makes : goal.returns-in-Narrow-clause-makes
 returns-in-Narrow-clause-makes c =
     let is : c.args.at.now.value.open ≡ Narrow c.in-Narrow.open = search rules in
-    subst (λ (o : AnyOpen). MakesOneOf (class_of (1 + 2 * length (open_fields o))) (open_ledger o) (open_ledger (Narrow c.commit_told.new.open))) (sym is) c.commit_told.ensures.makes
+    let now = open_ledger (Narrow c.commit_told.new.open) in
+    subst (λ (o : AnyOpen). MakesOneOf (class_of (1 + 2 * length (open_fields o))) (open_ledger o) now) (sym is) c.commit_told.ensures.makes
+
+pub returns-in-Narrow-clause-tells : goal.returns-in-Narrow-clause-tells
+returns-in-Narrow-clause-tells c =
+    let code = to_z-of_z w32 c.commit_told.result (record { sfits = c.commit_told.type_inv }) in
+    tells_as (λ new old. with_committed new old) (λ new old. old) _ _ c.commit_told.new.told c.commit_told.result _ c.no_told.ensures code c.commit_told.ensures.tells
+
+pub returns-in-Wide-clause-left : goal.returns-in-Wide-clause-left
+returns-in-Wide-clause-left c = λ not.
+    let is : c.args.at.now.value.open ≡ Wide c.in-Wide.open = search rules in
+    subst (λ (o : AnyOpen). LeavesOpen o (Wide c.commit_told-in-Wide.new.open)) (sym is) (c.commit_told-in-Wide.ensures.left (λ zero. not (ap (λ (z : ℤ). to_z w32 (of_z w32 z)) zero)))
+
+pub returns-in-Wide-clause-spent : goal.returns-in-Wide-clause-spent
+returns-in-Wide-clause-spent c = λ last.
+    let is : c.args.at.now.value.open ≡ Wide c.in-Wide.open = search rules in
+    to_z-of_z w32 c.commit_told-in-Wide.result (record { sfits = c.commit_told-in-Wide.type_inv })
+    ∙ c.commit_told-in-Wide.ensures.spent (subst (λ (o : AnyOpen). (open_ledger o).work.commits.last ≡ (open_ledger o).work.sizes.commits) is last)
 
 pub returns-in-Wide-clause-makes : goal.returns-in-Wide-clause-makes
 returns-in-Wide-clause-makes c =
     let is : c.args.at.now.value.open ≡ Wide c.in-Wide.open = search rules in
-    subst (λ (o : AnyOpen). MakesOneOf (class_of (1 + 2 * length (open_fields o))) (open_ledger o) (open_ledger (Wide c.commit_told-in-Wide.new.open))) (sym is) c.commit_told-in-Wide.ensures.makes
-
-pub returns-in-Narrow-clause-tells : goal.returns-in-Narrow-clause-tells
-returns-in-Narrow-clause-tells c =
-    tells_as (λ new old. with_committed new old) (λ new old. old) _ _ c.commit_told.new.told c.commit_told.result _ c.no_told.ensures (to_z-of_z w32 c.commit_told.result (record { sfits = c.commit_told.type_inv })) c.commit_told.ensures.tells
+    let now = open_ledger (Wide c.commit_told-in-Wide.new.open) in
+    subst (λ (o : AnyOpen). MakesOneOf (class_of (1 + 2 * length (open_fields o))) (open_ledger o) now) (sym is) c.commit_told-in-Wide.ensures.makes
 
 pub returns-in-Wide-clause-tells : goal.returns-in-Wide-clause-tells
 returns-in-Wide-clause-tells c =
-    tells_as (λ new old. with_committed new old) (λ new old. old) _ _ c.commit_told-in-Wide.new.told c.commit_told-in-Wide.result _ c.no_told.ensures (to_z-of_z w32 c.commit_told-in-Wide.result (record { sfits = c.commit_told-in-Wide.type_inv })) c.commit_told-in-Wide.ensures.tells
+    let code = to_z-of_z w32 c.commit_told-in-Wide.result (record { sfits = c.commit_told-in-Wide.type_inv }) in
+    tells_as (λ new old. with_committed new old) (λ new old. old) _ _ c.commit_told-in-Wide.new.told c.commit_told-in-Wide.result _ c.no_told.ensures code c.commit_told-in-Wide.ensures.tells

@@ -1,11 +1,11 @@
 use Rattle.std.proofs.Common.{◌≡◌, ℤ, sym, ap, subst, ◌∙◌, rules, w32, to_z, of_z}
 use Rattle.std.proofs.lemmas.Int.{to_z-of_z}
 use Rattle.attr_c.proofs.EndLemmas.{stopped_as, tells_as}
-use Rattle.attr_c.specs.Compacting.{CompactsOpen, RefusesOpen, StepsAs, StopsStep}
+use Rattle.attr_c.specs.Compacting.{CompactsOpen, IsIdleOpen, RefusesOpen, StepsAs, StopsStep}
 use Rattle.attribute_kinds.specs.Calls.{KeepsStoreBut}
 use Rattle.attribute_kinds.specs.Counts.{HasNoVectors}
 use Rattle.compact_steps.specs.Counts.{MakesKeys}
-use Rattle.attr_c.specs.Engines.{open_counts, open_dense, open_fields, open_table}
+use Rattle.attr_c.specs.Engines.{open_counts, open_dense, open_fields, open_table, KeepsAttributes}
 use Rattle.attr_c.specs.Stores.{open_ledger}
 use Rattle.attr_c.specs.Stops.{Stopped}
 use Rattle.attr_c.specs.declared.state.AnyOpen.{AnyOpen}
@@ -19,31 +19,11 @@ returns-in-Narrow-clause-steps c = λ zero.
     let ok = sym (to_z-of_z w32 c.compact_told.result (record { sfits = c.compact_told.type_inv })) ∙ zero in
     subst (λ (o : AnyOpen). StepsAs (CompactsOpen o (Narrow c.compact_told.new.open) c.args.keys) c.compact_told.new.told) (sym is) (c.compact_told.ensures.steps ok)
 
-pub returns-in-Narrow-clause-stopped : goal.returns-in-Narrow-clause-stopped
-returns-in-Narrow-clause-stopped c = λ not.
-    let is : c.args.at.now.value.open ≡ Narrow c.in-Narrow.open = search rules in
-    let now = c.compact_told.new.open in
-    let told = c.compact_told.new.told in
-    let code = to_z-of_z w32 c.compact_told.result (record { sfits = c.compact_told.type_inv }) in
-    subst
-    (λ (o : AnyOpen). Stopped (StopsStep (CompactsOpen o (Narrow now) c.args.keys) (RefusesOpen o (Narrow now)) told.keys) (open_counts o) now.counts told (to_z w32 (of_z w32 c.compact_told.result)))
-    (sym is) (stopped_as _ _ _ _ _ _ code (c.compact_told.ensures.stopped (λ zero. not (ap (λ (z : ℤ). to_z w32 (of_z w32 z)) zero))))
-
 pub returns-in-Wide-clause-steps : goal.returns-in-Wide-clause-steps
 returns-in-Wide-clause-steps c = λ zero.
     let is : c.args.at.now.value.open ≡ Wide c.in-Wide.open = search rules in
     let ok = sym (to_z-of_z w32 c.compact_told-in-Wide.result (record { sfits = c.compact_told-in-Wide.type_inv })) ∙ zero in
     subst (λ (o : AnyOpen). StepsAs (CompactsOpen o (Wide c.compact_told-in-Wide.new.open) c.args.keys) c.compact_told-in-Wide.new.told) (sym is) (c.compact_told-in-Wide.ensures.steps ok)
-
-pub returns-in-Wide-clause-stopped : goal.returns-in-Wide-clause-stopped
-returns-in-Wide-clause-stopped c = λ not.
-    let is : c.args.at.now.value.open ≡ Wide c.in-Wide.open = search rules in
-    let now = c.compact_told-in-Wide.new.open in
-    let told = c.compact_told-in-Wide.new.told in
-    let code = to_z-of_z w32 c.compact_told-in-Wide.result (record { sfits = c.compact_told-in-Wide.type_inv }) in
-    subst
-    (λ (o : AnyOpen). Stopped (StopsStep (CompactsOpen o (Wide now) c.args.keys) (RefusesOpen o (Wide now)) told.keys) (open_counts o) now.counts told (to_z w32 (of_z w32 c.compact_told-in-Wide.result)))
-    (sym is) (stopped_as _ _ _ _ _ _ code (c.compact_told-in-Wide.ensures.stopped (λ zero. not (ap (λ (z : ℤ). to_z w32 (of_z w32 z)) zero))))
 
 pub returns-in-Narrow-clause-store : goal.returns-in-Narrow-clause-store
 returns-in-Narrow-clause-store c =
@@ -55,20 +35,62 @@ returns-in-Wide-clause-store c =
     let is : c.args.at.now.value.open ≡ Wide c.in-Wide.open = search rules in
     subst (λ (o : AnyOpen). KeepsStoreBut (open_ledger o) (open_ledger (Wide c.compact_told-in-Wide.new.open))) (sym is) c.compact_told-in-Wide.ensures.keeps
 
+pub returns-in-Narrow-clause-stopped : goal.returns-in-Narrow-clause-stopped
+returns-in-Narrow-clause-stopped c = λ not.
+    let is : c.args.at.now.value.open ≡ Narrow c.in-Narrow.open = search rules in
+    let now = c.compact_told.new.open in
+    let told = c.compact_told.new.told in
+    let code = to_z-of_z w32 c.compact_told.result (record { sfits = c.compact_told.type_inv }) in
+    let end = to_z w32 (of_z w32 c.compact_told.result) in
+    subst
+    (λ (o : AnyOpen). Stopped (StopsStep (CompactsOpen o (Narrow now) c.args.keys) (RefusesOpen o (Narrow now)) told.keys) (open_counts o) now.counts told end)
+    (sym is) (stopped_as _ _ _ _ _ _ code (c.compact_told.ensures.stopped (λ zero. not (ap (λ (z : ℤ). to_z w32 (of_z w32 z)) zero))))
+
+pub returns-in-Narrow-clause-idle : goal.returns-in-Narrow-clause-idle
+returns-in-Narrow-clause-idle c = λ idle.
+    let is : c.args.at.now.value.open ≡ Narrow c.in-Narrow.open = search rules in
+    let code = to_z-of_z w32 c.compact_told.result (record { sfits = c.compact_told.type_inv }) in
+    let stays = c.compact_told.ensures.idle (subst (λ (o : AnyOpen). IsIdleOpen o) is idle) in
+    (code ∙ stays.0, subst (λ (o : AnyOpen). KeepsAttributes o (Narrow c.compact_told.new.open)) (sym is) stays.1, stays.2)
+
 pub returns-in-Narrow-clause-makes : goal.returns-in-Narrow-clause-makes
 returns-in-Narrow-clause-makes c =
     let is : c.args.at.now.value.open ≡ Narrow c.in-Narrow.open = search rules in
-    subst (λ (o : AnyOpen). MakesKeys (HasNoVectors (open_dense o) (open_table o)) (open_fields o) (open_table o) (open_ledger o) (open_ledger (Narrow c.compact_told.new.open)) c.args.keys) (sym is) c.compact_told.ensures.makes
+    let now = open_ledger (Narrow c.compact_told.new.open) in
+    subst (λ (o : AnyOpen). MakesKeys (HasNoVectors (open_dense o) (open_table o)) (open_fields o) (open_table o) (open_ledger o) now c.args.keys) (sym is)
+    c.compact_told.ensures.makes
+
+pub returns-in-Narrow-clause-tells : goal.returns-in-Narrow-clause-tells
+returns-in-Narrow-clause-tells c =
+    let code = to_z-of_z w32 c.compact_told.result (record { sfits = c.compact_told.type_inv }) in
+    tells_as (λ new old. with_step new old) (λ new old. with_keys new old) _ _ c.compact_told.new.told c.compact_told.result _ c.no_told.ensures code c.compact_told.ensures.tells
+
+pub returns-in-Wide-clause-stopped : goal.returns-in-Wide-clause-stopped
+returns-in-Wide-clause-stopped c = λ not.
+    let is : c.args.at.now.value.open ≡ Wide c.in-Wide.open = search rules in
+    let now = c.compact_told-in-Wide.new.open in
+    let told = c.compact_told-in-Wide.new.told in
+    let code = to_z-of_z w32 c.compact_told-in-Wide.result (record { sfits = c.compact_told-in-Wide.type_inv }) in
+    let end = to_z w32 (of_z w32 c.compact_told-in-Wide.result) in
+    subst
+    (λ (o : AnyOpen). Stopped (StopsStep (CompactsOpen o (Wide now) c.args.keys) (RefusesOpen o (Wide now)) told.keys) (open_counts o) now.counts told end)
+    (sym is) (stopped_as _ _ _ _ _ _ code (c.compact_told-in-Wide.ensures.stopped (λ zero. not (ap (λ (z : ℤ). to_z w32 (of_z w32 z)) zero))))
+
+pub returns-in-Wide-clause-idle : goal.returns-in-Wide-clause-idle
+returns-in-Wide-clause-idle c = λ idle.
+    let is : c.args.at.now.value.open ≡ Wide c.in-Wide.open = search rules in
+    let code = to_z-of_z w32 c.compact_told-in-Wide.result (record { sfits = c.compact_told-in-Wide.type_inv }) in
+    let stays = c.compact_told-in-Wide.ensures.idle (subst (λ (o : AnyOpen). IsIdleOpen o) is idle) in
+    (code ∙ stays.0, subst (λ (o : AnyOpen). KeepsAttributes o (Wide c.compact_told-in-Wide.new.open)) (sym is) stays.1, stays.2)
 
 pub returns-in-Wide-clause-makes : goal.returns-in-Wide-clause-makes
 returns-in-Wide-clause-makes c =
     let is : c.args.at.now.value.open ≡ Wide c.in-Wide.open = search rules in
-    subst (λ (o : AnyOpen). MakesKeys (HasNoVectors (open_dense o) (open_table o)) (open_fields o) (open_table o) (open_ledger o) (open_ledger (Wide c.compact_told-in-Wide.new.open)) c.args.keys) (sym is) c.compact_told-in-Wide.ensures.makes
-
-pub returns-in-Narrow-clause-tells : goal.returns-in-Narrow-clause-tells
-returns-in-Narrow-clause-tells c =
-    tells_as (λ new old. with_step new old) (λ new old. with_keys new old) _ _ c.compact_told.new.told c.compact_told.result _ c.no_told.ensures (to_z-of_z w32 c.compact_told.result (record { sfits = c.compact_told.type_inv })) c.compact_told.ensures.tells
+    let now = open_ledger (Wide c.compact_told-in-Wide.new.open) in
+    subst (λ (o : AnyOpen). MakesKeys (HasNoVectors (open_dense o) (open_table o)) (open_fields o) (open_table o) (open_ledger o) now c.args.keys) (sym is)
+    c.compact_told-in-Wide.ensures.makes
 
 pub returns-in-Wide-clause-tells : goal.returns-in-Wide-clause-tells
 returns-in-Wide-clause-tells c =
-    tells_as (λ new old. with_step new old) (λ new old. with_keys new old) _ _ c.compact_told-in-Wide.new.told c.compact_told-in-Wide.result _ c.no_told.ensures (to_z-of_z w32 c.compact_told-in-Wide.result (record { sfits = c.compact_told-in-Wide.type_inv })) c.compact_told-in-Wide.ensures.tells
+    let code = to_z-of_z w32 c.compact_told-in-Wide.result (record { sfits = c.compact_told-in-Wide.type_inv }) in
+    tells_as (λ new old. with_step new old) (λ new old. with_keys new old) _ _ c.compact_told-in-Wide.new.told c.compact_told-in-Wide.result _ c.no_told.ensures code c.compact_told-in-Wide.ensures.tells

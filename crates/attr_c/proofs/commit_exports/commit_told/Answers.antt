@@ -1,6 +1,6 @@
 use Rattle.std.proofs.Common.{ℤ, ap, sym, ◌∙◌, w32, to_z, of_z, refl, subst}
 use Rattle.std.proofs.lemmas.Int.{to_z-of_z}
-use Rattle.attr_c.proofs.EndLemmas.{on_err_of, on_ok_of, stopped_as, stopped_of, tells_over}
+use Rattle.attr_c.proofs.EndLemmas.{code_of_stop, on_err_of, on_ok_of, stopped_as, stopped_of, tells_over}
 use Rattle.attr_c.specs.Stops.{StopsCommit}
 use Rattle.attr_c.specs.Telling.{with_committed, TellsBy}
 use Rattle.attr_c.proofs.commit_exports.commit_told.Goals as goal
@@ -45,8 +45,16 @@ returns-clause-stopped g c = λ not.
     (stopped_of (StopsCommit was.fields (ledger was.attribute.store) (ledger now.attribute.store)) c.commit-came.result was.counts _ c.ended.new.counts c.ended.new.told c.ended.result
     (on_err_of c.commit-came.result failed c.commit-came.ensures.still) failed c.commit-came.ensures.why c.ended.ensures.ends)
 
-pub returns-clause-keeps : goal.returns-clause-keeps
-returns-clause-keeps g c = λ not. on_err_of c.commit-came.result (c.ended.ensures.other (λ zero. not (ap (λ (z : ℤ). to_z w32 (of_z w32 z)) zero))) c.commit-came.ensures.keeps
+pub returns-clause-spent : goal.returns-clause-spent
+returns-clause-spent g c = λ last.
+    to_z-of_z w32 c.ended.result (record { sfits = c.ended.type_inv })
+    ∙ code_of_stop c.commit-came.result _ _ _ _ c.ended.result (c.commit-came.ensures.spent last) c.ended.ensures.ends
+
+pub returns-clause-trees : goal.returns-clause-trees
+returns-clause-trees g c = c.commit-came.ensures.trees
+
+pub returns-clause-plan : goal.returns-clause-plan
+returns-clause-plan g c = c.commit-came.ensures.plan
 
 pub returns-clause-makes : goal.returns-clause-makes
 returns-clause-makes g c = c.commit-came.ensures.makes

@@ -43,3 +43,10 @@ returns-clause-tells g c =
     (λ zero. on_ok_of c.compact-came.result (c.ended.ensures.ok zero) c.compact-came.ensures.tells)
     (λ not. on_err_of c.compact-came.result (c.ended.ensures.other not) c.compact-came.ensures.tells_keys)
     c.ended.ensures.tells)
+
+pub returns-clause-idle : goal.returns-clause-idle
+returns-clause-idle g c = λ idle.
+    let stays = c.compact-came.ensures.idle idle in
+    let zero = on_ok_of c.compact-came.result stays.0 c.ended.ensures.fine in
+    let same = c.ended.ensures.same zero in
+    (to_z-of_z w32 c.ended.result (record { sfits = c.ended.type_inv }) ∙ zero, stays.1, rw (same.1) stays.2)

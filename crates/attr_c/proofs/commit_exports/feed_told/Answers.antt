@@ -1,8 +1,9 @@
 use Rattle.std.proofs.Common.{◌-◌, ℤ, drop, ap, sym, ◌∙◌, w32, to_z, of_z, ℕ, subst, refl}
 use Rattle.std.proofs.lemmas.Int.{to_z-of_z}
-use Rattle.attr_c.proofs.EndLemmas.{made_as, on_err_of, on_ok_of, feed_stops, stopped_as, stopped_of, tells_over}
-use Rattle.attr_c.specs.Stops.{Stopped, StopsOperation}
-use Rattle.attr_c.specs.Feeding.{IsFirstOp, StopsFeed}
+use Rattle.attr_c.proofs.EndLemmas.{on_err_of, on_ok_of, feed_stops, stopped_as, stopped_of, tells_over}
+use Rattle.attr_c.specs.Applying.{Applies}
+use Rattle.attr_c.specs.Stops.{LineOr, Stopped, StopsOperation}
+use Rattle.attr_c.specs.Feeding.{IsFirstOp, IsSaidBefore, StopsFeed}
 use Rattle.attr_c.specs.Holds.{with_skipped}
 use Rattle.attr_c.specs.Telling.{with_fed, with_line, TellsBy}
 use Rattle.attr_c.specs.declared.told.Told.{Told}
@@ -29,7 +30,11 @@ returns-clause-stopped g c = λ not.
     let told = c.ended.new.told in
     let bytes = c.args.bytes.now in
     let first = c.feed-came.new.told in
-    let why = λ (place : ℕ). StopsOperation was.attribute fed.attribute (IsFirstOp was.fields (drop place bytes)) g.S.Store.ledger in
+    let ledger = g.S.Store.ledger in
+    let records = g.S.Frozen.records in
+    let why = λ (place : ℕ).
+    LineOr (Applies ledger (IsSaidBefore was.fields bytes (drop place bytes)) was.attribute fed.attribute)
+    (StopsOperation ledger records (IsSaidBefore was.fields bytes (drop place bytes)) (IsFirstOp was.fields (drop place bytes)) was.attribute fed.attribute) in
     let cause = λ (line place : ℕ). StopsFeed was.fields bytes line (drop place bytes) (why place) in
     let code = to_z-of_z w32 c.ended.result (record { sfits = c.ended.type_inv }) in
     let failed = c.ended.ensures.other (λ zero. not (ap (λ (z : ℤ). to_z w32 (of_z w32 z)) zero)) in
@@ -39,9 +44,6 @@ returns-clause-stopped g c = λ not.
     subst (λ (n : ℕ). Stopped (cause n told.place) (with_skipped told.skipped was.counts) c.ended.new.counts told end) (sym c.ended.ensures.line)
     (subst (λ (n : ℕ). Stopped (cause first.line n) (with_skipped told.skipped was.counts) c.ended.new.counts told end) (sym c.ended.ensures.place)
     (stopped_as _ _ _ _ _ _ code (stopped_of (cause first.line first.place) c.feed-came.result _ _ c.ended.new.counts told c.ended.result same failed stops c.ended.ensures.ends)))
-
-pub returns-clause-made : goal.returns-clause-made
-returns-clause-made g c = made_as c.feed-came.result _ _ _ c.ended.result _ (to_z-of_z w32 c.ended.result (record { sfits = c.ended.type_inv })) c.feed-came.ensures.made c.ended.ensures.ends
 
 pub returns-clause-tells : goal.returns-clause-tells
 returns-clause-tells g c =
@@ -54,3 +56,6 @@ returns-clause-tells g c =
     (λ zero. ap (λ (t : Told). record t { operations = count }) (on_ok_of c.feed-came.result (c.ended.ensures.ok zero) c.feed-came.ensures.tells))
     (λ not. ap (λ (t : Told). record t { operations = count }) (on_err_of c.feed-came.result (c.ended.ensures.other not) c.feed-came.ensures.tells_line))
     c.ended.ensures.tells)
+
+pub returns-clause-done : goal.returns-clause-done
+returns-clause-done g c = λ zero. on_ok_of c.feed-came.result (c.ended.ensures.ok (sym (to_z-of_z w32 c.ended.result (record { sfits = c.ended.type_inv })) ∙ zero)) c.feed-came.ensures.done

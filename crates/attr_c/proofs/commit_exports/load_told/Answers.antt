@@ -1,7 +1,8 @@
 use Rattle.std.proofs.Common.{◌-◌, ℕ, ℤ, ap, sym, subst, ◌∙◌, w32, to_z, of_z, refl}
 use Rattle.std.proofs.lemmas.Int.{to_z-of_z}
-use Rattle.attr_c.proofs.EndLemmas.{made_as, on_err_of, on_ok_of, place_as, stopped_as, stopped_of, tells_over}
-use Rattle.attr_c.specs.Loading.{IsNextLoaded, StopsLoad}
+use Rattle.attr_c.proofs.EndLemmas.{on_err_of, on_ok_of, place_as, stopped_as, stopped_of, tells_over}
+use Rattle.attr_c.specs.Applying.{Applies}
+use Rattle.attr_c.specs.Loading.{AreFirstOf, ArePuts, IsNextLoaded, StopsLoad}
 use Rattle.attr_c.specs.Stops.{Stopped, StopsOperation}
 use Rattle.attr_c.specs.Telling.{with_count, with_place, TellsBy}
 use Rattle.attr_c.specs.declared.told.Told.{Told}
@@ -31,16 +32,16 @@ returns-clause-stopped g c = λ not.
     let now = c.load-came.new.open in
     let told = c.ended.new.told in
     let bytes = c.args.bytes.now in
-    let why = StopsOperation was.attribute now.attribute (IsNextLoaded bytes was.attribute.operations now.attribute.operations) g.S.Store.ledger in
+    let which = ArePuts (AreFirstOf was.fields bytes) in
+    let done = Applies g.S.Store.ledger which was.attribute now.attribute in
+    let next = IsNextLoaded bytes was.attribute.operations now.attribute.operations in
+    let why = StopsOperation g.S.Store.ledger g.S.Frozen.records which next was.attribute now.attribute in
     let code = to_z-of_z w32 c.ended.result (record { sfits = c.ended.type_inv }) in
     let failed = c.ended.ensures.other (λ zero. not (ap (λ (z : ℤ). to_z w32 (of_z w32 z)) zero)) in
-    subst (λ (n : ℕ). Stopped (StopsLoad was.fields bytes n why) was.counts c.ended.new.counts told (to_z w32 (of_z w32 c.ended.result))) (sym c.ended.ensures.place)
+    subst (λ (n : ℕ). Stopped (StopsLoad was.fields bytes n done why) was.counts c.ended.new.counts told (to_z w32 (of_z w32 c.ended.result))) (sym c.ended.ensures.place)
     (stopped_as _ _ _ _ _ _ code
-    (stopped_of (StopsLoad was.fields bytes c.load-came.new.told.place why) c.load-came.result was.counts _ c.ended.new.counts told c.ended.result c.load-came.ensures.counts failed
+    (stopped_of (StopsLoad was.fields bytes c.load-came.new.told.place done why) c.load-came.result was.counts _ c.ended.new.counts told c.ended.result c.load-came.ensures.counts failed
     c.load-came.ensures.why c.ended.ensures.ends))
-
-pub returns-clause-made : goal.returns-clause-made
-returns-clause-made g c = made_as c.load-came.result _ _ _ c.ended.result _ (to_z-of_z w32 c.ended.result (record { sfits = c.ended.type_inv })) c.load-came.ensures.made c.ended.ensures.ends
 
 pub returns-clause-tells : goal.returns-clause-tells
 returns-clause-tells g c =
@@ -59,3 +60,9 @@ returns-clause-place g c = λ not.
     c.ended.ensures.place
     ∙ place_as c.load-came.result c.args.told.now c.load-came.new.told _ _ c.ended.new.told c.ended.result c.load-came.ensures.tells c.load-came.ensures.place c.ended.ensures.ends
     (λ bad. not (ap (λ (z : ℤ). to_z w32 (of_z w32 z)) bad))
+
+pub returns-clause-done : goal.returns-clause-done
+returns-clause-done g c = λ zero. on_ok_of c.load-came.result (c.ended.ensures.ok (sym (to_z-of_z w32 c.ended.result (record { sfits = c.ended.type_inv })) ∙ zero)) c.load-came.ensures.done
+
+pub returns-clause-plan : goal.returns-clause-plan
+returns-clause-plan g c = c.load-came.ensures.plan

@@ -1,8 +1,8 @@
-use Rattle.std.proofs.Common.{◌≡◌, subst, sym, rules, Ok, Some}
-use Rattle.attr_c.specs.Feeding.{IsOpOf, SaysLine}
+use Rattle.std.proofs.Common.{◌≡◌, subst, sym, rules, Ok, Some, None}
+use Rattle.attr_c.specs.Feeding.{AreOpsOf, IsOpOf, SaysLine}
 use Rattle.attr_c.proofs.EndLemmas.{line_or, stops_wider}
 use Rattle.attr_c.proofs.FeedLemmas.{fed_stopped}
-use Rattle.attr_c.proofs.MakingLemmas.{from_none}
+use Rattle.attr_c.proofs.ApplyingLemmas.{applies_none}
 use Rattle.attr_c.proofs.feeding.feed_line.Goals as goal
 
 pub returns-in-Ok-Some-clause-fed : goal.returns-in-Ok-Some-clause-fed
@@ -17,14 +17,19 @@ pub returns-in-Ok-Some-clause-why : goal.returns-in-Ok-Some-clause-why
 returns-in-Ok-Some-clause-why g c =
     let was = c.args.open.now.attribute in
     let now = c.apply.new.open.attribute in
-    let ledger = g.S.Store.ledger in
     let fields = c.args.open.now.fields in
     let line = c.args.line.now in
     let is : c.operation_in.result ≡ Ok (Some c.in-Ok-Some.op) = search rules in
     let said = subst (SaysLine fields line) is c.operation_in.ensures in
     let one : IsOpOf fields line c.in-Ok-Some.op = record { some = said.0; says = said.1 } in
-    line_or was now ledger (IsOpOf fields line) c.in-Err-apply.stop
-    (stops_wider was now ledger (λ next. next ≡ c.in-Ok-Some.op) (IsOpOf fields line) (λ op same. subst (IsOpOf fields line) (sym same) one) c.in-Err-apply.stop c.in-Err-apply.ensures.why)
+    line_or g.S.Store.ledger g.S.Frozen.records _ (IsOpOf fields line) was now _ c.in-Err-apply.stop
+    (stops_wider g.S.Store.ledger g.S.Frozen.records _ (λ next. next ≡ c.in-Ok-Some.op) was now (IsOpOf fields line) (λ op same. subst (IsOpOf fields line) (sym same) one) c.in-Err-apply.stop
+    c.in-Err-apply.ensures.why)
 
-pub returns-in-Ok-None-clause-made : goal.returns-in-Ok-None-clause-made
-returns-in-Ok-None-clause-made g c = from_none g.S.Store.ledger c.args.open.now.attribute
+pub returns-in-Ok-None-clause-done : goal.returns-in-Ok-None-clause-done
+returns-in-Ok-None-clause-done g c =
+    let fields = c.args.open.now.fields in
+    let line = c.args.line.now in
+    let is : c.operation_in.result ≡ Ok None = search rules in
+    let said = subst (SaysLine fields line) is c.operation_in.ensures in
+    applies_none g.S.Store.ledger (AreOpsOf fields line) c.args.open.now.attribute said

@@ -1,12 +1,13 @@
-use Rattle.std.proofs.Common.{ap, List, refl, sym, subst, rules}
+use Rattle.std.proofs.Common.{◌≡◌, ◌++◌, [], ap, List, length, take, refl, sym, subst, rules}
 use Rattle.std.specs.List.{AllByRecursion}
 use Rattle.std.proofs.lemmas.Result.{IfErr-weaker, IfOk-weaker}
 use Rattle.attr_saver.specs.declared.saved.SavedDocument.{SavedDocument}
 use Rattle.attr_types.specs.Lawful.{OpFits}
-use Rattle.attr_c.specs.Loading.{put_of, IsNextLoaded, IsNextPut, IsSaveOf, PutsFront, PutsIn}
-use Rattle.attr_c.proofs.EndLemmas.{load_or, place_left, save_or, stops_wider, unless_any}
-use Rattle.attr_c.proofs.MakingLemmas.{from_none}
-use Rattle.attr_c.proofs.LoadLemmas.{loads_front, loads_none, loads_whole, puts_fit}
+use Rattle.attr_types.specs.declared.op.Op.{Op}
+use Rattle.attr_c.specs.Loading.{put_of, puts_of, AreAllOf, AreFirstOf, ArePuts, IsNextLoaded, IsNextPut, IsSaveOf, PutsFront, PutsIn}
+use Rattle.attr_c.proofs.ApplyingLemmas.{applies_none, applies_wider}
+use Rattle.attr_c.proofs.EndLemmas.{load_or, on_ok_map, place_left, save_or, stops_since}
+use Rattle.attr_c.proofs.LoadLemmas.{first_puts, loads_front, loads_none, loads_whole, no_puts, none_of, puts_fit}
 use Rattle.attr_steps.proofs.StepLemmas.{keeps_same}
 use Rattle.attr_c.specs.declared.told.Told.{Told}
 use Rattle.attr_c.proofs.loading.load.Goals as goal
@@ -50,28 +51,50 @@ put_all-requires g c =
 
 pub returns-in-Err-clause-why : goal.returns-in-Err-clause-why
 returns-in-Err-clause-why g c =
-    let was = c.args.open.now.attribute in
-    save_or was was g.S.Store.ledger (IsNextLoaded c.args.bytes.now was.operations was.operations) _ _ _ c.in-Err.stop c.in-Err.ensures.why
+    let was = c.args.open.now in
+    let bytes = c.args.bytes.now in
+    let ops = was.attribute.operations in
+    save_or g.S.Store.ledger g.S.Frozen.records (ArePuts (AreFirstOf was.fields bytes)) (IsNextLoaded bytes ops ops) was.attribute was.attribute _ _ _ c.in-Err.stop
+    (applies_none g.S.Store.ledger _ was.attribute (no_puts _ (none_of was.fields bytes))) c.in-Err.ensures.why
 
 pub returns-then-not-is_of_fields-clause-why : goal.returns-then-not-is_of_fields-clause-why
 returns-then-not-is_of_fields-clause-why g c =
-    record { saved = c.in-Ok.saved; reads = c.in-Ok.ensures.saved; other = c.is_of_fields.ensures.no c.if-not-is_of_fields.true }
+    let was = c.args.open.now in (
+      record { saved = c.in-Ok.saved; reads = c.in-Ok.ensures.saved; other = c.is_of_fields.ensures.no c.if-not-is_of_fields.true },
+      applies_none g.S.Store.ledger _ was.attribute (no_puts _ (none_of was.fields c.args.bytes.now)),
+    )
 
 pub returns-clause-why : goal.returns-clause-why
 returns-clause-why g c =
-    let was = c.args.open.now.attribute in
+    let was = c.args.open.now in
     let now = c.put_all.new.open.attribute in
     let ledger = g.S.Store.ledger in
+    let records = g.S.Frozen.records in
     let bytes = c.args.bytes.now in
-    let next = IsNextLoaded bytes was.operations now.operations in
+    let ops = was.attribute.operations in
+    let all = c.into_vec.result.items in
+    let is_of : IsSaveOf was.fields c.in-Ok.saved = c.is_of_fields.ensures.yes c.if-not-is_of_fields.false in
+    let which = ArePuts (AreFirstOf was.fields bytes) in
+    let next = IsNextLoaded bytes ops now.operations in
+    let nothing : List Op → Type 0 = λ os. os ≡ [] in
     IfErr-weaker c.put_all.result _ _
-    (λ stop why. load_or was now ledger next _ _ _ stop
-    (stops_wider was now ledger (IsNextPut c.into_vec.result.items was.operations now.operations) next
+    (λ stop why. load_or ledger records which next was.attribute now _ _ _ _ stop
+    (stops_since ledger records nothing (ArePuts (λ front. front ≡ take (length front) all)) which (IsNextPut all ops now.operations) next was.attribute was.attribute now
+    (λ xs ys none puts. subst (λ (os : List Op). which (os ++ ys)) (sym none) (first_puts was.fields bytes c.in-Ok.saved c.in-Ok.ensures.saved is_of all c.into_vec.ensures ys puts))
     (λ op is. record {
       saved = c.in-Ok.saved;
       reads = c.in-Ok.ensures.saved;
-      is_next = subst (λ (list : List SavedDocument). IsNextPut list was.operations now.operations op) c.into_vec.ensures is;
-    }) stop why)) c.put_all.ensures.why
+      is_next = subst (λ (list : List SavedDocument). IsNextPut list ops now.operations op) c.into_vec.ensures is;
+    })
+    (applies_none ledger nothing was.attribute refl) stop why))
+    c.put_all.ensures.why
+
+pub returns-clause-done : goal.returns-clause-done
+returns-clause-done g c =
+    let all = c.into_vec.result.items in
+    on_ok_map c.put_all.result
+    (applies_wider g.S.Store.ledger (λ ops. ops ≡ puts_of all) (ArePuts (AreAllOf c.args.bytes.now)) c.args.open.now.attribute c.put_all.new.open.attribute
+    (λ ops same. record { documents = all; which_are = record { saved = c.in-Ok.saved; reads = c.in-Ok.ensures.saved; all = c.into_vec.ensures }; ops_are = same })) c.put_all.ensures.done
 
 pub returns-in-Err-clause-keeps : goal.returns-in-Err-clause-keeps
 returns-in-Err-clause-keeps g c = keeps_same (g.S.Store.ledger c.args.open.now.attribute.store)
@@ -82,9 +105,3 @@ returns-then-not-is_of_fields-clause-keeps g c = keeps_same (g.S.Store.ledger c.
 pub returns-clause-place : goal.returns-clause-place
 returns-clause-place g c =
     IfErr-weaker c.put_all.result _ _ (λ stop u. place_left c.args.told.now c.saved_in.new.told stop (ap (λ (t : Told). t.place) c.in-Ok.ensures.tells)) c.put_all.ensures.why
-
-pub returns-in-Err-clause-made : goal.returns-in-Err-clause-made
-returns-in-Err-clause-made g c = unless_any c.in-Err.stop (from_none g.S.Store.ledger c.args.open.now.attribute)
-
-pub returns-then-not-is_of_fields-clause-made : goal.returns-then-not-is_of_fields-clause-made
-returns-then-not-is_of_fields-clause-made g c = from_none g.S.Store.ledger c.args.open.now.attribute

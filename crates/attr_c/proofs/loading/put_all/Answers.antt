@@ -1,15 +1,15 @@
-use Rattle.std.proofs.Common.{◌≡◌, ◌∷◌, List, ap, refl, subst, sym, ◌∙◌, rules}
+use Rattle.std.proofs.Common.{◌≡◌, [], ◌∷◌, ◌++◌, List, length, take, ap, refl, subst, sym, ◌∙◌, rules}
 use Rattle.std.specs.Vec.Iter.{into_iter_items}
 use Rattle.attr_saver.specs.declared.saved.SavedDocument.{SavedDocument}
 use Rattle.attr_types.specs.Lawful.{OpFits}
 use Rattle.attr_types.specs.Table.{after_op}
 use Rattle.attr_types.specs.declared.field.Field.{Field}
-use Rattle.attr_c.specs.Loading.{put_of, IsNextPut}
+use Rattle.attr_c.specs.Loading.{put_of, puts_of, ArePuts, IsNextPut}
 use Rattle.attr_steps.proofs.StepLemmas.{keeps_same}
 use Rattle.compact_steps.proofs.WalkLemmas.{keeps_then}
-use Rattle.attr_c.proofs.EndLemmas.{stops_since, stops_wider, unless_map}
-use Rattle.attr_c.proofs.MakingLemmas.{from_none, from_then}
-use Rattle.attr_c.proofs.LoadLemmas.{moved_on, next_put, one_of_all, puts_front, puts_more, puts_none}
+use Rattle.attr_c.proofs.ApplyingLemmas.{applies_none, applies_then}
+use Rattle.attr_c.proofs.EndLemmas.{stops_since}
+use Rattle.attr_c.proofs.LoadLemmas.{moved_on, next_put, one_of_all, puts_before, puts_front, puts_more, puts_none, puts_one_more}
 use Rattle.attr_c.proofs.loading.put_all.Goals as goal
 
 pub loop-document-init : goal.loop-document-init
@@ -20,7 +20,8 @@ loop-document-init g c = record {
   fields = refl;
   dense = refl;
   keeps = keeps_same (g.S.Store.ledger c.args.open.now.attribute.store);
-  made = from_none g.S.Store.ledger c.args.open.now.attribute;
+  plan = refl;
+  done = applies_none g.S.Store.ledger (λ ops. ops ≡ []) c.args.open.now.attribute refl;
   commit = record { table = refl; operations = refl };
   all = search rules;
 }
@@ -43,7 +44,9 @@ loop-document-preserved g c =
       fields = c.in-Ok.ensures.fields ∙ i.fields;
       dense = c.in-Ok.ensures.dense ∙ i.dense;
       keeps = keeps_then (ledger was.attribute.store) (ledger mid.store) (ledger now.store) i.keeps c.in-Ok.ensures.keeps;
-      made = from_then ledger was.attribute mid now i.made c.in-Ok.ensures.made;
+      plan = c.in-Ok.ensures.plan ∙ i.plan;
+      done = applies_then ledger (λ ops. ops ≡ puts_of c.loop-document.yielded) (λ ops. ops ≡ put_of one ∷ []) (λ ops. ops ≡ puts_of (c.loop-document.yielded ++ one ∷ [])) was.attribute mid now
+          (puts_one_more c.loop-document.yielded one) i.done c.in-Ok.ensures.done;
       commit = record { table = c.in-Ok.ensures.commit.table ∙ i.commit.table; operations = c.in-Ok.ensures.commit.operations ∙ i.commit.operations };
       all = moved_on c.loop-document.yielded (into_iter_items c.loop-document.document-iterator) (into_iter_items c.next.new.self) c.args.documents.items one rest i.all;
     }
@@ -65,10 +68,12 @@ returns-in-Err-clause-why g c =
     let i = c.loop-document.invariant in
     let one = c.in-Some.document in
     let rest : into_iter_items c.loop-document.document-iterator ≡ one ∷ into_iter_items c.next.new.self = search rules in
-    stops_wider was now g.S.Store.ledger (λ next. next ≡ put_of one) (IsNextPut c.args.documents.items was.operations now.operations)
+    stops_since g.S.Store.ledger g.S.Frozen.records (λ ops. ops ≡ puts_of c.loop-document.yielded) (λ ops. ops ≡ []) (ArePuts (λ front. front ≡ take (length front) c.args.documents.items))
+    (λ next. next ≡ put_of one) (IsNextPut c.args.documents.items was.operations now.operations) was mid now
+    (λ xs ys first none. puts_before c.loop-document.yielded (into_iter_items c.loop-document.document-iterator) c.args.documents.items xs ys i.all first none)
     (λ op is. next_put c.args.open.now.fields c.loop-document.yielded (into_iter_items c.loop-document.document-iterator) (into_iter_items c.next.new.self) c.args.documents.items one was.table mid.table
     was.operations mid.operations now.operations rest i.all i.puts c.in-Err.ensures.left.operations op is)
-    c.in-Err.stop (stops_since was mid now g.S.Store.ledger (λ next. next ≡ put_of one) i.keeps i.made c.in-Err.stop c.in-Err.ensures.why)
+    i.done c.in-Err.stop c.in-Err.ensures.why
 
 pub returns-in-Err-clause-keeps : goal.returns-in-Err-clause-keeps
 returns-in-Err-clause-keeps g c =
@@ -88,6 +93,5 @@ put_document-requires g c =
     c.args.documents.items one rest i.all c.requires) in
     (search rules, fit)
 
-pub returns-in-Err-clause-made : goal.returns-in-Err-clause-made
-returns-in-Err-clause-made g c =
-    unless_map c.in-Err.stop (from_then g.S.Store.ledger c.args.open.now.attribute c.loop-document.open.attribute c.put_document.new.open.attribute c.loop-document.invariant.made) c.in-Err.ensures.made
+pub returns-in-Err-clause-plan : goal.returns-in-Err-clause-plan
+returns-in-Err-clause-plan g c = c.in-Err.ensures.plan ∙ c.loop-document.invariant.plan

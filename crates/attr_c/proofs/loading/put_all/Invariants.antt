@@ -2,8 +2,8 @@ use Rattle.std.proofs.Common.{◌≡◌, ◌++◌}
 use Rattle.std.specs.Vec.Iter.{into_iter_items}
 use Rattle.attribute_kinds.specs.Calls.{KeepsStore}
 use Rattle.attr_c.specs.Feeding.{Stays}
-use Rattle.attr_c.specs.Loading.{PutsIn}
-use Rattle.attr_c.specs.Making.{MakesFrom}
+use Rattle.attr_c.specs.Applying.{Applies}
+use Rattle.attr_c.specs.Loading.{puts_of, PutsIn}
 use Rattle.attr_c.proofs.loading.put_all.Given as goal
 
 -- the documents so far were put in
@@ -15,7 +15,8 @@ invariant-loop-document g l = record {
   fields : l.open.fields ≡ l.fn.open.fields;
   dense : l.open.attribute.dense ≡ l.fn.open.attribute.dense;
   keeps : KeepsStore (g.S.Store.ledger l.fn.open.attribute.store) (g.S.Store.ledger l.open.attribute.store);
-  made : MakesFrom l.fn.open.attribute l.open.attribute g.S.Store.ledger;
+  plan : l.open.attribute.plan ≡ l.fn.open.attribute.plan;
+  done : Applies g.S.Store.ledger (λ ops. ops ≡ puts_of l.yielded) l.fn.open.attribute l.open.attribute;
   commit : Stays l.fn.open.attribute.committed l.open.attribute.committed l.fn.open.attribute.committed_operations l.open.attribute.committed_operations;
   all : l.yielded ++ into_iter_items l.document-iterator ≡ l.fn.documents.items;
 }
