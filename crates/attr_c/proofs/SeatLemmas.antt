@@ -5,7 +5,7 @@ use Rattle.attr_types.specs.Scores.{AskTree, answer_on, documents_in}
 use Rattle.query_text.specs.Asks.{ask_of}
 use Rattle.attr_c.specs.Kept.{KeptView, table_in}
 use Rattle.attr_c.specs.Said.{said}
-use Rattle.attr_c.specs.Seats.{AnswersText, CountsText, ByGuardOf, IsForeign, IsReaderOf, TellsCommit}
+use Rattle.attr_c.specs.Seats.{place_bits, AnswersText, CountsText, ByGuardOf, IsForeign, IsOwn, IsReaderOf, TellsCommit}
 use Rattle.attr_c.specs.Stores.{open_bits}
 use Rattle.attr_c.specs.declared.answer.Answer.{Answer}
 use Rattle.attr_c.specs.declared.seat.Place.{Place}
@@ -34,3 +34,8 @@ pub foreign_seat : (o : AnyOpen) (seat : Option Place) (reader : AnyReader) → 
 foreign_seat o (Some (Free r)) reader is other = subst (λ (x : AnyReader). IsForeign o (Free x)) is other
 foreign_seat o (Some (Kept k)) reader is other = subst (λ (n : ℕ). n ≢ open_bits o) (ap (λ (v : KeptView). v.reader.sizes.offset_bits) is) other
 foreign_seat o None reader is other = absurd is
+
+pub own_seat : (o : AnyOpen) (seat : Option Place) (reader : AnyReader) → IsReaderOf seat reader → place_bits (Free reader) ≡ open_bits o → IsOwn o seat
+own_seat o (Some (Free r)) reader is same = subst (λ (x : AnyReader). place_bits (Free x) ≡ open_bits o) is same
+own_seat o (Some (Kept k)) reader is same = subst (λ (n : ℕ). n ≡ open_bits o) (ap (λ (v : KeptView). v.reader.sizes.offset_bits) is) same
+own_seat o None reader is same = absurd is

@@ -163,6 +163,11 @@ abbrev pub place_bits : Place → ℕ
 place_bits (Free r) = (reader_view r).reader.sizes.offset_bits
 place_bits (Kept k) = (kept_view k).reader.sizes.offset_bits
 
+-- a reader with the references of this width
+abbrev pub IsOwn : AnyOpen → Option Place → Type 0
+IsOwn o (Some place) = place_bits place ≡ open_bits o
+IsOwn o None = ⊥
+
 -- a reader with the references of the other width
 abbrev pub IsForeign : AnyOpen → Place → Type 0
 IsForeign o place = place_bits place ≢ open_bits o

@@ -1,11 +1,12 @@
 //! What C calls to open, to close, and to hand readers out.
-ghost use Rattle.std.specs.Prelude.{◌≡◌, ◌≢◌, [], ◌∷◌, ◌++◌, Err, IfErr, IfNone, IfOk, IfSome, None, OnOk};
+ghost use Rattle.std.specs.Prelude.{◌≡◌, ◌≢◌, [], ◌∷◌, ◌++◌, true, false, Err, IfErr, IfNone, IfOk, IfSome, None, OnOk};
 ghost use Rattle.std.specs.Str.{IsUtf8};
 ghost use Rattle.word_arena.specs.Ruled.{reader_of};
 ghost use Rattle.attr_c.specs.Attributes.{fields_in};
 ghost use Rattle.attr_c.specs.Engines.{open_counts, KeepsAttributes, KeepsTables, KeepsWaiting};
 ghost use Rattle.attr_c.specs.Opening.{InBounds, Opens, OpensEngine, RefusesOpening};
-ghost use Rattle.attr_c.specs.Seats.{HasNoReader, IsForeign, IsReaderOf, OpensSeat, TakesBack, TakesReader};
+ghost use Rattle.attr_c.specs.Seats.{place_bits, HasNoReader, IsForeign, IsOwn, IsReaderOf, OpensSeat, TakesBack, TakesReader};
+ghost use Rattle.attr_c.specs.Stores.{open_bits};
 ghost use Rattle.attr_c.specs.declared.codes.TheConstants.{ATTRIBUTES, BOUNDS, LOST, MEMORY, NO_READER, NO_TEXT, OK};
 
 use crate::attributes::fields_in;
@@ -94,6 +95,17 @@ pub extern "C" fn attr_close(alloc: Global, at: HeldEngine) {
     drop(at.into_box(alloc));
 }
 
+/// Whether each reader was given away.
+fn has_no_reader(open: &AnyOpen) -> bool
+    ensures yes { result ≡ true → HasNoReader open.now }
+    ensures no { result ≡ false → HasNoReader open.now → ⊥ }
+{
+    match open {
+        AnyOpen::Narrow(open) => open.pool.is_empty(),
+        AnyOpen::Wide(open) => open.pool.is_empty(),
+    }
+}
+
 /// A reader that was not given away yet.
 fn next_reader(open: &mut AnyOpen) -> Option<AnyReader>
     ensures taken { IfSome result (TakesReader open.old open.new) }
@@ -136,6 +148,7 @@ fn put_last<const OFFSET_BITS: u32>(
     ensures last { result ≡ OK → pool.new.items ≡ pool.old.items ++ waiting.entry ∷ [] }
     ensures left { result ≢ OK → pool.new.items ≡ pool.old.items }
     ensures code { result ≢ OK → result ≡ MEMORY }
+    ensures bits { (reader_of waiting.entry.reader.place.me.0).sizes.offset_bits ≡ OFFSET_BITS }
 {
     match pool.push(waiting) {
         Ok(()) => OK,
@@ -147,6 +160,7 @@ fn put_last<const OFFSET_BITS: u32>(
 fn put_back(open: &mut AnyOpen, reader: AnyReader) -> i32
     ensures returned { result ≡ OK → TakesReader open.new open.old reader }
     ensures lost { result ≡ LOST → IsForeign open.old (Place.Free reader) }
+    ensures own { result ≢ LOST → place_bits (Place.Free reader) ≡ open_bits open.old }
     ensures others { result ≢ OK → result ≢ LOST → result ≡ MEMORY }
     ensures left { result ≢ OK → KeepsWaiting open.old open.new }
     ensures keeps { KeepsTables open.old open.new }
@@ -167,16 +181,20 @@ pub extern "C" fn attr_reader_open(alloc: Global, at: &mut HeldEngine, out: &mut
     ensures opened { result ≡ OK → OpensSeat at.old.value.open at.new.value.open out.new.value }
     ensures left { result ≢ OK → out.new ≡ out.old }
     ensures none { result ≡ NO_READER → HasNoReader at.old.value.open }
+    ensures some { result ≢ NO_READER → HasNoReader at.old.value.open → ⊥ }
     ensures others { result ≢ OK → result ≢ NO_READER → result ≡ MEMORY }
     ensures kept { result ≢ OK → at.new.value ≡ at.old.value }
     ensures keeps { KeepsTables at.old.value.open at.new.value.open }
     ensures same { KeepsAttributes at.old.value.open at.new.value.open }
     ensures counts { open_counts at.new.value.open ≡ open_counts at.old.value.open }
 {
+    let engine = at.get_mut();
+    if has_no_reader(&engine.open) {
+        return NO_READER;
+    }
     let Ok(mut seat) = Box::new(alloc, may_cross(Seat::new(alloc))) else {
         return MEMORY;
     };
-    let engine = at.get_mut();
     let Some(reader) = next_reader(&mut engine.open) else {
         return NO_READER;
     };
@@ -202,6 +220,7 @@ fn reader_in(alloc: Global, at: HeldSeat) -> Option<AnyReader>
 pub extern "C" fn attr_reader_return(alloc: Global, at: &mut HeldEngine, seat: HeldSeat) -> i32
     ensures returned { result ≡ OK → TakesBack at.old.value.open at.new.value.open seat.value.place }
     ensures lost { result ≡ LOST → IfSome seat.value.place (IsForeign at.old.value.open) }
+    ensures own { result ≢ LOST → IsOwn at.old.value.open seat.value.place }
     ensures others { result ≢ OK → result ≢ LOST → result ≡ MEMORY }
     ensures left { result ≢ OK → KeepsWaiting at.old.value.open at.new.value.open }
     ensures keeps { KeepsTables at.old.value.open at.new.value.open }

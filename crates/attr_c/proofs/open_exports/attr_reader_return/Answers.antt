@@ -1,11 +1,12 @@
-use Rattle.std.proofs.Common.{ap, subst, sym, ◌∙◌, w32}
+use Rattle.std.proofs.Common.{◌≡◌, ap, subst, sym, ◌∙◌, w32}
 use Rattle.std.proofs.lemmas.Int.{to_z-of_z}
 use Rattle.attr_c.specs.Engines.{KeepsWaiting}
-use Rattle.attr_c.specs.Seats.{IsForeign, TakesReader}
+use Rattle.attr_c.specs.Seats.{place_bits, IsForeign, TakesReader}
+use Rattle.attr_c.specs.Stores.{open_bits}
 use Rattle.attr_c.specs.declared.seat.Place.TheVariants.{Free}
 use Rattle.attr_c.specs.declared.state.AnyOpen.{AnyOpen}
 use Rattle.attr_c.specs.declared.state.Engine.{Engine}
-use Rattle.attr_c.proofs.SeatLemmas.{foreign_seat}
+use Rattle.attr_c.proofs.SeatLemmas.{foreign_seat, own_seat}
 use Rattle.attr_c.proofs.open_exports.attr_reader_return.Goals as goal
 
 pub returns-in-Some-clause-returned : goal.returns-in-Some-clause-returned
@@ -35,3 +36,10 @@ returns-in-Some-clause-left c = λ not_ok.
     let back = to_z-of_z w32 c.put_back.result (record { sfits = c.put_back.type_inv }) in
     let was = ap (λ (e : Engine). e.open) c.get_mut-engine.ensures.value in
     subst (λ (o : AnyOpen). KeepsWaiting o c.put_back.new.open) was (c.put_back.ensures.left (λ is. not_ok (back ∙ is)))
+
+pub returns-in-Some-clause-own : goal.returns-in-Some-clause-own
+returns-in-Some-clause-own c = λ not_lost.
+    let back = to_z-of_z w32 c.put_back.result (record { sfits = c.put_back.type_inv }) in
+    let was = ap (λ (e : Engine). e.open) c.get_mut-engine.ensures.value in
+    own_seat c.args.at.now.value.open c.args.seat.value.place c.in-Some.reader c.in-Some.ensures.some
+    (subst (λ (o : AnyOpen). place_bits (Free c.in-Some.reader) ≡ open_bits o) was (c.put_back.ensures.own (λ is. not_lost (back ∙ is))))
