@@ -7,5 +7,5 @@ mod frozen;
 mod work;
 
 pub use answers::{Advance, Oldest};
-pub use frozen::Frozen;
+pub use frozen::{Frozen, read, read_of, word_of};
 pub use work::Work;

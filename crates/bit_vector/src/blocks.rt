@@ -7,7 +7,7 @@ ghost use Rattle.bit_vector.specs.Vectors.{IsVector};
 ghost use Rattle.tree_read.specs.Pairs.{lookup};
 ghost use Rattle.tree_read.specs.Trees.{tree_pairs};
 
-use arena_api::Frozen;
+use arena_api::{Frozen, read};
 use attr_images::{BLOCK_DOCUMENTS, BLOCK_WORDS};
 use entry_ref::EntryRef;
 use frozen_btree::{NumberKey, find};
@@ -41,7 +41,7 @@ pub fn read_block<const OFFSET_BITS: u32, F: Frozen<OFFSET_BITS>>(
     ensures same { frozen.new ≡ frozen.old }
 {
     let mut words = [0; BLOCK_WORDS];
-    frozen.read(block, 0, &mut words);
+    read(frozen, block, 0, &mut words);
     words
 }
 

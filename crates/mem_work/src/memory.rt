@@ -1,4 +1,4 @@
-ghost use Rattle.std.specs.Prelude.{◌≡◌, ◌≢◌, ◌<◌, ◌≤◌, ◌+◌, ◌-◌, ◌*◌, ◌^◌, ℕ, [], IfOk, length, slice_index, take, drop};
+ghost use Rattle.std.specs.Prelude.{◌≡◌, ◌≢◌, ◌<◌, ◌≤◌, ◌+◌, ◌-◌, ◌*◌, ◌^◌, ℕ, [], IfOk, length, IfSome, slice_index, take, drop};
 ghost use Rattle.std.proofs.Common.{sym, ◌∙◌};
 ghost use Rattle.entry_ref.specs.References.{buffer_of, buffer_limit, offset_limit};
 ghost use Rattle.entry_ref.specs.Images.{words_at};
@@ -89,6 +89,8 @@ impl<const OFFSET_BITS: u32, L: Layout> Frozen<OFFSET_BITS> for MemWork<OFFSET_B
     ghost records = { λ s. records_in L.reaches s.shape s.cells.table.items s.cells.stamps.items
         OFFSET_BITS s.cells.buffers s.cells.words s.last s.root };
 
+    ghost begins = { λ s r. 0 };
+
     fn word(&mut self, entry: EntryRef<OFFSET_BITS>, i: u32) -> u64
         requires { HasWord (⟦<MemWork<OFFSET_BITS, L> as Frozen<OFFSET_BITS>>⟧.records self.old) entry i }
         ensures value { result ≡ word_at (⟦<MemWork<OFFSET_BITS, L> as Frozen<OFFSET_BITS>>⟧.records self.old) entry.entry i }
@@ -97,37 +99,37 @@ impl<const OFFSET_BITS: u32, L: Layout> Frozen<OFFSET_BITS> for MemWork<OFFSET_B
         self.cells.word(entry, i)
     }
 
-    fn read(&mut self, entry: EntryRef<OFFSET_BITS>, first: u32, into: &mut [u64])
-        requires there { first + length into.old ≤ length (⟦<MemWork<OFFSET_BITS, L> as Frozen<OFFSET_BITS>>⟧.records self.old entry) }
-        requires few { first + length into.old < 2 ^ 32 }
-        ensures words { into.new ≡ take (length into.old)
-            (drop first (⟦<MemWork<OFFSET_BITS, L> as Frozen<OFFSET_BITS>>⟧.records self.old entry.entry)) }
+    fn start_of(&mut self, entry: EntryRef<OFFSET_BITS>, width: Option<u32>) -> u64
+        requires some { HasWord (⟦<MemWork<OFFSET_BITS, L> as Frozen<OFFSET_BITS>>⟧.records self.old) entry 0 }
+        requires width { IfSome width (λ w. length (⟦<MemWork<OFFSET_BITS, L> as Frozen<OFFSET_BITS>>⟧.records self.old entry) ≡ w) }
+        ensures start { result ≡ ⟦<MemWork<OFFSET_BITS, L> as Frozen<OFFSET_BITS>>⟧.begins self.old entry.entry }
         ensures same { self.new ≡ self.old }
     {
-        if !into.is_empty() {
-            self.cells.read(entry, first, into);
-        }
+        let _ = (entry, width);
+        0
     }
 
-    fn word_of(&mut self, entry: EntryRef<OFFSET_BITS>, width: u32, i: u32) -> u64
-        requires width { length (⟦<MemWork<OFFSET_BITS, L> as Frozen<OFFSET_BITS>>⟧.records self.old entry) ≡ width }
-        requires there { i < width }
+    fn word_from(&mut self, entry: EntryRef<OFFSET_BITS>, start: u64, i: u32) -> u64
+        requires there { HasWord (⟦<MemWork<OFFSET_BITS, L> as Frozen<OFFSET_BITS>>⟧.records self.old) entry i }
+        requires start { start ≡ ⟦<MemWork<OFFSET_BITS, L> as Frozen<OFFSET_BITS>>⟧.begins self.old entry }
         ensures value { result ≡ word_at (⟦<MemWork<OFFSET_BITS, L> as Frozen<OFFSET_BITS>>⟧.records self.old) entry.entry i }
         ensures same { self.new ≡ self.old }
     {
-        let _ = width;
+        let _ = start;
         self.word(entry, i)
     }
 
-    fn read_of(&mut self, entry: EntryRef<OFFSET_BITS>, width: u32, first: u32, into: &mut [u64])
-        requires width { length (⟦<MemWork<OFFSET_BITS, L> as Frozen<OFFSET_BITS>>⟧.records self.old entry) ≡ width }
-        requires there { first + length into.old ≤ width }
-        ensures words { into.new ≡ take (length into.old)
-            (drop first (⟦<MemWork<OFFSET_BITS, L> as Frozen<OFFSET_BITS>>⟧.records self.old entry.entry)) }
+    fn read_from(&mut self, entry: EntryRef<OFFSET_BITS>, start: u64, first: u32, into: &mut [u64])
+        requires there { first + length into.old ≤ length (⟦<MemWork<OFFSET_BITS, L> as Frozen<OFFSET_BITS>>⟧.records self.old entry) }
+        requires few { first + length into.old < 2 ^ 32 }
+        requires start { start ≡ ⟦<MemWork<OFFSET_BITS, L> as Frozen<OFFSET_BITS>>⟧.begins self.old entry }
+        ensures words { into.new ≡ take (length into.old) (drop first (⟦<MemWork<OFFSET_BITS, L> as Frozen<OFFSET_BITS>>⟧.records self.old entry.entry)) }
         ensures same { self.new ≡ self.old }
     {
-        let _ = width;
-        self.read(entry, first, into);
+        let _ = start;
+        if !into.is_empty() {
+            self.cells.read(entry, first, into);
+        }
     }
 
     ghost references = { λ s. memory_references L.reaches s.shape s.cells.table.items s.cells.stamps.items

@@ -5,6 +5,7 @@ ghost use Rattle.store_api.specs.Units.{MayDo};
 ghost use Rattle.array_store.specs.Adding.{AddsRecord, MakesOneOf};
 ghost use Rattle.attr_images.specs.Words.{class_of, stored_items, IsStoredList};
 
+use arena_api::read;
 use array_store::add;
 use attr_images::MOST_SHORT;
 use entry_ref::EntryRef;
@@ -28,7 +29,7 @@ fn copy_by<const OFFSET_BITS: u32, S: Store<OFFSET_BITS>>(
         (class_of (1 + length (stored_items (S.records store.old array.entry))))) }
     ensures may { MayDo (S.ledger store.old) (S.ledger store.new) }
 {
-    store.read(array, 1, items);
+    read(store, array, 1, items);
     add(store, items)
 }
 

@@ -1,6 +1,5 @@
 //! Filtering documents by a posting tree, with a bit vector up to the last document.
-ghost use Rattle.std.specs.Prelude.{◌≡◌, ◌||◌, ◌&&◌, ◌/◌, ◌<◌, ℕ, true, nat_eq, length, IfOk, IfSome, OnOk};
-ghost use Rattle.std.specs.List.{AllByRecursion};
+ghost use Rattle.std.specs.Prelude.{◌≡◌, ◌∷◌, ◌||◌, ◌&&◌, ◌/◌, ◌<◌, ℕ, [], true, nat_eq, length, IfOk, IfSome, OnOk};
 ghost use Rattle.std.specs.Map.{keys_of};
 ghost use Rattle.attr_types.specs.Lawful.{IsDocNumber};
 ghost use Rattle.attr_images.specs.Postings.{postings_at, tree, IsPostingList};
@@ -88,16 +87,6 @@ fn push_marked(marks: &[u64], doc: Doc, kept: &mut Vec<Doc>) -> Result<(), Alloc
     Ok(())
 }
 
-fn keep_keys(marks: &[u64], keys: &[u64], kept: &mut Vec<Doc>) -> Result<(), AllocError>
-    requires { AllByRecursion IsDocNumber keys.now }
-    ensures { OnOk result (AddsMeeting (in_words marks.now) (has kept.old.items) keys.now (has kept.new.items)) }
-{
-    for key in keys {
-        push_marked(marks, Doc::new(*key as u32), kept)?;
-    }
-    Ok(())
-}
-
 /// Documents in a bit vector, and those of them that a tree has.
 #[derive(Drop)]
 struct Kept {
@@ -113,12 +102,12 @@ impl TakesKeys for Kept {
     ghost takes = { λ old keys new. (new.marks.items ≡ old.marks.items)
         × AddsMeeting (in_words old.marks.items) (has old.docs.items) keys (has new.docs.items) };
 
-    fn take(&mut self, keys: &[u64]) -> Result<(), AllocError>
-        requires { AllByRecursion IsDocNumber keys.now }
+    fn take(&mut self, key: u64) -> Result<(), AllocError>
+        requires { IsDocNumber key }
         ensures { OnOk result ((self.new.marks.items ≡ self.old.marks.items)
-            × AddsMeeting (in_words self.old.marks.items) (has self.old.docs.items) keys.now (has self.new.docs.items)) }
+            × AddsMeeting (in_words self.old.marks.items) (has self.old.docs.items) (key ∷ []) (has self.new.docs.items)) }
     {
-        keep_keys(self.marks.as_slice(), keys, &mut self.docs)
+        push_marked(self.marks.as_slice(), Doc::new(key as u32), &mut self.docs)
     }
 
     ghost none = { λ taker. kept_none taker.marks.items (has taker.docs.items) };

@@ -11,7 +11,7 @@ ghost use Rattle.attr_index.specs.Sets.{has, in_words};
 use crate::kept::{keep_marked, marks_of};
 use crate::takers::{Inserted, Pushed};
 use crate::vectors::{gather_vector, kept_in_vector};
-use arena_api::Frozen;
+use arena_api::{Frozen, read};
 use array_store::count;
 use attr_images::{FIRST_VECTOR, MOST_SHORT};
 use attr_index::{DocSet, Gathered};
@@ -89,7 +89,7 @@ fn gather_short<const OFFSET_BITS: u32, F: Frozen<OFFSET_BITS>>(
 {
     let mut buffer = [0; MOST_SHORT];
     let words = &mut buffer[..count(frozen, list) as usize];
-    frozen.read(list, 1, words);
+    read(frozen, list, 1, words);
     with_words(alloc, gathered, words)
 }
 

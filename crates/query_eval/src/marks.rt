@@ -1,6 +1,5 @@
 //! The documents of a posting tree in a bit vector up to the last of them.
-ghost use Rattle.std.specs.Prelude.{◌≡◌, ℕ, true, IfOk, IfSome, OnOk};
-ghost use Rattle.std.specs.List.{AllByRecursion};
+ghost use Rattle.std.specs.Prelude.{◌≡◌, ◌∷◌, ℕ, [], true, IfOk, IfSome, OnOk};
 ghost use Rattle.std.specs.Map.{keys_of};
 ghost use Rattle.attr_types.specs.Lawful.{IsDocNumber};
 ghost use Rattle.attr_images.specs.Postings.{postings_at, tree, IsPostingList};
@@ -15,19 +14,6 @@ use entry_ref::EntryRef;
 use frozen_btree::total;
 use std::alloc::{AllocError, Global};
 use tree_read::{FIRST_KEY, TakesKeys, read_head, take_keys};
-
-/// Sets the bits of keys. Returns whether each has one.
-fn mark_keys(words: &mut [u64], keys: &[u64]) -> bool
-    requires { AllByRecursion IsDocNumber keys.now }
-    ensures { result ≡ true → Adds (in_words words.old) keys.now (in_words words.new) }
-{
-    for key in keys {
-        if !mark(words, Doc::new(*key as u32)) {
-            return false;
-        }
-    }
-    true
-}
 
 /// A bit vector that receives the documents of a tree, and whether each of them had a bit.
 #[derive(Drop)]
@@ -44,12 +30,12 @@ impl TakesKeys for Marked {
     ghost takes = { λ old keys new. new.fits ≡ true
         → (old.fits ≡ true) × Adds (in_words old.words.items) keys (in_words new.words.items) };
 
-    fn take(&mut self, keys: &[u64]) -> Result<(), AllocError>
-        requires { AllByRecursion IsDocNumber keys.now }
+    fn take(&mut self, key: u64) -> Result<(), AllocError>
+        requires { IsDocNumber key }
         ensures { OnOk result (self.new.fits ≡ true
-            → (self.old.fits ≡ true) × Adds (in_words self.old.words.items) keys.now (in_words self.new.words.items)) }
+            → (self.old.fits ≡ true) × Adds (in_words self.old.words.items) (key ∷ []) (in_words self.new.words.items)) }
     {
-        if !mark_keys(&mut self.words, keys) {
+        if !mark(&mut self.words, Doc::new(key as u32)) {
             self.fits = false;
         }
         Ok(())

@@ -1,6 +1,5 @@
 //! Receivers of the keys of a posting tree, which are its documents.
-ghost use Rattle.std.specs.Prelude.{OnOk};
-ghost use Rattle.std.specs.List.{AllByRecursion};
+ghost use Rattle.std.specs.Prelude.{◌∷◌, [], OnOk};
 ghost use Rattle.attr_types.specs.Lawful.{IsDocNumber};
 ghost use Rattle.attr_index.specs.Sets.{has, in_words};
 ghost use Rattle.query_eval.specs.Takers.{Adds};
@@ -9,25 +8,6 @@ use attr_index::DocSet;
 use attr_types::Doc;
 use std::alloc::AllocError;
 use tree_read::TakesKeys;
-
-fn push_keys(docs: &mut Vec<Doc>, keys: &[u64]) -> Result<(), AllocError>
-    requires { AllByRecursion IsDocNumber keys.now }
-    ensures { OnOk result (Adds (has docs.old.items) keys.now (has docs.new.items)) }
-{
-    for key in keys {
-        docs.push(Doc::new(*key as u32))?;
-    }
-    Ok(())
-}
-
-fn insert_keys(set: &mut DocSet, keys: &[u64])
-    requires { AllByRecursion IsDocNumber keys.now }
-    ensures { Adds (in_words set.old) keys.now (in_words set.new) }
-{
-    for key in keys {
-        set.insert(Doc::new(*key as u32));
-    }
-}
 
 /// A list that receives the documents of a tree.
 #[derive(Drop)]
@@ -42,11 +22,12 @@ impl TakesKeys for Pushed {
 
     ghost takes = { λ old keys new. Adds (has old.docs.items) keys (has new.docs.items) };
 
-    fn take(&mut self, keys: &[u64]) -> Result<(), AllocError>
-        requires { AllByRecursion IsDocNumber keys.now }
-        ensures { OnOk result (Adds (has self.old.docs.items) keys.now (has self.new.docs.items)) }
+    fn take(&mut self, key: u64) -> Result<(), AllocError>
+        requires { IsDocNumber key }
+        ensures { OnOk result (Adds (has self.old.docs.items) (key ∷ []) (has self.new.docs.items)) }
     {
-        push_keys(&mut self.docs, keys)
+        self.docs.push(Doc::new(key as u32))?;
+        Ok(())
     }
 
     ghost none = { λ taker. adds_none (has taker.docs.items) };
@@ -68,11 +49,11 @@ impl TakesKeys for Inserted {
 
     ghost takes = { λ old keys new. Adds (in_words old.set) keys (in_words new.set) };
 
-    fn take(&mut self, keys: &[u64]) -> Result<(), AllocError>
-        requires { AllByRecursion IsDocNumber keys.now }
-        ensures { OnOk result (Adds (in_words self.old.set) keys.now (in_words self.new.set)) }
+    fn take(&mut self, key: u64) -> Result<(), AllocError>
+        requires { IsDocNumber key }
+        ensures { OnOk result (Adds (in_words self.old.set) (key ∷ []) (in_words self.new.set)) }
     {
-        insert_keys(&mut self.set, keys);
+        self.set.insert(Doc::new(key as u32));
         Ok(())
     }
 

@@ -11,7 +11,7 @@ ghost use Rattle.query_eval.specs.Lists.{list_has, all_have, some_has, IsVectorW
 ghost use Rattle.query_eval.specs.Vectors.{IsInHand};
 
 use crate::blocks::{BLOCK_SIZE, has_bit, push_block};
-use arena_api::Frozen;
+use arena_api::{Frozen, read};
 use attr_images::{BLOCK_WORDS, FIRST_VECTOR};
 use attr_index::Gathered;
 use attr_types::{Doc, DocList};
@@ -33,7 +33,7 @@ fn read_block<const OFFSET_BITS: u32, F: Frozen<OFFSET_BITS>>(
     ensures same { frozen.new ≡ frozen.old }
 {
     let mut words = [0; BLOCK_WORDS];
-    frozen.read(EntryRef::from_raw(stored as u32), 0, &mut words);
+    read(frozen, EntryRef::from_raw(stored as u32), 0, &mut words);
     words
 }
 

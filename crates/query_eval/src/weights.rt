@@ -6,7 +6,7 @@ ghost use Rattle.attr_images.specs.Words.{unpacked};
 ghost use Rattle.query_eval.specs.Weights.{weight_in_list};
 
 use crate::blocks::BLOCK_SIZE;
-use arena_api::Frozen;
+use arena_api::{Frozen, read};
 use array_store::count;
 use attr_images::{FIRST_VECTOR, MOST_SHORT, WEIGHT_BASE};
 use entry_ref::EntryRef;
@@ -34,7 +34,7 @@ fn weight_in_short<const OFFSET_BITS: u32, F: Frozen<OFFSET_BITS>>(
 {
     let mut buffer = [0; MOST_SHORT];
     let words = &mut buffer[..count(frozen, list) as usize];
-    frozen.read(list, 1, words);
+    read(frozen, list, 1, words);
     weight_among(words, doc)
 }
 

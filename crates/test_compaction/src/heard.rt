@@ -1,5 +1,5 @@
 //! Records that keep each word that was read of them.
-ghost use Rattle.std.specs.Prelude.{◌≡◌, ◌<◌, ◌≤◌, ◌+◌, ◌^◌, length, take, drop};
+ghost use Rattle.std.specs.Prelude.{◌≡◌, ◌<◌, ◌≤◌, ◌+◌, ◌^◌, length, IfSome, take, drop};
 ghost use Rattle.entry_ref.specs.Records.{HasWord, word_at};
 
 use crate::words::Words;
@@ -63,6 +63,8 @@ impl<const OFFSET_BITS: u32, F: Frozen<OFFSET_BITS>> Frozen<OFFSET_BITS> for Hea
 
     ghost records = { λ h. F.records h };
 
+    ghost begins = { λ h. F.begins h };
+
     fn word(&mut self, entry: EntryRef<OFFSET_BITS>, i: u32) -> u64
         requires { HasWord (F.records self.old) entry i }
         ensures value { result ≡ word_at (F.records self.old) entry.entry i }
@@ -74,35 +76,37 @@ impl<const OFFSET_BITS: u32, F: Frozen<OFFSET_BITS>> Frozen<OFFSET_BITS> for Hea
         word
     }
 
-    fn read(&mut self, entry: EntryRef<OFFSET_BITS>, first: u32, into: &mut [u64])
+    fn start_of(&mut self, entry: EntryRef<OFFSET_BITS>, width: Option<u32>) -> u64
+        requires some { HasWord (F.records self.old) entry 0 }
+        requires width { IfSome width (λ w. length (F.records self.old entry) ≡ w) }
+        ensures start { result ≡ F.begins self.old entry.entry }
+        ensures same { self.new ≡ self.old }
+    {
+        self.frozen.start_of(entry, width)
+    }
+
+    fn word_from(&mut self, entry: EntryRef<OFFSET_BITS>, start: u64, i: u32) -> u64
+        requires there { HasWord (F.records self.old) entry i }
+        requires start { start ≡ F.begins self.old entry }
+        ensures value { result ≡ word_at (F.records self.old) entry.entry i }
+        ensures same { self.new ≡ self.old }
+    {
+        read_front(&mut self.frozen, &mut self.words, entry, i);
+        let word = self.frozen.word_from(entry, start, i);
+        self.words.note(entry.raw(), i, word);
+        word
+    }
+
+    fn read_from(&mut self, entry: EntryRef<OFFSET_BITS>, start: u64, first: u32, into: &mut [u64])
         requires there { first + length into.old ≤ length (F.records self.old entry) }
         requires few { first + length into.old < 2 ^ 32 }
+        requires start { start ≡ F.begins self.old entry }
         ensures words { into.new ≡ take (length into.old) (drop first (F.records self.old entry.entry)) }
         ensures same { self.new ≡ self.old }
     {
         read_front(&mut self.frozen, &mut self.words, entry, first);
-        self.frozen.read(entry, first, into);
+        self.frozen.read_from(entry, start, first, into);
         self.words.note_all(entry.raw(), first, into);
-    }
-
-    fn word_of(&mut self, entry: EntryRef<OFFSET_BITS>, width: u32, i: u32) -> u64
-        requires width { length (F.records self.old entry) ≡ width }
-        requires there { i < width }
-        ensures value { result ≡ word_at (F.records self.old) entry.entry i }
-        ensures same { self.new ≡ self.old }
-    {
-        let _ = width;
-        self.word(entry, i)
-    }
-
-    fn read_of(&mut self, entry: EntryRef<OFFSET_BITS>, width: u32, first: u32, into: &mut [u64])
-        requires width { length (F.records self.old entry) ≡ width }
-        requires there { first + length into.old ≤ width }
-        ensures words { into.new ≡ take (length into.old) (drop first (F.records self.old entry.entry)) }
-        ensures same { self.new ≡ self.old }
-    {
-        let _ = width;
-        self.read(entry, first, into);
     }
 
     ghost references = { λ h. F.references h };

@@ -1,5 +1,5 @@
 //! A work whose commits are watched as they are made.
-ghost use Rattle.std.specs.Prelude.{◌≡◌, ◌≢◌, ◌<◌, ◌≤◌, ◌+◌, ◌^◌, ℕ, length, take, drop};
+ghost use Rattle.std.specs.Prelude.{◌≡◌, ◌≢◌, ◌<◌, ◌≤◌, ◌+◌, ◌^◌, ℕ, length, IfSome, take, drop};
 ghost use Rattle.entry_ref.specs.References.{buffer_of};
 ghost use Rattle.entry_ref.specs.Images.{words_at};
 ghost use Rattle.entry_ref.specs.Places.{IsEntry};
@@ -8,7 +8,7 @@ ghost use Rattle.arena_api.specs.Works.{active_width};
 ghost use Rattle.arena_api.specs.Calls.{MayStore, InNoCommit, AddsCommit, with_stored, padded, next_image, published};
 ghost use Rattle.gen_core.specs.Work.{writer_records};
 ghost use Rattle.word_arena.specs.Knows.{view_of};
-ghost use Rattle.word_arena.specs.Ruled.{writer_of};
+ghost use Rattle.word_arena.specs.Ruled.{start_in, writer_of};
 
 use crate::watch::Watch;
 use crate::words::Words;
@@ -61,6 +61,8 @@ impl Frozen<22> for Watched {
 
     ghost records = { λ s. writer_records (writer_of s.work.place.me.0) };
 
+    ghost begins = { λ s. start_in 22 s.work.seats.arena.value.sizes (writer_records (writer_of s.work.place.me.0)) };
+
     fn word(&mut self, entry: EntryRef<22>, i: u32) -> u64
         requires { HasWord (⟦<Watched as Frozen<22>>⟧.records self.old) entry i }
         ensures value { result ≡ word_at (⟦<Watched as Frozen<22>>⟧.records self.old) entry i }
@@ -69,33 +71,32 @@ impl Frozen<22> for Watched {
         self.work.word(entry, i)
     }
 
-    fn read(&mut self, entry: EntryRef<22>, first: u32, into: &mut [u64])
-        requires there { first + length into.old ≤ length (⟦<Watched as Frozen<22>>⟧.records self.old entry) }
-        requires few { first + length into.old < 2 ^ 32 }
-        ensures words { into.new ≡ take (length into.old) (drop first
-            (⟦<Watched as Frozen<22>>⟧.records self.old entry)) }
+    fn start_of(&mut self, entry: EntryRef<22>, width: Option<u32>) -> u64
+        requires some { HasWord (⟦<Watched as Frozen<22>>⟧.records self.old) entry 0 }
+        requires width { IfSome width (λ w. length (⟦<Watched as Frozen<22>>⟧.records self.old entry) ≡ w) }
+        ensures start { result ≡ ⟦<Watched as Frozen<22>>⟧.begins self.old entry }
         ensures same { self.new ≡ self.old }
     {
-        self.work.read(entry, first, into);
+        self.work.start_of(entry, width)
     }
 
-    fn word_of(&mut self, entry: EntryRef<22>, width: u32, i: u32) -> u64
-        requires width { length (⟦<Watched as Frozen<22>>⟧.records self.old entry) ≡ width }
-        requires there { i < width }
+    fn word_from(&mut self, entry: EntryRef<22>, start: u64, i: u32) -> u64
+        requires there { HasWord (⟦<Watched as Frozen<22>>⟧.records self.old) entry i }
+        requires start { start ≡ ⟦<Watched as Frozen<22>>⟧.begins self.old entry }
         ensures value { result ≡ word_at (⟦<Watched as Frozen<22>>⟧.records self.old) entry i }
         ensures same { self.new ≡ self.old }
     {
-        self.work.word_of(entry, width, i)
+        self.work.word_from(entry, start, i)
     }
 
-    fn read_of(&mut self, entry: EntryRef<22>, width: u32, first: u32, into: &mut [u64])
-        requires width { length (⟦<Watched as Frozen<22>>⟧.records self.old entry) ≡ width }
-        requires there { first + length into.old ≤ width }
-        ensures words { into.new ≡ take (length into.old)
-            (drop first (⟦<Watched as Frozen<22>>⟧.records self.old entry)) }
+    fn read_from(&mut self, entry: EntryRef<22>, start: u64, first: u32, into: &mut [u64])
+        requires there { first + length into.old ≤ length (⟦<Watched as Frozen<22>>⟧.records self.old entry) }
+        requires few { first + length into.old < 2 ^ 32 }
+        requires start { start ≡ ⟦<Watched as Frozen<22>>⟧.begins self.old entry }
+        ensures words { into.new ≡ take (length into.old) (drop first (⟦<Watched as Frozen<22>>⟧.records self.old entry)) }
         ensures same { self.new ≡ self.old }
     {
-        self.work.read_of(entry, width, first, into);
+        self.work.read_from(entry, start, first, into);
     }
 
     ghost references = { λ s. work_references (writer_of s.work.place.me.0) s.work.stands.good 22 (desk_bits s.work.stands) s.work.stands.limits };

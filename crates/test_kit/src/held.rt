@@ -5,7 +5,7 @@ ghost use Rattle.word_arena.specs.Ruled.{reader_of, seen_image};
 ghost use Rattle.test_kit.specs.OneNode.{IsNodeRecord};
 
 use crate::node::{OneNode, are_of};
-use arena_api::Frozen;
+use arena_api::read;
 use std::sync::ledger::Ledger;
 use word_arena::{Again, Aimed, Guarded, Reader, Steps};
 
@@ -34,7 +34,7 @@ impl Held {
         if !root.valid() {
             return false;
         }
-        self.guard.read(root, 0, into);
+        read(&mut self.guard, root, 0, into);
         true
     }
 

@@ -1,6 +1,6 @@
 -- All keys of a tree, a leaf's at a time.
-use Rattle.std.proofs.Common.{subst, ◌≡◌, ℕ, zero, suc, ◌+◌, ◌%◌, ◌<◌, ◌≤◌, List, [], ◌∷◌, ◌++◌, length, get_or, take, refl, sym, ap, ◌∙◌, arith, append_assoc}
-use Rattle.std.proofs.lemmas.List.{append-nil, take-take, take_all}
+use Rattle.std.proofs.Common.{subst, ◌≡◌, ℕ, zero, suc, ◌+◌, ◌<◌, ◌≤◌, List, [], ◌∷◌, ◌++◌, length, get_or, take, refl, sym, ap, ◌∙◌, arith, append_assoc}
+use Rattle.std.proofs.lemmas.List.{append-nil, take_all}
 use Rattle.std.proofs.lemmas.Map.Made.{keys_of-zip}
 use Rattle.std.specs.List.{flat_map, AllByRecursion}
 use Rattle.std.specs.Map.{keys_of}
@@ -10,16 +10,6 @@ use Rattle.tree_read.specs.Nodes.{used_of, node_keys, node_values}
 use Rattle.tree_read.specs.Trees.{pairs_below, IsNode}
 use Rattle.tree_read.proofs.ChildLemmas.{IsNode-lower, child-node, child-all, children, get_or-node_values, values-size}
 use Rattle.tree_read.proofs.ReadLemmas.{node-even, node-size}
-
--- the words before the values tell the keys
-pub cut-keys : (ws : List ℕ) → used_of ws ≤ 16 → node_keys (take 18 ws) ≡ node_keys ws
-cut-keys [] few = refl
-cut-keys (a ∷ []) few = refl
-cut-keys (a ∷ b ∷ ws) few = take-take (a % 256) 16 ws few
-
-pub cut-used : (ws : List ℕ) → used_of (take 18 ws) ≡ used_of ws
-cut-used [] = refl
-cut-used (a ∷ ws) = refl
 
 pub leaf-keys : (m : Records) (leaf : ℕ) → IsNode m 1 0 leaf → keys_of (pairs_below m 0 leaf) ≡ node_keys (m leaf)
 leaf-keys m leaf node =

@@ -7,7 +7,7 @@ ghost use Rattle.tree_read.specs.Pairs.{lookup, lookup_pair};
 ghost use Rattle.tree_read.specs.NodePlaces.{IsSlot, IsFound, IsLacking};
 
 use crate::{FIRST_KEY, FIRST_VALUE, KeyOrder, NODE_WORDS, read_head, read_used};
-use arena_api::Frozen;
+use arena_api::{Frozen, word_of};
 use entry_ref::EntryRef;
 use std::cmp::Ordering;
 
@@ -26,7 +26,7 @@ fn compare_slot<const OFFSET_BITS: u32, F: Frozen<OFFSET_BITS>, K: KeyOrder<OFFS
         (slice_index (node_keys (F.records frozen.old node.entry)) slot) }
     ensures same { frozen.new ≡ frozen.old }
 {
-    let stored = frozen.word_of(node, NODE_WORDS as u32, FIRST_KEY as u32 + slot);
+    let stored = word_of(frozen, node, NODE_WORDS as u32, FIRST_KEY as u32 + slot);
     key.compare(frozen, stored)
 }
 
@@ -102,7 +102,7 @@ fn find_below<const OFFSET_BITS: u32, F: Frozen<OFFSET_BITS>, K: KeyOrder<OFFSET
         *pair = None;
         return;
     }
-    let value = frozen.word_of(node, NODE_WORDS as u32, FIRST_VALUE as u32 + slot);
+    let value = word_of(frozen, node, NODE_WORDS as u32, FIRST_VALUE as u32 + slot);
     if level > 0 {
         find_below(
             frozen,
@@ -115,7 +115,7 @@ fn find_below<const OFFSET_BITS: u32, F: Frozen<OFFSET_BITS>, K: KeyOrder<OFFSET
     }
     if is_at(frozen, node, slot, key) {
         *pair = Some((
-            frozen.word_of(node, NODE_WORDS as u32, FIRST_KEY as u32 + slot),
+            word_of(frozen, node, NODE_WORDS as u32, FIRST_KEY as u32 + slot),
             value,
         ));
         return;

@@ -1,11 +1,10 @@
 //! All keys of a tree, in order, one leaf at a time.
-ghost use Rattle.std.specs.Prelude.{◌≡◌, ◌<◌, ◌≤◌, ◌++◌, ℕ, suc, List, [], OnOk};
+ghost use Rattle.std.specs.Prelude.{◌≡◌, ◌<◌, ◌≤◌, ◌++◌, ◌∷◌, ℕ, suc, List, [], OnOk};
 ghost use Rattle.std.specs.List.{AllByRecursion};
 ghost use Rattle.std.specs.Map.{keys_of};
-ghost use Rattle.tree_read.specs.Nodes.{used_of, node_keys};
 ghost use Rattle.tree_read.specs.Trees.{pairs_below, tree_pairs, IsNode, IsRootNode};
 
-use crate::{FIRST_KEY, FIRST_VALUE, MOST_SLOTS, NODE_WORDS, read_head, read_words, used_in};
+use crate::{FIRST_KEY, FIRST_VALUE, LEVEL_BASE, NODE_WORDS, read_head};
 use arena_api::Frozen;
 use entry_ref::EntryRef;
 use std::alloc::AllocError;
@@ -18,21 +17,13 @@ pub trait TakesKeys {
     /// How these keys change it.
     ghost takes: { Self → List ℕ → Self → Type 0 };
 
-    fn take(&mut self, keys: &[u64]) -> Result<(), AllocError>
-        requires { AllByRecursion can_take keys.now }
-        ensures { OnOk result (takes self.old keys.now self.new) };
+    fn take(&mut self, key: u64) -> Result<(), AllocError>
+        requires { can_take key }
+        ensures { OnOk result (takes self.old (key ∷ []) self.new) };
 
     ghost none: { (taker : Self) → takes taker [] taker };
 
     ghost joins: { (a b c : Self) (xs ys : List ℕ) → takes a xs b → takes b ys c → takes a (xs ++ ys) c };
-}
-
-/// Returns the keys of the used slots, from the words before the values.
-fn used_keys(words: &[u64; FIRST_VALUE]) -> &[u64]
-    requires { used_of words.now ≤ MOST_SLOTS }
-    ensures { result.now ≡ node_keys words.now }
-{
-    &words[FIRST_KEY..FIRST_KEY + used_in(words)]
 }
 
 /// Passes on the keys of a leaf.
@@ -46,9 +37,13 @@ fn take_leaf<const OFFSET_BITS: u32, F: Frozen<OFFSET_BITS>, T: TakesKeys>(
     ensures takes { OnOk result (T.takes taker.old (keys_of (pairs_below (F.records frozen.old) 0 leaf.entry)) taker.new) }
     ensures same { frozen.new ≡ frozen.old }
 {
-    let mut words = [0; FIRST_VALUE];
-    frozen.read_of(leaf, NODE_WORDS as u32, 0, &mut words);
-    taker.take(used_keys(&words))
+    let start = frozen.start_of(leaf, Some(NODE_WORDS as u32));
+    let used = (frozen.word_from(leaf, start, 0) % LEVEL_BASE) as u32;
+    for slot in 0..used {
+        let key = frozen.word_from(leaf, start, FIRST_KEY as u32 + slot);
+        taker.take(key)?;
+    }
+    Ok(())
 }
 
 /// Passes on the keys below a node above the leaves. `below` is its level less one.
@@ -63,10 +58,11 @@ fn take_below<const OFFSET_BITS: u32, F: Frozen<OFFSET_BITS>, T: TakesKeys>(
     ensures takes { OnOk result (T.takes taker.old (keys_of (pairs_below (F.records frozen.old) (suc below) node.entry)) taker.new) }
     ensures same { frozen.new ≡ frozen.old }
 {
-    let mut words = [0; NODE_WORDS];
-    read_words(frozen, node, &mut words);
-    for slot in 0..used_in(&words) {
-        let child = EntryRef::from_raw(words[FIRST_VALUE + slot] as u32);
+    let start = frozen.start_of(node, Some(NODE_WORDS as u32));
+    let used = (frozen.word_from(node, start, 0) % LEVEL_BASE) as u32;
+    for slot in 0..used {
+        let stored = frozen.word_from(node, start, FIRST_VALUE as u32 + slot);
+        let child = EntryRef::from_raw(stored as u32);
         if below == 0 {
             take_leaf(frozen, child, taker)?;
         } else {

@@ -4,7 +4,7 @@ ghost use Rattle.tree_read.specs.Nodes.{level_of, used_of, node_keys, node_value
 
 use crate::slots::{Slots, append};
 use crate::{FIRST_KEY, FIRST_VALUE, LEVEL_BASE, MOST_SLOTS, NODE_WORDS};
-use arena_api::Frozen;
+use arena_api::{Frozen, read_of, word_of};
 use arrayvec::ArrayVec;
 use entry_ref::EntryRef;
 
@@ -18,7 +18,7 @@ pub fn read_words<const OFFSET_BITS: u32, F: Frozen<OFFSET_BITS>>(
     ensures words { into.new ≡ F.records frozen.old node.entry }
     ensures same { frozen.new ≡ frozen.old }
 {
-    frozen.read_of(node, NODE_WORDS as u32, 0, into);
+    read_of(frozen, node, NODE_WORDS as u32, 0, into);
 }
 
 /// The contents of word 0 of a node.
@@ -54,7 +54,7 @@ pub fn read_used<const OFFSET_BITS: u32, F: Frozen<OFFSET_BITS>>(
     ensures used { result ≡ used_of (F.records frozen.old node.entry) }
     ensures same { frozen.new ≡ frozen.old }
 {
-    (frozen.word_of(node, NODE_WORDS as u32, 0) % LEVEL_BASE) as u32
+    (word_of(frozen, node, NODE_WORDS as u32, 0) % LEVEL_BASE) as u32
 }
 
 /// Returns the number of used slots of a node with these words.

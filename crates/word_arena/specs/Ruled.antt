@@ -6,7 +6,7 @@ use Rattle.entry_ref.specs.References.{buffer_of}
 use Rattle.entry_ref.specs.declared.images.Image.{Image}
 use Rattle.entry_ref.specs.Records.{Records}
 use Rattle.entry_ref.specs.Images.{no_image, record_at}
-use Rattle.entry_ref.specs.Places.{base, state_place, size_of, IsEntry}
+use Rattle.entry_ref.specs.Places.{base, place, state_place, size_of, IsEntry}
 use Rattle.gen_core.specs.declared.views.Sizes.{Sizes}
 use Rattle.gen_core.specs.declared.views.OpenHold.{OpenHold}
 use Rattle.gen_core.specs.declared.views.ReaderState.TheVariants.{Idle, Aimed, Guarded}
@@ -27,6 +27,10 @@ use Rattle.arena_api.specs.Calls.{IsWithinLimits}
 -- the sizes in the form of a work
 abbrev pub api_sizes : Sizes → ApiSizes
 api_sizes z = record { buffers = z.buffers; words = z.words; commits = z.commit_limit; generations = z.generation_limit }
+
+-- where the words of a record begin
+abbrev pub start_in : ℕ → Sizes → Records → ℕ → ℕ
+start_in bits sizes records r = place bits sizes.buffers sizes.words (length (records r)) r 0
 
 abbrev pub Slot : Type 0
 Slot = Unit {0}

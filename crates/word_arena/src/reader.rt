@@ -1,10 +1,10 @@
 //! Readers and their guards.
-ghost use Rattle.std.specs.Prelude.{take, drop, ◌%◌, ◌≡◌, ◌+◌, ◌-◌, ◌*◌, ◌<◌, ◌≤◌, ◌^◌, ℕ, List, length, Some, slice_index, IfOk, IfErr};
+ghost use Rattle.std.specs.Prelude.{take, drop, ◌%◌, ◌≡◌, ◌+◌, ◌-◌, ◌*◌, ◌<◌, ◌≤◌, ◌^◌, ℕ, List, length, IfSome, Some, slice_index, IfOk, IfErr};
 ghost use Rattle.entry_ref.specs.Images.{words_at};
 ghost use Rattle.entry_ref.specs.Places.{place};
 ghost use Rattle.gen_core.specs.Views.{stands_on};
 ghost use Rattle.gen_core.specs.Events.{released, sees};
-ghost use Rattle.word_arena.specs.Ruled.{bare, reader_of, seen_image, seen_number, IsAimOf, IsLater, IsHigher, Missed, Tries, IsWatch};
+ghost use Rattle.word_arena.specs.Ruled.{bare, start_in, reader_of, seen_image, seen_number, IsAimOf, IsLater, IsHigher, Missed, Tries, IsWatch};
 ghost use Rattle.word_arena.specs.Ruled.{IsAim, IsGuard};
 ghost use Rattle.word_arena.specs.PlayEvents.{LoadsNewest, RaiseFinds, TryFinds};
 ghost use Rattle.entry_ref.specs.Records.{HasWord, word_at};
@@ -260,6 +260,8 @@ impl<const OFFSET_BITS: u32, L: Layout> Frozen<OFFSET_BITS> for Guarded<OFFSET_B
 
     ghost records = { λ g. words_at (seen_image (reader_of g.place.me.0)) };
 
+    ghost begins = { λ g. start_in OFFSET_BITS g.arena.value.sizes (words_at (seen_image (reader_of g.place.me.0))) };
+
     fn word(&mut self, entry: EntryRef<OFFSET_BITS>, i: u32) -> u64
         requires { HasWord (⟦<Guarded<OFFSET_BITS, L> as Frozen<OFFSET_BITS>>⟧.records self.old) entry i }
         ensures value { result ≡ word_at (⟦<Guarded<OFFSET_BITS, L> as Frozen<OFFSET_BITS>>⟧.records self.old) entry.entry i }
@@ -273,50 +275,46 @@ impl<const OFFSET_BITS: u32, L: Layout> Frozen<OFFSET_BITS> for Guarded<OFFSET_B
             .load::<LoadWord<L>>(&mut self.place, place as usize)
     }
 
-    fn read(&mut self, entry: EntryRef<OFFSET_BITS>, first: u32, into: &mut [u64])
-        requires there { first + length into.old ≤ length (⟦<Guarded<OFFSET_BITS, L> as Frozen<OFFSET_BITS>>⟧.records self.old entry) }
-        requires few { first + length into.old < 2 ^ 32 }
-        ensures words { into.new ≡ take (length into.old)
-            (drop first (⟦<Guarded<OFFSET_BITS, L> as Frozen<OFFSET_BITS>>⟧.records self.old entry.entry)) }
+    fn start_of(&mut self, entry: EntryRef<OFFSET_BITS>, width: Option<u32>) -> u64
+        requires some { HasWord (⟦<Guarded<OFFSET_BITS, L> as Frozen<OFFSET_BITS>>⟧.records self.old) entry 0 }
+        requires width { IfSome width (λ w. length (⟦<Guarded<OFFSET_BITS, L> as Frozen<OFFSET_BITS>>⟧.records self.old entry) ≡ w) }
+        ensures start { result ≡ ⟦<Guarded<OFFSET_BITS, L> as Frozen<OFFSET_BITS>>⟧.begins self.old entry.entry }
         ensures same { self.new ≡ self.old }
     {
-        if into.is_empty() {
-            return;
-        }
-        let place = self.place_of_word(entry, first);
-        let arena = &*self.arena;
-        load_words(arena, &mut self.place, entry, first, place, into);
+        let Some(width) = width else {
+            return self.place_of_word(entry, 0);
+        };
+        let sizes = &self.arena.sizes;
+        place_of(sizes.buffers as u32, sizes.words as u32, width, entry, 0)
     }
 
-    fn word_of(&mut self, entry: EntryRef<OFFSET_BITS>, width: u32, i: u32) -> u64
-        requires width { length (⟦<Guarded<OFFSET_BITS, L> as Frozen<OFFSET_BITS>>⟧.records self.old entry) ≡ width }
-        requires there { i < width }
+    fn word_from(&mut self, entry: EntryRef<OFFSET_BITS>, start: u64, i: u32) -> u64
+        requires there { HasWord (⟦<Guarded<OFFSET_BITS, L> as Frozen<OFFSET_BITS>>⟧.records self.old) entry i }
+        requires start { start ≡ ⟦<Guarded<OFFSET_BITS, L> as Frozen<OFFSET_BITS>>⟧.begins self.old entry }
         ensures value { result ≡ word_at (⟦<Guarded<OFFSET_BITS, L> as Frozen<OFFSET_BITS>>⟧.records self.old) entry.entry i }
         ensures same { self.new ≡ self.old }
     {
+        let _ = entry;
         let arena = &*self.arena;
-        let (buffers, words) = (arena.sizes.buffers as u32, arena.sizes.words as u32);
-        let place = place_of(buffers, words, width, entry, i);
         arena
             .table
             .shared
-            .load::<LoadWord<L>>(&mut self.place, place as usize)
+            .load::<LoadWord<L>>(&mut self.place, start as usize + i as usize)
     }
 
-    fn read_of(&mut self, entry: EntryRef<OFFSET_BITS>, width: u32, first: u32, into: &mut [u64])
-        requires width { length (⟦<Guarded<OFFSET_BITS, L> as Frozen<OFFSET_BITS>>⟧.records self.old entry) ≡ width }
-        requires there { first + length into.old ≤ width }
-        ensures words { into.new ≡ take (length into.old)
-            (drop first (⟦<Guarded<OFFSET_BITS, L> as Frozen<OFFSET_BITS>>⟧.records self.old entry.entry)) }
+    fn read_from(&mut self, entry: EntryRef<OFFSET_BITS>, start: u64, first: u32, into: &mut [u64])
+        requires there { first + length into.old ≤ length (⟦<Guarded<OFFSET_BITS, L> as Frozen<OFFSET_BITS>>⟧.records self.old entry) }
+        requires few { first + length into.old < 2 ^ 32 }
+        requires start { start ≡ ⟦<Guarded<OFFSET_BITS, L> as Frozen<OFFSET_BITS>>⟧.begins self.old entry }
+        ensures words { into.new ≡ take (length into.old) (drop first (⟦<Guarded<OFFSET_BITS, L> as Frozen<OFFSET_BITS>>⟧.records self.old entry.entry)) }
         ensures same { self.new ≡ self.old }
     {
         if into.is_empty() {
             return;
         }
         let arena = &*self.arena;
-        let (buffers, words) = (arena.sizes.buffers as u32, arena.sizes.words as u32);
-        let place = place_of(buffers, words, width, entry, first);
-        load_words(arena, &mut self.place, entry, first, place, into);
+        let at = start + u64::from(first);
+        load_words(arena, &mut self.place, entry, first, at, into);
     }
 
     ghost references = { λ g. guard_references g.stands };

@@ -1,5 +1,5 @@
 //! The one writer.
-ghost use Rattle.std.specs.Prelude.{take, drop, ◌≡◌, ◌+◌, ◌*◌, ◌^◌, ◌<◌, ◌≤◌, ℕ, List, length, [], IfOk, IfErr, slice_get, Some, All};
+ghost use Rattle.std.specs.Prelude.{take, drop, ◌≡◌, ◌+◌, ◌*◌, ◌^◌, ◌<◌, ◌≤◌, ℕ, List, length, IfSome, [], IfOk, IfErr, slice_get, Some, All};
 ghost use Rattle.entry_ref.specs.Images.{words_at};
 ghost use Rattle.entry_ref.specs.Places.{place};
 ghost use Rattle.gen_core.specs.declared.views.View.TheVariants.{Writer as WriterSees};
@@ -9,7 +9,7 @@ ghost use Rattle.generation_handler.specs.declared.HoldEntry.{HoldEntry};
 ghost use Rattle.gen_core.specs.Work.{writer_records};
 ghost use Rattle.gen_core.specs.Events.{opening_view, with_reader, newcomer, joined};
 ghost use Rattle.arena_api.specs.Calls.{IsFresh};
-ghost use Rattle.word_arena.specs.Ruled.{bare, writer_of, reader_of};
+ghost use Rattle.word_arena.specs.Ruled.{bare, start_in, writer_of, reader_of};
 ghost use Rattle.word_arena.specs.Released.{IsWholeRun};
 ghost use Rattle.word_arena.specs.Knows.{view_of, IsDesk};
 ghost use Rattle.entry_ref.specs.Records.{HasWord, word_at};
@@ -162,6 +162,8 @@ impl<const OFFSET_BITS: u32, L: Layout> Frozen<OFFSET_BITS> for Writer<OFFSET_BI
 
     ghost records = { λ w. writer_records (writer_of w.place.me.0) };
 
+    ghost begins = { λ w. start_in OFFSET_BITS w.seats.arena.value.sizes (writer_records (writer_of w.place.me.0)) };
+
     fn word(&mut self, entry: EntryRef<OFFSET_BITS>, i: u32) -> u64
         requires { HasWord (⟦<Writer<OFFSET_BITS, L> as Frozen<OFFSET_BITS>>⟧.records self.old) entry i }
         ensures value { result ≡ word_at (⟦<Writer<OFFSET_BITS, L> as Frozen<OFFSET_BITS>>⟧.records self.old) entry.entry i }
@@ -175,50 +177,46 @@ impl<const OFFSET_BITS: u32, L: Layout> Frozen<OFFSET_BITS> for Writer<OFFSET_BI
             .load::<LoadOwn<L>>(&mut self.place, place as usize)
     }
 
-    fn read(&mut self, entry: EntryRef<OFFSET_BITS>, first: u32, into: &mut [u64])
-        requires there { first + length into.old ≤ length (⟦<Writer<OFFSET_BITS, L> as Frozen<OFFSET_BITS>>⟧.records self.old entry) }
-        requires few { first + length into.old < 2 ^ 32 }
-        ensures words { into.new ≡ take (length into.old)
-            (drop first (⟦<Writer<OFFSET_BITS, L> as Frozen<OFFSET_BITS>>⟧.records self.old entry.entry)) }
+    fn start_of(&mut self, entry: EntryRef<OFFSET_BITS>, width: Option<u32>) -> u64
+        requires some { HasWord (⟦<Writer<OFFSET_BITS, L> as Frozen<OFFSET_BITS>>⟧.records self.old) entry 0 }
+        requires width { IfSome width (λ w. length (⟦<Writer<OFFSET_BITS, L> as Frozen<OFFSET_BITS>>⟧.records self.old entry) ≡ w) }
+        ensures start { result ≡ ⟦<Writer<OFFSET_BITS, L> as Frozen<OFFSET_BITS>>⟧.begins self.old entry.entry }
         ensures same { self.new ≡ self.old }
     {
-        if into.is_empty() {
-            return;
-        }
-        let place = self.place_of_word(entry, first);
-        let arena = self.seats.arena();
-        load_words(arena, &mut self.place, entry, first, place, into);
+        let Some(width) = width else {
+            return self.place_of_word(entry, 0);
+        };
+        let sizes = &self.seats.arena().sizes;
+        place_of(sizes.buffers as u32, sizes.words as u32, width, entry, 0)
     }
 
-    fn word_of(&mut self, entry: EntryRef<OFFSET_BITS>, width: u32, i: u32) -> u64
-        requires width { length (⟦<Writer<OFFSET_BITS, L> as Frozen<OFFSET_BITS>>⟧.records self.old entry) ≡ width }
-        requires there { i < width }
+    fn word_from(&mut self, entry: EntryRef<OFFSET_BITS>, start: u64, i: u32) -> u64
+        requires there { HasWord (⟦<Writer<OFFSET_BITS, L> as Frozen<OFFSET_BITS>>⟧.records self.old) entry i }
+        requires start { start ≡ ⟦<Writer<OFFSET_BITS, L> as Frozen<OFFSET_BITS>>⟧.begins self.old entry }
         ensures value { result ≡ word_at (⟦<Writer<OFFSET_BITS, L> as Frozen<OFFSET_BITS>>⟧.records self.old) entry.entry i }
         ensures same { self.new ≡ self.old }
     {
+        let _ = entry;
         let arena = self.seats.arena();
-        let (buffers, words) = (arena.sizes.buffers as u32, arena.sizes.words as u32);
-        let place = place_of(buffers, words, width, entry, i);
         arena
             .table
             .shared
-            .load::<LoadOwn<L>>(&mut self.place, place as usize)
+            .load::<LoadOwn<L>>(&mut self.place, start as usize + i as usize)
     }
 
-    fn read_of(&mut self, entry: EntryRef<OFFSET_BITS>, width: u32, first: u32, into: &mut [u64])
-        requires width { length (⟦<Writer<OFFSET_BITS, L> as Frozen<OFFSET_BITS>>⟧.records self.old entry) ≡ width }
-        requires there { first + length into.old ≤ width }
-        ensures words { into.new ≡ take (length into.old)
-            (drop first (⟦<Writer<OFFSET_BITS, L> as Frozen<OFFSET_BITS>>⟧.records self.old entry.entry)) }
+    fn read_from(&mut self, entry: EntryRef<OFFSET_BITS>, start: u64, first: u32, into: &mut [u64])
+        requires there { first + length into.old ≤ length (⟦<Writer<OFFSET_BITS, L> as Frozen<OFFSET_BITS>>⟧.records self.old entry) }
+        requires few { first + length into.old < 2 ^ 32 }
+        requires start { start ≡ ⟦<Writer<OFFSET_BITS, L> as Frozen<OFFSET_BITS>>⟧.begins self.old entry }
+        ensures words { into.new ≡ take (length into.old) (drop first (⟦<Writer<OFFSET_BITS, L> as Frozen<OFFSET_BITS>>⟧.records self.old entry.entry)) }
         ensures same { self.new ≡ self.old }
     {
         if into.is_empty() {
             return;
         }
         let arena = self.seats.arena();
-        let (buffers, words) = (arena.sizes.buffers as u32, arena.sizes.words as u32);
-        let place = place_of(buffers, words, width, entry, first);
-        load_words(arena, &mut self.place, entry, first, place, into);
+        let at = start + u64::from(first);
+        load_words(arena, &mut self.place, entry, first, at, into);
     }
 
     ghost references = { λ w. work_references (writer_of w.place.me.0) w.stands.good OFFSET_BITS (desk_bits w.stands) w.stands.limits };

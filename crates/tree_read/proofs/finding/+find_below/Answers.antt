@@ -182,7 +182,7 @@ find_below-requires g t c =
     let child : IsNode m 8 l q = child-node m 1 level l node above is slot low in
     let ref = c.from_raw.result in
     let ref_is : ref ≡ q = c.from_raw.ensures ∙ is_q in
-    let kept : c.word_of-value.new.self ≡ c.args.frozen.now = c.word_of-value.ensures.same ∙ same in
+    let kept : c.word_of-value.new.frozen ≡ c.args.frozen.now = c.word_of-value.ensures.same ∙ same in
     let lower = IsNode-lower m 8 1 l q (let e : 1 ≤ 8 = omega arith in e) child in
     let up = child-ascends m 1 level l node above is key.order (key.read m) c.requires.ascends slot low in
     let can = child-all m 1 level l node above is (λ p. key.can_read m p.0) c.requires.readable slot low in
@@ -243,7 +243,7 @@ returns-then-level-gt0-clause-pair g t c =
     let child : IsNode m 8 l q = child-node m 1 level l node above is slot low in
     let ref = c.from_raw.result in
     let ref_is : ref ≡ q = c.from_raw.ensures ∙ is_q in
-    let kept : c.word_of-value.new.self ≡ c.args.frozen.now = c.word_of-value.ensures.same ∙ same in
+    let kept : c.word_of-value.new.frozen ≡ c.args.frozen.now = c.word_of-value.ensures.same ∙ same in
     c.find_below.ensures.pair
     ∙ ap (λ (f : g.row.F.Denot). lookup_pair (seen_by key.read key.order s (records f)) (pairs_below (records f) l ref)) kept
     ∙ ap (λ r. lookup_pair (seen_by key.read key.order s m) (pairs_below m l r)) ref_is
@@ -298,7 +298,7 @@ is_at-requires g t c =
     let is_q : c.word_of-value.result ≡ q = c.word_of-value.ensures.value ∙ ap (λ (f : g.row.F.Denot). word_at (records f) node (18 + slot)) same in
     let flat : level ≡ 0 = (let test = c.if-level-gt0.false in omega arith) in
     let leaf : IsNode m 1 0 node = subst (λ l. IsNode m 1 l node) flat is in
-    let kept : c.word_of-value.new.self ≡ c.args.frozen.now = c.word_of-value.ensures.same ∙ same in
+    let kept : c.word_of-value.new.frozen ≡ c.args.frozen.now = c.word_of-value.ensures.same ∙ same in
     let here : slot < length (node_keys (m node)) = omega arith in (
       omega arith,
       (
@@ -340,7 +340,7 @@ word_of-requires g t c =
     let is_q : c.word_of-value.result ≡ q = c.word_of-value.ensures.value ∙ ap (λ (f : g.row.F.Denot). word_at (records f) node (18 + slot)) same in
     let flat : level ≡ 0 = (let test = c.if-level-gt0.false in omega arith) in
     let leaf : IsNode m 1 0 node = subst (λ l. IsNode m 1 l node) flat is in
-    let kept : c.word_of-value.new.self ≡ c.args.frozen.now = c.word_of-value.ensures.same ∙ same in
+    let kept : c.word_of-value.new.frozen ≡ c.args.frozen.now = c.word_of-value.ensures.same ∙ same in
     let still : c.is_at.new.frozen ≡ c.args.frozen.now = c.is_at.ensures.same ∙ kept in
     (omega arith, (subst (λ (f : g.row.F.Denot). length (records f node) ≡ 34) (sym still) (node-size m 1 level node is), omega arith))
 
@@ -371,7 +371,7 @@ returns-then-is_at-clause-pair g t c =
     let is_q : c.word_of-value.result ≡ q = c.word_of-value.ensures.value ∙ ap (λ (f : g.row.F.Denot). word_at (records f) node (18 + slot)) same in
     let flat : level ≡ 0 = (let test = c.if-level-gt0.false in omega arith) in
     let leaf : IsNode m 1 0 node = subst (λ l. IsNode m 1 l node) flat is in
-    let kept : c.word_of-value.new.self ≡ c.args.frozen.now = c.word_of-value.ensures.same ∙ same in
+    let kept : c.word_of-value.new.frozen ≡ c.args.frozen.now = c.word_of-value.ensures.same ∙ same in
     let found : IsFound seen (node_keys (m node)) slot =
     subst (λ (f : g.row.F.Denot). IsFound (seen_by key.read key.order s (records f)) (node_keys (records f node)) slot) kept (c.is_at.ensures.found c.if-is_at.true) in
     let still : c.is_at.new.frozen ≡ c.args.frozen.now = c.is_at.ensures.same ∙ kept in
@@ -407,7 +407,7 @@ returns-clause-pair g t c =
     let is_q : c.word_of-value.result ≡ q = c.word_of-value.ensures.value ∙ ap (λ (f : g.row.F.Denot). word_at (records f) node (18 + slot)) same in
     let flat : level ≡ 0 = (let test = c.if-level-gt0.false in omega arith) in
     let leaf : IsNode m 1 0 node = subst (λ l. IsNode m 1 l node) flat is in
-    let kept : c.word_of-value.new.self ≡ c.args.frozen.now = c.word_of-value.ensures.same ∙ same in
+    let kept : c.word_of-value.new.frozen ≡ c.args.frozen.now = c.word_of-value.ensures.same ∙ same in
     let lacking : IsLacking seen (node_keys (m node)) slot =
     subst (λ (f : g.row.F.Denot). IsLacking (seen_by key.read key.order s (records f)) (node_keys (records f node)) slot) kept (c.is_at.ensures.lacking c.if-is_at.false) in
     leaf-lacking seen m node slot leaf at low lacking

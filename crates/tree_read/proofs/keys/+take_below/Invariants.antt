@@ -14,6 +14,5 @@ invariant-loop-slot g l =
     let m = g.F.Frozen.records l.fn.frozen in
     record {
       same : l.frozen ≡ l.fn.frozen;
-      words : l.words ≡ m l.fn.node;
       takes : g.T.TakesKeys.takes l.fn.taker (keys_of (flat_map (pairs_below m l.fn.below) (take l.slot (node_values (m l.fn.node))))) l.taker;
     }

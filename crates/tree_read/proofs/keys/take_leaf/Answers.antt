@@ -1,36 +1,80 @@
-use Rattle.std.proofs.Common.{◌≡◌, ℕ, List, OnOk, arith, sym, ap, subst, ◌∙◌}
-use Rattle.std.specs.List.{AllByRecursion}
+use Rattle.std.proofs.Common.{◌<◌, ◌≡◌, ◌+◌, ◌%◌, ◌≤◌, ◌++◌, ◌∷◌, [], ℕ, List, length, take, arith, sym, ap, subst, ◌∙◌}
+use Rattle.std.proofs.lemmas.List.{take_all, take_more}
+use Rattle.entry_ref.specs.Records.{HasWord, word_at}
 use Rattle.tree_read.specs.Nodes.{used_of, node_keys}
-use Rattle.tree_read.proofs.ReadLemmas.{node-size, node-room, node-keys-all}
-use Rattle.tree_read.proofs.SearchKeyLemmas.{cut-keys, cut-used, leaf-keys}
+use Rattle.tree_read.proofs.ChildLemmas.{get_or-node_keys, keys-length, slot-key}
+use Rattle.tree_read.proofs.ReadLemmas.{node-size, node-room}
+use Rattle.tree_read.proofs.SearchKeyLemmas.{leaf-keys}
 use Rattle.tree_read.proofs.keys.take_leaf.Goals as goal
 
-pub read_of-requires : goal.read_of-requires
-read_of-requires g c =
-    let m = g.F.Frozen.records c.args.frozen.now in
-    (omega arith, (node-size m 1 0 c.args.leaf c.requires.node, omega arith))
+pub start_of-start-requires : goal.start_of-start-requires
+start_of-start-requires g c =
+    let size = node-size (g.F.Frozen.records c.args.frozen.now) 1 0 c.args.leaf c.requires.node in
+    (omega arith, (omega (arith, size), size))
 
-pub used_keys-requires : goal.used_keys-requires
-used_keys-requires g c =
-    let m = g.F.Frozen.records c.args.frozen.now in
-    let room = node-room m 1 0 c.args.leaf c.requires.node in
-    let used : used_of c.read_of.new.into ≡ used_of (m c.args.leaf) = ap used_of c.read_of.ensures.words ∙ cut-used (m c.args.leaf) in
-    omega arith
+pub word_from-requires : goal.word_from-requires
+word_from-requires g c =
+    let size = node-size (g.F.Frozen.records c.args.frozen.now) 1 0 c.args.leaf c.requires.node in (
+      omega arith,
+      subst (λ (f : g.row.F.Denot). HasWord (g.F.Frozen.records f) c.args.leaf 0 × (c.start_of-start.result ≡ g.F.Frozen.begins f c.args.leaf))
+          (sym c.start_of-start.ensures.same) (omega (arith, size), c.start_of-start.ensures.start),
+    )
 
-keys-are : (g : _) (c : goal.After-used_keys g) → c.used_keys.result.now ≡ node_keys (g.F.Frozen.records c.args.frozen.now c.args.leaf)
-keys-are g c =
-    let m = g.F.Frozen.records c.args.frozen.now in
-    c.used_keys.ensures ∙ ap node_keys c.read_of.ensures.words ∙ cut-keys (m c.args.leaf) (node-room m 1 0 c.args.leaf c.requires.node)
+pub word_from-key-requires : goal.word_from-key-requires
+word_from-key-requires g c =
+    let records = g.F.Frozen.records in
+    let m = records c.args.frozen.now in
+    let leaf = c.args.leaf in
+    let slot = c.loop-slot.slot in
+    let size = node-size m 1 0 leaf c.requires.node in
+    let room = node-room m 1 0 leaf c.requires.node in
+    let head = c.word_from.ensures.value ∙ ap (λ (f : g.row.F.Denot). word_at (records f) leaf 0) c.start_of-start.ensures.same in
+    let low : slot < used_of (m leaf) = subst (λ (n : ℕ). slot < n) (ap (λ (n : ℕ). n % 256) head) c.loop-slot-test.true in (
+      omega arith,
+      subst (λ (f : g.row.F.Denot). HasWord (records f) leaf (2 + slot) × (c.start_of-start.result ≡ g.F.Frozen.begins f leaf))
+          (sym c.loop-slot.invariant.same) (omega (arith, size, room, low), c.start_of-start.ensures.start),
+    )
 
 pub take-requires : goal.take-requires
 take-requires g c =
-    let m = g.F.Frozen.records c.args.frozen.now in
-    subst (λ (ks : List ℕ). AllByRecursion g.T.TakesKeys.can_take ks) (sym (keys-are g c))
-    (node-keys-all m 1 0 c.args.leaf c.requires.node g.T.TakesKeys.can_take c.requires.keys)
+    let records = g.F.Frozen.records in
+    let m = records c.args.frozen.now in
+    let leaf = c.args.leaf in
+    let slot = c.loop-slot.slot in
+    let head = c.word_from.ensures.value ∙ ap (λ (f : g.row.F.Denot). word_at (records f) leaf 0) c.start_of-start.ensures.same in
+    let low : slot < used_of (m leaf) = subst (λ (n : ℕ). slot < n) (ap (λ (n : ℕ). n % 256) head) c.loop-slot-test.true in
+    let key = c.word_from-key.ensures.value ∙ ap (λ (f : g.row.F.Denot). word_at (records f) leaf (2 + slot)) c.loop-slot.invariant.same in
+    subst g.T.TakesKeys.can_take (sym key) (slot-key g.T.TakesKeys.can_take m 1 0 leaf slot c.requires.node c.requires.keys low)
+
+pub loop-slot-preserved : goal.loop-slot-preserved
+loop-slot-preserved g c =
+    let records = g.F.Frozen.records in
+    let m = records c.args.frozen.now in
+    let leaf = c.args.leaf in
+    let slot = c.loop-slot.slot in
+    let it = c.loop-slot.invariant in
+    let keys = node_keys (m leaf) in
+    let head = c.word_from.ensures.value ∙ ap (λ (f : g.row.F.Denot). word_at (records f) leaf 0) c.start_of-start.ensures.same in
+    let low : slot < used_of (m leaf) = subst (λ (n : ℕ). slot < n) (ap (λ (n : ℕ). n % 256) head) c.loop-slot-test.true in
+    let key = c.word_from-key.ensures.value ∙ ap (λ (f : g.row.F.Denot). word_at (records f) leaf (2 + slot)) it.same in
+    let inside : slot < length keys = (let size = keys-length m 1 0 leaf c.requires.node in omega (arith, size, low)) in
+    let more : take (slot + 1) keys ≡ take slot keys ++ (c.word_from-key.result ∷ []) =
+    take_more keys slot 0 inside ∙ ap (λ (k : ℕ). take slot keys ++ (k ∷ [])) (get_or-node_keys (m leaf) slot low ∙ sym key) in
+    record {
+      same = c.word_from-key.ensures.same ∙ it.same;
+      takes = subst (λ (ks : List ℕ). g.T.TakesKeys.takes c.args.taker.now ks c.take.new.self) (sym more)
+          (g.met.T.TakesKeys.joins c.args.taker.now c.loop-slot.taker c.take.new.self _ _ it.takes c.in_ok-take.ensures);
+    }
 
 pub returns-clause-takes : goal.returns-clause-takes
 returns-clause-takes g c =
-    let m = g.F.Frozen.records c.args.frozen.now in
-    let keys = c.used_keys.ensures ∙ ap node_keys c.read_of.ensures.words ∙ cut-keys (m c.args.leaf) (node-room m 1 0 c.args.leaf c.requires.node) in
-    subst (λ (ks : List ℕ). OnOk c.take.result (g.T.TakesKeys.takes c.args.taker.now ks c.take.new.self))
-    (keys ∙ sym (leaf-keys m c.args.leaf c.requires.node)) c.take.ensures
+    let records = g.F.Frozen.records in
+    let m = records c.args.frozen.now in
+    let leaf = c.args.leaf in
+    let slot = c.loop-slot.slot in
+    let head = c.word_from.ensures.value ∙ ap (λ (f : g.row.F.Denot). word_at (records f) leaf 0) c.start_of-start.ensures.same in
+    let used = ap (λ (n : ℕ). n % 256) head in
+    let high : length (node_keys (m leaf)) ≤ slot =
+    (let size = keys-length m 1 0 leaf c.requires.node in let test = c.loop-slot-test.false in omega arith) in
+    subst (λ (ks : List ℕ). g.T.TakesKeys.takes c.args.taker.now ks c.loop-slot.taker)
+    (take_all slot (node_keys (m leaf)) high ∙ sym (leaf-keys m leaf c.requires.node)) c.loop-slot.invariant.takes

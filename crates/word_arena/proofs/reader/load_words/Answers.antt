@@ -25,10 +25,12 @@ overflow_add-at g c =
     let below : c.args.first + c.loop-i.i < length (words_at (seen_image (reader_of c.args.seat.now.me.0)) c.args.entry) = omega (arith, there, test, room) in
     let inside : c.args.first + c.loop-i.i < length (words_at (seen_image (reader_of s.me.0)) c.args.entry) =
     subst (λ (x : Seat Slot Watched). c.args.first + c.loop-i.i < length (words_at (seen_image (reader_of x.me.0)) c.args.entry)) (sym same) below in
-    let on : c.args.at + c.loop-i.i ≡ place g.row.OFFSET_BITS arena.sizes.buffers arena.sizes.words (length (words_at (seen_image (reader_of c.args.seat.now.me.0)) c.args.entry)) c.args.entry (c.args.first + c.loop-i.i) =
+    let on : c.args.at + c.loop-i.i ≡ place g.row.OFFSET_BITS arena.sizes.buffers arena.sizes.words
+    (length (words_at (seen_image (reader_of c.args.seat.now.me.0)) c.args.entry)) c.args.entry (c.args.first + c.loop-i.i) =
     omega (arith, at) in
     let is : c.args.at + c.loop-i.i ≡ place g.row.OFFSET_BITS arena.sizes.buffers arena.sizes.words (length (words_at (seen_image (reader_of s.me.0)) c.args.entry)) c.args.entry (c.args.first + c.loop-i.i) =
-    subst (λ (x : Seat Slot Watched). c.args.at + c.loop-i.i ≡ place g.row.OFFSET_BITS arena.sizes.buffers arena.sizes.words (length (words_at (seen_image (reader_of x.me.0)) c.args.entry)) c.args.entry (c.args.first + c.loop-i.i)) (sym same) on in
+    subst (λ (x : Seat Slot Watched). c.args.at + c.loop-i.i ≡ place g.row.OFFSET_BITS arena.sizes.buffers arena.sizes.words
+    (length (words_at (seen_image (reader_of x.me.0)) c.args.entry)) c.args.entry (c.args.first + c.loop-i.i)) (sym same) on in
     let lt = place-inside st c.args.entry (c.args.first + c.loop-i.i) inside _ is in
     let words : arena.table.shared.table_id.words ≡ size_of arena.sizes.buffers arena.sizes.words = ap (λ (x : TableId). x.words) (sym st.post.own) ∙ st.post.words in
     let few = few-buffers st in
@@ -49,10 +51,12 @@ load-requires g c =
     let below : c.args.first + c.loop-i.i < length (words_at (seen_image (reader_of c.args.seat.now.me.0)) c.args.entry) = omega (arith, there, test, room) in
     let inside : c.args.first + c.loop-i.i < length (words_at (seen_image (reader_of s.me.0)) c.args.entry) =
     subst (λ (x : Seat Slot Watched). c.args.first + c.loop-i.i < length (words_at (seen_image (reader_of x.me.0)) c.args.entry)) (sym same) below in
-    let on : c.args.at + c.loop-i.i ≡ place g.row.OFFSET_BITS arena.sizes.buffers arena.sizes.words (length (words_at (seen_image (reader_of c.args.seat.now.me.0)) c.args.entry)) c.args.entry (c.args.first + c.loop-i.i) =
+    let on : c.args.at + c.loop-i.i ≡ place g.row.OFFSET_BITS arena.sizes.buffers arena.sizes.words
+    (length (words_at (seen_image (reader_of c.args.seat.now.me.0)) c.args.entry)) c.args.entry (c.args.first + c.loop-i.i) =
     omega (arith, at) in
     let is : c.args.at + c.loop-i.i ≡ place g.row.OFFSET_BITS arena.sizes.buffers arena.sizes.words (length (words_at (seen_image (reader_of s.me.0)) c.args.entry)) c.args.entry (c.args.first + c.loop-i.i) =
-    subst (λ (x : Seat Slot Watched). c.args.at + c.loop-i.i ≡ place g.row.OFFSET_BITS arena.sizes.buffers arena.sizes.words (length (words_at (seen_image (reader_of x.me.0)) c.args.entry)) c.args.entry (c.args.first + c.loop-i.i)) (sym same) on in
+    subst (λ (x : Seat Slot Watched). c.args.at + c.loop-i.i ≡ place g.row.OFFSET_BITS arena.sizes.buffers arena.sizes.words
+    (length (words_at (seen_image (reader_of x.me.0)) c.args.entry)) c.args.entry (c.args.first + c.loop-i.i)) (sym same) on in
     (st.post.own, place-inside st c.args.entry (c.args.first + c.loop-i.i) inside _ is, load_word_owed _ _ _ _ _ _ (reader_of s.me.0) _ st.post.is (may_load_word st c.args.entry (c.args.first + c.loop-i.i) inside _ is))
 
 pub loop-i-preserved : goal.loop-i-preserved
@@ -69,10 +73,12 @@ loop-i-preserved g c =
     let below : c.args.first + c.loop-i.i < length (words_at (seen_image (reader_of c.args.seat.now.me.0)) c.args.entry) = omega (arith, there, test, room) in
     let inside : c.args.first + c.loop-i.i < length (words_at (seen_image (reader_of s.me.0)) c.args.entry) =
     subst (λ (x : Seat Slot Watched). c.args.first + c.loop-i.i < length (words_at (seen_image (reader_of x.me.0)) c.args.entry)) (sym same) below in
-    let on : c.args.at + c.loop-i.i ≡ place g.row.OFFSET_BITS arena.sizes.buffers arena.sizes.words (length (words_at (seen_image (reader_of c.args.seat.now.me.0)) c.args.entry)) c.args.entry (c.args.first + c.loop-i.i) =
+    let on : c.args.at + c.loop-i.i ≡ place g.row.OFFSET_BITS arena.sizes.buffers arena.sizes.words
+    (length (words_at (seen_image (reader_of c.args.seat.now.me.0)) c.args.entry)) c.args.entry (c.args.first + c.loop-i.i) =
     omega (arith, at) in
     let is : c.args.at + c.loop-i.i ≡ place g.row.OFFSET_BITS arena.sizes.buffers arena.sizes.words (length (words_at (seen_image (reader_of s.me.0)) c.args.entry)) c.args.entry (c.args.first + c.loop-i.i) =
-    subst (λ (x : Seat Slot Watched). c.args.at + c.loop-i.i ≡ place g.row.OFFSET_BITS arena.sizes.buffers arena.sizes.words (length (words_at (seen_image (reader_of x.me.0)) c.args.entry)) c.args.entry (c.args.first + c.loop-i.i)) (sym same) on in
+    subst (λ (x : Seat Slot Watched). c.args.at + c.loop-i.i ≡ place g.row.OFFSET_BITS arena.sizes.buffers arena.sizes.words
+    (length (words_at (seen_image (reader_of x.me.0)) c.args.entry)) c.args.entry (c.args.first + c.loop-i.i)) (sym same) on in
     let l = c.load.ensures in
     let found = word_found st c.args.entry (c.args.first + c.loop-i.i) inside refl is l.2.told in
     let value : c.load.result ≡ slice_index (words_at (seen_image (reader_of c.args.seat.now.me.0)) c.args.entry) (c.args.first + c.loop-i.i) =

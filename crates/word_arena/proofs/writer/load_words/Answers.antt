@@ -23,14 +23,16 @@ overflow_add-at g c =
     let room = c.loop-i.invariant.room in
     let test = c.loop-i-test.true in
     let st : IsDesk g.row.OFFSET_BITS arena.table.shared.table_id arena.sizes c.requires.desk.0 c.requires.desk.1 c.requires.desk.2 c.requires.desk.3 s.table_id (bare s.me) =
-    subst (λ (x : Seat Slot Watched). IsDesk g.row.OFFSET_BITS arena.table.shared.table_id arena.sizes c.requires.desk.0 c.requires.desk.1 c.requires.desk.2 c.requires.desk.3 x.table_id (bare x.me)) (sym same) c.requires.desk.4 in
+    subst (λ (x : Seat Slot Watched). IsDesk g.row.OFFSET_BITS arena.table.shared.table_id arena.sizes c.requires.desk.0 c.requires.desk.1 c.requires.desk.2 c.requires.desk.3 x.table_id (bare x.me))
+    (sym same) c.requires.desk.4 in
     let below : c.args.first + c.loop-i.i < length (writer_records (writer_of c.args.seat.now.me.0) c.args.entry) = omega (arith, there, test, room) in
     let inside : c.args.first + c.loop-i.i < length (writer_records (writer_of s.me.0) c.args.entry) =
     subst (λ (x : Seat Slot Watched). c.args.first + c.loop-i.i < length (writer_records (writer_of x.me.0) c.args.entry)) (sym same) below in
     let on : c.args.at + c.loop-i.i ≡ place g.row.OFFSET_BITS arena.sizes.buffers arena.sizes.words (length (writer_records (writer_of c.args.seat.now.me.0) c.args.entry)) c.args.entry (c.args.first + c.loop-i.i) =
     omega (arith, at) in
     let is : c.args.at + c.loop-i.i ≡ place g.row.OFFSET_BITS arena.sizes.buffers arena.sizes.words (length (writer_records (writer_of s.me.0) c.args.entry)) c.args.entry (c.args.first + c.loop-i.i) =
-    subst (λ (x : Seat Slot Watched). c.args.at + c.loop-i.i ≡ place g.row.OFFSET_BITS arena.sizes.buffers arena.sizes.words (length (writer_records (writer_of x.me.0) c.args.entry)) c.args.entry (c.args.first + c.loop-i.i)) (sym same) on in
+    subst (λ (x : Seat Slot Watched). c.args.at + c.loop-i.i ≡ place g.row.OFFSET_BITS arena.sizes.buffers arena.sizes.words
+    (length (writer_records (writer_of x.me.0) c.args.entry)) c.args.entry (c.args.first + c.loop-i.i)) (sym same) on in
     let lt = place-inside st c.args.entry (c.args.first + c.loop-i.i) inside _ is in
     let words = arena-words st in
     let few = few-buffers st in
@@ -47,14 +49,16 @@ load-requires g c =
     let room = c.loop-i.invariant.room in
     let test = c.loop-i-test.true in
     let st : IsDesk g.row.OFFSET_BITS arena.table.shared.table_id arena.sizes c.requires.desk.0 c.requires.desk.1 c.requires.desk.2 c.requires.desk.3 s.table_id (bare s.me) =
-    subst (λ (x : Seat Slot Watched). IsDesk g.row.OFFSET_BITS arena.table.shared.table_id arena.sizes c.requires.desk.0 c.requires.desk.1 c.requires.desk.2 c.requires.desk.3 x.table_id (bare x.me)) (sym same) c.requires.desk.4 in
+    subst (λ (x : Seat Slot Watched). IsDesk g.row.OFFSET_BITS arena.table.shared.table_id arena.sizes c.requires.desk.0 c.requires.desk.1 c.requires.desk.2 c.requires.desk.3 x.table_id (bare x.me))
+    (sym same) c.requires.desk.4 in
     let below : c.args.first + c.loop-i.i < length (writer_records (writer_of c.args.seat.now.me.0) c.args.entry) = omega (arith, there, test, room) in
     let inside : c.args.first + c.loop-i.i < length (writer_records (writer_of s.me.0) c.args.entry) =
     subst (λ (x : Seat Slot Watched). c.args.first + c.loop-i.i < length (writer_records (writer_of x.me.0) c.args.entry)) (sym same) below in
     let on : c.args.at + c.loop-i.i ≡ place g.row.OFFSET_BITS arena.sizes.buffers arena.sizes.words (length (writer_records (writer_of c.args.seat.now.me.0) c.args.entry)) c.args.entry (c.args.first + c.loop-i.i) =
     omega (arith, at) in
     let is : c.args.at + c.loop-i.i ≡ place g.row.OFFSET_BITS arena.sizes.buffers arena.sizes.words (length (writer_records (writer_of s.me.0) c.args.entry)) c.args.entry (c.args.first + c.loop-i.i) =
-    subst (λ (x : Seat Slot Watched). c.args.at + c.loop-i.i ≡ place g.row.OFFSET_BITS arena.sizes.buffers arena.sizes.words (length (writer_records (writer_of x.me.0) c.args.entry)) c.args.entry (c.args.first + c.loop-i.i)) (sym same) on in
+    subst (λ (x : Seat Slot Watched). c.args.at + c.loop-i.i ≡ place g.row.OFFSET_BITS arena.sizes.buffers arena.sizes.words
+    (length (writer_records (writer_of x.me.0) c.args.entry)) c.args.entry (c.args.first + c.loop-i.i)) (sym same) on in
     (st.own, place-inside st c.args.entry (c.args.first + c.loop-i.i) inside _ is, load_own_owed _ _ _ _ _ _ (writer_of s.me.0) _ st.is (may_load_word st c.args.entry (c.args.first + c.loop-i.i) inside _ is))
 
 pub loop-i-preserved : goal.loop-i-preserved
@@ -67,14 +71,16 @@ loop-i-preserved g c =
     let room = c.loop-i.invariant.room in
     let test = c.loop-i-test.true in
     let st : IsDesk g.row.OFFSET_BITS arena.table.shared.table_id arena.sizes c.requires.desk.0 c.requires.desk.1 c.requires.desk.2 c.requires.desk.3 s.table_id (bare s.me) =
-    subst (λ (x : Seat Slot Watched). IsDesk g.row.OFFSET_BITS arena.table.shared.table_id arena.sizes c.requires.desk.0 c.requires.desk.1 c.requires.desk.2 c.requires.desk.3 x.table_id (bare x.me)) (sym same) c.requires.desk.4 in
+    subst (λ (x : Seat Slot Watched). IsDesk g.row.OFFSET_BITS arena.table.shared.table_id arena.sizes c.requires.desk.0 c.requires.desk.1 c.requires.desk.2 c.requires.desk.3 x.table_id (bare x.me))
+    (sym same) c.requires.desk.4 in
     let below : c.args.first + c.loop-i.i < length (writer_records (writer_of c.args.seat.now.me.0) c.args.entry) = omega (arith, there, test, room) in
     let inside : c.args.first + c.loop-i.i < length (writer_records (writer_of s.me.0) c.args.entry) =
     subst (λ (x : Seat Slot Watched). c.args.first + c.loop-i.i < length (writer_records (writer_of x.me.0) c.args.entry)) (sym same) below in
     let on : c.args.at + c.loop-i.i ≡ place g.row.OFFSET_BITS arena.sizes.buffers arena.sizes.words (length (writer_records (writer_of c.args.seat.now.me.0) c.args.entry)) c.args.entry (c.args.first + c.loop-i.i) =
     omega (arith, at) in
     let is : c.args.at + c.loop-i.i ≡ place g.row.OFFSET_BITS arena.sizes.buffers arena.sizes.words (length (writer_records (writer_of s.me.0) c.args.entry)) c.args.entry (c.args.first + c.loop-i.i) =
-    subst (λ (x : Seat Slot Watched). c.args.at + c.loop-i.i ≡ place g.row.OFFSET_BITS arena.sizes.buffers arena.sizes.words (length (writer_records (writer_of x.me.0) c.args.entry)) c.args.entry (c.args.first + c.loop-i.i)) (sym same) on in
+    subst (λ (x : Seat Slot Watched). c.args.at + c.loop-i.i ≡ place g.row.OFFSET_BITS arena.sizes.buffers arena.sizes.words
+    (length (writer_records (writer_of x.me.0) c.args.entry)) c.args.entry (c.args.first + c.loop-i.i)) (sym same) on in
     let l = c.load.ensures in
     let found = word_found st c.args.entry (c.args.first + c.loop-i.i) inside refl is l.2.told in
     let value : c.load.result ≡ slice_index (writer_records (writer_of c.args.seat.now.me.0) c.args.entry) (c.args.first + c.loop-i.i) =

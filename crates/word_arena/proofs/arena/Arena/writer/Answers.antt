@@ -22,7 +22,8 @@ invariant_of-result g c =
     let it : IsDesk g.row.OFFSET_BITS s.table.shared.table_id a.sizes a.buffers.items (own_hold opening_hold ∷ []) 0 0 a.place.table_id (bare a.place.me) =
     opening_desk g.L.Layout.reaches g.L.Layout.lawful layout g.row.OFFSET_BITS s.table.shared.table_id a.sizes a.buffers.items a.place.table_id (bare a.place.me) a.stands c.requires.0 in
     record {
-      stands = rw (c.in_ok-seats.ensures.arena, c.in_ok-seats.ensures.made) (subst (λ (z : Sizes). IsDesk g.row.OFFSET_BITS s.table.shared.table_id z a.buffers.items c.new-2.result 0 0 a.place.table_id (bare a.place.me)) c.requires.1
+      stands = rw (c.in_ok-seats.ensures.arena, c.in_ok-seats.ensures.made)
+          (subst (λ (z : Sizes). IsDesk g.row.OFFSET_BITS s.table.shared.table_id z a.buffers.items c.new-2.result 0 0 a.place.table_id (bare a.place.me)) c.requires.1
           (subst (λ l. IsDesk g.row.OFFSET_BITS s.table.shared.table_id a.sizes a.buffers.items l 0 0 a.place.table_id (bare a.place.me)) (sym c.new-2.ensures) it));
     }
 

@@ -60,7 +60,10 @@ pub invariant_of-reader : goal.invariant_of-reader
 invariant_of-reader g c =
     let a = c.args.self.stands in
     let b = raised_post a c.fetch_add-count.ensures.0 c.fetch_add-count.ensures.2.told in
-    record { stands = watch_after b.post c.fetch_sub.ensures.0 (bounced (reader_of c.fetch_add-count.new.seat.me.0)) c.fetch_sub.ensures.2.told.is refl refl (miss-climbs b c.if-count-eq0.false (bounced (reader_of c.fetch_add-count.new.seat.me.0)) refl) }
+    record {
+      stands = watch_after b.post c.fetch_sub.ensures.0 (bounced (reader_of c.fetch_add-count.new.seat.me.0)) c.fetch_sub.ensures.2.told.is refl refl
+          (miss-climbs b c.if-count-eq0.false (bounced (reader_of c.fetch_add-count.new.seat.me.0)) refl);
+    }
 
 pub returns-clause-again : goal.returns-clause-again
 returns-clause-again g c =

@@ -35,7 +35,14 @@ place_of-requires g c =
     (rw c.deref-arena.ensures at c.first_word-first.ensures) ∙ ap (λ (n : ℕ). base s.arena.value.sizes.buffers s.arena.value.sizes.words n) c.buffer.ensures.value in
     let width = width_found s.stands c.args.entry c.args.i c.requires at c.load-width.ensures.2.told in
     let h = c.requires in
-    rw c.deref-arena.ensures (omega arith, (subst (λ (n : ℕ). IsEntry g.row.OFFSET_BITS s.arena.value.sizes.buffers s.arena.value.sizes.words n c.args.entry) (sym width) (the_entry s.stands c.args.entry c.args.i c.requires), omega arith))
+    rw c.deref-arena.ensures (
+      omega arith,
+      (
+        subst (λ (n : ℕ). IsEntry g.row.OFFSET_BITS s.arena.value.sizes.buffers s.arena.value.sizes.words n c.args.entry) (sym width)
+            (the_entry s.stands c.args.entry c.args.i c.requires),
+        omega arith,
+      ),
+    )
 
 pub returns-clause-place : goal.returns-clause-place
 returns-clause-place g c =

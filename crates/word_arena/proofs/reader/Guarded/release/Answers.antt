@@ -9,7 +9,11 @@ pub fetch_sub-requires : goal.fetch_sub-requires
 fetch_sub-requires g c =
     let s = c.args.self in
     let low = s.stands.low in
-    rw c.deref-held.ensures (s.stands.post.own, low-inside s.stands.post _ (omega arith), release_owed _ _ _ _ _ _ (reader_of s.place.me.0) s.hold (seen_number (reader_of s.place.me.0)) _ s.stands.post.is refl s.stands.guarded)
+    rw c.deref-held.ensures (
+      s.stands.post.own,
+      low-inside s.stands.post _ (omega arith),
+      release_owed _ _ _ _ _ _ (reader_of s.place.me.0) s.hold (seen_number (reader_of s.place.me.0)) _ s.stands.post.is refl s.stands.guarded,
+    )
 
 pub invariant_of-result : goal.invariant_of-result
 invariant_of-result g c =

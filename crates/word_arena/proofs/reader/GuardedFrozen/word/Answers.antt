@@ -15,7 +15,11 @@ load-requires g c =
     let inside = subst (λ (n : ℕ). c.args.i < n) (λ k. length (words_at (seen_image (reader_of (sym same k).place.me.0)) c.args.entry)) c.requires in
     let is = c.place_of_word-place.ensures.place ∙ (λ k. place g.row.OFFSET_BITS (sym same k).arena.value.sizes.buffers (sym same k).arena.value.sizes.words
     (length (words_at (seen_image (reader_of (sym same k).place.me.0)) c.args.entry)) c.args.entry c.args.i) in
-    rw c.deref-arena.ensures (s.stands.post.own, place-inside s.stands c.args.entry c.args.i inside _ is, load_word_owed _ _ _ _ _ _ (reader_of s.place.me.0) _ s.stands.post.is (may_load_word s.stands c.args.entry c.args.i inside _ is))
+    rw c.deref-arena.ensures (
+      s.stands.post.own,
+      place-inside s.stands c.args.entry c.args.i inside _ is,
+      load_word_owed _ _ _ _ _ _ (reader_of s.place.me.0) _ s.stands.post.is (may_load_word s.stands c.args.entry c.args.i inside _ is),
+    )
 
 pub returns-clause-value : goal.returns-clause-value
 returns-clause-value g c =

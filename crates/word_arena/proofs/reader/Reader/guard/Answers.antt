@@ -8,7 +8,17 @@ nothing : (n : ℕ) → 0 ≡ n - n
 nothing n = omega arith
 
 pub loop-guard-init : goal.loop-guard-init
-loop-guard-init g c = record { table = refl; seen = refl; saw = refl; same_sizes = refl; limit = refl; rises = omega arith; ticked = omega arith; missed = subst (AllMissed _ _) (nothing _) (none_missed _); within = omega arith }
+loop-guard-init g c = record {
+  table = refl;
+  seen = refl;
+  saw = refl;
+  same_sizes = refl;
+  limit = refl;
+  rises = omega arith;
+  ticked = omega arith;
+  missed = subst (AllMissed _ _) (nothing _) (none_missed _);
+  within = omega arith;
+}
 
 pub returns-in-Ok-clause-later : goal.returns-in-Ok-clause-later
 returns-in-Ok-clause-later g c =

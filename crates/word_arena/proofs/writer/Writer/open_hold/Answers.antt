@@ -35,7 +35,11 @@ store-requires g c =
     let first = (c.fetch_sub.ensures.2.told c.args.hold refl).is in
     let at : (c.newest-newest.result.generation + 1) * 65536 + c.from.result ≡ (w.queue.newest.generation + 1) * 65536 + c.args.hold =
     (λ k. (generation k + 1) * 65536 + c.from.ensures k) in
-    rw c.arena-arena.ensures (c.fetch_sub.ensures.0 ∙ s.stands.own, omega (arith, arena-words s.stands), store_newest_owed _ _ _ _ _ _ (reopened w c.args.hold) c.args.hold _ (first ∙ (λ k. (Writer (reopened w c.args.hold), slots k))) at refl)
+    rw c.arena-arena.ensures (
+      c.fetch_sub.ensures.0 ∙ s.stands.own,
+      omega (arith, arena-words s.stands),
+      store_newest_owed _ _ _ _ _ _ (reopened w c.args.hold) c.args.hold _ (first ∙ (λ k. (Writer (reopened w c.args.hold), slots k))) at refl,
+    )
 
 pub append-requires-clause-closed : goal.append-requires-clause-closed
 append-requires-clause-closed g c =

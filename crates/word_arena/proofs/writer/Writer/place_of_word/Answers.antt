@@ -18,7 +18,11 @@ load-width-requires g c =
     let s = c.args.self.now in
     let at : c.first_word-first.result ≡ base s.seats.arena.value.sizes.buffers s.seats.arena.value.sizes.words (buffer_of g.row.OFFSET_BITS c.args.entry) =
     (rw c.arena-arena.ensures at c.first_word-first.ensures) ∙ ap (λ (n : ℕ). base s.seats.arena.value.sizes.buffers s.seats.arena.value.sizes.words n) c.buffer.ensures.value in
-    rw c.arena-arena.ensures (s.stands.own, base-below s.stands c.args.entry c.args.i c.requires _ at, load_own_owed _ _ _ _ _ _ (writer_of s.place.me.0) _ s.stands.is (may_load_width s.stands c.args.entry c.args.i c.requires _ at))
+    rw c.arena-arena.ensures (
+      s.stands.own,
+      base-below s.stands c.args.entry c.args.i c.requires _ at,
+      load_own_owed _ _ _ _ _ _ (writer_of s.place.me.0) _ s.stands.is (may_load_width s.stands c.args.entry c.args.i c.requires _ at),
+    )
 
 pub overflow_cast-width : goal.overflow_cast-width
 overflow_cast-width g c =
@@ -37,7 +41,14 @@ place_of-requires g c =
     (rw c.arena-arena.ensures at c.first_word-first.ensures) ∙ ap (λ (n : ℕ). base s.seats.arena.value.sizes.buffers s.seats.arena.value.sizes.words n) c.buffer.ensures.value in
     let width = width_found s.stands c.args.entry c.args.i c.requires at c.load-width.ensures.2.told in
     let h = c.requires in
-    rw c.arena-arena.ensures (omega arith, (subst (λ (n : ℕ). IsEntry g.row.OFFSET_BITS s.seats.arena.value.sizes.buffers s.seats.arena.value.sizes.words n c.args.entry) (sym width) (the_entry s.stands c.args.entry c.args.i c.requires), omega arith))
+    rw c.arena-arena.ensures (
+      omega arith,
+      (
+        subst (λ (n : ℕ). IsEntry g.row.OFFSET_BITS s.seats.arena.value.sizes.buffers s.seats.arena.value.sizes.words n c.args.entry) (sym width)
+            (the_entry s.stands c.args.entry c.args.i c.requires),
+        omega arith,
+      ),
+    )
 
 pub returns-clause-place : goal.returns-clause-place
 returns-clause-place g c =
@@ -52,5 +63,6 @@ returns-clause-same g c =
     let s = c.args.self.now in
     let w = c.load-width.ensures in
     let seat = seat_same s.place c.load-width.new.seat w.0 w.1 w.2.event.same in
-    subst (λ (p : Seat Slot Watched). (st : IsDesk g.row.OFFSET_BITS s.seats.arena.value.table.shared.table_id s.seats.arena.value.sizes s.buffers.items s.holds s.last s.seats.made p.table_id (bare p.me)) → record s { place = p; stands = st } ≡ s) (sym seat)
+    subst (λ (p : Seat Slot Watched). (st : IsDesk g.row.OFFSET_BITS s.seats.arena.value.table.shared.table_id s.seats.arena.value.sizes s.buffers.items s.holds s.last s.seats.made p.table_id (bare p.me))
+    → record s { place = p; stands = st } ≡ s) (sym seat)
     (λ st. ap (λ x. record s { stands = x }) (desk-prop _ _ _ _ _ _ _ _ _ st s.stands)) _

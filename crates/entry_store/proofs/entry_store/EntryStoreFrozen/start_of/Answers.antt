@@ -1,0 +1,23 @@
+use Rattle.std.proofs.Common.{◌≡◌, ◌<◌, ℕ, List, length, IfSome, sym, ap, subst, arith}
+use Rattle.entry_store.specs.Standing.{Stands, statuses}
+use Rattle.entry_store.proofs.StandsProp.{stands-prop}
+use Rattle.entry_ledger.specs.Ledgers.{entries_of}
+use Rattle.store_api.specs.Statuses.{has_record}
+use Rattle.entry_store.proofs.Reading.{there-words}
+use Rattle.entry_store.proofs.entry_store.EntryStoreFrozen.start_of.Goals as goal
+
+pub start_of-requires : goal.start_of-requires
+start_of-requires g c =
+    let s = c.args.self.now in
+    let at = there-words (has_record (statuses (g.W.Work.knows s.work).commits (entries_of g.row.OFFSET_BITS s.entries) c.args.entry)) _ 0 c.requires.some in
+    (omega arith, subst (λ (ws : List ℕ). (0 < length ws) × IfSome c.args.width (λ (w : ℕ). length ws ≡ w)) (sym at) (c.requires.some, c.requires.width))
+
+pub returns-clause-same : goal.returns-clause-same
+returns-clause-same g c =
+    let s = c.args.self.now in
+    subst
+    (λ (w : g.row.W.Denot).
+    (st : Stands g.row.OFFSET_BITS (g.W.Work.knows w) (g.W.Frozen.records w) (entries_of g.row.OFFSET_BITS s.entries) s.unit) → record s { work = w; stands = st } ≡ s)
+    (sym c.start_of.ensures.same)
+    (λ st. ap (λ (x : Stands g.row.OFFSET_BITS (g.W.Work.knows s.work) (g.W.Frozen.records s.work) (entries_of g.row.OFFSET_BITS s.entries) s.unit). record s { stands = x })
+    (stands-prop g.row.OFFSET_BITS _ _ _ _ st s.stands)) _
