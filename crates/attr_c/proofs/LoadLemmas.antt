@@ -75,8 +75,8 @@ first_of fields bytes saved reads is_of documents front = record {
   other = λ is. let says = is.reads in let same : saved ≡ is.saved = cc in absurd (is.other (subst (IsSaveOf fields) same is_of));
 }
 
-pub none_of : (fields : List Field) (bytes : List ℕ) → AreFirstOf fields bytes []
-none_of fields bytes = record { front = λ saved says. refl; broken = λ place says. refl; other = λ is. refl }
+pub none_are_first : (fields : List Field) (bytes : List ℕ) → AreFirstOf fields bytes []
+none_are_first fields bytes = record { front = λ saved says. refl; broken = λ place says. refl; other = λ is. refl }
 
 -- no operation puts in no document
 pub no_puts : (which : List SavedDocument → Type 0) → which [] → ArePuts which []
@@ -145,5 +145,5 @@ module _ (fields : List Field) (old : Table) (before : ℕ) where
     loads_none stays = record {
       documents = [];
       puts = record { table = stays.table; operations = let same = stays.operations in omega (arith, same) };
-      first = none_of fields bytes;
+      first = none_are_first fields bytes;
     }

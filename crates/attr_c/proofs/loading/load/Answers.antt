@@ -7,7 +7,7 @@ use Rattle.attr_types.specs.declared.op.Op.{Op}
 use Rattle.attr_c.specs.Loading.{put_of, puts_of, AreAllOf, AreFirstOf, ArePuts, IsNextLoaded, IsNextPut, IsSaveOf, PutsFront, PutsIn}
 use Rattle.attr_c.proofs.ApplyingLemmas.{applies_none, applies_wider}
 use Rattle.attr_c.proofs.EndLemmas.{load_or, on_ok_map, place_left, save_or, stops_since}
-use Rattle.attr_c.proofs.LoadLemmas.{first_puts, loads_front, loads_none, loads_whole, no_puts, none_of, puts_fit}
+use Rattle.attr_c.proofs.LoadLemmas.{first_puts, loads_front, loads_none, loads_whole, no_puts, none_are_first, puts_fit}
 use Rattle.attr_steps.proofs.StepLemmas.{keeps_same}
 use Rattle.attr_c.specs.declared.told.Told.{Told}
 use Rattle.attr_c.proofs.loading.load.Goals as goal
@@ -55,13 +55,13 @@ returns-in-Err-clause-why g c =
     let bytes = c.args.bytes.now in
     let ops = was.attribute.operations in
     save_or g.S.Store.ledger g.S.Frozen.records (ArePuts (AreFirstOf was.fields bytes)) (IsNextLoaded bytes ops ops) was.attribute was.attribute _ _ _ c.in-Err.stop
-    (applies_none g.S.Store.ledger _ was.attribute (no_puts _ (none_of was.fields bytes))) c.in-Err.ensures.why
+    (applies_none g.S.Store.ledger _ was.attribute (no_puts _ (none_are_first was.fields bytes))) c.in-Err.ensures.why
 
 pub returns-then-not-is_of_fields-clause-why : goal.returns-then-not-is_of_fields-clause-why
 returns-then-not-is_of_fields-clause-why g c =
     let was = c.args.open.now in (
       record { saved = c.in-Ok.saved; reads = c.in-Ok.ensures.saved; other = c.is_of_fields.ensures.no c.if-not-is_of_fields.true },
-      applies_none g.S.Store.ledger _ was.attribute (no_puts _ (none_of was.fields c.args.bytes.now)),
+      applies_none g.S.Store.ledger _ was.attribute (no_puts _ (none_are_first was.fields c.args.bytes.now)),
     )
 
 pub returns-clause-why : goal.returns-clause-why
