@@ -22,7 +22,7 @@ pub trait Frozen<const OFFSET_BITS: u32> {
         ensures value { result ≡ word_at (records self.old) entry.entry i }
         ensures same { self.new ≡ self.old };
 
-    /// Returns where the words of a record begin, which has this width if it is known.
+    /// Returns where the words of a record begin. `width` is its width, if the caller knows it.
     fn start_of(&mut self, entry: EntryRef<OFFSET_BITS>, width: Option<u32>) -> u64
         requires some { HasWord (records self.old) entry 0 }
         requires width { IfSome width (λ w. length (records self.old entry) ≡ w) }

@@ -1,6 +1,6 @@
 -- The state between the walks, as the start of the second.
 use Rattle.std.proofs.Common.{◌≡◌, ℕ, ℤ, true, false, List, [], ◌∷◌, Option, Some, None, cond}
-use Rattle.std.proofs.Common.{option_map, map, nat_cmp, is_eq, refl, sym, ap, ◌∙◌, subst, Less}
+use Rattle.std.proofs.Common.{option_map, map, nat_cmp, is_eq, refl, sym, ap, ◌∙◌}
 use Rattle.std.proofs.lemmas.Cmp.{nat_cmp_total}
 use Rattle.std.specs.BTreeMap.{insert_entry, is_at}
 use Rattle.std.specs.List.{find}

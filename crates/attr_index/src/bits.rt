@@ -1,48 +1,50 @@
 //! A bit vector of documents.
-ghost use Rattle.std.specs.Prelude.{◌≡◌, ◌+◌, ◌*◌, ◌<◌, ◌||◌, ℕ, length, nat_eq, false, IfOk, OnOk};
+ghost use Rattle.std.specs.Prelude.{◌≡◌, ◌+◌, ◌*◌, ◌<◌, ◌≤◌, ◌||◌, ℕ, length, nat_eq, false, IfOk, OnOk};
 ghost use Rattle.attr_index.specs.Sets.{in_words, Holds, HoldsBelow};
 
 use attr_types::{Doc, DocList};
 use std::alloc::{AllocError, Global};
 use std::marker::Model;
 
-/// The number of words with one bit for each document.
+/// The greatest number of words, with one bit for each document.
 const WORDS: usize = 16_384;
 
-/// A set of documents. Contracts see its words.
+/// A set of documents. It has words up to its last document, and no more than twice as many. Contracts see its words.
 #[derive(Drop)]
 pub struct DocSet {
     words: Vec<u64>,
 }
 
 impl Model for DocSet {
-    ghost use Rattle.std.specs.Prelude.{◌≡◌, ℕ, List, length, false};
+    ghost use Rattle.std.specs.Prelude.{◌≡◌, ◌≤◌, ℕ, List, length, false};
     ghost use Rattle.attr_index.specs.Sets.{in_words};
 
     ghost Value = { List ℕ };
 
     ghost view = { λ s. s.words.items };
 
-    ghost invariant = { λ s. (length s.words.items ≡ 16384) × (in_words s.words.items 0 ≡ false) };
+    ghost invariant = { λ s. (length s.words.items ≤ 16384) × (in_words s.words.items 0 ≡ false) };
 }
 
 impl DocSet {
     /// Creates the empty set.
-    pub fn new(alloc: Global) -> Result<DocSet, AllocError>
-        ensures { IfOk result (λ set. (doc : ℕ) → in_words set doc ≡ false) }
+    pub fn new(alloc: Global) -> DocSet
+        ensures { (doc : ℕ) → in_words result doc ≡ false }
     {
-        Ok(DocSet {
-            words: vec![in alloc; 0; WORDS]?,
-        })
+        DocSet {
+            words: Vec::new(alloc),
+        }
     }
 
     /// Inserts a document.
-    pub fn insert(&mut self, doc: Doc)
-        ensures { (other : ℕ) → in_words self.new other ≡ (in_words self.old other || nat_eq other doc) }
+    pub fn insert(&mut self, doc: Doc) -> Result<(), AllocError>
+        ensures { OnOk result ((other : ℕ) → in_words self.new other ≡ (in_words self.old other || nat_eq other doc)) }
     {
         let number = doc.number();
         let place = (number / 64) as usize;
+        reach(&mut self.words, place)?;
         self.words[place] |= 1 << (number % 64);
+        Ok(())
     }
 
     /// Returns whether a document is in the set.
@@ -51,7 +53,7 @@ impl DocSet {
     {
         let number = doc.number();
         let place = (number / 64) as usize;
-        (self.words[place] >> (number % 64)) & 1 == 1
+        place < self.words.len() && (self.words[place] >> (number % 64)) & 1 == 1
     }
 
     /// Returns the documents in ascending order.
@@ -62,13 +64,29 @@ impl DocSet {
     }
 }
 
+/// Appends words of zeros until there is a word at this place. It doubles the words, so that documents in ascending
+/// order append seldom.
+fn reach(words: &mut Vec<u64>, place: usize) -> Result<(), AllocError>
+    requires place { place < 16384 }
+    requires size { length words.old.items ≤ 16384 }
+    ensures size { length words.new.items ≤ 16384 }
+    ensures there { OnOk result (place < length words.new.items) }
+    ensures same { (doc : ℕ) → in_words words.new.items doc ≡ in_words words.old.items doc }
+{
+    if place < words.len() {
+        return Ok(());
+    }
+    let size = (2 * words.len()).max(place + 1).min(WORDS);
+    words.resize(size, 0)
+}
+
 fn list_of(alloc: Global, words: &[u64]) -> Result<DocList, AllocError>
-    requires size { length words.now ≡ 16384 }
+    requires size { length words.now ≤ 16384 }
     requires zero { in_words words.now 0 ≡ false }
     ensures { IfOk result (λ docs. Holds docs (in_words words.now)) }
 {
     let mut docs = DocList::new(alloc);
-    for place in 0..WORDS {
+    for place in 0..words.len() {
         if words[place] != 0 {
             push_word(&mut docs, words, place)?;
         }
@@ -77,8 +95,8 @@ fn list_of(alloc: Global, words: &[u64]) -> Result<DocList, AllocError>
 }
 
 fn push_word(docs: &mut DocList, words: &[u64], place: usize) -> Result<(), AllocError>
-    requires place { place < 16384 }
-    requires size { length words.now ≡ 16384 }
+    requires place { place < length words.now }
+    requires size { length words.now ≤ 16384 }
     requires zero { in_words words.now 0 ≡ false }
     requires before { HoldsBelow docs.old (64 * place) (in_words words.now) }
     ensures { OnOk result (HoldsBelow docs.new (64 * place + 64) (in_words words.now)) }

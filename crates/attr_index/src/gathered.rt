@@ -1,5 +1,5 @@
 //! Documents gathered in any order: a few in a list that is sorted at the end, many in a bit vector.
-ghost use Rattle.std.specs.Prelude.{◌≡◌, ◌≤◌, ◌||◌, ◌&&◌, ℕ, false, true, length, filter, IfOk};
+ghost use Rattle.std.specs.Prelude.{◌≡◌, ◌≤◌, ◌||◌, ◌&&◌, ℕ, false, true, length, filter, IfOk, OnOk};
 ghost use Rattle.attr_index.specs.Gathers.{is_gathered};
 ghost use Rattle.attr_index.specs.Sets.{has, in_words, IsAscending, AreBelow, IsPlaceOf, Holds};
 
@@ -7,8 +7,11 @@ use crate::bits::DocSet;
 use attr_types::{Doc, DocList};
 use std::alloc::{AllocError, Global};
 
-/// A list with more documents than this becomes a bit vector.
-const FEW: usize = 1024;
+/// A list of at most so many documents stays a list.
+const FEW: usize = 64;
+
+/// The greatest number of bit vector words per document.
+const MOST_SPARSE: usize = 16;
 
 /// If a list is this many times as long as the list of sought documents, each of them is searched in it.
 const MUCH_LONGER: usize = 8;
@@ -18,6 +21,19 @@ const MUCH_LONGER: usize = 8;
 pub enum Gathered {
     Few(Vec<Doc>),
     Many(DocSet),
+}
+
+/// Returns whether a bit vector costs less than a list that is sorted at the end, for these documents and as many as
+/// `more`. The lists that are gathered ascend, so the last document is near the greatest. Both forms have the same
+/// documents.
+pub fn are_many(docs: &[Doc], more: usize) -> bool {
+    match docs.last() {
+        Some(last) => {
+            let count = docs.len().max(more);
+            count > FEW && (last.number() / 64) as usize / MOST_SPARSE < count
+        }
+        None => false,
+    }
 }
 
 /// Returns whether documents already ascend strictly, as those of a single list of the index do.
@@ -44,12 +60,13 @@ pub fn sorted_list(mut docs: Vec<Doc>) -> DocList
     DocList::from_vec(docs)
 }
 
-fn insert_each(set: &mut DocSet, docs: &[Doc])
-    ensures { (doc : ℕ) → in_words set.new doc ≡ (in_words set.old doc || has docs.now doc) }
+fn insert_each(set: &mut DocSet, docs: &[Doc]) -> Result<(), AllocError>
+    ensures { OnOk result ((doc : ℕ) → in_words set.new doc ≡ (in_words set.old doc || has docs.now doc)) }
 {
     for doc in docs {
-        set.insert(*doc);
+        set.insert(*doc)?;
     }
+    Ok(())
 }
 
 fn is_listed(docs: &[Doc], doc: Doc) -> bool
@@ -160,18 +177,18 @@ impl Gathered {
     {
         match self {
             Gathered::Few(mut docs) => {
-                if docs.is_empty() || (docs.len() <= FEW && more.len() <= FEW) {
+                if are_many(docs.as_slice(), more.len()) {
+                    let mut set = DocSet::new(alloc);
+                    insert_each(&mut set, docs.as_slice())?;
+                    insert_each(&mut set, more)?;
+                    Ok(Gathered::Many(set))
+                } else {
                     docs.extend_from_slice(more)?;
                     Ok(Gathered::Few(docs))
-                } else {
-                    let mut set = DocSet::new(alloc)?;
-                    insert_each(&mut set, docs.as_slice());
-                    insert_each(&mut set, more);
-                    Ok(Gathered::Many(set))
                 }
             }
             Gathered::Many(mut set) => {
-                insert_each(&mut set, more);
+                insert_each(&mut set, more)?;
                 Ok(Gathered::Many(set))
             }
         }
@@ -183,8 +200,8 @@ impl Gathered {
     {
         match self {
             Gathered::Few(docs) => {
-                let mut set = DocSet::new(alloc)?;
-                insert_each(&mut set, docs.as_slice());
+                let mut set = DocSet::new(alloc);
+                insert_each(&mut set, docs.as_slice())?;
                 Ok(set)
             }
             Gathered::Many(set) => Ok(set),

@@ -15,7 +15,7 @@ mod leaf;
 mod weights;
 
 pub use bits::DocSet;
-pub use gathered::{Gathered, sorted_list};
+pub use gathered::{Gathered, are_many, sorted_list};
 pub use index_laws::query_law;
 pub use laws::{bound_law, column_law, index_law, middle_law, value_law, walk_law};
 pub use leaf::{is_before, is_beyond};

@@ -328,7 +328,8 @@ impl<const OFFSET_BITS: u32, W: Work<OFFSET_BITS>> Frozen<OFFSET_BITS>
 
     fn start_of(&mut self, entry: EntryRef<OFFSET_BITS>, width: Option<u32>) -> u64
         requires some { HasWord (⟦<EntryStore<OFFSET_BITS, W> as Frozen<OFFSET_BITS>>⟧.records self.old) entry 0 }
-        requires width { IfSome width (λ w. length (⟦<EntryStore<OFFSET_BITS, W> as Frozen<OFFSET_BITS>>⟧.records self.old entry) ≡ w) }
+        requires width { IfSome width (λ w. length
+            (⟦<EntryStore<OFFSET_BITS, W> as Frozen<OFFSET_BITS>>⟧.records self.old entry) ≡ w) }
         ensures start { result ≡ ⟦<EntryStore<OFFSET_BITS, W> as Frozen<OFFSET_BITS>>⟧.begins self.old entry.entry }
         ensures same { self.new ≡ self.old }
     {
@@ -345,10 +346,12 @@ impl<const OFFSET_BITS: u32, W: Work<OFFSET_BITS>> Frozen<OFFSET_BITS>
     }
 
     fn read_from(&mut self, entry: EntryRef<OFFSET_BITS>, start: u64, first: u32, into: &mut [u64])
-        requires there { first + length into.old ≤ length (⟦<EntryStore<OFFSET_BITS, W> as Frozen<OFFSET_BITS>>⟧.records self.old entry) }
+        requires there { first + length into.old
+            ≤ length (⟦<EntryStore<OFFSET_BITS, W> as Frozen<OFFSET_BITS>>⟧.records self.old entry) }
         requires few { first + length into.old < 2 ^ 32 }
         requires start { start ≡ ⟦<EntryStore<OFFSET_BITS, W> as Frozen<OFFSET_BITS>>⟧.begins self.old entry }
-        ensures words { into.new ≡ take (length into.old) (drop first (⟦<EntryStore<OFFSET_BITS, W> as Frozen<OFFSET_BITS>>⟧.records self.old entry.entry)) }
+        ensures words { into.new ≡ take (length into.old)
+            (drop first (⟦<EntryStore<OFFSET_BITS, W> as Frozen<OFFSET_BITS>>⟧.records self.old entry.entry)) }
         ensures same { self.new ≡ self.old }
     {
         self.work.read_from(entry, start, first, into);

@@ -14,15 +14,12 @@ use crate::vectors::{gather_vector, kept_in_vector};
 use arena_api::{Frozen, read};
 use array_store::count;
 use attr_images::{FIRST_VECTOR, MOST_SHORT};
-use attr_index::{DocSet, Gathered};
+use attr_index::{DocSet, Gathered, are_many};
 use attr_types::{Doc, DocList};
 use entry_ref::EntryRef;
 use frozen_btree::total;
 use std::alloc::{AllocError, Global};
 use tree_read::take_keys;
-
-/// A list with more documents than this becomes a bit vector.
-const MOST_FEW: usize = 1024;
 
 /// Returns the document in a word of a short list.
 fn doc_of(word: u64) -> Doc
@@ -42,13 +39,14 @@ fn push_words(docs: &mut Vec<Doc>, words: &[u64]) -> Result<(), AllocError>
     Ok(())
 }
 
-fn insert_words(set: &mut DocSet, words: &[u64])
+fn insert_words(set: &mut DocSet, words: &[u64]) -> Result<(), AllocError>
     requires { HaveDocNumbers (map unpacked words.now) }
-    ensures { (doc : ℕ) → in_words set.new doc ≡ (in_words set.old doc || has (keys_of (map unpacked words.now)) doc) }
+    ensures { OnOk result ((doc : ℕ) → in_words set.new doc ≡ (in_words set.old doc || has (keys_of (map unpacked words.now)) doc)) }
 {
     for word in words {
-        set.insert(doc_of(*word));
+        set.insert(doc_of(*word))?;
     }
+    Ok(())
 }
 
 /// Adds the documents in the words of a short list to those gathered.
@@ -59,16 +57,16 @@ fn with_words(alloc: Global, gathered: Gathered, words: &[u64]) -> Result<Gather
 {
     match gathered {
         Gathered::Few(mut docs) => {
-            if docs.len() <= MOST_FEW {
+            if !are_many(docs.as_slice(), 0) {
                 push_words(&mut docs, words)?;
                 return Ok(Gathered::Few(docs));
             }
             let mut set = Gathered::Few(docs).into_set(alloc)?;
-            insert_words(&mut set, words);
+            insert_words(&mut set, words)?;
             Ok(Gathered::Many(set))
         }
         Gathered::Many(mut set) => {
-            insert_words(&mut set, words);
+            insert_words(&mut set, words)?;
             Ok(Gathered::Many(set))
         }
     }
@@ -141,7 +139,7 @@ fn with_tree<const OFFSET_BITS: u32, F: Frozen<OFFSET_BITS>>(
     ensures same { frozen.new ≡ frozen.old }
 {
     let count = total(frozen, root) as usize;
-    if docs.is_empty() || docs.len().max(count) <= MOST_FEW {
+    if !are_many(docs.as_slice(), count) {
         docs.reserve(count)?;
         return push_tree(frozen, root, docs);
     }

@@ -53,8 +53,7 @@ impl TakesKeys for Inserted {
         requires { IsDocNumber key }
         ensures { OnOk result (Adds (in_words self.old.set) (key ∷ []) (in_words self.new.set)) }
     {
-        self.set.insert(Doc::new(key as u32));
-        Ok(())
+        self.set.insert(Doc::new(key as u32))
     }
 
     ghost none = { λ taker. adds_none (in_words taker.set) };

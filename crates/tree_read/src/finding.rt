@@ -6,8 +6,9 @@ ghost use Rattle.tree_read.specs.Keys.{AllReadable, Ascends, seen_by};
 ghost use Rattle.tree_read.specs.Pairs.{lookup, lookup_pair};
 ghost use Rattle.tree_read.specs.NodePlaces.{IsSlot, IsFound, IsLacking};
 
-use crate::{FIRST_KEY, FIRST_VALUE, KeyOrder, NODE_WORDS, read_head, read_used};
-use arena_api::{Frozen, word_of};
+use crate::read::read_used;
+use crate::{FIRST_KEY, FIRST_VALUE, KeyOrder, NODE_WORDS, read_head};
+use arena_api::Frozen;
 use entry_ref::EntryRef;
 use std::cmp::Ordering;
 
@@ -15,9 +16,11 @@ use std::cmp::Ordering;
 fn compare_slot<const OFFSET_BITS: u32, F: Frozen<OFFSET_BITS>, K: KeyOrder<OFFSET_BITS>>(
     frozen: &mut F,
     node: EntryRef<OFFSET_BITS>,
+    start: u64,
     slot: u32,
     key: &K,
 ) -> Ordering
+    requires start { start ≡ F.begins frozen.old node }
     requires node { IsNode (F.records frozen.old) 1 (level_of (F.records frozen.old node)) node }
     requires readable { AllReadable K.can_read (F.records frozen.old)
         (pairs_below (F.records frozen.old) (level_of (F.records frozen.old node)) node) }
@@ -26,7 +29,7 @@ fn compare_slot<const OFFSET_BITS: u32, F: Frozen<OFFSET_BITS>, K: KeyOrder<OFFS
         (slice_index (node_keys (F.records frozen.old node.entry)) slot) }
     ensures same { frozen.new ≡ frozen.old }
 {
-    let stored = word_of(frozen, node, NODE_WORDS as u32, FIRST_KEY as u32 + slot);
+    let stored = frozen.word_from(node, start, FIRST_KEY as u32 + slot);
     key.compare(frozen, stored)
 }
 
@@ -34,9 +37,11 @@ fn compare_slot<const OFFSET_BITS: u32, F: Frozen<OFFSET_BITS>, K: KeyOrder<OFFS
 fn seek_slot<const OFFSET_BITS: u32, F: Frozen<OFFSET_BITS>, K: KeyOrder<OFFSET_BITS>>(
     frozen: &mut F,
     node: EntryRef<OFFSET_BITS>,
+    start: u64,
     used: u32,
     key: &K,
 ) -> u32
+    requires start { start ≡ F.begins frozen.old node }
     requires node { IsNode (F.records frozen.old) 1 (level_of (F.records frozen.old node)) node }
     requires readable { AllReadable K.can_read (F.records frozen.old)
         (pairs_below (F.records frozen.old) (level_of (F.records frozen.old node)) node) }
@@ -46,7 +51,7 @@ fn seek_slot<const OFFSET_BITS: u32, F: Frozen<OFFSET_BITS>, K: KeyOrder<OFFSET_
     ensures same { frozen.new ≡ frozen.old }
 {
     for slot in 0..used {
-        match compare_slot(frozen, node, slot, key) {
+        match compare_slot(frozen, node, start, slot, key) {
             Ordering::Less => {}
             Ordering::Equal => return slot,
             Ordering::Greater => return slot,
@@ -59,9 +64,11 @@ fn seek_slot<const OFFSET_BITS: u32, F: Frozen<OFFSET_BITS>, K: KeyOrder<OFFSET_
 fn is_at<const OFFSET_BITS: u32, F: Frozen<OFFSET_BITS>, K: KeyOrder<OFFSET_BITS>>(
     frozen: &mut F,
     node: EntryRef<OFFSET_BITS>,
+    start: u64,
     slot: u32,
     key: &K,
 ) -> bool
+    requires start { start ≡ F.begins frozen.old node }
     requires node { IsNode (F.records frozen.old) 1 (level_of (F.records frozen.old node)) node }
     requires readable { AllReadable K.can_read (F.records frozen.old)
         (pairs_below (F.records frozen.old) (level_of (F.records frozen.old node)) node) }
@@ -74,7 +81,7 @@ fn is_at<const OFFSET_BITS: u32, F: Frozen<OFFSET_BITS>, K: KeyOrder<OFFSET_BITS
         (node_keys (F.records frozen.old node.entry)) slot }
     ensures same { frozen.new ≡ frozen.old }
 {
-    match compare_slot(frozen, node, slot, key) {
+    match compare_slot(frozen, node, start, slot, key) {
         Ordering::Less => false,
         Ordering::Equal => true,
         Ordering::Greater => false,
@@ -96,13 +103,14 @@ fn find_below<const OFFSET_BITS: u32, F: Frozen<OFFSET_BITS>, K: KeyOrder<OFFSET
         (pairs_below (F.records frozen.old) level node.entry) }
     ensures same { frozen.new ≡ frozen.old }
 {
-    let used = read_used(frozen, node);
-    let slot = seek_slot(frozen, node, used, key);
+    let start = frozen.start_of(node, Some(NODE_WORDS as u32));
+    let used = read_used(frozen, node, start);
+    let slot = seek_slot(frozen, node, start, used, key);
     if slot == used {
         *pair = None;
         return;
     }
-    let value = word_of(frozen, node, NODE_WORDS as u32, FIRST_VALUE as u32 + slot);
+    let value = frozen.word_from(node, start, FIRST_VALUE as u32 + slot);
     if level > 0 {
         find_below(
             frozen,
@@ -113,9 +121,9 @@ fn find_below<const OFFSET_BITS: u32, F: Frozen<OFFSET_BITS>, K: KeyOrder<OFFSET
         );
         return;
     }
-    if is_at(frozen, node, slot, key) {
+    if is_at(frozen, node, start, slot, key) {
         *pair = Some((
-            word_of(frozen, node, NODE_WORDS as u32, FIRST_KEY as u32 + slot),
+            frozen.word_from(node, start, FIRST_KEY as u32 + slot),
             value,
         ));
         return;

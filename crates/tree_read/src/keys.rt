@@ -4,7 +4,8 @@ ghost use Rattle.std.specs.List.{AllByRecursion};
 ghost use Rattle.std.specs.Map.{keys_of};
 ghost use Rattle.tree_read.specs.Trees.{pairs_below, tree_pairs, IsNode, IsRootNode};
 
-use crate::{FIRST_KEY, FIRST_VALUE, LEVEL_BASE, NODE_WORDS, read_head};
+use crate::read::read_used;
+use crate::{FIRST_KEY, FIRST_VALUE, NODE_WORDS, read_head};
 use arena_api::Frozen;
 use entry_ref::EntryRef;
 use std::alloc::AllocError;
@@ -38,8 +39,7 @@ fn take_leaf<const OFFSET_BITS: u32, F: Frozen<OFFSET_BITS>, T: TakesKeys>(
     ensures same { frozen.new ≡ frozen.old }
 {
     let start = frozen.start_of(leaf, Some(NODE_WORDS as u32));
-    let used = (frozen.word_from(leaf, start, 0) % LEVEL_BASE) as u32;
-    for slot in 0..used {
+    for slot in 0..read_used(frozen, leaf, start) {
         let key = frozen.word_from(leaf, start, FIRST_KEY as u32 + slot);
         taker.take(key)?;
     }
@@ -59,8 +59,7 @@ fn take_below<const OFFSET_BITS: u32, F: Frozen<OFFSET_BITS>, T: TakesKeys>(
     ensures same { frozen.new ≡ frozen.old }
 {
     let start = frozen.start_of(node, Some(NODE_WORDS as u32));
-    let used = (frozen.word_from(node, start, 0) % LEVEL_BASE) as u32;
-    for slot in 0..used {
+    for slot in 0..read_used(frozen, node, start) {
         let stored = frozen.word_from(node, start, FIRST_VALUE as u32 + slot);
         let child = EntryRef::from_raw(stored as u32);
         if below == 0 {

@@ -31,6 +31,6 @@ pub use node_format::{FIRST_KEY, FIRST_VALUE, LEAST_SLOTS, LEVEL_BASE, MOST_SLOT
 pub use node_search::{Spot, child_at, first_slot, place_of, visit};
 pub use number::NumberKey;
 pub use order_laws::{key_law, keyed_law, pair_law, put_law, take_out_law};
-pub use read::{Head, read_head, read_node, read_used, read_words, slots_of, used_in};
+pub use read::{Head, read_head, read_node, read_words, slots_of, used_in};
 pub use search_laws::{place_law, search_law};
 pub use slots::{Slots, append};

@@ -4,7 +4,7 @@ ghost use Rattle.tree_read.specs.Nodes.{level_of, used_of, node_keys, node_value
 
 use crate::slots::{Slots, append};
 use crate::{FIRST_KEY, FIRST_VALUE, LEVEL_BASE, MOST_SLOTS, NODE_WORDS};
-use arena_api::{Frozen, read_of, word_of};
+use arena_api::{Frozen, read_of};
 use arrayvec::ArrayVec;
 use entry_ref::EntryRef;
 
@@ -45,16 +45,18 @@ pub fn read_head<const OFFSET_BITS: u32, F: Frozen<OFFSET_BITS>>(
     }
 }
 
-/// Reads the number of used slots of a node.
+/// Reads the number of used slots of a node whose words begin at `start`.
 pub fn read_used<const OFFSET_BITS: u32, F: Frozen<OFFSET_BITS>>(
     frozen: &mut F,
     node: EntryRef<OFFSET_BITS>,
+    start: u64,
 ) -> u32
-    requires { length (F.records frozen.old node) ≡ NODE_WORDS }
+    requires size { length (F.records frozen.old node) ≡ NODE_WORDS }
+    requires start { start ≡ F.begins frozen.old node }
     ensures used { result ≡ used_of (F.records frozen.old node.entry) }
     ensures same { frozen.new ≡ frozen.old }
 {
-    (word_of(frozen, node, NODE_WORDS as u32, 0) % LEVEL_BASE) as u32
+    (frozen.word_from(node, start, 0) % LEVEL_BASE) as u32
 }
 
 /// Returns the number of used slots of a node with these words.

@@ -6,6 +6,7 @@ ghost use Rattle.attr_types.specs.Value.{type_of, value_cmp};
 ghost use Rattle.attr_types.specs.declared.kind.ValueType.TheVariants as types;
 
 use crate::bytes::{behind_eight, first_word};
+use crate::reading::read_long;
 use arena_api::Frozen;
 use attr_types::Value;
 use entry_ref::EntryRef;
@@ -65,7 +66,7 @@ pub fn compare<const OFFSET_BITS: u32, F: Frozen<OFFSET_BITS>>(
     ensures same { frozen.new ≡ frozen.old }
 {
     match value {
-        Value::Long(number) => frozen.word(stored, 1).cast_signed().cmp(number),
+        Value::Long(number) => read_long(frozen, stored).cmp(number),
         Value::Text(text) => compare_text(frozen, stored, text.as_str().as_bytes()),
     }
 }

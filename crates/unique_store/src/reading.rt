@@ -1,12 +1,28 @@
 ghost use Rattle.std.specs.Prelude.{◌≡◌, ◌++◌, IfOk, OnOk};
-ghost use Rattle.std.specs.Int.{to_be_bytes, w64};
+ghost use Rattle.std.specs.Int.{cast_signed, to_be_bytes, w64};
+ghost use Rattle.entry_ref.specs.Records.{word_at};
 ghost use Rattle.attr_images.specs.Values.{stored_text, stored_value, IsValueRecord};
 ghost use Rattle.attr_types.specs.declared.kind.ValueType.TheVariants as types;
 
-use arena_api::Frozen;
+use arena_api::{Frozen, word_of};
 use attr_types::{Text, Value, ValueType};
 use entry_ref::EntryRef;
 use std::alloc::{AllocError, Global};
+
+/// The width of a long's record.
+const LONG_WORDS: u32 = 2;
+
+/// Returns a stored long.
+pub fn read_long<const OFFSET_BITS: u32, F: Frozen<OFFSET_BITS>>(
+    frozen: &mut F,
+    stored: EntryRef<OFFSET_BITS>,
+) -> i64
+    requires { IsValueRecord types.Long (F.records frozen.old stored) }
+    ensures value { result ≡ cast_signed w64 (word_at (F.records frozen.old) stored.entry 1) }
+    ensures same { frozen.new ≡ frozen.old }
+{
+    word_of(frozen, stored, LONG_WORDS, 1).cast_signed()
+}
 
 /// Appends the bytes of a word, the highest first.
 fn push_word(bytes: &mut Vec<u8>, word: u64) -> Result<(), AllocError>
@@ -65,7 +81,7 @@ pub fn get<const OFFSET_BITS: u32, F: Frozen<OFFSET_BITS>>(
     ensures same { frozen.new ≡ frozen.old }
 {
     match value_type {
-        ValueType::Long => Ok(Value::Long(frozen.word(stored, 1).cast_signed())),
+        ValueType::Long => Ok(Value::Long(read_long(frozen, stored))),
         ValueType::Text => Ok(Value::Text(read_text(alloc, frozen, stored)?)),
     }
 }

@@ -1,4 +1,4 @@
-use Rattle.std.proofs.Common.{◌<◌, rules, ◌≡◌, ◌-◌, ◌+◌, ◌%◌, ◌^◌, ℕ, List, suc, refl, take, arith, sym, ap, subst, ◌∙◌}
+use Rattle.std.proofs.Common.{◌<◌, length, rules, ◌≡◌, ◌-◌, ◌+◌, ◌^◌, ℕ, List, suc, refl, take, arith, sym, ap, subst, ◌∙◌}
 use Rattle.std.specs.List.{flat_map}
 use Rattle.std.specs.Map.{keys_of}
 use Rattle.entry_ref.specs.Records.{HasWord, word_at}
@@ -14,12 +14,12 @@ start_of-start-requires g t c =
     let size = node-size (g.F.Frozen.records c.args.frozen.now) 1 (suc c.args.below) c.args.node c.requires.node in
     (omega arith, (omega (arith, size), size))
 
-pub word_from-requires : goal.word_from-requires
-word_from-requires g t c =
+pub read_used-slot-end-requires : goal.read_used-slot-end-requires
+read_used-slot-end-requires g t c =
     let size = node-size (g.F.Frozen.records c.args.frozen.now) 1 (suc c.args.below) c.args.node c.requires.node in (
       omega arith,
-      subst (λ (f : g.row.F.Denot). HasWord (g.F.Frozen.records f) c.args.node 0 × (c.start_of-start.result ≡ g.F.Frozen.begins f c.args.node))
-          (sym c.start_of-start.ensures.same) (omega (arith, size), c.start_of-start.ensures.start),
+      subst (λ (f : g.row.F.Denot). (length (g.F.Frozen.records f c.args.node) ≡ 34) × (c.start_of-start.result ≡ g.F.Frozen.begins f c.args.node))
+          (sym c.start_of-start.ensures.same) (size, c.start_of-start.ensures.start),
     )
 
 pub word_from-stored-requires : goal.word_from-stored-requires
@@ -30,8 +30,8 @@ word_from-stored-requires g t c =
     let slot = c.loop-slot.slot in
     let below = c.args.below in
     let it = c.loop-slot.invariant in
-    let head = c.word_from.ensures.value ∙ ap (λ (f : g.row.F.Denot). word_at (records f) node 0) c.start_of-start.ensures.same in
-    let low : slot < used_of (m node) = subst (λ (n : ℕ). slot < n) (ap (λ (n : ℕ). n % 256) head) c.loop-slot-test.true in
+    let used = c.read_used-slot-end.ensures.used ∙ ap (λ (f : g.row.F.Denot). used_of (records f node)) c.start_of-start.ensures.same in
+    let low : slot < used_of (m node) = subst (λ (n : ℕ). slot < n) used c.loop-slot-test.true in
     let size = node-size m 1 (suc below) node c.requires.node in
     let room = node-room m 1 (suc below) node c.requires.node in (
       omega arith,
@@ -47,8 +47,8 @@ overflow_cast-stored g t c =
     let slot = c.loop-slot.slot in
     let below = c.args.below in
     let it = c.loop-slot.invariant in
-    let head = c.word_from.ensures.value ∙ ap (λ (f : g.row.F.Denot). word_at (records f) node 0) c.start_of-start.ensures.same in
-    let low : slot < used_of (m node) = subst (λ (n : ℕ). slot < n) (ap (λ (n : ℕ). n % 256) head) c.loop-slot-test.true in
+    let used = c.read_used-slot-end.ensures.used ∙ ap (λ (f : g.row.F.Denot). used_of (records f node)) c.start_of-start.ensures.same in
+    let low : slot < used_of (m node) = subst (λ (n : ℕ). slot < n) used c.loop-slot-test.true in
     let stored : c.word_from-stored.result ≡ word_at m node (18 + slot) =
     c.word_from-stored.ensures.value ∙ ap (λ (f : g.row.F.Denot). word_at (records f) node (18 + slot)) it.same in
     let q = word_at m node (18 + slot) in
@@ -63,8 +63,8 @@ take_leaf-requires g t c =
     let slot = c.loop-slot.slot in
     let below = c.args.below in
     let it = c.loop-slot.invariant in
-    let head = c.word_from.ensures.value ∙ ap (λ (f : g.row.F.Denot). word_at (records f) node 0) c.start_of-start.ensures.same in
-    let low : slot < used_of (m node) = subst (λ (n : ℕ). slot < n) (ap (λ (n : ℕ). n % 256) head) c.loop-slot-test.true in
+    let used = c.read_used-slot-end.ensures.used ∙ ap (λ (f : g.row.F.Denot). used_of (records f node)) c.start_of-start.ensures.same in
+    let low : slot < used_of (m node) = subst (λ (n : ℕ). slot < n) used c.loop-slot-test.true in
     let stored : c.word_from-stored.result ≡ word_at m node (18 + slot) =
     c.word_from-stored.ensures.value ∙ ap (λ (f : g.row.F.Denot). word_at (records f) node (18 + slot)) it.same in
     let child : c.from_raw-child.result ≡ word_at m node (18 + slot) = c.from_raw-child.ensures ∙ stored in
@@ -82,8 +82,8 @@ take_below-requires g t c κs within =
     let slot = c.loop-slot.slot in
     let below = c.args.below in
     let it = c.loop-slot.invariant in
-    let head = c.word_from.ensures.value ∙ ap (λ (f : g.row.F.Denot). word_at (records f) node 0) c.start_of-start.ensures.same in
-    let low : slot < used_of (m node) = subst (λ (n : ℕ). slot < n) (ap (λ (n : ℕ). n % 256) head) c.loop-slot-test.true in
+    let used = c.read_used-slot-end.ensures.used ∙ ap (λ (f : g.row.F.Denot). used_of (records f node)) c.start_of-start.ensures.same in
+    let low : slot < used_of (m node) = subst (λ (n : ℕ). slot < n) used c.loop-slot-test.true in
     let stored : c.word_from-stored.result ≡ word_at m node (18 + slot) =
     c.word_from-stored.ensures.value ∙ ap (λ (f : g.row.F.Denot). word_at (records f) node (18 + slot)) it.same in
     let child : c.from_raw-child.result ≡ word_at m node (18 + slot) = c.from_raw-child.ensures ∙ stored in
@@ -114,8 +114,8 @@ loop-slot-preserved g t c =
     let slot = c.loop-slot.slot in
     let below = c.args.below in
     let it = c.loop-slot.invariant in
-    let head = c.word_from.ensures.value ∙ ap (λ (f : g.row.F.Denot). word_at (records f) node 0) c.start_of-start.ensures.same in
-    let low : slot < used_of (m node) = subst (λ (n : ℕ). slot < n) (ap (λ (n : ℕ). n % 256) head) c.loop-slot-test.true in
+    let used = c.read_used-slot-end.ensures.used ∙ ap (λ (f : g.row.F.Denot). used_of (records f node)) c.start_of-start.ensures.same in
+    let low : slot < used_of (m node) = subst (λ (n : ℕ). slot < n) used c.loop-slot-test.true in
     let stored : c.word_from-stored.result ≡ word_at m node (18 + slot) =
     c.word_from-stored.ensures.value ∙ ap (λ (f : g.row.F.Denot). word_at (records f) node (18 + slot)) it.same in
     let child : c.from_raw-child.result ≡ word_at m node (18 + slot) = c.from_raw-child.ensures ∙ stored in
@@ -155,7 +155,6 @@ returns-clause-takes g t c =
     let slot = c.loop-slot.slot in
     let below = c.args.below in
     let it = c.loop-slot.invariant in
-    let head = c.word_from.ensures.value ∙ ap (λ (f : g.row.F.Denot). word_at (records f) node 0) c.start_of-start.ensures.same in
-    let used = ap (λ (n : ℕ). n % 256) head in
+    let used = c.read_used-slot-end.ensures.used ∙ ap (λ (f : g.row.F.Denot). used_of (records f node)) c.start_of-start.ensures.same in
     subst (λ (ks : List ℕ). g.T.TakesKeys.takes c.args.taker.now ks c.loop-slot.taker)
     (keys-past m (suc below) below node refl c.requires.node slot (let test = c.loop-slot-test.false in omega arith)) it.takes

@@ -15,7 +15,8 @@ word_from-requires g c =
 pub returns-clause-value : goal.returns-clause-value
 returns-clause-value g c =
     let s = c.args.self.now in
-    c.word_from.ensures.value ∙ ap (λ (ws : List ℕ). slice_index ws c.args.i) (there-words (has_record (statuses (g.W.Work.knows s.work).commits (entries_of g.row.OFFSET_BITS s.entries) c.args.entry)) _ c.args.i c.requires.there)
+    c.word_from.ensures.value ∙ ap (λ (ws : List ℕ). slice_index ws c.args.i)
+    (there-words (has_record (statuses (g.W.Work.knows s.work).commits (entries_of g.row.OFFSET_BITS s.entries) c.args.entry)) _ c.args.i c.requires.there)
 
 pub returns-clause-same : goal.returns-clause-same
 returns-clause-same g c =

@@ -13,7 +13,8 @@ overflow_add-at g c =
     let s = c.args.self.now in
     let low : c.args.first < length (words_at (seen_image (reader_of s.place.me.0)) c.args.entry) = search rules in
     let start : c.args.start ≡ place g.row.OFFSET_BITS s.arena.value.sizes.buffers s.arena.value.sizes.words (length (words_at (seen_image (reader_of s.place.me.0)) c.args.entry)) c.args.entry 0 = c.requires.start in
-    let is : c.args.start + c.args.first ≡ place g.row.OFFSET_BITS s.arena.value.sizes.buffers s.arena.value.sizes.words (length (words_at (seen_image (reader_of s.place.me.0)) c.args.entry)) c.args.entry c.args.first =
+    let is : c.args.start + c.args.first ≡ place g.row.OFFSET_BITS s.arena.value.sizes.buffers s.arena.value.sizes.words
+    (length (words_at (seen_image (reader_of s.place.me.0)) c.args.entry)) c.args.entry c.args.first =
     omega (arith, start) in
     let lt = place-inside s.stands c.args.entry c.args.first low _ is in
     let few = few-buffers s.stands in

@@ -36,5 +36,6 @@ returns-clause-same g c =
     let same = c.place_of_word-place.ensures.same in
     let l = c.load.ensures in
     let seat = seat_same s.place c.load.new.seat l.0 l.1 l.2.event.1.same in
-    subst (λ (p : Seat Slot Watched). (st : IsGuard g.row.OFFSET_BITS s.arena.value.table.shared.table_id s.arena.value.sizes s.hold s.found p.table_id (bare p.me)) → record s { place = p; stands = st } ≡ s) (sym seat)
+    subst (λ (p : Seat Slot Watched). (st : IsGuard g.row.OFFSET_BITS s.arena.value.table.shared.table_id s.arena.value.sizes s.hold s.found p.table_id (bare p.me))
+    → record s { place = p; stands = st } ≡ s) (sym seat)
     (λ st. ap (λ x. record s { stands = x }) (guard-prop _ _ _ _ _ _ _ st s.stands)) _ ∙ same
