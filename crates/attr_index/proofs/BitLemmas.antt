@@ -1,10 +1,10 @@
 -- The bits of a bit vector of documents.
-use Rattle.std.proofs.Common.{◌≡◌, ◌≢◌, ◌⊎◌, inl, inr, ℕ, zero, suc, [], ◌∷◌, ◌+◌, ◌*◌, ◌/◌, ◌%◌, ◌^◌, ◌<◌, Bool, true, false, ◌||◌, List, length}
-use Rattle.std.proofs.Common.{get_or, set, arith, refl, sym, ap, ◌∙◌, eq-eqb, nat_eq, bit_or, w64}
+use Rattle.std.proofs.Common.{◌≡◌, ◌≢◌, ◌⊎◌, inl, inr, ℕ, zero, suc, [], ◌∷◌, ◌+◌, ◌*◌, ◌/◌, ◌%◌, ◌^◌, ◌<◌, ◌≤◌, Bool, true, false, ◌||◌, ◌&&◌, List, length, min, ltb-true, ltb-false}
+use Rattle.std.proofs.Common.{get_or, set, arith, refl, sym, ap, ◌∙◌, eq-eqb, nat_eq, nat_lt, bit_and, bit_or, w64}
 use Rattle.std.proofs.lemmas.Bool.{eqb-true, eqb-false, ne_eqb, or_right}
 use Rattle.std.proofs.lemmas.Grind.{get_or-set_at}
-use Rattle.std.proofs.lemmas.List.{get_or-set_other}
-use Rattle.std.proofs.lemmas.Nat.Bits.{bit_at_set_same, bit_at_set_other, bit_at-zero}
+use Rattle.std.proofs.lemmas.List.{get_or-set_other, get_or_past}
+use Rattle.std.proofs.lemmas.Nat.Bits.{bit_at_and, bit_at-lt, bit_at_set_same, bit_at_set_other, bit_at-zero}
 use Rattle.std.specs.Int.{bit_at}
 use Rattle.std.specs.List.{AllByRecursion}
 use Rattle.attr_index.specs.Sets.{in_words}
@@ -71,6 +71,31 @@ insert_words words n other word within is =
     let ne : nat_eq other n ≡ false = ne_eqb other n (λ e. apart (ap (λ x. x / 64) e)) in
     kept _ (in_words words other) (nat_eq other n)
     (ap (λ w. bit w (other % 64)) (get_or-set_other words (n / 64) (other / 64) new 0 apart)) ne)
+
+one_each : (a b : ℕ) → a < 2 → b < 2 → nat_eq (min a b) 1 ≡ (nat_eq a 1 && nat_eq b 1)
+one_each zero zero low few = refl
+one_each zero (suc zero) low few = refl
+one_each (suc zero) zero low few = refl
+one_each (suc zero) (suc zero) low few = refl
+one_each (suc (suc a)) b low few = absurd (omega (arith, low))
+one_each a (suc (suc b)) low few = absurd (omega (arith, few))
+
+-- the documents of words that are joined one by one
+pub kept_words : (words other joined : List ℕ) (n doc : ℕ) → length joined ≡ length words → length joined ≤ n
+    → ((i : ℕ) → i < n → get_or joined i 0 ≡ bit_and (get_or words i 0) (get_or other i 0))
+    → in_words joined doc ≡ (in_words words doc && in_words other doc)
+kept_words words other joined n doc same all is = by_cases (nat_lt (doc / 64) n)
+    (λ within.
+    let a : ℕ = get_or words (doc / 64) 0 in
+    let b : ℕ = get_or other (doc / 64) 0 in
+    ap (λ w. nat_eq (bit_at w (doc % 64)) 1) (is (doc / 64) (ltb-true (doc / 64) n within))
+    ∙ ap (λ b. nat_eq b 1) (bit_at_and a b (doc % 64))
+    ∙ one_each _ _ (bit_at-lt a (doc % 64)) (bit_at-lt b (doc % 64)))
+    (λ past.
+    let beyond : n ≤ doc / 64 = ltb-false (doc / 64) n past in
+    let gone : in_words joined doc ≡ false = no_bits joined doc (get_or_past joined (doc / 64) 0 (omega (arith, all, beyond))) in
+    let none : in_words words doc ≡ false = no_bits words doc (get_or_past words (doc / 64) 0 (omega (arith, same, all, beyond))) in
+    gone ∙ sym (ap (λ b. b && in_words other doc) none))
 
 pub bit_of : (words : List ℕ) (place bit : ℕ) → bit < 64
     → in_words words (64 * place + bit) ≡ nat_eq (bit_at (get_or words place 0) bit) 1

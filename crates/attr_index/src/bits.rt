@@ -1,5 +1,5 @@
 //! A bit vector of documents.
-ghost use Rattle.std.specs.Prelude.{◌≡◌, ◌+◌, ◌*◌, ◌<◌, ◌≤◌, ◌||◌, ℕ, length, nat_eq, false, IfOk, OnOk};
+ghost use Rattle.std.specs.Prelude.{◌≡◌, ◌+◌, ◌*◌, ◌<◌, ◌≤◌, ◌||◌, ◌&&◌, ℕ, length, slice_index, nat_eq, false, IfOk, OnOk};
 ghost use Rattle.attr_index.specs.Sets.{in_words, Holds, HoldsBelow};
 
 use attr_types::{Doc, DocList};
@@ -37,6 +37,7 @@ impl DocSet {
     }
 
     /// Inserts a document.
+    #[inline(always)]
     pub fn insert(&mut self, doc: Doc) -> Result<(), AllocError>
         ensures { OnOk result ((other : ℕ) → in_words self.new other ≡ (in_words self.old other || nat_eq other doc)) }
     {
@@ -56,6 +57,13 @@ impl DocSet {
         place < self.words.len() && (self.words[place] >> (number % 64)) & 1 == 1
     }
 
+    /// Removes the documents that another set does not have.
+    pub fn retain(&mut self, other: &DocSet)
+        ensures { (doc : ℕ) → in_words self.new doc ≡ (in_words self.old doc && in_words other.now doc) }
+    {
+        keep_bits(&mut self.words, other.words.as_slice());
+    }
+
     /// Returns the documents in ascending order.
     pub fn to_list(&self, alloc: Global) -> Result<DocList, AllocError>
         ensures { IfOk result (λ docs. Holds docs (in_words self.now)) }
@@ -64,8 +72,8 @@ impl DocSet {
     }
 }
 
-/// Appends words of zeros until there is a word at this place. It doubles the words, so that documents in ascending
-/// order append seldom.
+/// Appends words of zeros until there is a word at this place.
+#[inline(always)]
 fn reach(words: &mut Vec<u64>, place: usize) -> Result<(), AllocError>
     requires place { place < 16384 }
     requires size { length words.old.items ≤ 16384 }
@@ -76,8 +84,39 @@ fn reach(words: &mut Vec<u64>, place: usize) -> Result<(), AllocError>
     if place < words.len() {
         return Ok(());
     }
+    grow(words, place)
+}
+
+/// Doubles the words, so that documents in ascending order append seldom, or appends as many as this place needs.
+#[cold]
+#[inline(never)]
+fn grow(words: &mut Vec<u64>, place: usize) -> Result<(), AllocError>
+    requires place { place < 16384 }
+    requires size { length words.old.items ≤ 16384 }
+    ensures size { length words.new.items ≤ 16384 }
+    ensures there { OnOk result (place < length words.new.items) }
+    ensures same { (doc : ℕ) → in_words words.new.items doc ≡ in_words words.old.items doc }
+{
     let size = (2 * words.len()).max(place + 1).min(WORDS);
     words.resize(size, 0)
+}
+
+fn word_at(words: &[u64], place: usize) -> u64
+    ensures { result ≡ slice_index words.now place }
+{
+    match words.get(place) {
+        Some(word) => *word,
+        None => 0,
+    }
+}
+
+fn keep_bits(words: &mut Vec<u64>, other: &[u64])
+    ensures size { length words.new.items ≡ length words.old.items }
+    ensures bits { (doc : ℕ) → in_words words.new.items doc ≡ (in_words words.old.items doc && in_words other.now doc) }
+{
+    for place in 0..words.len() {
+        words[place] &= word_at(other, place);
+    }
 }
 
 fn list_of(alloc: Global, words: &[u64]) -> Result<DocList, AllocError>

@@ -163,6 +163,27 @@ fn kept_in(alloc: Global, docs: &DocList, set: &DocSet) -> Result<DocList, Alloc
     Ok(kept)
 }
 
+/// Returns the documents of `docs` that are in a set, by the bits of both.
+fn kept_marked(alloc: Global, docs: &DocList, set: &DocSet) -> Result<DocList, AllocError>
+    ensures { IfOk result (λ kept. (doc : ℕ) → has kept doc ≡ (has docs.now doc && in_words set.now doc)) }
+{
+    let mut marks = DocSet::new(alloc);
+    insert_each(&mut marks, docs.as_slice())?;
+    marks.retain(set);
+    marks.to_list(alloc)
+}
+
+/// Returns the documents of `docs` that are in a set. If they are many, they are made a set themselves.
+fn kept_in_set(alloc: Global, docs: &DocList, set: &DocSet) -> Result<DocList, AllocError>
+    ensures { IfOk result (λ kept. (doc : ℕ) → has kept doc ≡ (has docs.now doc && in_words set.now doc)) }
+{
+    if are_many(docs.as_slice(), 0) {
+        kept_marked(alloc, docs, set)
+    } else {
+        kept_in(alloc, docs, set)
+    }
+}
+
 impl Gathered {
     /// Creates the empty collection.
     pub fn new(alloc: Global) -> Gathered
@@ -227,7 +248,7 @@ impl Gathered {
                 let list = sorted_list(list);
                 kept_listed(alloc, docs, &list)
             }
-            Gathered::Many(set) => kept_in(alloc, docs, &set),
+            Gathered::Many(set) => kept_in_set(alloc, docs, &set),
         }
     }
 }

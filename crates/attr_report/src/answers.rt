@@ -4,6 +4,7 @@ ghost use Rattle.attr_types.specs.Scores.{documents, scored};
 ghost use Rattle.attr_report.specs.Report.{answer_line, count_line, score_text};
 
 use attr_types::{Doc, Score};
+use itoa::Buffer;
 use std::alloc::AllocError;
 
 /// Writes the line of documents.
@@ -13,9 +14,10 @@ pub fn push_documents(text: &mut String, number: u64, docs: &[Doc]) -> Result<()
         ++ answer_line number (documents docs.now)) }
 {
     write!(text, "{number}:")?;
+    let mut digits = Buffer::new();
     for doc in docs {
-        let number = doc.number();
-        write!(text, " {number}")?;
+        text.push(' ')?;
+        text.push_str(digits.format(doc.number()))?;
     }
     writeln!(text)
 }

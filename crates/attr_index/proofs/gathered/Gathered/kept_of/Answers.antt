@@ -3,7 +3,7 @@ use Rattle.std.proofs.lemmas.Result.{IfOk-weaker}
 use Rattle.attr_index.proofs.DocLemmas.{kept_has}
 use Rattle.attr_index.proofs.gathered.Gathered.kept_of.Goals as goal
 use Rattle.attr_index.specs.Gathers.{is_gathered}
-use Rattle.attr_index.specs.Sets.{has, in_words}
+use Rattle.attr_index.specs.Sets.{has}
 use Rattle.attr_index.specs.declared.gathered.Gathered.{Gathered}
 
 pub returns-in-Few : goal.returns-in-Few
@@ -18,7 +18,7 @@ returns-in-Few c =
 pub returns-in-Many : goal.returns-in-Many
 returns-in-Many c =
     let docs = c.args.docs.now in
-    IfOk-weaker c.kept_in.result _ _
-    (λ kept is. λ doc. ap (λ (xs : List ℕ). has xs doc) is ∙ kept_has (in_words c.in-Many.set) docs doc
+    IfOk-weaker c.kept_in_set.result _ _
+    (λ kept is. λ doc. is doc
     ∙ ap (λ (b : Bool). has docs doc && b) (sym (ap (λ (g : Gathered). is_gathered g doc) c.in-Many.is)))
-    c.kept_in.ensures
+    c.kept_in_set.ensures
