@@ -1,10 +1,12 @@
 /* What the proved program asks of C beside the C library itself: memory, the error number, and the words of the command line.
    The contracts of these functions are the kit's, in its crates `libc` and `os`; nothing proves that this file keeps them. */
+#define _DEFAULT_SOURCE
 #include <errno.h>
 #include <stdbool.h>
 #include <stddef.h>
 #include <stdint.h>
 #include <stdlib.h>
+#include <sys/mman.h>
 
 /* An answer to a request for memory: whether there is any, and where. Without memory `place` is some address that is not null. */
 struct answer { bool ok; void *place; };
@@ -15,8 +17,24 @@ static struct answer answer_of(void *place) {
     return (struct answer){place != NULL, place != NULL ? place : &nothing};
 }
 
+/* The size of a huge page. */
+static const size_t huge = 2 << 20;
+
+/* A block of several huge pages, such as the words of an engine, begins at one and asks for them: so the first use of its memory stops once
+   for 2 MiB and not for each 4 KiB. A system that has none ignores the advice. */
+static void *large_block(size_t size) {
+    void *block = aligned_alloc(huge, size);
+    if (block != NULL) {
+        int error = errno;
+        madvise(block, size, MADV_HUGEPAGE);
+        errno = error;
+    }
+    return block;
+}
+
 /* `align` divides 16, and so malloc's blocks have it. A block of no bytes is made one of `align` bytes, since malloc(0) may answer null. */
 struct answer rattle_alloc(size_t size, size_t align) {
+    if (size >= 2 * huge) return answer_of(large_block(size));
     return answer_of(malloc(size != 0 ? size : align));
 }
 
