@@ -7,7 +7,7 @@ use crate::bits::DocSet;
 use attr_types::{Doc, DocList};
 use std::alloc::{AllocError, Global};
 
-/// A list of at most so many documents stays a list.
+/// A list with no more documents than this stays a list.
 const FEW: usize = 64;
 
 /// The greatest number of bit vector words per document.
