@@ -38,6 +38,20 @@ good-reader w g = record { count = g.count; some_word = g.some_word; queue = g.q
 pub good-joined : (w : WriterView) (r : ReaderView) → GoodView w → GoodView (joined w r)
 good-joined w r g = record { count = g.count; some_word = g.some_word; queue = g.queue; tags = g.tags; empty = g.empty; records = g.records; apart = g.apart; unstored = g.unstored }
 
+-- a step of the seat at z that leaves each desk over it as it was
+abbrev pub Keeps : ℕ → TableId → Sizes → TableId → Me Slot View → TableId → Me Slot View → Type 0
+Keeps bits arena sizes z me z' me' = (buffers : List Buffer) (holds : List HoldEntry) (last made : ℕ)
+    → IsDesk bits arena sizes buffers holds last made z me → IsDesk bits arena sizes buffers holds last made z' me'
+
+pub has_desk : {bits : ℕ} {arena : TableId} {sizes : Sizes} {z z' : TableId} {me me' : Me Slot View} → Keeps bits arena sizes z me z' me'
+    → (buffers : List Buffer) × (holds : List HoldEntry) × (last : ℕ) × (made : ℕ) × IsDesk bits arena sizes buffers holds last made z me
+    → (buffers : List Buffer) × (holds : List HoldEntry) × (last : ℕ) × (made : ℕ) × IsDesk bits arena sizes buffers holds last made z' me'
+has_desk keeps (buffers, holds, last, made, d) = (buffers, holds, last, made, keeps buffers holds last made d)
+
+pub keeps_both : {bits : ℕ} {arena : TableId} {sizes : Sizes} {z z' z'' : TableId} {me me' me'' : Me Slot View} → Keeps bits arena sizes z me z' me'
+    → Keeps bits arena sizes z' me' z'' me'' → Keeps bits arena sizes z me z'' me''
+keeps_both first then buffers holds last made d = then buffers holds last made (first buffers holds last made d)
+
 module _ {bits : ℕ} {arena : TableId} {sizes : Sizes} {buffers : List Buffer} {holds : List HoldEntry} {last made : ℕ} {z : TableId} {me : Me Slot View} (d : IsDesk bits arena sizes buffers holds last made z me) where
   abbrev pub w : WriterView
   w = writer_in me.0

@@ -3,6 +3,7 @@ use Rattle.std.specs.Prelude.{◌*◌, ◌≡◌, ℕ, ◌+◌, ◌<◌, ◌≤�
 use Rattle.std.specs.Option.{unwrap_or}
 use Rattle.atomic_table.specs.Table.{Me}
 use Rattle.atomic_table.specs.Seated.{TableId}
+use Rattle.atomic_table.specs.declared.shared.Seat.{Seat}
 use Rattle.entry_ref.specs.declared.images.Image.{Image}
 use Rattle.entry_ref.specs.Images.{no_image}
 use Rattle.entry_ref.specs.References.{buffer_of}
@@ -22,7 +23,8 @@ use Rattle.gen_core.specs.Work.{work_at, stored_by}
 use Rattle.gen_core.specs.Events.{opening_view}
 use Rattle.arena_api.specs.Works.{WorkView, Hold, Tag as ApiTag, Buffer as ApiBuffer, active_width}
 use Rattle.arena_api.specs.Calls.{IsWithinLimits}
-use Rattle.word_arena.specs.Ruled.{Slot, writer_in, api_sizes}
+use Rattle.word_arena.specs.Ruled.{Slot, writer_in, writer_of, bare, api_sizes}
+use Rattle.word_arena.specs.declared.rule.Watched.{Watched}
 use Rattle.gen_core.specs.Good.{GoodView}
 use Rattle.word_arena.specs.declared.config.Config.{Config}
 
@@ -89,6 +91,21 @@ pub record IsDesk (bits : ℕ) (arena : TableId) (sizes : Sizes) (buffers : List
   pub calm : (writer_in me.0).queue.pending ≡ Nothing
   pub good : GoodView (writer_in me.0)
   pub entries : StoresEntries (writer_in me.0)
+
+-- what the writer knows by its seat
+abbrev pub known_by : Seat Slot Watched → WorkView TableId
+known_by seat = view_of seat.table_id (writer_of seat.me.0)
+
+-- a seat is that of the writer of an arena
+abbrev pub HasDesk : ℕ → TableId → Sizes → Seat Slot Watched → Type 0
+HasDesk bits arena sizes seat = (buffers : List Buffer) × (holds : List HoldEntry) × (last : ℕ) × (made : ℕ)
+    × IsDesk bits arena sizes buffers holds last made seat.table_id (bare seat.me)
+
+-- a step of the writer's seat to which nothing else on the desk has to follow
+abbrev pub KeepsDesk : ℕ → TableId → Sizes → Seat Slot Watched → Seat Slot Watched → Type 0
+KeepsDesk bits arena sizes old new = (buffers : List Buffer) (holds : List HoldEntry) (last made : ℕ)
+    → IsDesk bits arena sizes buffers holds last made old.table_id (bare old.me)
+    → IsDesk bits arena sizes buffers holds last made new.table_id (bare new.me)
 
 -- the settings of an arena, as the core's sizes
 abbrev pub core_sizes : ℕ → Config → Sizes

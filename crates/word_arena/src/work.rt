@@ -10,12 +10,14 @@ ghost use Rattle.arena_api.specs.Calls.{published, IsWordIn};
 ghost use Rattle.arena_api.specs.Works.{is_free, active_width, free_count};
 ghost use Rattle.gen_core.specs.Views.{last_tag_in};
 ghost use Rattle.gen_core.specs.Work.{writer_records};
-ghost use Rattle.word_arena.specs.Knows.{view_of, given, buffers_by, place_by};
+ghost use Rattle.word_arena.specs.Knows.{view_of, given, buffers_by, place_by, known_by, HasDesk, KeepsDesk};
 ghost use Rattle.word_arena.specs.Released.{HandsOut};
 ghost use Rattle.word_arena.specs.WriterSteps.{IsTaggedBelow};
 
+use crate::arena::Arena;
 use crate::buffers::{count_free, last_of, lowest_free, width_of};
 use crate::plays::{FindWord, HandOut, Publish, StoreWidth, StoreWord};
+use crate::rule::Place;
 use crate::words::{ACTIVE, COMMIT_BASE, FIRST_STATE, ROOT, first_word};
 use crate::writer::Writer;
 use arena_api::{Advance, Frozen, Oldest, Work};
@@ -80,107 +82,132 @@ impl<const OFFSET_BITS: u32, L: Layout> Writer<OFFSET_BITS, L> {
             i,
         ) as usize
     }
+}
 
-    /// Loads the word of an entry that is at this place. The word counts as stored from then on.
-    fn find_in(&mut self, entry: EntryRef<OFFSET_BITS>, i: u32, at: usize) -> u64
-        requires may { MayStore OFFSET_BITS (view_of self.old.place.table_id (writer_of self.old.place.me.0)) entry i }
-        requires place { at ≡ place_by OFFSET_BITS (view_of self.old.place.table_id (writer_of self.old.place.me.0)) entry i }
-        ensures knows { view_of self.new.place.table_id (writer_of self.new.place.me.0)
-            ≡ record (view_of self.old.place.table_id (writer_of self.old.place.me.0)) {
-              stored = with_stored (view_of self.old.place.table_id (writer_of self.old.place.me.0)).stored entry.entry i result;
-            } }
-        ensures others { (q : ℕ) → q ≢ entry.entry
-            → writer_records (writer_of self.new.place.me.0) q ≡ writer_records (writer_of self.old.place.me.0) q }
-        ensures shape { (writer_of self.new.place.me.0).sizes.shape ≡ (writer_of self.old.place.me.0).sizes.shape }
-    {
-        let _ = entry;
-        let _ = i;
-        let arena = self.seats.arena();
-        arena.table.shared.load::<FindWord<L>>(&mut self.place, at)
-    }
+/// Loads the word of an entry that is at this place. The word counts as stored from then on.
+fn find_in<const OFFSET_BITS: u32, L: Layout>(
+    arena: &Arena<OFFSET_BITS, L>,
+    seat: &mut Place,
+    entry: EntryRef<OFFSET_BITS>,
+    i: u32,
+    at: usize,
+) -> u64
+    requires desk { HasDesk OFFSET_BITS arena.now.table.shared.table_id arena.now.sizes seat.old }
+    requires may { MayStore OFFSET_BITS (known_by seat.old) entry i }
+    requires place { at ≡ place_by OFFSET_BITS (known_by seat.old) entry i }
+    ensures desk { KeepsDesk OFFSET_BITS arena.now.table.shared.table_id arena.now.sizes seat.old seat.new }
+    ensures knows { known_by seat.new ≡ record (known_by seat.old) {
+      stored = with_stored (known_by seat.old).stored entry.entry i result;
+    } }
+    ensures others { (q : ℕ) → q ≢ entry.entry
+        → writer_records (writer_of seat.new.me.0) q ≡ writer_records (writer_of seat.old.me.0) q }
+    ensures shape { (writer_of seat.new.me.0).sizes.shape ≡ (writer_of seat.old.me.0).sizes.shape }
+{
+    let _ = entry;
+    let _ = i;
+    arena.table.shared.load::<FindWord<L>>(seat, at)
+}
 
-    /// Sets the word of an entry that is at this place. It loads the word first and stores only if that differs,
-    /// since a load is cheaper.
-    fn put_in(&mut self, entry: EntryRef<OFFSET_BITS>, i: u32, at: usize, word: u64)
-        requires may { MayStore OFFSET_BITS (view_of self.old.place.table_id (writer_of self.old.place.me.0)) entry i }
-        requires place { at ≡ place_by OFFSET_BITS (view_of self.old.place.table_id (writer_of self.old.place.me.0)) entry i }
-        ensures knows { view_of self.new.place.table_id (writer_of self.new.place.me.0)
-            ≡ record (view_of self.old.place.table_id (writer_of self.old.place.me.0)) {
-              stored = with_stored (view_of self.old.place.table_id (writer_of self.old.place.me.0)).stored entry.entry i word;
-            } }
-        ensures others { (q : ℕ) → q ≢ entry.entry
-            → writer_records (writer_of self.new.place.me.0) q ≡ writer_records (writer_of self.old.place.me.0) q }
-        ensures shape { (writer_of self.new.place.me.0).sizes.shape ≡ (writer_of self.old.place.me.0).sizes.shape }
-    {
-        if self.find_in(entry, i, at) != word {
-            self.store_in(entry, i, at, word);
-        }
+/// Sets the word of an entry that is at this place. It loads the word first and stores only if that differs,
+/// since a load is cheaper.
+fn put_in<const OFFSET_BITS: u32, L: Layout>(
+    arena: &Arena<OFFSET_BITS, L>,
+    seat: &mut Place,
+    entry: EntryRef<OFFSET_BITS>,
+    i: u32,
+    at: usize,
+    word: u64,
+)
+    requires desk { HasDesk OFFSET_BITS arena.now.table.shared.table_id arena.now.sizes seat.old }
+    requires may { MayStore OFFSET_BITS (known_by seat.old) entry i }
+    requires place { at ≡ place_by OFFSET_BITS (known_by seat.old) entry i }
+    ensures desk { KeepsDesk OFFSET_BITS arena.now.table.shared.table_id arena.now.sizes seat.old seat.new }
+    ensures knows { known_by seat.new ≡ record (known_by seat.old) {
+      stored = with_stored (known_by seat.old).stored entry.entry i word;
+    } }
+    ensures others { (q : ℕ) → q ≢ entry.entry
+        → writer_records (writer_of seat.new.me.0) q ≡ writer_records (writer_of seat.old.me.0) q }
+    ensures shape { (writer_of seat.new.me.0).sizes.shape ≡ (writer_of seat.old.me.0).sizes.shape }
+{
+    if find_in(arena, seat, entry, i, at) != word {
+        store_in(arena, seat, entry, i, at, word);
     }
+}
 
-    /// Sets the first words of an entry, the first of which is at this place.
-    fn put_words(&mut self, entry: EntryRef<OFFSET_BITS>, first: usize, words: &[u64])
-        requires few { length words.now < 2 ^ 32 }
-        requires may { (i : ℕ) → i < length words.now
-            → MayStore OFFSET_BITS (view_of self.old.place.table_id (writer_of self.old.place.me.0)) entry i }
-        requires place { first ≡ place_by OFFSET_BITS (view_of self.old.place.table_id (writer_of self.old.place.me.0)) entry 0 }
-        ensures knows { view_of self.new.place.table_id (writer_of self.new.place.me.0)
-            ≡ record (view_of self.old.place.table_id (writer_of self.old.place.me.0)) {
-              stored = (view_of self.new.place.table_id (writer_of self.new.place.me.0)).stored;
-            } }
-        ensures filled { (i : ℕ) → i < length words.now
-            → (view_of self.new.place.table_id (writer_of self.new.place.me.0)).stored entry.entry i ≡ Some (slice_index words.now i) }
-        ensures others { (q : ℕ) → q ≢ entry.entry
-            → writer_records (writer_of self.new.place.me.0) q ≡ writer_records (writer_of self.old.place.me.0) q }
-        ensures shape { (writer_of self.new.place.me.0).sizes.shape ≡ (writer_of self.old.place.me.0).sizes.shape }
-    {
-        for i in 0..words.len() {
-            self.put_in(entry, i as u32, first + i, words[i]);
-        }
+/// Sets the first words of an entry, the first of which is at this place.
+fn put_words<const OFFSET_BITS: u32, L: Layout>(
+    arena: &Arena<OFFSET_BITS, L>,
+    seat: &mut Place,
+    entry: EntryRef<OFFSET_BITS>,
+    first: usize,
+    words: &[u64],
+)
+    requires few { length words.now < 2 ^ 32 }
+    requires desk { HasDesk OFFSET_BITS arena.now.table.shared.table_id arena.now.sizes seat.old }
+    requires may { (i : ℕ) → i < length words.now → MayStore OFFSET_BITS (known_by seat.old) entry i }
+    requires place { first ≡ place_by OFFSET_BITS (known_by seat.old) entry 0 }
+    ensures desk { KeepsDesk OFFSET_BITS arena.now.table.shared.table_id arena.now.sizes seat.old seat.new }
+    ensures knows { known_by seat.new ≡ record (known_by seat.old) { stored = (known_by seat.new).stored } }
+    ensures filled { (i : ℕ) → i < length words.now
+        → (known_by seat.new).stored entry.entry i ≡ Some (slice_index words.now i) }
+    ensures others { (q : ℕ) → q ≢ entry.entry
+        → writer_records (writer_of seat.new.me.0) q ≡ writer_records (writer_of seat.old.me.0) q }
+    ensures shape { (writer_of seat.new.me.0).sizes.shape ≡ (writer_of seat.old.me.0).sizes.shape }
+{
+    for i in 0..words.len() {
+        put_in(arena, seat, entry, i as u32, first + i, words[i]);
     }
+}
 
-    /// Sets the words of an entry from word `start` on to 0; its first word is at this place.
-    fn put_zeros(&mut self, entry: EntryRef<OFFSET_BITS>, first: usize, start: u32, width: u32)
-        requires may { (i : ℕ) → i < width
-            → MayStore OFFSET_BITS (view_of self.old.place.table_id (writer_of self.old.place.me.0)) entry i }
-        requires place { first ≡ place_by OFFSET_BITS (view_of self.old.place.table_id (writer_of self.old.place.me.0)) entry 0 }
-        ensures knows { view_of self.new.place.table_id (writer_of self.new.place.me.0)
-            ≡ record (view_of self.old.place.table_id (writer_of self.old.place.me.0)) {
-              stored = (view_of self.new.place.table_id (writer_of self.new.place.me.0)).stored;
-            } }
-        ensures filled { (i : ℕ) → start ≤ i → i < width
-            → (view_of self.new.place.table_id (writer_of self.new.place.me.0)).stored entry.entry i ≡ Some 0 }
-        ensures kept { (i : ℕ) → i < start
-            → (view_of self.new.place.table_id (writer_of self.new.place.me.0)).stored entry.entry i
-            ≡ (view_of self.old.place.table_id (writer_of self.old.place.me.0)).stored entry.entry i }
-        ensures others { (q : ℕ) → q ≢ entry.entry
-            → writer_records (writer_of self.new.place.me.0) q ≡ writer_records (writer_of self.old.place.me.0) q }
-        ensures shape { (writer_of self.new.place.me.0).sizes.shape ≡ (writer_of self.old.place.me.0).sizes.shape }
-    {
-        for i in start..width {
-            self.put_in(entry, i, first + i as usize, 0);
-        }
+/// Sets the words of an entry from word `start` on to 0; its first word is at this place.
+fn put_zeros<const OFFSET_BITS: u32, L: Layout>(
+    arena: &Arena<OFFSET_BITS, L>,
+    seat: &mut Place,
+    entry: EntryRef<OFFSET_BITS>,
+    first: usize,
+    start: u32,
+    width: u32,
+)
+    requires desk { HasDesk OFFSET_BITS arena.now.table.shared.table_id arena.now.sizes seat.old }
+    requires may { (i : ℕ) → i < width → MayStore OFFSET_BITS (known_by seat.old) entry i }
+    requires place { first ≡ place_by OFFSET_BITS (known_by seat.old) entry 0 }
+    ensures desk { KeepsDesk OFFSET_BITS arena.now.table.shared.table_id arena.now.sizes seat.old seat.new }
+    ensures knows { known_by seat.new ≡ record (known_by seat.old) { stored = (known_by seat.new).stored } }
+    ensures filled { (i : ℕ) → start ≤ i → i < width → (known_by seat.new).stored entry.entry i ≡ Some 0 }
+    ensures kept { (i : ℕ) → i < start
+        → (known_by seat.new).stored entry.entry i ≡ (known_by seat.old).stored entry.entry i }
+    ensures others { (q : ℕ) → q ≢ entry.entry
+        → writer_records (writer_of seat.new.me.0) q ≡ writer_records (writer_of seat.old.me.0) q }
+    ensures shape { (writer_of seat.new.me.0).sizes.shape ≡ (writer_of seat.old.me.0).sizes.shape }
+{
+    for i in start..width {
+        put_in(arena, seat, entry, i, first + i as usize, 0);
     }
+}
 
-    /// Stores the word of an entry that is at this place.
-    fn store_in(&mut self, entry: EntryRef<OFFSET_BITS>, i: u32, at: usize, word: u64)
-        requires may { MayStore OFFSET_BITS (view_of self.old.place.table_id (writer_of self.old.place.me.0)) entry i }
-        requires place { at ≡ place_by OFFSET_BITS (view_of self.old.place.table_id (writer_of self.old.place.me.0)) entry i }
-        ensures knows { view_of self.new.place.table_id (writer_of self.new.place.me.0)
-            ≡ record (view_of self.old.place.table_id (writer_of self.old.place.me.0)) {
-              stored = with_stored (view_of self.old.place.table_id (writer_of self.old.place.me.0)).stored entry.entry i word;
-            } }
-        ensures others { (q : ℕ) → q ≢ entry.entry
-            → writer_records (writer_of self.new.place.me.0) q ≡ writer_records (writer_of self.old.place.me.0) q }
-        ensures shape { (writer_of self.new.place.me.0).sizes.shape ≡ (writer_of self.old.place.me.0).sizes.shape }
-    {
-        let _ = entry;
-        let _ = i;
-        let arena = self.seats.arena();
-        arena
-            .table
-            .shared
-            .store::<StoreWord<L>>(&mut self.place, at, word);
-    }
+/// Stores the word of an entry that is at this place.
+fn store_in<const OFFSET_BITS: u32, L: Layout>(
+    arena: &Arena<OFFSET_BITS, L>,
+    seat: &mut Place,
+    entry: EntryRef<OFFSET_BITS>,
+    i: u32,
+    at: usize,
+    word: u64,
+)
+    requires desk { HasDesk OFFSET_BITS arena.now.table.shared.table_id arena.now.sizes seat.old }
+    requires may { MayStore OFFSET_BITS (known_by seat.old) entry i }
+    requires place { at ≡ place_by OFFSET_BITS (known_by seat.old) entry i }
+    ensures desk { KeepsDesk OFFSET_BITS arena.now.table.shared.table_id arena.now.sizes seat.old seat.new }
+    ensures knows { known_by seat.new ≡ record (known_by seat.old) {
+      stored = with_stored (known_by seat.old).stored entry.entry i word;
+    } }
+    ensures others { (q : ℕ) → q ≢ entry.entry
+        → writer_records (writer_of seat.new.me.0) q ≡ writer_records (writer_of seat.old.me.0) q }
+    ensures shape { (writer_of seat.new.me.0).sizes.shape ≡ (writer_of seat.old.me.0).sizes.shape }
+{
+    let _ = entry;
+    let _ = i;
+    arena.table.shared.store::<StoreWord<L>>(seat, at, word);
 }
 
 impl<const OFFSET_BITS: u32, L: Layout> Work<OFFSET_BITS> for Writer<OFFSET_BITS, L> {
@@ -208,7 +235,8 @@ impl<const OFFSET_BITS: u32, L: Layout> Work<OFFSET_BITS> for Writer<OFFSET_BITS
     {
         let width = width_of(self.buffers.as_slice(), entry.buffer()) as u32;
         let place = self.place_in(entry, width, i);
-        self.store_in(entry, i, place, word);
+        let arena = self.seats.arena();
+        store_in(arena, &mut self.place, entry, i, place, word);
     }
 
     fn put(&mut self, entry: EntryRef<OFFSET_BITS>, width: u32, words: &[u64])
@@ -228,8 +256,16 @@ impl<const OFFSET_BITS: u32, L: Layout> Work<OFFSET_BITS> for Writer<OFFSET_BITS
             ≡ ⟦<Writer<OFFSET_BITS, L> as Frozen<OFFSET_BITS>>⟧.shape self.old }
     {
         let place = self.place_in(entry, width, 0);
-        self.put_words(entry, place, words);
-        self.put_zeros(entry, place, words.len() as u32, width);
+        let arena = self.seats.arena();
+        put_words(arena, &mut self.place, entry, place, words);
+        put_zeros(
+            arena,
+            &mut self.place,
+            entry,
+            place,
+            words.len() as u32,
+            width,
+        );
     }
 
     /// The last tag of the buffer, if it has one, is below every open generation; and each reader that had a guard

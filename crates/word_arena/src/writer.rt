@@ -1,17 +1,15 @@
 //! The one writer.
-ghost use Rattle.std.specs.Prelude.{take, drop, ◌≡◌, ◌+◌, ◌*◌, ◌^◌, ◌<◌, ◌≤◌, ℕ, List, length, IfSome, [], IfOk, IfErr, slice_get, Some, All};
+ghost use Rattle.std.specs.Prelude.{take, drop, ◌≡◌, ◌+◌, ◌*◌, ◌^◌, ◌<◌, ◌≤◌, ℕ, length, IfSome, [], IfOk, IfErr, slice_get, Some, All};
 ghost use Rattle.entry_ref.specs.Images.{words_at};
 ghost use Rattle.entry_ref.specs.Places.{place};
 ghost use Rattle.gen_core.specs.declared.views.View.TheVariants.{Writer as WriterSees};
-ghost use Rattle.gen_core.specs.declared.views.Buffer.{Buffer as WriterBuffer};
 ghost use Rattle.gen_core.specs.Views.{IsCommit};
-ghost use Rattle.generation_handler.specs.declared.HoldEntry.{HoldEntry};
 ghost use Rattle.gen_core.specs.Work.{writer_records};
 ghost use Rattle.gen_core.specs.Events.{opening_view, with_reader, newcomer, joined};
 ghost use Rattle.arena_api.specs.Calls.{IsFresh};
 ghost use Rattle.word_arena.specs.Ruled.{bare, start_in, writer_of, reader_of};
 ghost use Rattle.word_arena.specs.Released.{IsWholeRun};
-ghost use Rattle.word_arena.specs.Knows.{view_of, IsDesk};
+ghost use Rattle.word_arena.specs.Knows.{view_of, IsDesk, HasDesk};
 ghost use Rattle.entry_ref.specs.Records.{HasWord, word_at};
 
 use crate::arena::{Arena, Token};
@@ -141,9 +139,7 @@ fn load_words<const OFFSET_BITS: u32, L: Layout>(
     at: u64,
     into: &mut [u64],
 )
-    requires desk { (buffers : List WriterBuffer) × (holds : List HoldEntry) × (last : ℕ) × (made : ℕ)
-        × IsDesk OFFSET_BITS arena.now.table.shared.table_id arena.now.sizes buffers holds last made seat.old.table_id
-        (bare seat.old.me) }
+    requires desk { HasDesk OFFSET_BITS arena.now.table.shared.table_id arena.now.sizes seat.old }
     requires there { first + length into.old ≤ length (writer_records (writer_of seat.old.me.0) entry) }
     requires at { at ≡ place OFFSET_BITS arena.now.sizes.buffers arena.now.sizes.words
         (length (writer_records (writer_of seat.old.me.0) entry)) entry first }

@@ -4,25 +4,26 @@ use Rattle.entry_ref.proofs.Apart.{place-below}
 use Rattle.gen_core.specs.declared.views.Sizes.{Sizes}
 use Rattle.arena_api.specs.Calls.{MayStore, with_stored}
 use Rattle.word_arena.specs.Ruled.{writer_of}
-use Rattle.word_arena.specs.Knows.{place_by, view_of}
-use Rattle.word_arena.proofs.Desks.{few-buffers}
-use Rattle.word_arena.proofs.writer.Writer.put_words.Goals as goal
+use Rattle.word_arena.specs.Knows.{place_by, known_by}
+use Rattle.word_arena.proofs.Desks.{few-buffers, has_desk, keeps_both}
+use Rattle.word_arena.proofs.work.put_words.Goals as goal
 
 pub overflow_add-first : goal.overflow_add-first
 overflow_add-first g c =
-    let s = c.args.self.now in
+    let s = c.args.seat.now in
+    let d = c.requires.desk.4 in
     let may = c.requires.may c.loop-i.i c.loop-i-test.true in
     let below = place-below may.word.entry c.loop-i.i may.word.inside in
     let at = c.requires.place in
-    let product = s.stands.product in
-    let few : (writer_of s.place.me.0).sizes.buffers ≤ 67108864 = subst (λ (z : Sizes). z.buffers ≤ 67108864) (sym s.stands.same_sizes) (few-buffers s.stands) in
+    let product = d.product in
+    let few : (writer_of s.me.0).sizes.buffers ≤ 67108864 = subst (λ (z : Sizes). z.buffers ≤ 67108864) (sym d.same_sizes) (few-buffers d) in
     omega (arith, at, below, product, few)
 
 pub put_in-requires : goal.put_in-requires
 put_in-requires g c =
     let B : ℕ = g.row.OFFSET_BITS in
-    let old = view_of c.args.self.now.place.table_id (writer_of c.args.self.now.place.me.0) in
-    let now = view_of c.loop-i.self.place.table_id (writer_of c.loop-i.self.place.me.0) in
+    let old = known_by c.args.seat.now in
+    let now = known_by c.loop-i.seat in
     let at = c.requires.place in
     let was = c.requires.may c.loop-i.i c.loop-i-test.true in
     let may : MayStore B (record old { stored = now.stored }) c.args.entry c.loop-i.i =
@@ -30,16 +31,17 @@ put_in-requires g c =
     let here : c.args.first + c.loop-i.i ≡ place_by B (record old { stored = now.stored }) c.args.entry c.loop-i.i = omega (arith, at) in
     let place : c.args.first + c.loop-i.i ≡ place_by B now c.args.entry c.loop-i.i =
     subst (λ v. c.args.first + c.loop-i.i ≡ place_by B v c.args.entry c.loop-i.i) (sym c.loop-i.invariant.knows) here in
-    (omega arith, (omega arith, (subst (λ v. MayStore B v c.args.entry c.loop-i.i) (sym c.loop-i.invariant.knows) may, place)))
+    (omega arith, (omega arith, (has_desk c.loop-i.invariant.desk c.requires.desk, (subst (λ v. MayStore B v c.args.entry c.loop-i.i) (sym c.loop-i.invariant.knows) may, place))))
 
 pub loop-i-preserved : goal.loop-i-preserved
 loop-i-preserved g c =
-    let now = view_of c.loop-i.self.place.table_id (writer_of c.loop-i.self.place.me.0) in
-    let old = view_of c.args.self.now.place.table_id (writer_of c.args.self.now.place.me.0) in
+    let now = known_by c.loop-i.seat in
+    let old = known_by c.args.seat.now in
     let word : ℕ = (slice_index c.args.words.now c.loop-i.i) in
     let e = c.put_in.ensures in
     let inv = c.loop-i.invariant in
     record {
+      desk = keeps_both inv.desk e.desk;
       knows =
           e.knows ∙ (λ k. record (inv.knows k) { stored = with_stored now.stored c.args.entry c.loop-i.i word }) ∙ (λ k. record old { stored = sym (ap (λ v. v.stored) e.knows) k });
       filled = λ j lt. ap (λ v. v.stored c.args.entry j) e.knows ∙ elim (cases_eq j c.loop-i.i) [

@@ -1,0 +1,16 @@
+use Rattle.std.proofs.Common.{◌≡◌, ◌≢◌, ℕ, ◌<◌, Some, slice_index}
+use Rattle.gen_core.specs.Work.{writer_records}
+use Rattle.word_arena.specs.Ruled.{writer_of}
+use Rattle.word_arena.specs.Knows.{known_by, KeepsDesk}
+use Rattle.word_arena.proofs.work.put_words.Given as goal
+
+abbrev pub invariant-loop-i : goal.invariant-loop-i
+invariant-loop-i g l = record {
+  desk : KeepsDesk g.row.OFFSET_BITS l.fn.arena.table.shared.table_id l.fn.arena.sizes l.fn.seat l.seat;
+  knows :
+      known_by l.seat
+      ≡ record (known_by l.fn.seat) { stored = (known_by l.seat).stored };
+  filled : (j : ℕ) → j < l.i → (known_by l.seat).stored l.entry j ≡ Some (slice_index l.words j);
+  others : (q : ℕ) → q ≢ l.entry → writer_records (writer_of l.seat.me.0) q ≡ writer_records (writer_of l.fn.seat.me.0) q;
+  shape : (writer_of l.seat.me.0).sizes.shape ≡ (writer_of l.fn.seat.me.0).sizes.shape;
+}
