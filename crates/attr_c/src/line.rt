@@ -4,9 +4,8 @@ ghost use Rattle.feed_reader.specs.Lines.{lines_of};
 ghost use Rattle.attr_c.specs.Feeding.{SaysLine};
 
 use crate::split::is_blank_line;
-use attr_io::SliceSource;
 use attr_types::{Fields, Op};
-use feed_reader::{FeedError, read_feed};
+use feed_reader::{FeedError, parse_feed};
 use std::alloc::Global;
 
 /// Returns the operation of a line, if it has one.
@@ -17,7 +16,7 @@ pub fn operation_in(alloc: Global, fields: &Fields, line: &[u8]) -> Result<Optio
     if is_blank_line(line) {
         return Ok(None);
     }
-    match read_feed(alloc, &mut SliceSource::new(line), fields) {
+    match parse_feed(alloc, line, fields) {
         Ok(ops) => Ok(ops.into_vec().pop()),
         Err(error) => Err(error),
     }

@@ -91,14 +91,14 @@ unfolding ops_in
 ops_in-long fields bytes many = rw (long bytes many) refl
 
 -- a feed that gives operations
-pub read-ops : (fields : List Field) (bytes : List ℕ) (new : Option (List ℕ)) (ops : List Op)
-    → feed_of fields bytes ≡ Ok ops → ReadsAll (Some bytes) new → ops_in fields bytes ≡ Ok ops
-read-ops fields bytes new ops says all = ops_in-short fields bytes (Ok ops) all.0 says
+pub read-ops : (fields : List Field) (bytes : List ℕ) (ops : List Op)
+    → feed_of fields bytes ≡ Ok ops → length bytes ≤ most_bytes → ops_in fields bytes ≡ Ok ops
+read-ops fields bytes ops says short = ops_in-short fields bytes (Ok ops) short says
 
-refused-line : (fields : List Field) (bytes : List ℕ) (new : Option (List ℕ)) (line : ℕ) (refusal : Refusal)
-    → feed_of fields bytes ≡ Err (line, refusal) → ReadsAll (Some bytes) new
+refused-line : (fields : List Field) (bytes : List ℕ) (line : ℕ) (refusal : Refusal)
+    → feed_of fields bytes ≡ Err (line, refusal) → length bytes ≤ most_bytes
     → OfBytes (Some bytes) (λ told. ops_in fields told ≡ Err (BadFeed (feed.Line line (refusal_number refusal))))
-refused-line fields bytes new line refusal says all = (bytes, refl, ops_in-short fields bytes (Err (line, refusal)) all.0 says)
+refused-line fields bytes line refusal says short = (bytes, refl, ops_in-short fields bytes (Err (line, refusal)) short says)
 
 -- a feed that is too long
 pub refused-long : (fields : List Field) (left : Option (List ℕ)) → HasMoreThan most_bytes left
@@ -107,27 +107,27 @@ refused-long fields left many =
     OfBytes-weaker left (λ bytes. most_bytes < length bytes) (λ bytes. ops_in fields bytes ≡ Err (BadFeed feed.TooLong)) (λ bytes more. ops_in-long fields bytes more) many
 
 -- a feed whose bytes are told, and which is refused
-pub feed-stopped : (fields : List Field) (bytes : List ℕ) (new : Option (List ℕ)) (before now : ℕ) (e : FeedError)
+pub feed-stopped : (fields : List Field) (bytes : List ℕ) (before now : ℕ) (e : FeedError)
     → FeedSays (Err e) (feed_of fields bytes)
-    → OnLines (Err e) (ReadsAll (Some bytes) new)
-    → (e ≡ errors.FeedTooLong → HasMoreThan most_bytes (Some bytes))
-    → (e ≡ errors.ReadFault → Rose before now)
+    → OnLines (Err e) (length bytes ≤ most_bytes)
+    → (e ≡ errors.FeedTooLong → most_bytes < length bytes)
+    → (e ≡ errors.ReadFault → ⊥)
     → IsFeedStop fields (Some bytes) before now (feed_stop e)
-feed-stopped fields bytes new before now (errors.NotJson line) says all many fault =
-    refused-line fields bytes new line refusals.NotJson says all
-feed-stopped fields bytes new before now (errors.NoOperation line) says all many fault =
-    refused-line fields bytes new line refusals.NoOperation says all
-feed-stopped fields bytes new before now (errors.BadId line) says all many fault =
-    refused-line fields bytes new line refusals.BadId says all
-feed-stopped fields bytes new before now (errors.BadValue line) says all many fault =
-    refused-line fields bytes new line refusals.BadValue says all
-feed-stopped fields bytes new before now (errors.Unsupported line) says all many fault =
-    refused-line fields bytes new line refusals.Unsupported says all
-feed-stopped fields bytes new before now (errors.TooManyItems line) says all many fault =
-    refused-line fields bytes new line refusals.TooManyItems says all
-feed-stopped fields bytes new before now errors.FeedTooLong says all many fault = refused-long fields (Some bytes) (many refl)
-feed-stopped fields bytes new before now errors.ReadFault says all many fault = fault refl
-feed-stopped fields bytes new before now errors.Memory says all many fault = tt
+feed-stopped fields bytes before now (errors.NotJson line) says short many fault =
+    refused-line fields bytes line refusals.NotJson says short
+feed-stopped fields bytes before now (errors.NoOperation line) says short many fault =
+    refused-line fields bytes line refusals.NoOperation says short
+feed-stopped fields bytes before now (errors.BadId line) says short many fault =
+    refused-line fields bytes line refusals.BadId says short
+feed-stopped fields bytes before now (errors.BadValue line) says short many fault =
+    refused-line fields bytes line refusals.BadValue says short
+feed-stopped fields bytes before now (errors.Unsupported line) says short many fault =
+    refused-line fields bytes line refusals.Unsupported says short
+feed-stopped fields bytes before now (errors.TooManyItems line) says short many fault =
+    refused-line fields bytes line refusals.TooManyItems says short
+feed-stopped fields bytes before now errors.FeedTooLong says short many fault = refused-long fields (Some bytes) (bytes, refl, many refl)
+feed-stopped fields bytes before now errors.ReadFault says short many fault = absurd (fault refl)
+feed-stopped fields bytes before now errors.Memory says short many fault = tt
 
 -- the same of a source that these bytes were read of; bytes in memory give no fault
 pub read-stopped : (fields : List Field) (left new : Option (List ℕ)) (bytes : List ℕ) (before now : ℕ) (stop : Stop) → Consumes left new bytes → IsAtEnd new

@@ -16,10 +16,10 @@ ghost use Rattle.attr_run.specs.declared.stop.Stop.TheVariants as stops;
 use crate::make_ops;
 use crate::outcome::{FeedFault, Status};
 use crate::stop::Stop;
-use attr_io::{ReadError, SliceSource, Source, read_all};
+use attr_io::{ReadError, Source, read_all};
 use attr_report::Request;
 use attr_types::{Fields, Ops};
-use feed_reader::read_feed;
+use feed_reader::parse_feed;
 use std::alloc::Global;
 
 /// The most bytes that a feed may have.
@@ -34,8 +34,7 @@ fn lines_in(alloc: Global, bytes: &[u8], fields: &Fields) -> Result<Ops, Stop>
     ensures unfed { IfErr result (IsFeedStop fields.now (Some bytes.now) 0 0) }
     ensures proper { IfErr result IsProperStop }
 {
-    let mut source = SliceSource::new(bytes);
-    let ops = read_feed(alloc, &mut source, fields)?;
+    let ops = parse_feed(alloc, bytes, fields)?;
     Ok(ops)
 }
 

@@ -1,4 +1,4 @@
-ghost use Rattle.std.specs.Prelude.{◌≡◌, ◌-◌, ◌^◌, ◌<◌, ◌≤◌, length, IfOk, IfSome, Err};
+ghost use Rattle.std.specs.Prelude.{◌≡◌, ◌≢◌, ◌-◌, ◌^◌, ◌<◌, ◌≤◌, length, IfOk, IfSome, Err};
 ghost use Rattle.std.specs.List.{AllByRecursion};
 ghost use Rattle.attr_types.specs.Lawful.{OpFits};
 ghost use Rattle.attr_io.specs.Bytes.{HasMoreThan, ReadsPieces, piece_bytes};
@@ -62,6 +62,25 @@ fn read_lines(alloc: Global, fields: &[Field], bytes: &[u8]) -> Result<Ops, Line
     Ok(ops)
 }
 
+/// Returns the operations in the bytes of a feed for some attributes: the fields with their names in each document.
+pub fn parse_feed(alloc: Global, bytes: &[u8], fields: &Fields) -> Result<Ops, FeedError>
+    ensures feed { FeedSays result (feed_of fields.now bytes.now) }
+    ensures fits { IfOk result (λ ops. AllByRecursion (OpFits fields.now) ops) }
+    ensures within { OnLines result (length bytes.now ≤ most_bytes) }
+    ensures few { IfOk result (λ ops. length ops ≤ most_bytes) }
+    ensures too_long { result ≡ Err FeedError.FeedTooLong → most_bytes < length bytes.now }
+    ensures no_fault { result ≢ Err FeedError.ReadFault }
+{
+    if bytes.len() > MOST_BYTES {
+        return Err(FeedError::FeedTooLong);
+    }
+    match read_lines(alloc, fields.as_slice(), bytes) {
+        Ok(ops) => Ok(ops),
+        Err(LinesError::Line { line, refusal }) => Err(at_line(line, refusal)),
+        Err(LinesError::Memory) => Err(FeedError::Memory),
+    }
+}
+
 /// Reads the operations of a feed for some attributes: the fields with their names in each document.
 ///
 /// The source is read to its end, to a fault, or until more than 16,777,216 bytes were read. Lines are interpreted
@@ -87,11 +106,7 @@ pub fn read_feed<S: Source>(
         (S.left source.old) (S.left source.new) (S.reads source.old) (S.reads source.new) }
 {
     match read_all(alloc, source, MOST_BYTES) {
-        Ok(bytes) => match read_lines(alloc, fields.as_slice(), &bytes) {
-            Ok(ops) => Ok(ops),
-            Err(LinesError::Line { line, refusal }) => Err(at_line(line, refusal)),
-            Err(LinesError::Memory) => Err(FeedError::Memory),
-        },
+        Ok(bytes) => parse_feed(alloc, &bytes, fields),
         Err(ReadError::TooLong) => Err(FeedError::FeedTooLong),
         Err(ReadError::Fault) => Err(FeedError::ReadFault),
         Err(ReadError::Memory) => Err(FeedError::Memory),

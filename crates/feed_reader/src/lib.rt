@@ -19,5 +19,5 @@ mod update;
 mod value;
 
 pub use error::FeedError;
-pub use feed::read_feed;
+pub use feed::{parse_feed, read_feed};
 pub use laws::{first_fault_law, rows_law};

@@ -1,5 +1,4 @@
-use Rattle.std.proofs.Common.{◌≡◌, ℕ, List, sym, ◌∙◌, subst, Ok}
-use Rattle.feed_reader.specs.Feed.{feed_of}
+use Rattle.std.proofs.Common.{sym, ◌∙◌}
 use Rattle.attr_c.proofs.FeedLemmas.{filled, says_one, says_popped}
 use Rattle.attr_c.proofs.line.operation_in.Goals as goal
 
@@ -8,6 +7,5 @@ returns-in-Ok c =
     let fields = c.args.fields.now in
     let line = c.args.line.now in
     let blank = sym c.is_blank_line.ensures ∙ c.if-is_blank_line.false in
-    let said = subst (λ (bytes : List ℕ). feed_of fields bytes ≡ Ok c.in-Ok.ops) c.new.ensures c.in-Ok.ensures.feed in
-    let one = says_one fields line c.in-Ok.ops (c.requires (filled line blank)) blank said c.in-Ok.ensures.fits in
+    let one = says_one fields line c.in-Ok.ops (c.requires (filled line blank)) blank c.in-Ok.ensures.feed c.in-Ok.ensures.fits in
     says_popped fields line c.in-Ok.ops c.into_vec.result.items c.into_vec.result.len c.pop.result one c.into_vec.ensures c.into_vec.result.ok.0 c.pop.ensures.value blank
