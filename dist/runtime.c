@@ -23,12 +23,11 @@ static const size_t huge = 2 << 20;
 /* A block of several huge pages, such as the words of an engine, begins at one and asks for them: so the first use of its memory stops once
    for 2 MiB and not for each 4 KiB. A system that has none ignores the advice. */
 static void *large_block(size_t size) {
-    void *block = aligned_alloc(huge, size);
-    if (block != NULL) {
-        int error = errno;
-        madvise(block, size, MADV_HUGEPAGE);
-        errno = error;
-    }
+    void *block;
+    if (posix_memalign(&block, huge, size) != 0) return NULL;
+    int error = errno;
+    madvise(block, size, MADV_HUGEPAGE);
+    errno = error;
     return block;
 }
 

@@ -9,8 +9,9 @@
 #include <sys/mman.h>
 
 static uint64_t *block_of(size_t size) {
-    uint64_t *block = aligned_alloc(2 << 20, size);
-    if (block) madvise(block, size, MADV_HUGEPAGE);
+    void *block;
+    if (posix_memalign(&block, 2 << 20, size)) return NULL;
+    madvise(block, size, MADV_HUGEPAGE);
     return block;
 }
 
