@@ -4,7 +4,7 @@ use Rattle.std.proofs.Math.ListN.{get_or-append, get_or-eq_default, replicate}
 use Rattle.std.proofs.Math.Seq.{get_or-append_right}
 use Rattle.std.proofs.lemmas.List.{length-replicate}
 use Rattle.std.proofs.lemmas.Bool.{cases_lt}
-use Rattle.list_facts.proofs.Places.{slice_index-zeros}
+use Rattle.list_lemmas.proofs.Places.{slice_index-zeros}
 use Rattle.arena_api.specs.Calls.{padded}
 
 abbrev zeros : ℕ → List ℕ

@@ -2,7 +2,7 @@
 use Rattle.std.proofs.Common.{◌≡◌, ℕ, cond, List, length, ap, subst, ◌∙◌, ne_eqb, Result, Ok, Err}
 use Rattle.std.proofs.Math.Nat.{pos_of_div-pos}
 use Rattle.std.specs.Prelude.{IfOk, OnErr}
-use Rattle.attr_images.specs.Words.{class_of}
+use Rattle.image_format.specs.Words.{class_of}
 use Rattle.entry_ref.specs.References.{buffer_limit}
 use Rattle.entry_ref.specs.Records.{Records}
 use Rattle.arena_api.specs.Calls.{padded}

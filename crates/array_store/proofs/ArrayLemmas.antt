@@ -2,7 +2,7 @@
 use Rattle.std.proofs.Common.{◌≡◌, ℕ, ◌+◌, ◌-◌, ◌<◌, ◌≤◌, List, ◌∷◌, length, drop, replicate, refl, sym, ap, subst, ◌∙◌, arith, length-take, length-drop, Result, Ok, Err}
 use Rattle.std.specs.Prelude.{slice_index, IfOk}
 use Rattle.std.proofs.lemmas.List.{take_at, get_or-take, get_or-drop}
-use Rattle.attr_images.specs.Words.{class_of, filled, stored_items, IsStoredList}
+use Rattle.image_format.specs.Words.{class_of, filled, stored_items, IsStoredList}
 use Rattle.entry_ref.specs.Records.{Records}
 use Rattle.store_api.specs.Ledgers.{Ledger}
 use Rattle.array_store.specs.Adding.{AddsRecord}

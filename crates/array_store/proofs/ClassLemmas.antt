@@ -4,7 +4,7 @@ use Rattle.std.proofs.lemmas.Bool.{le-leb}
 use Rattle.std.specs.List.{find, AllByRecursion}
 use Rattle.std.specs.Option.{unwrap_or}
 use Rattle.entry_ref.specs.Records.{Among}
-use Rattle.attr_images.specs.Words.{classes, class_of}
+use Rattle.image_format.specs.Words.{classes, class_of}
 use Rattle.store_api.specs.Ledgers.{is_width}
 
 abbrev found : ℕ → List ℕ → ℕ

@@ -1,6 +1,6 @@
 -- How a call that adds one record changes a store.
 use Rattle.std.specs.Prelude.{◌≡◌, ◌≢◌, ℕ, ◌<◌, false, List, [], ◌∷◌}
-use Rattle.attr_images.specs.Words.{filled}
+use Rattle.image_format.specs.Words.{filled}
 use Rattle.entry_ref.specs.References.{buffer_of}
 use Rattle.entry_ref.specs.Records.{Records}
 use Rattle.store_api.specs.Ledgers.{Ledger, capacity}

@@ -2,7 +2,7 @@
 use Rattle.std.specs.Prelude.{◌≡◌, ◌≢◌, ℕ, ◌<◌, ◌≤◌, true, List, ◌∷◌, length}
 use Rattle.entry_ref.specs.Records.{Among}
 use Rattle.tree_read.specs.declared.node_format.TheConstants.{NODE_WORDS}
-use Rattle.attr_images.specs.Words.{classes, class_of, filled, stored_items, IsStoredList}
+use Rattle.image_format.specs.Words.{classes, class_of, filled, stored_items, IsStoredList}
 use Rattle.store_api.specs.Ledgers.{is_width}
 use Rattle.array_store.specs.declared.TheConstants.{MOST_ITEMS, MOST_WORDS}
 

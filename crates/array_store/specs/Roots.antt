@@ -1,6 +1,6 @@
 -- A root record, made in place of the one before.
 use Rattle.std.specs.Prelude.{◌≡◌, ℕ, zero, suc, ◌<◌, false, List, [], ◌∷◌}
-use Rattle.attr_images.specs.Words.{filled}
+use Rattle.image_format.specs.Words.{filled}
 use Rattle.entry_ref.specs.References.{buffer_of}
 use Rattle.entry_ref.specs.Records.{Records}
 use Rattle.store_api.specs.Ledgers.{Ledger}

@@ -1,5 +1,5 @@
 ghost use Rattle.std.specs.Prelude.{◌≡◌, ◌≤◌, true};
-ghost use Rattle.attr_images.specs.Words.{class_of};
+ghost use Rattle.image_format.specs.Words.{class_of};
 ghost use Rattle.store_api.specs.Ledgers.{is_width};
 
 use crate::MOST_WORDS;

@@ -1,5 +1,5 @@
 ghost use Rattle.std.specs.Prelude.{◌≡◌, ◌≤◌, true, length, IfOk, IfErr, OnErr};
-ghost use Rattle.attr_images.specs.Words.{class_of};
+ghost use Rattle.image_format.specs.Words.{class_of};
 ghost use Rattle.store_api.specs.Calls.{Refuses};
 ghost use Rattle.store_api.specs.Units.{MayDo};
 ghost use Rattle.array_store.specs.Adding.{AddsRecord, AddsNothing, MakesOneOf};

@@ -1,7 +1,7 @@
 -- Operations were applied to attributes, one after another.
 use Rattle.std.proofs.Common.{◌≡◌, ◌+◌, List, [], ◌∷◌, ◌++◌, refl, subst}
-use Rattle.attr_steps.specs.Calls.{LeavesEntries}
-use Rattle.attr_steps.specs.Counts.{MakesOperation}
+use Rattle.attr_operations.specs.Calls.{LeavesEntries}
+use Rattle.attr_operations.specs.Counts.{MakesOperation}
 use Rattle.attr_types.specs.Table.{after_op}
 use Rattle.attr_types.specs.declared.applied.Applied.TheVariants.{Skipped}
 use Rattle.attr_types.specs.declared.op.Op.{Op}

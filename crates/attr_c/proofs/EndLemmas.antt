@@ -3,8 +3,8 @@ use Rattle.std.proofs.Common.{◌≡◌, ◌≢◌, ◌+◌, ◌++◌, ℕ, ℤ,
 use Rattle.std.specs.Prelude.{IsOk, IsErr, IfErr, OnOk, OnErr}
 use Rattle.attr_types.specs.declared.field.Field.{Field}
 use Rattle.attr_types.specs.declared.op.Op.{Op}
-use Rattle.attr_steps.specs.Calls.{LeavesEntries}
-use Rattle.attr_steps.specs.Counts.{MakesOperation}
+use Rattle.attr_operations.specs.Calls.{LeavesEntries}
+use Rattle.attr_operations.specs.Counts.{MakesOperation}
 use Rattle.attribute_kinds.specs.Calls.{KeepsStore, RefusesOperation}
 use Rattle.attribute_kinds.specs.Counts.{LacksBuffers, NamesWidth, SparesOf}
 use Rattle.attribute_kinds.specs.Views.{AttributeView}

@@ -4,10 +4,10 @@ use Rattle.std.specs.Prelude.{slice_get}
 use Rattle.std.proofs.lemmas.Option.{slice_get_read, slice_get_within}
 use Rattle.entry_ref.specs.Records.{Records}
 use Rattle.attr_field.specs.Documents.{IsDocuments}
-use Rattle.attr_images.specs.Images.{documents_at, IsLawfulImage}
-use Rattle.attr_images.specs.Shapes.{shape_of, types_of}
-use Rattle.attr_images.proofs.ImageLemmas.{field_is_there, roots_there}
-use Rattle.attr_images.proofs.RootLemmas.{root_has_words}
+use Rattle.image_format.specs.Images.{documents_at, IsLawfulImage}
+use Rattle.image_format.specs.Shapes.{shape_of, types_of}
+use Rattle.image_format.proofs.ImageLemmas.{field_is_there, roots_there}
+use Rattle.image_format.proofs.RootLemmas.{root_has_words}
 use Rattle.attr_rounds.proofs.ImageLemmas.{are_documents}
 use Rattle.attr_types.specs.declared.field.Field.{Field}
 use Rattle.attr_types.specs.declared.field.TheConstants.{MOST_FIELDS}

@@ -4,9 +4,9 @@ use Rattle.arena_api.specs.Works.{last_image}
 use Rattle.entry_ref.specs.Images.{words_at}
 use Rattle.store_api.specs.Ledgers.{Ledger}
 use Rattle.attr_compaction.specs.Places.{PlanView}
-use Rattle.attr_images.specs.Images.{operations_at, table_of}
-use Rattle.attr_images.specs.Shapes.{shape_of, types_of}
-use Rattle.attr_images.proofs.ImageLemmas.{table_empty}
+use Rattle.image_format.specs.Images.{operations_at, table_of}
+use Rattle.image_format.specs.Shapes.{shape_of, types_of}
+use Rattle.image_format.proofs.ImageLemmas.{table_empty}
 use Rattle.attribute_kinds.specs.Calls.{HasCommit}
 use Rattle.attr_types.specs.Table.{Table}
 use Rattle.attr_types.specs.declared.field.Field.{Field}

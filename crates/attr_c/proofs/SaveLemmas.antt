@@ -1,7 +1,7 @@
 -- A save by the first column of a table.
 use Rattle.std.proofs.Common.{◌≡◌, ℕ, List, [], ◌∷◌, map, refl, sym, ap, subst, ◌∙◌, Some}
 use Rattle.std.specs.Prelude.{slice_get}
-use Rattle.attr_index.specs.Columns.{Column, column_of}
+use Rattle.index_model.specs.Columns.{Column, column_of}
 use Rattle.attr_saver.specs.Laws.{FirstColumnIsLawful}
 use Rattle.attr_saver.specs.Lawful.{first_column, AreLawfulDocuments}
 use Rattle.attr_saver.specs.declared.saved.SavedDocument.{SavedDocument}

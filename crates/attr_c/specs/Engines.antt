@@ -4,7 +4,7 @@ use Rattle.std.specs.List.{AllByRecursion}
 use Rattle.atomic_table.specs.Seated.{TableId}
 use Rattle.arena_api.specs.Works.{is_free}
 use Rattle.attr_compaction.specs.Places.{PlanView}
-use Rattle.attr_images.specs.Tables.{AttributeTrees}
+use Rattle.image_format.specs.Tables.{AttributeTrees}
 use Rattle.attr_types.specs.Table.{Table}
 use Rattle.attr_types.specs.declared.field.Field.{Field}
 use Rattle.attr_types.specs.declared.field.TheConstants.{MOST_FIELDS}
@@ -147,9 +147,9 @@ pub record IsOpened (fields : List Field) (o : AnyOpen) : Type 0 where
 
 -- one to eight attributes, and nothing else
 pub record IsNewEngine (e : Engine) : Type 0 where
-  pub some : 0 < length (open_fields e.open)
-  pub few : length (open_fields e.open) ≤ MOST_FIELDS
-  pub is_new : IsNewOpen e.open
+  pub some : 0 < length (open_fields e.inner)
+  pub few : length (open_fields e.inner) ≤ MOST_FIELDS
+  pub is_new : IsNewOpen e.inner
 
 -- nothing counted, but the sizes
 pub record AreNewCounts (sizes : Sizes) (counts : Counts) : Type 0 where
@@ -182,31 +182,31 @@ usage_told told = record {
 }
 
 abbrev pub fields_of : Engine → List Field
-fields_of e = open_fields e.open
+fields_of e = open_fields e.inner
 
 abbrev pub dense_of : Engine → Bool
-dense_of e = open_dense e.open
+dense_of e = open_dense e.inner
 
 abbrev pub home_of : Engine → TableId
-home_of e = open_home e.open
+home_of e = open_home e.inner
 
 abbrev pub table_of : Engine → Table
-table_of e = open_table e.open
+table_of e = open_table e.inner
 
 abbrev pub operations_of : Engine → ℕ
-operations_of e = open_operations e.open
+operations_of e = open_operations e.inner
 
 abbrev pub committed_of : Engine → Table
-committed_of e = open_committed e.open
+committed_of e = open_committed e.inner
 
 abbrev pub root_of : Engine → ℕ
-root_of e = open_root e.open
+root_of e = open_root e.inner
 
 abbrev pub trees_of : Engine → List AttributeTrees
-trees_of e = open_trees e.open
+trees_of e = open_trees e.inner
 
 abbrev pub plan_of : Engine → Option PlanView
-plan_of e = open_plan e.open
+plan_of e = open_plan e.inner
 
 abbrev pub committed_operations_of : Engine → ℕ
-committed_operations_of e = open_committed_operations e.open
+committed_operations_of e = open_committed_operations e.inner

@@ -4,8 +4,8 @@ use Rattle.atomic_table.specs.Seated.{TableId}
 use Rattle.entry_ref.specs.Images.{words_at}
 use Rattle.gen_core.specs.declared.views.ReaderView.{ReaderView}
 use Rattle.word_arena.specs.Ruled.{seen_image, seen_number}
-use Rattle.attr_images.specs.Images.{table_of, operations_at, IsLawfulImage}
-use Rattle.attr_images.specs.Shapes.{shape_of, types_of}
+use Rattle.image_format.specs.Images.{table_of, operations_at, IsLawfulImage}
+use Rattle.image_format.specs.Shapes.{shape_of, types_of}
 use Rattle.attr_types.specs.Table.{Table}
 use Rattle.attr_types.specs.declared.field.Field.{Field}
 use Rattle.attr_types.specs.declared.field.TheConstants.{MOST_FIELDS}

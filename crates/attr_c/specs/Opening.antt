@@ -28,12 +28,12 @@ pub record Opens (text : List ℕ) (sizes : Sizes) (engine : Engine) : Type 0 wh
   pub is_new : IsNewEngine engine
   pub reads : fields_in text ≡ Ok (fields_of engine)
   pub in_bounds : InBounds sizes
-  pub memory : HasMemory sizes.buffers sizes.words MOST_COMMITS MOST_GENERATIONS (open_memory engine.open)
-  pub bits : open_bits engine.open ≡ bits_for sizes
-  pub counts : AreNewCounts sizes (open_counts engine.open)
-  pub readers : open_waiting engine.open ≡ sizes.readers
-  pub made : (open_ledger engine.open).work.made ≡ sizes.readers
-  pub own : HasOwnReaders engine.open
+  pub memory : HasMemory sizes.buffers sizes.words MOST_COMMITS MOST_GENERATIONS (open_memory engine.inner)
+  pub bits : open_bits engine.inner ≡ bits_for sizes
+  pub counts : AreNewCounts sizes (open_counts engine.inner)
+  pub readers : open_waiting engine.inner ≡ sizes.readers
+  pub made : (open_ledger engine.inner).work.made ≡ sizes.readers
+  pub own : HasOwnReaders engine.inner
   pub dense : dense_of engine ≡ not (nat_eq sizes.dense 0)
 
 -- the engine that was written for C

@@ -11,7 +11,7 @@ use Rattle.attr_c.specs.declared.stop.Stop.TheVariants as stops
 use Rattle.attr_c.specs.declared.told.Told.{Told}
 use Rattle.attr_types.specs.declared.field.Field.{Field}
 use Rattle.attr_types.specs.declared.op.Op.{Op}
-use Rattle.attr_steps.specs.Counts.{MakesOperation}
+use Rattle.attr_operations.specs.Counts.{MakesOperation}
 use Rattle.attribute_kinds.specs.Calls.{IsForRoot, RefusesCommit, RefusesOperation}
 use Rattle.attribute_kinds.specs.Counts.{LacksBuffers, NamesWidth, SparesOf}
 use Rattle.attribute_kinds.specs.Views.{AttributeView}

@@ -17,10 +17,10 @@ use crate::feeding::apply;
 use crate::state::Open;
 use crate::stop::Stop;
 use crate::told::Told;
-use attr_images::AttrLayout;
 use attr_io::SliceSource;
 use attr_saver::{LoadError, Saved, SavedDocument, read_saved};
 use attr_types::{Field, FieldItems, Fields, Op};
+use image_format::AttrLayout;
 use std::alloc::{AllocError, Global};
 use store_api::Store;
 
@@ -54,28 +54,28 @@ fn op_of(alloc: Global, document: SavedDocument) -> Result<Op, AllocError>
 /// Puts a document in.
 fn put_document<const OFFSET_BITS: u32, S: Store<OFFSET_BITS, Layout = AttrLayout>>(
     alloc: Global,
-    open: &mut Open<OFFSET_BITS, S>,
+    inner: &mut Open<OFFSET_BITS, S>,
     document: SavedDocument,
 ) -> Result<(), Stop>
-    requires { OpFits open.old.fields (put_of document) }
-    ensures table { OnOk result (open.new.attribute.table ≡ after_op open.old.fields open.old.attribute.table (put_of document)) }
-    ensures operations { OnOk result (open.new.attribute.operations ≡ open.old.attribute.operations + 1) }
-    ensures left { OnErr result (Stays open.old.attribute.table open.new.attribute.table
-        open.old.attribute.operations open.new.attribute.operations) }
+    requires { OpFits inner.old.fields (put_of document) }
+    ensures table { OnOk result (inner.new.attribute.table ≡ after_op inner.old.fields inner.old.attribute.table (put_of document)) }
+    ensures operations { OnOk result (inner.new.attribute.operations ≡ inner.old.attribute.operations + 1) }
+    ensures left { OnErr result (Stays inner.old.attribute.table inner.new.attribute.table
+        inner.old.attribute.operations inner.new.attribute.operations) }
     ensures why { IfErr result (StopsOperation S.ledger S.records (λ ops. ops ≡ []) (λ next. next ≡ put_of document)
-        open.old.attribute open.new.attribute) }
-    ensures done { OnOk result (Applies S.ledger (λ ops. ops ≡ put_of document ∷ []) open.old.attribute open.new.attribute) }
-    ensures pool { open.new.pool ≡ open.old.pool }
-    ensures counts { open.new.counts ≡ open.old.counts }
-    ensures commit { Stays open.old.attribute.committed open.new.attribute.committed
-        open.old.attribute.committed_operations open.new.attribute.committed_operations }
-    ensures fields { open.new.fields ≡ open.old.fields }
-    ensures keeps { KeepsStore (S.ledger open.old.attribute.store) (S.ledger open.new.attribute.store) }
-    ensures dense { open.new.attribute.dense ≡ open.old.attribute.dense }
-    ensures plan { open.new.attribute.plan ≡ open.old.attribute.plan }
+        inner.old.attribute inner.new.attribute) }
+    ensures done { OnOk result (Applies S.ledger (λ ops. ops ≡ put_of document ∷ []) inner.old.attribute inner.new.attribute) }
+    ensures pool { inner.new.pool ≡ inner.old.pool }
+    ensures counts { inner.new.counts ≡ inner.old.counts }
+    ensures commit { Stays inner.old.attribute.committed inner.new.attribute.committed
+        inner.old.attribute.committed_operations inner.new.attribute.committed_operations }
+    ensures fields { inner.new.fields ≡ inner.old.fields }
+    ensures keeps { KeepsStore (S.ledger inner.old.attribute.store) (S.ledger inner.new.attribute.store) }
+    ensures dense { inner.new.attribute.dense ≡ inner.old.attribute.dense }
+    ensures plan { inner.new.attribute.plan ≡ inner.old.attribute.plan }
 {
     match op_of(alloc, document) {
-        Ok(op) => match apply(alloc, open, &op) {
+        Ok(op) => match apply(alloc, inner, &op) {
             Ok(_) => Ok(()),
             Err(stop) => Err(stop),
         },
@@ -86,30 +86,30 @@ fn put_document<const OFFSET_BITS: u32, S: Store<OFFSET_BITS, Layout = AttrLayou
 /// Puts the documents of a save in, up to one that is refused.
 fn put_all<const OFFSET_BITS: u32, S: Store<OFFSET_BITS, Layout = AttrLayout>>(
     alloc: Global,
-    open: &mut Open<OFFSET_BITS, S>,
+    inner: &mut Open<OFFSET_BITS, S>,
     documents: Vec<SavedDocument>,
 ) -> Result<(), Stop>
-    requires { AllByRecursion (λ d. OpFits open.old.fields (put_of d)) documents.items }
-    ensures whole { OnOk result (PutsIn open.old.fields documents.items open.old.attribute.table open.new.attribute.table
-        open.old.attribute.operations open.new.attribute.operations) }
-    ensures front { OnErr result (PutsFront open.old.fields documents.items open.old.attribute.table open.new.attribute.table
-        open.old.attribute.operations open.new.attribute.operations) }
+    requires { AllByRecursion (λ d. OpFits inner.old.fields (put_of d)) documents.items }
+    ensures whole { OnOk result (PutsIn inner.old.fields documents.items inner.old.attribute.table inner.new.attribute.table
+        inner.old.attribute.operations inner.new.attribute.operations) }
+    ensures front { OnErr result (PutsFront inner.old.fields documents.items inner.old.attribute.table inner.new.attribute.table
+        inner.old.attribute.operations inner.new.attribute.operations) }
     ensures why { IfErr result (StopsOperation S.ledger S.records
         (ArePuts (λ front. front ≡ take (length front) documents.items))
-        (IsNextPut documents.items open.old.attribute.operations open.new.attribute.operations)
-        open.old.attribute open.new.attribute) }
-    ensures done { OnOk result (Applies S.ledger (λ ops. ops ≡ puts_of documents.items) open.old.attribute open.new.attribute) }
-    ensures pool { open.new.pool ≡ open.old.pool }
-    ensures counts { open.new.counts ≡ open.old.counts }
-    ensures commit { Stays open.old.attribute.committed open.new.attribute.committed
-        open.old.attribute.committed_operations open.new.attribute.committed_operations }
-    ensures fields { open.new.fields ≡ open.old.fields }
-    ensures dense { open.new.attribute.dense ≡ open.old.attribute.dense }
-    ensures plan { open.new.attribute.plan ≡ open.old.attribute.plan }
-    ensures keeps { KeepsStore (S.ledger open.old.attribute.store) (S.ledger open.new.attribute.store) }
+        (IsNextPut documents.items inner.old.attribute.operations inner.new.attribute.operations)
+        inner.old.attribute inner.new.attribute) }
+    ensures done { OnOk result (Applies S.ledger (λ ops. ops ≡ puts_of documents.items) inner.old.attribute inner.new.attribute) }
+    ensures pool { inner.new.pool ≡ inner.old.pool }
+    ensures counts { inner.new.counts ≡ inner.old.counts }
+    ensures commit { Stays inner.old.attribute.committed inner.new.attribute.committed
+        inner.old.attribute.committed_operations inner.new.attribute.committed_operations }
+    ensures fields { inner.new.fields ≡ inner.old.fields }
+    ensures dense { inner.new.attribute.dense ≡ inner.old.attribute.dense }
+    ensures plan { inner.new.attribute.plan ≡ inner.old.attribute.plan }
+    ensures keeps { KeepsStore (S.ledger inner.old.attribute.store) (S.ledger inner.new.attribute.store) }
 {
     for document in documents {
-        match put_document(alloc, open, document) {
+        match put_document(alloc, inner, document) {
             Ok(()) => (),
             Err(stop) => return Err(stop),
         }
@@ -140,38 +140,38 @@ fn saved_in(alloc: Global, bytes: &[u8], told: &mut Told) -> Result<Saved, Stop>
 /// Puts the documents of a save in. The save is of the one attribute that there is.
 pub fn load<const OFFSET_BITS: u32, S: Store<OFFSET_BITS, Layout = AttrLayout>>(
     alloc: Global,
-    open: &mut Open<OFFSET_BITS, S>,
+    inner: &mut Open<OFFSET_BITS, S>,
     bytes: &[u8],
     told: &mut Told,
 ) -> Result<(), Stop>
-    ensures whole { OnOk result (LoadsSave open.old.fields bytes.now open.old.attribute.table open.new.attribute.table
-        open.old.attribute.operations open.new.attribute.operations) }
-    ensures front { OnErr result (LoadsFront open.old.fields bytes.now open.old.attribute.table open.new.attribute.table
-        open.old.attribute.operations open.new.attribute.operations) }
-    ensures why { IfErr result (StopsLoad open.old.fields bytes.now told.new.place
-        (Applies S.ledger (ArePuts (AreFirstOf open.old.fields bytes.now)) open.old.attribute open.new.attribute)
-        (StopsOperation S.ledger S.records (ArePuts (AreFirstOf open.old.fields bytes.now))
-        (IsNextLoaded bytes.now open.old.attribute.operations open.new.attribute.operations)
-        open.old.attribute open.new.attribute)) }
-    ensures done { OnOk result (Applies S.ledger (ArePuts (AreAllOf bytes.now)) open.old.attribute open.new.attribute) }
-    ensures pool { open.new.pool ≡ open.old.pool }
-    ensures counts { open.new.counts ≡ open.old.counts }
+    ensures whole { OnOk result (LoadsSave inner.old.fields bytes.now inner.old.attribute.table inner.new.attribute.table
+        inner.old.attribute.operations inner.new.attribute.operations) }
+    ensures front { OnErr result (LoadsFront inner.old.fields bytes.now inner.old.attribute.table inner.new.attribute.table
+        inner.old.attribute.operations inner.new.attribute.operations) }
+    ensures why { IfErr result (StopsLoad inner.old.fields bytes.now told.new.place
+        (Applies S.ledger (ArePuts (AreFirstOf inner.old.fields bytes.now)) inner.old.attribute inner.new.attribute)
+        (StopsOperation S.ledger S.records (ArePuts (AreFirstOf inner.old.fields bytes.now))
+        (IsNextLoaded bytes.now inner.old.attribute.operations inner.new.attribute.operations)
+        inner.old.attribute inner.new.attribute)) }
+    ensures done { OnOk result (Applies S.ledger (ArePuts (AreAllOf bytes.now)) inner.old.attribute inner.new.attribute) }
+    ensures pool { inner.new.pool ≡ inner.old.pool }
+    ensures counts { inner.new.counts ≡ inner.old.counts }
     ensures tells { OnOk result (told.new ≡ told.old) }
     ensures tells_place { told.new ≡ with_place told.new told.old }
     ensures place { IfErr result (TellsPlaceOf told.old told.new) }
-    ensures commit { Stays open.old.attribute.committed open.new.attribute.committed
-        open.old.attribute.committed_operations open.new.attribute.committed_operations }
-    ensures fields { open.new.fields ≡ open.old.fields }
-    ensures dense { open.new.attribute.dense ≡ open.old.attribute.dense }
-    ensures plan { open.new.attribute.plan ≡ open.old.attribute.plan }
-    ensures keeps { KeepsStore (S.ledger open.old.attribute.store) (S.ledger open.new.attribute.store) }
+    ensures commit { Stays inner.old.attribute.committed inner.new.attribute.committed
+        inner.old.attribute.committed_operations inner.new.attribute.committed_operations }
+    ensures fields { inner.new.fields ≡ inner.old.fields }
+    ensures dense { inner.new.attribute.dense ≡ inner.old.attribute.dense }
+    ensures plan { inner.new.attribute.plan ≡ inner.old.attribute.plan }
+    ensures keeps { KeepsStore (S.ledger inner.old.attribute.store) (S.ledger inner.new.attribute.store) }
 {
     let saved = match saved_in(alloc, bytes, told) {
         Ok(saved) => saved,
         Err(stop) => return Err(stop),
     };
-    if !is_of_fields(&open.fields, &saved) {
+    if !is_of_fields(&inner.fields, &saved) {
         return Err(Stop::Other);
     }
-    put_all(alloc, open, saved.table.into_vec())
+    put_all(alloc, inner, saved.table.into_vec())
 }

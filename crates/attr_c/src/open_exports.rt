@@ -30,10 +30,10 @@ fn boxed<T: Drop>(alloc: Global, value: T) -> Result<Box<T>, i32>
 }
 
 fn engine_of(alloc: Global, opened: AnyOpen) -> Result<Box<Engine>, i32>
-    ensures made { IfOk result (λ engine. engine.value.open ≡ opened) }
+    ensures made { IfOk result (λ engine. engine.value.inner ≡ opened) }
     ensures memory { IfErr result (λ code. code ≡ MEMORY) }
 {
-    boxed(alloc, Engine { open: opened })
+    boxed(alloc, Engine { inner: opened })
 }
 
 /// An engine over a new memory, which has no document; or the code of a refusal.
@@ -50,12 +50,12 @@ fn new_engine(alloc: Global, text: &str, sizes: &Sizes, place: &mut u64) -> Resu
             return Err(error.code());
         }
     };
-    let open = match opened_in_bounds(alloc, fields, sizes) {
-        Ok(Some(open)) => may_cross(open),
+    let inner = match opened_in_bounds(alloc, fields, sizes) {
+        Ok(Some(inner)) => may_cross(inner),
         Ok(None) => return Err(BOUNDS),
         Err(_) => return Err(MEMORY),
     };
-    engine_of(alloc, open)
+    engine_of(alloc, inner)
 }
 
 /// Opens an engine of the attributes that a text names.
@@ -96,37 +96,37 @@ pub extern "C" fn attr_close(alloc: Global, at: HeldEngine) {
 }
 
 /// Whether each reader was given away.
-fn has_no_reader(open: &AnyOpen) -> bool
-    ensures yes { result ≡ true → HasNoReader open.now }
-    ensures no { result ≡ false → HasNoReader open.now → ⊥ }
+fn has_no_reader(inner: &AnyOpen) -> bool
+    ensures yes { result ≡ true → HasNoReader inner.now }
+    ensures no { result ≡ false → HasNoReader inner.now → ⊥ }
 {
-    match open {
-        AnyOpen::Narrow(open) => open.pool.is_empty(),
-        AnyOpen::Wide(open) => open.pool.is_empty(),
+    match inner {
+        AnyOpen::Narrow(inner) => inner.pool.is_empty(),
+        AnyOpen::Wide(inner) => inner.pool.is_empty(),
     }
 }
 
 /// A reader that was not given away yet.
-fn next_reader(open: &mut AnyOpen) -> Option<AnyReader>
-    ensures taken { IfSome result (TakesReader open.old open.new) }
-    ensures none { IfNone result (HasNoReader open.old) }
-    ensures left { IfNone result (open.new ≡ open.old) }
-    ensures keeps { KeepsTables open.old open.new }
-    ensures same { KeepsAttributes open.old open.new }
-    ensures counts { open_counts open.new ≡ open_counts open.old }
+fn next_reader(inner: &mut AnyOpen) -> Option<AnyReader>
+    ensures taken { IfSome result (TakesReader inner.old inner.new) }
+    ensures none { IfNone result (HasNoReader inner.old) }
+    ensures left { IfNone result (inner.new ≡ inner.old) }
+    ensures keeps { KeepsTables inner.old inner.new }
+    ensures same { KeepsAttributes inner.old inner.new }
+    ensures counts { open_counts inner.new ≡ open_counts inner.old }
 {
-    match open {
-        AnyOpen::Narrow(open) => {
-            if open.pool.is_empty() {
+    match inner {
+        AnyOpen::Narrow(inner) => {
+            if inner.pool.is_empty() {
                 return None;
             }
-            Some(AnyReader::Narrow(open.pool.take_last()))
+            Some(AnyReader::Narrow(inner.pool.take_last()))
         }
-        AnyOpen::Wide(open) => {
-            if open.pool.is_empty() {
+        AnyOpen::Wide(inner) => {
+            if inner.pool.is_empty() {
                 return None;
             }
-            Some(AnyReader::Wide(open.pool.take_last()))
+            Some(AnyReader::Wide(inner.pool.take_last()))
         }
     }
 }
@@ -157,20 +157,20 @@ fn put_last<const OFFSET_BITS: u32>(
 }
 
 /// Puts a reader back to those that are to be given away.
-fn put_back(open: &mut AnyOpen, reader: AnyReader) -> i32
-    ensures returned { result ≡ OK → TakesReader open.new open.old reader }
-    ensures lost { result ≡ LOST → IsForeign open.old (Place.Free reader) }
-    ensures own { result ≢ LOST → place_bits (Place.Free reader) ≡ open_bits open.old }
+fn put_back(inner: &mut AnyOpen, reader: AnyReader) -> i32
+    ensures returned { result ≡ OK → TakesReader inner.new inner.old reader }
+    ensures lost { result ≡ LOST → IsForeign inner.old (Place.Free reader) }
+    ensures own { result ≢ LOST → place_bits (Place.Free reader) ≡ open_bits inner.old }
     ensures others { result ≢ OK → result ≢ LOST → result ≡ MEMORY }
-    ensures left { result ≢ OK → KeepsWaiting open.old open.new }
-    ensures keeps { KeepsTables open.old open.new }
-    ensures same { KeepsAttributes open.old open.new }
-    ensures counts { open_counts open.new ≡ open_counts open.old }
+    ensures left { result ≢ OK → KeepsWaiting inner.old inner.new }
+    ensures keeps { KeepsTables inner.old inner.new }
+    ensures same { KeepsAttributes inner.old inner.new }
+    ensures counts { open_counts inner.new ≡ open_counts inner.old }
 {
-    match (open, reader) {
-        (AnyOpen::Narrow(open), AnyReader::Narrow(waiting)) => put_last(&mut open.pool, waiting),
+    match (inner, reader) {
+        (AnyOpen::Narrow(inner), AnyReader::Narrow(waiting)) => put_last(&mut inner.pool, waiting),
         (AnyOpen::Narrow(_), AnyReader::Wide(waiting)) => lost(waiting),
-        (AnyOpen::Wide(open), AnyReader::Wide(waiting)) => put_last(&mut open.pool, waiting),
+        (AnyOpen::Wide(inner), AnyReader::Wide(waiting)) => put_last(&mut inner.pool, waiting),
         (AnyOpen::Wide(_), AnyReader::Narrow(waiting)) => lost(waiting),
     }
 }
@@ -178,24 +178,24 @@ fn put_back(open: &mut AnyOpen, reader: AnyReader) -> i32
 /// Hands out a reader.
 #[unsafe(no_mangle)]
 pub extern "C" fn attr_reader_open(alloc: Global, at: &mut HeldEngine, out: &mut OpenedSeat) -> i32
-    ensures opened { result ≡ OK → OpensSeat at.old.value.open at.new.value.open out.new.value }
+    ensures opened { result ≡ OK → OpensSeat at.old.value.inner at.new.value.inner out.new.value }
     ensures left { result ≢ OK → out.new ≡ out.old }
-    ensures none { result ≡ NO_READER → HasNoReader at.old.value.open }
-    ensures some { result ≢ NO_READER → HasNoReader at.old.value.open → ⊥ }
+    ensures none { result ≡ NO_READER → HasNoReader at.old.value.inner }
+    ensures some { result ≢ NO_READER → HasNoReader at.old.value.inner → ⊥ }
     ensures others { result ≢ OK → result ≢ NO_READER → result ≡ MEMORY }
     ensures kept { result ≢ OK → at.new.value ≡ at.old.value }
-    ensures keeps { KeepsTables at.old.value.open at.new.value.open }
-    ensures same { KeepsAttributes at.old.value.open at.new.value.open }
-    ensures counts { open_counts at.new.value.open ≡ open_counts at.old.value.open }
+    ensures keeps { KeepsTables at.old.value.inner at.new.value.inner }
+    ensures same { KeepsAttributes at.old.value.inner at.new.value.inner }
+    ensures counts { open_counts at.new.value.inner ≡ open_counts at.old.value.inner }
 {
     let engine = at.get_mut();
-    if has_no_reader(&engine.open) {
+    if has_no_reader(&engine.inner) {
         return NO_READER;
     }
     let Ok(mut seat) = Box::new(alloc, may_cross(Seat::new(alloc))) else {
         return MEMORY;
     };
-    let Some(reader) = next_reader(&mut engine.open) else {
+    let Some(reader) = next_reader(&mut engine.inner) else {
         return NO_READER;
     };
     seat.place = Some(Place::Free(reader));
@@ -218,19 +218,19 @@ fn reader_in(alloc: Global, at: HeldSeat) -> Option<AnyReader>
 /// Takes a reader back, to be handed out again.
 #[unsafe(no_mangle)]
 pub extern "C" fn attr_reader_return(alloc: Global, at: &mut HeldEngine, seat: HeldSeat) -> i32
-    ensures returned { result ≡ OK → TakesBack at.old.value.open at.new.value.open seat.value.place }
-    ensures lost { result ≡ LOST → IfSome seat.value.place (IsForeign at.old.value.open) }
-    ensures own { result ≢ LOST → IsOwn at.old.value.open seat.value.place }
+    ensures returned { result ≡ OK → TakesBack at.old.value.inner at.new.value.inner seat.value.place }
+    ensures lost { result ≡ LOST → IfSome seat.value.place (IsForeign at.old.value.inner) }
+    ensures own { result ≢ LOST → IsOwn at.old.value.inner seat.value.place }
     ensures others { result ≢ OK → result ≢ LOST → result ≡ MEMORY }
-    ensures left { result ≢ OK → KeepsWaiting at.old.value.open at.new.value.open }
-    ensures keeps { KeepsTables at.old.value.open at.new.value.open }
-    ensures same { KeepsAttributes at.old.value.open at.new.value.open }
-    ensures counts { open_counts at.new.value.open ≡ open_counts at.old.value.open }
+    ensures left { result ≢ OK → KeepsWaiting at.old.value.inner at.new.value.inner }
+    ensures keeps { KeepsTables at.old.value.inner at.new.value.inner }
+    ensures same { KeepsAttributes at.old.value.inner at.new.value.inner }
+    ensures counts { open_counts at.new.value.inner ≡ open_counts at.old.value.inner }
 {
     let reader = reader_in(alloc, seat);
     let engine = at.get_mut();
     match reader {
-        Some(reader) => put_back(&mut engine.open, reader),
+        Some(reader) => put_back(&mut engine.inner, reader),
         None => LOST,
     }
 }

@@ -2,7 +2,7 @@
 ghost use Rattle.std.specs.Prelude.{◌≡◌, ◌≤◌, ◌<◌, ◌+◌, ◌*◌, ◌^◌, true, false, length, nat_eq, not};
 ghost use Rattle.std.specs.Prelude.{IfOk, IfNone, IfSome};
 ghost use Rattle.std.specs.List.{AllByRecursion};
-ghost use Rattle.attr_images.specs.Shapes.{shape_of, types_of};
+ghost use Rattle.image_format.specs.Shapes.{shape_of, types_of};
 ghost use Rattle.attr_types.specs.declared.field.TheConstants.{MOST_FIELDS};
 ghost use Rattle.arena_api.specs.Calls.{IsFresh};
 ghost use Rattle.word_arena.specs.Knows.{core_sizes, view_of};
@@ -15,10 +15,10 @@ ghost use Rattle.word_arena.specs.declared.config.TheConstants.{MOST_COMMITS, MO
 
 use crate::state::{AnyOpen, Counts, Open, Waiting};
 use crate::told::Sizes;
-use attr_images::{AttrLayout, shape_of};
 use attr_types::Fields;
 use attribute_kinds::Attribute;
 use entry_store::EntryStore;
+use image_format::{AttrLayout, shape_of};
 use std::alloc::{AllocError, Global};
 use store_api::Store;
 use word_arena::{Arena, Config, Limits, MOST_COMMITS, MOST_GENERATIONS, Writer};
@@ -282,7 +282,7 @@ fn narrow_open(
 {
     match narrow_writer(alloc, config) {
         Ok(writer) => match opened_over(alloc, writer, fields, sizes) {
-            Ok(open) => Ok(AnyOpen::Narrow(open)),
+            Ok(inner) => Ok(AnyOpen::Narrow(inner)),
             Err(error) => Err(error),
         },
         Err(error) => Err(error),
@@ -318,7 +318,7 @@ fn wide_open(
 {
     match wide_writer(alloc, config) {
         Ok(writer) => match opened_over(alloc, writer, fields, sizes) {
-            Ok(open) => Ok(AnyOpen::Wide(open)),
+            Ok(inner) => Ok(AnyOpen::Wide(inner)),
             Err(error) => Err(error),
         },
         Err(error) => Err(error),
@@ -394,7 +394,7 @@ pub fn opened_in_bounds(
         return Ok(None);
     }
     match opened_within(alloc, fields, sizes) {
-        Ok(open) => Ok(Some(open)),
+        Ok(inner) => Ok(Some(inner)),
         Err(error) => Err(error),
     }
 }

@@ -1,7 +1,7 @@
 //! The answers of an image.
 ghost use Rattle.std.specs.Prelude.{◌≡◌, ◌<◌, ◌≤◌, ◌^◌, Some, length, slice_get, slice_index, IfOk};
-ghost use Rattle.attr_images.specs.Images.{operations_at, root_words, table_of, IsLawfulImage};
-ghost use Rattle.attr_images.specs.Shapes.{shape_of, types_of};
+ghost use Rattle.image_format.specs.Images.{operations_at, root_words, table_of, IsLawfulImage};
+ghost use Rattle.image_format.specs.Shapes.{shape_of, types_of};
 ghost use Rattle.attr_saver.specs.Bytes.{saved_bytes};
 ghost use Rattle.attr_saver.specs.Lawful.{save_of};
 ghost use Rattle.attr_types.specs.Scores.{ask_tree, answer_on};
@@ -11,11 +11,11 @@ ghost use Rattle.attr_c.specs.Said.{said, items_of, save_of_table};
 use crate::answer::Answer;
 use arena_api::Frozen;
 use attr_field::document_items;
-use attr_images::image_law;
 use attr_rounds::first_documents;
 use attr_saver::{column_law, saved_in};
 use attr_types::{Ask, Doc, Field, Fields, Items};
 use entry_ref::EntryRef;
+use image_format::image_law;
 use query_eval::{hits, scores};
 use std::alloc::{AllocError, Global};
 

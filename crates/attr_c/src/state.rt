@@ -1,14 +1,14 @@
 //! What the handles hold.
 ghost use Rattle.std.specs.Prelude.{◌≡◌, ◌≤◌, length};
-ghost use Rattle.attr_images.specs.Shapes.{shape_of, types_of};
+ghost use Rattle.image_format.specs.Shapes.{shape_of, types_of};
 ghost use Rattle.attr_types.specs.declared.field.TheConstants.{MOST_FIELDS};
 ghost use Rattle.word_arena.specs.Ruled.{reader_of};
 
 use crate::told::Sizes;
-use attr_images::AttrLayout;
 use attr_types::Fields;
 use attribute_kinds::Attribute;
 use entry_store::EntryStore;
+use image_format::AttrLayout;
 use store_api::Store;
 use word_arena::{Reader, Writer};
 
@@ -67,5 +67,5 @@ pub enum AnyReader {
 /// What the writer's handle holds.
 #[derive(Drop)]
 pub struct Engine {
-    pub open: AnyOpen,
+    pub inner: AnyOpen,
 }

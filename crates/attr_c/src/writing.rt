@@ -1,9 +1,9 @@
 //! Commits, and steps of a compaction.
 ghost use Rattle.std.specs.Prelude.{◌≡◌, ◌+◌, ◌*◌, length, IfErr, OnOk, OnErr, IsOk, Err};
 ghost use Rattle.array_store.specs.Adding.{MakesOneOf};
-ghost use Rattle.attr_images.specs.Words.{class_of};
+ghost use Rattle.image_format.specs.Words.{class_of};
 ghost use Rattle.attribute_kinds.specs.Counts.{HasNoVectors};
-ghost use Rattle.compact_steps.specs.Counts.{MakesKeys};
+ghost use Rattle.compaction_steps.specs.Counts.{MakesKeys};
 ghost use Rattle.attr_c.specs.Holds.{CommitsAs};
 ghost use Rattle.attr_c.specs.Applying.{LeavesAttributes};
 ghost use Rattle.attr_c.specs.Compacting.{StepsAs, StopsStep, TellsStep};
@@ -16,49 +16,49 @@ ghost use Rattle.attribute_kinds.specs.declared.answers.Compacted.TheVariants.{I
 use crate::state::Open;
 use crate::stop::{Stop, note_advance, note_oldest};
 use crate::told::Told;
-use attr_images::AttrLayout;
 use attribute_kinds::{AttrError, Compacted};
+use image_format::AttrLayout;
 use std::alloc::Global;
 use store_api::Store;
 
 /// Commits what was applied.
 pub fn commit<const OFFSET_BITS: u32, S: Store<OFFSET_BITS, Layout = AttrLayout>>(
-    open: &mut Open<OFFSET_BITS, S>,
+    inner: &mut Open<OFFSET_BITS, S>,
     told: &mut Told,
 ) -> Result<(), Stop>
-    ensures committed { OnOk result (open.new.attribute.committed ≡ open.old.attribute.table) }
-    ensures published { OnOk result (open.new.attribute.committed_operations ≡ open.old.attribute.operations) }
-    ensures counts { OnOk result (told.new.operations ≡ open.old.attribute.operations) }
-    ensures commits { OnOk result (CommitsAs OFFSET_BITS (S.ledger open.old.attribute.store) (S.ledger open.new.attribute.store)
-        open.old.counts open.new.counts told.new) }
+    ensures committed { OnOk result (inner.new.attribute.committed ≡ inner.old.attribute.table) }
+    ensures published { OnOk result (inner.new.attribute.committed_operations ≡ inner.old.attribute.operations) }
+    ensures counts { OnOk result (told.new.operations ≡ inner.old.attribute.operations) }
+    ensures commits { OnOk result (CommitsAs OFFSET_BITS (S.ledger inner.old.attribute.store) (S.ledger inner.new.attribute.store)
+        inner.old.counts inner.new.counts told.new) }
     ensures tells { OnOk result (told.new ≡ with_committed told.new told.old) }
     ensures tells_none { OnErr result (told.new ≡ told.old) }
-    ensures why { IfErr result (StopsCommit open.old.fields (S.ledger open.old.attribute.store) (S.ledger open.new.attribute.store)) }
-    ensures still { OnErr result (open.new.counts ≡ open.old.counts) }
-    ensures pool { open.new.pool ≡ open.old.pool }
-    ensures left { OnErr result (LeavesAttributes S.ledger S.records open.old.attribute open.new.attribute) }
-    ensures spent { (S.ledger open.old.attribute.store).work.commits.last ≡ (S.ledger open.old.attribute.store).work.sizes.commits
-        → result ≡ Err (Stop.Store (AttrError.CommitsSpent (S.ledger open.old.attribute.store).work.commits.last)) }
-    ensures trees { open.new.attribute.trees ≡ open.old.attribute.trees }
-    ensures plan { open.new.attribute.plan ≡ open.old.attribute.plan }
-    ensures table { open.new.attribute.table ≡ open.old.attribute.table }
-    ensures operations { open.new.attribute.operations ≡ open.old.attribute.operations }
-    ensures fields { open.new.fields ≡ open.old.fields }
-    ensures dense { open.new.attribute.dense ≡ open.old.attribute.dense }
-    ensures home { (S.ledger open.new.attribute.store).work.home ≡ (S.ledger open.old.attribute.store).work.home }
-    ensures makes { MakesOneOf (class_of (1 + 2 * length open.old.fields)) (S.ledger open.old.attribute.store)
-        (S.ledger open.new.attribute.store) }
+    ensures why { IfErr result (StopsCommit inner.old.fields (S.ledger inner.old.attribute.store) (S.ledger inner.new.attribute.store)) }
+    ensures still { OnErr result (inner.new.counts ≡ inner.old.counts) }
+    ensures pool { inner.new.pool ≡ inner.old.pool }
+    ensures left { OnErr result (LeavesAttributes S.ledger S.records inner.old.attribute inner.new.attribute) }
+    ensures spent { (S.ledger inner.old.attribute.store).work.commits.last ≡ (S.ledger inner.old.attribute.store).work.sizes.commits
+        → result ≡ Err (Stop.Store (AttrError.CommitsSpent (S.ledger inner.old.attribute.store).work.commits.last)) }
+    ensures trees { inner.new.attribute.trees ≡ inner.old.attribute.trees }
+    ensures plan { inner.new.attribute.plan ≡ inner.old.attribute.plan }
+    ensures table { inner.new.attribute.table ≡ inner.old.attribute.table }
+    ensures operations { inner.new.attribute.operations ≡ inner.old.attribute.operations }
+    ensures fields { inner.new.fields ≡ inner.old.fields }
+    ensures dense { inner.new.attribute.dense ≡ inner.old.attribute.dense }
+    ensures home { (S.ledger inner.new.attribute.store).work.home ≡ (S.ledger inner.old.attribute.store).work.home }
+    ensures makes { MakesOneOf (class_of (1 + 2 * length inner.old.fields)) (S.ledger inner.old.attribute.store)
+        (S.ledger inner.new.attribute.store) }
 {
-    match open.attribute.commit() {
+    match inner.attribute.commit() {
         Ok(info) => {
-            note_advance(&mut open.counts, info.advance, info.commit);
-            note_oldest(&mut open.counts, info.oldest);
-            open.counts.commit = info.commit;
-            open.counts.committed = info.operations;
+            note_advance(&mut inner.counts, info.advance, info.commit);
+            note_oldest(&mut inner.counts, info.oldest);
+            inner.counts.commit = info.commit;
+            inner.counts.committed = info.operations;
             told.commit = info.commit;
             told.operations = info.operations;
-            told.oldest = open.counts.oldest;
-            told.is_held = open.counts.is_held;
+            told.oldest = inner.counts.oldest;
+            told.is_held = inner.counts.is_held;
             Ok(())
         }
         Err(error) => Err(Stop::Store(error)),
@@ -68,36 +68,36 @@ pub fn commit<const OFFSET_BITS: u32, S: Store<OFFSET_BITS, Layout = AttrLayout>
 /// Visits a number of compaction keys.
 pub fn compact<const OFFSET_BITS: u32, S: Store<OFFSET_BITS, Layout = AttrLayout>>(
     alloc: Global,
-    open: &mut Open<OFFSET_BITS, S>,
+    inner: &mut Open<OFFSET_BITS, S>,
     keys: u32,
     told: &mut Told,
 ) -> Result<(), Stop>
-    ensures steps { OnOk result (StepsAs (CompactsTo OFFSET_BITS S.ledger S.records open.old.attribute open.new.attribute keys)
+    ensures steps { OnOk result (StepsAs (CompactsTo OFFSET_BITS S.ledger S.records inner.old.attribute inner.new.attribute keys)
         told.new) }
-    ensures why { IfErr result (StopsStep (CompactsTo OFFSET_BITS S.ledger S.records open.old.attribute open.new.attribute keys)
-        (RefusesStep OFFSET_BITS S.ledger S.records open.old.attribute open.new.attribute) told.new.keys) }
-    ensures idle { IsIdle OFFSET_BITS (S.ledger open.old.attribute.store) open.old.attribute.plan
-        → IsOk result × (open.new.attribute ≡ open.old.attribute) × TellsStep Idle told.new }
+    ensures why { IfErr result (StopsStep (CompactsTo OFFSET_BITS S.ledger S.records inner.old.attribute inner.new.attribute keys)
+        (RefusesStep OFFSET_BITS S.ledger S.records inner.old.attribute inner.new.attribute) told.new.keys) }
+    ensures idle { IsIdle OFFSET_BITS (S.ledger inner.old.attribute.store) inner.old.attribute.plan
+        → IsOk result × (inner.new.attribute ≡ inner.old.attribute) × TellsStep Idle told.new }
     ensures tells { OnOk result (told.new ≡ with_step told.new told.old) }
     ensures tells_keys { OnErr result (told.new ≡ with_keys told.new told.old) }
-    ensures pool { open.new.pool ≡ open.old.pool }
-    ensures counts { open.new.counts ≡ open.old.counts }
-    ensures table { open.new.attribute.table ≡ open.old.attribute.table }
-    ensures operations { open.new.attribute.operations ≡ open.old.attribute.operations }
-    ensures root { open.new.attribute.root ≡ open.old.attribute.root }
-    ensures committed { open.new.attribute.committed ≡ open.old.attribute.committed }
-    ensures published { open.new.attribute.committed_operations ≡ open.old.attribute.committed_operations }
-    ensures fields { open.new.fields ≡ open.old.fields }
-    ensures dense { open.new.attribute.dense ≡ open.old.attribute.dense }
-    ensures home { (S.ledger open.new.attribute.store).work.home ≡ (S.ledger open.old.attribute.store).work.home }
-    ensures keeps { KeepsStoreBut (S.ledger open.old.attribute.store) (S.ledger open.new.attribute.store) }
-    ensures makes { MakesKeys (HasNoVectors open.old.attribute.dense open.old.attribute.table) open.old.fields
-        open.old.attribute.table (S.ledger open.old.attribute.store) (S.ledger open.new.attribute.store) keys }
+    ensures pool { inner.new.pool ≡ inner.old.pool }
+    ensures counts { inner.new.counts ≡ inner.old.counts }
+    ensures table { inner.new.attribute.table ≡ inner.old.attribute.table }
+    ensures operations { inner.new.attribute.operations ≡ inner.old.attribute.operations }
+    ensures root { inner.new.attribute.root ≡ inner.old.attribute.root }
+    ensures committed { inner.new.attribute.committed ≡ inner.old.attribute.committed }
+    ensures published { inner.new.attribute.committed_operations ≡ inner.old.attribute.committed_operations }
+    ensures fields { inner.new.fields ≡ inner.old.fields }
+    ensures dense { inner.new.attribute.dense ≡ inner.old.attribute.dense }
+    ensures home { (S.ledger inner.new.attribute.store).work.home ≡ (S.ledger inner.old.attribute.store).work.home }
+    ensures keeps { KeepsStoreBut (S.ledger inner.old.attribute.store) (S.ledger inner.new.attribute.store) }
+    ensures makes { MakesKeys (HasNoVectors inner.old.attribute.dense inner.old.attribute.table) inner.old.fields
+        inner.old.attribute.table (S.ledger inner.old.attribute.store) (S.ledger inner.new.attribute.store) keys }
 {
     told.keys = 0;
     told.finished = 0;
     told.buffer = 0;
-    match open.attribute.compact_step(alloc, keys) {
+    match inner.attribute.compact_step(alloc, keys) {
         Ok(Compacted::Idle) => Ok(()),
         Ok(Compacted::Moved { keys, stop: None }) => {
             told.keys = keys;

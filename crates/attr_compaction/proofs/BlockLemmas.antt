@@ -12,7 +12,7 @@ use Rattle.std.specs.declared.cmp.Ordering.TheVariants.{Equal, Greater}
 use Rattle.entry_ref.specs.Records.{Records}
 use Rattle.tree_read.specs.Pairs.{choose, seek}
 use Rattle.tree_read.specs.Trees.{tree_pairs}
-use Rattle.attr_images.specs.Postings.{vector, list_form, block_documents, IsBlock, IsPostingList}
+use Rattle.image_format.specs.Postings.{vector, list_form, block_documents, IsBlock, IsPostingList}
 use Rattle.posting_store.specs.Lists.{IsList}
 use Rattle.posting_store.specs.Moves.{form_docs}
 use Rattle.posting_store.proofs.FormLemmas.{form_vector}

@@ -7,7 +7,7 @@ use Rattle.std.specs.List.{count_by, AllByRecursion, AllZip}
 use Rattle.std.specs.List.Sorted.{IsStrictlySortedBy}
 use Rattle.std.specs.Ordering.{is_gt}
 use Rattle.std.proofs.lemmas.Option.{slice_get_within}
-use Rattle.list_facts.proofs.Options.{same_Some}
+use Rattle.list_lemmas.proofs.Options.{same_Some}
 use Rattle.entry_ref.specs.Records.{Records}
 use Rattle.attr_compaction.proofs.PlaceLemmas.{key_total, place_total}
 use Rattle.attr_compaction.specs.Places.{key_cmp, place_after, place_cmp, PlanPlace}
@@ -15,7 +15,7 @@ use Rattle.attr_compaction.specs.declared.plan.PlanKey.{PlanKey}
 use Rattle.attr_compaction.specs.declared.plan.PlanKey.TheVariants.{Start}
 use Rattle.attr_compaction.specs.declared.plan.Stage.{Stage}
 use Rattle.attr_compaction.specs.declared.plan.TheConstants.{DOCUMENTS, KEYS, LISTS, NODES, PHASES}
-use Rattle.attr_images.specs.Tables.{AttributeTrees}
+use Rattle.image_format.specs.Tables.{AttributeTrees}
 use Rattle.attr_compaction.specs.PhaseKeys.{key_past}
 use Rattle.attr_compaction.specs.Counts.{is_between, keys_of_phase, place_at, places_from, places_in}
 use Rattle.attr_compaction.specs.CountsLaws.{EndIsNoMore, NextIsOneMore, NoneAreBetween, SameAreBetween}

@@ -13,9 +13,9 @@ use Rattle.entry_ref.specs.Records.{Records}
 use Rattle.tree_read.specs.Pairs.{choose, lookup_pair, seek}
 use Rattle.tree_read.specs.Trees.{tree_pairs}
 use Rattle.tree_read.specs.SearchPlaces.{first_key, first_value}
-use Rattle.attr_images.specs.Postings.{tree, list_form, IsPostingList}
-use Rattle.attr_images.specs.Values.{stored_value, IsValueRecord}
-use Rattle.attr_images.specs.Words.{weight_in_bits}
+use Rattle.image_format.specs.Postings.{tree, list_form, IsPostingList}
+use Rattle.image_format.specs.Values.{stored_value, IsValueRecord}
+use Rattle.image_format.specs.Words.{weight_in_bits}
 use Rattle.attr_types.specs.Lawful.{IsDocNumber}
 use Rattle.attr_types.specs.ProofsForOrder.{value_cmp_total}
 use Rattle.attr_types.specs.Value.{type_of, value_cmp}

@@ -9,7 +9,7 @@ use Rattle.entry_ref.specs.Records.{Records}
 use Rattle.tree_read.specs.Pairs.{choose, seek}
 use Rattle.tree_read.specs.Trees.{tree_pairs}
 use Rattle.tree_read.specs.SearchPlaces.{first_key, first_value}
-use Rattle.attr_images.specs.Values.{stored_value}
+use Rattle.image_format.specs.Values.{stored_value}
 use Rattle.attr_types.specs.ProofsForOrder.{value_cmp_total}
 use Rattle.attr_types.specs.Value.{type_of, value_cmp}
 use Rattle.doc_vector.specs.Documents.{IsDocumentPair}

@@ -7,7 +7,7 @@ use Rattle.std.specs.Cmp.{both_ways, ranks, IsTotalOrder}
 use Rattle.std.specs.List.{AllByRecursion}
 use Rattle.std.specs.declared.cmp.Ordering.{Ordering}
 use Rattle.std.specs.Ordering.{is_gt, ordering_reverse, ordering_then, MatchOrdering}
-use Rattle.list_facts.proofs.Each.{AllByRecursion-append}
+use Rattle.list_lemmas.proofs.Each.{AllByRecursion-append}
 use Rattle.entry_ref.specs.Records.{Records}
 use Rattle.attr_compaction.proofs.PlaceLemmas.{key_total, next_above, place_total, stage_total}
 use Rattle.attr_compaction.specs.Places.{key_cmp, next_stage, place_after, place_cmp, stage_cmp, PlanPlace}
@@ -15,9 +15,9 @@ use Rattle.attr_compaction.specs.declared.plan.PlanKey.{PlanKey}
 use Rattle.attr_compaction.specs.declared.plan.PlanKey.TheVariants.{Start, Value, Doc, Pair}
 use Rattle.attr_compaction.specs.declared.plan.Stage.{Stage}
 use Rattle.attr_compaction.specs.declared.plan.TheConstants.{KEYS, NODES, PHASES}
-use Rattle.attr_images.specs.Postings.{list_form}
-use Rattle.attr_images.specs.Tables.{AttributeTrees}
-use Rattle.attr_images.specs.Values.{stored_value}
+use Rattle.image_format.specs.Postings.{list_form}
+use Rattle.image_format.specs.Tables.{AttributeTrees}
+use Rattle.image_format.specs.Values.{stored_value}
 use Rattle.attr_types.specs.declared.kind.ValueType.{ValueType}
 use Rattle.tree_read.specs.Trees.{tree_pairs}
 use Rattle.attr_compaction.specs.PhaseKeys.{document_keys, key_past, keys_of_pairs, value_keys}

@@ -6,7 +6,7 @@ use Rattle.entry_ref.specs.Records.{Records}
 use Rattle.attr_compaction.specs.Places.{place_cmp, PlanPlace}
 use Rattle.attr_compaction.specs.declared.plan.PlanKey.{PlanKey}
 use Rattle.attr_compaction.specs.declared.plan.TheConstants.{DOCUMENTS, KEYS, LISTS, NODES}
-use Rattle.attr_images.specs.Tables.{AttributeTrees}
+use Rattle.image_format.specs.Tables.{AttributeTrees}
 use Rattle.attr_compaction.specs.PhaseKeys.{phase_keys}
 
 -- the place of a key of a phase, in the attribute with this number

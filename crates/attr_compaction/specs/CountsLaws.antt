@@ -8,7 +8,7 @@ use Rattle.attr_compaction.specs.Places.{key_cmp, place_after, place_cmp, PlanPl
 use Rattle.attr_compaction.specs.declared.plan.PlanKey.{PlanKey}
 use Rattle.attr_compaction.specs.declared.plan.PlanKey.TheVariants.{Start}
 use Rattle.attr_compaction.specs.declared.plan.TheConstants.{PHASES}
-use Rattle.attr_images.specs.Tables.{AttributeTrees}
+use Rattle.image_format.specs.Tables.{AttributeTrees}
 use Rattle.attr_compaction.specs.PhaseKeys.{key_past}
 use Rattle.attr_compaction.specs.Counts.{keys_between, keys_of_phase}
 

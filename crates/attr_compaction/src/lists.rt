@@ -1,6 +1,6 @@
 ghost use Rattle.std.specs.Prelude.{◌≡◌, ◌<◌, ◌/◌, ◌%◌, true, false, nat_lt};
 ghost use Rattle.std.specs.List.{find};
-ghost use Rattle.attr_images.specs.Postings.{list_form};
+ghost use Rattle.image_format.specs.Postings.{list_form};
 ghost use Rattle.posting_store.specs.Lists.{IsList, IsPlain};
 ghost use Rattle.posting_store.specs.Moves.{form_docs};
 ghost use Rattle.attr_compaction.specs.PhaseKeys.{first_item};

@@ -3,7 +3,7 @@ ghost use Rattle.std.specs.List.{AllByRecursion};
 ghost use Rattle.tree_read.specs.Trees.{tree_pairs};
 ghost use Rattle.tree_read.specs.SearchPlaces.{pairs_from, IsAt};
 ghost use Rattle.tree_read.specs.Pairs.{lookup_pair};
-ghost use Rattle.attr_images.specs.Values.{stored_value, IsValueRecord};
+ghost use Rattle.image_format.specs.Values.{stored_value, IsValueRecord};
 ghost use Rattle.attr_types.specs.Value.{type_of};
 ghost use Rattle.attr_compaction.specs.declared.plan.PlanKey.TheVariants as keys;
 ghost use Rattle.enum_dictionary.specs.Dictionaries.{behind, beside_value};

@@ -2,15 +2,15 @@
 ghost use Rattle.std.specs.Prelude.{◌≡◌, ◌<◌, ◌+◌, ◌*◌, ◌^◌, true, false, nat_lt, IfSome};
 ghost use Rattle.std.specs.List.{find};
 ghost use Rattle.std.specs.Option.{option_map};
-ghost use Rattle.attr_images.specs.Postings.{list_form};
+ghost use Rattle.image_format.specs.Postings.{list_form};
 ghost use Rattle.posting_store.specs.Lists.{is_vector, IsList, IsPlain};
 ghost use Rattle.posting_store.specs.Moves.{form_docs};
 ghost use Rattle.attr_compaction.specs.PhaseKeys.{first_item};
 
 use crate::numbers::{first_number, number_past};
 use arena_api::Frozen;
-use attr_images::{BLOCK_DOCUMENTS, FIRST_VECTOR};
 use entry_ref::EntryRef;
+use image_format::{BLOCK_DOCUMENTS, FIRST_VECTOR};
 
 /// Returns whether a list is a bit vector, by its word.
 pub fn is_vector(list: u64) -> bool

@@ -10,15 +10,15 @@ use Rattle.std.proofs.lemmas.List.Elements.{filter_map-append, recursion_from_Al
 use Rattle.std.proofs.lemmas.List.Sorted.{IsNonDecreasingBy-drop}
 use Rattle.std.specs.List.{AllByRecursion, flat_map, filter_map}
 use Rattle.std.specs.List.Sorted.{IsNonDecreasing}
-use Rattle.list_facts.proofs.Each.{AllByRecursion-weaker}
+use Rattle.list_lemmas.proofs.Each.{AllByRecursion-weaker}
 use Rattle.attr_types.specs.declared.op.Op.{Op}
 use Rattle.attr_loader.specs.Loading.{commit_point}
 use Rattle.attr_rounds.specs.declared.rounds.Round.{Round}
 use Rattle.attr_rounds.specs.declared.asked.Told.{Told}
 use Rattle.attr_report.specs.Run.{Run}
 use Rattle.attr_report.specs.History.{numbers_to}
-use Rattle.attr_engine.specs.declared.came.Came.{Came}
-use Rattle.attr_engine.specs.Rounds.{IsRoundAt, AreRoundsAt, IsCame, commits_of, seen_before}
+use Rattle.attr_engine.specs.declared.run_result.RunResult.{RunResult}
+use Rattle.attr_engine.specs.Rounds.{IsRoundAt, AreRoundsAt, IsRunResult, commits_of, seen_before}
 use Rattle.attr_engine.specs.Happenings.{Happening, Committed, Answered, commit_of, round_of, with_numbers, AreInOrder, AreAtCommits, HasHistory}
 
 abbrev Rounds : Type 0
@@ -273,15 +273,15 @@ orders_are run ops point seen last reader front (rounds ∷ others) is are = (
       (orders_are run ops point seen last (reader + 1) (front ++ rounds ∷ []) others (let long = length-append front (rounds ∷ []) in omega (arith, is, long)) are.1),
 )
 
-pub has_history : (run : Run) (ops : List Op) (came : Came) → IsCame run ops came → HasHistory run ops came
-has_history run ops came is = record {
+pub has_history : (run : Run) (ops : List Op) (run_result : RunResult) → IsRunResult run ops run_result → HasHistory run ops run_result
+has_history run ops run_result is = record {
   last = is.last;
   loaded = is.point;
-  events = events_at (λ k. commit_point run.batch (length ops) k) came.rounds.items (numbers_to is.last);
-  commits = commits_are (λ k. commit_point run.batch (length ops) k) came.rounds.items (numbers_to is.last);
-  in_order = orders_are run ops (λ k. commit_point run.batch (length ops) k) (seen_before run.after is.last) is.last 1 [] came.rounds.items refl is.rounds;
-  in_place = places_are run ops is.last came.rounds.items
+  events = events_at (λ k. commit_point run.batch (length ops) k) run_result.rounds.items (numbers_to is.last);
+  commits = commits_are (λ k. commit_point run.batch (length ops) k) run_result.rounds.items (numbers_to is.last);
+  in_order = orders_are run ops (λ k. commit_point run.batch (length ops) k) (seen_before run.after is.last) is.last 1 [] run_result.rounds.items refl is.rounds;
+  in_place = places_are run ops is.last run_result.rounds.items
       (AllByRecursion-weaker (λ rounds. AreRoundsAt run ops (seen_before run.after is.last) is.last rounds.items) (λ rounds. AllByRecursion (IsRoundAt run ops is.last) rounds.items)
-      (λ rounds are. recursion_from_All (IsRoundAt run ops is.last) rounds.items are.each) came.rounds.items is.rounds)
+      (λ rounds are. recursion_from_All (IsRoundAt run ops is.last) rounds.items are.each) run_result.rounds.items is.rounds)
       None (numbers_to is.last);
 }

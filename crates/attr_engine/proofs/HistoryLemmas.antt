@@ -16,8 +16,8 @@ use Rattle.attr_rounds.specs.declared.rounds.Round.{Round}
 use Rattle.attr_rounds.specs.declared.asked.Told.{Told}
 use Rattle.attr_report.specs.Run.{Run}
 use Rattle.attr_report.specs.History.{IsRounds, IsAfterwards}
-use Rattle.attr_engine.specs.declared.came.Came.{Came}
-use Rattle.attr_engine.specs.Rounds.{IsRoundAt, AreRoundsAt, IsCame, commits_of, seen_before, progress_at}
+use Rattle.attr_engine.specs.declared.run_result.RunResult.{RunResult}
+use Rattle.attr_engine.specs.Rounds.{IsRoundAt, AreRoundsAt, IsRunResult, commits_of, seen_before, progress_at}
 use Rattle.attr_engine.proofs.ReaderLemmas.{all_first, all_rest}
 
 pub each_all : {X : Type 0} (P : X → Type 0) (xs : List X) → AllByRecursion P xs → All P xs
@@ -79,23 +79,23 @@ module _ (run : Run) (ops : List Op) (last : ℕ) where
         let same : (slice_index_or rounds k d).commit ≡ last = omega (arith, up, is, high, here) in
         at.point ∙ ap (λ n. commit_point run.batch (length ops) n) same ∙ sym point)
 
-module _ (run : Run) (ops : List Op) (came : Came) (saved : Option ℕ) (is : IsCame run ops came) where
+module _ (run : Run) (ops : List Op) (run_result : RunResult) (saved : Option ℕ) (is : IsRunResult run ops run_result) where
   abbrev At : Vec (Round Told) Global → Type 0
   At r = AreRoundsAt run ops (seen_before run.after is.last) is.last r.items
 
   abbrev counts : Vec (Round Told) Global → List ℕ
   counts r = map (λ (x : Round Told). x.operations) r.items
 
-  rounds_all : All At came.rounds.items
-  rounds_all = each_all At came.rounds.items is.rounds
+  rounds_all : All At run_result.rounds.items
+  rounds_all = each_all At run_result.rounds.items is.rounds
 
-  pub in_rounds : IsRounds run (length ops) (progress_at came saved)
+  pub in_rounds : IsRounds run (length ops) (progress_at run_result saved)
   in_rounds = record {
-    readers = length-map came.rounds.items counts ∙ is.readers;
-    made = All-map (λ ns. length ns ≡ run.rounds) counts came.rounds.items (λ k d below. counts_made run ops is.last came.loaded.operations is.point _ _ (rounds_all k d below));
-    committed = All-map (All (λ n. IsCommitPoint run.batch (length ops) n × (n ≤ came.loaded.operations))) counts came.rounds.items
-        (λ k d below. counts_committed run ops is.last came.loaded.operations is.point _ _ (rounds_all k d below));
-    forward = All-map IsNonDecreasing counts came.rounds.items (λ k d below. counts_forward run ops is.last came.loaded.operations is.point _ _ (rounds_all k d below));
+    readers = length-map run_result.rounds.items counts ∙ is.readers;
+    made = All-map (λ ns. length ns ≡ run.rounds) counts run_result.rounds.items (λ k d below. counts_made run ops is.last run_result.loaded.operations is.point _ _ (rounds_all k d below));
+    committed = All-map (All (λ n. IsCommitPoint run.batch (length ops) n × (n ≤ run_result.loaded.operations))) counts run_result.rounds.items
+        (λ k d below. counts_committed run ops is.last run_result.loaded.operations is.point _ _ (rounds_all k d below));
+    forward = All-map IsNonDecreasing counts run_result.rounds.items (λ k d below. counts_forward run ops is.last run_result.loaded.operations is.point _ _ (rounds_all k d below));
   }
 
   seen_is : IsTrue run.after → seen_before run.after is.last ≡ is.last
@@ -105,6 +105,6 @@ module _ (run : Run) (ops : List Op) (came : Came) (saved : Option ℕ) (is : Is
       told true ok = refl
       told false ok = absurd (let e : false ≡ true = ok in cc)
 
-  pub afterwards : IsAfterwards run (progress_at came saved)
-  afterwards = λ ok. All-map (All (λ n. n ≡ came.loaded.operations)) counts came.rounds.items
-      (λ k d below. counts_after run ops is.last came.loaded.operations is.point _ _ (rounds_all k d below) (seen_is ok))
+  pub afterwards : IsAfterwards run (progress_at run_result saved)
+  afterwards = λ ok. All-map (All (λ n. n ≡ run_result.loaded.operations)) counts run_result.rounds.items
+      (λ k d below. counts_after run ops is.last run_result.loaded.operations is.point _ _ (rounds_all k d below) (seen_is ok))

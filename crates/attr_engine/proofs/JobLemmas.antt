@@ -4,14 +4,14 @@ use Rattle.std.specs.Prelude.{All, Result, Ok, Err, IfOk, IsOkAnd, Vec}
 use Rattle.std.specs.Global.{Global}
 use Rattle.std.specs.List.{AllByRecursion, AllZip}
 use Rattle.std.specs.declared.alloc.AllocError.{AllocError}
-use Rattle.list_facts.proofs.Each.{AllByRecursion-weaker}
+use Rattle.list_lemmas.proofs.Each.{AllByRecursion-weaker}
 use Rattle.atomic_table.specs.Seated.{TableId}
 use Rattle.gen_core.specs.declared.views.Sizes.{Sizes}
 use Rattle.gen_core.specs.declared.views.WriterView.{WriterView}
 use Rattle.gen_core.specs.Views.{last_number}
 use Rattle.word_arena.specs.Ruled.{reader_of}
-use Rattle.attr_images.specs.Images.{IsLawfulImage}
-use Rattle.attr_images.specs.declared.layout.AttrLayout.{AttrLayout}
+use Rattle.image_format.specs.Images.{IsLawfulImage}
+use Rattle.image_format.specs.declared.layout.AttrLayout.{AttrLayout}
 use Rattle.attr_types.specs.Scores.{ask_tree}
 use Rattle.attr_rounds.specs.Rounds.{MakesRounds}
 use Rattle.attr_rounds.specs.declared.job.Job.{Job}

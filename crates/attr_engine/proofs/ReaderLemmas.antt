@@ -11,7 +11,7 @@ use Rattle.gen_core.specs.declared.views.Sizes.{Sizes}
 use Rattle.gen_core.specs.declared.views.ReaderView.{ReaderView}
 use Rattle.gen_core.specs.declared.views.WriterView.{WriterView}
 use Rattle.gen_core.specs.Views.{last_number}
-use Rattle.attr_images.specs.Images.{IsLawfulImage}
+use Rattle.image_format.specs.Images.{IsLawfulImage}
 use Rattle.attr_types.specs.Scores.{AskTree}
 use Rattle.gen_core.specs.Events.{joined}
 use Rattle.attr_rounds.specs.Rounds.{IsOfCommit, MakesRounds}

@@ -8,11 +8,11 @@ use Rattle.entry_ref.specs.Images.{no_image, words_at}
 use Rattle.entry_ref.specs.Records.{Records}
 use Rattle.gen_core.specs.declared.views.WriterView.{WriterView}
 use Rattle.gen_core.specs.Views.{last_number}
-use Rattle.attr_images.specs.Images.{table_of}
-use Rattle.attr_images.specs.Shapes.{shape_of, types_of}
+use Rattle.image_format.specs.Images.{table_of}
+use Rattle.image_format.specs.Shapes.{shape_of, types_of}
 use Rattle.attr_types.specs.Scores.{AskTree}
 use Rattle.std.specs.List.{AllByRecursion}
-use Rattle.list_facts.proofs.Each.{AllByRecursion-weaker}
+use Rattle.list_lemmas.proofs.Each.{AllByRecursion-weaker}
 use Rattle.attr_types.specs.Table.{Table, after}
 use Rattle.attr_types.specs.declared.op.Op.{Op}
 use Rattle.attr_loader.specs.Loading.{AreCommits, EndsAt, commit_point}
@@ -28,8 +28,8 @@ use Rattle.attr_report.specs.History.{IsLoaded}
 use Rattle.attr_loader.specs.Runs.{IsOwed, IsQuiet, IsSmall}
 use Rattle.attr_engine.specs.FullStore.{load_in, readers_of, IsJustified}
 use Rattle.attr_engine.specs.Run.{full_of}
-use Rattle.attr_engine.specs.Rounds.{IsRoundAt, AreRoundsAt, IsCame, IsSaveOf, seen_before}
-use Rattle.attr_engine.specs.declared.came.Save.{Save}
+use Rattle.attr_engine.specs.Rounds.{IsRoundAt, AreRoundsAt, IsRunResult, IsSaveOf, seen_before}
+use Rattle.attr_engine.specs.declared.run_result.Save.{Save}
 use Rattle.attr_engine.specs.Saver.{one_if, save_parts}
 use Rattle.attr_engine.specs.Steps.{KeepsWriter, parts, AreRoundsOf, IsLastAnswer, LoadsInto}
 use Rattle.attr_engine.specs.Rounds.{operations_of, tells_of}
@@ -126,12 +126,12 @@ module _ (run : Run) (ops : List Op) (w v : WriterView) (loaded : Loaded) (loads
       subst (Answers (table_after run ops loaded.operations)) (sym is.is)
       (last_at run ops loads.last v.commits loads.commits loads.count v.sizes.shape (loads.shape_is ∙ shape) Answers loaded.operations loads.point is.round is.of_commit final)
 
-  pub came_of : (first later : List (Vec (Round Told) Global)) (rounds : Vec (Vec (Round Told) Global) Global) (last : Told) (saved : Option Save)
+  pub run_result_of : (first later : List (Vec (Round Told) Global)) (rounds : Vec (Vec (Round Told) Global) Global) (last : Told) (saved : Option Save)
       → rounds.items ≡ (if run.after then later else first)
       → AllOf (TakenAt (last_number w.commits)) (parts run.after run.readers).0 first → AllOf (TakenAt (last_number v.commits)) (parts run.after run.readers).1 later
       → IsLastAnswer operations_of (tells_of counted run.asks) v last → is_some saved ≡ run.save → IfSome saved (IsSaveOf run ops loaded.operations)
-      → IsCame run ops (record { loaded = loaded; rounds = rounds; last = last; saved = saved })
-  came_of first later rounds last saved is one two told asked saves =
+      → IsRunResult run ops (record { loaded = loaded; rounds = rounds; last = last; saved = saved })
+  run_result_of first later rounds last saved is one two told asked saves =
       let count = loads.count in
       let zero : last_number w.commits ≡ 0 = ap last_number none in
       let final : last_number v.commits ≡ loads.last = omega (arith, count) in

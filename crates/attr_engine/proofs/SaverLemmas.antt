@@ -4,7 +4,7 @@ use Rattle.std.specs.Prelude.{Bool, true, false, if◌then◌else◌, All, Optio
 use Rattle.std.specs.Global.{Global}
 use Rattle.std.specs.declared.alloc.AllocError.{AllocError}
 use Rattle.std.proofs.lemmas.Option.{slice_get_within}
-use Rattle.list_facts.proofs.Options.{same_Some}
+use Rattle.list_lemmas.proofs.Options.{same_Some}
 use Rattle.atomic_table.specs.Seated.{TableId}
 use Rattle.entry_ref.specs.declared.images.Image.{Image}
 use Rattle.entry_ref.specs.Images.{words_at}
@@ -14,9 +14,9 @@ use Rattle.gen_core.specs.declared.views.WriterView.{WriterView}
 use Rattle.gen_core.specs.Events.{joined}
 use Rattle.gen_core.specs.Views.{last_number}
 use Rattle.word_arena.specs.Ruled.{reader_of}
-use Rattle.attr_images.specs.Images.{table_of, IsLawfulImage}
-use Rattle.attr_images.specs.Shapes.{shape_of, types_of}
-use Rattle.attr_images.specs.declared.layout.AttrLayout.{AttrLayout}
+use Rattle.image_format.specs.Images.{table_of, IsLawfulImage}
+use Rattle.image_format.specs.Shapes.{shape_of, types_of}
+use Rattle.image_format.specs.declared.layout.AttrLayout.{AttrLayout}
 use Rattle.attr_types.specs.Table.{Table, after, IsCommitPoint}
 use Rattle.attr_types.specs.declared.field.Field.{Field}
 use Rattle.attr_types.specs.declared.field.TheConstants.{MOST_FIELDS}
@@ -36,7 +36,7 @@ use Rattle.attr_report.specs.Run.{Run, table_after}
 use Rattle.attr_engine.specs.Rounds.{IsSaveOf}
 use Rattle.attr_engine.specs.Saver.{one_if, save_parts, GivesAside, HasSaved, IsSaverDone, IsSaveIn}
 use Rattle.attr_engine.specs.Steps.{KeepsWriter, IsReader, IsLastAnswer}
-use Rattle.attr_engine.specs.declared.came.Save.{Save}
+use Rattle.attr_engine.specs.declared.run_result.Save.{Save}
 use Rattle.attr_engine.proofs.HistoryLemmas.{is_point, points_rise}
 use Rattle.attr_engine.proofs.ReaderLemmas.{all_first}
 

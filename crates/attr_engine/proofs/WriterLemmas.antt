@@ -13,9 +13,9 @@ use Rattle.gen_core.specs.declared.views.ReaderView.{ReaderView}
 use Rattle.gen_core.specs.Views.{last_number}
 use Rattle.store_api.specs.Ledgers.{Ledger, active_count, held_count}
 use Rattle.word_arena.specs.Knows.{view_of}
-use Rattle.attr_images.specs.Images.{table_of, operations_at}
+use Rattle.image_format.specs.Images.{table_of, operations_at}
 use Rattle.attr_loader.specs.Runs.{IsOwed, IsSmall}
-use Rattle.attr_images.specs.Shapes.{shape_of, types_of}
+use Rattle.image_format.specs.Shapes.{shape_of, types_of}
 use Rattle.attr_types.specs.Lawful.{OpFits}
 use Rattle.attr_types.specs.Table.{skipped}
 use Rattle.attr_types.specs.declared.field.Field.{Field}

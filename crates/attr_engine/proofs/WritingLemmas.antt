@@ -13,8 +13,8 @@ use Rattle.attr_report.specs.Run.{Run, Progress, table_after}
 use Rattle.attr_report.specs.Report.{answer_line, answers_from, answers_at, count_line, counts_from, reader_line, rounds_from, readers_from, final_line, full_line}
 use Rattle.attr_report.specs.Report.{done_line, report, made_line, documents_line, summary, told_by, written, saved_text}
 use Rattle.attr_report.specs.declared.request.Make.{Make}
-use Rattle.attr_engine.specs.declared.came.Came.{Came}
-use Rattle.attr_engine.specs.declared.came.Save.{Save}
+use Rattle.attr_engine.specs.declared.run_result.RunResult.{RunResult}
+use Rattle.attr_engine.specs.declared.run_result.Save.{Save}
 use Rattle.attr_engine.specs.Run.{full_of, progress_of, IsRunOf}
 use Rattle.attr_engine.specs.declared.written.Written.{Written}
 use Rattle.attr_engine.proofs.ReaderLemmas.{all_first, all_rest}
@@ -22,7 +22,7 @@ use Rattle.attr_engine.proofs.HistoryLemmas.{in_rounds, afterwards}
 use Rattle.attr_loader.specs.declared.loaded.NoRoom.{NoRoom}
 use Rattle.attr_engine.specs.FullStore.{IsJustified}
 use Rattle.attr_report.specs.History.{IsLoaded, IsRounds, IsAfterwards, IsSaved}
-use Rattle.attr_engine.specs.Rounds.{IsRoundAt, AreRoundsAt, IsCame, IsSaveOf, seen_before, progress_at}
+use Rattle.attr_engine.specs.Rounds.{IsRoundAt, AreRoundsAt, IsRunResult, IsSaveOf, seen_before, progress_at}
 use Rattle.attr_engine.specs.Writing.{round_text, rounds_text, readers_text, report_text, summary_text, text_of, operations_of_rounds, IsWrittenOf, IsSavedOf}
 
 -- ---- one after another
@@ -86,76 +86,76 @@ module _ (run : Run) (ops : List Op) (none : run.make ≡ None) where
 ends : (front full done : List ℕ) → front ++ (full ++ done) ≡ front ++ full ++ done
 ends front full done = sym (append_assoc front full done)
 
-report-told : (run : Run) (ops : List Op) (came : Came) → IsCame run ops came → run.make ≡ None
-    → report_text came ≡ report run ops (progress_at came None) (full_of came.loaded.full)
+report-told : (run : Run) (ops : List Op) (run_result : RunResult) → IsRunResult run ops run_result → run.make ≡ None
+    → report_text run_result ≡ report run ops (progress_at run_result None) (full_of run_result.loaded.full)
 unfolding report
-report-told run ops came is none =
-    let loaded = came.loaded.operations in
-    let full = full_line (full_of came.loaded.full) in
-    ends (readers_text 1 came.rounds.items ++ final_line loaded ++ string_bytes came.last.lines) full (done_line loaded came.loaded.skipped)
-    ∙ ap₂ (λ (a b : List ℕ). a ++ final_line loaded ++ b ++ full ++ done_line loaded came.loaded.skipped)
-    (readers-told run ops none (seen_before run.after is.last) is.last 1 came.rounds.items is.rounds) (told_lines run ops loaded came.last none is.tells)
-    ∙ ap (λ k. readers_from run ops 1 (map (λ r. operations_of_rounds r.items) came.rounds.items) ++ final_line loaded ++ answers_at run ops loaded ++ full ++ done_line loaded k) is.skips
+report-told run ops run_result is none =
+    let loaded = run_result.loaded.operations in
+    let full = full_line (full_of run_result.loaded.full) in
+    ends (readers_text 1 run_result.rounds.items ++ final_line loaded ++ string_bytes run_result.last.lines) full (done_line loaded run_result.loaded.skipped)
+    ∙ ap₂ (λ (a b : List ℕ). a ++ final_line loaded ++ b ++ full ++ done_line loaded run_result.loaded.skipped)
+    (readers-told run ops none (seen_before run.after is.last) is.last 1 run_result.rounds.items is.rounds) (told_lines run ops loaded run_result.last none is.tells)
+    ∙ ap (λ k. readers_from run ops 1 (map (λ r. operations_of_rounds r.items) run_result.rounds.items) ++ final_line loaded ++ answers_at run ops loaded ++ full ++ done_line loaded k) is.skips
 
-summary-told : (run : Run) (ops : List Op) (came : Came) (make : Make) → IsCame run ops came → run.make ≡ Some make
-    → summary_text make came ≡ summary make run ops (progress_at came None) (full_of came.loaded.full)
+summary-told : (run : Run) (ops : List Op) (run_result : RunResult) (make : Make) → IsRunResult run ops run_result → run.make ≡ Some make
+    → summary_text make run_result ≡ summary make run ops (progress_at run_result None) (full_of run_result.loaded.full)
 unfolding summary
-summary-told run ops came make is some =
-    let loaded = came.loaded.operations in
-    let full = full_line (full_of came.loaded.full) in
+summary-told run ops run_result make is some =
+    let loaded = run_result.loaded.operations in
+    let full = full_line (full_of run_result.loaded.full) in
     let table = table_after run ops loaded in
-    ends (made_line make ++ documents_line loaded came.last.documents ++ string_bytes came.last.lines) full (done_line loaded came.loaded.skipped)
-    ∙ ap₂ (λ (n : ℕ) (b : List ℕ). made_line make ++ documents_line loaded n ++ b ++ full ++ done_line loaded came.loaded.skipped)
-    is.tells.documents (told_counts run table make came.last some is.tells)
+    ends (made_line make ++ documents_line loaded run_result.last.documents ++ string_bytes run_result.last.lines) full (done_line loaded run_result.loaded.skipped)
+    ∙ ap₂ (λ (n : ℕ) (b : List ℕ). made_line make ++ documents_line loaded n ++ b ++ full ++ done_line loaded run_result.loaded.skipped)
+    is.tells.documents (told_counts run table make run_result.last some is.tells)
     ∙ ap (λ k. made_line make ++ documents_line loaded (length table) ++ counts_from 1 run.asks table ++ full ++ done_line loaded k) is.skips
 
-told-by : (run : Run) (ops : List Op) (came : Came) (make : Option Make) → IsCame run ops came → run.make ≡ make
-    → text_of make came ≡ told_by make run ops (progress_at came None) (full_of came.loaded.full)
-told-by run ops came None is none = report-told run ops came is none
-told-by run ops came (Some make) is some = summary-told run ops came make is some
+told-by : (run : Run) (ops : List Op) (run_result : RunResult) (make : Option Make) → IsRunResult run ops run_result → run.make ≡ make
+    → text_of make run_result ≡ told_by make run ops (progress_at run_result None) (full_of run_result.loaded.full)
+told-by run ops run_result None is none = report-told run ops run_result is none
+told-by run ops run_result (Some make) is some = summary-told run ops run_result make is some
 
 -- what is written of a run that saves no table
-pub written-told : (run : Run) (ops : List Op) (came : Came) → IsCame run ops came → text_of run.make came ≡ written run ops (progress_at came None) (full_of came.loaded.full)
+pub written-told : (run : Run) (ops : List Op) (run_result : RunResult) → IsRunResult run ops run_result → text_of run.make run_result ≡ written run ops (progress_at run_result None) (full_of run_result.loaded.full)
 unfolding written
-written-told run ops came is = told-by run ops came run.make is refl
+written-told run ops run_result is = told-by run ops run_result run.make is refl
 
 -- and so it is a run, where none was to be saved
-pub run_of : (run : Run) (ops : List Op) (came : Came) (w : Written) → IsCame run ops came → run.save ≡ false → IsWrittenOf run.make came w → IsRunOf run ops w
-run_of run ops came w is unsaved wrote =
-    let same : progress_of w ≡ progress_at came None = λ i. record { loaded = wrote.loaded i; rounds = wrote.rounds i; saved = wrote.saved i } in
+pub run_of : (run : Run) (ops : List Op) (run_result : RunResult) (w : Written) → IsRunResult run ops run_result → run.save ≡ false → IsWrittenOf run.make run_result w → IsRunOf run ops w
+run_of run ops run_result w is unsaved wrote =
+    let same : progress_of w ≡ progress_at run_result None = λ i. record { loaded = wrote.loaded i; rounds = wrote.rounds i; saved = wrote.saved i } in
     record {
       is_loaded = subst (λ n. IsLoaded run (length ops) n (full_of w.full)) (sym wrote.loaded)
-          (subst (λ (f : Option NoRoom). IsLoaded run (length ops) came.loaded.operations (full_of f)) (sym wrote.full) is.is_loaded);
-      in_rounds = subst (IsRounds run (length ops)) (sym same) (in_rounds run ops came None is);
-      afterwards = subst (IsAfterwards run) (sym same) (afterwards run ops came None is);
+          (subst (λ (f : Option NoRoom). IsLoaded run (length ops) run_result.loaded.operations (full_of f)) (sym wrote.full) is.is_loaded);
+      in_rounds = subst (IsRounds run (length ops)) (sym same) (in_rounds run ops run_result None is);
+      afterwards = subst (IsAfterwards run) (sym same) (afterwards run ops run_result None is);
       in_save = subst (IsSaved run (length ops)) (sym same) (sym unsaved, tt);
-      is_written = wrote.text ∙ written-told run ops came is ∙ ap₂ (λ (p : Progress) (f : Option ℕ). written run ops p f) (sym same) (ap full_of (sym wrote.full));
+      is_written = wrote.text ∙ written-told run ops run_result is ∙ ap₂ (λ (p : Progress) (f : Option ℕ). written run ops p f) (sym same) (ap full_of (sym wrote.full));
       room = subst (λ (f : Option NoRoom). IfSome f (λ r. r.active + r.held ≡ run.buffers)) (sym wrote.full) is.room;
       justified = subst (λ k. IfSome w.full (IsJustified run ops k)) (sym wrote.loaded)
-          (subst (λ (f : Option NoRoom). IfSome f (IsJustified run ops came.loaded.operations)) (sym wrote.full) is.justified);
+          (subst (λ (f : Option NoRoom). IfSome f (IsJustified run ops run_result.loaded.operations)) (sym wrote.full) is.justified);
     }
 
-saved-written : (run : Run) (ops : List Op) (came : Came) (n : ℕ) (full : Option ℕ)
-    → saved_text run.fields (table_after run ops n) n ≡ written run ops (progress_at came (Some n)) full
+saved-written : (run : Run) (ops : List Op) (run_result : RunResult) (n : ℕ) (full : Option ℕ)
+    → saved_text run.fields (table_after run ops n) n ≡ written run ops (progress_at run_result (Some n)) full
 unfolding written
-saved-written run ops came n full = refl
+saved-written run ops run_result n full = refl
 
 -- the same, where the table was saved
-pub saved_run_of : (run : Run) (ops : List Op) (came : Came) (save : Save) (w : Written) → IsCame run ops came → came.saved ≡ Some save → IsSavedOf came save w → IsRunOf run ops w
-saved_run_of run ops came save w is saves wrote =
+pub saved_run_of : (run : Run) (ops : List Op) (run_result : RunResult) (save : Save) (w : Written) → IsRunResult run ops run_result → run_result.saved ≡ Some save → IsSavedOf run_result save w → IsRunOf run ops w
+saved_run_of run ops run_result save w is saves wrote =
     let n = save.operations in
     let at : Option ℕ = Some n in
-    let same : progress_of w ≡ progress_at came at = λ i. record { loaded = wrote.loaded i; rounds = wrote.rounds i; saved = wrote.saved i } in
-    let of : IsSaveOf run ops came.loaded.operations save = subst (λ (o : Option Save). IfSome o (IsSaveOf run ops came.loaded.operations)) saves is.saved in
+    let same : progress_of w ≡ progress_at run_result at = λ i. record { loaded = wrote.loaded i; rounds = wrote.rounds i; saved = wrote.saved i } in
+    let of : IsSaveOf run ops run_result.loaded.operations save = subst (λ (o : Option Save). IfSome o (IsSaveOf run ops run_result.loaded.operations)) saves is.saved in
     record {
       is_loaded = subst (λ k. IsLoaded run (length ops) k (full_of w.full)) (sym wrote.loaded)
-          (subst (λ (f : Option NoRoom). IsLoaded run (length ops) came.loaded.operations (full_of f)) (sym wrote.full) is.is_loaded);
-      in_rounds = subst (IsRounds run (length ops)) (sym same) (in_rounds run ops came at is);
-      afterwards = subst (IsAfterwards run) (sym same) (afterwards run ops came at is);
+          (subst (λ (f : Option NoRoom). IsLoaded run (length ops) run_result.loaded.operations (full_of f)) (sym wrote.full) is.is_loaded);
+      in_rounds = subst (IsRounds run (length ops)) (sym same) (in_rounds run ops run_result at is);
+      afterwards = subst (IsAfterwards run) (sym same) (afterwards run ops run_result at is);
       in_save = subst (IsSaved run (length ops)) (sym same) (ap is_some (sym saves) ∙ is.asked, of.at);
-      is_written = ap (λ (b : Vec ℕ Global). b.items) wrote.text ∙ of.bytes ∙ saved-written run ops came n (full_of came.loaded.full)
+      is_written = ap (λ (b : Vec ℕ Global). b.items) wrote.text ∙ of.bytes ∙ saved-written run ops run_result n (full_of run_result.loaded.full)
           ∙ ap₂ (λ (p : Progress) (f : Option ℕ). written run ops p f) (sym same) (ap full_of (sym wrote.full));
       room = subst (λ (f : Option NoRoom). IfSome f (λ r. r.active + r.held ≡ run.buffers)) (sym wrote.full) is.room;
       justified = subst (λ k. IfSome w.full (IsJustified run ops k)) (sym wrote.loaded)
-          (subst (λ (f : Option NoRoom). IfSome f (IsJustified run ops came.loaded.operations)) (sym wrote.full) is.justified);
+          (subst (λ (f : Option NoRoom). IfSome f (IsJustified run ops run_result.loaded.operations)) (sym wrote.full) is.justified);
     }

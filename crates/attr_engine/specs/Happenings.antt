@@ -9,7 +9,7 @@ use Rattle.attr_rounds.specs.declared.asked.Told.{Told}
 use Rattle.attr_rounds.specs.Lines.{TellsTable}
 use Rattle.attr_report.specs.Run.{Run, table_after}
 use Rattle.attr_report.specs.History.{numbers_to}
-use Rattle.attr_engine.specs.declared.came.Came.{Came}
+use Rattle.attr_engine.specs.declared.run_result.RunResult.{RunResult}
 
 -- a commit, with its number and its number of operations; or a round of a reader with its answers, both numbered from
 -- 1
@@ -54,10 +54,10 @@ AreAtCommits run ops readers last (Answered reader number round ∷ events) =
     × AreAtCommits run ops readers last events
 
 -- a history of what a run came to: its commits up to the last, in order, and each round of each reader in its place
-pub record HasHistory (run : Run) (ops : List Op) (came : Came) : Type 0 where
+pub record HasHistory (run : Run) (ops : List Op) (run_result : RunResult) : Type 0 where
   pub last : ℕ
-  pub loaded : came.loaded.operations ≡ commit_point run.batch (length ops) last
+  pub loaded : run_result.loaded.operations ≡ commit_point run.batch (length ops) last
   pub events : List Happening
   pub commits : filter_map commit_of events ≡ commits_to run ops last
-  pub in_order : AreInOrder events 1 came.rounds.items
-  pub in_place : AreAtCommits run ops (length came.rounds.items) None events
+  pub in_order : AreInOrder events 1 run_result.rounds.items
+  pub in_place : AreAtCommits run ops (length run_result.rounds.items) None events

@@ -4,7 +4,7 @@ use Rattle.std.specs.List.{AllByRecursion}
 use Rattle.std.specs.List.Sorted.{IsNonDecreasing}
 use Rattle.entry_ref.specs.Records.{Records}
 use Rattle.gen_core.specs.declared.views.ReaderView.{ReaderView}
-use Rattle.attr_images.specs.Images.{operations_at, table_of, IsLawfulImage}
+use Rattle.image_format.specs.Images.{operations_at, table_of, IsLawfulImage}
 use Rattle.attr_types.specs.Scores.{AskTree}
 use Rattle.attr_types.specs.declared.op.Op.{Op}
 use Rattle.attr_loader.specs.Loading.{commit_point}
@@ -15,8 +15,8 @@ use Rattle.attr_rounds.specs.Lines.{TellsTable}
 use Rattle.attr_report.specs.Run.{Run, Progress, table_after, skipped_at}
 use Rattle.attr_report.specs.History.{IsLoaded, IsSavedAt}
 use Rattle.attr_report.specs.Report.{saved_text}
-use Rattle.attr_engine.specs.declared.came.Came.{Came}
-use Rattle.attr_engine.specs.declared.came.Save.{Save}
+use Rattle.attr_engine.specs.declared.run_result.RunResult.{RunResult}
+use Rattle.attr_engine.specs.declared.run_result.Save.{Save}
 use Rattle.attr_engine.specs.FullStore.{IsJustified}
 use Rattle.attr_engine.specs.Run.{full_of}
 
@@ -63,23 +63,23 @@ pub record IsSaveOf (run : Run) (ops : List Op) (loaded : ℕ) (save : Save) : T
   pub bytes : save.bytes.items ≡ saved_text run.fields (table_after run ops save.operations) save.operations
 
 -- how far a run came, with all rounds and the last answers, and with the save where the table is saved
-pub record IsCame (run : Run) (ops : List Op) (came : Came) : Type 0 where
+pub record IsRunResult (run : Run) (ops : List Op) (run_result : RunResult) : Type 0 where
   pub last : ℕ
-  pub is_loaded : IsLoaded run (length ops) came.loaded.operations (full_of came.loaded.full)
-  pub point : came.loaded.operations ≡ commit_point run.batch (length ops) last
-  pub skips : came.loaded.skipped ≡ skipped_at run ops came.loaded.operations
-  pub room : IfSome came.loaded.full (λ r. r.active + r.held ≡ run.buffers)
-  pub justified : IfSome came.loaded.full (IsJustified run ops came.loaded.operations)
-  pub readers : length came.rounds.items ≡ run.readers
-  pub rounds : AllByRecursion (λ rounds. AreRoundsAt run ops (seen_before run.after last) last rounds.items) came.rounds.items
-  pub tells : TellsTable (is_some run.make) run.asks (table_after run ops came.loaded.operations) came.last
-  pub asked : is_some came.saved ≡ run.save
-  pub saved : IfSome came.saved (IsSaveOf run ops came.loaded.operations)
+  pub is_loaded : IsLoaded run (length ops) run_result.loaded.operations (full_of run_result.loaded.full)
+  pub point : run_result.loaded.operations ≡ commit_point run.batch (length ops) last
+  pub skips : run_result.loaded.skipped ≡ skipped_at run ops run_result.loaded.operations
+  pub room : IfSome run_result.loaded.full (λ r. r.active + r.held ≡ run.buffers)
+  pub justified : IfSome run_result.loaded.full (IsJustified run ops run_result.loaded.operations)
+  pub readers : length run_result.rounds.items ≡ run.readers
+  pub rounds : AllByRecursion (λ rounds. AreRoundsAt run ops (seen_before run.after last) last rounds.items) run_result.rounds.items
+  pub tells : TellsTable (is_some run.make) run.asks (table_after run ops run_result.loaded.operations) run_result.last
+  pub asked : is_some run_result.saved ≡ run.save
+  pub saved : IfSome run_result.saved (IsSaveOf run ops run_result.loaded.operations)
 
 -- the counts of operations that the rounds saw, in the form of the report's statement
-abbrev pub progress_at : Came → Option ℕ → Progress
-progress_at came saved = record {
-  loaded = came.loaded.operations;
-  rounds = map (λ r. map (λ round. round.operations) r.items) came.rounds.items;
+abbrev pub progress_at : RunResult → Option ℕ → Progress
+progress_at run_result saved = record {
+  loaded = run_result.loaded.operations;
+  rounds = map (λ r. map (λ round. round.operations) r.items) run_result.rounds.items;
   saved = saved;
 }

@@ -4,13 +4,13 @@ use Rattle.std.specs.Global.{Global}
 use Rattle.atomic_table.specs.Seated.{TableId}
 use Rattle.gen_core.specs.declared.views.ReaderView.{ReaderView}
 use Rattle.gen_core.specs.declared.views.WriterView.{WriterView}
-use Rattle.attr_images.specs.Images.{IsLawfulImage}
+use Rattle.image_format.specs.Images.{IsLawfulImage}
 use Rattle.attr_rounds.specs.Rounds.{AreSeen, IsOfCommit, MakesRounds}
 use Rattle.attr_rounds.specs.Saves.{operations_of, saves_of}
 use Rattle.attr_rounds.specs.declared.rounds.Round.{Round}
 use Rattle.attr_types.specs.declared.field.Field.{Field}
 use Rattle.attr_engine.specs.Steps.{IsReader}
-use Rattle.attr_engine.specs.declared.came.Save.{Save}
+use Rattle.attr_engine.specs.declared.run_result.Save.{Save}
 
 -- whether the table is saved beside the loading, and whether after it
 abbrev pub save_parts : Bool → Bool → Bool × Bool

@@ -12,8 +12,8 @@ use Rattle.gen_core.specs.declared.views.ReaderView.{ReaderView}
 use Rattle.gen_core.specs.declared.views.WriterView.{WriterView}
 use Rattle.gen_core.specs.Views.{last_number}
 use Rattle.word_arena.specs.Knows.{view_of, api_buffer}
-use Rattle.attr_images.specs.Images.{IsLawfulImage}
-use Rattle.attr_images.specs.Shapes.{shape_of, types_of}
+use Rattle.image_format.specs.Images.{IsLawfulImage}
+use Rattle.image_format.specs.Shapes.{shape_of, types_of}
 use Rattle.attr_types.specs.Scores.{AskTree}
 use Rattle.attr_types.specs.Table.{skipped}
 use Rattle.attr_types.specs.declared.field.Field.{Field}

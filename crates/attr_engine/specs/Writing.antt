@@ -6,8 +6,8 @@ use Rattle.attr_rounds.specs.declared.asked.Told.{Told}
 use Rattle.attr_loader.specs.declared.loaded.Loaded.{Loaded}
 use Rattle.attr_report.specs.Report.{reader_line, final_line, full_line, done_line, made_line, documents_line}
 use Rattle.attr_report.specs.declared.request.Make.{Make}
-use Rattle.attr_engine.specs.declared.came.Came.{Came}
-use Rattle.attr_engine.specs.declared.came.Save.{Save}
+use Rattle.attr_engine.specs.declared.run_result.RunResult.{RunResult}
+use Rattle.attr_engine.specs.declared.run_result.Save.{Save}
 use Rattle.attr_engine.specs.declared.written.Written.{Written}
 use Rattle.attr_engine.specs.Run.{full_of}
 
@@ -29,35 +29,35 @@ readers_text reader (rounds ∷ others) = rounds_text reader 1 rounds.items ++ r
 abbrev pub end_text : Loaded → List ℕ
 end_text loaded = full_line (full_of loaded.full) ++ done_line loaded.operations loaded.skipped
 
-abbrev pub report_text : Came → List ℕ
-report_text came = readers_text 1 came.rounds.items ++ final_line came.loaded.operations ++ string_bytes came.last.lines
-    ++ end_text came.loaded
+abbrev pub report_text : RunResult → List ℕ
+report_text run_result = readers_text 1 run_result.rounds.items ++ final_line run_result.loaded.operations ++ string_bytes run_result.last.lines
+    ++ end_text run_result.loaded
 
-abbrev pub summary_text : Make → Came → List ℕ
-summary_text make came = made_line make ++ documents_line came.loaded.operations came.last.documents ++ string_bytes came.last.lines
-    ++ end_text came.loaded
+abbrev pub summary_text : Make → RunResult → List ℕ
+summary_text make run_result = made_line make ++ documents_line run_result.loaded.operations run_result.last.documents ++ string_bytes run_result.last.lines
+    ++ end_text run_result.loaded
 
 -- the report, or the summary if the operations were made
-abbrev pub text_of : Option Make → Came → List ℕ
-text_of None came = report_text came
-text_of (Some make) came = summary_text make came
+abbrev pub text_of : Option Make → RunResult → List ℕ
+text_of None run_result = report_text run_result
+text_of (Some make) run_result = summary_text make run_result
 
 -- how many operations each round of a reader saw
 abbrev pub operations_of_rounds : List (Round Told) → List ℕ
 operations_of_rounds rounds = map (λ round. round.operations) rounds
 
 -- what is written about a run that does not save its table
-pub record IsWrittenOf (make : Option Make) (came : Came) (w : Written) : Type 0 where
-  pub loaded : w.loaded ≡ came.loaded.operations
-  pub full : w.full ≡ came.loaded.full
-  pub rounds : w.rounds ≡ map (λ r. operations_of_rounds r.items) came.rounds.items
+pub record IsWrittenOf (make : Option Make) (run_result : RunResult) (w : Written) : Type 0 where
+  pub loaded : w.loaded ≡ run_result.loaded.operations
+  pub full : w.full ≡ run_result.loaded.full
+  pub rounds : w.rounds ≡ map (λ r. operations_of_rounds r.items) run_result.rounds.items
   pub saved : w.saved ≡ None
-  pub text : w.text.items ≡ text_of make came
+  pub text : w.text.items ≡ text_of make run_result
 
 -- what is written of a run that saves the table: the save
-pub record IsSavedOf (came : Came) (save : Save) (w : Written) : Type 0 where
-  pub loaded : w.loaded ≡ came.loaded.operations
-  pub full : w.full ≡ came.loaded.full
-  pub rounds : w.rounds ≡ map (λ r. operations_of_rounds r.items) came.rounds.items
+pub record IsSavedOf (run_result : RunResult) (save : Save) (w : Written) : Type 0 where
+  pub loaded : w.loaded ≡ run_result.loaded.operations
+  pub full : w.full ≡ run_result.loaded.full
+  pub rounds : w.rounds ≡ map (λ r. operations_of_rounds r.items) run_result.rounds.items
   pub saved : w.saved ≡ Some save.operations
   pub text : w.text ≡ save.bytes

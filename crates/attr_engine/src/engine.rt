@@ -5,12 +5,12 @@ ghost use Rattle.entry_ref.specs.References.{buffer_limit, offset_limit};
 ghost use Rattle.attr_types.specs.Lawful.{OpFits};
 ghost use Rattle.attr_types.specs.declared.field.TheConstants.{MOST_FIELDS};
 ghost use Rattle.attr_report.specs.Run.{run_in};
-ghost use Rattle.attr_engine.specs.Rounds.{IsCame};
+ghost use Rattle.attr_engine.specs.Rounds.{IsRunResult};
 ghost use Rattle.attr_engine.specs.Run.{IsRunOf, IsGivenUp};
 
-use crate::came::Came;
 use crate::error::EngineError;
-use crate::run::run_engine;
+use crate::run::run_threads;
+use crate::run_result::RunResult;
 use crate::saving::saved_run;
 use crate::writing::written_of;
 use crate::written::Written;
@@ -22,7 +22,7 @@ use std::thread::Threads;
 
 /// Makes a run over a new memory, and returns what it writes: the report, the summary if its operations were made, or
 /// the table if it is saved.
-pub fn engine_run<const OFFSET_BITS: u32, R: Threads + Sync, G: Gate + Sync + 'static>(
+pub fn run_and_write<const OFFSET_BITS: u32, R: Threads + Sync, G: Gate + Sync + 'static>(
     rt: &R,
     alloc: Global,
     request: &Request,
@@ -43,8 +43,8 @@ pub fn engine_run<const OFFSET_BITS: u32, R: Threads + Sync, G: Gate + Sync + 's
     ensures run { IfOk result (IsRunOf (run_in request.now) ops.now) }
     ensures readers { IfErr result (IsGivenUp request.now.readers) }
 {
-    let came = run_engine::<OFFSET_BITS, R, G>(rt, alloc, request, ops, gate)?;
-    let written = written_in(alloc, request, ops, came)?;
+    let run_result = run_threads::<OFFSET_BITS, R, G>(rt, alloc, request, ops, gate)?;
+    let written = written_in(alloc, request, ops, run_result)?;
     Ok(written)
 }
 
@@ -53,13 +53,13 @@ fn written_in(
     alloc: Global,
     request: &Request,
     ops: &[Op],
-    came: Came,
+    run_result: RunResult,
 ) -> Result<Written, AllocError>
-    requires came { IsCame (run_in request.now) ops.now came }
+    requires run_result { IsRunResult (run_in request.now) ops.now run_result }
     ensures { IfOk result (IsRunOf (run_in request.now) ops.now) }
 {
-    if came.saved.is_some() {
-        return saved_run(alloc, request, ops, came);
+    if run_result.saved.is_some() {
+        return saved_run(alloc, request, ops, run_result);
     }
-    written_of(alloc, request.make, &came)
+    written_of(alloc, request.make, &run_result)
 }

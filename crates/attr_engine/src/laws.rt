@@ -2,7 +2,7 @@
 ghost use Rattle.attr_engine.specs.Laws.{RoundsStand, RoundsComeAfter};
 
 /// The rounds of a run are as the statement of its report requires.
-pub fn came_law()
+pub fn run_result_law()
     ensures stand { RoundsStand }
     ensures after { RoundsComeAfter }
 {}

@@ -3,20 +3,20 @@
 
 mod aside;
 mod beside;
-mod came;
 mod engine;
 mod error;
 mod laws;
 mod readers;
 mod run;
+mod run_result;
 mod saving;
 mod writing;
 mod written;
 
 pub use attr_loader::NoRoom;
-pub use came::{Came, Save};
-pub use engine::engine_run;
+pub use engine::run_and_write;
 pub use error::EngineError;
-pub use laws::came_law;
-pub use run::run_engine;
+pub use laws::run_result_law;
+pub use run::run_threads;
+pub use run_result::{RunResult, Save};
 pub use written::Written;

@@ -4,12 +4,12 @@ ghost use Rattle.std.specs.Prelude.{if◌then◌else◌};
 ghost use Rattle.std.specs.List.{AllByRecursion};
 ghost use Rattle.entry_ref.specs.References.{buffer_limit, offset_limit};
 ghost use Rattle.word_arena.specs.Ruled.{writer_of};
-ghost use Rattle.attr_images.specs.Shapes.{shape_of, types_of};
+ghost use Rattle.image_format.specs.Shapes.{shape_of, types_of};
 ghost use Rattle.attr_types.specs.Scores.{ask_tree};
 ghost use Rattle.attr_types.specs.Lawful.{OpFits};
 ghost use Rattle.attr_types.specs.declared.field.TheConstants.{MOST_FIELDS};
 ghost use Rattle.attr_report.specs.Run.{run_in};
-ghost use Rattle.attr_engine.specs.Rounds.{IsCame};
+ghost use Rattle.attr_engine.specs.Rounds.{IsRunResult};
 ghost use Rattle.attr_engine.specs.Happenings.{HasHistory};
 ghost use Rattle.attr_engine.specs.Run.{IsGivenUp};
 ghost use Rattle.attr_saver.specs.Images.{IsFirst};
@@ -19,15 +19,15 @@ ghost use Rattle.attr_rounds.specs.Lines.{CanAsk};
 ghost use Rattle.gen_core.specs.Views.{last_number};
 
 use crate::beside::load_beside;
-use crate::came::{Came, Save};
 use crate::error::EngineError;
 use crate::readers::{last_answer, last_saved, read_after, take_all, take_saved};
-use attr_images::{AttrLayout, shape_of};
+use crate::run_result::{RunResult, Save};
 use attr_io::Gate;
 use attr_loader::Loaded;
 use attr_report::Request;
 use attr_rounds::{Asked, Round, Saving, Told};
 use attr_types::{Field, Fields, Op};
+use image_format::{AttrLayout, shape_of};
 use std::alloc::{AllocError, Global};
 use std::thread::Threads;
 use word_arena::{Arena, Config, Limits, MOST_COMMITS, MOST_GENERATIONS, Writer};
@@ -138,7 +138,7 @@ fn run_over<'a, const OFFSET_BITS: u32, R: Threads + Sync, G: Gate + Sync + 'sta
     question: &'a Asked<'a>,
     saving: &'a Saving<'a, G>,
     gate: &'a G,
-) -> Result<Came, AllocError>
+) -> Result<RunResult, AllocError>
     requires new { IsNewWriter request.now.fields writer.place.table_id (writer_of writer.place.me.0) }
     requires unread { (writer_of writer.place.me.0).made ≡ 0 }
     requires seats { request.now.readers ≤ 62 }
@@ -150,7 +150,7 @@ fn run_over<'a, const OFFSET_BITS: u32, R: Threads + Sync, G: Gate + Sync + 'sta
     requires some { 0 < request.now.batch }
     requires few { length ops.now < 2 ^ 32 }
     requires fit { AllByRecursion (OpFits request.now.fields) ops.now }
-    ensures { IfOk result (IsCame (run_in request.now) ops.now) }
+    ensures { IfOk result (IsRunResult (run_in request.now) ops.now) }
 {
     first_law(&request.fields, saving.field);
     let (beside, behind) = parts(request.after, request.readers);
@@ -184,7 +184,7 @@ fn run_over<'a, const OFFSET_BITS: u32, R: Threads + Sync, G: Gate + Sync + 'sta
     let saved = last_saved(alloc, &mut writer, saving, save_behind, operations)?;
     let rounds = chosen(request.after, later, loading.first);
     let saved = chosen_save(request.after, saved, loading.saved);
-    Ok(Came {
+    Ok(RunResult {
         loaded: loading.loaded,
         rounds,
         last,
@@ -205,13 +205,13 @@ fn first_of(fields: &Fields) -> &Field
 /// Makes a run over a new memory: its operations are loaded and committed, its readers answer beside the loading or
 /// after it, and at the end everything loaded answers. It is refused only if there are too many readers or memory is
 /// exhausted.
-pub fn run_engine<const OFFSET_BITS: u32, R: Threads + Sync, G: Gate + Sync + 'static>(
+pub fn run_threads<const OFFSET_BITS: u32, R: Threads + Sync, G: Gate + Sync + 'static>(
     rt: &R,
     alloc: Global,
     request: &Request,
     ops: &[Op],
     gate: &G,
-) -> Result<Came, EngineError>
+) -> Result<RunResult, EngineError>
     requires some_buffers { 1 ≤ request.now.buffers }
     requires few_buffers { request.now.buffers < buffer_limit OFFSET_BITS }
     requires some_words { 8192 ≤ request.now.words }
@@ -223,7 +223,7 @@ pub fn run_engine<const OFFSET_BITS: u32, R: Threads + Sync, G: Gate + Sync + 's
     requires some { 0 < request.now.batch }
     requires few { length ops.now < 2 ^ 32 }
     requires fit { AllByRecursion (OpFits request.now.fields) ops.now }
-    ensures came { IfOk result (IsCame (run_in request.now) ops.now) }
+    ensures run_result { IfOk result (IsRunResult (run_in request.now) ops.now) }
     ensures history { IfOk result (HasHistory (run_in request.now) ops.now) }
     ensures readers { IfErr result (IsGivenUp request.now.readers) }
 {
@@ -250,8 +250,8 @@ pub fn run_engine<const OFFSET_BITS: u32, R: Threads + Sync, G: Gate + Sync + 's
         field: first_of(&request.fields),
         gate,
     };
-    let came = run_over::<OFFSET_BITS, R, G>(
+    let run_result = run_over::<OFFSET_BITS, R, G>(
         rt, alloc, writer, request, ops, &question, &saving, gate,
     )?;
-    Ok(came)
+    Ok(run_result)
 }

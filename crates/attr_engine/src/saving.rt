@@ -1,10 +1,10 @@
 //! What a run writes that saves its table.
 ghost use Rattle.std.specs.Prelude.{◌≡◌, true, is_some, IfOk};
 ghost use Rattle.attr_report.specs.Run.{run_in};
-ghost use Rattle.attr_engine.specs.Rounds.{IsCame};
+ghost use Rattle.attr_engine.specs.Rounds.{IsRunResult};
 ghost use Rattle.attr_engine.specs.Run.{IsRunOf};
 
-use crate::came::Came;
+use crate::run_result::RunResult;
 use crate::writing::all_counts;
 use crate::written::Written;
 use attr_report::Request;
@@ -16,18 +16,18 @@ pub fn saved_run(
     alloc: Global,
     _request: &Request,
     _ops: &[Op],
-    came: Came,
+    run_result: RunResult,
 ) -> Result<Written, AllocError>
-    requires came { IsCame (run_in _request.now) _ops.now came }
-    requires saved { is_some came.saved ≡ true }
+    requires run_result { IsRunResult (run_in _request.now) _ops.now run_result }
+    requires saved { is_some run_result.saved ≡ true }
     ensures { IfOk result (IsRunOf (run_in _request.now) _ops.now) }
 {
-    let Came {
+    let RunResult {
         loaded,
         rounds,
         last: _last,
         saved,
-    } = came;
+    } = run_result;
     let Some(save) = saved else { unreachable!() };
     let rounds = all_counts(alloc, rounds.as_slice())?;
     Ok(Written {

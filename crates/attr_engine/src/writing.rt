@@ -6,7 +6,7 @@ ghost use Rattle.attr_engine.specs.Writing.{round_text, rounds_text, readers_tex
 ghost use Rattle.attr_engine.specs.Writing.{operations_of_rounds};
 ghost use Rattle.attr_engine.specs.Writing.{IsWrittenOf};
 
-use crate::came::Came;
+use crate::run_result::RunResult;
 use crate::written::Written;
 use attr_loader::{Loaded, NoRoom};
 use attr_report::{Make, push_documents_line, push_done_line, push_final_line, push_made_line};
@@ -86,36 +86,36 @@ fn push_end(text: &mut String, loaded: Loaded) -> Result<(), AllocError>
 }
 
 /// Returns the report: the rounds of the readers, the last answers, and the progress.
-fn report_text(alloc: Global, came: &Came) -> Result<String, AllocError>
-    ensures { IfOk result (λ text. string_bytes text ≡ report_text came.now) }
+fn report_text(alloc: Global, run_result: &RunResult) -> Result<String, AllocError>
+    ensures { IfOk result (λ text. string_bytes text ≡ report_text run_result.now) }
 {
     let mut text = String::new(alloc);
-    push_readers(&mut text, came.rounds.as_slice())?;
-    push_final_line(&mut text, came.loaded.operations)?;
-    text.push_str(came.last.lines.as_str())?;
-    push_end(&mut text, came.loaded)?;
+    push_readers(&mut text, run_result.rounds.as_slice())?;
+    push_final_line(&mut text, run_result.loaded.operations)?;
+    text.push_str(run_result.last.lines.as_str())?;
+    push_end(&mut text, run_result.loaded)?;
     Ok(text)
 }
 
 /// Returns the summary of a run whose operations were made.
-fn summary_text(alloc: Global, make: Make, came: &Came) -> Result<String, AllocError>
-    ensures { IfOk result (λ text. string_bytes text ≡ summary_text make came.now) }
+fn summary_text(alloc: Global, make: Make, run_result: &RunResult) -> Result<String, AllocError>
+    ensures { IfOk result (λ text. string_bytes text ≡ summary_text make run_result.now) }
 {
-    let documents = came.last.documents as usize;
+    let documents = run_result.last.documents as usize;
     let mut text = String::new(alloc);
     push_made_line(&mut text, make)?;
-    push_documents_line(&mut text, came.loaded.operations, documents)?;
-    text.push_str(came.last.lines.as_str())?;
-    push_end(&mut text, came.loaded)?;
+    push_documents_line(&mut text, run_result.loaded.operations, documents)?;
+    text.push_str(run_result.last.lines.as_str())?;
+    push_end(&mut text, run_result.loaded)?;
     Ok(text)
 }
 
-fn text_of(alloc: Global, make: Option<Make>, came: &Came) -> Result<String, AllocError>
-    ensures { IfOk result (λ text. string_bytes text ≡ text_of make came.now) }
+fn text_of(alloc: Global, make: Option<Make>, run_result: &RunResult) -> Result<String, AllocError>
+    ensures { IfOk result (λ text. string_bytes text ≡ text_of make run_result.now) }
 {
     match make {
-        Some(make) => summary_text(alloc, make, came),
-        None => report_text(alloc, came),
+        Some(make) => summary_text(alloc, make, run_result),
+        None => report_text(alloc, run_result),
     }
 }
 
@@ -142,14 +142,18 @@ pub fn all_counts(alloc: Global, rounds: &[Vec<Round<Told>>]) -> Result<RoundLis
 }
 
 /// Returns what is written about a run that does not save its table.
-pub fn written_of(alloc: Global, make: Option<Make>, came: &Came) -> Result<Written, AllocError>
-    ensures { IfOk result (IsWrittenOf make came.now) }
+pub fn written_of(
+    alloc: Global,
+    make: Option<Make>,
+    run_result: &RunResult,
+) -> Result<Written, AllocError>
+    ensures { IfOk result (IsWrittenOf make run_result.now) }
 {
-    let text = text_of(alloc, make, came)?;
-    let rounds = all_counts(alloc, came.rounds.as_slice())?;
+    let text = text_of(alloc, make, run_result)?;
+    let rounds = all_counts(alloc, run_result.rounds.as_slice())?;
     Ok(Written {
-        loaded: came.loaded.operations,
-        full: came.loaded.full,
+        loaded: run_result.loaded.operations,
+        full: run_result.loaded.full,
         rounds,
         saved: None,
         text: text.into_bytes(),

@@ -10,14 +10,14 @@ use Rattle.store_api.specs.Units.{MayDo}
 use Rattle.store_api.proofs.PartLemmas.{turns-same, turns-then}
 use Rattle.attr_field.specs.Documents.{documents_part}
 use Rattle.attr_field.specs.DocumentsLaws.{DocumentsAreLawful}
-use Rattle.attr_images.specs.Documents.{column_at}
-use Rattle.attr_images.specs.Postings.{index_of}
-use Rattle.attr_index.proofs.ChangeLemmas.{ends, has_items}
-use Rattle.attr_index.proofs.MiddleLemmas.{has_both, both_walks, between_same}
-use Rattle.attr_index.proofs.PartLemmas.{insert_same}
-use Rattle.attr_index.specs.Changes.{first_weights, first_given, IsBetween}
-use Rattle.attr_index.specs.Columns.{Column, items_of, with_change}
-use Rattle.attr_index.specs.Index.{Index, IsIndexOf, list_of, weight_in}
+use Rattle.image_format.specs.Documents.{column_at}
+use Rattle.image_format.specs.Postings.{index_of}
+use Rattle.index_model.proofs.ChangeLemmas.{ends, has_items}
+use Rattle.index_model.proofs.MiddleLemmas.{has_both, both_walks, between_same}
+use Rattle.index_model.proofs.PartLemmas.{insert_same}
+use Rattle.index_model.specs.Changes.{first_weights, first_given, IsBetween}
+use Rattle.index_model.specs.Columns.{Column, items_of, with_change}
+use Rattle.index_model.specs.Index.{Index, IsIndexOf, list_of, weight_in}
 use Rattle.attr_types.specs.Value.{value_cmp}
 use Rattle.attr_types.specs.declared.items.Item.{Item}
 use Rattle.attr_types.specs.declared.kind.Kind.{Kind}

@@ -5,9 +5,9 @@ use Rattle.std.proofs.lemmas.Cmp.{tied_itself}
 use Rattle.std.specs.Ordering.{int_eq}
 use Rattle.std.specs.Prelude.{ℤ, is_some, nat_eq, slice_get, unwrap_or}
 use Rattle.std.proofs.lemmas.List.{take_all}
-use Rattle.list_facts.proofs.Options.{same_Some}
-use Rattle.list_facts.proofs.Places.{take-read}
-use Rattle.attr_index.proofs.ListLemmas.{same_value}
+use Rattle.list_lemmas.proofs.Options.{same_Some}
+use Rattle.list_lemmas.proofs.Places.{take-read}
+use Rattle.index_model.proofs.ListLemmas.{same_value}
 use Rattle.attr_types.specs.ProofsForOrder.{value_cmp_total}
 use Rattle.attr_types.specs.Value.{value_cmp}
 use Rattle.attr_types.specs.declared.items.Item.{Item}

@@ -14,10 +14,10 @@ use Rattle.frozen_btree.specs.Makes.{CountsNodes}
 use Rattle.attr_field.specs.DocumentsChanges.{documents_most}
 use Rattle.attr_field.specs.Documents.{IsDocuments}
 use Rattle.attr_field.specs.Items.{items_record}
-use Rattle.attr_images.specs.Documents.{column_at, items_at}
-use Rattle.attr_index.specs.Changes.{settled, IsBetween}
-use Rattle.attr_index.specs.Columns.{Column, documents_with}
-use Rattle.attr_index.specs.Index.{Index, IsIndexOf, list_of}
+use Rattle.image_format.specs.Documents.{column_at, items_at}
+use Rattle.index_model.specs.Changes.{settled, IsBetween}
+use Rattle.index_model.specs.Columns.{Column, documents_with}
+use Rattle.index_model.specs.Index.{Index, IsIndexOf, list_of}
 use Rattle.attr_types.specs.declared.kind.Kind.{Kind}
 use Rattle.attr_types.specs.declared.kind.ValueType.{ValueType}
 use Rattle.attr_types.specs.declared.value.Value.{Value}

@@ -20,9 +20,9 @@ use Rattle.store_api.proofs.Times.{times-append, among-times, times-among}
 use Rattle.frozen_btree.specs.Changes.{tree}
 use Rattle.doc_vector.proofs.DocumentLemmas.{map_stays}
 use Rattle.doc_vector.specs.Documents.{beside_document, IsDocumentMap, MakesMap}
-use Rattle.attr_images.specs.Documents.{weighted, items_at, column_at, IsItemsRecord}
-use Rattle.attr_images.specs.Values.{IsValueRecord}
-use Rattle.attr_index.specs.Columns.{with_change}
+use Rattle.image_format.specs.Documents.{weighted, items_at, column_at, IsItemsRecord}
+use Rattle.image_format.specs.Values.{IsValueRecord}
+use Rattle.index_model.specs.Columns.{with_change}
 use Rattle.attr_types.specs.Lawful.{IsLawfulItems}
 use Rattle.attr_types.specs.declared.items.Item.{Item}
 use Rattle.attr_types.specs.declared.kind.Kind.{Kind}

@@ -6,7 +6,7 @@ use Rattle.store_api.specs.Units.{MakesAtMost, MayDo, MakesWithin}
 use Rattle.store_api.proofs.Counts.{at_most-none, at_most-then, at_most-more}
 use Rattle.frozen_btree.specs.Makes.{CountsNodes}
 use Rattle.array_store.specs.Adding.{MakesOneOf}
-use Rattle.attr_images.specs.Words.{class_of}
+use Rattle.image_format.specs.Words.{class_of}
 use Rattle.attr_field.specs.DocumentsChanges.{documents_most}
 use Rattle.attr_field.specs.Items.{has_list, items_record}
 use Rattle.attr_types.specs.declared.kind.Kind.{Kind}

@@ -12,9 +12,9 @@ use Rattle.store_api.specs.Parts.{times}
 use Rattle.store_api.proofs.Times.{times-append, among-times, times-among}
 use Rattle.doc_vector.proofs.DocumentLemmas.{map_nothing, map_stays}
 use Rattle.doc_vector.specs.Documents.{IsDocumentMap, IsDocumentPair}
-use Rattle.attr_images.specs.Documents.{weighted, items_at, items_reach, column_at, documents_reach, AreItemRecords}
-use Rattle.attr_images.specs.Values.{stored_value}
-use Rattle.attr_index.specs.Columns.{IsLawfulColumn, column_values}
+use Rattle.image_format.specs.Documents.{weighted, items_at, items_reach, column_at, documents_reach, AreItemRecords}
+use Rattle.image_format.specs.Values.{stored_value}
+use Rattle.index_model.specs.Columns.{IsLawfulColumn, column_values}
 use Rattle.attr_types.specs.Lawful.{IsDocNumber, IsLawfulItems}
 use Rattle.attr_types.specs.Value.{values_of}
 use Rattle.attr_types.specs.declared.items.Item.{Item}

@@ -4,14 +4,14 @@ use Rattle.std.proofs.lemmas.List.{length-map}
 use Rattle.std.specs.Prelude.{slice_get, Some, IfOk}
 use Rattle.store_api.specs.declared.store.StoreError.{StoreError}
 use Rattle.std.specs.List.{AllByRecursion}
-use Rattle.list_facts.proofs.Options.{same_Some}
+use Rattle.list_lemmas.proofs.Options.{same_Some}
 use Rattle.entry_ref.specs.Records.{Records}
 use Rattle.store_api.specs.Ledgers.{Ledger}
 use Rattle.store_api.specs.Parts.{Turns, entries, entry}
 use Rattle.store_api.proofs.PartLemmas.{turns-as}
 use Rattle.array_store.specs.Adding.{AddsRecord}
-use Rattle.attr_images.specs.Values.{IsValueRecord}
-use Rattle.attr_images.specs.Words.{filled, stored_items, IsStoredList}
+use Rattle.image_format.specs.Values.{IsValueRecord}
+use Rattle.image_format.specs.Words.{filled, stored_items, IsStoredList}
 use Rattle.attr_types.specs.Change.{most_items}
 use Rattle.attr_types.specs.Lawful.{IsLawfulItems, HaveWeightOne}
 use Rattle.attr_types.specs.declared.items.Item.{Item}

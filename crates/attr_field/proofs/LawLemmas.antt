@@ -5,10 +5,10 @@ use Rattle.tree_read.specs.ProofsForTrees.{SameAt-left, SameAt-right}
 use Rattle.tree_read.specs.Trees.{tree_nodes}
 use Rattle.attr_field.specs.Documents.{documents_own, documents_refer}
 use Rattle.attr_field.specs.DocumentsLaws.{NothingIsDocuments, DocumentsStay, DocumentsAreLawful, DocumentsReach}
-use Rattle.attr_images.specs.Documents.{column_at, documents_reach}
-use Rattle.attr_images.specs.Postings.{index_of}
-use Rattle.attr_index.proofs.OfLemmas.{empty_index, has_values, has_lists}
-use Rattle.attr_index.specs.Index.{IsIndexOf}
+use Rattle.image_format.specs.Documents.{column_at, documents_reach}
+use Rattle.image_format.specs.Postings.{index_of}
+use Rattle.index_model.proofs.OfLemmas.{empty_index, has_values, has_lists}
+use Rattle.index_model.specs.Index.{IsIndexOf}
 use Rattle.value_index.proofs.KeyLemmas.{among_left, among_right}
 use Rattle.value_index.specs.Indexes.{index_reach}
 use Rattle.value_index.specs.Laws.{NothingIsIndex, IndexStays, IndexIsLawful, FormStays, KeyIsRead}

@@ -9,13 +9,13 @@ use Rattle.tree_read.specs.Trees.{tree_pairs}
 use Rattle.tree_read.specs.Pairs.{choose, lookup}
 use Rattle.doc_vector.specs.Documents.{beside_document}
 use Rattle.std.specs.List.{AllByRecursion}
-use Rattle.list_facts.proofs.Options.{same_Some}
+use Rattle.list_lemmas.proofs.Options.{same_Some}
 use Rattle.entry_ref.specs.Records.{Records}
 use Rattle.array_store.proofs.ArrayLemmas.{list_array}
 use Rattle.array_store.specs.Arrays.{IsArray}
-use Rattle.attr_images.specs.Documents.{weighted, items_at, column_at, AreItemRecords}
-use Rattle.attr_images.specs.Values.{IsValueRecord}
-use Rattle.attr_images.specs.Words.{stored_items}
+use Rattle.image_format.specs.Documents.{weighted, items_at, column_at, AreItemRecords}
+use Rattle.image_format.specs.Values.{IsValueRecord}
+use Rattle.image_format.specs.Words.{stored_items}
 use Rattle.attr_types.specs.Change.{most_items}
 use Rattle.attr_types.specs.declared.kind.Kind.{Kind}
 use Rattle.attr_types.specs.declared.kind.Kind.TheVariants.{Single, Array, WeightedSet}

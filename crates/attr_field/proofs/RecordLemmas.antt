@@ -3,9 +3,9 @@ use Rattle.std.proofs.Common.{◌≡◌, ℕ, zero, suc, ℤ, List, [], ◌∷�
 use Rattle.std.specs.List.{flat_map, AllByRecursion}
 use Rattle.entry_ref.specs.Records.{Records, SameAt}
 use Rattle.tree_read.specs.ProofsForTrees.{SameAt-left, SameAt-right}
-use Rattle.attr_images.specs.Documents.{weighted, items_at, IsItemsRecord}
-use Rattle.attr_images.specs.Values.{value_of, IsValueRecord}
-use Rattle.attr_images.specs.Words.{IsStoredList}
+use Rattle.image_format.specs.Documents.{weighted, items_at, IsItemsRecord}
+use Rattle.image_format.specs.Values.{value_of, IsValueRecord}
+use Rattle.image_format.specs.Words.{IsStoredList}
 use Rattle.attr_types.specs.Change.{most_items}
 use Rattle.attr_types.specs.Lawful.{IsLawfulItems}
 use Rattle.attr_types.specs.declared.items.Item.{Item}

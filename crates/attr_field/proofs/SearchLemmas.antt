@@ -3,9 +3,9 @@ use Rattle.std.proofs.Common.{◌≡◌, ℕ, suc, List, [], ◌∷◌, ◌++◌
 use Rattle.std.specs.Prelude.{slice_get}
 use Rattle.std.specs.List.{AllByRecursion}
 use Rattle.std.proofs.lemmas.List.{take_all}
-use Rattle.list_facts.proofs.Each.{AllByRecursion-append}
-use Rattle.list_facts.proofs.Places.{take-read}
-use Rattle.list_facts.proofs.Pairs.{AllZip-push}
+use Rattle.list_lemmas.proofs.Each.{AllByRecursion-append}
+use Rattle.list_lemmas.proofs.Places.{take-read}
+use Rattle.list_lemmas.proofs.Pairs.{AllZip-push}
 use Rattle.entry_ref.specs.Records.{Records}
 use Rattle.attr_field.specs.DocumentsChanges.{AreKeysOf, IsKeyOf}
 use Rattle.attr_types.specs.declared.items.Item.{Item}

@@ -6,16 +6,16 @@ use Rattle.std.specs.BTreeMap.{insert_entry, is_at}
 use Rattle.std.specs.List.{AllByRecursion, count_by}
 use Rattle.std.specs.List.Sorted.{IsStrictlySortedBy}
 use Rattle.std.specs.Map.{keys_of, lookup, remove_entry}
-use Rattle.list_facts.proofs.Options.{same_Some}
+use Rattle.list_lemmas.proofs.Options.{same_Some}
 use Rattle.entry_ref.specs.Records.{Records}
 use Rattle.store_api.proofs.May.{may_do-same}
 use Rattle.store_api.specs.Ledgers.{Ledger}
 use Rattle.store_api.specs.Parts.{Owns}
 use Rattle.store_api.specs.Units.{MayDo, MakesWithin}
-use Rattle.attr_images.specs.Postings.{index_of}
-use Rattle.attr_index.specs.Changes.{first_weights}
-use Rattle.attr_index.specs.Columns.{Column, IsLawfulColumn, items_of}
-use Rattle.attr_index.specs.Index.{IsFormed, list_of, with_posting, without_posting}
+use Rattle.image_format.specs.Postings.{index_of}
+use Rattle.index_model.specs.Changes.{first_weights}
+use Rattle.index_model.specs.Columns.{Column, IsLawfulColumn, items_of}
+use Rattle.index_model.specs.Index.{IsFormed, list_of, with_posting, without_posting}
 use Rattle.attr_types.proofs.EntryLemmas.{all-lookup}
 use Rattle.attr_types.specs.Lawful.{HaveWeightOne, IsLawfulItems}
 use Rattle.attr_types.specs.Value.{value_cmp}

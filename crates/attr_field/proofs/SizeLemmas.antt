@@ -11,17 +11,17 @@ use Rattle.std.specs.List.{cons_option, find, list_any}
 use Rattle.std.specs.Map.{keys_of, lookup}
 use Rattle.std.specs.Option.{is_some, option_map}
 use Rattle.std.specs.Ordering.{match_ordering}
-use Rattle.list_facts.proofs.Counts.{length-remove_entry}
+use Rattle.list_lemmas.proofs.Counts.{length-remove_entry}
 use Rattle.attr_types.specs.ProofsForOrder.{value_cmp_total}
 use Rattle.attr_types.specs.Value.{value_cmp}
 use Rattle.attr_types.specs.declared.items.Item.{Item}
 use Rattle.attr_types.specs.declared.value.Value.{Value}
-use Rattle.attr_index.proofs.MiddleLemmas.{both_walks}
-use Rattle.attr_index.proofs.OfLemmas.{any-append, has_some, any-index}
-use Rattle.attr_index.proofs.StayLemmas.{some-remove}
-use Rattle.attr_index.specs.Changes.{settled, IsBetween}
-use Rattle.attr_index.specs.Columns.{Column, documents_with}
-use Rattle.attr_index.specs.Index.{Index, IsIndexOf, list_of}
+use Rattle.index_model.proofs.MiddleLemmas.{both_walks}
+use Rattle.index_model.proofs.OfLemmas.{any-append, has_some, any-index}
+use Rattle.index_model.proofs.StayLemmas.{some-remove}
+use Rattle.index_model.specs.Changes.{settled, IsBetween}
+use Rattle.index_model.specs.Columns.{Column, documents_with}
+use Rattle.index_model.specs.Index.{Index, IsIndexOf, list_of}
 use Rattle.value_index.specs.Counts.{AddsLow, IsLow, RemovesLow}
 use Rattle.attr_field.specs.Counts.{StaysLow}
 use Rattle.attr_field.proofs.ChangeLemmas.{weights}

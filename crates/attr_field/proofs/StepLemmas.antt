@@ -12,13 +12,13 @@ use Rattle.store_api.proofs.Times.{among-times}
 use Rattle.attr_field.specs.DocumentsChanges.{AreBeside, MakesDocuments}
 use Rattle.attr_field.specs.Documents.{documents_part, documents_refer, IsDocuments}
 use Rattle.attr_field.specs.DocumentsLaws.{DocumentsStay, DocumentsHaveValues}
-use Rattle.attr_images.specs.Documents.{column_at}
-use Rattle.attr_images.specs.Postings.{index_of}
-use Rattle.attr_images.specs.Values.{stored_value}
-use Rattle.attr_index.proofs.OfLemmas.{no_documents}
-use Rattle.attr_index.specs.Changes.{IsBetween}
-use Rattle.attr_index.specs.Columns.{Column, column_values, documents_with}
-use Rattle.attr_index.specs.Index.{Index, IsIndexOf, list_of}
+use Rattle.image_format.specs.Documents.{column_at}
+use Rattle.image_format.specs.Postings.{index_of}
+use Rattle.image_format.specs.Values.{stored_value}
+use Rattle.index_model.proofs.OfLemmas.{no_documents}
+use Rattle.index_model.specs.Changes.{IsBetween}
+use Rattle.index_model.specs.Columns.{Column, column_values, documents_with}
+use Rattle.index_model.specs.Index.{Index, IsIndexOf, list_of}
 use Rattle.attr_types.specs.declared.kind.Kind.{Kind}
 use Rattle.attr_types.specs.declared.kind.ValueType.{ValueType}
 use Rattle.attr_types.specs.declared.value.Value.{Value}

@@ -8,14 +8,14 @@ use Rattle.std.specs.Ordering.{match_ordering}
 use Rattle.std.specs.declared.cmp.Ordering.TheVariants.{Less, Equal, Greater}
 use Rattle.std.specs.Map.{keys_of, lookup}
 use Rattle.std.specs.Option.{is_some}
-use Rattle.list_facts.proofs.Each.{AllByRecursion-weaker}
-use Rattle.attr_images.proofs.ImageLemmas.{value_typed}
-use Rattle.attr_images.specs.Documents.{column_at, items_at, weighted}
-use Rattle.attr_images.specs.Values.{stored_value}
-use Rattle.attr_index.proofs.MapLemmas.{lookup-first_weights}
-use Rattle.attr_index.specs.Changes.{first_weights, settled, IsBetween}
-use Rattle.attr_index.specs.Columns.{items_of}
-use Rattle.attr_index.specs.Index.{Index, list_of, weight_in}
+use Rattle.list_lemmas.proofs.Each.{AllByRecursion-weaker}
+use Rattle.image_format.proofs.ImageLemmas.{value_typed}
+use Rattle.image_format.specs.Documents.{column_at, items_at, weighted}
+use Rattle.image_format.specs.Values.{stored_value}
+use Rattle.index_model.proofs.MapLemmas.{lookup-first_weights}
+use Rattle.index_model.specs.Changes.{first_weights, settled, IsBetween}
+use Rattle.index_model.specs.Columns.{items_of}
+use Rattle.index_model.specs.Index.{Index, list_of, weight_in}
 use Rattle.attr_types.proofs.EntryLemmas.{all_keys-insert, all-lookup}
 use Rattle.attr_types.specs.ProofsForOrder.{value_cmp_total}
 use Rattle.attr_types.specs.Value.{value_cmp, values_of, type_of, AreOfType}

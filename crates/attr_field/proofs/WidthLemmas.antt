@@ -6,12 +6,12 @@ use Rattle.std.specs.BTreeMap.{insert_entry}
 use Rattle.std.specs.List.Sorted.{IsStrictlySortedBy}
 use Rattle.std.specs.Map.{keys_of}
 use Rattle.std.specs.Option.{is_some}
-use Rattle.attr_index.proofs.ChangeLemmas.{documents_with-at, documents_with-change, settled_is}
-use Rattle.attr_index.proofs.ListLemmas.{list_of-sorted}
-use Rattle.attr_index.proofs.PartLemmas.{insert_same, placed}
-use Rattle.attr_index.specs.Changes.{first_weights, settled, IsBetween}
-use Rattle.attr_index.specs.Columns.{Column, documents_with, items_of, with_change}
-use Rattle.attr_index.specs.Index.{Index, IsIndexOf, list_of, weight_in}
+use Rattle.index_model.proofs.ChangeLemmas.{documents_with-at, documents_with-change, settled_is}
+use Rattle.index_model.proofs.ListLemmas.{list_of-sorted}
+use Rattle.index_model.proofs.PartLemmas.{insert_same, placed}
+use Rattle.index_model.specs.Changes.{first_weights, settled, IsBetween}
+use Rattle.index_model.specs.Columns.{Column, documents_with, items_of, with_change}
+use Rattle.index_model.specs.Index.{Index, IsIndexOf, list_of, weight_in}
 use Rattle.attr_types.proofs.EntryLemmas.{lookup-insert_here, sorted-insert}
 use Rattle.attr_types.specs.declared.items.Item.{Item}
 use Rattle.attr_types.specs.declared.kind.Kind.{Kind}

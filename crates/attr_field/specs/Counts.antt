@@ -3,9 +3,9 @@ use Rattle.std.specs.Prelude.{Bool, ℕ, ℤ, ◌+◌, ◌*◌, ◌^◌, ◌<◌
 use Rattle.std.specs.BTreeMap.{is_at}
 use Rattle.std.specs.Map.{lookup}
 use Rattle.attr_field.specs.Items.{items_record}
-use Rattle.attr_index.specs.Changes.{first_weights}
-use Rattle.attr_index.specs.Columns.{Column, documents_with}
-use Rattle.attr_index.specs.Index.{Index, IsIndexOf}
+use Rattle.index_model.specs.Changes.{first_weights}
+use Rattle.index_model.specs.Columns.{Column, documents_with}
+use Rattle.index_model.specs.Index.{Index, IsIndexOf}
 use Rattle.attr_types.specs.Value.{value_cmp}
 use Rattle.attr_types.specs.declared.items.Item.{Item}
 use Rattle.attr_types.specs.declared.kind.Kind.{Kind}

@@ -6,7 +6,7 @@ use Rattle.entry_ref.specs.Records.{Records}
 use Rattle.tree_read.specs.Trees.{tree_nodes, tree_pairs}
 use Rattle.store_api.specs.Parts.{Part}
 use Rattle.doc_vector.specs.Documents.{IsDocumentMap}
-use Rattle.attr_images.specs.Documents.{weighted, items_at, AreItemRecords}
+use Rattle.image_format.specs.Documents.{weighted, items_at, AreItemRecords}
 use Rattle.attr_types.specs.Lawful.{IsLawfulItems}
 use Rattle.attr_types.specs.declared.kind.Kind.{Kind}
 use Rattle.attr_types.specs.declared.kind.Kind.TheVariants.{Single, Array, WeightedSet}

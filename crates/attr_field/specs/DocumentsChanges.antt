@@ -9,10 +9,10 @@ use Rattle.store_api.specs.Ledgers.{Ledger}
 use Rattle.store_api.specs.Parts.{Part, Owns, Turns, count_in, entries, uses}
 use Rattle.frozen_btree.specs.Changes.{tree}
 use Rattle.doc_vector.specs.Documents.{beside_document, IsDocumentMap}
-use Rattle.attr_images.specs.Documents.{column_at}
-use Rattle.attr_images.specs.Values.{stored_value, IsValueRecord}
-use Rattle.attr_images.specs.Words.{class_of}
-use Rattle.attr_index.specs.Columns.{Column}
+use Rattle.image_format.specs.Documents.{column_at}
+use Rattle.image_format.specs.Values.{stored_value, IsValueRecord}
+use Rattle.image_format.specs.Words.{class_of}
+use Rattle.index_model.specs.Columns.{Column}
 use Rattle.attr_types.specs.declared.items.Item.{Item}
 use Rattle.attr_types.specs.declared.kind.Kind.{Kind}
 use Rattle.attr_types.specs.declared.kind.ValueType.{ValueType}

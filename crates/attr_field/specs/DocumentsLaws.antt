@@ -4,9 +4,9 @@ use Rattle.std.specs.List.{AllByRecursion}
 use Rattle.std.specs.Ordering.{nat_cmp}
 use Rattle.entry_ref.specs.Records.{Records, SameAt, Among}
 use Rattle.tree_read.specs.Trees.{tree_nodes, tree_pairs, by_number, IsTree}
-use Rattle.attr_images.specs.Documents.{column_at, documents_reach, AreItemRecords}
-use Rattle.attr_images.specs.Values.{stored_value}
-use Rattle.attr_index.specs.Columns.{IsLawfulColumn, column_values}
+use Rattle.image_format.specs.Documents.{column_at, documents_reach, AreItemRecords}
+use Rattle.image_format.specs.Values.{stored_value}
+use Rattle.index_model.specs.Columns.{IsLawfulColumn, column_values}
 use Rattle.attr_types.specs.declared.kind.Kind.{Kind}
 use Rattle.attr_types.specs.declared.kind.ValueType.{ValueType}
 use Rattle.attr_field.specs.Documents.{documents_own, documents_refer, IsDocuments}

@@ -4,9 +4,9 @@ use Rattle.entry_ref.specs.Records.{Records, Among}
 use Rattle.store_api.specs.Ledgers.{Ledger}
 use Rattle.store_api.specs.Parts.{Part, count_in, uses}
 use Rattle.attr_field.specs.Documents.{documents_own, documents_refer, IsDocuments}
-use Rattle.attr_images.specs.Documents.{column_at}
-use Rattle.attr_images.specs.Postings.{index_of}
-use Rattle.attr_index.specs.Index.{IsIndexOf}
+use Rattle.image_format.specs.Documents.{column_at}
+use Rattle.image_format.specs.Postings.{index_of}
+use Rattle.index_model.specs.Index.{IsIndexOf}
 use Rattle.attr_types.specs.declared.kind.Kind.{Kind}
 use Rattle.attr_types.specs.declared.kind.ValueType.{ValueType}
 use Rattle.value_index.specs.Indexes.{index_reach, IsIndex, IsKey}

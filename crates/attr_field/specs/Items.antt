@@ -3,9 +3,9 @@ use Rattle.std.specs.Prelude.{◌≡◌, ℕ, zero, suc, ℤ, ◌+◌, ◌<◌, 
 use Rattle.entry_ref.specs.Records.{Records}
 use Rattle.store_api.specs.Ledgers.{Ledger}
 use Rattle.store_api.specs.Parts.{Turns, entries}
-use Rattle.attr_images.specs.Documents.{weighted, IsItemsRecord}
-use Rattle.attr_images.specs.Values.{stored_value}
-use Rattle.attr_images.specs.Words.{class_of, unpacked}
+use Rattle.image_format.specs.Documents.{weighted, IsItemsRecord}
+use Rattle.image_format.specs.Values.{stored_value}
+use Rattle.image_format.specs.Words.{class_of, unpacked}
 use Rattle.attr_types.specs.declared.items.Item.{Item}
 use Rattle.attr_types.specs.declared.kind.Kind.{Kind}
 use Rattle.attr_types.specs.declared.kind.Kind.TheVariants.{Single, Array, WeightedSet}

@@ -2,8 +2,8 @@
 use Rattle.std.specs.Prelude.{◌≡◌, ◌↔◌, ◌⊎◌, ℕ, []}
 use Rattle.entry_ref.specs.Records.{Records, SameAt, Among}
 use Rattle.attr_field.specs.Documents.{documents_refer}
-use Rattle.attr_images.specs.Attributes.{trees_reach, IsLawfulAttribute}
-use Rattle.attr_images.specs.Documents.{column_at}
+use Rattle.image_format.specs.Attributes.{trees_reach, IsLawfulAttribute}
+use Rattle.image_format.specs.Documents.{column_at}
 use Rattle.attr_types.specs.declared.kind.Kind.{Kind}
 use Rattle.attr_types.specs.declared.kind.ValueType.{ValueType}
 use Rattle.value_index.specs.Forms.{KeepsForm}

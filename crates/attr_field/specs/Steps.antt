@@ -5,12 +5,12 @@ use Rattle.entry_ref.specs.Records.{Records}
 use Rattle.store_api.specs.Ledgers.{Ledger}
 use Rattle.store_api.specs.Parts.{Owns, Turns}
 use Rattle.attr_field.specs.Documents.{documents_part, IsDocuments}
-use Rattle.attr_images.specs.Documents.{column_at}
-use Rattle.attr_images.specs.Postings.{index_of}
-use Rattle.attr_images.specs.Values.{stored_value, IsValueRecord}
-use Rattle.attr_index.specs.Changes.{first_weights}
-use Rattle.attr_index.specs.Columns.{Column}
-use Rattle.attr_index.specs.Index.{list_of}
+use Rattle.image_format.specs.Documents.{column_at}
+use Rattle.image_format.specs.Postings.{index_of}
+use Rattle.image_format.specs.Values.{stored_value, IsValueRecord}
+use Rattle.index_model.specs.Changes.{first_weights}
+use Rattle.index_model.specs.Columns.{Column}
+use Rattle.index_model.specs.Index.{list_of}
 use Rattle.attr_types.specs.Lawful.{HaveWeightOne}
 use Rattle.attr_types.specs.declared.items.Item.{Item}
 use Rattle.attr_types.specs.declared.kind.Kind.{Kind}

@@ -1,8 +1,8 @@
 -- The widths for which a change of a document's items may be refused.
 use Rattle.std.specs.Prelude.{◌⊎◌, Bool, ℕ, List, length, IsSome}
 use Rattle.attr_field.specs.DocumentsChanges.{IsDocumentWidth}
-use Rattle.attr_index.specs.Columns.{Column, documents_with}
-use Rattle.attr_index.specs.Index.{weight_in}
+use Rattle.index_model.specs.Columns.{Column, documents_with}
+use Rattle.index_model.specs.Index.{weight_in}
 use Rattle.attr_types.specs.declared.items.Item.{Item}
 use Rattle.attr_types.specs.declared.kind.Kind.{Kind}
 use Rattle.attr_types.specs.declared.value.Value.{Value}

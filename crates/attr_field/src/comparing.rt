@@ -4,8 +4,8 @@ ghost use Rattle.std.specs.Map.{lookup};
 ghost use Rattle.std.specs.Ordering.{int_eq, is_eq, nat_cmp};
 ghost use Rattle.attr_types.specs.Value.{value_cmp};
 ghost use Rattle.attr_field.specs.Documents.{IsDocuments};
-ghost use Rattle.attr_images.specs.Documents.{column_at};
-ghost use Rattle.attr_index.specs.Columns.{items_of};
+ghost use Rattle.image_format.specs.Documents.{column_at};
+ghost use Rattle.index_model.specs.Columns.{items_of};
 
 use crate::document_items;
 use arena_api::Frozen;

@@ -4,19 +4,19 @@ ghost use Rattle.std.specs.List.{AllByRecursion};
 ghost use Rattle.std.specs.Map.{lookup};
 ghost use Rattle.std.specs.Ordering.{nat_cmp};
 ghost use Rattle.array_store.specs.Arrays.{IsArray};
-ghost use Rattle.attr_images.specs.Documents.{column_at, items_at, AreItemRecords};
-ghost use Rattle.attr_images.specs.Values.{stored_value, IsValueRecord};
-ghost use Rattle.attr_images.specs.Words.{stored_items, unpacked};
+ghost use Rattle.image_format.specs.Documents.{column_at, items_at, AreItemRecords};
+ghost use Rattle.image_format.specs.Values.{stored_value, IsValueRecord};
+ghost use Rattle.image_format.specs.Words.{stored_items, unpacked};
 ghost use Rattle.attr_types.specs.declared.items.Item.{Item};
 ghost use Rattle.attr_field.specs.Documents.{IsDocuments};
 ghost use Rattle.attr_field.specs.Items.{item_of, word_entry};
 
 use arena_api::Frozen;
 use array_store::{count, get as array_item};
-use attr_images::WEIGHT_BASE;
 use attr_types::{Doc, Item, Items, Kind, Value, ValueType};
 use doc_vector::get;
 use entry_ref::EntryRef;
+use image_format::WEIGHT_BASE;
 use std::alloc::{AllocError, Global};
 use unique_store::{get as stored, value_law};
 

@@ -2,8 +2,8 @@ ghost use Rattle.std.specs.Prelude.{◌≡◌, ◌<◌, length, IfOk};
 ghost use Rattle.std.specs.List.{AllByRecursion};
 ghost use Rattle.attr_field.specs.DocumentsChanges.{AreKeysOf};
 ghost use Rattle.attr_field.specs.Steps.{FindsKey};
-ghost use Rattle.attr_images.specs.Postings.{index_of};
-ghost use Rattle.attr_index.specs.Index.{list_of};
+ghost use Rattle.image_format.specs.Postings.{index_of};
+ghost use Rattle.index_model.specs.Index.{list_of};
 ghost use Rattle.attr_types.specs.Value.{type_of, values_of, AreOfType};
 ghost use Rattle.value_index.specs.Indexes.{IsIndex, IsKey};
 

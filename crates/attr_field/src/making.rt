@@ -4,15 +4,15 @@ ghost use Rattle.store_api.specs.Calls.{RefusesOf};
 ghost use Rattle.store_api.specs.Parts.{Owns, Turns, entries};
 ghost use Rattle.store_api.specs.Units.{MayDo, MakesAtMost, MakesWithin};
 ghost use Rattle.array_store.specs.Adding.{MakesOneOf};
-ghost use Rattle.attr_images.specs.Words.{class_of};
+ghost use Rattle.image_format.specs.Words.{class_of};
 ghost use Rattle.attr_types.specs.Lawful.{IsLawfulItems};
 ghost use Rattle.attr_field.specs.Documents.{items_own};
 ghost use Rattle.attr_field.specs.Items.{entries_by_key, has_list, items_record, word_entry, IsItemsWidth, IsWeightOf, MakesItems};
 
 use array_store::add;
-use attr_images::WEIGHT_BASE;
 use attr_types::{Item, Kind};
 use entry_ref::EntryRef;
+use image_format::WEIGHT_BASE;
 use std::alloc::{AllocError, Global};
 use store_api::{Store, StoreError, drop_one, may_do_law};
 

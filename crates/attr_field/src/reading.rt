@@ -3,7 +3,7 @@ ghost use Rattle.std.specs.BTreeMap.{is_at};
 ghost use Rattle.std.specs.Map.{lookup};
 ghost use Rattle.std.specs.Ordering.{nat_cmp};
 ghost use Rattle.attr_field.specs.Fields.{IsField};
-ghost use Rattle.attr_images.specs.Documents.{column_at};
+ghost use Rattle.image_format.specs.Documents.{column_at};
 
 use crate::document_items as read_items;
 use crate::roots::FieldRoots;

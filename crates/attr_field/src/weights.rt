@@ -3,8 +3,8 @@ ghost use Rattle.std.specs.Prelude.{◌≡◌, IfOk, IsTrue};
 ghost use Rattle.attr_field.specs.Steps.{GivesWeights};
 ghost use Rattle.attr_types.specs.declared.kind.Kind.TheVariants.{Single};
 
-use attr_index::weights_of;
 use attr_types::{Item, Kind, Value};
+use index_model::weights_of;
 use std::alloc::{AllocError, Global};
 use std::collections::BTreeMap;
 

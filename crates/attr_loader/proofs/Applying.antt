@@ -10,8 +10,8 @@ use Rattle.store_api.specs.Calls.{with_hold}
 use Rattle.store_api.specs.Ledgers.{Ledger}
 use Rattle.attr_types.specs.declared.applied.Applied.{Applied}
 use Rattle.attr_types.specs.declared.applied.Applied.TheVariants.{Changed, Skipped}
-use Rattle.attr_images.specs.Images.{IsLawfulImage, table_of}
-use Rattle.attr_images.specs.Shapes.{shape_of, types_of}
+use Rattle.image_format.specs.Images.{IsLawfulImage, table_of}
+use Rattle.image_format.specs.Shapes.{shape_of, types_of}
 use Rattle.attr_types.specs.Table.{Table, after_op, is_skipped, after_ops, skipped_ops}
 use Rattle.attr_types.specs.declared.field.Field.{Field}
 use Rattle.attr_types.specs.declared.op.Op.{Op}

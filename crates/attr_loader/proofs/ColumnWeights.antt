@@ -12,11 +12,11 @@ use Rattle.std.specs.List.{cons_option, find, list_any}
 use Rattle.std.specs.Map.{keys_of, lookup, remove_entry}
 use Rattle.std.specs.Option.{is_some, option_map}
 use Rattle.std.specs.Ordering.{match_ordering}
-use Rattle.attr_index.proofs.MapLemmas.{lookup-first_weights}
-use Rattle.attr_index.proofs.OfLemmas.{any-append, any-index, has_some}
-use Rattle.attr_index.specs.Changes.{first_weights}
-use Rattle.attr_index.specs.Columns.{Column, documents_with}
-use Rattle.attr_index.specs.Index.{Index, IsIndexOf, weight_in}
+use Rattle.index_model.proofs.MapLemmas.{lookup-first_weights}
+use Rattle.index_model.proofs.OfLemmas.{any-append, any-index, has_some}
+use Rattle.index_model.specs.Changes.{first_weights}
+use Rattle.index_model.specs.Columns.{Column, documents_with}
+use Rattle.index_model.specs.Index.{Index, IsIndexOf, weight_in}
 use Rattle.attr_types.specs.ProofsForOrder.{value_cmp_total}
 use Rattle.attr_types.specs.Value.{value_cmp}
 use Rattle.attr_types.specs.declared.items.Item.{Item}

@@ -8,10 +8,10 @@ use Rattle.store_api.specs.Ledgers.{is_width}
 use Rattle.attr_field.specs.Counts.{change_records, entry_weight, new_values}
 use Rattle.attr_field.specs.Items.{has_list, items_record}
 use Rattle.attr_field.specs.Widths.{IsFieldWidth}
-use Rattle.attr_images.specs.Values.{value_words}
-use Rattle.attr_images.specs.Words.{class_of}
-use Rattle.attr_index.specs.Changes.{first_weights}
-use Rattle.attr_index.specs.Columns.{Column, documents_with}
+use Rattle.image_format.specs.Values.{value_words}
+use Rattle.image_format.specs.Words.{class_of}
+use Rattle.index_model.specs.Changes.{first_weights}
+use Rattle.index_model.specs.Columns.{Column, documents_with}
 use Rattle.attr_types.specs.declared.items.Item.{Item}
 use Rattle.attr_types.specs.declared.kind.Kind.{Kind}
 use Rattle.attr_types.specs.declared.value.Value.{Value}

@@ -18,11 +18,11 @@ use Rattle.attribute_kinds.specs.Counts.{operation_values, HasNoVectors}
 use Rattle.attribute_kinds.specs.Views.{AttributeView}
 use Rattle.attr_loader.proofs.Points.{batch_of, whole}
 use Rattle.array_store.specs.Adding.{MakesOneOf}
-use Rattle.attr_images.specs.Words.{class_of}
-use Rattle.attr_steps.specs.Counts.{MakesOperation}
-use Rattle.attr_steps.specs.Widths.{IsOperationWidth}
+use Rattle.image_format.specs.Words.{class_of}
+use Rattle.attr_operations.specs.Counts.{MakesOperation}
+use Rattle.attr_operations.specs.Widths.{IsOperationWidth}
 use Rattle.attr_types.specs.Lawful.{OpFits}
-use Rattle.compact_steps.specs.Counts.{MakesKeys}
+use Rattle.compaction_steps.specs.Counts.{MakesKeys}
 use Rattle.attr_loader.proofs.RoomSteps.{made_after, made_keys, made_refused, made_root}
 use Rattle.attr_loader.specs.Batches.{AddsQuietly, AddsSteps, AppliesRoom, CommitsBatch, CommitsRoom, LoadsRoom, RefusesSteps}
 use Rattle.attr_loader.specs.Loading.{commit_point}

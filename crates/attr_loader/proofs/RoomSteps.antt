@@ -18,20 +18,20 @@ use Rattle.attr_field.specs.Counts.{change_records, entry_weight, lost_values, n
 use Rattle.attr_field.specs.Forms.{wants}
 use Rattle.attr_field.specs.Items.{items_record}
 use Rattle.attr_field.specs.Widths.{IsFieldWidth}
-use Rattle.attr_images.specs.Words.{class_of}
-use Rattle.attr_images.specs.declared.TheConstants.{LEAST_DENSE}
-use Rattle.attr_index.proofs.ColumnLemmas.{operation_changes}
-use Rattle.attr_index.specs.Changes.{first_weights}
-use Rattle.attr_index.specs.Columns.{Column, column_of, documents_with, with_change}
+use Rattle.image_format.specs.Words.{class_of}
+use Rattle.image_format.specs.declared.TheConstants.{LEAST_DENSE}
+use Rattle.index_model.proofs.ColumnLemmas.{operation_changes}
+use Rattle.index_model.specs.Changes.{first_weights}
+use Rattle.index_model.specs.Columns.{Column, column_of, documents_with, with_change}
 use Rattle.attr_loader.proofs.Levels.{levels_there}
 use Rattle.attr_loader.proofs.Steps.{counts_rise, keys_long, keys_made, operation_few, operation_long, operation_made, root_long, root_made}
 use Rattle.attr_loader.specs.Laws.{HasLevels}
 use Rattle.attr_loader.specs.Made as room
 use Rattle.attr_loader.specs.Made.{Steps, HasMade, RiseBy, after_keys, after_operation, after_root, both, broad_sum, pairs_of}
 use Rattle.attr_loader.specs.Runs.{AreLevels}
-use Rattle.attr_steps.proofs.Reading.{column_length}
-use Rattle.attr_steps.specs.Widths.{IsOperationWidth}
-use Rattle.attr_steps.specs.Counts.{document_after, document_before, document_records, items_if_there, kind_at, low_document, operation_forms, weights_at, MakesOperation}
+use Rattle.attr_operations.proofs.Reading.{column_length}
+use Rattle.attr_operations.specs.Widths.{IsOperationWidth}
+use Rattle.attr_operations.specs.Counts.{document_after, document_before, document_records, items_if_there, kind_at, low_document, operation_forms, weights_at, MakesOperation}
 use Rattle.attr_types.proofs.EntryLemmas.{all-lookup}
 use Rattle.attr_types.proofs.TableLemmas.{step_keeps}
 use Rattle.attr_types.specs.Lawful.{DocumentHasType, IsLawfulTable, OpFits}
@@ -50,7 +50,7 @@ use Rattle.attr_types.specs.declared.value.Value.TheVariants as values
 use Rattle.attribute_kinds.proofs.RecordSums.{field_sum, over, over_walk, all_values}
 use Rattle.attribute_kinds.proofs.RoomLemmas.{sparse_none}
 use Rattle.attribute_kinds.specs.Counts.{operation_values, AreShort, HasNoVectors, IsSparse}
-use Rattle.compact_steps.specs.Counts.{AreSingleLong, MakesKeys}
+use Rattle.compaction_steps.specs.Counts.{AreSingleLong, MakesKeys}
 use Rattle.compaction_moves.specs.Counts.{key_nodes, IsLowColumn}
 use Rattle.value_index.proofs.CountLemmas.{within_more}
 use Rattle.value_index.specs.Counts.{besides, by_width, is_added, is_gone, new_record, put_records, taken_records}

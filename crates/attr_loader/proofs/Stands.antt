@@ -14,8 +14,8 @@ use Rattle.arena_api.specs.Works.{Sizes}
 use Rattle.attr_loader.specs.Runs.{IsOwed, IsSmall}
 use Rattle.attr_loader.specs.Room.{load_of, HasMadeNothing}
 use Rattle.store_api.specs.Ledgers.{Ledger}
-use Rattle.attr_images.specs.Images.{IsLawfulImage, table_of}
-use Rattle.attr_images.specs.Shapes.{shape_of, types_of}
+use Rattle.image_format.specs.Images.{IsLawfulImage, table_of}
+use Rattle.image_format.specs.Shapes.{shape_of, types_of}
 use Rattle.attr_types.specs.Table.{after_ops, after, skipped, skipped_ops}
 use Rattle.attr_types.specs.declared.field.Field.{Field}
 use Rattle.attr_types.specs.declared.op.Op.{Op}

@@ -8,8 +8,8 @@ use Rattle.arena_api.specs.Works.{free_count}
 use Rattle.store_api.specs.Ledgers.{Ledger, active_count, capacity, held_count, is_width}
 use Rattle.attr_types.specs.declared.applied.Applied.{Applied}
 use Rattle.attr_types.specs.declared.applied.Applied.TheVariants.{Changed, Skipped}
-use Rattle.attr_images.specs.Images.{IsLawfulImage, table_of, operations_at}
-use Rattle.attr_images.specs.Shapes.{shape_of, types_of}
+use Rattle.image_format.specs.Images.{IsLawfulImage, table_of, operations_at}
+use Rattle.image_format.specs.Shapes.{shape_of, types_of}
 use Rattle.attr_types.specs.Table.{after_ops, skipped_ops}
 use Rattle.attr_types.specs.declared.op.Op.{Op}
 use Rattle.attribute_kinds.specs.Views.{AttributeView}

@@ -2,9 +2,9 @@
 use Rattle.std.specs.Prelude.{◌≡◌, ℕ, ◌+◌, ◌<◌, ◌≤◌, Bool, true, false, ◌&&◌, List, [], ◌∷◌, length}
 use Rattle.std.specs.List.{sum_by}
 use Rattle.store_api.specs.Ledgers.{Ledger, no_counts}
-use Rattle.attr_images.specs.declared.TheConstants.{LEAST_DENSE}
-use Rattle.attr_index.specs.Changes.{first_weights}
-use Rattle.attr_index.specs.Columns.{Column, column_of}
+use Rattle.image_format.specs.declared.TheConstants.{LEAST_DENSE}
+use Rattle.index_model.specs.Changes.{first_weights}
+use Rattle.index_model.specs.Columns.{Column, column_of}
 use Rattle.attr_loader.specs.Made.{Steps, HasFewLong, HasMade, IsWithin, after_operation, is_width}
 use Rattle.attr_loader.specs.Runs.{Load, capacity}
 use Rattle.attr_types.specs.Lawful.{DocumentsHaveType, IsLawfulTable}

@@ -9,10 +9,10 @@ ghost use Rattle.attr_loader.specs.Runs.{step_keys};
 
 use crate::error::LoadError;
 use arena_api::Work;
-use attr_images::AttrLayout;
 use attr_io::{Gate, Point};
 use attr_types::{Applied, Op};
 use attribute_kinds::{AttrError, Attribute};
+use image_format::AttrLayout;
 use std::alloc::{AllocError, Global};
 use store_api::Store;
 

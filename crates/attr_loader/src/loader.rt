@@ -4,10 +4,10 @@ ghost use Rattle.attr_loader.specs.Loading.{CanLoad, IsSpent, Loads};
 use crate::batch::{Batch, load_batch};
 use crate::error::LoadError;
 use crate::loaded::{Loaded, NoRoom};
-use attr_images::{AttrLayout, image_law};
 use attr_io::Gate;
 use attr_types::Op;
 use attribute_kinds::Attribute;
+use image_format::{AttrLayout, image_law};
 use std::alloc::Global;
 use store_api::Store;
 

@@ -4,10 +4,10 @@ ghost use Rattle.attr_loader.specs.Loading.{CanLoad, IsSpent, Loads};
 use crate::error::LoadError;
 use crate::loaded::Loaded;
 use crate::loader::load;
-use attr_images::AttrLayout;
 use attr_io::{Gate, Task};
 use attr_types::Op;
 use attribute_kinds::Attribute;
+use image_format::AttrLayout;
 use std::alloc::Global;
 use store_api::Store;
 

@@ -12,8 +12,8 @@ use Rattle.std.specs.List.Sorted.{IsStrictlySortedBy}
 use Rattle.std.specs.Map.{keys_of, lookup}
 use Rattle.std.specs.Ordering.{nat_cmp, match_ordering, is_eq, MatchOrdering, ordering_reverse}
 use Rattle.entry_ref.specs.Records.{Records}
-use Rattle.attr_images.specs.Documents.{items_at}
-use Rattle.attr_index.specs.Columns.{Column, column_of}
+use Rattle.image_format.specs.Documents.{items_at}
+use Rattle.index_model.specs.Columns.{Column, column_of}
 use Rattle.attr_types.specs.Query.{items_in}
 use Rattle.attr_types.specs.Table.{Table}
 use Rattle.attr_types.specs.declared.items.Item.{Item}

@@ -7,12 +7,12 @@ use Rattle.entry_ref.specs.Records.{Records}
 use Rattle.tree_read.specs.Trees.{tree_pairs}
 use Rattle.doc_vector.specs.Documents.{IsDocumentPair}
 use Rattle.attr_field.specs.Documents.{IsDocuments, AreItemsAt}
-use Rattle.attr_images.specs.Attributes.{IsLawfulAttribute}
-use Rattle.attr_images.specs.Documents.{AreItemRecords}
-use Rattle.attr_images.specs.Images.{documents_at, IsLawfulImage}
-use Rattle.attr_images.specs.Shapes.{shape_of, types_of}
-use Rattle.attr_images.proofs.FilledLemmas.{some_list, some_value}
-use Rattle.attr_images.proofs.ImageLemmas.{field_is_there}
+use Rattle.image_format.specs.Attributes.{IsLawfulAttribute}
+use Rattle.image_format.specs.Documents.{AreItemRecords}
+use Rattle.image_format.specs.Images.{documents_at, IsLawfulImage}
+use Rattle.image_format.specs.Shapes.{shape_of, types_of}
+use Rattle.image_format.proofs.FilledLemmas.{some_list, some_value}
+use Rattle.image_format.proofs.ImageLemmas.{field_is_there}
 use Rattle.attr_types.specs.Change.{most_items}
 use Rattle.attr_types.specs.Lawful.{IsDocNumber, IsLawfulItems}
 use Rattle.attr_types.specs.declared.field.Field.{Field}

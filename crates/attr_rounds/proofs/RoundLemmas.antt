@@ -5,7 +5,7 @@ use Rattle.std.specs.List.{AllZip}
 use Rattle.std.specs.List.Sorted.{IsNonDecreasing}
 use Rattle.std.proofs.lemmas.List.{length_push, map-append, reverse-append, get_or_push, get_or_append_left}
 use Rattle.std.proofs.lemmas.List.Sorted.{IsNonDecreasingBy-push}
-use Rattle.list_facts.proofs.Pairs.{AllZip-push}
+use Rattle.list_lemmas.proofs.Pairs.{AllZip-push}
 use Rattle.entry_ref.specs.declared.images.Image.{Image}
 use Rattle.entry_ref.specs.Records.{Records}
 use Rattle.gen_core.specs.declared.views.Sizes.{Sizes}

@@ -1,7 +1,7 @@
 -- The lines in which a table's answers are written.
 use Rattle.std.specs.Prelude.{◌≡◌, ℕ, ◌+◌, ◌<◌, ◌≤◌, ◌^◌, Bool, true, false, List, [], ◌∷◌, ◌++◌, length, string_bytes}
 use Rattle.attr_types.specs.Scores.{AskTree, Answer, answer_on, documents_in}
-use Rattle.attr_images.specs.Shapes.{shape_of, types_of}
+use Rattle.image_format.specs.Shapes.{shape_of, types_of}
 use Rattle.attr_types.specs.Table.{Table}
 use Rattle.attr_types.specs.declared.field.Field.{Field}
 use Rattle.attr_types.specs.declared.field.TheConstants.{MOST_FIELDS}

@@ -2,7 +2,7 @@
 use Rattle.std.specs.Prelude.{◌≡◌, ℕ, Vec}
 use Rattle.std.specs.Global.{Global}
 use Rattle.entry_ref.specs.Records.{Records}
-use Rattle.attr_images.specs.Images.{operations_at}
+use Rattle.image_format.specs.Images.{operations_at}
 use Rattle.attr_types.specs.declared.field.Field.{Field}
 use Rattle.attr_saver.specs.Bytes.{saved_bytes}
 use Rattle.attr_saver.specs.Images.{image_save}

@@ -1,14 +1,14 @@
 ghost use Rattle.std.specs.Prelude.{◌≡◌, length, map, IfOk};
 ghost use Rattle.attr_rounds.specs.Lines.{CanAsk, TellsTable};
-ghost use Rattle.attr_images.specs.Images.{operations_at, table_of, IsLawfulImage};
+ghost use Rattle.image_format.specs.Images.{operations_at, table_of, IsLawfulImage};
 ghost use Rattle.attr_types.specs.Scores.{ask_tree};
 
 use crate::Question;
 use crate::lines::{operations_in, push_lines};
 use arena_api::Frozen;
-use attr_images::AttrLayout;
 use attr_types::{Ask, Fields};
 use entry_ref::EntryRef;
+use image_format::AttrLayout;
 use query_eval::documents;
 use std::alloc::{AllocError, Global};
 

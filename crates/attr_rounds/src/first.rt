@@ -1,7 +1,7 @@
 ghost use Rattle.std.specs.Prelude.{◌≡◌, ◌≤◌, ◌<◌, ◌^◌, Some, length, slice_get, slice_index, IfOk};
-ghost use Rattle.attr_images.specs.Images.{root_words, table_of, IsLawfulImage};
-ghost use Rattle.attr_images.specs.Shapes.{shape_of, types_of};
-ghost use Rattle.attr_index.specs.Columns.{column_of};
+ghost use Rattle.image_format.specs.Images.{root_words, table_of, IsLawfulImage};
+ghost use Rattle.image_format.specs.Shapes.{shape_of, types_of};
+ghost use Rattle.index_model.specs.Columns.{column_of};
 ghost use Rattle.attr_types.specs.declared.field.TheConstants.{MOST_FIELDS};
 
 use crate::reading::documents_in;

@@ -1,8 +1,8 @@
 //! The lines of the answers of an image.
 ghost use Rattle.std.specs.Prelude.{◌≡◌, ◌≤◌, ◌<◌, ◌++◌, ◌^◌, length, map, OnOk, string_bytes};
 ghost use Rattle.attr_rounds.specs.Lines.{line_of, lines_from};
-ghost use Rattle.attr_images.specs.Images.{operations_at, table_of, IsLawfulImage};
-ghost use Rattle.attr_images.specs.Shapes.{shape_of, types_of};
+ghost use Rattle.image_format.specs.Images.{operations_at, table_of, IsLawfulImage};
+ghost use Rattle.image_format.specs.Shapes.{shape_of, types_of};
 ghost use Rattle.attr_types.specs.Scores.{ask_tree, answer_on, documents, scored};
 ghost use Rattle.attr_types.specs.declared.field.TheConstants.{MOST_FIELDS};
 

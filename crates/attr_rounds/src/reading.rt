@@ -3,8 +3,8 @@ ghost use Rattle.std.specs.BTreeMap.{insert_entry, is_at};
 ghost use Rattle.std.specs.Map.{lookup};
 ghost use Rattle.std.specs.Ordering.{nat_cmp};
 ghost use Rattle.attr_field.specs.Documents.{IsDocuments};
-ghost use Rattle.attr_images.specs.Documents.{column_at};
-ghost use Rattle.attr_index.specs.Columns.{column_of};
+ghost use Rattle.image_format.specs.Documents.{column_at};
+ghost use Rattle.index_model.specs.Columns.{column_of};
 ghost use Rattle.attr_types.specs.declared.items.Item.{Item};
 
 use arena_api::Frozen;

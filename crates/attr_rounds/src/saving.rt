@@ -1,7 +1,7 @@
 //! The save of a commit: a question of a reader, and the task that asks it once.
 ghost use Rattle.std.specs.Prelude.{◌≡◌, length, IfOk};
 ghost use Rattle.word_arena.specs.Ruled.{reader_of};
-ghost use Rattle.attr_images.specs.Images.{operations_at, IsLawfulImage};
+ghost use Rattle.image_format.specs.Images.{operations_at, IsLawfulImage};
 ghost use Rattle.attr_saver.specs.Bytes.{saved_bytes};
 ghost use Rattle.attr_saver.specs.Images.{image_save, IsFirst};
 ghost use Rattle.attr_rounds.specs.Rounds.{MakesRounds};
@@ -10,11 +10,11 @@ ghost use Rattle.attr_rounds.specs.Saves.{operations_of, saves_of};
 use crate::Question;
 use crate::rounds::{Reading, go_round};
 use arena_api::Frozen;
-use attr_images::AttrLayout;
 use attr_io::{Failed, Gate, Point, Sink, Task};
 use attr_saver::{SaveError, save, saved_size};
 use attr_types::{Field, Kind, ValueType};
 use entry_ref::EntryRef;
+use image_format::AttrLayout;
 use std::alloc::{AllocError, Global};
 use word_arena::Reader;
 

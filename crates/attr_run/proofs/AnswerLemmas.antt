@@ -8,8 +8,8 @@ use Rattle.clap.specs.Faults.{fault_of}
 use Rattle.attr_io.specs.Bytes.{OfBytes}
 use Rattle.attr_io.specs.Faults.{Rose}
 use Rattle.attr_types.specs.declared.op.Op.{Op}
-use Rattle.attr_words.specs.CommandLine.{attr_app}
-use Rattle.attr_words.specs.Reading.{AskForHelp}
+use Rattle.command_line.specs.CommandLine.{attr_app}
+use Rattle.command_line.specs.Reading.{AskForHelp}
 use Rattle.attr_report.specs.Run.{Run, Progress}
 use Rattle.attr_report.specs.Report.{written}
 use Rattle.attr_run.specs.Run.{Task, asked, ReadsFeed, task_of}

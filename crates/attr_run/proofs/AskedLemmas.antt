@@ -5,11 +5,11 @@ use Rattle.clap.specs.Walk.{Text}
 use Rattle.clap.specs.Faults.{fault_of}
 use Rattle.attr_types.specs.declared.error.QueryError.{QueryError}
 use Rattle.attr_types.specs.declared.field.Field.{Field}
-use Rattle.attr_words.specs.CommandLine.{attr_app}
-use Rattle.attr_words.specs.Reading.{AskForHelp, AreRefused}
-use Rattle.attr_words.specs.Settings.{Given, Says as SaysOfWords, settings_in}
-use Rattle.attr_words.specs.declared.reading.WordsError.{WordsError}
-use Rattle.attr_words.specs.declared.reading.WordsError.TheVariants as words
+use Rattle.command_line.specs.CommandLine.{attr_app}
+use Rattle.command_line.specs.Reading.{AskForHelp, AreRefused}
+use Rattle.command_line.specs.Settings.{Given, Says as SaysOfWords, settings_in}
+use Rattle.command_line.specs.declared.reading.WordsError.{WordsError}
+use Rattle.command_line.specs.declared.reading.WordsError.TheVariants as words
 use Rattle.attr_types.specs.Scores.{AskTree}
 use Rattle.query_text.specs.Asks.{ask_of}
 use Rattle.attr_report.specs.Run.{Run, run_in}

@@ -9,13 +9,13 @@ use Rattle.clap.specs.declared.error.kind.ErrorKind.{ErrorKind}
 use Rattle.clap.specs.declared.error.kind.ErrorKind.TheVariants as kinds
 use Rattle.attr_types.specs.declared.field.Field.{Field}
 use Rattle.attr_types.specs.Names.{kind_named, value_named}
-use Rattle.attr_words.specs.CommandLine.{attr_app}
-use Rattle.attr_words.specs.Reading.{Said, said_by, AskForHelp, AreRefused}
-use Rattle.attr_words.specs.Also.{◌>>=◌, Piece, pieces, part_at, new_name, or_broken, or_surplus, field_of_parts}
-use Rattle.attr_words.specs.Also.{field_in, next_field, fields_from, named_fields}
-use Rattle.attr_words.specs.Settings.{Given, or_refused, if_room, settings_by, said_or_refused, said_in, settings_in}
-use Rattle.attr_words.specs.declared.reading.WordsError.{WordsError}
-use Rattle.attr_words.specs.declared.reading.WordsError.TheVariants as words
+use Rattle.command_line.specs.CommandLine.{attr_app}
+use Rattle.command_line.specs.Reading.{Said, said_by, AskForHelp, AreRefused}
+use Rattle.command_line.specs.Also.{◌>>=◌, Piece, pieces, part_at, new_name, or_broken, or_surplus, field_of_parts}
+use Rattle.command_line.specs.Also.{field_in, next_field, fields_from, named_fields}
+use Rattle.command_line.specs.Settings.{Given, or_refused, if_room, settings_by, said_or_refused, said_in, settings_in}
+use Rattle.command_line.specs.declared.reading.WordsError.{WordsError}
+use Rattle.command_line.specs.declared.reading.WordsError.TheVariants as words
 
 -- a refusal of what the options say
 abbrev pub IsLate : WordsError → Type 0

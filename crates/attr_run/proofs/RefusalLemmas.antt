@@ -5,7 +5,7 @@ use Rattle.std.specs.Str.{IsUtf8}
 use Rattle.clap.specs.Walk.{Text}
 use Rattle.attr_types.specs.declared.error.QueryError.{QueryError}
 use Rattle.attr_types.specs.declared.field.Field.{Field}
-use Rattle.attr_words.specs.Settings.{Given, settings_in}
+use Rattle.command_line.specs.Settings.{Given, settings_in}
 use Rattle.attr_types.specs.Scores.{AskTree}
 use Rattle.query_text.specs.Asks.{ask_of}
 use Rattle.query_text.specs.Grammar.{any_word, Answers}

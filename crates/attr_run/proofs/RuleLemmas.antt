@@ -13,12 +13,12 @@ use Rattle.attr_types.specs.declared.field.Field.{Field}
 use Rattle.attr_types.specs.declared.kind.Kind.{Kind}
 use Rattle.attr_types.specs.declared.kind.ValueType.{ValueType}
 use Rattle.attr_types.specs.Names.{kind_named, value_named}
-use Rattle.attr_words.specs.CommandLine.{attr_app}
-use Rattle.attr_words.specs.Reading.{Said, said_by, AreTaken}
-use Rattle.attr_words.specs.Also.{◌>>=◌, named_fields}
-use Rattle.attr_words.specs.Settings.{Given, or_refused, if_room, are_too_many, settings_by, said_or_refused, said_in, settings_in}
-use Rattle.attr_words.specs.declared.reading.WordsError.{WordsError}
-use Rattle.attr_words.specs.declared.reading.WordsError.TheVariants as words
+use Rattle.command_line.specs.CommandLine.{attr_app}
+use Rattle.command_line.specs.Reading.{Said, said_by, AreTaken}
+use Rattle.command_line.specs.Also.{◌>>=◌, named_fields}
+use Rattle.command_line.specs.Settings.{Given, or_refused, if_room, are_too_many, settings_by, said_or_refused, said_in, settings_in}
+use Rattle.command_line.specs.declared.reading.WordsError.{WordsError}
+use Rattle.command_line.specs.declared.reading.WordsError.TheVariants as words
 use Rattle.attr_report.specs.Run.{Run}
 use Rattle.attr_run.specs.Run.{refusal_of, given_or_refused, asked}
 use Rattle.attr_run.specs.Settings.{QueriesAreRefused}

@@ -5,7 +5,7 @@ use Rattle.std.proofs.Math.Nat.{mul-le-mul}
 use Rattle.clap.specs.Walk.{Text}
 use Rattle.attr_io.specs.Bytes.{OfBytes}
 use Rattle.attr_types.specs.declared.op.Op.{Op}
-use Rattle.attr_words.specs.Settings.{are_too_many}
+use Rattle.command_line.specs.Settings.{are_too_many}
 use Rattle.attr_engine.specs.FullStore.{NoRoom, IsJustified}
 use Rattle.attr_report.specs.Run.{Run, Progress}
 use Rattle.attr_report.specs.Report.{written}

@@ -7,10 +7,10 @@ use Rattle.std.specs.Str.{IsUtf8}
 use Rattle.clap.specs.Walk.{Text}
 use Rattle.attr_types.specs.declared.error.QueryError.{QueryError}
 use Rattle.attr_types.specs.declared.field.Field.{Field}
-use Rattle.attr_words.specs.CommandLine.{make, seed}
-use Rattle.attr_words.specs.Reading.{IsWithin}
-use Rattle.attr_words.specs.Settings.{Given, settings_in, IsLawful, SettingsAreLawful}
-use Rattle.attr_words.specs.declared.reading.WordsError.{WordsError}
+use Rattle.command_line.specs.CommandLine.{make, seed}
+use Rattle.command_line.specs.Reading.{IsWithin}
+use Rattle.command_line.specs.Settings.{Given, settings_in, IsLawful, SettingsAreLawful}
+use Rattle.command_line.specs.declared.reading.WordsError.{WordsError}
 use Rattle.attr_types.specs.Scores.{AskTree}
 use Rattle.query_text.specs.Asks.{ask_of}
 use Rattle.query_text.specs.Grammar.{any_word, Answers}

@@ -5,11 +5,11 @@ use Rattle.clap.specs.Simple.{matches_of}
 use Rattle.attr_types.specs.Names.{kind_named, value_named}
 use Rattle.attr_types.specs.declared.error.QueryError.{QueryError}
 use Rattle.attr_types.specs.declared.field.Field.{Field}
-use Rattle.attr_words.specs.CommandLine.{attr_app}
-use Rattle.attr_words.specs.Reading.{Said, said_by, AreTaken, AreRefused}
-use Rattle.attr_words.specs.Also.{named_fields}
-use Rattle.attr_words.specs.Settings.{Given, settings_in, are_too_many}
-use Rattle.attr_words.specs.declared.reading.WordsError.TheVariants as words
+use Rattle.command_line.specs.CommandLine.{attr_app}
+use Rattle.command_line.specs.Reading.{Said, said_by, AreTaken, AreRefused}
+use Rattle.command_line.specs.Also.{named_fields}
+use Rattle.command_line.specs.Settings.{Given, settings_in, are_too_many}
+use Rattle.command_line.specs.declared.reading.WordsError.TheVariants as words
 use Rattle.attr_run.specs.Settings.{IsFirstRefused}
 use Rattle.attr_run.specs.declared.outcome.UsageCause.{UsageCause}
 use Rattle.attr_run.specs.declared.outcome.UsageCause.TheVariants as usage

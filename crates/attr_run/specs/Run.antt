@@ -7,9 +7,9 @@ use Rattle.clap.specs.Walk.{Text}
 use Rattle.attr_types.specs.declared.field.Field.{Field}
 use Rattle.attr_types.specs.declared.op.Op.{Op}
 use Rattle.attr_types.specs.declared.error.QueryError.{QueryError}
-use Rattle.attr_words.specs.Settings.{Given, settings_in}
-use Rattle.attr_words.specs.declared.reading.WordsError.{WordsError}
-use Rattle.attr_words.specs.declared.reading.WordsError.TheVariants as words
+use Rattle.command_line.specs.Settings.{Given, settings_in}
+use Rattle.command_line.specs.declared.reading.WordsError.{WordsError}
+use Rattle.command_line.specs.declared.reading.WordsError.TheVariants as words
 use Rattle.attr_types.specs.Scores.{AskTree}
 use Rattle.query_text.specs.Asks.{ask_of}
 use Rattle.attr_run.specs.Made.{made}

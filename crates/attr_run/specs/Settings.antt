@@ -6,9 +6,9 @@ use Rattle.std.specs.Str.{IsUtf8}
 use Rattle.clap.specs.Walk.{Text}
 use Rattle.attr_types.specs.declared.error.QueryError.{QueryError}
 use Rattle.attr_types.specs.declared.field.Field.{Field}
-use Rattle.attr_words.specs.CommandLine.{batch, readers, rounds, buffers, words, make, seed}
-use Rattle.attr_words.specs.Reading.{IsWithin}
-use Rattle.attr_words.specs.Settings.{Given, settings_in, are_too_many}
+use Rattle.command_line.specs.CommandLine.{batch, readers, rounds, buffers, words, make, seed}
+use Rattle.command_line.specs.Reading.{IsWithin}
+use Rattle.command_line.specs.Settings.{Given, settings_in, are_too_many}
 use Rattle.attr_types.specs.Scores.{AskTree}
 use Rattle.query_text.specs.Grammar.{any_word, Answers}
 use Rattle.attr_report.specs.Run.{Run}

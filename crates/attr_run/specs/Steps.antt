@@ -5,8 +5,8 @@ use Rattle.clap.specs.Walk.{Text}
 use Rattle.attr_io.specs.Bytes.{OfBytes}
 use Rattle.attr_io.specs.Faults.{Rose}
 use Rattle.attr_types.specs.declared.field.Field.{Field}
-use Rattle.attr_words.specs.declared.reading.WordsError.{WordsError}
-use Rattle.attr_words.specs.declared.reading.WordsError.TheVariants as words
+use Rattle.command_line.specs.declared.reading.WordsError.{WordsError}
+use Rattle.command_line.specs.declared.reading.WordsError.TheVariants as words
 use Rattle.feed_reader.specs.declared.error.FeedError.{FeedError}
 use Rattle.feed_reader.specs.declared.error.FeedError.TheVariants as feed_errors
 use Rattle.attr_engine.specs.FullStore.{NoRoom}

@@ -1,7 +1,7 @@
 //! The law of the settings of a run. The function does nothing; its contract is the law.
 ghost use Rattle.attr_run.specs.Settings.{RunsAreAsked, QueriesAreRefused};
 
-use attr_words::settings_law as words_law;
+use command_line::settings_law as words_law;
 use query_text::grammar_law;
 
 /// A run that words request is lawful: its numbers are in the ranges of their options, and its asks are the answers

@@ -2,8 +2,8 @@ ghost use Rattle.std.specs.Prelude.{◌≡◌, ◌<◌, ◌≤◌, ◌^◌, IfOk
 ghost use Rattle.std.specs.List.{AllByRecursion};
 ghost use Rattle.std.specs.Str.{IsUtf8};
 ghost use Rattle.clap.specs.Faults.{fault_of};
-ghost use Rattle.attr_words.specs.CommandLine.{attr_app};
-ghost use Rattle.attr_words.specs.Settings.{settings_in as given_in, given_by, IsLawful};
+ghost use Rattle.command_line.specs.CommandLine.{attr_app};
+ghost use Rattle.command_line.specs.Settings.{settings_in as given_in, given_by, IsLawful};
 ghost use Rattle.attr_types.specs.Scores.{ask_tree};
 ghost use Rattle.query_text.specs.Asks.{ask_of};
 ghost use Rattle.attr_report.specs.Run.{run_in};
@@ -17,7 +17,7 @@ use crate::stop::Stop;
 use crate::words::Words;
 use attr_report::{Make, Request};
 use attr_types::{Ask, Asks, Field, QueryError};
-use attr_words::{Settings, read_words};
+use command_line::{Settings, read_words};
 use query_text::parse_ask;
 use std::alloc::Global;
 

@@ -4,8 +4,8 @@ ghost use Rattle.std.specs.Io.KnownBytes.{Appends, Keeps};
 ghost use Rattle.attr_io.specs.Bytes.{OfBytes, ReadsPieces};
 ghost use Rattle.attr_io.specs.Faults.{Rose};
 ghost use Rattle.clap.specs.Faults.{fault_of};
-ghost use Rattle.attr_words.specs.CommandLine.{attr_app};
-ghost use Rattle.attr_words.specs.Reading.{AskForHelp};
+ghost use Rattle.command_line.specs.CommandLine.{attr_app};
+ghost use Rattle.command_line.specs.Reading.{AskForHelp};
 ghost use Rattle.feed_reader.specs.Feed.{most_bytes};
 ghost use Rattle.attr_report.specs.Report.{written};
 ghost use Rattle.attr_report.specs.History.{IsLoaded, IsRounds, IsAfterwards, IsSaved};
@@ -23,7 +23,7 @@ ghost use Rattle.attr_run.specs.declared.outcome.Status.TheVariants.{ReadFault};
 ghost use Rattle.attr_run.specs.declared.stop.Stop.TheVariants as stops;
 ghost use Rattle.std.specs.Prelude.{◌+◌, false};
 ghost use Rattle.std.specs.List.{AllByRecursion};
-ghost use Rattle.attr_words.specs.Settings.{are_too_many};
+ghost use Rattle.command_line.specs.Settings.{are_too_many};
 ghost use Rattle.attr_types.specs.Lawful.{OpFits};
 ghost use Rattle.attr_report.specs.Run.{run_in};
 ghost use Rattle.attr_engine.specs.FullStore.{load_in, readers_of, IsOwed, IsQuiet};
@@ -36,7 +36,7 @@ use crate::request::request_in;
 use crate::stop::Stop;
 use crate::texts::text_in;
 use crate::words::Words;
-use attr_engine::{EngineError, NoRoom, Written, engine_run};
+use attr_engine::{EngineError, NoRoom, Written, run_and_write};
 use attr_io::{Gate, Sink, Source, write_all};
 use attr_report::Request;
 use attr_types::{Op, RoundList};
@@ -86,13 +86,13 @@ fn run_by<R: Threads + Sync, G: Gate + Sync + 'static>(
     ensures { IfOk result (IsRunOf (run_in request.now) ops.now) }
 {
     if request.wide {
-        match engine_run::<19, R, G>(rt, alloc, request, ops, gate) {
+        match run_and_write::<19, R, G>(rt, alloc, request, ops, gate) {
             Ok(written) => Ok(written),
             Err(EngineError::Memory) => Err(AllocError),
             Err(EngineError::TooManyReaders) => unreachable!(),
         }
     } else {
-        match engine_run::<22, R, G>(rt, alloc, request, ops, gate) {
+        match run_and_write::<22, R, G>(rt, alloc, request, ops, gate) {
             Ok(written) => Ok(written),
             Err(EngineError::Memory) => Err(AllocError),
             Err(EngineError::TooManyReaders) => unreachable!(),

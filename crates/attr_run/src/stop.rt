@@ -3,7 +3,7 @@ ghost use Rattle.attr_run.specs.Steps.{feed_stop, words_stop};
 ghost use Rattle.attr_run.specs.declared.stop.Stop.TheVariants as stops;
 
 use crate::outcome::{FeedFault, Status, UsageCause};
-use attr_words::WordsError;
+use command_line::WordsError;
 use feed_reader::FeedError;
 use std::alloc::{AllocError, AllocFailed};
 

@@ -1,9 +1,9 @@
 -- The first attribute of images, by their shape.
 use Rattle.std.proofs.Common.{◌≡◌, ◌≤◌, suc, List, [], ◌∷◌, length, refl, ap, ◌∙◌, arith, Some}
 use Rattle.std.specs.Prelude.{slice_get}
-use Rattle.list_facts.proofs.Options.{same_Some}
-use Rattle.attr_images.proofs.ShapeLemmas.{shape_tells}
-use Rattle.attr_images.specs.Shapes.{shape_of, types_of}
+use Rattle.list_lemmas.proofs.Options.{same_Some}
+use Rattle.image_format.proofs.ShapeLemmas.{shape_tells}
+use Rattle.image_format.specs.Shapes.{shape_of, types_of}
 use Rattle.attr_types.specs.declared.field.Field.{Field}
 use Rattle.attr_types.specs.declared.field.TheConstants.{MOST_FIELDS}
 use Rattle.attr_types.specs.declared.kind.Kind.{Kind}

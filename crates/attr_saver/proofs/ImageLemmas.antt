@@ -6,21 +6,21 @@ use Rattle.std.specs.List.{flat_map, AllByRecursion}
 use Rattle.std.specs.Map.{keys_of}
 use Rattle.std.proofs.lemmas.Bool.{ltb-true}
 use Rattle.std.proofs.Math.Facts.{sfits_to_z, Fits-of_lt}
-use Rattle.list_facts.proofs.Options.{same_Some}
+use Rattle.list_lemmas.proofs.Options.{same_Some}
 use Rattle.entry_ref.specs.Records.{Records}
 use Rattle.tree_read.specs.Trees.{tree_pairs}
 use Rattle.array_store.proofs.ClassLemmas.{class_two}
-use Rattle.attr_images.proofs.FilledLemmas.{some_list, some_value}
-use Rattle.attr_images.proofs.ImageLemmas.{attributes_lawful, operations_few, items_typed, roots_there}
-use Rattle.attr_images.proofs.TableLemmas.{table_has_columns}
-use Rattle.attr_images.specs.Attributes.{IsLawfulAttribute}
-use Rattle.attr_images.specs.Documents.{weighted, items_at, column_at, AreItemRecords}
-use Rattle.attr_images.specs.Images.{root_words, operations_at, attributes_from, table_of, IsLawfulImage}
-use Rattle.attr_images.specs.Shapes.{types_of_shape}
-use Rattle.attr_images.specs.Tables.{table_of_columns, columns_at, AreLawfulAttributes}
-use Rattle.attr_images.specs.Values.{value_of, value_words, IsValueRecord}
-use Rattle.attr_images.specs.Words.{filled, stored_items, unpacked, weight_in_bits, IsStoredList}
-use Rattle.attr_index.specs.Columns.{Column, column_of}
+use Rattle.image_format.proofs.FilledLemmas.{some_list, some_value}
+use Rattle.image_format.proofs.ImageLemmas.{attributes_lawful, operations_few, items_typed, roots_there}
+use Rattle.image_format.proofs.TableLemmas.{table_has_columns}
+use Rattle.image_format.specs.Attributes.{IsLawfulAttribute}
+use Rattle.image_format.specs.Documents.{weighted, items_at, column_at, AreItemRecords}
+use Rattle.image_format.specs.Images.{root_words, operations_at, attributes_from, table_of, IsLawfulImage}
+use Rattle.image_format.specs.Shapes.{types_of_shape}
+use Rattle.image_format.specs.Tables.{table_of_columns, columns_at, AreLawfulAttributes}
+use Rattle.image_format.specs.Values.{value_of, value_words, IsValueRecord}
+use Rattle.image_format.specs.Words.{filled, stored_items, unpacked, weight_in_bits, IsStoredList}
+use Rattle.index_model.specs.Columns.{Column, column_of}
 use Rattle.attr_types.specs.Change.{most_items}
 use Rattle.attr_types.specs.Lawful.{IsDocNumber, IsLawfulItems, ItemsFit}
 use Rattle.attr_types.specs.Query.{items_in}

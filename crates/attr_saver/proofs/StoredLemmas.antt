@@ -4,14 +4,14 @@ use Rattle.std.proofs.Common.{◌∙◌, append-nil, arith}
 use Rattle.std.specs.Int.{w16, w32, w64, to_be_bytes, cast_signed, cast_unsigned}
 use Rattle.std.specs.List.{flat_map, AllByRecursion}
 use Rattle.std.proofs.lemmas.Int.{of_z-to_z}
-use Rattle.list_facts.proofs.Places.{drop-read}
+use Rattle.list_lemmas.proofs.Places.{drop-read}
 use Rattle.entry_ref.specs.Records.{Records}
 use Rattle.tree_read.specs.SearchPlaces.{first_key, first_value}
 use Rattle.array_store.proofs.ArrayLemmas.{list_array}
 use Rattle.array_store.specs.Arrays.{IsArray}
-use Rattle.attr_images.specs.Documents.{weighted, items_at, AreItemRecords}
-use Rattle.attr_images.specs.Values.{stored_text, stored_value, IsValueRecord}
-use Rattle.attr_images.specs.Words.{stored_items, unpacked}
+use Rattle.image_format.specs.Documents.{weighted, items_at, AreItemRecords}
+use Rattle.image_format.specs.Values.{stored_text, stored_value, IsValueRecord}
+use Rattle.image_format.specs.Words.{stored_items, unpacked}
 use Rattle.attr_types.specs.Change.{most_items}
 use Rattle.attr_types.specs.declared.items.Item.{Item}
 use Rattle.attr_types.specs.declared.kind.Kind.{Kind}

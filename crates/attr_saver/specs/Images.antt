@@ -1,8 +1,8 @@
 -- The save of an image: the first attribute of its table, after its operations.
 use Rattle.std.specs.Prelude.{◌≡◌, ℕ, Some, slice_get}
 use Rattle.entry_ref.specs.Records.{Records}
-use Rattle.attr_images.specs.Images.{operations_at, table_of, IsLawfulImage}
-use Rattle.attr_images.specs.Shapes.{types_of_shape}
+use Rattle.image_format.specs.Images.{operations_at, table_of, IsLawfulImage}
+use Rattle.image_format.specs.Shapes.{types_of_shape}
 use Rattle.attr_types.specs.declared.kind.Kind.{Kind}
 use Rattle.attr_types.specs.declared.kind.ValueType.{ValueType}
 use Rattle.attr_saver.specs.Lawful.{save_of, IsLawfulSaved}

@@ -5,9 +5,9 @@ use Rattle.std.specs.Io.KnownBytes.{Appends}
 use Rattle.std.specs.List.{AllByRecursion}
 use Rattle.entry_ref.specs.Records.{Records}
 use Rattle.tree_read.specs.Trees.{tree_pairs, IsRootNode}
-use Rattle.attr_images.specs.Documents.{items_at, AreItemRecords}
-use Rattle.attr_images.specs.Values.{stored_value}
-use Rattle.attr_images.specs.Words.{unpacked}
+use Rattle.image_format.specs.Documents.{items_at, AreItemRecords}
+use Rattle.image_format.specs.Values.{stored_value}
+use Rattle.image_format.specs.Words.{unpacked}
 use Rattle.attr_io.specs.Bytes.{AppendsFront}
 use Rattle.attr_io.specs.Faults.{CountsFaults}
 use Rattle.attr_types.specs.Lawful.{last_doc}

@@ -3,7 +3,7 @@ ghost use Rattle.std.specs.Prelude.{◌≡◌, ◌<◌, ◌≤◌, ◌++◌, ◌
 ghost use Rattle.std.specs.Io.KnownBytes.{Appends};
 ghost use Rattle.std.specs.Int.{w32, to_be_bytes};
 ghost use Rattle.std.specs.List.{flat_map};
-ghost use Rattle.attr_images.specs.Images.{root_words, IsLawfulImage};
+ghost use Rattle.image_format.specs.Images.{root_words, IsLawfulImage};
 ghost use Rattle.attr_io.specs.Bytes.{AppendsFront};
 ghost use Rattle.attr_io.specs.Faults.{CountsFaults};
 ghost use Rattle.tree_read.specs.Trees.{tree_pairs};

@@ -1,7 +1,7 @@
 //! The documents of an image, each with its items, written from their records and measured.
 ghost use Rattle.std.specs.Prelude.{◌≡◌, ◌≢◌, ◌≤◌, ◌<◌, ◌^◌, [], length};
 ghost use Rattle.std.specs.List.{flat_map, AllByRecursion};
-ghost use Rattle.attr_images.specs.Documents.{AreItemRecords};
+ghost use Rattle.image_format.specs.Documents.{AreItemRecords};
 ghost use Rattle.tree_read.specs.SearchPlaces.{first_key, first_value, pairs_from, HasPair, IsAt};
 ghost use Rattle.tree_read.specs.Trees.{tree_pairs};
 ghost use Rattle.attr_saver.specs.Bytes.{document_bytes};

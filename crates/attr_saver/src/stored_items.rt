@@ -3,9 +3,9 @@ ghost use Rattle.std.specs.Prelude.{◌≡◌, ◌≤◌, ◌++◌, length};
 ghost use Rattle.std.specs.Int.{w16, to_be_bytes};
 ghost use Rattle.std.specs.List.{flat_map, AllByRecursion};
 ghost use Rattle.array_store.specs.Arrays.{IsArray};
-ghost use Rattle.attr_images.specs.Documents.{items_at, AreItemRecords};
-ghost use Rattle.attr_images.specs.Values.{stored_value, IsValueRecord};
-ghost use Rattle.attr_images.specs.Words.{stored_items};
+ghost use Rattle.image_format.specs.Documents.{items_at, AreItemRecords};
+ghost use Rattle.image_format.specs.Values.{stored_value, IsValueRecord};
+ghost use Rattle.image_format.specs.Words.{stored_items};
 ghost use Rattle.attr_types.specs.declared.kind.Kind.TheVariants.{WeightedSet};
 ghost use Rattle.attr_saver.specs.Bytes.{value_bytes, item_bytes};
 ghost use Rattle.attr_saver.specs.Stored.{entry_in, item_in, Writes};
@@ -13,10 +13,10 @@ ghost use Rattle.attr_saver.specs.Stored.{entry_in, item_in, Writes};
 use crate::stored_values::{put, value_size, write_value};
 use arena_api::Frozen;
 use array_store::{count, get};
-use attr_images::WEIGHT_BASE;
 use attr_io::{Failed, Sink};
 use attr_types::{Kind, ValueType};
 use entry_ref::EntryRef;
+use image_format::WEIGHT_BASE;
 use unique_store::value_law;
 
 /// Writes the value of a record, given its reference as a number.

@@ -1,6 +1,6 @@
 //! The values of an image, written from their records and measured.
 ghost use Rattle.std.specs.Prelude.{◌≡◌, ◌≤◌, length};
-ghost use Rattle.attr_images.specs.Values.{stored_text, stored_value, IsValueRecord};
+ghost use Rattle.image_format.specs.Values.{stored_text, stored_value, IsValueRecord};
 ghost use Rattle.attr_types.specs.declared.kind.ValueType.TheVariants as types;
 ghost use Rattle.attr_saver.specs.Bytes.{text_bytes, value_bytes};
 ghost use Rattle.attr_saver.specs.Stored.{Writes};

@@ -6,7 +6,7 @@ use Rattle.std.proofs.lemmas.List.Filters.{length-filter_both}
 use Rattle.std.specs.List.{filter, slice_set}
 use Rattle.std.specs.List.Sorted.{IsStrictlySortedBy}
 use Rattle.std.specs.Option.{IfSome, option_and_then}
-use Rattle.list_facts.proofs.Each.{AllByRecursion-append}
+use Rattle.list_lemmas.proofs.Each.{AllByRecursion-append}
 use Rattle.attr_types.proofs.EntryLemmas.{all_map-append, all_map-filter, sorted_map-filter}
 use Rattle.attr_types.proofs.ItemLemmas.{all-with_items, ascend-with_items, all_map-get, all_map-set, all-get, all-set}
 use Rattle.attr_types.proofs.ItemLemmas.{values_of-set, changed_at-then}

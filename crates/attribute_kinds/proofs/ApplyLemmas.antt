@@ -9,7 +9,7 @@ use Rattle.attr_types.specs.declared.applied.Applied.TheVariants.{Changed, Skipp
 use Rattle.attr_types.specs.Table.{Table, after_op, step}
 use Rattle.attr_types.specs.declared.field.Field.{Field}
 use Rattle.attr_types.specs.declared.op.Op.{Op}
-use Rattle.attr_steps.specs.Calls.{RefusesUnit}
+use Rattle.attr_operations.specs.Calls.{RefusesUnit}
 use Rattle.attribute_kinds.specs.Calls.{RefusesOperation, applied_to}
 use Rattle.attribute_kinds.specs.Refusals.{refusal_of_store}
 use Rattle.attribute_kinds.specs.declared.answers.AttrError.{AttrError}

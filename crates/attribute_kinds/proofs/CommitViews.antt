@@ -8,16 +8,16 @@ use Rattle.store_api.specs.declared.store.Stored.{Stored}
 use Rattle.store_api.specs.declared.store.StoreError.{StoreError}
 use Rattle.store_api.specs.declared.store.StoreError.TheVariants.{Full, Memory}
 use Rattle.attr_field.specs.declared.roots.FieldRoots.{FieldRoots}
-use Rattle.attr_images.specs.Images.{table_of}
-use Rattle.attr_images.specs.Shapes.{shape_of, types_of}
-use Rattle.attr_images.specs.Words.{class_of}
+use Rattle.image_format.specs.Images.{table_of}
+use Rattle.image_format.specs.Shapes.{shape_of, types_of}
+use Rattle.image_format.specs.Words.{class_of}
 use Rattle.attr_types.specs.declared.field.Field.{Field}
 use Rattle.attribute_kinds.specs.Calls.{CommitsImage, IsForRoot, RefusesCommit}
-use Rattle.attr_steps.specs.Commits.{CommitsAttributes, IsForWidth, RefusesRoot}
-use Rattle.attr_steps.specs.Fields.{trees_of}
+use Rattle.attr_operations.specs.Commits.{CommitsAttributes, IsForWidth, RefusesRoot}
+use Rattle.attr_operations.specs.Fields.{trees_of}
 use Rattle.attribute_kinds.specs.Refusals.{refusal_of_store}
 use Rattle.attribute_kinds.specs.Standing.{StandsAttribute}
-use Rattle.attr_steps.specs.Views.{table_at}
+use Rattle.attr_operations.specs.Views.{table_at}
 use Rattle.attribute_kinds.specs.declared.answers.AttrError.{AttrError}
 use Rattle.attribute_kinds.specs.declared.answers.AttrError.TheVariants.{CommitsSpent}
 use Rattle.attribute_kinds.specs.declared.answers.CommitInfo.{CommitInfo}

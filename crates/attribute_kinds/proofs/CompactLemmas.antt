@@ -11,19 +11,19 @@ use Rattle.store_api.specs.declared.store.StoreError.{StoreError}
 use Rattle.store_api.specs.declared.store.StoreError.TheVariants as errors
 use Rattle.attr_compaction.specs.Places.{PlanView}
 use Rattle.attr_field.specs.declared.roots.FieldRoots.{FieldRoots}
-use Rattle.attr_images.specs.Images.{IsLawfulImage, operations_at, table_of}
-use Rattle.attr_images.specs.Shapes.{shape_of, types_of}
-use Rattle.attr_images.specs.Tables.{AttributeTrees}
+use Rattle.image_format.specs.Images.{IsLawfulImage, operations_at, table_of}
+use Rattle.image_format.specs.Shapes.{shape_of, types_of}
+use Rattle.image_format.specs.Tables.{AttributeTrees}
 use Rattle.attr_types.specs.declared.field.Field.{Field}
-use Rattle.attr_steps.proofs.StepLemmas.{keeps_same}
-use Rattle.attr_steps.specs.Fields.{HaveForms, HoldsAttributes, trees_of}
-use Rattle.attr_steps.specs.Views.{table_at}
-use Rattle.compact_steps.specs.Units.{IsUnderWay}
-use Rattle.compact_steps.specs.Compactions.{Compacts, IsUnderPlan, KeepsStoreBut}
-use Rattle.compact_steps.specs.Walks.{HasLastField, RefusesNext}
-use Rattle.compact_steps.specs.Walks as walks
-use Rattle.compact_steps.specs.declared.stepping.Step.{Step}
-use Rattle.compact_steps.specs.declared.stepping.Step.TheVariants as steps
+use Rattle.attr_operations.proofs.StepLemmas.{keeps_same}
+use Rattle.attr_operations.specs.Fields.{HaveForms, HoldsAttributes, trees_of}
+use Rattle.attr_operations.specs.Views.{table_at}
+use Rattle.compaction_steps.specs.Units.{IsUnderWay}
+use Rattle.compaction_steps.specs.Compactions.{Compacts, IsUnderPlan, KeepsStoreBut}
+use Rattle.compaction_steps.specs.Walks.{HasLastField, RefusesNext}
+use Rattle.compaction_steps.specs.Walks as walks
+use Rattle.compaction_steps.specs.declared.stepping.Step.{Step}
+use Rattle.compaction_steps.specs.declared.stepping.Step.TheVariants as steps
 use Rattle.attribute_kinds.specs.Compacting.{CompactsTo, IsIdle, RefusesKey, RefusesStep, Stops}
 use Rattle.attribute_kinds.specs.Refusals.{has_finished, refusal_of_store, told_of}
 use Rattle.attribute_kinds.specs.Standing.{IsAttribute, IsLast, StandsAttribute}

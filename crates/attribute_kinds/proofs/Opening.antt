@@ -15,16 +15,16 @@ use Rattle.store_api.proofs.Uses.{uses-out}
 use Rattle.attr_field.specs.Forms.{wants}
 use Rattle.attr_field.specs.Laws.{NothingIsField}
 use Rattle.attr_field.specs.declared.roots.FieldRoots.{FieldRoots}
-use Rattle.attr_images.specs.Shapes.{shape_of, types_of}
-use Rattle.attr_images.specs.Tables.{HaveSameDocuments, columns_at, table_of_columns}
-use Rattle.attr_index.specs.Columns.{Column}
+use Rattle.image_format.specs.Shapes.{shape_of, types_of}
+use Rattle.image_format.specs.Tables.{HaveSameDocuments, columns_at, table_of_columns}
+use Rattle.index_model.specs.Columns.{Column}
 use Rattle.attr_types.specs.declared.field.TheConstants.{MOST_FIELDS}
 use Rattle.attr_types.specs.declared.field.Field.{Field}
 use Rattle.value_index.specs.Laws.{NothingIsOfForm}
-use Rattle.attr_steps.specs.Fields.{AllReferBeside, AreFields, HaveForms, IsFieldAt, no_roots, parts_of, trees_of}
+use Rattle.attr_operations.specs.Fields.{AllReferBeside, AreFields, HaveForms, IsFieldAt, no_roots, parts_of, trees_of}
 use Rattle.attribute_kinds.specs.Standing.{StandsAttribute}
-use Rattle.attr_steps.specs.Views.{table_at}
-use Rattle.attr_steps.proofs.TreeLists.{trees_length}
+use Rattle.attr_operations.specs.Views.{table_at}
+use Rattle.attr_operations.proofs.TreeLists.{trees_length}
 
 module _ (laws : NothingIsField) (bits : ℕ) (m : Records) where
   abbrev none : ℕ → List (FieldRoots bits)

@@ -8,17 +8,17 @@ use Rattle.store_api.specs.Ledgers.{Ledger, is_this}
 use Rattle.store_api.specs.declared.store.Stored.{Stored}
 use Rattle.attr_compaction.specs.Places.{PlanView}
 use Rattle.attr_compaction.specs.declared.plan.PlanKey.{PlanKey}
-use Rattle.attr_images.specs.Tables.{AttributeTrees}
+use Rattle.image_format.specs.Tables.{AttributeTrees}
 use Rattle.attr_types.specs.declared.field.Field.{Field}
 use Rattle.attr_types.specs.declared.kind.ValueType.{ValueType}
 use Rattle.attr_types.specs.declared.op.Op.{Op}
 use Rattle.attr_compaction.specs.PhaseKeys.{HasType}
-use Rattle.attr_steps.specs.Calls.{KeepsStore}
-use Rattle.attr_steps.specs.Commits.{CommitsAttributes}
-use Rattle.attr_steps.specs.Fields.{FlowsTrees, HoldsAttributes}
-use Rattle.attr_steps.specs.Steps.{StepsTo}
-use Rattle.compact_steps.specs.LeavesCleared.{AllStayLeavesCleared, IsCleared, OperationLeavesCleared}
-use Rattle.compact_steps.specs.Units.{IsUnderWay}
+use Rattle.attr_operations.specs.Calls.{KeepsStore}
+use Rattle.attr_operations.specs.Commits.{CommitsAttributes}
+use Rattle.attr_operations.specs.Fields.{FlowsTrees, HoldsAttributes}
+use Rattle.attr_operations.specs.Steps.{StepsTo}
+use Rattle.compaction_steps.specs.LeavesCleared.{AllStayLeavesCleared, IsCleared, OperationLeavesCleared}
+use Rattle.compaction_steps.specs.Units.{IsUnderWay}
 
 pub if_some_map : {A : Type 0} (P Q : A → Type 0) (o : Option A) → ((x : A) → P x → Q x) → IfSome o P → IfSome o Q
 if_some_map P Q None f h = tt

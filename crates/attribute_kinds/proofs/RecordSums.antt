@@ -8,9 +8,9 @@ use Rattle.std.specs.Map.{remove_entry}
 use Rattle.std.specs.Ordering.{nat_cmp}
 use Rattle.attr_field.specs.Counts.{entry_weight, field_records, lost_values, new_values}
 use Rattle.attr_field.specs.Items.{has_list, items_record}
-use Rattle.attr_images.specs.Values.{value_words}
-use Rattle.attr_images.specs.Words.{class_of}
-use Rattle.attr_index.specs.Columns.{Column, documents_with}
+use Rattle.image_format.specs.Values.{value_words}
+use Rattle.image_format.specs.Words.{class_of}
+use Rattle.index_model.specs.Columns.{Column, documents_with}
 use Rattle.attr_types.specs.declared.kind.Kind.{Kind}
 use Rattle.attr_types.specs.declared.value.Value.{Value}
 use Rattle.value_index.specs.Counts.{added_records, gone_records, is_added, is_gone, new_record, put_records, record_sum, short_record, taken_records, walk_records}

@@ -16,8 +16,8 @@ use Rattle.store_api.specs.declared.store.StoreError.{StoreError}
 use Rattle.store_api.specs.declared.store.StoreError.TheVariants.{Full, Memory}
 use Rattle.attr_field.specs.Counts.{change_records, field_forms, lost_values, new_values, entry_weight}
 use Rattle.attr_field.specs.Forms.{wants}
-use Rattle.attr_index.specs.Changes.{first_weights}
-use Rattle.attr_index.specs.Columns.{Column, column_of, documents_with}
+use Rattle.index_model.specs.Changes.{first_weights}
+use Rattle.index_model.specs.Columns.{Column, column_of, documents_with}
 use Rattle.attr_types.proofs.TableLemmas.{Sound, step_keeps}
 use Rattle.attr_types.specs.Lawful.{IsLawfulDocument, IsLawfulItems, OpFits}
 use Rattle.attr_types.specs.Table.{Table, after_op, op_doc}
@@ -32,15 +32,15 @@ use Rattle.value_index.proofs.CountLemmas.{within_more}
 use Rattle.value_index.proofs.FormCounts.{no_forms}
 use Rattle.value_index.specs.Counts.{besides, by_width, is_added, is_gone, put_forms, record_sum, taken_forms, walk_records}
 use Rattle.attribute_kinds.proofs.RecordSums.{field_one, field_sum}
-use Rattle.attr_steps.specs.Calls.{KeepsStore, RefusesUnit}
-use Rattle.attr_steps.specs.Counts.{document_after, document_before, document_forms, document_nodes, document_records, items_if_there, kind_at}
-use Rattle.attr_steps.specs.Counts.{operation_forms, operation_nodes, operation_records, weights_at}
+use Rattle.attr_operations.specs.Calls.{KeepsStore, RefusesUnit}
+use Rattle.attr_operations.specs.Counts.{document_after, document_before, document_forms, document_nodes, document_records, items_if_there, kind_at}
+use Rattle.attr_operations.specs.Counts.{operation_forms, operation_nodes, operation_records, weights_at}
 use Rattle.attribute_kinds.specs.Counts.{operation_values}
-use Rattle.attr_steps.specs.Counts.{MakesOperation, SparesOperation}
-use Rattle.attr_steps.specs.Widths.{IsFullAmong, IsOperationWidth}
+use Rattle.attr_operations.specs.Counts.{MakesOperation, SparesOperation}
+use Rattle.attr_operations.specs.Widths.{IsFullAmong, IsOperationWidth}
 use Rattle.attribute_kinds.specs.Counts.{AreShort, IsOneSingle, IsSparse, LacksBuffers, NamesWidth, SparesOf}
 use Rattle.attribute_kinds.specs.Refusals.{refusal_of_store}
-use Rattle.attr_steps.proofs.StepLemmas.{found_lawful}
+use Rattle.attr_operations.proofs.StepLemmas.{found_lawful}
 
 -- ---- what is to spare
 values_few : (old new : List (Value × ℤ)) → new_values old new ≤ length new

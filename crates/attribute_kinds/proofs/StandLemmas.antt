@@ -6,16 +6,16 @@ use Rattle.entry_ref.specs.declared.images.Image.{Image}
 use Rattle.arena_api.specs.Works.{last_image}
 use Rattle.store_api.specs.Ledgers.{Ledger}
 use Rattle.store_api.specs.Parts.{Turns}
-use Rattle.attr_images.specs.Images.{IsLawfulImage, operations_at}
-use Rattle.attr_images.specs.Shapes.{shape_of, types_of}
+use Rattle.image_format.specs.Images.{IsLawfulImage, operations_at}
+use Rattle.image_format.specs.Shapes.{shape_of, types_of}
 use Rattle.attr_field.specs.Laws.{FieldReaches}
 use Rattle.attr_field.specs.declared.roots.FieldRoots.{FieldRoots}
 use Rattle.attr_types.specs.declared.field.Field.{Field}
-use Rattle.attr_steps.specs.Calls.{KeepsStore, LeavesEntries}
-use Rattle.attr_steps.specs.Fields.{AreFields, MakesUnsealed, StillRefer, parts_of, trees_of}
+use Rattle.attr_operations.specs.Calls.{KeepsStore, LeavesEntries}
+use Rattle.attr_operations.specs.Fields.{AreFields, MakesUnsealed, StillRefer, parts_of, trees_of}
 use Rattle.attribute_kinds.specs.Standing.{StandsAttribute, IsLast}
-use Rattle.attr_steps.proofs.Columns.{FieldLaws}
-use Rattle.attr_steps.proofs.Holding.{IsSealedFinished, holds_turned, holds_left}
+use Rattle.attr_operations.proofs.Columns.{FieldLaws}
+use Rattle.attr_operations.proofs.Holding.{IsSealedFinished, holds_turned, holds_left}
 
 -- the last commit stays
 pub last_stays : {H : Type 0} (old new : Ledger H) (fields : List Field) (root commit operations : ℕ) → IsLast old fields root commit operations → KeepsStore old new

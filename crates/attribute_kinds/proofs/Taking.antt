@@ -2,11 +2,11 @@
 use Rattle.std.proofs.Common.{◌≡◌, ℕ, zero, suc, ◌<◌, List, [], ◌∷◌, length, refl, sym, ap, ◌∙◌}
 use Rattle.std.specs.Prelude.{slice_index}
 use Rattle.entry_ref.specs.Records.{Records, AllThere, SameAt}
-use Rattle.attr_images.proofs.ImageLemmas.{table_empty}
-use Rattle.attr_images.specs.Images.{IsLawfulImage, attr_reaches, attributes_from, attributes_of, operations_at, table_of}
-use Rattle.attr_images.specs.ProofsForImages.{attr_present, attr_stays, columns_at-same}
-use Rattle.attr_images.specs.Shapes.{types_of_shape}
-use Rattle.attr_images.specs.Tables.{columns_at, table_of_columns}
+use Rattle.image_format.proofs.ImageLemmas.{table_empty}
+use Rattle.image_format.specs.Images.{IsLawfulImage, attr_reaches, attributes_from, attributes_of, operations_at, table_of}
+use Rattle.image_format.specs.ProofsForImages.{attr_present, attr_stays, columns_at-same}
+use Rattle.image_format.specs.Shapes.{types_of_shape}
+use Rattle.image_format.specs.Tables.{columns_at, table_of_columns}
 
 same_there : (refs : List ℕ) (m w : Records) → AllThere refs m → ((r : ℕ) → 0 < length (m r) → w r ≡ m r) → SameAt refs m w
 same_there [] m w there same = tt

@@ -8,18 +8,18 @@ use Rattle.store_api.specs.Calls.{StoresCommit}
 use Rattle.store_api.specs.Ledgers.{Ledger}
 use Rattle.attr_types.specs.declared.applied.Applied.{Applied}
 use Rattle.attr_types.specs.declared.applied.Applied.TheVariants.{Changed, Skipped}
-use Rattle.attr_images.specs.Images.{IsLawfulImage, table_of, operations_at}
-use Rattle.attr_images.specs.Shapes.{shape_of, types_of}
-use Rattle.attr_images.specs.Words.{class_of}
+use Rattle.image_format.specs.Images.{IsLawfulImage, table_of, operations_at}
+use Rattle.image_format.specs.Shapes.{shape_of, types_of}
+use Rattle.image_format.specs.Words.{class_of}
 use Rattle.attr_types.specs.Table.{Table, is_skipped}
 use Rattle.attr_types.specs.declared.field.Field.{Field}
 use Rattle.attr_types.specs.declared.op.Op.{Op}
 use Rattle.attribute_kinds.specs.declared.answers.AttrError.{AttrError}
 use Rattle.attribute_kinds.specs.declared.answers.AttrError.TheVariants.{Full, CommitsSpent, Memory}
 use Rattle.attribute_kinds.specs.declared.answers.CommitInfo.{CommitInfo}
-use Rattle.attr_steps.specs.Calls.{IsOutOfRoom}
-pub use Rattle.attr_steps.specs.Calls.{KeepsStore}
-pub use Rattle.compact_steps.specs.Compactions.{KeepsStoreBut}
+use Rattle.attr_operations.specs.Calls.{IsOutOfRoom}
+pub use Rattle.attr_operations.specs.Calls.{KeepsStore}
+pub use Rattle.compaction_steps.specs.Compactions.{KeepsStoreBut}
 
 -- the result of an operation
 abbrev pub applied_to : List Field → Table → Op → Applied

@@ -8,10 +8,10 @@ use Rattle.store_api.specs.Ledgers.{Ledger}
 use Rattle.store_api.specs.Victims.{HasNoVictim}
 use Rattle.attr_compaction.specs.Places.{place_cmp, PlanPlace, PlanView}
 use Rattle.attr_compaction.specs.declared.plan.TheConstants.{PHASES}
-use Rattle.attr_images.specs.Tables.{attributes_reach}
-use Rattle.attr_steps.specs.Calls.{IsOutOfRoom, LeavesEntries}
-use Rattle.compact_steps.specs.Compactions.{place_of_plan, IsUnderPlan}
-use Rattle.compact_steps.specs.Units.{IsActiveWidth}
+use Rattle.image_format.specs.Tables.{attributes_reach}
+use Rattle.attr_operations.specs.Calls.{IsOutOfRoom, LeavesEntries}
+use Rattle.compaction_steps.specs.Compactions.{place_of_plan, IsUnderPlan}
+use Rattle.compaction_steps.specs.Units.{IsActiveWidth}
 use Rattle.attr_compaction.specs.Counts.{keys_between}
 use Rattle.attribute_kinds.specs.Views.{AttributeView}
 use Rattle.attribute_kinds.specs.declared.answers.AttrError.{AttrError}

@@ -4,8 +4,8 @@ use Rattle.std.specs.List.{AllByRecursion}
 use Rattle.arena_api.specs.Works.{free_count}
 use Rattle.store_api.specs.Ledgers.{Ledger}
 use Rattle.attr_field.specs.Counts.{lost_values}
-use Rattle.attr_images.specs.declared.TheConstants.{LEAST_DENSE}
-use Rattle.attr_index.specs.Columns.{Column, column_of, documents_with}
+use Rattle.image_format.specs.declared.TheConstants.{LEAST_DENSE}
+use Rattle.index_model.specs.Columns.{Column, column_of, documents_with}
 use Rattle.attr_types.specs.Table.{Table}
 use Rattle.attr_types.specs.declared.field.Field.{Field}
 use Rattle.attr_types.specs.declared.kind.Kind.TheVariants.{Single}
@@ -14,9 +14,9 @@ use Rattle.attr_types.specs.declared.value.Value.{Value}
 use Rattle.attribute_kinds.specs.declared.answers.AttrError.{AttrError}
 use Rattle.attribute_kinds.specs.declared.answers.AttrError.TheVariants.{Full, CommitsSpent, Memory}
 use Rattle.value_index.specs.Counts.{besides, by_width}
-use Rattle.attr_steps.specs.Counts.{weights_at, document_before, document_after}
-use Rattle.attr_steps.specs.Counts.{operation_forms, operation_nodes, operation_records}
-use Rattle.attr_steps.specs.Widths.{IsOperationWidth}
+use Rattle.attr_operations.specs.Counts.{weights_at, document_before, document_after}
+use Rattle.attr_operations.specs.Counts.{operation_forms, operation_nodes, operation_records}
+use Rattle.attr_operations.specs.Widths.{IsOperationWidth}
 
 -- the number of distinct values of the document's items before or after the operation, in the first attribute
 abbrev pub distinct_values : List (Value × ℤ) → List (Value × ℤ) → ℕ

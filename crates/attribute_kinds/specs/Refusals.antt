@@ -3,8 +3,8 @@ use Rattle.std.specs.Prelude.{Bool, true, false, Result, Ok, Err}
 use Rattle.std.specs.Option.{option_map}
 use Rattle.store_api.specs.declared.store.StoreError.{StoreError}
 use Rattle.store_api.specs.declared.store.StoreError.TheVariants as errors
-use Rattle.compact_steps.specs.declared.stepping.Step.{Step}
-use Rattle.compact_steps.specs.declared.stepping.Step.TheVariants as steps
+use Rattle.compaction_steps.specs.declared.stepping.Step.{Step}
+use Rattle.compaction_steps.specs.declared.stepping.Step.TheVariants as steps
 use Rattle.attribute_kinds.specs.declared.answers.AttrError.{AttrError}
 use Rattle.attribute_kinds.specs.declared.answers.AttrError.TheVariants.{Full, Memory}
 use Rattle.attribute_kinds.specs.declared.answers.Compacted.{Compacted}

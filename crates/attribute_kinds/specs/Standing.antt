@@ -7,13 +7,13 @@ use Rattle.arena_api.specs.Works.{last_image}
 use Rattle.store_api.specs.Ledgers.{Ledger}
 use Rattle.attr_compaction.specs.Places.{PlanView}
 use Rattle.attr_field.specs.declared.roots.FieldRoots.{FieldRoots}
-use Rattle.attr_images.specs.Images.{IsLawfulImage, operations_at}
-use Rattle.attr_images.specs.Shapes.{shape_of, types_of}
+use Rattle.image_format.specs.Images.{IsLawfulImage, operations_at}
+use Rattle.image_format.specs.Shapes.{shape_of, types_of}
 use Rattle.attr_types.specs.declared.field.TheConstants.{MOST_FIELDS}
 use Rattle.attr_types.specs.declared.field.Field.{Field}
-use Rattle.attr_steps.specs.Fields.{HaveForms, HoldsAttributes, trees_of}
-use Rattle.compact_steps.specs.Units.{IsUnderWay}
-use Rattle.compact_steps.specs.Walks.{HasLastField}
+use Rattle.attr_operations.specs.Fields.{HaveForms, HoldsAttributes, trees_of}
+use Rattle.compaction_steps.specs.Units.{IsUnderWay}
+use Rattle.compaction_steps.specs.Walks.{HasLastField}
 
 -- the last commit: its root record, its number, and its number of operations
 pub record IsLast {H : Type 0} (ledger : Ledger H) (fields : List Field) (root commit operations : ℕ) : Type 0 where

@@ -1,7 +1,7 @@
 -- Attributes as callers see them.
 use Rattle.std.specs.Prelude.{Bool, ℕ, List, Option}
 use Rattle.attr_compaction.specs.Places.{PlanView}
-use Rattle.attr_images.specs.Tables.{AttributeTrees}
+use Rattle.image_format.specs.Tables.{AttributeTrees}
 use Rattle.attr_types.specs.Table.{Table}
 use Rattle.attr_types.specs.declared.field.Field.{Field}
 

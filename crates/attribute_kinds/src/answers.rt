@@ -3,7 +3,7 @@ ghost use Rattle.std.specs.Option.{option_map};
 ghost use Rattle.attribute_kinds.specs.Refusals.{has_finished, refusal_of_store, told_of};
 
 use arena_api::{Advance, Oldest};
-use compact_steps::Step;
+use compaction_steps::Step;
 use entry_ref::EntryRef;
 use store_api::StoreError;
 use thiserror::Error;

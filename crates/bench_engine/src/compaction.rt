@@ -1,7 +1,7 @@
 //! Updates of one attribute, with or without a step of a compaction after each commit.
 ghost use Rattle.std.specs.Prelude.{◌≡◌, ◌<◌, ◌≤◌, length, IfOk};
 ghost use Rattle.arena_api.specs.Calls.{IsFresh};
-ghost use Rattle.attr_images.specs.Shapes.{shape_of, types_of};
+ghost use Rattle.image_format.specs.Shapes.{shape_of, types_of};
 ghost use Rattle.attr_types.specs.declared.field.TheConstants.{MOST_FIELDS};
 
 use crate::course::{Course, Done, Source, apply_all};
@@ -9,11 +9,11 @@ use crate::items::{self, below, doc_at, items_of};
 use crate::live::live_words;
 use crate::memory::{new_attribute, one_field};
 use arena_api::{Frozen, Work};
-use attr_images::{AttrLayout, shape_of};
 use attr_types::{Fields, Kind, Op, ValueType};
 use attribute_kinds::{Attribute, committed_work};
 use entry_ref::EntryRef;
 use entry_store::EntryStore;
+use image_format::{AttrLayout, shape_of};
 use mem_work::MemWork;
 use std::alloc::{AllocError, Global};
 use test_kit::{NotedWork, Random};

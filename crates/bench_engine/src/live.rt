@@ -1,8 +1,8 @@
 //! The words of the records that an image reaches.
-use attr_images::FIRST_VECTOR;
 use attr_types::{Field, Kind};
 use check_images::{CheckFault, Keys, check_tree};
 use entry_ref::{word_in, words_at};
+use image_format::FIRST_VECTOR;
 use std::alloc::Global;
 use std::collections::BTreeMap;
 use tree_read::FIRST_VALUE;

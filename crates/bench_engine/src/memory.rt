@@ -1,14 +1,14 @@
 //! Attributes of one field over a memory without readers.
 ghost use Rattle.std.specs.Prelude.{◌≡◌, ◌<◌, ◌≤◌, length, IfOk};
 ghost use Rattle.arena_api.specs.Calls.{IsFresh};
-ghost use Rattle.attr_images.specs.Shapes.{shape_of, types_of};
+ghost use Rattle.image_format.specs.Shapes.{shape_of, types_of};
 ghost use Rattle.attr_types.specs.declared.field.TheConstants.{MOST_FIELDS};
 
 use arena_api::{Frozen, Work};
-use attr_images::{AttrLayout, shape_of};
 use attr_types::{Applied, Field, Fields, Kind, Name, Op, ValueType, fits};
 use attribute_kinds::Attribute;
 use entry_store::EntryStore;
+use image_format::{AttrLayout, shape_of};
 use mem_work::MemWork;
 use std::alloc::{AllocError, Global};
 use store_api::Store;

@@ -1,19 +1,19 @@
 //! Queries on an array of numbers. Each document has three: one of 3, one of 10, and one that 9 documents have; or two
 //! of 4, so that each is held by a quarter of the documents.
 ghost use Rattle.std.specs.Prelude.{◌≡◌, ◌<◌, ◌≤◌, length};
-ghost use Rattle.attr_images.specs.Images.{IsLawfulImage};
-ghost use Rattle.attr_images.specs.Shapes.{shape_of, types_of};
+ghost use Rattle.image_format.specs.Images.{IsLawfulImage};
+ghost use Rattle.image_format.specs.Shapes.{shape_of, types_of};
 ghost use Rattle.attr_types.specs.declared.field.TheConstants.{MOST_FIELDS};
 
 use crate::course::{Course, Done, Source, apply_all};
 use crate::items::{self, doc_at};
 use crate::memory::{Kinds, Memory, commit_one, new_attribute, new_memory, one_field};
 use arena_api::{Frozen, Work};
-use attr_images::AttrLayout;
 use attr_types::{Fields, Item, Items, Kind, Leaf, Op, Query, Value, ValueType};
 use attribute_kinds::{Attribute, committed_work};
 use entry_ref::EntryRef;
 use entry_store::EntryStore;
+use image_format::AttrLayout;
 use mem_work::MemWork;
 use query_eval::hits;
 use std::alloc::{AllocError, Global};

@@ -1,9 +1,9 @@
 //! A table that is saved into memory and read again, a number of times.
 use crate::tables::{Shape, table_of};
 use attr_io::SliceSource;
-use attr_plain::PlainTable;
 use attr_saver::{column_law, read_saved, saved_in};
 use attr_types::Doc;
+use plain_model::PlainTable;
 use std::alloc::{AllocError, Global};
 
 /// The load of a run.

@@ -1,10 +1,10 @@
 //! The tables of `saves`.
 ghost use Rattle.std.specs.Prelude.{◌≤◌};
 
-use attr_plain::PlainTable;
 use attr_types::{
     Doc, Field, FieldItems, Fields, Item, Items, Kind, Name, Op, Text, Value, ValueType, fits,
 };
+use plain_model::PlainTable;
 use std::alloc::{AllocError, Global};
 
 /// The items of a document.

@@ -8,9 +8,9 @@ use Rattle.std.proofs.Common.{pow_mono}
 use Rattle.std.proofs.lemmas.Nat.{pow-add}
 use Rattle.std.proofs.lemmas.Nat.Bits.{bit_at_clear_same, bit_at_clear_other, bit_at-trailing_zeros, bit_at-zero}
 use Rattle.std.specs.Int.{bit_at, trailing_zeros}
-use Rattle.attr_index.proofs.BitLemmas.{by_cases, bit_of, no_bits}
-use Rattle.attr_index.proofs.WordLemmas.{without}
-use Rattle.attr_index.specs.Sets.{in_words}
+use Rattle.index_model.proofs.BitLemmas.{by_cases, bit_of, no_bits}
+use Rattle.index_model.proofs.WordLemmas.{without}
+use Rattle.index_model.specs.Sets.{in_words}
 use Rattle.bit_vector.specs.Blocks.{HasBit, IsNextBit}
 use Rattle.bit_vector.proofs.DocumentLemmas.{and_false}
 

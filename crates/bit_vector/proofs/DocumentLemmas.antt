@@ -8,9 +8,9 @@ use Rattle.std.specs.List.Sorted.{IsStrictlySortedBy}
 use Rattle.std.specs.Map.{keys_of, remove_entry}
 use Rattle.std.specs.Ordering.{nat_cmp, match_ordering, is_eq, MatchOrdering}
 use Rattle.std.proofs.lemmas.Bool.{eqb-true, eq-eqb, ne_eqb}
-use Rattle.attr_index.proofs.BitLemmas.{by_cases}
-use Rattle.attr_index.proofs.DocLemmas.{same_ascending}
-use Rattle.attr_index.specs.Sets.{has, IsAscending}
+use Rattle.index_model.proofs.BitLemmas.{by_cases}
+use Rattle.index_model.proofs.DocLemmas.{same_ascending}
+use Rattle.index_model.specs.Sets.{has, IsAscending}
 
 -- documents, each with weight 1
 abbrev pub ones : List ℕ → List (ℕ × ℤ)

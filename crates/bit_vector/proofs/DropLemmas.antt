@@ -6,7 +6,7 @@ use Rattle.std.specs.List.{zip, AllByRecursion}
 use Rattle.std.specs.List.Sorted.{IsStrictlySortedBy}
 use Rattle.std.specs.Ordering.{nat_cmp}
 use Rattle.std.specs.declared.cmp.Ordering.TheVariants.{Less}
-use Rattle.list_facts.proofs.Each.{AllByRecursion-left, AllByRecursion-right}
+use Rattle.list_lemmas.proofs.Each.{AllByRecursion-left, AllByRecursion-right}
 use Rattle.entry_ref.specs.Records.{Records}
 use Rattle.store_api.specs.Ledgers.{Ledger}
 use Rattle.store_api.specs.Parts.{Part, After, Owns, Turns, count_in, entries, times}
@@ -17,11 +17,11 @@ use Rattle.tree_read.specs.SearchPlaces.{first_key, first_value}
 use Rattle.tree_read.specs.Trees.{tree_nodes, tree_pairs}
 use Rattle.frozen_btree.specs.Changes.{tree}
 use Rattle.attr_types.specs.Lawful.{IsDocNumber}
-use Rattle.attr_images.specs.Postings.{block_documents, IsBlock}
+use Rattle.image_format.specs.Postings.{block_documents, IsBlock}
 use Rattle.bit_vector.specs.Changes.{vector_part, MakesTree}
 use Rattle.bit_vector.specs.Vectors.{blocks_documents}
-use Rattle.attr_index.proofs.BoundLemmas.{documents_few}
-use Rattle.attr_index.specs.Sets.{IsAscending}
+use Rattle.index_model.proofs.BoundLemmas.{documents_few}
+use Rattle.index_model.specs.Sets.{IsAscending}
 use Rattle.bit_vector.proofs.DocumentLemmas.{sorted}
 use Rattle.bit_vector.proofs.TurnLemmas.{IsNumberTree}
 use Rattle.bit_vector.proofs.VectorLemmas.{less_is, own_block}

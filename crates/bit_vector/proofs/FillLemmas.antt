@@ -9,8 +9,8 @@ use Rattle.std.specs.Ordering.{nat_cmp, MatchOrdering}
 use Rattle.std.proofs.lemmas.Bool.{eqb-true, eqb-false, eq-eqb, ne_eqb}
 use Rattle.tree_read.specs.Pairs.{choose, seek}
 use Rattle.tree_read.specs.SearchPlaces.{first_key}
-use Rattle.attr_index.proofs.BitLemmas.{by_cases}
-use Rattle.attr_index.specs.Sets.{has, in_words}
+use Rattle.index_model.proofs.BitLemmas.{by_cases}
+use Rattle.index_model.specs.Sets.{has, in_words}
 use Rattle.bit_vector.specs.Blocks.{HasBit}
 use Rattle.bit_vector.specs.Vectors.{is_block_of}
 use Rattle.bit_vector.proofs.DocumentLemmas.{absent, or_false}

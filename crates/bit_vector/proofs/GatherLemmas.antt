@@ -16,11 +16,11 @@ use Rattle.tree_read.specs.ProofsForTrees.{tree_nodes-same}
 use Rattle.tree_read.specs.Trees.{tree_nodes, tree_pairs}
 use Rattle.frozen_btree.specs.Changes.{tree}
 use Rattle.attr_types.specs.Lawful.{IsDocNumber}
-use Rattle.attr_images.proofs.BlockLemmas.{block_has_bits}
-use Rattle.attr_images.specs.Postings.{block_documents, vector_documents, IsBlock}
-use Rattle.attr_index.proofs.BitLemmas.{by_cases}
-use Rattle.attr_index.proofs.DocLemmas.{kept_has, same_ascending, ascends_from_sorted}
-use Rattle.attr_index.specs.Sets.{has, in_words, IsAscending}
+use Rattle.image_format.proofs.BlockLemmas.{block_has_bits}
+use Rattle.image_format.specs.Postings.{block_documents, vector_documents, IsBlock}
+use Rattle.index_model.proofs.BitLemmas.{by_cases}
+use Rattle.index_model.proofs.DocLemmas.{kept_has, same_ascending, ascends_from_sorted}
+use Rattle.index_model.specs.Sets.{has, in_words, IsAscending}
 use Rattle.bit_vector.specs.Changes.{vector_part, MakesVector}
 use Rattle.bit_vector.specs.Fillings.{IsBlockOf, MakesBlock, MakesBlocks}
 use Rattle.bit_vector.specs.Vectors.{blocks_documents, is_block_of}

@@ -3,7 +3,7 @@ use Rattle.std.proofs.Common.{◌≡◌, ℕ, zero, suc, ◌+◌, ◌≤◌, ◌
 use Rattle.std.proofs.lemmas.Nat.Bits.{bit_at_and, bit_at_or, bit_at-lt}
 use Rattle.std.specs.Int.{bit_at}
 use Rattle.std.specs.Simd.Lanes.{chunk, put_chunk, zip2}
-use Rattle.attr_index.specs.Sets.{in_words}
+use Rattle.index_model.specs.Sets.{in_words}
 use Rattle.bit_vector.specs.Kernels.{joined_from}
 
 module _ (f : ℕ → ℕ → ℕ) where

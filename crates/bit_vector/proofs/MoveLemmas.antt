@@ -14,7 +14,7 @@ use Rattle.entry_ref.proofs.Among.{SameAt-among}
 use Rattle.entry_ref.specs.References.{buffer_of}
 use Rattle.entry_ref.specs.Records.{Records, SameAt}
 use Rattle.arena_api.specs.Calls.{padded}
-use Rattle.list_facts.proofs.Each.{AllByRecursion-left, AllByRecursion-right}
+use Rattle.list_lemmas.proofs.Each.{AllByRecursion-left, AllByRecursion-right}
 use Rattle.store_api.specs.Calls.{IsUsedWidth}
 use Rattle.store_api.specs.Ledgers.{Ledger}
 use Rattle.store_api.specs.Parts.{Part, After, Owns, Turns, count_in, entry, entries, times}
@@ -37,10 +37,10 @@ use Rattle.frozen_btree.proofs.TouchTreeLemmas.{none-apart}
 use Rattle.frozen_btree.proofs.UsedLemmas.{node_used, used_at}
 use Rattle.doc_vector.proofs.DocumentLemmas.{same_number, other_number}
 use Rattle.doc_vector.proofs.MapLemmas.{put_others}
-use Rattle.attr_index.proofs.DocLemmas.{same_ascending}
-use Rattle.attr_index.specs.Sets.{has, in_words}
+use Rattle.index_model.proofs.DocLemmas.{same_ascending}
+use Rattle.index_model.specs.Sets.{has, in_words}
 use Rattle.attr_types.specs.Lawful.{IsDocNumber}
-use Rattle.attr_images.specs.Postings.{block_documents, vector_documents, IsBlock}
+use Rattle.image_format.specs.Postings.{block_documents, vector_documents, IsBlock}
 use Rattle.bit_vector.specs.Blocks.{beside_block, SetsBlock}
 use Rattle.bit_vector.specs.Changes.{vector_most, vector_part}
 use Rattle.bit_vector.specs.Keeps.{block_at}

@@ -7,9 +7,9 @@ use Rattle.std.proofs.lemmas.List.{length-map}
 use Rattle.std.proofs.lemmas.Nat.{ones_le_self}
 use Rattle.std.specs.Int.{bit_at}
 use Rattle.std.specs.List.{range_with_len}
-use Rattle.attr_images.specs.Postings.{block_documents}
-use Rattle.attr_index.proofs.BitLemmas.{bit_of}
-use Rattle.attr_index.specs.Sets.{in_words}
+use Rattle.image_format.specs.Postings.{block_documents}
+use Rattle.index_model.proofs.BitLemmas.{bit_of}
+use Rattle.index_model.specs.Sets.{in_words}
 
 -- how many numbers pass
 abbrev pub passing : (ℕ → Bool) → ℕ → ℕ → ℕ

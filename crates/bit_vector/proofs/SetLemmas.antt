@@ -13,9 +13,9 @@ use Rattle.store_api.specs.declared.store.StoreError.{StoreError}
 use Rattle.tree_read.specs.Pairs.{lookup}
 use Rattle.tree_read.specs.Trees.{tree_pairs}
 use Rattle.attr_types.specs.Lawful.{IsDocNumber}
-use Rattle.attr_images.specs.Postings.{block_documents, vector_documents, IsBlock}
-use Rattle.attr_index.proofs.BitLemmas.{by_cases, no_bits}
-use Rattle.attr_index.specs.Sets.{has, in_words}
+use Rattle.image_format.specs.Postings.{block_documents, vector_documents, IsBlock}
+use Rattle.index_model.proofs.BitLemmas.{by_cases, no_bits}
+use Rattle.index_model.specs.Sets.{has, in_words}
 use Rattle.bit_vector.specs.Blocks.{beside_block, HasBit, SetsBlock}
 use Rattle.bit_vector.specs.Changes.{vector_part, MakesVector}
 use Rattle.bit_vector.specs.Vectors.{vector_at, IsVector}

@@ -6,7 +6,7 @@ use Rattle.std.specs.declared.cmp.Ordering.TheVariants.{Less, Equal, Greater}
 use Rattle.std.specs.List.{AllByRecursion}
 use Rattle.std.specs.Ordering.{nat_cmp}
 use Rattle.std.proofs.lemmas.List.{append-nil}
-use Rattle.list_facts.proofs.Each.{AllByRecursion-each}
+use Rattle.list_lemmas.proofs.Each.{AllByRecursion-each}
 use Rattle.entry_ref.specs.Records.{Records, SameAt, Among}
 use Rattle.arena_api.specs.Calls.{padded}
 use Rattle.store_api.specs.Ledgers.{Ledger}
@@ -22,8 +22,8 @@ use Rattle.tree_read.specs.Trees.{tree_nodes, tree_pairs, by_number, IsTree}
 use Rattle.tree_read.proofs.PairLemmas.{All-take_out}
 use Rattle.frozen_btree.specs.Changes.{tree}
 use Rattle.attr_types.specs.Lawful.{IsDocNumber}
-use Rattle.attr_images.specs.Postings.{block_documents, vector_documents, IsBlock}
-use Rattle.attr_index.specs.Sets.{has, in_words}
+use Rattle.image_format.specs.Postings.{block_documents, vector_documents, IsBlock}
+use Rattle.index_model.specs.Sets.{has, in_words}
 use Rattle.bit_vector.specs.Blocks.{beside_block, SetsBlock}
 use Rattle.bit_vector.specs.Changes.{vector_part}
 use Rattle.bit_vector.specs.Vectors.{vector_reach, IsVector}

@@ -9,7 +9,7 @@ use Rattle.std.specs.Map.{keys_of}
 use Rattle.std.specs.Ordering.{nat_cmp, MatchOrdering}
 use Rattle.std.proofs.lemmas.Bool.{eqb-true, eqb-false, eq-eqb, ne_eqb}
 use Rattle.std.proofs.lemmas.Cmp.{nat_cmp_total}
-use Rattle.list_facts.proofs.Each.{AllByRecursion-append, AllByRecursion-weaker}
+use Rattle.list_lemmas.proofs.Each.{AllByRecursion-append, AllByRecursion-weaker}
 use Rattle.entry_ref.specs.Records.{Records, SameAt, AllThere}
 use Rattle.tree_read.specs.Pairs.{choose, lookup, put, take_out}
 use Rattle.tree_read.specs.ProofsForTrees.{SameAt-left, SameAt-right, tree_pairs-same, IsTree-same, there-both, tree_there}
@@ -19,11 +19,11 @@ use Rattle.tree_read.proofs.PairLemmas.{lookup-put}
 use Rattle.doc_vector.proofs.DocumentLemmas.{same_number, other_number}
 use Rattle.doc_vector.proofs.MapLemmas.{put_others, take_out_others, take_out_gone}
 use Rattle.attr_types.specs.Lawful.{IsDocNumber}
-use Rattle.attr_images.proofs.BlockLemmas.{block_has_bits, block_ascends}
-use Rattle.attr_images.specs.Postings.{vector, block_documents, vector_documents, IsBlock}
-use Rattle.attr_images.specs.ProofsForImages.{postings_at-same}
-use Rattle.attr_index.proofs.BitLemmas.{by_cases, no_bits}
-use Rattle.attr_index.specs.Sets.{has, in_words, IsAscending}
+use Rattle.image_format.proofs.BlockLemmas.{block_has_bits, block_ascends}
+use Rattle.image_format.specs.Postings.{vector, block_documents, vector_documents, IsBlock}
+use Rattle.image_format.specs.ProofsForImages.{postings_at-same}
+use Rattle.index_model.proofs.BitLemmas.{by_cases, no_bits}
+use Rattle.index_model.specs.Sets.{has, in_words, IsAscending}
 use Rattle.bit_vector.specs.Blocks.{beside_block}
 use Rattle.bit_vector.specs.Vectors.{blocks_documents, vector_at, vector_reach, IsVector}
 use Rattle.bit_vector.proofs.DocumentLemmas.{ones-keys, ones-length, or_false, sorted, all_has, has_all, has_append, ascends_append}

@@ -6,15 +6,15 @@ use Rattle.std.specs.List.Sorted.{IsStrictlySortedBy}
 use Rattle.std.specs.Ordering.{nat_cmp}
 use Rattle.std.proofs.lemmas.Bool.{eqb-true, eq-eqb, le-leb, cases_lt}
 use Rattle.std.proofs.lemmas.List.Elements.{filter-append}
-use Rattle.list_facts.proofs.Each.{AllByRecursion-right}
-use Rattle.list_facts.proofs.Tests.{too_many}
+use Rattle.list_lemmas.proofs.Each.{AllByRecursion-right}
+use Rattle.list_lemmas.proofs.Tests.{too_many}
 use Rattle.entry_ref.specs.Records.{Records}
 use Rattle.tree_read.specs.SearchPlaces.{Place, IsAt, pairs_from, first_key, first_value}
 use Rattle.tree_read.specs.Trees.{tree_pairs}
 use Rattle.attr_types.specs.Lawful.{IsDocNumber}
-use Rattle.attr_images.specs.Postings.{block_documents, IsBlock}
-use Rattle.attr_index.proofs.BitLemmas.{by_cases}
-use Rattle.attr_index.specs.Sets.{has, in_words, IsAscending}
+use Rattle.image_format.specs.Postings.{block_documents, IsBlock}
+use Rattle.index_model.proofs.BitLemmas.{by_cases}
+use Rattle.index_model.specs.Sets.{has, in_words, IsAscending}
 use Rattle.bit_vector.specs.Blocks.{IsNextBit}
 use Rattle.bit_vector.specs.Vectors.{blocks_documents, IsVector}
 use Rattle.bit_vector.specs.Walks.{documents_from, first_document, HasDocument, IsBlockPlace, IsInBlock, IsVectorPlace}

@@ -5,9 +5,9 @@ use Rattle.std.specs.Ordering.{nat_cmp}
 use Rattle.entry_ref.specs.Records.{Records, Among}
 use Rattle.store_api.specs.Ledgers.{Ledger}
 use Rattle.store_api.specs.Parts.{Part, Owns, Turns}
-use Rattle.attr_images.specs.Postings.{vector_documents}
-use Rattle.attr_images.specs.declared.TheConstants.{BLOCK_DOCUMENTS}
-use Rattle.attr_index.specs.Sets.{has, in_words}
+use Rattle.image_format.specs.Postings.{vector_documents}
+use Rattle.image_format.specs.declared.TheConstants.{BLOCK_DOCUMENTS}
+use Rattle.index_model.specs.Sets.{has, in_words}
 use Rattle.bit_vector.specs.Changes.{vector_part}
 use Rattle.bit_vector.specs.Keeps.{KeepsBlocks}
 use Rattle.bit_vector.specs.Vectors.{vector_reach, IsVector}

@@ -7,9 +7,9 @@ use Rattle.store_api.specs.Parts.{Part, Owns, Turns}
 use Rattle.tree_read.specs.Trees.{tree_pairs, by_number, IsTree}
 use Rattle.tree_read.specs.declared.node_format.TheConstants.{NODE_WORDS}
 use Rattle.frozen_btree.specs.Changes.{tree}
-use Rattle.attr_images.specs.Postings.{vector}
-use Rattle.attr_images.specs.ProofsForImages.{postings_reach-same}
-use Rattle.attr_images.specs.declared.TheConstants.{BLOCK_WORDS}
+use Rattle.image_format.specs.Postings.{vector}
+use Rattle.image_format.specs.ProofsForImages.{postings_reach-same}
+use Rattle.image_format.specs.declared.TheConstants.{BLOCK_WORDS}
 use Rattle.bit_vector.specs.Keeps.{KeepsBlocks}
 use Rattle.bit_vector.specs.Vectors.{vector_at, vector_reach, IsVector}
 

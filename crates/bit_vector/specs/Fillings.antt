@@ -4,8 +4,8 @@ use Rattle.std.specs.List.{range_with_len, AllZip}
 use Rattle.entry_ref.specs.Records.{Records}
 use Rattle.store_api.specs.Ledgers.{Ledger}
 use Rattle.store_api.specs.Parts.{Turns, entries}
-use Rattle.attr_images.specs.declared.TheConstants.{BLOCK_DOCUMENTS, BLOCK_WORDS}
-use Rattle.attr_index.specs.Sets.{has, in_words}
+use Rattle.image_format.specs.declared.TheConstants.{BLOCK_DOCUMENTS, BLOCK_WORDS}
+use Rattle.index_model.specs.Sets.{has, in_words}
 use Rattle.bit_vector.specs.Vectors.{is_block_of}
 use Rattle.bit_vector.specs.declared.filling.Blocks.{Blocks}
 

@@ -8,7 +8,7 @@ use Rattle.store_api.specs.Statuses.{in_use}
 use Rattle.tree_read.specs.Pairs.{put}
 use Rattle.tree_read.specs.Trees.{tree_pairs}
 use Rattle.frozen_btree.specs.Paths.{path_nodes, NoneIn}
-use Rattle.attr_images.specs.Postings.{vector_documents}
+use Rattle.image_format.specs.Postings.{vector_documents}
 use Rattle.bit_vector.specs.Blocks.{beside_block}
 use Rattle.bit_vector.specs.Changes.{vector_part}
 use Rattle.bit_vector.specs.Keeps.{block_at, KeepsBlocks}

@@ -5,8 +5,8 @@ use Rattle.std.specs.Ordering.{nat_cmp}
 use Rattle.entry_ref.specs.Records.{Records}
 use Rattle.tree_read.specs.Trees.{tree_pairs, by_number, IsTree}
 use Rattle.attr_types.specs.Lawful.{IsDocNumber}
-use Rattle.attr_images.specs.Postings.{vector, block_documents, vector_documents, postings_at, postings_reach, IsBlock}
-use Rattle.attr_images.specs.declared.TheConstants.{BLOCK_DOCUMENTS}
+use Rattle.image_format.specs.Postings.{vector, block_documents, vector_documents, postings_at, postings_reach, IsBlock}
+use Rattle.image_format.specs.declared.TheConstants.{BLOCK_DOCUMENTS}
 use Rattle.bit_vector.specs.declared.TheConstants.{MOST_BLOCKS}
 
 -- the documents, each with weight 1

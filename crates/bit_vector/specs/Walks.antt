@@ -6,9 +6,9 @@ use Rattle.std.specs.Ordering.{nat_cmp}
 use Rattle.entry_ref.specs.Records.{Records}
 use Rattle.tree_read.specs.SearchPlaces.{Place, IsAt, HasPair, pairs_from, first_key, first_value}
 use Rattle.attr_types.specs.Lawful.{IsDocNumber}
-use Rattle.attr_images.specs.Postings.{IsBlock}
-use Rattle.attr_images.specs.declared.TheConstants.{BLOCK_DOCUMENTS}
-use Rattle.attr_index.specs.Sets.{in_words}
+use Rattle.image_format.specs.Postings.{IsBlock}
+use Rattle.image_format.specs.declared.TheConstants.{BLOCK_DOCUMENTS}
+use Rattle.index_model.specs.Sets.{in_words}
 use Rattle.bit_vector.specs.Vectors.{blocks_documents}
 use Rattle.bit_vector.specs.declared.cursor.VectorCursor.{VectorCursor}
 

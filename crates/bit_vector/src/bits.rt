@@ -1,11 +1,11 @@
 //! The bits of a block.
 ghost use Rattle.std.specs.Prelude.{◌≡◌, ◌<◌, ◌≤◌, ◌||◌, ◌&&◌, ◌/◌, ℕ, not, nat_eq, length, true, false};
-ghost use Rattle.attr_index.specs.Sets.{in_words};
+ghost use Rattle.index_model.specs.Sets.{in_words};
 ghost use Rattle.bit_vector.specs.Blocks.{HasBit, IsNextBit};
 
 use arena_api::Frozen;
-use attr_images::{BLOCK_DOCUMENTS, BLOCK_WORDS};
 use entry_ref::EntryRef;
+use image_format::{BLOCK_DOCUMENTS, BLOCK_WORDS};
 
 /// Returns whether bit `i` is 1.
 pub fn has_bit(words: &[u64], i: u32) -> bool

@@ -1,16 +1,16 @@
 //! The blocks of a bit vector, read.
 ghost use Rattle.std.specs.Prelude.{◌≡◌, ◌<◌, ◌+◌, ◌*◌, ℕ, length};
-ghost use Rattle.attr_images.specs.Postings.{vector_documents};
-ghost use Rattle.attr_index.specs.Sets.{has, in_words};
+ghost use Rattle.image_format.specs.Postings.{vector_documents};
+ghost use Rattle.index_model.specs.Sets.{has, in_words};
 ghost use Rattle.bit_vector.specs.Blocks.{beside_block};
 ghost use Rattle.bit_vector.specs.Vectors.{IsVector};
 ghost use Rattle.tree_read.specs.Pairs.{lookup};
 ghost use Rattle.tree_read.specs.Trees.{tree_pairs};
 
 use arena_api::{Frozen, read};
-use attr_images::{BLOCK_DOCUMENTS, BLOCK_WORDS};
 use entry_ref::EntryRef;
 use frozen_btree::{NumberKey, find};
+use image_format::{BLOCK_DOCUMENTS, BLOCK_WORDS};
 
 /// The number of documents of a block.
 pub const BLOCK_SIZE: u32 = BLOCK_DOCUMENTS as u32;

@@ -4,8 +4,8 @@ ghost use Rattle.std.specs.BTreeMap.{insert_entry, is_at};
 ghost use Rattle.std.specs.List.{AllByRecursion};
 ghost use Rattle.std.specs.Map.{remove_entry};
 ghost use Rattle.std.specs.Ordering.{nat_cmp};
-ghost use Rattle.attr_images.specs.Postings.{block_documents, vector_documents, IsBlock};
-ghost use Rattle.attr_index.specs.Sets.{has, in_words};
+ghost use Rattle.image_format.specs.Postings.{block_documents, vector_documents, IsBlock};
+ghost use Rattle.index_model.specs.Sets.{has, in_words};
 ghost use Rattle.attr_types.specs.Lawful.{IsDocNumber};
 ghost use Rattle.bit_vector.specs.Blocks.{beside_block, HasBit, SetsBlock};
 ghost use Rattle.bit_vector.specs.Changes.{vector_most, vector_part, IsVectorWidth, MakesVector};
@@ -20,10 +20,10 @@ ghost use Rattle.tree_read.specs.Trees.{tree_pairs};
 
 use crate::bits::{clear_bit, has_bit, is_empty, set_bit};
 use crate::blocks::{BLOCK_SIZE, block_words, find_block};
-use attr_images::{BLOCK_DOCUMENTS, BLOCK_WORDS};
 use attr_types::Doc;
 use entry_ref::EntryRef;
 use frozen_btree::{NumberKey, insert as insert_pair, remove as remove_pair};
+use image_format::{BLOCK_DOCUMENTS, BLOCK_WORDS};
 use store_api::{Store, StoreError, drop_one, make_entry};
 use tree_read::NODE_WORDS;
 

@@ -2,7 +2,7 @@
 ghost use Rattle.std.specs.Prelude.{◌≡◌, ◌+◌, ◌∷◌, [], pos, true, map, length, replicate, IfOk, IfErr};
 ghost use Rattle.std.specs.List.{AllByRecursion};
 ghost use Rattle.std.specs.Ordering.{nat_cmp};
-ghost use Rattle.attr_images.specs.Postings.{vector_documents};
+ghost use Rattle.image_format.specs.Postings.{vector_documents};
 ghost use Rattle.attr_types.specs.Lawful.{IsDocNumber};
 ghost use Rattle.bit_vector.specs.Changes.{vector_most, IsVectorWidth, MakesTree, MakesVector};
 ghost use Rattle.bit_vector.specs.Vectors.{count_blocks, IsVector};

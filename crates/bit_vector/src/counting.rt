@@ -1,12 +1,12 @@
 //! The number of documents of a bit vector.
 ghost use Rattle.std.specs.Prelude.{◌≡◌, ◌<◌, ◌≤◌, ◌+◌, ◌*◌, ℕ, length};
-ghost use Rattle.attr_images.specs.Postings.{block_documents, vector_documents};
+ghost use Rattle.image_format.specs.Postings.{block_documents, vector_documents};
 ghost use Rattle.bit_vector.specs.Vectors.{IsVector};
 
 use arena_api::Frozen;
-use attr_images::BLOCK_WORDS;
 use entry_ref::EntryRef;
 use frozen_btree::Cursor;
+use image_format::BLOCK_WORDS;
 
 /// Returns the number of documents of a block.
 fn count_block<const OFFSET_BITS: u32, F: Frozen<OFFSET_BITS>>(

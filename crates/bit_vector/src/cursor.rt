@@ -1,6 +1,6 @@
 //! A walk over the documents of a bit vector.
 ghost use Rattle.std.specs.Prelude.{◌≡◌, ◌↔◌, ℕ, drop, [], false, IsTrue};
-ghost use Rattle.attr_images.specs.Postings.{vector_documents};
+ghost use Rattle.image_format.specs.Postings.{vector_documents};
 ghost use Rattle.bit_vector.specs.Vectors.{blocks_documents, IsVector};
 ghost use Rattle.bit_vector.specs.Walks.{documents_from, first_document, HasDocument, IsBlockPlace, IsVectorPlace};
 ghost use Rattle.entry_ref.specs.Records.{Records};

@@ -2,7 +2,7 @@
 ghost use Rattle.std.specs.Prelude.{◌≡◌, ◌<◌, ◌≤◌, ◌+◌, ◌*◌, ◌∷◌, [], ℕ, true, map, length, filter, OnOk, IfOk, IfErr};
 ghost use Rattle.std.specs.List.{range_with_len, AllByRecursion};
 ghost use Rattle.std.specs.Ordering.{nat_cmp};
-ghost use Rattle.attr_index.specs.Sets.{has, in_words};
+ghost use Rattle.index_model.specs.Sets.{has, in_words};
 ghost use Rattle.attr_types.specs.Lawful.{IsDocNumber};
 ghost use Rattle.bit_vector.specs.Changes.{vector_most, IsVectorWidth};
 ghost use Rattle.bit_vector.specs.Fillings.{block_most, MakesBlock, MakesBlocks};
@@ -17,9 +17,9 @@ use crate::MOST_BLOCKS;
 use crate::bits::{is_empty, set_bit};
 use arena_api::Frozen;
 use arrayvec::ArrayVec;
-use attr_images::{BLOCK_DOCUMENTS, BLOCK_WORDS};
 use entry_ref::EntryRef;
 use frozen_btree::{Cursor, NumberKey};
+use image_format::{BLOCK_DOCUMENTS, BLOCK_WORDS};
 use store_api::{Store, StoreError, make_entry};
 
 /// Blocks with their records.

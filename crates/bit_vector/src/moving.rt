@@ -11,9 +11,9 @@ ghost use Rattle.store_api.specs.Parts.{Owns, entry};
 ghost use Rattle.store_api.specs.Units.{MayDo, MakesWithin};
 
 use crate::blocks::{find_block, read_block};
-use attr_images::BLOCK_WORDS;
 use entry_ref::EntryRef;
 use frozen_btree::{NumberKey, insert as insert_pair, touch};
+use image_format::BLOCK_WORDS;
 use store_api::{Store, StoreError, drop_one, make_entry};
 use tree_read::NODE_WORDS;
 

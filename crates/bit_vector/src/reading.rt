@@ -1,14 +1,14 @@
 //! A document sought in a bit vector.
 ghost use Rattle.std.specs.Prelude.{◌≡◌, ◌<◌, length};
-ghost use Rattle.attr_images.specs.Postings.{vector_documents};
-ghost use Rattle.attr_index.specs.Sets.{has, in_words};
+ghost use Rattle.image_format.specs.Postings.{vector_documents};
+ghost use Rattle.index_model.specs.Sets.{has, in_words};
 ghost use Rattle.bit_vector.specs.Vectors.{IsVector};
 
 use crate::blocks::{BLOCK_SIZE, find_block};
 use arena_api::Frozen;
-use attr_images::{BLOCK_DOCUMENTS, BLOCK_WORDS};
 use attr_types::Doc;
 use entry_ref::EntryRef;
+use image_format::{BLOCK_DOCUMENTS, BLOCK_WORDS};
 
 /// Returns whether bit `i` of a block is 1.
 fn bit_of<const OFFSET_BITS: u32, F: Frozen<OFFSET_BITS>>(

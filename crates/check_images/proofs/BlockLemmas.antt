@@ -7,9 +7,9 @@ use Rattle.std.proofs.lemmas.List.FromFn.{filter_of_map_range_with_len_more}
 use Rattle.std.specs.List.{range_with_len, flat_map, AllByRecursion}
 use Rattle.entry_ref.specs.Records.{Records}
 use Rattle.tree_read.specs.Trees.{tree_pairs}
-use Rattle.attr_images.specs.Postings.{block_documents, vector_documents, IsBlock}
-use Rattle.attr_images.specs.declared.TheConstants.{BLOCK_DOCUMENTS}
-use Rattle.attr_index.specs.Sets.{in_words}
+use Rattle.image_format.specs.Postings.{block_documents, vector_documents, IsBlock}
+use Rattle.image_format.specs.declared.TheConstants.{BLOCK_DOCUMENTS}
+use Rattle.index_model.specs.Sets.{in_words}
 
 -- a document with weight 1
 abbrev pub weighed : ℕ → ℕ × ℤ

@@ -7,16 +7,16 @@ use Rattle.std.specs.List.{find, cons_option, AllByRecursion}
 use Rattle.std.specs.List.Sorted.{IsStrictlySortedBy}
 use Rattle.std.specs.Map.{keys_of}
 use Rattle.std.specs.Ordering.{nat_cmp}
-use Rattle.attr_images.proofs.ImageLemmas.{index_keys}
-use Rattle.list_facts.proofs.Each.{AllByRecursion-append, AllByRecursion-left, AllByRecursion-right}
+use Rattle.image_format.proofs.ImageLemmas.{index_keys}
+use Rattle.list_lemmas.proofs.Each.{AllByRecursion-append, AllByRecursion-left, AllByRecursion-right}
 use Rattle.entry_ref.specs.Records.{Records}
 use Rattle.tree_read.specs.Trees.{tree_pairs, by_number, IsTree}
-use Rattle.attr_index.specs.Columns.{Column, column_values, documents_with, IsLawfulColumn}
-use Rattle.attr_index.specs.Index.{HasValues, HasLists}
-use Rattle.attr_images.specs.Documents.{items_at, column_at}
-use Rattle.attr_images.proofs.ListLemmas.{lists_filled}
-use Rattle.attr_images.specs.Postings.{list_form, postings_at, IsDictionaryEntry}
-use Rattle.attr_images.specs.Values.{stored_value}
+use Rattle.index_model.specs.Columns.{Column, column_values, documents_with, IsLawfulColumn}
+use Rattle.index_model.specs.Index.{HasValues, HasLists}
+use Rattle.image_format.specs.Documents.{items_at, column_at}
+use Rattle.image_format.proofs.ListLemmas.{lists_filled}
+use Rattle.image_format.specs.Postings.{list_form, postings_at, IsDictionaryEntry}
+use Rattle.image_format.specs.Values.{stored_value}
 use Rattle.attr_types.specs.Lawful.{IsDocNumber, IsLawfulItems}
 use Rattle.attr_types.specs.ProofsForOrder.{value_cmp_exact}
 use Rattle.attr_types.specs.Value.{value_cmp, values_of}

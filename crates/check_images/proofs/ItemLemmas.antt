@@ -5,8 +5,8 @@ use Rattle.std.specs.List.{AllByRecursion}
 use Rattle.std.specs.declared.alloc.Global.{Global}
 use Rattle.std.specs.declared.alloc.AllocError.{AllocError}
 use Rattle.entry_ref.specs.Records.{Records}
-use Rattle.attr_images.specs.Documents.{weighted, IsItemsRecord, items_at, AreItemRecords}
-use Rattle.attr_images.specs.Values.{value_of, stored_value, IsValueRecord}
+use Rattle.image_format.specs.Documents.{weighted, IsItemsRecord, items_at, AreItemRecords}
+use Rattle.image_format.specs.Values.{value_of, stored_value, IsValueRecord}
 use Rattle.attr_types.specs.declared.items.Item.{Item}
 use Rattle.attr_types.specs.declared.kind.Kind.{Kind}
 use Rattle.attr_types.specs.declared.kind.ValueType.{ValueType}

@@ -6,7 +6,7 @@ use Rattle.std.specs.List.{AllByRecursion}
 use Rattle.std.specs.List.Sorted.{IsStrictlySortedBy}
 use Rattle.entry_ref.specs.Records.{Records}
 use Rattle.tree_read.specs.Trees.{last_key, tree_pairs, IsRootNode}
-use Rattle.attr_images.specs.Values.{stored_value}
+use Rattle.image_format.specs.Values.{stored_value}
 use Rattle.attr_types.specs.Value.{value_cmp}
 use Rattle.attr_types.specs.ProofsForOrder.{value_cmp_total}
 use Rattle.attr_types.specs.declared.value.Value.{Value}

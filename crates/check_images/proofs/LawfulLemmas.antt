@@ -3,11 +3,11 @@ use Rattle.std.proofs.Common.{◌≡◌, ℕ, zero, suc, ◌<◌, ◌≤◌, Lis
 use Rattle.std.specs.Prelude.{IfErr}
 use Rattle.std.proofs.lemmas.List.{length-map}
 use Rattle.entry_ref.specs.Records.{Records}
-use Rattle.attr_images.proofs.ImageLemmas.{attributes_lawful, image_lawful, table_empty}
-use Rattle.attr_images.proofs.ShapeLemmas.{shape_tells}
-use Rattle.attr_images.specs.Images.{root_words, attributes_from, attributes_of, table_of, IsRootRecord, IsLawfulImage}
-use Rattle.attr_images.specs.Shapes.{shape_of, types_of_shape, types_of}
-use Rattle.attr_images.specs.Tables.{table_of_columns, columns_at, AreLawfulAttributes}
+use Rattle.image_format.proofs.ImageLemmas.{attributes_lawful, image_lawful, table_empty}
+use Rattle.image_format.proofs.ShapeLemmas.{shape_tells}
+use Rattle.image_format.specs.Images.{root_words, attributes_from, attributes_of, table_of, IsRootRecord, IsLawfulImage}
+use Rattle.image_format.specs.Shapes.{shape_of, types_of_shape, types_of}
+use Rattle.image_format.specs.Tables.{table_of_columns, columns_at, AreLawfulAttributes}
 use Rattle.attr_types.specs.Table.{Table}
 use Rattle.attr_types.specs.declared.field.Field.{Field}
 use Rattle.attr_types.specs.declared.field.TheConstants.{MOST_FIELDS}

@@ -6,13 +6,13 @@ use Rattle.std.proofs.Math.Seq.{take-length}
 use Rattle.std.proofs.lemmas.List.{take_rest, append_assoc, append-nil, nil_from_length}
 use Rattle.std.specs.Map.{keys_of}
 use Rattle.entry_ref.specs.Records.{Records}
-use Rattle.attr_images.proofs.TableLemmas.{same_rest, table_keys}
-use Rattle.attr_images.specs.Attributes.{IsLawfulAttribute}
-use Rattle.attr_images.specs.Documents.{column_at}
-use Rattle.attr_images.specs.Images.{attributes_from}
-use Rattle.attr_images.specs.Shapes.{types_of}
-use Rattle.attr_images.specs.Tables.{AttributeTrees, table_of_columns, columns_at, AreLawfulAttributes}
-use Rattle.attr_index.specs.Columns.{Column, table_of_column}
+use Rattle.image_format.proofs.TableLemmas.{same_rest, table_keys}
+use Rattle.image_format.specs.Attributes.{IsLawfulAttribute}
+use Rattle.image_format.specs.Documents.{column_at}
+use Rattle.image_format.specs.Images.{attributes_from}
+use Rattle.image_format.specs.Shapes.{types_of}
+use Rattle.image_format.specs.Tables.{AttributeTrees, table_of_columns, columns_at, AreLawfulAttributes}
+use Rattle.index_model.specs.Columns.{Column, table_of_column}
 use Rattle.attr_types.specs.declared.field.Field.{Field}
 
 -- a slice that is taken apart

@@ -3,8 +3,8 @@ use Rattle.std.proofs.Common.{◌≡◌, ℕ, suc, ◌+◌, ◌-◌, ◌<◌, �
 use Rattle.std.proofs.lemmas.List.{get_or-take}
 use Rattle.std.proofs.lemmas.List.FromFn.{fill_by_all}
 use Rattle.std.specs.Int.{from_be_bytes, w64}
-use Rattle.list_facts.proofs.Places.{get_or-append_zeros}
-use Rattle.attr_images.specs.Values.{packed_bytes}
+use Rattle.list_lemmas.proofs.Places.{get_or-append_zeros}
+use Rattle.image_format.specs.Values.{packed_bytes}
 
 length-eight : (bytes : List ℕ) → length (take 8 (bytes ++ replicate 8 0)) ≡ 8
 length-eight bytes = length-take 8 (bytes ++ replicate 8 0) ∙ enough

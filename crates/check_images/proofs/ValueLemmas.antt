@@ -7,7 +7,7 @@ use Rattle.std.proofs.lemmas.List.{take_more}
 use Rattle.std.proofs.lemmas.List.Elements.{at_read, filter_map-append}
 use Rattle.std.specs.Cmp.{Equal-is}
 use Rattle.std.specs.List.{find, filter_map, cons_option, AllByRecursion}
-use Rattle.attr_index.specs.Columns.{documents_with}
+use Rattle.index_model.specs.Columns.{documents_with}
 use Rattle.attr_types.specs.Value.{value_cmp}
 use Rattle.attr_types.specs.ProofsForOrder.{value_cmp_total, value_cmp_exact}
 use Rattle.attr_types.specs.declared.items.Item.{Item}

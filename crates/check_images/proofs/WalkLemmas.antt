@@ -6,8 +6,8 @@ use Rattle.std.proofs.Math.Nat.{one-le-pow}
 use Rattle.std.proofs.lemmas.List.{take_more, map-append, take-append-drop, get_or-map, get_or-take, get_or-drop, take_all}
 use Rattle.std.specs.List.{zip, flat_map, AllByRecursion}
 use Rattle.std.proofs.lemmas.Grind.{flat_map-append}
-use Rattle.list_facts.proofs.Pairs.{zip-append}
-use Rattle.list_facts.proofs.Each.{AllByRecursion-append, AllByRecursion-at}
+use Rattle.list_lemmas.proofs.Pairs.{zip-append}
+use Rattle.list_lemmas.proofs.Each.{AllByRecursion-append, AllByRecursion-at}
 use Rattle.entry_ref.specs.Records.{Records}
 use Rattle.tree_read.proofs.TreeLemmas.{length-node_values, pairs_many, last_key-append}
 use Rattle.tree_read.specs.Nodes.{used_of, count_of, node_keys, node_values, IsNodeForm}

@@ -5,7 +5,7 @@ use Rattle.std.specs.List.Sorted.{IsStrictlySortedBy}
 use Rattle.std.specs.Ordering.{nat_cmp}
 use Rattle.entry_ref.specs.Records.{Records}
 use Rattle.tree_read.specs.Trees.{IsTree, by_number}
-use Rattle.attr_images.specs.Values.{stored_value}
+use Rattle.image_format.specs.Values.{stored_value}
 use Rattle.attr_types.specs.Value.{value_cmp}
 use Rattle.check_images.specs.declared.keys.Keys.{Keys}
 use Rattle.check_images.specs.declared.keys.Keys.TheVariants.{Numbers, Values}

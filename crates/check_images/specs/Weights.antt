@@ -1,6 +1,6 @@
 -- The items of a stored list, each with its weight.
 use Rattle.std.specs.Prelude.{ℕ, ℤ, pos, List, map}
-use Rattle.attr_images.specs.Words.{unpacked}
+use Rattle.image_format.specs.Words.{unpacked}
 use Rattle.attr_types.specs.declared.kind.Kind.{Kind}
 use Rattle.attr_types.specs.declared.kind.Kind.TheVariants.{Single, Array, WeightedSet}
 

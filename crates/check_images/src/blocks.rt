@@ -1,13 +1,13 @@
 ghost use Rattle.std.specs.Prelude.{◌≡◌, ◌<◌, ◌^◌, ◌++◌, ℕ, pos, map, OnOk, IfOk, IfErr};
 ghost use Rattle.std.specs.List.{flat_map, AllByRecursion};
-ghost use Rattle.attr_images.specs.Postings.{block_documents, IsBlock};
-ghost use Rattle.attr_index.specs.Sets.{in_words};
+ghost use Rattle.image_format.specs.Postings.{block_documents, IsBlock};
+ghost use Rattle.index_model.specs.Sets.{in_words};
 ghost use Rattle.entry_ref.specs.Maps.{seen};
 ghost use Rattle.check_images.specs.Refutations.{Refutes};
 
 use crate::CheckFault;
-use attr_images::{BLOCK_DOCUMENTS, BLOCK_WORDS};
 use entry_ref::{word_in, words_at};
+use image_format::{BLOCK_DOCUMENTS, BLOCK_WORDS};
 use std::alloc::{AllocError, Global};
 use std::collections::BTreeMap;
 

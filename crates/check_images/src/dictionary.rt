@@ -1,9 +1,9 @@
 ghost use Rattle.std.specs.Prelude.{◌≡◌, ℕ, map, option_map, OnOk, IfOk, IfErr};
 ghost use Rattle.std.specs.List.{find, AllByRecursion};
 ghost use Rattle.std.specs.Ordering.{is_eq};
-ghost use Rattle.attr_index.specs.Columns.{documents_with};
-ghost use Rattle.attr_images.specs.Postings.{list_form, postings_at, IsDictionaryEntry};
-ghost use Rattle.attr_images.specs.Values.{stored_value};
+ghost use Rattle.index_model.specs.Columns.{documents_with};
+ghost use Rattle.image_format.specs.Postings.{list_form, postings_at, IsDictionaryEntry};
+ghost use Rattle.image_format.specs.Values.{stored_value};
 ghost use Rattle.attr_types.specs.Value.{value_cmp};
 ghost use Rattle.attr_types.specs.declared.items.Item.{Item};
 ghost use Rattle.entry_ref.specs.Maps.{seen};

@@ -1,8 +1,8 @@
 ghost use Rattle.std.specs.Prelude.{◌≡◌, ◌↔◌, ◌≤◌, ◌+◌, ℕ, length, drop, IsTrue, OnOk, IfOk, IfErr};
 ghost use Rattle.std.specs.List.{AllByRecursion};
-ghost use Rattle.attr_images.specs.Images.{attributes_from, table_of, IsRootRecord, IsLawfulImage};
-ghost use Rattle.attr_images.specs.Shapes.{shape_of, types_of};
-ghost use Rattle.attr_images.specs.Tables.{table_of_columns, columns_at, AreLawfulAttributes};
+ghost use Rattle.image_format.specs.Images.{attributes_from, table_of, IsRootRecord, IsLawfulImage};
+ghost use Rattle.image_format.specs.Shapes.{shape_of, types_of};
+ghost use Rattle.image_format.specs.Tables.{table_of_columns, columns_at, AreLawfulAttributes};
 ghost use Rattle.entry_ref.specs.Maps.{seen};
 ghost use Rattle.check_images.specs.Refutations.{Refutes};
 

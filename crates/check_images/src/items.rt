@@ -1,7 +1,7 @@
 ghost use Rattle.std.specs.Prelude.{◌≡◌, ◌≤◌, ℕ, ℤ, pos, map, IfOk, OnOk, IfErr};
 ghost use Rattle.std.specs.List.{AllByRecursion};
-ghost use Rattle.attr_images.specs.Documents.{weighted, IsItemsRecord, items_at, AreItemRecords};
-ghost use Rattle.attr_images.specs.Values.{stored_value, IsValueRecord};
+ghost use Rattle.image_format.specs.Documents.{weighted, IsItemsRecord, items_at, AreItemRecords};
+ghost use Rattle.image_format.specs.Values.{stored_value, IsValueRecord};
 ghost use Rattle.entry_ref.specs.Maps.{seen};
 ghost use Rattle.check_images.specs.Refutations.{Refutes};
 ghost use Rattle.check_images.specs.Told.{Tells};

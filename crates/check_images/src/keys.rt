@@ -1,6 +1,6 @@
 ghost use Rattle.std.specs.Prelude.{◌≡◌, IfOk, slice_index};
 ghost use Rattle.std.specs.Int.{cast_signed, w64};
-ghost use Rattle.attr_images.specs.Values.{stored_text};
+ghost use Rattle.image_format.specs.Values.{stored_text};
 ghost use Rattle.check_images.specs.Keys.{stored_cmp};
 ghost use Rattle.entry_ref.specs.Maps.{seen};
 

@@ -1,4 +1,4 @@
-//! A slow checker of whole images, whose contract cites the definitions of attr_images; and a slow checker of trees,
+//! A slow checker of whole images, whose contract cites the definitions of image_format; and a slow checker of trees,
 //! whose contract cites those of tree_read.
 #![tactic(auto)]
 

@@ -1,7 +1,7 @@
 ghost use Rattle.std.specs.Prelude.{◌≡◌, ◌<◌, ◌^◌, ℕ, map, OnOk, IfOk, IfErr};
 ghost use Rattle.std.specs.List.{AllByRecursion};
-ghost use Rattle.attr_images.specs.Postings.{list_form, tree, vector, postings_at, IsPostingList};
-ghost use Rattle.attr_images.specs.Words.{weight_in_bits};
+ghost use Rattle.image_format.specs.Postings.{list_form, tree, vector, postings_at, IsPostingList};
+ghost use Rattle.image_format.specs.Words.{weight_in_bits};
 ghost use Rattle.entry_ref.specs.Maps.{seen};
 ghost use Rattle.check_images.specs.Refutations.{Refutes};
 ghost use Rattle.check_images.specs.Told.{Tells};
@@ -9,8 +9,8 @@ ghost use Rattle.check_images.specs.Told.{Tells};
 use crate::blocks::read_blocks;
 use crate::words::{read_list, unpack_all};
 use crate::{CheckFault, Keys, check_tree};
-use attr_images::{FIRST_VECTOR, MOST_SHORT};
 use entry_ref::words_at;
+use image_format::{FIRST_VECTOR, MOST_SHORT};
 use std::alloc::{AllocError, Global};
 use std::collections::BTreeMap;
 

@@ -2,7 +2,7 @@
 ghost use Rattle.std.specs.Prelude.{◌≡◌, ◌↔◌, ◌∷◌, map, IsTrue, IfOk};
 ghost use Rattle.std.specs.List.{zip};
 ghost use Rattle.std.specs.Map.{keys_of};
-ghost use Rattle.attr_index.specs.Columns.{table_of_column};
+ghost use Rattle.index_model.specs.Columns.{table_of_column};
 
 use attr_types::{FieldItems, Items};
 use std::alloc::{AllocError, Global};

@@ -1,5 +1,5 @@
 ghost use Rattle.std.specs.Prelude.{◌≡◌, ◌≤◌, ◌+◌, ◌/◌, ◌++◌, length, take, drop, replicate, IfOk};
-ghost use Rattle.attr_images.specs.Values.{packed_bytes, value_words, value_of, IsLawfulValue, IsValueRecord};
+ghost use Rattle.image_format.specs.Values.{packed_bytes, value_words, value_of, IsLawfulValue, IsValueRecord};
 ghost use Rattle.check_images.specs.Told.{Tells};
 
 use crate::words::is_filled;

@@ -1,5 +1,5 @@
 ghost use Rattle.std.specs.Prelude.{◌≡◌, ◌↔◌, ◌≤◌, ◌∷◌, length, map, OnOk, IfOk, IsTrue};
-ghost use Rattle.attr_images.specs.Words.{class_of, filled, stored_items, unpacked, IsStoredList};
+ghost use Rattle.image_format.specs.Words.{class_of, filled, stored_items, unpacked, IsStoredList};
 ghost use Rattle.check_images.specs.Told.{Tells};
 
 use crate::rest_of;

@@ -6,14 +6,14 @@ use Rattle.std.specs.List.{flat_map, AllByRecursion}
 use Rattle.std.specs.List.Sorted.{IsStrictlySortedBy}
 use Rattle.std.specs.Ordering.{MatchOrdering}
 use Rattle.std.specs.declared.cmp.Ordering.{Ordering}
-use Rattle.list_facts.proofs.Options.{same_Some}
+use Rattle.list_lemmas.proofs.Options.{same_Some}
 use Rattle.entry_ref.specs.Records.{Records, SameAt, Among}
 use Rattle.tree_read.specs.Pairs.{choose, lookup}
 use Rattle.tree_read.specs.ProofsForTrees.{SameAt-left, SameAt-right, tree_pairs-same}
 use Rattle.tree_read.specs.Trees.{tree_nodes, tree_pairs}
 use Rattle.frozen_btree.specs.Paths.{path_nodes, NoneIn}
 use Rattle.frozen_btree.proofs.TouchTreeLemmas.{path_nodes-same}
-use Rattle.attr_images.specs.Postings.{ListForm, short, tree, vector, dictionary_reach, list_form, postings_reach, IsBlock, IsPostingList}
+use Rattle.image_format.specs.Postings.{ListForm, short, tree, vector, dictionary_reach, list_form, postings_reach, IsBlock, IsPostingList}
 use Rattle.bit_vector.specs.Keeps.{block_at}
 use Rattle.posting_store.specs.Keeps.{form_block}
 use Rattle.posting_store.specs.Moves.{form_docs, FormIsApart}

@@ -14,7 +14,7 @@ use Rattle.frozen_btree.specs.Paths.{path_nodes, NoneIn}
 use Rattle.frozen_btree.proofs.TouchTreeLemmas.{none-apart}
 use Rattle.doc_vector.proofs.DocumentLemmas.{IsNumberTree}
 use Rattle.doc_vector.specs.Documents.{beside_document, IsDocumentPair}
-use Rattle.attr_images.specs.Documents.{items_at}
+use Rattle.image_format.specs.Documents.{items_at}
 use Rattle.attr_types.specs.declared.kind.Kind.{Kind}
 use Rattle.attr_types.specs.declared.kind.ValueType.{ValueType}
 use Rattle.attr_field.specs.DocumentsChanges.{pairs_own, AreBeside}

@@ -5,7 +5,7 @@ use Rattle.std.specs.BTreeMap.{is_at}
 use Rattle.std.specs.List.{flat_map, AllByRecursion}
 use Rattle.std.specs.Map.{lookup as lookup_in}
 use Rattle.std.specs.Ordering.{nat_cmp}
-use Rattle.list_facts.proofs.Each.{AllByRecursion-weaker}
+use Rattle.list_lemmas.proofs.Each.{AllByRecursion-weaker}
 use Rattle.entry_ref.proofs.Among.{Among-all}
 use Rattle.entry_ref.specs.References.{buffer_of}
 use Rattle.entry_ref.specs.Records.{Records, SameAt, Among}
@@ -20,13 +20,13 @@ use Rattle.store_api.proofs.Uses.{in-uses, uses-in}
 use Rattle.tree_read.specs.Trees.{tree_nodes, tree_pairs}
 use Rattle.frozen_btree.specs.Paths.{NoneIn}
 use Rattle.doc_vector.specs.Documents.{beside_document}
-use Rattle.attr_images.proofs.ImageLemmas.{value_typed}
-use Rattle.attr_images.specs.Documents.{weighted, column_at, items_at}
-use Rattle.attr_images.specs.Postings.{index_of}
-use Rattle.attr_images.specs.Values.{stored_value}
-use Rattle.attr_index.proofs.PartLemmas.{insert_same}
-use Rattle.attr_index.specs.Columns.{Column, with_change}
-use Rattle.attr_index.specs.Index.{list_of}
+use Rattle.image_format.proofs.ImageLemmas.{value_typed}
+use Rattle.image_format.specs.Documents.{weighted, column_at, items_at}
+use Rattle.image_format.specs.Postings.{index_of}
+use Rattle.image_format.specs.Values.{stored_value}
+use Rattle.index_model.proofs.PartLemmas.{insert_same}
+use Rattle.index_model.specs.Columns.{Column, with_change}
+use Rattle.index_model.specs.Index.{list_of}
 use Rattle.attr_types.proofs.EntryLemmas.{all-lookup}
 use Rattle.attr_types.specs.Lawful.{IsLawfulItems}
 use Rattle.attr_types.specs.Value.{type_of, values_of, AreOfType}

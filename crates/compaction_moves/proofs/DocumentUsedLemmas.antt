@@ -5,9 +5,9 @@ use Rattle.std.specs.BTreeMap.{is_at}
 use Rattle.std.specs.Map.{lookup as lookup_in}
 use Rattle.std.specs.Ordering.{nat_cmp}
 use Rattle.std.specs.Prelude.{pos}
-use Rattle.list_facts.proofs.Options.{same_Some}
+use Rattle.list_lemmas.proofs.Options.{same_Some}
 use Rattle.frozen_btree.proofs.UsedLemmas.{node_used}
-use Rattle.attr_images.proofs.RootLemmas.{length-filled}
+use Rattle.image_format.proofs.RootLemmas.{length-filled}
 use Rattle.entry_ref.specs.Records.{Among, Records}
 use Rattle.tree_read.specs.Pairs.{lookup}
 use Rattle.store_api.specs.Calls.{IsUsedWidth}
@@ -18,8 +18,8 @@ use Rattle.store_api.proofs.Uses.{in-uses}
 use Rattle.tree_read.specs.Trees.{tree_nodes, tree_pairs}
 use Rattle.frozen_btree.specs.Changes.{tree}
 use Rattle.doc_vector.specs.Documents.{beside_document}
-use Rattle.attr_images.specs.Documents.{column_at, items_at, IsItemsRecord}
-use Rattle.attr_images.specs.Words.{class_of, stored_items, unpacked, IsStoredList}
+use Rattle.image_format.specs.Documents.{column_at, items_at, IsItemsRecord}
+use Rattle.image_format.specs.Words.{class_of, stored_items, unpacked, IsStoredList}
 use Rattle.attr_types.specs.Change.{most_items}
 use Rattle.attr_types.specs.declared.items.Item.{Item}
 use Rattle.attr_types.specs.declared.kind.Kind.{Kind}

@@ -8,9 +8,9 @@ use Rattle.store_api.specs.Parts.{Owns}
 use Rattle.tree_read.specs.Trees.{tree_pairs}
 use Rattle.attr_field.specs.Documents.{documents_part}
 use Rattle.attr_field.specs.DocumentsLaws.{DocumentsHaveValues}
-use Rattle.attr_images.specs.Postings.{index_of}
-use Rattle.attr_images.specs.Tables.{AttributeTrees}
-use Rattle.attr_images.specs.Values.{stored_value}
+use Rattle.image_format.specs.Postings.{index_of}
+use Rattle.image_format.specs.Tables.{AttributeTrees}
+use Rattle.image_format.specs.Values.{stored_value}
 use Rattle.attr_compaction.specs.Places.{PlanPlace}
 use Rattle.attr_compaction.specs.declared.plan.PlanKey.TheVariants.{Value}
 use Rattle.attr_compaction.specs.declared.plan.TheConstants.{DOCUMENTS, KEYS}

@@ -2,14 +2,14 @@
 use Rattle.std.proofs.Common.{◌≡◌, ◌≢◌, ℕ, ◌*◌, sym, subst, ◌∙◌}
 use Rattle.std.specs.List.{AllByRecursion}
 use Rattle.entry_ref.proofs.Among.{SameAt-among}
-use Rattle.list_facts.proofs.Each.{AllByRecursion-and}
+use Rattle.list_lemmas.proofs.Each.{AllByRecursion-and}
 use Rattle.entry_ref.specs.References.{buffer_of}
 use Rattle.entry_ref.specs.Records.{Records, SameAt, Among}
 use Rattle.tree_read.specs.ProofsForTrees.{SameAt-left, SameAt-right, all-same, tree_pairs-same}
 use Rattle.tree_read.specs.Trees.{tree_nodes, tree_pairs}
 use Rattle.frozen_btree.specs.Ways.{tree_keys}
-use Rattle.attr_images.specs.Postings.{ListForm, short, tree, vector, dictionary_reach, list_form, postings_reach, IsDictionaryEntry, IsPostingList}
-use Rattle.attr_images.specs.Values.{stored_value, value_of}
+use Rattle.image_format.specs.Postings.{ListForm, short, tree, vector, dictionary_reach, list_form, postings_reach, IsDictionaryEntry, IsPostingList}
+use Rattle.image_format.specs.Values.{stored_value, value_of}
 use Rattle.attr_types.specs.declared.kind.ValueType.{ValueType}
 use Rattle.attr_types.specs.declared.value.Value.{Value as AnyValue}
 use Rattle.value_index.specs.Indexes.{index_reach, IsIndex}

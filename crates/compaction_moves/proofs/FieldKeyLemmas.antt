@@ -2,16 +2,16 @@
 use Rattle.std.proofs.Common.{◌≡◌, ℕ, zero, suc, ◌<◌, Bool, true, false, cond, List, [], ◌∷◌, map, Some, refl, subst, arith}
 use Rattle.std.specs.List.{find, AllByRecursion}
 use Rattle.std.specs.Ordering.{is_lt}
-use Rattle.list_facts.proofs.Options.{same_Some}
-use Rattle.list_facts.proofs.Each.{AllByRecursion-append}
+use Rattle.list_lemmas.proofs.Options.{same_Some}
+use Rattle.list_lemmas.proofs.Each.{AllByRecursion-append}
 use Rattle.entry_ref.specs.Records.{Records}
 use Rattle.tree_read.specs.Trees.{tree_pairs}
 use Rattle.attr_compaction.specs.Places.{has_key, key_cmp}
 use Rattle.attr_compaction.specs.declared.plan.PlanKey.{PlanKey}
 use Rattle.attr_compaction.specs.declared.plan.PlanKey.TheVariants.{Start, Value, Doc, Pair}
-use Rattle.attr_images.proofs.ImageLemmas.{value_typed}
-use Rattle.attr_images.specs.Postings.{list_form}
-use Rattle.attr_images.specs.Values.{stored_value}
+use Rattle.image_format.proofs.ImageLemmas.{value_typed}
+use Rattle.image_format.specs.Postings.{list_form}
+use Rattle.image_format.specs.Values.{stored_value}
 use Rattle.attr_types.specs.Lawful.{IsDocNumber}
 use Rattle.attr_types.specs.Value.{type_of}
 use Rattle.attr_types.specs.declared.kind.ValueType.{ValueType}

@@ -17,9 +17,9 @@ use Rattle.attr_field.specs.DocumentsLaws.{DocumentsStay}
 use Rattle.attr_field.proofs.RecordLemmas.{weighted-on}
 use Rattle.attr_field.proofs.RefLemmas.{field_count}
 use Rattle.attr_field.specs.Fields.{field_part, IsField, RefersBeside}
-use Rattle.attr_images.specs.Documents.{column_at}
-use Rattle.attr_images.specs.Postings.{dictionary_reach, index_of}
-use Rattle.attr_index.specs.Index.{IsIndexOf}
+use Rattle.image_format.specs.Documents.{column_at}
+use Rattle.image_format.specs.Postings.{dictionary_reach, index_of}
+use Rattle.index_model.specs.Index.{IsIndexOf}
 use Rattle.attr_types.specs.declared.kind.Kind.{Kind}
 use Rattle.attr_types.specs.declared.kind.ValueType.{ValueType}
 use Rattle.compaction_moves.specs.IndexMoves.{IsKeyIn}

@@ -1,7 +1,7 @@
 -- The key of a value moved.
 use Rattle.std.proofs.Common.{◌≡◌, ℕ, ℤ, ◌≤◌, length, List, [], ◌∷◌, None, Some, Option, option_map, Result, Ok, Err, true, true≢false, inl, inr, ◌⊎◌, refl, sym, ap, subst, ◌∙◌, arith}
 use Rattle.std.specs.Prelude.{IfOk}
-use Rattle.list_facts.proofs.Options.{same_Some}
+use Rattle.list_lemmas.proofs.Options.{same_Some}
 use Rattle.entry_ref.proofs.Among.{SameAt-then, SameAt-among}
 use Rattle.entry_ref.specs.References.{buffer_of}
 use Rattle.entry_ref.specs.Records.{Records, SameAt, Among}
@@ -14,9 +14,9 @@ use Rattle.store_api.specs.declared.store.StoreError.{StoreError}
 use Rattle.store_api.proofs.PartLemmas.{after, turns-then}
 use Rattle.tree_read.specs.Trees.{tree_pairs}
 use Rattle.array_store.specs.Adding.{AddsRecord}
-use Rattle.attr_images.specs.Postings.{dictionary_reach, list_form, postings_reach}
-use Rattle.attr_images.specs.Values.{stored_value, value_words, IsValueRecord}
-use Rattle.attr_images.specs.declared.TheConstants.{LEAST_DENSE}
+use Rattle.image_format.specs.Postings.{dictionary_reach, list_form, postings_reach}
+use Rattle.image_format.specs.Values.{stored_value, value_words, IsValueRecord}
+use Rattle.image_format.specs.declared.TheConstants.{LEAST_DENSE}
 use Rattle.attr_types.specs.Value.{type_of}
 use Rattle.attr_types.specs.declared.value.Value.{Value}
 use Rattle.enum_dictionary.specs.Dictionaries.{beside_value, MakesDictionary}

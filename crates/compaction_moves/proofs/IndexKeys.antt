@@ -2,10 +2,10 @@
 use Rattle.std.proofs.Common.{◌≡◌, ℕ, ℤ, Bool, true, false, cond, nat_eq, List, [], ◌∷◌, ◌++◌, map, refl, sym, ap, ap₂, ◌∙◌}
 use Rattle.entry_ref.specs.Records.{Records}
 use Rattle.tree_read.specs.Trees.{tree_pairs}
-use Rattle.attr_images.specs.Documents.{items_at}
-use Rattle.attr_images.specs.Postings.{list_form, postings_at}
-use Rattle.attr_images.specs.Values.{stored_value}
-use Rattle.attr_index.specs.Columns.{Column}
+use Rattle.image_format.specs.Documents.{items_at}
+use Rattle.image_format.specs.Postings.{list_form, postings_at}
+use Rattle.image_format.specs.Values.{stored_value}
+use Rattle.index_model.specs.Columns.{Column}
 use Rattle.attr_types.specs.declared.items.Item.{Item}
 use Rattle.attr_types.specs.declared.kind.ValueType.{ValueType}
 use Rattle.attr_types.specs.declared.value.Value.{Value as AnyValue}

@@ -13,8 +13,8 @@ use Rattle.tree_read.specs.Trees.{tree_pairs}
 use Rattle.frozen_btree.specs.Changes.{tree}
 use Rattle.frozen_btree.specs.Paths.{path_nodes, NoneIn}
 use Rattle.frozen_btree.proofs.TouchTreeLemmas.{none-apart}
-use Rattle.attr_images.specs.Postings.{dictionary_reach, list_form}
-use Rattle.attr_images.specs.Values.{stored_value}
+use Rattle.image_format.specs.Postings.{dictionary_reach, list_form}
+use Rattle.image_format.specs.Values.{stored_value}
 use Rattle.attr_types.specs.Value.{type_of, value_cmp}
 use Rattle.attr_types.specs.declared.kind.ValueType.{ValueType}
 use Rattle.attr_types.specs.declared.value.Value.{Value}

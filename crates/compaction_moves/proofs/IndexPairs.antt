@@ -4,7 +4,7 @@ use Rattle.std.proofs.lemmas.Cmp.{tied_itself}
 use Rattle.std.specs.declared.cmp.Ordering.{Ordering}
 use Rattle.std.specs.List.{flat_map, AllByRecursion}
 use Rattle.std.specs.List.Sorted.{IsStrictlySortedBy}
-use Rattle.list_facts.proofs.Options.{same_Some}
+use Rattle.list_lemmas.proofs.Options.{same_Some}
 use Rattle.entry_ref.specs.Records.{Records, SameAt, Among}
 use Rattle.tree_read.specs.Pairs.{choose, lookup_pair, take_out}
 use Rattle.tree_read.specs.ProofsForTrees.{SameAt-left, SameAt-right}

@@ -12,15 +12,15 @@ use Rattle.store_api.proofs.PartLemmas.{after, owns-some, turns-as}
 use Rattle.tree_read.specs.ProofsForTrees.{all-same}
 use Rattle.tree_read.specs.Trees.{tree_pairs, tree_nodes}
 use Rattle.frozen_btree.specs.Changes.{tree}
-use Rattle.attr_images.specs.Postings.{index_of, list_form}
-use Rattle.attr_images.specs.Values.{stored_value, value_of, IsValueRecord}
+use Rattle.image_format.specs.Postings.{index_of, list_form}
+use Rattle.image_format.specs.Values.{stored_value, value_of, IsValueRecord}
 use Rattle.attr_types.specs.Value.{type_of, value_cmp}
 use Rattle.attr_types.specs.declared.kind.ValueType.{ValueType}
 use Rattle.attr_types.specs.declared.value.Value.{Value}
 use Rattle.enum_dictionary.specs.Dictionaries.{beside_value, IsDictionary, MakesDictionary}
 use Rattle.enum_dictionary.proofs.DictionaryLemmas.{dictionary_stays, value_same}
 use Rattle.posting_store.specs.Changes.{list_part}
-use Rattle.attr_images.specs.declared.TheConstants.{LEAST_DENSE}
+use Rattle.image_format.specs.declared.TheConstants.{LEAST_DENSE}
 use Rattle.posting_store.specs.Lists.{list_at, list_reach, is_vector, IsList, IsPlain}
 use Rattle.posting_store.specs.ProofsForLists.{IsList-same, list_at-same}
 use Rattle.posting_store.specs.Moves.{form_docs}

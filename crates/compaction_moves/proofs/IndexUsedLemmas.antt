@@ -1,7 +1,7 @@
 -- A refused move is one of a width of which a record was in use as it began: the value's, or a node of the dictionary.
 use Rattle.std.proofs.Common.{◌≡◌, ℕ, zero, suc, ◌<◌, [], ◌∷◌, length, Some, inl, refl, ap, ◌∙◌, arith}
 use Rattle.frozen_btree.proofs.UsedLemmas.{node_used, used_at}
-use Rattle.attr_images.proofs.RootLemmas.{length-filled}
+use Rattle.image_format.proofs.RootLemmas.{length-filled}
 use Rattle.entry_ref.specs.Records.{Records}
 use Rattle.tree_read.specs.Pairs.{lookup_pair}
 use Rattle.store_api.specs.Calls.{IsUsedWidth}
@@ -10,8 +10,8 @@ use Rattle.store_api.specs.Parts.{Owns, entry}
 use Rattle.store_api.proofs.PartLemmas.{owns-some}
 use Rattle.tree_read.specs.Trees.{tree_pairs}
 use Rattle.frozen_btree.specs.Changes.{tree}
-use Rattle.attr_images.specs.Values.{value_of, value_words}
-use Rattle.attr_images.specs.Words.{class_of}
+use Rattle.image_format.specs.Values.{value_of, value_words}
+use Rattle.image_format.specs.Words.{class_of}
 use Rattle.attr_types.specs.Value.{type_of}
 use Rattle.attr_types.specs.declared.value.Value.{Value}
 use Rattle.unique_store.proofs.RecordLemmas.{words_few}

@@ -13,8 +13,8 @@ use Rattle.store_api.specs.Ledgers.{Ledger}
 use Rattle.tree_read.specs.ProofsForTrees.{all-same}
 use Rattle.tree_read.specs.Trees.{tree_pairs}
 use Rattle.doc_vector.specs.Documents.{beside_document}
-use Rattle.attr_images.specs.Tables.{AttributeTrees}
-use Rattle.attr_images.specs.Values.{stored_value}
+use Rattle.image_format.specs.Tables.{AttributeTrees}
+use Rattle.image_format.specs.Values.{stored_value}
 use Rattle.attr_field.specs.Documents.{items_own}
 use Rattle.value_index.specs.Indexes.{index_reach}
 use Rattle.attr_compaction.specs.Places.{doc_in, key_cmp, PlanPlace}

@@ -5,14 +5,14 @@ use Rattle.std.specs.Cmp.{IsTotalOrder}
 use Rattle.std.specs.List.{flat_map, AllByRecursion}
 use Rattle.std.specs.declared.cmp.Ordering.{Ordering}
 use Rattle.entry_ref.proofs.Among.{Among-all, Among-append}
-use Rattle.list_facts.proofs.Each.{AllByRecursion-and}
+use Rattle.list_lemmas.proofs.Each.{AllByRecursion-and}
 use Rattle.entry_ref.specs.References.{buffer_of}
 use Rattle.entry_ref.specs.Records.{Records, Among}
 use Rattle.tree_read.specs.Trees.{by_number, tree_nodes, tree_pairs, IsTree}
 use Rattle.frozen_btree.proofs.WayLemmas.{have_keys}
-use Rattle.attr_images.specs.Documents.{documents_reach, items_reach}
-use Rattle.attr_images.specs.Postings.{ListForm, short, tree, vector, dictionary_reach, list_form, postings_reach, IsDictionaryEntry, IsPostingList}
-use Rattle.attr_images.specs.Values.{stored_value}
+use Rattle.image_format.specs.Documents.{documents_reach, items_reach}
+use Rattle.image_format.specs.Postings.{ListForm, short, tree, vector, dictionary_reach, list_form, postings_reach, IsDictionaryEntry, IsPostingList}
+use Rattle.image_format.specs.Values.{stored_value}
 use Rattle.attr_types.specs.ProofsForOrder.{value_cmp_total}
 use Rattle.attr_types.specs.Value.{value_cmp}
 use Rattle.attr_types.specs.declared.kind.Kind.{Kind}

@@ -5,7 +5,7 @@ use Rattle.std.specs.Prelude.{IfOk}
 use Rattle.std.specs.declared.cmp.Ordering.{Ordering}
 use Rattle.std.specs.declared.cmp.Ordering.TheVariants.{Less, Equal, Greater}
 use Rattle.std.specs.List.{flat_map}
-use Rattle.list_facts.proofs.Options.{same_Some}
+use Rattle.list_lemmas.proofs.Options.{same_Some}
 use Rattle.entry_ref.proofs.Among.{SameAt-among}
 use Rattle.entry_ref.proofs.Pairs.{same-from}
 use Rattle.entry_ref.specs.Records.{Records, SameAt, Among}
@@ -22,8 +22,8 @@ use Rattle.store_api.proofs.Uses.{uses-few, uses-in}
 use Rattle.tree_read.specs.Trees.{tree_pairs}
 use Rattle.frozen_btree.specs.Changes.{levels}
 use Rattle.value_index.specs.Changes.{nodes_most}
-use Rattle.attr_images.specs.Postings.{list_form, postings_reach, IsPostingList}
-use Rattle.attr_images.specs.Values.{stored_value, value_of}
+use Rattle.image_format.specs.Postings.{list_form, postings_reach, IsPostingList}
+use Rattle.image_format.specs.Values.{stored_value, value_of}
 use Rattle.attr_types.specs.Value.{type_of, value_cmp}
 use Rattle.attr_types.specs.declared.value.Value.{Value}
 use Rattle.enum_dictionary.specs.Dictionaries.{beside_value, IsDictionary, MakesDictionary}

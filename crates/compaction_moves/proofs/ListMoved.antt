@@ -24,11 +24,11 @@ use Rattle.attr_compaction.specs.declared.plan.PlanKey.{PlanKey}
 use Rattle.attr_compaction.specs.declared.plan.PlanKey.TheVariants as plan
 use Rattle.attr_compaction.specs.declared.plan.TheConstants.{DOCUMENTS, KEYS, LISTS, NODES}
 use Rattle.attr_field.specs.Documents.{documents_own}
-use Rattle.attr_images.specs.Postings.{tree, vector, list_form, postings_reach, IsPostingList}
-use Rattle.attr_images.specs.Tables.{AttributeTrees}
-use Rattle.attr_images.specs.Values.{stored_value, value_of}
-use Rattle.attr_images.specs.Words.{weight_in_bits}
-use Rattle.attr_index.specs.Index.{list_of, Index}
+use Rattle.image_format.specs.Postings.{tree, vector, list_form, postings_reach, IsPostingList}
+use Rattle.image_format.specs.Tables.{AttributeTrees}
+use Rattle.image_format.specs.Values.{stored_value, value_of}
+use Rattle.image_format.specs.Words.{weight_in_bits}
+use Rattle.index_model.specs.Index.{list_of, Index}
 use Rattle.attr_types.specs.Value.{type_of}
 use Rattle.attr_types.specs.declared.kind.ValueType.{ValueType}
 use Rattle.attr_types.specs.declared.value.Value.{Value}

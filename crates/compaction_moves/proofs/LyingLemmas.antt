@@ -3,7 +3,7 @@ use Rattle.std.proofs.Common.{◌≡◌, ◌≢◌, ℕ, zero, suc, ◌<◌, ℤ
 use Rattle.entry_ref.specs.References.{buffer_of}
 use Rattle.entry_ref.specs.Records.{Records}
 use Rattle.frozen_btree.specs.Paths.{NoneIn}
-use Rattle.attr_images.specs.Words.{stored_items}
+use Rattle.image_format.specs.Words.{stored_items}
 use Rattle.attr_types.specs.declared.kind.Kind.{Kind}
 use Rattle.attr_types.specs.declared.kind.Kind.TheVariants.{Single, Array, WeightedSet}
 use Rattle.attr_types.specs.declared.kind.ValueType.{ValueType}

@@ -18,12 +18,12 @@ use Rattle.attr_field.proofs.SizeLemmas.{documents_few}
 use Rattle.attr_field.specs.DocumentsChanges.{documents_most}
 use Rattle.attr_field.specs.Fields.{IsField}
 use Rattle.attr_field.specs.Items.{has_list, items_record}
-use Rattle.attr_images.specs.Documents.{column_at}
-use Rattle.attr_images.specs.Postings.{index_of, list_form}
-use Rattle.attr_images.specs.Values.{value_words}
-use Rattle.attr_images.specs.Words.{class_of}
-use Rattle.attr_index.specs.Columns.{Column, documents_with}
-use Rattle.attr_index.specs.Index.{list_of}
+use Rattle.image_format.specs.Documents.{column_at}
+use Rattle.image_format.specs.Postings.{index_of, list_form}
+use Rattle.image_format.specs.Values.{value_words}
+use Rattle.image_format.specs.Words.{class_of}
+use Rattle.index_model.specs.Columns.{Column, documents_with}
+use Rattle.index_model.specs.Index.{list_of}
 use Rattle.attr_types.specs.Value.{type_of}
 use Rattle.attr_types.specs.declared.kind.Kind.{Kind}
 use Rattle.attr_types.specs.declared.kind.Kind.TheVariants.{Single}

@@ -19,8 +19,8 @@ use Rattle.frozen_btree.specs.Paths.{path_nodes}
 use Rattle.frozen_btree.proofs.WayLemmas.{stand_on_ways}
 use Rattle.frozen_btree.specs.Ways.{keys_below, tree_keys}
 use Rattle.doc_vector.specs.Documents.{beside_document}
-use Rattle.attr_images.specs.Tables.{AttributeTrees}
-use Rattle.attr_images.specs.Values.{stored_value}
+use Rattle.image_format.specs.Tables.{AttributeTrees}
+use Rattle.image_format.specs.Values.{stored_value}
 use Rattle.attr_types.specs.declared.value.Value.{Value as AnyValue}
 use Rattle.attr_field.specs.DocumentsChanges.{pairs_own}
 use Rattle.attr_field.specs.Documents.{documents_part, items_own}

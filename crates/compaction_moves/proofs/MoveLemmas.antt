@@ -12,8 +12,8 @@ use Rattle.attr_field.specs.DocumentsChanges.{AreBeside}
 use Rattle.attr_field.specs.Documents.{documents_part, documents_refer}
 use Rattle.attr_field.specs.DocumentsLaws.{DocumentsStay}
 use Rattle.attr_field.specs.Fields.{field_part, IsField, RefersBeside}
-use Rattle.attr_images.specs.Postings.{index_of}
-use Rattle.attr_images.specs.Tables.{AttributeTrees}
+use Rattle.image_format.specs.Postings.{index_of}
+use Rattle.image_format.specs.Tables.{AttributeTrees}
 use Rattle.attr_types.specs.Lawful.{IsDocNumber}
 use Rattle.attr_types.specs.Value.{type_of}
 use Rattle.attr_types.specs.declared.value.Value.{Value as AnyValue}

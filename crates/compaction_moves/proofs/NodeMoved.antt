@@ -22,9 +22,9 @@ use Rattle.attr_compaction.specs.declared.plan.PlanKey.{PlanKey}
 use Rattle.attr_compaction.specs.declared.plan.PlanKey.TheVariants as plan
 use Rattle.attr_compaction.specs.declared.plan.TheConstants.{DOCUMENTS, KEYS, LISTS, NODES}
 use Rattle.attr_field.specs.Documents.{documents_own}
-use Rattle.attr_images.specs.Postings.{list_form}
-use Rattle.attr_images.specs.Tables.{AttributeTrees}
-use Rattle.attr_images.specs.Values.{stored_value, value_of}
+use Rattle.image_format.specs.Postings.{list_form}
+use Rattle.image_format.specs.Tables.{AttributeTrees}
+use Rattle.image_format.specs.Values.{stored_value, value_of}
 use Rattle.attr_types.specs.ProofsForOrder.{value_cmp_total}
 use Rattle.attr_types.specs.Value.{type_of, value_cmp}
 use Rattle.attr_types.specs.declared.kind.ValueType.{ValueType}

@@ -12,10 +12,10 @@ use Rattle.attr_compaction.specs.declared.plan.PlanKey.{PlanKey}
 use Rattle.attr_compaction.specs.declared.plan.PlanKey.TheVariants as plan
 use Rattle.attr_compaction.specs.declared.plan.TheConstants.{DOCUMENTS, KEYS, LISTS, NODES}
 use Rattle.attr_field.specs.declared.roots.FieldRoots.{FieldRoots}
-use Rattle.attr_images.specs.Postings.{ListForm, short, tree, vector, list_form}
-use Rattle.attr_images.specs.Tables.{AttributeTrees}
-use Rattle.attr_images.specs.Values.{stored_value}
-use Rattle.attr_images.specs.declared.TheConstants.{BLOCK_DOCUMENTS}
+use Rattle.image_format.specs.Postings.{ListForm, short, tree, vector, list_form}
+use Rattle.image_format.specs.Tables.{AttributeTrees}
+use Rattle.image_format.specs.Values.{stored_value}
+use Rattle.image_format.specs.declared.TheConstants.{BLOCK_DOCUMENTS}
 use Rattle.attr_types.specs.declared.field.Field.{Field}
 use Rattle.attr_types.specs.declared.value.Value.{Value}
 use Rattle.bit_vector.specs.Keeps.{block_at}

@@ -2,8 +2,8 @@
 use Rattle.std.specs.Prelude.{◌≡◌, ℕ, ◌+◌, ◌*◌, ◌^◌, ◌<◌, ◌≤◌, nat_eq, if◌then◌else◌, length}
 use Rattle.store_api.specs.Ledgers.{Ledger}
 use Rattle.store_api.specs.Units.{MakesWithin}
-use Rattle.attr_index.specs.Columns.{Column}
-use Rattle.attr_index.specs.Index.{Index, IsIndexOf}
+use Rattle.index_model.specs.Columns.{Column}
+use Rattle.index_model.specs.Index.{Index, IsIndexOf}
 use Rattle.attr_types.specs.declared.kind.Kind.{Kind}
 use Rattle.attr_types.specs.declared.kind.Kind.TheVariants.{Single}
 use Rattle.attr_types.specs.declared.kind.ValueType.{ValueType}

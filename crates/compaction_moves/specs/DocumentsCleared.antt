@@ -5,7 +5,7 @@ use Rattle.entry_ref.specs.Records.{Records, SameAt}
 use Rattle.store_api.specs.Ledgers.{Ledger}
 use Rattle.store_api.specs.Parts.{Owns}
 use Rattle.store_api.specs.Statuses.{in_use}
-use Rattle.attr_images.specs.Tables.{AttributeTrees}
+use Rattle.image_format.specs.Tables.{AttributeTrees}
 use Rattle.attr_field.specs.DocumentsChanges.{AreBeside}
 use Rattle.attr_field.specs.Documents.{documents_part, documents_refer, IsDocuments}
 use Rattle.value_index.specs.Indexes.{index_reach, IsIndex}

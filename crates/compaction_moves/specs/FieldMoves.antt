@@ -8,7 +8,7 @@ use Rattle.store_api.specs.Parts.{Owns, Turns, count_in, entries, uses}
 use Rattle.store_api.specs.Statuses.{in_use}
 use Rattle.attr_field.specs.Documents.{documents_refer}
 use Rattle.attr_field.specs.Fields.{field_part, IsField}
-use Rattle.attr_images.specs.Documents.{column_at}
+use Rattle.image_format.specs.Documents.{column_at}
 use Rattle.attr_types.specs.declared.kind.Kind.{Kind}
 use Rattle.attr_types.specs.declared.kind.ValueType.{ValueType}
 use Rattle.compaction_moves.specs.IndexMoves.{IsKeyIn}

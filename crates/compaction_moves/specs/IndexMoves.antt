@@ -10,7 +10,7 @@ use Rattle.store_api.specs.Statuses.{in_use}
 use Rattle.tree_read.specs.Trees.{tree_pairs}
 use Rattle.frozen_btree.specs.Changes.{levels, tree as tree_part}
 use Rattle.frozen_btree.specs.Paths.{path_nodes, NoneIn}
-use Rattle.attr_images.specs.Postings.{dictionary_reach, index_of, list_form, postings_reach}
+use Rattle.image_format.specs.Postings.{dictionary_reach, index_of, list_form, postings_reach}
 use Rattle.attr_types.specs.Value.{type_of}
 use Rattle.attr_types.specs.declared.value.Value.{Value}
 use Rattle.enum_dictionary.specs.Dictionaries.{beside_value}

@@ -6,7 +6,7 @@ use Rattle.store_api.specs.Ledgers.{Ledger}
 use Rattle.store_api.specs.Statuses.{in_use}
 use Rattle.attr_compaction.specs.Places.{PlanPlace}
 use Rattle.attr_compaction.specs.declared.plan.PlanKey.{PlanKey}
-use Rattle.attr_images.specs.Tables.{AttributeTrees}
+use Rattle.image_format.specs.Tables.{AttributeTrees}
 use Rattle.doc_vector.specs.Documents.{IsDocumentMap}
 use Rattle.attr_compaction.specs.PhaseKeys.{key_past, phase_keys}
 use Rattle.value_index.specs.Indexes.{IsIndex}

@@ -3,8 +3,8 @@ use Rattle.std.specs.Prelude.{◌≡◌, ◌≢◌, ℕ, ◌<◌, ◌≤◌, fal
 use Rattle.std.specs.declared.cmp.Ordering.TheVariants.{Less}
 use Rattle.entry_ref.specs.References.{buffer_of}
 use Rattle.entry_ref.specs.Records.{Records, Among}
-use Rattle.attr_images.specs.Attributes.{trees_reach, IsLawfulAttribute}
-use Rattle.attr_images.specs.Tables.{AttributeTrees}
+use Rattle.image_format.specs.Attributes.{trees_reach, IsLawfulAttribute}
+use Rattle.image_format.specs.Tables.{AttributeTrees}
 use Rattle.attr_compaction.specs.Places.{first_place, is_start, place_cmp, PlanPlace}
 use Rattle.attr_compaction.specs.declared.plan.PlanKey.{PlanKey}
 use Rattle.attr_compaction.specs.declared.plan.TheConstants.{PHASES}

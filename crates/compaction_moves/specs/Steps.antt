@@ -7,7 +7,7 @@ use Rattle.compaction_moves.specs.Cleared.{IsClearedField}
 use Rattle.attr_compaction.specs.Places.{PlanView}
 use Rattle.attr_compaction.specs.declared.plan.PlanKey.{PlanKey}
 use Rattle.attr_field.specs.Fields.{field_part, IsField, RefersBeside}
-use Rattle.attr_images.specs.Tables.{AttributeTrees}
+use Rattle.image_format.specs.Tables.{AttributeTrees}
 use Rattle.compaction_moves.specs.FieldMoves.{HasBegun, MovesField}
 use Rattle.attr_compaction.specs.PhaseKeys.{key_past, phase_keys}
 

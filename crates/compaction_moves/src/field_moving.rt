@@ -6,7 +6,7 @@ ghost use Rattle.compaction_moves.specs.Cleared.{trees_of_roots, IsClearedField}
 ghost use Rattle.attr_compaction.specs.declared.plan.TheConstants.{PHASES};
 ghost use Rattle.attr_compaction.specs.declared.plan.PlanKey.TheVariants as keys;
 ghost use Rattle.attr_field.specs.Fields.{field_part, IsField, RefersBeside};
-ghost use Rattle.attr_images.specs.Documents.{column_at};
+ghost use Rattle.image_format.specs.Documents.{column_at};
 ghost use Rattle.compaction_moves.specs.Counts.{MakesKey};
 ghost use Rattle.value_index.specs.Forms.{IsPlainIndex};
 ghost use Rattle.compaction_moves.specs.FieldMoves.{HasBegun, MovesField};

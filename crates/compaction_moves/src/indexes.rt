@@ -5,7 +5,7 @@ ghost use Rattle.store_api.specs.Calls.{IsUsedWidth, RefusesOf};
 ghost use Rattle.store_api.specs.Units.{MayDo};
 ghost use Rattle.attr_compaction.specs.declared.plan.TheConstants.{KEYS, LISTS, NODES};
 ghost use Rattle.attr_compaction.specs.declared.plan.PlanKey.TheVariants as keys;
-ghost use Rattle.attr_images.specs.Documents.{column_at};
+ghost use Rattle.image_format.specs.Documents.{column_at};
 ghost use Rattle.compaction_moves.specs.Counts.{MakesKey};
 ghost use Rattle.value_index.specs.Forms.{IsPlainIndex};
 ghost use Rattle.compaction_moves.specs.Steps.{CanMove, Moved};

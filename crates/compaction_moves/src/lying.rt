@@ -2,9 +2,9 @@
 ghost use Rattle.std.specs.Prelude.{◌≡◌, ◌≢◌, map, true, false};
 ghost use Rattle.std.specs.List.{AllByRecursion};
 ghost use Rattle.array_store.specs.Arrays.{IsArray};
-ghost use Rattle.attr_images.specs.Documents.{AreItemRecords};
-ghost use Rattle.attr_images.specs.Values.{IsValueRecord};
-ghost use Rattle.attr_images.specs.Words.{stored_items};
+ghost use Rattle.image_format.specs.Documents.{AreItemRecords};
+ghost use Rattle.image_format.specs.Values.{IsValueRecord};
+ghost use Rattle.image_format.specs.Words.{stored_items};
 ghost use Rattle.attr_field.specs.Documents.{IsDocuments};
 ghost use Rattle.attr_field.specs.DocumentsFlows.{reference_at};
 ghost use Rattle.attr_field.specs.Items.{word_entry};
@@ -14,10 +14,10 @@ ghost use Rattle.frozen_btree.specs.Paths.{NoneIn};
 
 use arena_api::Frozen;
 use array_store::{count, get as array_item};
-use attr_images::WEIGHT_BASE;
 use attr_types::{Doc, Kind, ValueType};
 use doc_vector::get;
 use entry_ref::EntryRef;
+use image_format::WEIGHT_BASE;
 use unique_store::value_law;
 
 /// Returns the record of the value in a word of a document's record.

@@ -8,8 +8,8 @@ use Rattle.std.specs.declared.cmp.Ordering.TheVariants.{Less, Equal, Greater}
 use Rattle.std.specs.List.{AllByRecursion}
 use Rattle.std.specs.List.Sorted.{IsStrictlySortedBy}
 use Rattle.std.specs.Ordering.{nat_cmp}
-use Rattle.list_facts.proofs.Options.{same_Some}
-use Rattle.list_facts.proofs.Each.{AllByRecursion-each}
+use Rattle.list_lemmas.proofs.Options.{same_Some}
+use Rattle.list_lemmas.proofs.Each.{AllByRecursion-each}
 use Rattle.entry_ref.specs.Records.{Records, SameAt}
 use Rattle.tree_read.specs.Keys.{IsKeyedTree}
 use Rattle.tree_read.specs.Pairs.{choose, lookup}

@@ -9,7 +9,7 @@ use Rattle.std.proofs.lemmas.List.Elements.{All-map, All-weaker, All-from_get_or
 use Rattle.std.proofs.lemmas.List.Sums.{sum_by-cons, count_by-le-length}
 use Rattle.std.proofs.lemmas.Option.{slice_get-get_or}
 use Rattle.std.proofs.lemmas.Bool.{cases_lt, eq-eqb, ne_eqb, eqb-true, and_parts, leb-true, le-leb, lt-ltb, ltb-true, not-true, true≢false}
-use Rattle.list_facts.specs.Counting.{one_if}
+use Rattle.list_lemmas.specs.Counting.{one_if}
 use Rattle.entry_ref.specs.References.{buffer_of, packed, buffer_limit}
 use Rattle.store_api.specs.Ledgers.{capacity}
 use Rattle.buffer_states.specs.declared.Buffer.{Buffer}

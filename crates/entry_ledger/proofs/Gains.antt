@@ -7,8 +7,8 @@ use Rattle.std.proofs.Math.ListN.{length-set}
 use Rattle.std.proofs.lemmas.List.{take_more, set-get_or}
 use Rattle.std.proofs.Math.Seq.{take-length}
 use Rattle.std.proofs.lemmas.Bool.{cases_eq, eq-eqb, ne_eqb, eqb-true, and_parts, true≢false, lt-ltb}
-use Rattle.list_facts.specs.Counting.{one_if}
-use Rattle.list_facts.proofs.Counts.{count_by-set}
+use Rattle.list_lemmas.specs.Counting.{one_if}
+use Rattle.list_lemmas.proofs.Counts.{count_by-set}
 use Rattle.store_api.specs.Ledgers.{is_width, capacity}
 use Rattle.entry_ledger.specs.declared.state.State.{State}
 use Rattle.entry_ledger.specs.declared.state.State.TheVariants.{Free}

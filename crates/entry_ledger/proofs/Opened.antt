@@ -4,9 +4,9 @@ use Rattle.std.specs.List.{count_by}
 use Rattle.std.proofs.lemmas.List.Elements.{All-weaker}
 use Rattle.std.proofs.lemmas.List.Sums.{sum_by-cons}
 use Rattle.std.proofs.lemmas.Bool.{cases_lt, cases_eq, eqb-true, eq-eqb, ne_eqb, true≢false}
-use Rattle.list_facts.proofs.Options.{same_Some}
-use Rattle.list_facts.proofs.Tests.{true_from_list_all}
-use Rattle.list_facts.specs.Counting.{one_if}
+use Rattle.list_lemmas.proofs.Options.{same_Some}
+use Rattle.list_lemmas.proofs.Tests.{true_from_list_all}
+use Rattle.list_lemmas.specs.Counting.{one_if}
 use Rattle.entry_ref.specs.References.{buffer_of}
 use Rattle.store_api.specs.Ledgers.{OfWidth, is_width, widths, capacity, buffers_in, with_counts}
 use Rattle.buffer_states.specs.declared.BufferState.{BufferState}

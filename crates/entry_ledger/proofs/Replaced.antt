@@ -4,8 +4,8 @@ use Rattle.std.specs.List.{count_by, sum_by}
 use Rattle.std.proofs.Math.ListN.{length-set}
 use Rattle.std.proofs.lemmas.List.Sums.{sum_by-set}
 use Rattle.std.proofs.lemmas.Bool.{cases_eq, eq-eqb, ne_eqb}
-use Rattle.list_facts.specs.Counting.{one_if}
-use Rattle.list_facts.proofs.Counts.{count_by-set}
+use Rattle.list_lemmas.specs.Counting.{one_if}
+use Rattle.list_lemmas.proofs.Counts.{count_by-set}
 use Rattle.store_api.specs.Ledgers.{is_width, widths, capacity, buffers_in}
 use Rattle.buffer_states.specs.declared.Buffer.{Buffer}
 use Rattle.buffer_states.specs.Buffers.{new_buffer, buffer_at, is_state_free, is_state_active, is_on_hold}

@@ -2,7 +2,7 @@
 use Rattle.std.proofs.Common.{◌≡◌, ◌≢◌, ℕ, suc, ◌<◌, ◌≤◌, Bool, true, false, ◌&&◌, leb, cond, eqb, List, [], ◌∷◌, length, get_or, set, refl, sym, ap, ◌∙◌, arith, inl, inr, ⊎_elim, get_or-set_other, get_or-set_same}
 use Rattle.std.specs.List.{list_any}
 use Rattle.std.proofs.lemmas.Bool.{cases_eq, or_cases, and_parts, eqb-true, eq-eqb, ne_eqb, leb-true, true≢false}
-use Rattle.list_facts.proofs.Tests.{true_from_list_all}
+use Rattle.list_lemmas.proofs.Tests.{true_from_list_all}
 use Rattle.store_api.specs.Ledgers.{widths, is_width}
 use Rattle.entry_ledger.specs.Shelves.{place_among, row_of}
 

@@ -18,7 +18,7 @@ use Rattle.entry_ledger.specs.Ledgers.{is_since, is_dropped_now, settled_buffer,
 use Rattle.entry_ledger.proofs.Counted.{count-keep, count-more, count-less, words-more}
 use Rattle.entry_ledger.proofs.Dropping.{with-counts}
 use Rattle.entry_ledger.proofs.Sound.{not-tagged, state-cases}
-use Rattle.list_facts.specs.Counting.{one_if}
+use Rattle.list_lemmas.specs.Counting.{one_if}
 
 pub settled-mark : (accepts : Bool) (state : State) (buffer : Buffer) → mark_of (settled_buffer accepts state buffer) ≡ mark_of buffer
 settled-mark true Free buffer = refl

@@ -3,7 +3,7 @@ use Rattle.std.proofs.Common.{◌≡◌, ◌≢◌, ℕ, zero, suc, ◌+◌, ◌
 use Rattle.std.specs.List.{IsDistinct, AllByRecursion, slice_get, sum_by, count_by}
 use Rattle.std.proofs.lemmas.List.Sums.{sum_by-cons}
 use Rattle.std.proofs.lemmas.Bool.{cases_lt, and_parts, eqb-true, eqb-false, ne_eqb, eq-eqb}
-use Rattle.list_facts.specs.Counting.{one_if}
+use Rattle.list_lemmas.specs.Counting.{one_if}
 use Rattle.entry_ref.specs.References.{buffer_of, offset_of}
 use Rattle.entry_ref.proofs.Bits.{same-ref}
 use Rattle.entry_ledger.specs.declared.state.State.{State}

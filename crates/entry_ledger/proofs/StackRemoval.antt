@@ -4,8 +4,8 @@ use Rattle.std.specs.List.{count_by, remove}
 use Rattle.std.proofs.Math.ListN.{length-set}
 use Rattle.std.proofs.lemmas.List.Edits.{get_or-remove_below, get_or-remove_above, length-remove}
 use Rattle.std.proofs.lemmas.Bool.{cases_lt}
-use Rattle.list_facts.specs.Counting.{one_if}
-use Rattle.list_facts.proofs.Counts.{count_by-set}
+use Rattle.list_lemmas.specs.Counting.{one_if}
+use Rattle.list_lemmas.proofs.Counts.{count_by-set}
 use Rattle.entry_ledger.specs.Stacks.{IsStack}
 
 -- places that pass and differ are no more than those that pass

@@ -7,8 +7,8 @@ use Rattle.std.proofs.lemmas.List.Sums.{sum_by_push, sum_by-cons, count_by-le-le
 use Rattle.std.proofs.lemmas.Bool.{cases_lt, cases_eq, true≢false}
 use Rattle.std.proofs.lemmas.List.{length_push}
 use Rattle.std.specs.List.{count_by}
-use Rattle.list_facts.specs.Counting.{one_if}
-use Rattle.list_facts.proofs.Counts.{count_by-set}
+use Rattle.list_lemmas.specs.Counting.{one_if}
+use Rattle.list_lemmas.proofs.Counts.{count_by-set}
 use Rattle.entry_ledger.specs.Stacks.{IsStack}
 
 -- a list and one more

@@ -3,7 +3,7 @@ use Rattle.std.proofs.Common.{◌≡◌, ◌≢◌, ◌⊎◌, ℕ, zero, suc, �
 use Rattle.std.proofs.Common.{get_or-set_same}
 use Rattle.std.specs.List.{slice_get}
 use Rattle.std.proofs.lemmas.Bool.{cases_eq, eq-eqb, ne_eqb}
-use Rattle.list_facts.proofs.Places.{slice_get-set_same, slice_get-set_other}
+use Rattle.list_lemmas.proofs.Places.{slice_get-set_same, slice_get-set_other}
 use Rattle.entry_ref.specs.References.{buffer_of, offset_of, packed, buffer_limit}
 use Rattle.entry_ref.proofs.Bits.{packed-buffer, packed-offset, same-ref}
 use Rattle.buffer_states.specs.declared.Buffer.{Buffer}

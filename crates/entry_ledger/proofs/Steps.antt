@@ -8,7 +8,7 @@ use Rattle.std.proofs.lemmas.List.{length_push}
 use Rattle.std.proofs.lemmas.List.Sums.{sum_by-cons, sum_by-set}
 use Rattle.std.proofs.lemmas.List.Edits.{get_or-remove_below, length-remove}
 use Rattle.std.proofs.lemmas.Bool.{cases_eq, cases_lt, ne_eqb, eq-eqb, true≢false, lt-ltb, ltb-true, and_parts}
-use Rattle.list_facts.specs.Counting.{one_if}
+use Rattle.list_lemmas.specs.Counting.{one_if}
 use Rattle.store_api.specs.Ledgers.{is_width}
 use Rattle.entry_ledger.specs.States.{ShelfView, empty_shelf, can_make, spare_of, is_free_state, IsOpen}
 use Rattle.entry_ledger.specs.Stacks.{IsStack}

@@ -4,7 +4,7 @@ use Rattle.std.specs.Prelude.{nat_lt, ◌⊎◌}
 use Rattle.std.specs.List.{slice_get, sum_by, count_by}
 use Rattle.std.proofs.lemmas.List.Sums.{sum_by-cons}
 use Rattle.std.proofs.lemmas.Bool.{cases_lt, cases_eq, and_parts, lt-ltb, ltb-true, not-true, true≢false}
-use Rattle.list_facts.specs.Counting.{one_if}
+use Rattle.list_lemmas.specs.Counting.{one_if}
 use Rattle.entry_ref.specs.References.{packed}
 use Rattle.store_api.specs.Ledgers.{capacity}
 use Rattle.store_api.specs.Usages.{over_buffers}

@@ -3,8 +3,8 @@ use Rattle.std.proofs.Common.{◌≡◌, ℕ, suc, ◌+◌, Bool, true, false, n
 use Rattle.std.specs.List.{count_by}
 use Rattle.std.proofs.lemmas.List.Sums.{sum_by-cons}
 use Rattle.std.proofs.lemmas.Bool.{eqb-true}
-use Rattle.list_facts.proofs.Tests.{true_from_list_all}
-use Rattle.list_facts.specs.Counting.{one_if}
+use Rattle.list_lemmas.proofs.Tests.{true_from_list_all}
+use Rattle.list_lemmas.specs.Counting.{one_if}
 use Rattle.store_api.specs.Ledgers.{OfWidth, is_width, widths, no_counts, buffers_in}
 use Rattle.buffer_states.specs.declared.Buffer.{Buffer}
 use Rattle.buffer_states.specs.Buffers.{buffer_at, is_state_free}

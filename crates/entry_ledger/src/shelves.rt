@@ -19,7 +19,7 @@ pub struct Shelves {
     shelves: Vec<Shelf>,
     made: Vec<u64>,
     filled: Vec<Option<u32>>,
-    open: Vec<Stack>,
+    stacks: Vec<Stack>,
     touched: Stack,
 }
 
@@ -31,7 +31,7 @@ impl Model for Shelves {
 
     ghost view = { λ s. record { words = s.words; shelves = s.shelves.items; made = s.made.items; filled = s.filled.items } };
 
-    ghost invariant = { λ s. AreShelves s.words s.shelves.items s.made.items s.filled.items s.open.items s.touched };
+    ghost invariant = { λ s. AreShelves s.words s.shelves.items s.made.items s.filled.items s.stacks.items s.touched };
 }
 
 /// An entry that was made, in a free place or in the next one.
@@ -67,14 +67,14 @@ impl Shelves {
         let shelves = new_shelves(alloc, buffers)?;
         let made = new_counts(alloc)?;
         let filled = new_filled(alloc)?;
-        let open = new_stacks(alloc, buffers)?;
+        let stacks = new_stacks(alloc, buffers)?;
         let touched = Stack::create(alloc, buffers)?;
         Ok(Shelves {
             words,
             shelves,
             made,
             filled,
-            open,
+            stacks,
             touched,
         })
     }
@@ -214,8 +214,8 @@ impl Shelves {
     {
         let row = place_of(width);
         let turn = self.made[row];
-        let at = self.open[row].place_in_turn(turn)?;
-        let buffer = self.open[row].number_at(at);
+        let at = self.stacks[row].place_in_turn(turn)?;
+        let buffer = self.stacks[row].number_at(at);
         self.made[row] = self.made[row].saturating_add(1);
         let shelf = &mut self.shelves[buffer as usize];
         shelf.call_next();
@@ -225,7 +225,7 @@ impl Shelves {
             unreachable!()
         };
         self.touched.enter(buffer, !had_touched);
-        self.open[row].leave_at(at, !shelf.has_spare());
+        self.stacks[row].leave_at(at, !shelf.has_spare());
         Some(Taken {
             buffer,
             place,
@@ -266,7 +266,7 @@ impl Shelves {
         self.touched.enter(buffer, !had_touched);
         let enters = now.is_free() && shelf.has_one_spare();
         let width = shelf.width();
-        enter_row(&mut self.open, width, buffer, enters);
+        enter_row(&mut self.stacks, width, buffer, enters);
         now
     }
 
@@ -282,7 +282,7 @@ impl Shelves {
         shelf.release(place);
         let enters = shelf.can_make() & !could;
         let row = place_of(shelf.width());
-        self.open[row].enter(buffer, enters);
+        self.stacks[row].enter(buffer, enters);
     }
 
     /// Ends the unit for one entry that it changed: keeps the change, or takes it back. Returns `None` if no changed
@@ -302,7 +302,7 @@ impl Shelves {
         let frees = step.was.is_freed(accepts);
         let enters = frees && shelf.has_one_spare();
         let width = shelf.width();
-        enter_row(&mut self.open, width, buffer, enters);
+        enter_row(&mut self.stacks, width, buffer, enters);
         Some(Changed {
             buffer,
             place: step.place,
@@ -326,21 +326,21 @@ impl Shelves {
         let row = place_of(width);
         self.shelves[buffer as usize].open(width, self.words / width - 1)?;
         self.filled[row] = Some(buffer);
-        self.open[row].enter(buffer, true);
+        self.stacks[row].enter(buffer, true);
         Ok(())
     }
 
     /// Seals a shelf, which must not be the one of its width that is being filled. No entry of it is made any more.
     pub fn seal(&mut self, buffer: u32)
         requires inside { buffer < length self.old.shelves }
-        requires open { 0 < (shelf_at self.old.shelves buffer).width }
+        requires opened { 0 < (shelf_at self.old.shelves buffer).width }
         requires unfilled { filled_at self.old.filled (shelf_at self.old.shelves buffer).width ≢ Some buffer }
         ensures { self.new ≡ with_shelf self.old buffer (record (shelf_at self.old.shelves buffer) { sealed = true }) }
     {
         let shelf = &mut self.shelves[buffer as usize];
         let row = place_of(shelf.width());
         shelf.seal();
-        let stack = &mut self.open[row];
+        let stack = &mut self.stacks[row];
         if let Some(place) = stack.position(buffer) {
             stack.remove(place);
         }

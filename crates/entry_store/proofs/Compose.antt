@@ -4,9 +4,9 @@ use Rattle.std.specs.List.{IsDistinct, All}
 use Rattle.std.specs.Prelude.{◌⊎◌, ◌&&◌, IfOk, IfErr, OnErr}
 use Rattle.std.proofs.lemmas.Nat.{le-div}
 use Rattle.std.proofs.lemmas.List.Elements.{All-from_recursion}
-use Rattle.list_facts.specs.Counting.{one_if}
+use Rattle.list_lemmas.specs.Counting.{one_if}
 use Rattle.std.proofs.lemmas.Bool.{true≢false, cases_eq, eq-eqb, eqb-true, ne_eqb, and_parts, leb-true, ltb-true}
-use Rattle.list_facts.proofs.Tests.{true_from_list_all}
+use Rattle.list_lemmas.proofs.Tests.{true_from_list_all}
 use Rattle.entry_ref.specs.References.{buffer_of}
 use Rattle.entry_ref.specs.Places.{IsEntry}
 use Rattle.entry_ref.specs.Records.{Records}

@@ -10,7 +10,7 @@ use Rattle.entry_ref.specs.Records.{Records}
 use Rattle.tree_read.specs.Pairs.{choose, seek}
 use Rattle.tree_read.specs.SearchPlaces.{first_key}
 use Rattle.tree_read.specs.Trees.{tree_pairs}
-use Rattle.attr_images.specs.Values.{stored_value, IsValueRecord}
+use Rattle.image_format.specs.Values.{stored_value, IsValueRecord}
 use Rattle.attr_types.specs.ProofsForOrder.{value_cmp_total}
 use Rattle.attr_types.specs.Value.{value_cmp}
 use Rattle.attr_types.specs.declared.kind.ValueType.{ValueType}

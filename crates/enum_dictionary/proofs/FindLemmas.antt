@@ -8,7 +8,7 @@ use Rattle.tree_read.specs.Keys.{KeepsOthers}
 use Rattle.tree_read.specs.Pairs.{choose, lookup_pair, put, take_out}
 use Rattle.tree_read.proofs.PairLemmas.{All-put, All-take_out}
 use Rattle.tree_read.specs.Trees.{tree_pairs}
-use Rattle.attr_images.specs.Values.{value_of, stored_value, IsValueRecord}
+use Rattle.image_format.specs.Values.{value_of, stored_value, IsValueRecord}
 use Rattle.attr_types.specs.ProofsForOrder.{value_cmp_total, value_cmp_exact}
 use Rattle.attr_types.specs.Value.{type_of, value_cmp}
 use Rattle.attr_types.specs.declared.kind.ValueType.{ValueType}

@@ -9,7 +9,7 @@ use Rattle.store_api.specs.Parts.{Owns, Turns}
 use Rattle.tree_read.specs.Trees.{tree_pairs, IsTree}
 use Rattle.tree_read.specs.Pairs.{choose}
 use Rattle.frozen_btree.specs.Changes.{tree}
-use Rattle.attr_images.specs.Values.{stored_value, IsValueRecord}
+use Rattle.image_format.specs.Values.{stored_value, IsValueRecord}
 use Rattle.attr_types.specs.Value.{type_of, value_cmp}
 use Rattle.attr_types.specs.declared.kind.ValueType.{ValueType}
 use Rattle.attr_types.specs.declared.value.Value.{Value}

@@ -4,7 +4,7 @@ use Rattle.entry_ref.specs.Records.{Records, SameAt}
 use Rattle.tree_read.specs.Trees.{tree_nodes, tree_pairs}
 use Rattle.tree_read.specs.Keys.{KeepsOthers}
 use Rattle.tree_read.specs.Pairs.{lookup_pair, put, take_out}
-use Rattle.attr_images.specs.Values.{stored_value, IsValueRecord}
+use Rattle.image_format.specs.Values.{stored_value, IsValueRecord}
 use Rattle.attr_types.specs.Value.{type_of}
 use Rattle.attr_types.specs.declared.kind.ValueType.{ValueType}
 use Rattle.attr_types.specs.declared.value.Value.{Value}

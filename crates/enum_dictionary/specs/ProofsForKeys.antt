@@ -3,7 +3,7 @@
 use Rattle.std.proofs.Common.{◌≡◌, ℕ, [], ◌∷◌, refl, sym, ap, subst}
 use Rattle.std.specs.Cmp.{IsTotalOrder}
 use Rattle.entry_ref.specs.Records.{Records, SameAt}
-use Rattle.attr_images.specs.Values.{value_of, stored_value, IsValueRecord}
+use Rattle.image_format.specs.Values.{value_of, stored_value, IsValueRecord}
 use Rattle.attr_types.specs.ProofsForOrder.{value_cmp_total}
 use Rattle.attr_types.specs.Value.{value_cmp}
 use Rattle.attr_types.specs.declared.kind.ValueType.{ValueType}

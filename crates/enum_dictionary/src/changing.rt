@@ -7,7 +7,7 @@ ghost use Rattle.store_api.specs.Parts.{Owns};
 ghost use Rattle.store_api.specs.Units.{MayDo};
 ghost use Rattle.frozen_btree.specs.Changes.{levels, tree};
 ghost use Rattle.frozen_btree.specs.Makes.{CountsNodes};
-ghost use Rattle.attr_images.specs.Values.{stored_value, IsValueRecord};
+ghost use Rattle.image_format.specs.Values.{stored_value, IsValueRecord};
 ghost use Rattle.attr_types.specs.Value.{type_of};
 ghost use Rattle.enum_dictionary.specs.Dictionaries.{IsDictionary, MakesDictionary, beside_value};
 

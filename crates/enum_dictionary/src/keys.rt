@@ -1,5 +1,5 @@
 ghost use Rattle.std.specs.Prelude.{◌≡◌, ◌∷◌, []};
-ghost use Rattle.attr_images.specs.Values.{stored_value, IsValueRecord};
+ghost use Rattle.image_format.specs.Values.{stored_value, IsValueRecord};
 ghost use Rattle.attr_types.specs.Value.{type_of, value_cmp};
 ghost use Rattle.attr_types.specs.declared.kind.ValueType.TheVariants as types;
 ghost use Rattle.enum_dictionary.specs.ProofsForKeys.{value_total, value_stays, value_steady};

@@ -5,7 +5,7 @@ use Rattle.std.proofs.lemmas.Grind.{flat_map-append}
 use Rattle.std.specs.Cmp.{IsTotalOrder}
 use Rattle.std.specs.declared.cmp.Ordering.{Ordering}
 use Rattle.std.specs.List.{zip, flat_map, AllByRecursion}
-use Rattle.list_facts.proofs.Each.{AllByRecursion-at}
+use Rattle.list_lemmas.proofs.Each.{AllByRecursion-at}
 use Rattle.entry_ref.specs.Records.{Records}
 use Rattle.store_api.specs.Ledgers.{Ledger}
 use Rattle.tree_read.specs.Nodes.{used_of, count_of, node_keys, node_values}

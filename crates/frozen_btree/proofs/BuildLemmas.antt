@@ -3,7 +3,7 @@ use Rattle.std.proofs.Common.{◌≡◌, ◌↔◌, inl, inr, ℕ, zero, suc, �
 use Rattle.std.proofs.lemmas.Bool.{cases_eq, lt-ltb}
 use Rattle.std.proofs.lemmas.List.Elements.{All-from_recursion}
 use Rattle.std.specs.List.{zip, flat_map, All, AllByRecursion, IsDistinct}
-use Rattle.list_facts.proofs.Each.{AllByRecursion-weaker}
+use Rattle.list_lemmas.proofs.Each.{AllByRecursion-weaker}
 use Rattle.entry_ref.specs.Records.{Records}
 use Rattle.store_api.specs.Statuses.{has_record}
 use Rattle.store_api.specs.Ledgers.{Ledger}

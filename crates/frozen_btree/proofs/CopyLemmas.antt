@@ -4,7 +4,7 @@ use Rattle.std.proofs.Math.Seq.{map-set_same, take-set-lt}
 use Rattle.std.proofs.lemmas.List.{get_or-set_other, get_or-set_same, take-set-le, drop-set-add}
 use Rattle.std.specs.declared.cmp.Ordering.{Ordering}
 use Rattle.std.specs.List.{flat_map, AllByRecursion}
-use Rattle.list_facts.proofs.Each.{AllByRecursion-at, AllByRecursion-weaker}
+use Rattle.list_lemmas.proofs.Each.{AllByRecursion-at, AllByRecursion-weaker}
 use Rattle.entry_ref.specs.Records.{Records}
 use Rattle.store_api.specs.Parts.{times}
 use Rattle.store_api.proofs.Times.{times-append}

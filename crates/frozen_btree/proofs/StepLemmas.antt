@@ -7,7 +7,7 @@ use Rattle.std.specs.Cmp.{IsTotalOrder}
 use Rattle.std.specs.List.{zip, flat_map, remove, AllByRecursion}
 use Rattle.std.specs.declared.cmp.Ordering.{Ordering}
 use Rattle.std.specs.declared.cmp.Ordering.TheVariants.{Less, Equal, Greater}
-use Rattle.list_facts.proofs.Each.{AllByRecursion-at}
+use Rattle.list_lemmas.proofs.Each.{AllByRecursion-at}
 use Rattle.entry_ref.specs.Records.{Records}
 use Rattle.tree_read.proofs.TreeLemmas.{IsNode-form, IsNode-count}
 use Rattle.tree_read.proofs.ReadLemmas.{node-even}

@@ -8,7 +8,7 @@ use Rattle.tree_read.specs.Trees.{pairs_below, nodes_below, last_key, IsNode, Ke
 use Rattle.tree_read.proofs.NodeLemmas.{node_keys-words, node_values-words, node_formed}
 use Rattle.std.proofs.Math.Nat.{pos_of_div-pos}
 use Rattle.std.proofs.lemmas.List.{append-nil}
-use Rattle.list_facts.proofs.Each.{AllByRecursion-weaker}
+use Rattle.list_lemmas.proofs.Each.{AllByRecursion-weaker}
 use Rattle.entry_ref.specs.References.{buffer_limit}
 use Rattle.arena_api.specs.Calls.{padded as words_padded}
 use Rattle.store_api.specs.Ledgers.{Ledger}

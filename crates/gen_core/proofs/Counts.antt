@@ -1,5 +1,5 @@
 -- The readers' events on holds keep the invariant.
-use Rattle.list_facts.specs.Counting.{one_if}
+use Rattle.list_lemmas.specs.Counting.{one_if}
 use Rattle.std.proofs.Common.{◌≡◌, ◌≢◌, ℕ, ◌+◌, ◌-◌, ◌*◌, ◌%◌, ◌<◌, List, set, Some, Bool, true, false, cond, refl, sym, ap, ◌∙◌, subst, arith, length-set, slice_index, eq-eqb, ne_eqb, true≢false}
 use mathlib.Core.Logic.{dite}
 use native.Mathlib.Decide.{ℕ_discrete}

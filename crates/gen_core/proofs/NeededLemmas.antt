@@ -1,13 +1,13 @@
 -- Without a condition the invariant is lost, and by a wrong step.
-use Rattle.list_facts.specs.Counting.{one_if}
-use Rattle.list_facts.proofs.Places.{slice_get-set_same}
+use Rattle.list_lemmas.specs.Counting.{one_if}
+use Rattle.list_lemmas.proofs.Places.{slice_get-set_same}
 use Rattle.std.proofs.Common.{true, false, ◌+◌, ◌*◌, ◌%◌, true≢false, ◌≡◌, ◌≢◌, ℕ, zero, suc, ◌<◌, ◌≤◌, List, [], ◌∷◌, ◌++◌, length, set, Option, Some, None, cond, eq-eqb, refl, sym, ap, ◌∙◌, arith, length-append}
 use Rattle.std.proofs.Common.{slice_index}
 use Rattle.std.proofs.Math.Seq.{get_or-set_other, get_or-set_same}
 use Rattle.std.specs.Prelude.{slice_get, All, Contains, option_and_then, count_by}
 use Rattle.std.proofs.lemmas.Option.{slice_get_within}
 use Rattle.std.proofs.lemmas.List.Elements.{All-contains}
-use Rattle.list_facts.proofs.Options.{same_Some}
+use Rattle.list_lemmas.proofs.Options.{same_Some}
 use Rattle.entry_ref.specs.References.{buffer_of}
 use Rattle.entry_ref.specs.declared.images.Image.{Image}
 use Rattle.entry_ref.specs.Records.{Records}

@@ -1,5 +1,5 @@
 -- Each event is one step of one seat on one word.
-use Rattle.list_facts.proofs.Places.{slice_get-set_other}
+use Rattle.list_lemmas.proofs.Places.{slice_get-set_other}
 use Rattle.std.proofs.Common.{◌≡◌, ◌≢◌, ℕ, zero, suc, List, [], ◌∷◌, ◌++◌, length, set, Some, cond, refl, sym, ap, ◌∙◌, subst, slice_index, eq-eqb, ne_eqb}
 use Rattle.std.specs.Prelude.{slice_get, option_map}
 use Rattle.std.specs.Option.{unwrap_or}

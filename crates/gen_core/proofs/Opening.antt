@@ -1,5 +1,5 @@
 -- The opening state meets the invariant.
-use Rattle.list_facts.proofs.Places.{slice_index-zeros}
+use Rattle.list_lemmas.proofs.Places.{slice_index-zeros}
 use Rattle.std.proofs.Common.{◌≡◌, ℕ, zero, suc, ◌+◌, ◌*◌, ◌<◌, List, [], ◌∷◌, ◌++◌, length, get_or, Option, Some, None, false, ne_eqb, refl, sym, ap, ◌∙◌, arith, length-append, slice_index}
 use Rattle.std.specs.Prelude.{slice_get, replicate, option_and_then, ◌||◌}
 use Rattle.std.proofs.lemmas.List.{length-replicate, get_or-replicate, get_or_append_left, get_or-append-add}

@@ -1,11 +1,11 @@
 -- The words that were stored since the last commit, entry by entry: one more word, and one more buffer.
-use Rattle.list_facts.proofs.Places.{slice_get-set_same, slice_get-set_other}
+use Rattle.list_lemmas.proofs.Places.{slice_get-set_same, slice_get-set_other}
 use Rattle.std.proofs.Common.{◌≡◌, ◌≢◌, inl, inr, ℕ, zero, suc, ◌+◌, ◌*◌, ◌<◌, List, [], ◌∷◌, length, set, Option, Some, None, Bool, true, false, cond, eqb, refl, sym, ap, ◌∙◌, arith, ne_eqb, eq-eqb}
 use Rattle.std.specs.Prelude.{slice_get, option_and_then, nat_eq, nat_lt, ◌&&◌, if◌then◌else◌}
 use Rattle.std.specs.Option.{unwrap_or}
 use Rattle.std.proofs.lemmas.Bool.{cases_eq, ltb-true, lt-ltb, and_parts, and_left, and_right, and_from}
 use Rattle.std.proofs.lemmas.Option.{slice_get_within}
-use Rattle.list_facts.proofs.Options.{same_Some}
+use Rattle.list_lemmas.proofs.Options.{same_Some}
 use Rattle.entry_ref.specs.Images.{words_at}
 use Rattle.entry_ref.specs.Places.{IsEntry}
 use Rattle.entry_ref.proofs.Apart.{within, one_place}

@@ -1,5 +1,5 @@
 -- The writer's events keep the invariant.
-use Rattle.list_facts.proofs.Places.{slice_get-set_same, slice_get-set_other}
+use Rattle.list_lemmas.proofs.Places.{slice_get-set_same, slice_get-set_other}
 use Rattle.std.proofs.Common.{◌≡◌, ◌≢◌, ℕ, suc, ◌+◌, ◌*◌, ◌<◌, ◌≤◌, List, length, set, Option, Some, None, Bool, cond, eqb, true, false, refl, sym, ap, ◌∙◌, subst, ⊎_elim, arith, length-set, slice_index, eqb-true}
 use Rattle.std.proofs.Common.{eq-eqb, true≢false, mul-le-mul_right, suc-mul}
 use mathlib.Core.Logic.{dite}
@@ -7,7 +7,7 @@ use native.Mathlib.Decide.{ℕ_discrete}
 use Rattle.std.proofs.Math.Seq.{get_or-set_other, get_or-set_same}
 use Rattle.std.specs.Prelude.{slice_get, option_and_then}
 use Rattle.std.proofs.lemmas.Option.{slice_get_within}
-use Rattle.list_facts.proofs.Options.{same_Some}
+use Rattle.list_lemmas.proofs.Options.{same_Some}
 use Rattle.entry_ref.specs.References.{buffer_of}
 use Rattle.entry_ref.specs.Records.{Records}
 use Rattle.entry_ref.specs.Places.{base, state_place}

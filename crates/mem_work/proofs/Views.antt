@@ -9,7 +9,7 @@ use Rattle.std.proofs.lemmas.Grind.{same_number_lists}
 use Rattle.mem_work.proofs.Ranges.{range-fits}
 use Rattle.std.proofs.lemmas.Bool.{false_from_ne_true, cases_eq, cond-false}
 use Rattle.std.proofs.lemmas.Nat.{same_from_place}
-use Rattle.list_facts.proofs.Places.{slice_index-zeros}
+use Rattle.list_lemmas.proofs.Places.{slice_index-zeros}
 use Rattle.entry_ref.specs.References.{buffer_of, offset_of}
 use Rattle.entry_ref.specs.Images.{no_image, words_at, image_of}
 use Rattle.entry_ref.proofs.Apart.{within}

@@ -5,10 +5,10 @@ use Rattle.std.specs.List.{AllByRecursion}
 use Rattle.std.specs.List.Sorted.{IsStrictlySortedBy}
 use Rattle.std.specs.Map.{keys_of}
 use Rattle.std.specs.Ordering.{nat_cmp}
-use Rattle.list_facts.proofs.Tests.{too_many}
+use Rattle.list_lemmas.proofs.Tests.{too_many}
 use Rattle.array_store.specs.Adding.{AddsRecord, MakesOneOf}
-use Rattle.attr_images.specs.Postings.{tree, list_form, IsPostingList}
-use Rattle.attr_images.specs.Words.{class_of, filled, stored_items, unpacked, IsStoredList}
+use Rattle.image_format.specs.Postings.{tree, list_form, IsPostingList}
+use Rattle.image_format.specs.Words.{class_of, filled, stored_items, unpacked, IsStoredList}
 use Rattle.attr_types.specs.Lawful.{IsDocNumber}
 use Rattle.entry_ref.specs.Records.{Records, Among}
 use Rattle.store_api.specs.Ledgers.{Ledger, capacity}

@@ -9,17 +9,17 @@ use Rattle.std.specs.Map.{keys_of}
 use Rattle.entry_ref.specs.Records.{Records}
 use Rattle.std.proofs.lemmas.Int.{of_z-to_z}
 use Rattle.std.specs.Int.{cast_signed, cast_unsigned, w32}
-use Rattle.list_facts.proofs.Places.{drop-read}
+use Rattle.list_lemmas.proofs.Places.{drop-read}
 use Rattle.tree_read.specs.SearchPlaces.{Place, IsAt, pairs_from, first_key}
 use Rattle.tree_read.proofs.PlaceLemmas.{pair-first}
 use Rattle.array_store.specs.Arrays.{IsArray}
 use Rattle.array_store.proofs.ArrayLemmas.{count_read, item_read}
 use Rattle.attr_types.specs.Lawful.{IsDocNumber}
-use Rattle.attr_images.proofs.BlockLemmas.{block_has_bits}
-use Rattle.attr_images.specs.Postings.{block_documents, vector_documents}
-use Rattle.attr_images.specs.Words.{unpacked, weight_in_bits, stored_items}
+use Rattle.image_format.proofs.BlockLemmas.{block_has_bits}
+use Rattle.image_format.specs.Postings.{block_documents, vector_documents}
+use Rattle.image_format.specs.Words.{unpacked, weight_in_bits, stored_items}
 use Rattle.bit_vector.specs.declared.cursor.VectorCursor.{VectorCursor}
-use Rattle.attr_index.specs.Sets.{has, in_words}
+use Rattle.index_model.specs.Sets.{has, in_words}
 use Rattle.bit_vector.specs.Walks.{documents_from, first_document, HasDocument, IsInBlock, IsVectorPlace}
 use Rattle.posting_store.specs.Lists.{list_at, IsList}
 use Rattle.posting_store.specs.declared.cursor.PostingCursor.{PostingCursor}

@@ -14,7 +14,7 @@ use Rattle.bit_vector.specs.Blocks.{beside_block}
 use Rattle.bit_vector.specs.Keeps.{block_at, KeepsBlocks}
 use Rattle.bit_vector.specs.Vectors.{vector_reach}
 use Rattle.bit_vector.proofs.KeepLemmas.{block_among}
-use Rattle.attr_images.specs.Postings.{ListForm, short, tree, vector, postings_reach}
+use Rattle.image_format.specs.Postings.{ListForm, short, tree, vector, postings_reach}
 use Rattle.posting_store.specs.Changes.{list_part}
 use Rattle.posting_store.specs.Keeps.{form_block, list_block, FlowsList}
 use Rattle.posting_store.specs.Lists.{list_reach, is_vector, IsPlain}

@@ -5,9 +5,9 @@ use Rattle.std.proofs.lemmas.List.{length-map}
 use Rattle.entry_ref.specs.Records.{Records}
 use Rattle.tree_read.specs.Trees.{tree_pairs, tree_nodes}
 use Rattle.frozen_btree.specs.Changes.{levels}
-use Rattle.list_facts.proofs.Tests.{too_many}
-use Rattle.attr_images.specs.Postings.{ListForm, short, tree, vector, list_form, postings_at, postings_reach, IsPostingList}
-use Rattle.attr_images.specs.Words.{stored_items, unpacked, weight_in_bits}
+use Rattle.list_lemmas.proofs.Tests.{too_many}
+use Rattle.image_format.specs.Postings.{ListForm, short, tree, vector, list_form, postings_at, postings_reach, IsPostingList}
+use Rattle.image_format.specs.Words.{stored_items, unpacked, weight_in_bits}
 use Rattle.posting_store.specs.Lists.{list_at, list_reach, list_levels, form_levels, is_vector, IsList, IsPlain}
 
 form_by : Bool → Bool → ℕ → ListForm

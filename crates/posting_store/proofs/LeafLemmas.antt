@@ -9,7 +9,7 @@ use Rattle.std.specs.List.Sorted.{IsStrictlySortedBy}
 use Rattle.std.specs.Map.{keys_of, remove_entry}
 use Rattle.std.specs.Map.{lookup as lookup_in}
 use Rattle.std.specs.Ordering.{nat_cmp, match_ordering}
-use Rattle.list_facts.proofs.Each.{AllByRecursion-each}
+use Rattle.list_lemmas.proofs.Each.{AllByRecursion-each}
 use Rattle.entry_ref.specs.Records.{Records}
 use Rattle.tree_read.specs.Keys.{IsKeyedTree}
 use Rattle.tree_read.specs.Pairs.{lookup, put, take_out}
@@ -20,7 +20,7 @@ use Rattle.store_api.specs.Units.{MakesWithin}
 use Rattle.tree_read.specs.Trees.{tree_pairs, by_number, IsTree}
 use Rattle.frozen_btree.specs.Changes.{levels, tree}
 use Rattle.frozen_btree.specs.Makes.{CountsNodes}
-use Rattle.attr_images.specs.Words.{unpacked, weight_in_bits}
+use Rattle.image_format.specs.Words.{unpacked, weight_in_bits}
 use Rattle.attr_types.specs.Lawful.{IsDocNumber}
 use Rattle.posting_store.specs.Lists.{list_at, list_levels, IsList, IsPlain, AreDocuments}
 use Rattle.posting_store.specs.Changes.{list_part, list_most, IsListWidth, MakesList}

@@ -1,10 +1,10 @@
 -- What holds of a list in its form.
 use Rattle.std.proofs.Common.{◌≡◌, ℕ, zero, suc, ◌<◌, length, arith}
 use Rattle.std.specs.List.Sorted.{IsStrictlySortedBy}
-use Rattle.attr_images.proofs.ListLemmas.{lists_filled}
+use Rattle.image_format.proofs.ListLemmas.{lists_filled}
 use Rattle.entry_ref.specs.Records.{Records, SameAt, AllThere}
-use Rattle.attr_images.specs.Postings.{list_form}
-use Rattle.attr_images.specs.ProofsForImages.{postings_there}
+use Rattle.image_format.specs.Postings.{list_form}
+use Rattle.image_format.specs.ProofsForImages.{postings_there}
 use Rattle.attr_types.specs.declared.kind.ValueType.TheVariants as types
 use Rattle.posting_store.specs.Lists.{list_at, list_reach, IsList}
 use Rattle.posting_store.specs.ProofsForLists.{list_at-same, IsList-same}

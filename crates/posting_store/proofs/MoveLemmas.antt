@@ -20,10 +20,10 @@ use Rattle.frozen_btree.specs.Changes.{levels, tree as tree_part}
 use Rattle.frozen_btree.specs.Makes.{CountsNodes}
 use Rattle.frozen_btree.specs.Paths.{path_nodes, NoneIn}
 use Rattle.frozen_btree.proofs.UsedLemmas.{node_used, used_at}
-use Rattle.attr_images.proofs.RootLemmas.{length-filled}
+use Rattle.image_format.proofs.RootLemmas.{length-filled}
 use Rattle.array_store.specs.Adding.{AddsRecord, MakesOneOf}
-use Rattle.attr_images.specs.Postings.{ListForm, short, tree, vector, list_form, IsPostingList}
-use Rattle.attr_images.specs.Words.{class_of, stored_items, unpacked, IsStoredList}
+use Rattle.image_format.specs.Postings.{ListForm, short, tree, vector, list_form, IsPostingList}
+use Rattle.image_format.specs.Words.{class_of, stored_items, unpacked, IsStoredList}
 use Rattle.posting_store.specs.Changes.{list_part, list_most, MakesList}
 use Rattle.posting_store.specs.Lists.{list_at, list_levels, list_reach, is_vector, AreDocuments, IsList, IsPlain}
 use Rattle.posting_store.proofs.ChangeLemmas.{counts_short, counts_weaker, makes_short, makes_tree, replaces}

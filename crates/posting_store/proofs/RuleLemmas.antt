@@ -3,7 +3,7 @@ use Rattle.std.proofs.Common.{◌≡◌, ℕ, ℤ, pos, ◌+◌, ◌*◌, ◌<�
 use Rattle.std.specs.Prelude.{IfOk, IfErr}
 use Rattle.std.proofs.lemmas.Bool.{and_parts, eqb-true, leb-true, le-leb}
 use Rattle.std.specs.Map.{keys_of}
-use Rattle.list_facts.proofs.Tests.{too_many}
+use Rattle.list_lemmas.proofs.Tests.{too_many}
 use Rattle.entry_ref.specs.Records.{Records}
 use Rattle.frozen_btree.specs.Builds.{nodes_of}
 use Rattle.store_api.specs.Calls.{RefusesOf}
@@ -13,7 +13,7 @@ use Rattle.store_api.specs.Statuses.{in_use}
 use Rattle.store_api.specs.Units.{MayDo, MakesWithin}
 use Rattle.store_api.specs.declared.store.StoreError.{StoreError}
 use Rattle.store_api.proofs.PartLemmas.{turns-same, turns-then}
-use Rattle.attr_images.specs.Postings.{is_dense}
+use Rattle.image_format.specs.Postings.{is_dense}
 use Rattle.bit_vector.specs.Changes.{vector_most, IsVectorWidth}
 use Rattle.bit_vector.specs.Vectors.{count_blocks}
 use Rattle.posting_store.specs.Lists.{list_at, is_vector, IsList, IsPlain}

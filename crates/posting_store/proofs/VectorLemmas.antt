@@ -17,8 +17,8 @@ use Rattle.store_api.proofs.PartLemmas.{turns-as}
 use Rattle.frozen_btree.specs.Builds.{nodes_of}
 use Rattle.frozen_btree.specs.Changes.{levels}
 use Rattle.frozen_btree.specs.Makes.{CountsNodes}
-use Rattle.attr_images.proofs.ImageLemmas.{node_there}
-use Rattle.attr_images.specs.Postings.{vector, block_documents, vector_documents, postings_at, postings_reach, IsPostingList}
+use Rattle.image_format.proofs.ImageLemmas.{node_there}
+use Rattle.image_format.specs.Postings.{vector, block_documents, vector_documents, postings_at, postings_reach, IsPostingList}
 use Rattle.attr_types.specs.Lawful.{IsDocNumber}
 use Rattle.bit_vector.specs.Changes.{vector_most, vector_part, MakesTree, MakesVector}
 use Rattle.bit_vector.specs.Vectors.{count_blocks, vector_at, vector_reach, IsVector}

@@ -7,9 +7,9 @@ use Rattle.store_api.specs.Parts.{Part, Owns, Turns}
 use Rattle.store_api.specs.Statuses.{in_use}
 use Rattle.tree_read.specs.declared.node_format.TheConstants.{NODE_WORDS}
 use Rattle.frozen_btree.specs.Builds.{nodes_of}
-use Rattle.attr_images.specs.Postings.{is_dense}
-use Rattle.attr_images.specs.declared.TheConstants.{MOST_SHORT}
-use Rattle.attr_images.specs.Words.{class_of}
+use Rattle.image_format.specs.Postings.{is_dense}
+use Rattle.image_format.specs.declared.TheConstants.{MOST_SHORT}
+use Rattle.image_format.specs.Words.{class_of}
 use Rattle.bit_vector.specs.Changes.{vector_most, IsVectorWidth}
 use Rattle.bit_vector.specs.Vectors.{count_blocks}
 use Rattle.posting_store.specs.Keeps.{FlowsList}

@@ -1,7 +1,7 @@
 -- The blocks of a list that is a bit vector, and where the old records of a list come from.
 use Rattle.std.specs.Prelude.{◌≡◌, ◌≢◌, ℕ, Option, None, Some}
 use Rattle.entry_ref.specs.Records.{Records, Among}
-use Rattle.attr_images.specs.Postings.{ListForm, short, tree, vector, list_form}
+use Rattle.image_format.specs.Postings.{ListForm, short, tree, vector, list_form}
 use Rattle.bit_vector.specs.Keeps.{block_at}
 use Rattle.posting_store.specs.Lists.{list_reach, is_vector}
 

@@ -7,8 +7,8 @@ use Rattle.std.specs.Ordering.{nat_cmp}
 use Rattle.entry_ref.specs.Records.{Records}
 use Rattle.frozen_btree.specs.Changes.{levels}
 use Rattle.attr_types.specs.Lawful.{IsDocNumber}
-use Rattle.attr_images.specs.declared.TheConstants.{FIRST_VECTOR}
-use Rattle.attr_images.specs.Postings.{ListForm, short, tree, vector, list_form, postings_at, postings_reach, IsPostingList}
+use Rattle.image_format.specs.declared.TheConstants.{FIRST_VECTOR}
+use Rattle.image_format.specs.Postings.{ListForm, short, tree, vector, list_form, postings_at, postings_reach, IsPostingList}
 
 -- the documents of a list, each with its weight
 abbrev pub list_at : Records → ℕ → List (ℕ × ℤ)

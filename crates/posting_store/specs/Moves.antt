@@ -8,9 +8,9 @@ use Rattle.store_api.specs.Statuses.{in_use}
 use Rattle.tree_read.specs.Trees.{tree_pairs}
 use Rattle.tree_read.specs.declared.node_format.TheConstants.{NODE_WORDS}
 use Rattle.frozen_btree.specs.Paths.{path_nodes, NoneIn}
-use Rattle.attr_images.specs.Postings.{ListForm, short, tree, vector, list_form}
-use Rattle.attr_images.specs.Words.{class_of}
-use Rattle.attr_images.specs.declared.TheConstants.{BLOCK_DOCUMENTS, MOST_SHORT}
+use Rattle.image_format.specs.Postings.{ListForm, short, tree, vector, list_form}
+use Rattle.image_format.specs.Words.{class_of}
+use Rattle.image_format.specs.declared.TheConstants.{BLOCK_DOCUMENTS, MOST_SHORT}
 use Rattle.bit_vector.specs.Changes.{vector_most}
 use Rattle.bit_vector.specs.Moves.{moved_nodes, IsBlockApart}
 use Rattle.posting_store.specs.Changes.{MakesList}

@@ -7,8 +7,8 @@ use Rattle.std.specs.Map.{keys_of}
 use Rattle.std.specs.Ordering.{nat_cmp}
 use Rattle.entry_ref.specs.Records.{Records, SameAt}
 use Rattle.attr_types.specs.Lawful.{IsDocNumber}
-use Rattle.attr_images.specs.Postings.{list_form}
-use Rattle.attr_images.specs.ProofsForImages.{postings_at-same, postings_reach-same, IsPostingList-same}
+use Rattle.image_format.specs.Postings.{list_form}
+use Rattle.image_format.specs.ProofsForImages.{postings_at-same, postings_reach-same, IsPostingList-same}
 use Rattle.posting_store.specs.Lists.{list_at, list_reach, IsList}
 
 pub list_reach-same : (m n : Records) (word : ℕ) → SameAt (list_reach m word) m n → list_reach n word ≡ list_reach m word

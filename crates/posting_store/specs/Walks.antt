@@ -5,7 +5,7 @@ use Rattle.std.specs.Map.{keys_of}
 use Rattle.entry_ref.specs.Records.{Records}
 use Rattle.tree_read.specs.SearchPlaces.{IsAt, HasPair, pairs_from}
 use Rattle.attr_types.specs.Lawful.{IsDocNumber}
-use Rattle.attr_images.specs.Words.{unpacked, weight_in_bits}
+use Rattle.image_format.specs.Words.{unpacked, weight_in_bits}
 use Rattle.array_store.specs.Arrays.{IsArray}
 use Rattle.bit_vector.specs.Walks.{documents_from, HasDocument, IsVectorPlace}
 use Rattle.posting_store.specs.declared.cursor.PostingCursor.{PostingCursor}

@@ -3,12 +3,12 @@ ghost use Rattle.std.specs.Prelude.{◌≡◌, ◌≤◌, ◌+◌, ◌∷◌, tr
 ghost use Rattle.store_api.specs.Calls.{Refuses};
 ghost use Rattle.store_api.specs.Units.{MayDo};
 ghost use Rattle.array_store.specs.Adding.{AddsRecord, MakesOneOf};
-ghost use Rattle.attr_images.specs.Words.{class_of, stored_items, IsStoredList};
+ghost use Rattle.image_format.specs.Words.{class_of, stored_items, IsStoredList};
 
 use arena_api::read;
 use array_store::add;
-use attr_images::MOST_SHORT;
 use entry_ref::EntryRef;
+use image_format::MOST_SHORT;
 use store_api::{Store, StoreError};
 
 /// Makes a copy of a record's items, with a buffer of their size.

@@ -5,11 +5,11 @@ ghost use Rattle.posting_store.specs.Walks.{postings_from, first_doc, first_weig
 
 use crate::posting::{Posting, root_of};
 use arena_api::Frozen;
-use attr_images::WEIGHT_BASE;
 use attr_types::Doc;
 use bit_vector::{VectorCursor, count as count_documents};
 use entry_ref::EntryRef;
 use frozen_btree::{Cursor, total};
+use image_format::WEIGHT_BASE;
 
 /// A position before a document of a list, or at its end.
 #[derive(Drop)]

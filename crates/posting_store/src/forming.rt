@@ -3,7 +3,7 @@ ghost use Rattle.std.specs.Prelude.{◌≡◌, ◌<◌, ◌∷◌, [], true, fal
 ghost use Rattle.store_api.specs.Calls.{RefusesOf};
 ghost use Rattle.store_api.specs.Parts.{Owns};
 ghost use Rattle.store_api.specs.Units.{MayDo, MakesWithin};
-ghost use Rattle.attr_images.specs.Postings.{is_dense};
+ghost use Rattle.image_format.specs.Postings.{is_dense};
 ghost use Rattle.bit_vector.specs.Changes.{IsVectorWidth};
 ghost use Rattle.posting_store.specs.Lists.{list_at, is_vector, AreOnes, IsList, IsPlain};
 ghost use Rattle.posting_store.specs.Changes.{list_part, form_most, IsFormWidth, MakesByRule, MakesList};
@@ -11,8 +11,8 @@ ghost use Rattle.posting_store.specs.Changes.{list_part, form_most, IsFormWidth,
 use crate::cursor::count;
 use crate::dropping::drop_list;
 use crate::posting::{Posting, root_of};
-use attr_images::is_dense;
 use bit_vector::{from_tree, to_tree};
+use image_format::is_dense;
 use std::alloc::Global;
 use store_api::{Store, StoreError};
 

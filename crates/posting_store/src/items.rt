@@ -2,15 +2,15 @@ ghost use Rattle.std.specs.Prelude.{◌≡◌, ◌≤◌, length, map};
 ghost use Rattle.std.specs.BTreeMap.{insert_entry, is_at};
 ghost use Rattle.std.specs.Map.{remove_entry};
 ghost use Rattle.std.specs.Ordering.{nat_cmp};
-ghost use Rattle.attr_images.specs.Words.{unpacked};
+ghost use Rattle.image_format.specs.Words.{unpacked};
 ghost use Rattle.posting_store.specs.Lists.{list_at, IsList};
 
 use crate::cursor::walk;
 use crate::posting::Posting;
 use arena_api::Frozen;
 use arrayvec::ArrayVec;
-use attr_images::WEIGHT_BASE;
 use attr_types::Doc;
+use image_format::WEIGHT_BASE;
 
 /// The items of a short list, or of a list with one document more.
 pub type Items = ArrayVec<u64, 9>;

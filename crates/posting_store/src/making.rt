@@ -5,15 +5,15 @@ ghost use Rattle.std.specs.Map.{keys_of};
 ghost use Rattle.std.specs.Ordering.{nat_cmp};
 ghost use Rattle.store_api.specs.Calls.{RefusesOf};
 ghost use Rattle.store_api.specs.Units.{MayDo, MakesWithin};
-ghost use Rattle.attr_images.specs.Words.{unpacked};
+ghost use Rattle.image_format.specs.Words.{unpacked};
 ghost use Rattle.attr_types.specs.Lawful.{IsDocNumber};
 ghost use Rattle.posting_store.specs.Changes.{list_most, IsListWidth, MakesList};
 ghost use Rattle.posting_store.specs.Lists.{AreDocuments};
 
 use crate::posting::Posting;
 use array_store::add as add_array;
-use attr_images::{MOST_SHORT, WEIGHT_BASE};
 use frozen_btree::{NumberKey, build_leaf};
+use image_format::{MOST_SHORT, WEIGHT_BASE};
 use store_api::{Store, StoreError};
 
 /// Makes the record of a short list.

@@ -9,9 +9,9 @@ ghost use Rattle.posting_store.specs.Moves.{word_most, MovesWord};
 
 use crate::copying::copy_record;
 use crate::posting::{Posting, root_of};
-use attr_images::BLOCK_DOCUMENTS;
 use bit_vector::move_block;
 use frozen_btree::{NumberKey, touch};
+use image_format::BLOCK_DOCUMENTS;
 use store_api::{Store, StoreError, drop_one};
 
 /// Copies the record of a short list if it lies in the buffer. Returns the new list.

@@ -2,8 +2,8 @@ ghost use Rattle.std.specs.Prelude.{◌≡◌, ◌↔◌, ◌<◌, ◌+◌, ◌*
 ghost use Rattle.posting_store.specs.Lists.{is_vector, IsList, IsPlain};
 
 use arena_api::Frozen;
-use attr_images::FIRST_VECTOR;
 use entry_ref::EntryRef;
+use image_format::FIRST_VECTOR;
 use std::marker::Model;
 
 /// A list of documents with weights, as the word that a dictionary stores for it. 0 is the empty list.

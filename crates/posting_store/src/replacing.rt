@@ -2,7 +2,7 @@ ghost use Rattle.std.specs.Prelude.{◌≡◌, ◌≤◌, ◌∷◌, [], true, f
 ghost use Rattle.store_api.specs.Calls.{RefusesOf};
 ghost use Rattle.store_api.specs.Parts.{Owns};
 ghost use Rattle.store_api.specs.Units.{MayDo, MakesWithin};
-ghost use Rattle.attr_images.specs.Words.{unpacked};
+ghost use Rattle.image_format.specs.Words.{unpacked};
 ghost use Rattle.posting_store.specs.Changes.{list_part, list_most, IsListWidth, MakesList};
 ghost use Rattle.posting_store.specs.Lists.{AreDocuments, IsList};
 

@@ -4,9 +4,9 @@ use Rattle.std.proofs.lemmas.Bool.{eqb-true, eqb-false, eq-eqb, ne_eqb}
 use Rattle.std.proofs.lemmas.Nat.{and_le_l}
 use Rattle.std.proofs.lemmas.Nat.Bits.{bit_at-trailing_zeros, bit_at-zero, bit_at_clear_same, bit_at_clear_other}
 use Rattle.std.specs.Int.{bit_at, trailing_zeros}
-use Rattle.attr_index.proofs.BitLemmas.{by_cases}
-use Rattle.attr_index.proofs.WordLemmas.{without}
-use Rattle.attr_index.specs.Sets.{has}
+use Rattle.index_model.proofs.BitLemmas.{by_cases}
+use Rattle.index_model.proofs.WordLemmas.{without}
+use Rattle.index_model.specs.Sets.{has}
 use Rattle.query_eval.proofs.VectorLemmas.{has_append}
 use Rattle.query_eval.specs.Blocks.{in_word}
 

@@ -3,11 +3,11 @@ use Rattle.std.proofs.Common.{◌≡◌, ℕ, ◌+◌, ◌*◌, ◌/◌, ◌%◌
 use Rattle.std.proofs.lemmas.Bool.{ne_eqb, eq-eqb, eqb-true, eqb-false, lt-ltb, le-ltb, ltb-true, ltb-false, false≢true}
 use Rattle.std.specs.Int.{bit_at}
 use Rattle.std.specs.List.{AllByRecursion}
-use Rattle.attr_images.specs.Postings.{block_documents}
-use Rattle.attr_images.proofs.BlockLemmas.{block_has_bits}
+use Rattle.image_format.specs.Postings.{block_documents}
+use Rattle.image_format.proofs.BlockLemmas.{block_has_bits}
 use Rattle.attr_types.specs.Lawful.{IsDocNumber}
-use Rattle.attr_index.proofs.BitLemmas.{by_cases}
-use Rattle.attr_index.specs.Sets.{has, in_words}
+use Rattle.index_model.proofs.BitLemmas.{by_cases}
+use Rattle.index_model.specs.Sets.{has, in_words}
 use Rattle.query_eval.specs.Blocks.{in_word}
 
 -- no document of a block is outside

@@ -8,14 +8,14 @@ use Rattle.entry_ref.specs.Records.{Records}
 use Rattle.tree_read.specs.Trees.{tree_pairs, IsRootNode}
 use Rattle.attr_types.specs.declared.kind.Kind.{Kind}
 use Rattle.attr_types.specs.declared.kind.ValueType.{ValueType}
-use Rattle.attr_index.specs.Columns.{Column}
-use Rattle.attr_images.specs.Documents.{column_at, items_at}
-use Rattle.attr_images.specs.Images.{root_words, table_of, attributes_from, IsRootRecord, IsLawfulImage}
-use Rattle.attr_images.specs.Shapes.{types_of_shape}
-use Rattle.attr_images.specs.Tables.{columns_at, table_of_columns, AreLawfulAttributes, HaveSameDocuments}
-use Rattle.attr_images.specs.Words.{classes, class_of}
-use Rattle.attr_images.proofs.ImageLemmas.{attributes_lawful, roots_there}
-use Rattle.attr_images.proofs.TableLemmas.{table_keys}
+use Rattle.index_model.specs.Columns.{Column}
+use Rattle.image_format.specs.Documents.{column_at, items_at}
+use Rattle.image_format.specs.Images.{root_words, table_of, attributes_from, IsRootRecord, IsLawfulImage}
+use Rattle.image_format.specs.Shapes.{types_of_shape}
+use Rattle.image_format.specs.Tables.{columns_at, table_of_columns, AreLawfulAttributes, HaveSameDocuments}
+use Rattle.image_format.specs.Words.{classes, class_of}
+use Rattle.image_format.proofs.ImageLemmas.{attributes_lawful, roots_there}
+use Rattle.image_format.proofs.TableLemmas.{table_keys}
 
 found_in : (p : ℕ → Bool) (xs : List ℕ) → AllByRecursion (λ x. 1 < x) xs → 1 < unwrap_or (find p xs) 1024
 found_in p [] all = omega arith

@@ -10,18 +10,18 @@ use Rattle.attr_types.specs.declared.field.Field.{Field}
 use Rattle.attr_types.specs.declared.field.TheConstants.{MOST_FIELDS}
 use Rattle.attr_types.specs.declared.kind.ValueType.{ValueType}
 use Rattle.attr_types.specs.declared.value.Value.{Value}
-use Rattle.attr_index.specs.Index.{IsIndexOf}
-use Rattle.attr_images.specs.Images.{dictionary_at, documents_at, table_of, IsLawfulImage}
-use Rattle.attr_images.specs.Laws.{HasField}
-use Rattle.attr_images.specs.Postings.{list_form, postings_at, index_of, IsDictionaryEntry}
-use Rattle.attr_images.specs.Shapes.{shape_of, types_of}
-use Rattle.attr_images.specs.Values.{stored_value}
-use Rattle.attr_images.proofs.ImageLemmas.{table_lawful, field_is_there, roots_there}
-use Rattle.attr_images.proofs.RootLemmas.{root_has_words}
-use Rattle.attr_index.specs.Postings.{HaveDocNumbers}
-use Rattle.attr_index.specs.Sets.{Holds}
-use Rattle.attr_index.proofs.FoundLemmas.{found_are_hits, index_lists_documents}
-use Rattle.attr_index.specs.Found.{found, AreIndexesFrom}
+use Rattle.index_model.specs.Index.{IsIndexOf}
+use Rattle.image_format.specs.Images.{dictionary_at, documents_at, table_of, IsLawfulImage}
+use Rattle.image_format.specs.Laws.{HasField}
+use Rattle.image_format.specs.Postings.{list_form, postings_at, index_of, IsDictionaryEntry}
+use Rattle.image_format.specs.Shapes.{shape_of, types_of}
+use Rattle.image_format.specs.Values.{stored_value}
+use Rattle.image_format.proofs.ImageLemmas.{table_lawful, field_is_there, roots_there}
+use Rattle.image_format.proofs.RootLemmas.{root_has_words}
+use Rattle.index_model.specs.Postings.{HaveDocNumbers}
+use Rattle.index_model.specs.Sets.{Holds}
+use Rattle.index_model.proofs.FoundLemmas.{found_are_hits, index_lists_documents}
+use Rattle.index_model.specs.Found.{found, AreIndexesFrom}
 use Rattle.query_eval.specs.Parts.{AreIndexPairs, IsIndexed}
 use Rattle.query_eval.specs.Indexes.{AreIndexed, HasDictionaries, dictionaries_at, indexes_in}
 

@@ -7,17 +7,17 @@ use Rattle.std.specs.Prelude.{IfSome}
 use Rattle.std.proofs.lemmas.Bool.{eqb-true, eqb-false, lt-ltb, le-ltb, ltb-true, ltb-false, false≢true}
 use Rattle.std.proofs.lemmas.List.{drop_all, drop_more, at_drop_more}
 use Rattle.entry_ref.specs.Records.{Records}
-use Rattle.attr_images.proofs.BlockLemmas.{block_has_bits}
-use Rattle.attr_images.specs.Postings.{block_documents}
-use Rattle.attr_images.specs.declared.TheConstants.{FIRST_VECTOR}
+use Rattle.image_format.proofs.BlockLemmas.{block_has_bits}
+use Rattle.image_format.specs.Postings.{block_documents}
+use Rattle.image_format.specs.declared.TheConstants.{FIRST_VECTOR}
 use Rattle.attr_types.specs.Lawful.{IsDocNumber}
 use Rattle.attr_types.specs.Query.{and, or, tree_of, query_trees}
 use Rattle.attr_types.specs.declared.query.Query.{Query}
-use Rattle.attr_index.proofs.BitLemmas.{by_cases}
-use Rattle.attr_index.specs.Found.{found, found_all, found_some}
-use Rattle.attr_index.specs.Index.{Index}
-use Rattle.attr_index.specs.Postings.{HaveDocNumbers}
-use Rattle.attr_index.specs.Sets.{has, in_words}
+use Rattle.index_model.proofs.BitLemmas.{by_cases}
+use Rattle.index_model.specs.Found.{found, found_all, found_some}
+use Rattle.index_model.specs.Index.{Index}
+use Rattle.index_model.specs.Postings.{HaveDocNumbers}
+use Rattle.index_model.specs.Sets.{has, in_words}
 use Rattle.query_eval.specs.Lists.{list_has, all_have, some_has, AreListWords, AreListsOf, AreVectorWords}
 use Rattle.query_eval.proofs.BlockLemmas.{all_has}
 

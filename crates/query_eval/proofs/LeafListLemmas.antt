@@ -3,15 +3,15 @@ use Rattle.std.proofs.Common.{◌≡◌, ℕ, pos, zero, suc, ◌-◌, ◌<◌, 
 use Rattle.std.specs.List.{AllByRecursion}
 use Rattle.std.specs.Map.{keys_of}
 use Rattle.std.proofs.lemmas.Bool.{cond-true, le-leb}
-use Rattle.list_facts.proofs.Each.{AllByRecursion-left, AllByRecursion-right}
+use Rattle.list_lemmas.proofs.Each.{AllByRecursion-left, AllByRecursion-right}
 use Rattle.entry_ref.specs.Records.{Records}
 use Rattle.tree_read.specs.Trees.{tree_pairs, root_level, root_least, IsRootNode}
-use Rattle.attr_images.proofs.ImageLemmas.{node_there}
-use Rattle.attr_images.specs.Postings.{vector, list_form, block_documents, IsBlock, IsPostingList}
-use Rattle.attr_images.specs.Words.{weight_in_bits}
-use Rattle.attr_images.specs.declared.TheConstants.{FIRST_VECTOR}
+use Rattle.image_format.proofs.ImageLemmas.{node_there}
+use Rattle.image_format.specs.Postings.{vector, list_form, block_documents, IsBlock, IsPostingList}
+use Rattle.image_format.specs.Words.{weight_in_bits}
+use Rattle.image_format.specs.declared.TheConstants.{FIRST_VECTOR}
 use Rattle.attr_types.specs.Lawful.{IsDocNumber}
-use Rattle.attr_index.specs.Postings.{HaveDocNumbers}
+use Rattle.index_model.specs.Postings.{HaveDocNumbers}
 use Rattle.query_eval.specs.Blocks.{IsDocumentBlock, documents_of}
 use Rattle.query_eval.proofs.BlockLemmas.{block_small, all_has}
 

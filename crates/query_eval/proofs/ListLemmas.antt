@@ -7,12 +7,12 @@ use Rattle.std.proofs.lemmas.Bool.{cond-true, le-leb}
 use Rattle.entry_ref.specs.Records.{Records}
 use Rattle.tree_read.specs.Pairs.{lookup_pair}
 use Rattle.tree_read.specs.Trees.{tree_pairs}
-use Rattle.attr_images.specs.Postings.{vector, list_form, postings_at, vector_documents, IsPostingList}
-use Rattle.attr_images.specs.declared.TheConstants.{FIRST_VECTOR}
+use Rattle.image_format.specs.Postings.{vector, list_form, postings_at, vector_documents, IsPostingList}
+use Rattle.image_format.specs.declared.TheConstants.{FIRST_VECTOR}
 use Rattle.attr_types.specs.Lawful.{IsDocNumber}
-use Rattle.attr_index.proofs.BitLemmas.{no_bits}
-use Rattle.attr_index.specs.Postings.{HaveDocNumbers}
-use Rattle.attr_index.specs.Sets.{has, in_words}
+use Rattle.index_model.proofs.BitLemmas.{no_bits}
+use Rattle.index_model.specs.Postings.{HaveDocNumbers}
+use Rattle.index_model.specs.Sets.{has, in_words}
 use Rattle.query_eval.specs.Blocks.{IsDocumentBlock}
 use Rattle.query_eval.specs.Lists.{list_has, IsVectorWord}
 use Rattle.query_eval.proofs.LeafListLemmas.{blocks_are, vector_numbers, vector_keys}

@@ -11,11 +11,11 @@ use Rattle.std.specs.declared.cmp.Ordering.{Ordering}
 use Rattle.std.specs.declared.cmp.Ordering.TheVariants.{Less, Equal, Greater}
 use Rattle.std.proofs.lemmas.Bool.{eqb-true, eqb-false}
 use Rattle.std.proofs.lemmas.Cmp.{tied_itself, nat_cmp_total}
-use Rattle.list_facts.proofs.Options.{same_Some}
+use Rattle.list_lemmas.proofs.Options.{same_Some}
 use Rattle.tree_read.specs.Pairs.{choose, lookup_pair}
 use Rattle.attr_types.proofs.EntryLemmas.{nat_cmp_apart}
-use Rattle.attr_index.proofs.BitLemmas.{by_cases}
-use Rattle.attr_index.specs.Sets.{has}
+use Rattle.index_model.proofs.BitLemmas.{by_cases}
+use Rattle.index_model.specs.Sets.{has}
 use Rattle.query_eval.specs.Weights.{weight_in_list}
 
 module _ {V X : Type 0} (order : V → V → Ordering) (total : IsTotalOrder order) (reads : ℕ → V) (g : ℕ → X) (s : V) where

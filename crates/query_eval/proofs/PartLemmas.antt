@@ -10,9 +10,9 @@ use Rattle.entry_ref.specs.Records.{Records}
 use Rattle.tree_read.specs.Trees.{tree_pairs}
 use Rattle.tree_read.specs.Pairs.{choose, seek as tree_seek}
 use Rattle.tree_read.specs.SearchPlaces.{first_key, first_value}
-use Rattle.attr_images.specs.Postings.{list_form, postings_at, index_of}
-use Rattle.attr_images.specs.Values.{stored_value, IsValueRecord}
-use Rattle.attr_index.specs.Index.{Index}
+use Rattle.image_format.specs.Postings.{list_form, postings_at, index_of}
+use Rattle.image_format.specs.Values.{stored_value, IsValueRecord}
+use Rattle.index_model.specs.Index.{Index}
 use Rattle.attr_types.specs.Fitting.{is_of_type}
 use Rattle.attr_types.specs.Value.{type_of, value_cmp}
 use Rattle.attr_types.specs.declared.kind.ValueType.{ValueType}
@@ -22,9 +22,9 @@ use Rattle.attr_types.specs.declared.value.Value.{Value}
 use Rattle.attr_types.specs.declared.value.Value.TheVariants as values
 use Rattle.enum_dictionary.specs.Dictionaries.{IsDictionary, beside_value}
 use Rattle.enum_dictionary.proofs.BehindLemmas.{All-seek}
-use Rattle.attr_index.proofs.RunLemmas.{run_is_filter, sought_is_filter}
-use Rattle.attr_index.specs.Leaves.{from, stands_beyond, listed, meeting, run, from_value, sought, from_sought}
-use Rattle.attr_index.specs.Sets.{has}
+use Rattle.index_model.proofs.RunLemmas.{run_is_filter, sought_is_filter}
+use Rattle.index_model.specs.Leaves.{from, stands_beyond, listed, meeting, run, from_value, sought, from_sought}
+use Rattle.index_model.specs.Sets.{has}
 use Rattle.query_eval.specs.Parts.{IsIndexPair, AreIndexPairs, IsIndexed, index_of_pairs}
 
 pub type_is : (type : ValueType) (value : Value) → is_of_type type value ≡ true → type_of value ≡ type

@@ -4,12 +4,12 @@ use mathlib.Core.Bool.{and-true}
 use Rattle.std.specs.Prelude.{slice_get}
 use Rattle.std.proofs.lemmas.List.{drop_all, at_drop_more}
 use Rattle.std.proofs.lemmas.Option.{slice_get_read}
-use Rattle.list_facts.proofs.Options.{same_Some}
-use Rattle.attr_index.specs.Index.{Index}
+use Rattle.list_lemmas.proofs.Options.{same_Some}
+use Rattle.index_model.specs.Index.{Index}
 use Rattle.attr_types.specs.Query.{and, tree_of, query_trees}
 use Rattle.attr_types.specs.declared.query.Query.{Query}
-use Rattle.attr_index.specs.Sets.{has, Holds}
-use Rattle.attr_index.specs.Found.{found, found_all, is_listed}
+use Rattle.index_model.specs.Sets.{has, Holds}
+use Rattle.index_model.specs.Found.{found, found_all, is_listed}
 use Rattle.query_eval.specs.Indexes.{AreMatched, IsMatched}
 
 module _ (indexes : List Index) (doc : ℕ) where

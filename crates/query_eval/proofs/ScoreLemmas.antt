@@ -10,7 +10,7 @@ use Rattle.std.specs.Option.{option_map, unwrap_or, is_some}
 use Rattle.std.specs.Ordering.{is_eq, nat_cmp}
 use Rattle.std.proofs.lemmas.Bool.{eqb-true, eqb-false}
 use Rattle.std.proofs.lemmas.Cmp.{tied_itself, nat_cmp_total}
-use Rattle.attr_index.proofs.ColumnLemmas.{keys-column}
+use Rattle.index_model.proofs.ColumnLemmas.{keys-column}
 use Rattle.entry_ref.specs.Records.{Records}
 use Rattle.attr_types.proofs.EntryLemmas.{nat_cmp_apart, sorted_map-filter}
 use Rattle.attr_types.specs.Lawful.{IsLawfulDocument, IsLawfulItems}
@@ -21,23 +21,23 @@ use Rattle.attr_types.specs.Table.{Table}
 use Rattle.attr_types.specs.Value.{value_cmp}
 use Rattle.attr_types.specs.declared.items.Item.{Item}
 use Rattle.attr_types.specs.declared.value.Value.{Value}
-use Rattle.attr_index.specs.Changes.{HasItems}
-use Rattle.attr_index.specs.Columns.{Column, column_of, items_of}
-use Rattle.attr_index.specs.Index.{Index, IsIndexOf, list_of, weight_in}
-use Rattle.attr_index.proofs.ChangeLemmas.{has_items}
-use Rattle.attr_images.specs.Images.{dictionary_at, table_of, IsLawfulImage}
-use Rattle.attr_images.specs.Postings.{index_of}
-use Rattle.attr_images.specs.Shapes.{shape_of, types_of}
-use Rattle.attr_images.proofs.ImageLemmas.{table_lawful}
-use Rattle.attr_images.proofs.RootLemmas.{root_has_words}
-use Rattle.attr_index.proofs.OfLemmas.{all_found}
-use Rattle.attr_index.proofs.PartLemmas.{lookup_front}
+use Rattle.index_model.specs.Changes.{HasItems}
+use Rattle.index_model.specs.Columns.{Column, column_of, items_of}
+use Rattle.index_model.specs.Index.{Index, IsIndexOf, list_of, weight_in}
+use Rattle.index_model.proofs.ChangeLemmas.{has_items}
+use Rattle.image_format.specs.Images.{dictionary_at, table_of, IsLawfulImage}
+use Rattle.image_format.specs.Postings.{index_of}
+use Rattle.image_format.specs.Shapes.{shape_of, types_of}
+use Rattle.image_format.proofs.ImageLemmas.{table_lawful}
+use Rattle.image_format.proofs.RootLemmas.{root_has_words}
+use Rattle.index_model.proofs.OfLemmas.{all_found}
+use Rattle.index_model.proofs.PartLemmas.{lookup_front}
 use Rattle.attr_types.specs.Scores.{has_value, is_scored, score_of, scores}
 use Rattle.attr_types.specs.declared.part.Part.{Part}
 use Rattle.attr_types.specs.declared.score.Score.{Score}
-use Rattle.attr_index.proofs.BitLemmas.{by_cases}
-use Rattle.attr_index.proofs.DocLemmas.{ascends_from_sorted}
-use Rattle.attr_index.specs.Sets.{has, Holds}
+use Rattle.index_model.proofs.BitLemmas.{by_cases}
+use Rattle.index_model.proofs.DocLemmas.{ascends_from_sorted}
+use Rattle.index_model.specs.Sets.{has, Holds}
 use Rattle.query_eval.specs.Weights.{is_found}
 use Rattle.query_eval.proofs.ImageLemmas.{field_at, small}
 

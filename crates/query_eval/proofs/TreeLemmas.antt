@@ -3,7 +3,7 @@ use Rattle.std.proofs.Common.{◌≡◌, ℕ, zero, suc, ◌<◌, ◌≤◌, [],
 use Rattle.entry_ref.specs.Records.{Records}
 use Rattle.tree_read.specs.Nodes.{used_of}
 use Rattle.tree_read.proofs.PlaceLemmas.{leads-root, step-room, step-size}
-use Rattle.attr_images.specs.Postings.{tree, IsPostingList}
+use Rattle.image_format.specs.Postings.{tree, IsPostingList}
 
 root_some : (m : Records) (root : ℕ) → IsPostingList m (tree root) → 0 < root
 root_some m zero list = absurd (omega (arith, list.1))

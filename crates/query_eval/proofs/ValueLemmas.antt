@@ -9,14 +9,14 @@ use Rattle.std.specs.Map.{keys_of, lookup}
 use Rattle.std.specs.Option.{unwrap_or}
 use Rattle.entry_ref.specs.Records.{Records}
 use Rattle.tree_read.specs.Trees.{tree_pairs}
-use Rattle.attr_images.specs.Postings.{index_of, list_form, postings_at}
-use Rattle.attr_index.specs.Index.{Index, list_of}
+use Rattle.image_format.specs.Postings.{index_of, list_form, postings_at}
+use Rattle.index_model.specs.Index.{Index, list_of}
 use Rattle.attr_types.specs.ProofsForOrder.{value_cmp_total}
 use Rattle.attr_types.specs.Value.{value_cmp}
 use Rattle.attr_types.specs.declared.kind.ValueType.{ValueType}
 use Rattle.attr_types.specs.declared.query.Leaf.TheVariants.{Is}
 use Rattle.attr_types.specs.declared.value.Value.{Value}
-use Rattle.attr_index.specs.Leaves.{listed, meeting}
+use Rattle.index_model.specs.Leaves.{listed, meeting}
 use Rattle.query_eval.proofs.PartLemmas.{keys_are}
 use Rattle.query_eval.specs.Parts.{IsIndexed}
 use Rattle.query_eval.specs.Weights.{word_list}

@@ -10,9 +10,9 @@ use Rattle.std.proofs.lemmas.Cmp.{tied_itself, nat_cmp_total}
 use Rattle.std.proofs.lemmas.Map.Lookups.{exact_unsigned}
 use Rattle.entry_ref.specs.Records.{Records}
 use Rattle.tree_read.specs.Pairs.{choose, lookup_pair}
-use Rattle.attr_images.proofs.BlockLemmas.{block_has_bits}
-use Rattle.attr_images.specs.Postings.{block_documents}
-use Rattle.attr_index.specs.Sets.{has, in_words}
+use Rattle.image_format.proofs.BlockLemmas.{block_has_bits}
+use Rattle.image_format.specs.Postings.{block_documents}
+use Rattle.index_model.specs.Sets.{has, in_words}
 use Rattle.query_eval.specs.Blocks.{documents_of}
 
 equal_not : (o : Ordering) → o ≡ Equal → o ≢ Greater

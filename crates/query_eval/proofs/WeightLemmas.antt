@@ -6,8 +6,8 @@ use Rattle.std.proofs.lemmas.Cmp.{nat_cmp_total}
 use Rattle.entry_ref.specs.Records.{Records}
 use Rattle.tree_read.specs.Trees.{tree_pairs, by_number, IsTree}
 use Rattle.tree_read.specs.Pairs.{lookup_pair}
-use Rattle.attr_images.specs.Postings.{postings_at, tree, vector, vector_documents}
-use Rattle.attr_images.specs.Words.{weight_in_bits}
+use Rattle.image_format.specs.Postings.{postings_at, tree, vector, vector_documents}
+use Rattle.image_format.specs.Words.{weight_in_bits}
 use Rattle.query_eval.specs.Weights.{weight_in_list}
 use Rattle.query_eval.proofs.LookupLemmas.{pair_lookup, ones}
 use Rattle.query_eval.proofs.VectorLemmas.{bit_in, vector_has}

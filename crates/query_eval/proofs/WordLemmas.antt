@@ -8,10 +8,10 @@ use Rattle.std.specs.Ordering.{is_eq}
 use Rattle.entry_ref.specs.Records.{Records}
 use Rattle.tree_read.specs.Trees.{tree_pairs}
 use Rattle.tree_read.specs.Pairs.{lookup_pair}
-use Rattle.attr_images.specs.Postings.{list_form, postings_at, index_of}
-use Rattle.attr_images.specs.Values.{stored_value}
-use Rattle.attr_index.specs.Changes.{HasItems}
-use Rattle.attr_index.specs.Index.{Index, list_of, weight_in}
+use Rattle.image_format.specs.Postings.{list_form, postings_at, index_of}
+use Rattle.image_format.specs.Values.{stored_value}
+use Rattle.index_model.specs.Changes.{HasItems}
+use Rattle.index_model.specs.Index.{Index, list_of, weight_in}
 use Rattle.attr_types.specs.Scores.{weight_of}
 use Rattle.attr_types.specs.Fitting.{is_of_type}
 use Rattle.attr_types.specs.ProofsForOrder.{value_cmp_total}

@@ -3,9 +3,9 @@ use Rattle.std.specs.Prelude.{◌≡◌, ℕ, ◌≤◌, ◌/◌, ◌%◌, Bool,
 use Rattle.std.specs.Int.{bit_at}
 use Rattle.std.specs.List.{flat_map}
 use Rattle.entry_ref.specs.Records.{Records}
-use Rattle.attr_images.specs.Postings.{block_documents, IsBlock}
+use Rattle.image_format.specs.Postings.{block_documents, IsBlock}
 use Rattle.attr_types.specs.Lawful.{IsDocNumber}
-use Rattle.attr_index.specs.Sets.{has}
+use Rattle.index_model.specs.Sets.{has}
 
 -- a block that has only valid document numbers
 pub record IsDocumentBlock (m : Records) (p : ℕ × ℕ) : Type 0 where

@@ -2,14 +2,14 @@
 use Rattle.std.specs.Prelude.{◌≡◌, ℕ, suc, ◌+◌, ◌*◌, ◌<◌, ◌^◌, true, List, [], ◌∷◌, length, map, Option, Some, None}
 use Rattle.std.specs.List.{AllByRecursion}
 use Rattle.entry_ref.specs.Records.{Records}
-use Rattle.attr_images.specs.Images.{dictionary_at}
-use Rattle.attr_images.specs.Postings.{index_of}
-use Rattle.attr_index.specs.Index.{Index}
+use Rattle.image_format.specs.Images.{dictionary_at}
+use Rattle.image_format.specs.Postings.{index_of}
+use Rattle.index_model.specs.Index.{Index}
 use Rattle.attr_types.specs.Query.{tree_of, query_trees, and}
 use Rattle.attr_types.specs.declared.field.Field.{Field}
 use Rattle.attr_types.specs.declared.query.Query.{Query}
-use Rattle.attr_index.specs.Sets.{has}
-use Rattle.attr_index.specs.Found.{found}
+use Rattle.index_model.specs.Sets.{has}
+use Rattle.index_model.specs.Found.{found}
 use Rattle.query_eval.specs.Parts.{IsIndexed}
 use Rattle.query_eval.specs.declared.dictionary.Dictionary.{Dictionary}
 

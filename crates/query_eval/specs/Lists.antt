@@ -3,11 +3,11 @@ use Rattle.std.specs.Prelude.{◌≡◌, ℕ, ◌≤◌, ◌&&◌, Bool, List, m
 use Rattle.std.specs.List.{list_all, list_any, AllByRecursion}
 use Rattle.std.specs.Map.{keys_of}
 use Rattle.entry_ref.specs.Records.{Records}
-use Rattle.attr_images.specs.Postings.{list_form, postings_at}
-use Rattle.attr_images.specs.declared.TheConstants.{FIRST_VECTOR}
-use Rattle.attr_index.specs.Found.{found}
-use Rattle.attr_index.specs.Index.{Index}
-use Rattle.attr_index.specs.Sets.{has}
+use Rattle.image_format.specs.Postings.{list_form, postings_at}
+use Rattle.image_format.specs.declared.TheConstants.{FIRST_VECTOR}
+use Rattle.index_model.specs.Found.{found}
+use Rattle.index_model.specs.Index.{Index}
+use Rattle.index_model.specs.Sets.{has}
 use Rattle.attr_types.specs.Query.{tree_of}
 use Rattle.attr_types.specs.declared.query.Query.{Query}
 use Rattle.query_eval.specs.Weights.{IsListWord}

@@ -3,12 +3,12 @@ use Rattle.std.specs.Prelude.{ℕ, List, map}
 use Rattle.std.specs.List.{AllByRecursion}
 use Rattle.entry_ref.specs.Records.{Records}
 use Rattle.tree_read.specs.Trees.{tree_pairs, IsTree}
-use Rattle.attr_images.specs.Postings.{list_form, postings_at, IsDictionaryEntry}
-use Rattle.attr_images.specs.Values.{stored_value}
-use Rattle.attr_index.specs.Index.{Index}
+use Rattle.image_format.specs.Postings.{list_form, postings_at, IsDictionaryEntry}
+use Rattle.image_format.specs.Values.{stored_value}
+use Rattle.index_model.specs.Index.{Index}
 use Rattle.attr_types.specs.Value.{value_cmp}
 use Rattle.attr_types.specs.declared.kind.ValueType.{ValueType}
-use Rattle.attr_index.specs.Postings.{HaveDocNumbers}
+use Rattle.index_model.specs.Postings.{HaveDocNumbers}
 
 -- the values of pairs of a dictionary, each with its list
 abbrev pub index_of_pairs : ValueType → Records → List (ℕ × ℕ) → Index

@@ -2,7 +2,7 @@
 -- specification.
 use Rattle.std.proofs.Common.{◌≡◌, ℕ, Bool, true, false, ◌||◌, ◌&&◌, List, [], ◌++◌, refl, sym, ap, subst, ◌∙◌, nat_eq}
 use Rattle.std.proofs.lemmas.List.Folds.{list_any-append}
-use Rattle.attr_index.specs.Sets.{has, in_words}
+use Rattle.index_model.specs.Sets.{has, in_words}
 use Rattle.query_eval.specs.Takers.{Adds, AddsMeeting}
 
 nothing : (a : Bool) → a ≡ (a || false)

@@ -1,6 +1,6 @@
 -- What the keys of a tree add to documents.
 use Rattle.std.specs.Prelude.{◌≡◌, ℕ, Bool, ◌||◌, ◌&&◌, List}
-use Rattle.attr_index.specs.Sets.{has}
+use Rattle.index_model.specs.Sets.{has}
 
 -- exactly these documents are added
 abbrev pub Adds : (ℕ → Bool) → List ℕ → (ℕ → Bool) → Type 0

@@ -1,8 +1,8 @@
 -- A block of a bit vector in memory.
 use Rattle.std.specs.Prelude.{◌≡◌, ℕ, ◌<◌, ◌+◌, ◌*◌}
 use Rattle.entry_ref.specs.Records.{Records}
-use Rattle.attr_images.specs.declared.TheConstants.{BLOCK_DOCUMENTS}
-use Rattle.attr_index.specs.Sets.{in_words}
+use Rattle.image_format.specs.declared.TheConstants.{BLOCK_DOCUMENTS}
+use Rattle.index_model.specs.Sets.{in_words}
 use Rattle.query_eval.specs.Lists.{list_has}
 use Rattle.query_eval.specs.declared.vectors.Block.{Block}
 

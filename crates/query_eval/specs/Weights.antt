@@ -5,11 +5,11 @@ use Rattle.std.specs.List.{list_any}
 use Rattle.std.specs.Map.{keys_of, lookup}
 use Rattle.std.specs.Ordering.{nat_cmp}
 use Rattle.entry_ref.specs.Records.{Records}
-use Rattle.attr_images.specs.Postings.{list_form, postings_at, IsPostingList}
-use Rattle.attr_index.specs.Index.{Index, list_of}
+use Rattle.image_format.specs.Postings.{list_form, postings_at, IsPostingList}
+use Rattle.index_model.specs.Index.{Index, list_of}
 use Rattle.attr_types.specs.declared.part.Part.{Part}
-use Rattle.attr_index.specs.Postings.{HaveDocNumbers}
-use Rattle.attr_index.specs.Sets.{has}
+use Rattle.index_model.specs.Postings.{HaveDocNumbers}
+use Rattle.index_model.specs.Sets.{has}
 
 -- the weight of a document in a list, or 0 if the list lacks it
 abbrev pub weight_in_list : ℕ → List (ℕ × ℤ) → ℤ

@@ -1,6 +1,6 @@
 //! The answers of an image.
-ghost use Rattle.attr_images.specs.Images.{table_of, IsLawfulImage};
-ghost use Rattle.attr_images.specs.Shapes.{shape_of, types_of};
+ghost use Rattle.image_format.specs.Images.{table_of, IsLawfulImage};
+ghost use Rattle.image_format.specs.Shapes.{shape_of, types_of};
 ghost use Rattle.attr_types.specs.Scores.{scores};
 ghost use Rattle.attr_types.specs.Query.{tree_of};
 ghost use Rattle.attr_types.specs.Table.{hits};

@@ -1,12 +1,12 @@
 //! The documents of a block of a bit vector, word by word.
 ghost use Rattle.std.specs.Prelude.{◌≡◌, ◌<◌, ◌≤◌, ◌/◌, ◌||◌, ℕ, length, true, OnOk};
 ghost use Rattle.attr_types.specs.Lawful.{IsDocNumber};
-ghost use Rattle.attr_images.specs.Postings.{block_documents};
-ghost use Rattle.attr_index.specs.Sets.{has, in_words};
+ghost use Rattle.image_format.specs.Postings.{block_documents};
+ghost use Rattle.index_model.specs.Sets.{has, in_words};
 ghost use Rattle.query_eval.specs.Blocks.{in_word};
 
-use attr_images::{BLOCK_DOCUMENTS, BLOCK_WORDS};
 use attr_types::Doc;
+use image_format::{BLOCK_DOCUMENTS, BLOCK_WORDS};
 use std::alloc::AllocError;
 
 /// The number of documents of a block.

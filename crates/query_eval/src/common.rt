@@ -1,9 +1,9 @@
 //! An `And` of values, by their lists.
 ghost use Rattle.std.specs.Prelude.{◌≡◌, ◌<◌, ◌&&◌, ℕ, length, IfOk, IfSome};
 ghost use Rattle.std.specs.Map.{keys_of};
-ghost use Rattle.attr_images.specs.Postings.{postings_at, tree, IsPostingList};
-ghost use Rattle.attr_index.specs.Postings.{HaveDocNumbers};
-ghost use Rattle.attr_index.specs.Sets.{has};
+ghost use Rattle.image_format.specs.Postings.{postings_at, tree, IsPostingList};
+ghost use Rattle.index_model.specs.Postings.{HaveDocNumbers};
+ghost use Rattle.index_model.specs.Sets.{has};
 ghost use Rattle.query_eval.specs.Indexes.{AreCommon, AreIndexed, indexes_in};
 ghost use Rattle.query_eval.specs.Lists.{all_have, AreInBoth, AreListWords};
 ghost use Rattle.query_eval.specs.Weights.{IsListWord};
@@ -16,10 +16,10 @@ use crate::members::{are_vectors, lists_of, word_of_member};
 use crate::sizes::size_of_list;
 use crate::vectors::common_of_vectors;
 use arena_api::Frozen;
-use attr_images::FIRST_VECTOR;
-use attr_index::Gathered;
 use attr_types::{DocList, Leaf, Query};
 use entry_ref::EntryRef;
+use image_format::FIRST_VECTOR;
+use index_model::Gathered;
 use std::alloc::{AllocError, Global};
 
 /// Returns the documents that are in both trees, by a bit vector of the first. Returns `None` if the bit vector would

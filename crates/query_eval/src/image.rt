@@ -1,6 +1,6 @@
 //! The contents of an image's root record.
 ghost use Rattle.std.specs.Prelude.{◌≡◌, ◌≤◌, ◌<◌, ◌^◌, length, slice_index, IfOk};
-ghost use Rattle.attr_images.specs.Images.{root_words, table_of, IsLawfulImage};
+ghost use Rattle.image_format.specs.Images.{root_words, table_of, IsLawfulImage};
 ghost use Rattle.attr_types.specs.declared.field.TheConstants.{MOST_FIELDS};
 ghost use Rattle.query_eval.specs.Indexes.{HasDictionaries, dictionaries_at};
 

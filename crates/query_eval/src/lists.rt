@@ -2,22 +2,22 @@
 ghost use Rattle.std.specs.Prelude.{◌≡◌, ◌≤◌, ◌++◌, ◌||◌, ◌&&◌, ℕ, map, length, IfOk, OnOk};
 ghost use Rattle.std.specs.Map.{keys_of};
 ghost use Rattle.attr_types.specs.Lawful.{IsDocNumber};
-ghost use Rattle.attr_images.specs.Postings.{list_form, postings_at, short, tree, IsPostingList};
-ghost use Rattle.attr_images.specs.Words.{unpacked};
-ghost use Rattle.attr_index.specs.Gathers.{is_gathered};
-ghost use Rattle.attr_index.specs.Postings.{HaveDocNumbers};
-ghost use Rattle.attr_index.specs.Sets.{has, in_words};
+ghost use Rattle.image_format.specs.Postings.{list_form, postings_at, short, tree, IsPostingList};
+ghost use Rattle.image_format.specs.Words.{unpacked};
+ghost use Rattle.index_model.specs.Gathers.{is_gathered};
+ghost use Rattle.index_model.specs.Postings.{HaveDocNumbers};
+ghost use Rattle.index_model.specs.Sets.{has, in_words};
 
 use crate::kept::{keep_marked, marks_of};
 use crate::takers::{Inserted, Pushed};
 use crate::vectors::{gather_vector, kept_in_vector};
 use arena_api::{Frozen, read};
 use array_store::count;
-use attr_images::{FIRST_VECTOR, MOST_SHORT};
-use attr_index::{DocSet, Gathered, are_many};
 use attr_types::{Doc, DocList};
 use entry_ref::EntryRef;
 use frozen_btree::total;
+use image_format::{FIRST_VECTOR, MOST_SHORT};
+use index_model::{DocSet, Gathered, are_many};
 use std::alloc::{AllocError, Global};
 use tree_read::take_keys;
 

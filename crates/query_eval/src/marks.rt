@@ -2,9 +2,9 @@
 ghost use Rattle.std.specs.Prelude.{◌≡◌, ◌∷◌, ℕ, [], true, IfOk, IfSome, OnOk};
 ghost use Rattle.std.specs.Map.{keys_of};
 ghost use Rattle.attr_types.specs.Lawful.{IsDocNumber};
-ghost use Rattle.attr_images.specs.Postings.{postings_at, tree, IsPostingList};
-ghost use Rattle.attr_index.specs.Postings.{HaveDocNumbers};
-ghost use Rattle.attr_index.specs.Sets.{has, in_words};
+ghost use Rattle.image_format.specs.Postings.{postings_at, tree, IsPostingList};
+ghost use Rattle.index_model.specs.Postings.{HaveDocNumbers};
+ghost use Rattle.index_model.specs.Sets.{has, in_words};
 ghost use Rattle.query_eval.specs.Takers.{Adds};
 
 use crate::kept::{MOST_SPARSE, mark};

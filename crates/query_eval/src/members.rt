@@ -2,12 +2,12 @@
 ghost use Rattle.std.specs.Prelude.{◌≡◌, ◌≤◌, ◌||◌, ℕ, true, IfOk, IfSome};
 ghost use Rattle.std.specs.List.{AllByRecursion};
 ghost use Rattle.std.specs.Map.{keys_of};
-ghost use Rattle.attr_images.specs.Postings.{index_of, list_form, postings_at};
-ghost use Rattle.attr_images.specs.declared.TheConstants.{FIRST_VECTOR};
-ghost use Rattle.attr_index.specs.Found.{found};
-ghost use Rattle.attr_index.specs.Gathers.{is_gathered};
-ghost use Rattle.attr_index.specs.Leaves.{listed, meeting};
-ghost use Rattle.attr_index.specs.Sets.{has};
+ghost use Rattle.image_format.specs.Postings.{index_of, list_form, postings_at};
+ghost use Rattle.image_format.specs.declared.TheConstants.{FIRST_VECTOR};
+ghost use Rattle.index_model.specs.Found.{found};
+ghost use Rattle.index_model.specs.Gathers.{is_gathered};
+ghost use Rattle.index_model.specs.Leaves.{listed, meeting};
+ghost use Rattle.index_model.specs.Sets.{has};
 ghost use Rattle.attr_types.specs.Query.{tree_of, one};
 ghost use Rattle.query_eval.specs.Indexes.{AreIndexed, indexes_in};
 ghost use Rattle.query_eval.specs.Lists.{some_has, AreListWords, AreListsOf};
@@ -19,9 +19,9 @@ use crate::lists::gather_list;
 use crate::vectors::union_of_vectors;
 use crate::words::word_of;
 use arena_api::Frozen;
-use attr_images::FIRST_VECTOR;
-use attr_index::Gathered;
 use attr_types::{Leaf, Query};
+use image_format::FIRST_VECTOR;
+use index_model::Gathered;
 use std::alloc::{AllocError, Global};
 
 /// Returns the word of the list of a leaf that is one value.

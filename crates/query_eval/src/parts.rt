@@ -1,21 +1,21 @@
 //! The parts of a dot product, by a dictionary.
 ghost use Rattle.std.specs.Prelude.{◌≡◌, ◌≤◌, ◌*ℤ◌, ◌^◌, ℕ, List, map, IfOk};
 ghost use Rattle.std.specs.Int.RustNames.{unsigned_abs};
-ghost use Rattle.attr_images.specs.Postings.{index_of};
-ghost use Rattle.attr_index.specs.Changes.{HasItems};
+ghost use Rattle.image_format.specs.Postings.{index_of};
+ghost use Rattle.index_model.specs.Changes.{HasItems};
 ghost use Rattle.attr_types.specs.Scores.{score_of, weight_of};
 ghost use Rattle.attr_types.specs.declared.items.Item.{Item as AnyItem};
-ghost use Rattle.attr_index.specs.Gathers.{is_gathered};
-ghost use Rattle.attr_index.specs.Sets.{Holds};
+ghost use Rattle.index_model.specs.Gathers.{is_gathered};
+ghost use Rattle.index_model.specs.Sets.{Holds};
 ghost use Rattle.query_eval.specs.Parts.{IsIndexed};
 ghost use Rattle.query_eval.specs.Weights.{is_found};
 
 use crate::weights::weight_at;
 use crate::words::{with_value, word_of};
 use arena_api::Frozen;
-use attr_index::Gathered;
 use attr_types::{Doc, Part, Score, ScoreList, Value, ValueType};
 use entry_ref::EntryRef;
+use index_model::Gathered;
 use std::alloc::{AllocError, Global};
 
 /// Adds the documents that have the value of some part to those gathered.

@@ -1,12 +1,12 @@
 //! Queries, by the dictionaries of the attributes.
 ghost use Rattle.std.specs.Prelude.{◌≡◌, ◌||◌, ◌&&◌, ℕ, IfOk, slice_get};
 ghost use Rattle.attr_types.specs.Query.{tree_of, query_trees, and, or, one};
-ghost use Rattle.attr_index.specs.Gathers.{is_gathered};
-ghost use Rattle.attr_index.specs.Sets.{has, Holds};
-ghost use Rattle.attr_index.specs.Found.{found, found_all, is_listed};
-ghost use Rattle.attr_index.specs.Leaves.{listed, meeting};
+ghost use Rattle.index_model.specs.Gathers.{is_gathered};
+ghost use Rattle.index_model.specs.Sets.{has, Holds};
+ghost use Rattle.index_model.specs.Found.{found, found_all, is_listed};
+ghost use Rattle.index_model.specs.Leaves.{listed, meeting};
 ghost use Rattle.query_eval.specs.Parts.{IsIndexed};
-ghost use Rattle.attr_images.specs.Postings.{index_of};
+ghost use Rattle.image_format.specs.Postings.{index_of};
 ghost use Rattle.query_eval.specs.Indexes.{AreIndexed, AreMatched, IsMatched, indexes_in};
 
 use crate::common::common_of_values;
@@ -16,8 +16,8 @@ use crate::sizes::shortest_of;
 use crate::walks::{gather_every, gather_leaf};
 use crate::words::{kept_with, with_value};
 use arena_api::Frozen;
-use attr_index::Gathered;
 use attr_types::{DocList, Leaf, Query};
+use index_model::Gathered;
 use std::alloc::{AllocError, Global};
 
 /// Adds the documents that have a value in some attribute to those gathered.

@@ -1,6 +1,6 @@
 //! Which member of an `And` has the fewest documents, as far as dictionaries and the heads of lists tell.
 ghost use Rattle.std.specs.Prelude.{◌≡◌, ◌<◌, length};
-ghost use Rattle.attr_images.specs.Postings.{list_form, IsPostingList};
+ghost use Rattle.image_format.specs.Postings.{list_form, IsPostingList};
 ghost use Rattle.query_eval.specs.Parts.{IsIndexed};
 ghost use Rattle.query_eval.specs.Indexes.{AreIndexed};
 
@@ -8,10 +8,10 @@ use crate::dictionary::Dictionary;
 use crate::words::word_of;
 use arena_api::Frozen;
 use array_store::count;
-use attr_images::{BLOCK_DOCUMENTS, FIRST_VECTOR};
 use attr_types::{Leaf, Query, Value, ValueType};
 use entry_ref::EntryRef;
 use frozen_btree::total;
+use image_format::{BLOCK_DOCUMENTS, FIRST_VECTOR};
 
 /// Returns the number of documents of a list, or an upper bound for a bit vector.
 pub fn size_of_list<const OFFSET_BITS: u32, F: Frozen<OFFSET_BITS>>(

@@ -2,10 +2,10 @@
 ghost use Rattle.std.specs.Prelude.{◌≡◌, Some, IfOk};
 ghost use Rattle.tree_read.specs.Trees.{tree_pairs};
 ghost use Rattle.tree_read.specs.SearchPlaces.{IsAt, pairs_from};
-ghost use Rattle.attr_images.specs.Postings.{index_of};
+ghost use Rattle.image_format.specs.Postings.{index_of};
 ghost use Rattle.attr_types.specs.declared.query.Leaf.{Leaf as AnyLeaf};
 ghost use Rattle.attr_types.specs.declared.value.Value.TheVariants as values;
-ghost use Rattle.attr_index.specs.Leaves.{from, meeting, run, sought};
+ghost use Rattle.index_model.specs.Leaves.{from, meeting, run, sought};
 ghost use Rattle.query_eval.specs.Parts.{IsIndexed, AreIndexPairs, index_of_pairs};
 
 use crate::values::is_of_type;

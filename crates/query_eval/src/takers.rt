@@ -1,11 +1,11 @@
 //! Receivers of the keys of a posting tree, which are its documents.
 ghost use Rattle.std.specs.Prelude.{◌∷◌, [], OnOk};
 ghost use Rattle.attr_types.specs.Lawful.{IsDocNumber};
-ghost use Rattle.attr_index.specs.Sets.{has, in_words};
+ghost use Rattle.index_model.specs.Sets.{has, in_words};
 ghost use Rattle.query_eval.specs.Takers.{Adds};
 
-use attr_index::DocSet;
 use attr_types::Doc;
+use index_model::DocSet;
 use std::alloc::AllocError;
 use tree_read::TakesKeys;
 

@@ -1,13 +1,13 @@
 //! Where a stored value is relative to the values that meet a leaf.
 ghost use Rattle.std.specs.Prelude.{◌≡◌, IfOk};
-ghost use Rattle.attr_images.specs.Values.{stored_value, IsValueRecord};
+ghost use Rattle.image_format.specs.Values.{stored_value, IsValueRecord};
 ghost use Rattle.attr_types.specs.Fitting.{is_of_type as fits_type};
-ghost use Rattle.attr_index.specs.Leaves.{stands_before, stands_beyond};
+ghost use Rattle.index_model.specs.Leaves.{stands_before, stands_beyond};
 
 use arena_api::Frozen;
-use attr_index::{is_before, is_beyond};
 use attr_types::{Leaf, Value, ValueType};
 use entry_ref::EntryRef;
+use index_model::{is_before, is_beyond};
 use std::alloc::{AllocError, Global};
 use unique_store::get;
 

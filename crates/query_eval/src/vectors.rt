@@ -2,22 +2,22 @@
 ghost use Rattle.std.specs.Prelude.{◌≡◌, ◌<◌, ◌≤◌, ◌+◌, ◌*◌, ◌/◌, ◌||◌, ◌&&◌, ℕ, nat_eq, false, length, IfOk, OnOk};
 ghost use Rattle.std.specs.List.{AllByRecursion};
 ghost use Rattle.tree_read.specs.SearchPlaces.{IsAt, pairs_from};
-ghost use Rattle.attr_images.specs.Postings.{block_documents};
-ghost use Rattle.attr_images.specs.declared.TheConstants.{BLOCK_DOCUMENTS};
-ghost use Rattle.attr_index.specs.Gathers.{is_gathered};
-ghost use Rattle.attr_index.specs.Sets.{has, in_words};
+ghost use Rattle.image_format.specs.Postings.{block_documents};
+ghost use Rattle.image_format.specs.declared.TheConstants.{BLOCK_DOCUMENTS};
+ghost use Rattle.index_model.specs.Gathers.{is_gathered};
+ghost use Rattle.index_model.specs.Sets.{has, in_words};
 ghost use Rattle.query_eval.specs.Blocks.{IsDocumentBlock, documents_of};
 ghost use Rattle.query_eval.specs.Lists.{list_has, all_have, some_has, IsVectorWord, AreVectorWords};
 ghost use Rattle.query_eval.specs.Vectors.{IsInHand};
 
 use crate::blocks::{BLOCK_SIZE, has_bit, push_block};
 use arena_api::{Frozen, read};
-use attr_images::{BLOCK_WORDS, FIRST_VECTOR};
-use attr_index::Gathered;
 use attr_types::{Doc, DocList};
 use bit_vector::{block_and, block_or};
 use entry_ref::EntryRef;
 use frozen_btree::{Cursor, NumberKey, find};
+use image_format::{BLOCK_WORDS, FIRST_VECTOR};
+use index_model::Gathered;
 use std::alloc::{AllocError, Global};
 
 /// The number of blocks with one bit for each document.

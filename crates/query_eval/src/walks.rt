@@ -1,20 +1,20 @@
 //! The documents of the values from a position in a dictionary on.
 ghost use Rattle.std.specs.Prelude.{◌≡◌, ◌||◌, ℕ, IfOk, OnOk};
 ghost use Rattle.tree_read.specs.SearchPlaces.{IsAt, pairs_from};
-ghost use Rattle.attr_images.specs.Postings.{index_of};
-ghost use Rattle.attr_index.specs.Gathers.{is_gathered};
-ghost use Rattle.attr_index.specs.Sets.{has};
-ghost use Rattle.attr_index.specs.Leaves.{from, listed, meeting, run};
+ghost use Rattle.image_format.specs.Postings.{index_of};
+ghost use Rattle.index_model.specs.Gathers.{is_gathered};
+ghost use Rattle.index_model.specs.Sets.{has};
+ghost use Rattle.index_model.specs.Leaves.{from, listed, meeting, run};
 ghost use Rattle.query_eval.specs.Parts.{IsIndexed, AreIndexPairs, index_of_pairs};
 
 use crate::lists::gather_list;
 use crate::starts::start_of;
 use crate::values::{is_before_at, is_beyond_at};
 use arena_api::Frozen;
-use attr_index::Gathered;
 use attr_types::{Leaf, ValueType};
 use entry_ref::EntryRef;
 use frozen_btree::Cursor;
+use index_model::Gathered;
 use std::alloc::{AllocError, Global};
 
 /// Moves past the values before those of the leaf.

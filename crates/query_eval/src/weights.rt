@@ -1,16 +1,16 @@
 //! The weight of one document in a list, by the form of the list.
 ghost use Rattle.std.specs.Int.{bit_at};
 ghost use Rattle.std.specs.Prelude.{◌≡◌, ◌<◌, map, nat_eq, pos, if◌then◌else◌};
-ghost use Rattle.attr_images.specs.Postings.{list_form, postings_at, short, tree, vector, IsPostingList};
-ghost use Rattle.attr_images.specs.Words.{unpacked};
+ghost use Rattle.image_format.specs.Postings.{list_form, postings_at, short, tree, vector, IsPostingList};
+ghost use Rattle.image_format.specs.Words.{unpacked};
 ghost use Rattle.query_eval.specs.Weights.{weight_in_list};
 
 use crate::blocks::BLOCK_SIZE;
 use arena_api::{Frozen, read};
 use array_store::count;
-use attr_images::{FIRST_VECTOR, MOST_SHORT, WEIGHT_BASE};
 use entry_ref::EntryRef;
 use frozen_btree::{NumberKey, find};
+use image_format::{FIRST_VECTOR, MOST_SHORT, WEIGHT_BASE};
 
 fn weight_among(words: &[u64], doc: u32) -> i32
     ensures { result ≡ weight_in_list doc (map unpacked words.now) }

@@ -1,20 +1,20 @@
 //! The list of a value, by a dictionary.
 ghost use Rattle.std.specs.Prelude.{◌≡◌, ◌||◌, ◌&&◌, ℕ, IfOk};
 ghost use Rattle.std.specs.Map.{keys_of};
-ghost use Rattle.attr_images.specs.Postings.{index_of};
-ghost use Rattle.attr_index.specs.Gathers.{is_gathered};
-ghost use Rattle.attr_index.specs.Index.{list_of};
-ghost use Rattle.attr_index.specs.Sets.{has};
+ghost use Rattle.image_format.specs.Postings.{index_of};
+ghost use Rattle.index_model.specs.Gathers.{is_gathered};
+ghost use Rattle.index_model.specs.Index.{list_of};
+ghost use Rattle.index_model.specs.Sets.{has};
 ghost use Rattle.query_eval.specs.Parts.{IsIndexed};
 ghost use Rattle.query_eval.specs.Weights.{word_list, IsListWord};
 
 use crate::lists::{gather_list, keep_list};
 use crate::values::is_of_type;
 use arena_api::Frozen;
-use attr_index::Gathered;
 use attr_types::{DocList, Value, ValueType};
 use entry_ref::EntryRef;
 use enum_dictionary::find;
+use index_model::Gathered;
 use std::alloc::{AllocError, Global};
 
 /// Returns the word of a value's list, if the dictionary has the value.

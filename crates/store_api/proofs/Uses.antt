@@ -1,7 +1,7 @@
 -- Statuses by cases: which are in use, and what the calls make of them.
 use Rattle.std.proofs.Common.{◌≡◌, ◌≢◌, ℕ, ◌<◌, ◌≤◌, Bool, true, false, cond, refl, sym, ap, ◌∙◌, arith, inl, inr, nat_lt, ne_eqb, true≢false}
 use Rattle.std.proofs.lemmas.Bool.{cases_Bool, eq-eqb}
-use Rattle.list_facts.specs.Counting.{one_if}
+use Rattle.list_lemmas.specs.Counting.{one_if}
 use Rattle.arena_api.specs.Works.{Tag}
 use Rattle.store_api.specs.Statuses.{Status, in_use, has_record, is_open, is_taken, is_let_go, is_free_status, can_become_free, after_drop, after_accept, after_commit, free_below, with_status}
 use Rattle.store_api.specs.Ledgers.{Ledger}

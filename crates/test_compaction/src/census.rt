@@ -1,8 +1,8 @@
 //! Which records the attributes reach in each buffer, by role.
-use attr_images::FIRST_VECTOR;
 use attr_types::{Field, Kind, ValueType};
 use check_images::{CheckFault, Keys, check_tree};
 use entry_ref::{word_in, words_at};
+use image_format::FIRST_VECTOR;
 use std::alloc::{AllocError, Global};
 use std::collections::BTreeMap;
 use tree_read::FIRST_VALUE;

@@ -2,8 +2,8 @@
 use crate::ended::Ended;
 use crate::script::{Script, follow_one};
 use crate::turn::{Answer, Stepped};
-use attr_plain::PlainTable;
 use attr_types::Fields;
+use plain_model::PlainTable;
 use std::alloc::{AllocError, Global};
 
 /// The parameters of a run.

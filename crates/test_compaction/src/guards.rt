@@ -6,9 +6,9 @@ ghost use Rattle.attr_types.specs.declared.field.TheConstants.{MOST_FIELDS};
 use crate::course::Course;
 use crate::seats::Readers;
 use crate::steps::{commit_now, take_steps};
-use attr_images::AttrLayout;
 use attr_types::Fields;
 use attribute_kinds::Attribute;
+use image_format::AttrLayout;
 use std::alloc::{AllocError, Global};
 use store_api::Store;
 

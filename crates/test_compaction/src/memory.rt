@@ -1,7 +1,7 @@
 //! The memory of a run: the one that has readers beside it.
 ghost use Rattle.std.specs.Prelude.{◌≡◌, ◌<◌, ◌≤◌, length};
 ghost use Rattle.arena_api.specs.Calls.{IsFresh};
-ghost use Rattle.attr_images.specs.Shapes.{shape_of, types_of};
+ghost use Rattle.image_format.specs.Shapes.{shape_of, types_of};
 ghost use Rattle.attr_types.specs.declared.field.TheConstants.{MOST_FIELDS};
 ghost use Rattle.word_arena.specs.Knows.{view_of};
 ghost use Rattle.word_arena.specs.Ruled.{writer_of};
@@ -10,8 +10,8 @@ use crate::course::{Course, Load};
 use crate::outcome::Outcome;
 use crate::run::{finish, open, play_out, work_of};
 use crate::seats::Readers;
-use attr_images::{AttrLayout, shape_of};
 use attr_types::Fields;
+use image_format::{AttrLayout, shape_of};
 use std::alloc::{AllocError, Global};
 use word_arena::{Arena, Config, Limits, Writer};
 

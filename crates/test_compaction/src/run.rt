@@ -1,7 +1,7 @@
 //! A run: operations with commits between them, followed by compactions.
 ghost use Rattle.std.specs.Prelude.{◌≡◌, ◌<◌, ◌≤◌, length, IfOk};
 ghost use Rattle.arena_api.specs.Calls.{IsFresh};
-ghost use Rattle.attr_images.specs.Shapes.{shape_of, types_of};
+ghost use Rattle.image_format.specs.Shapes.{shape_of, types_of};
 ghost use Rattle.attr_types.specs.declared.field.TheConstants.{MOST_FIELDS};
 ghost use Rattle.word_arena.specs.Knows.{view_of};
 ghost use Rattle.word_arena.specs.Ruled.{writer_of};
@@ -15,10 +15,10 @@ use crate::steps::{load_all, take_steps};
 use crate::watch::Watch;
 use crate::watched::Watched;
 use arena_api::Work;
-use attr_images::AttrLayout;
 use attr_types::Fields;
 use attribute_kinds::Attribute;
 use entry_store::EntryStore;
+use image_format::AttrLayout;
 use std::alloc::{AllocError, Global};
 use store_api::Store;
 use word_arena::Writer;

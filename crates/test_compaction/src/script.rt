@@ -1,7 +1,7 @@
 //! The operations of a row, by their number.
 use crate::values::document_at;
-use attr_plain::PlainTable;
 use attr_types::{Doc, Field, Op, fits};
+use plain_model::PlainTable;
 use std::alloc::{AllocError, Global};
 
 /// The operations are puts to the documents 1 to `puts`; removes of those from 1 to `last` that `keep` does not

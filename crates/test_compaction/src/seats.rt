@@ -1,8 +1,8 @@
 //! Readers of a running memory before anything is stored, and what they read under their guards.
 ghost use Rattle.std.specs.Prelude.{◌≡◌, ◌≤◌, length, IfOk, IfSome};
 ghost use Rattle.arena_api.specs.Calls.{IsFresh};
-ghost use Rattle.attr_images.specs.Images.{IsLawfulImage};
-ghost use Rattle.attr_images.specs.Shapes.{shape_of, types_of};
+ghost use Rattle.image_format.specs.Images.{IsLawfulImage};
+ghost use Rattle.image_format.specs.Shapes.{shape_of, types_of};
 ghost use Rattle.attr_types.specs.declared.field.TheConstants.{MOST_FIELDS};
 ghost use Rattle.entry_ref.specs.Images.{words_at};
 ghost use Rattle.word_arena.specs.Knows.{view_of};
@@ -11,8 +11,8 @@ ghost use Rattle.word_arena.specs.Ruled.{seen_image, reader_of, writer_of};
 use crate::asking::ask_all;
 use crate::heard::Heard;
 use crate::sights::Sight;
-use attr_images::{AttrLayout, shape_of};
 use attr_types::Fields;
+use image_format::{AttrLayout, shape_of};
 use std::alloc::{AllocError, Global};
 use word_arena::{Guarded, Reader, Writer};
 

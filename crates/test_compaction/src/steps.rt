@@ -4,9 +4,9 @@ ghost use Rattle.std.specs.Prelude.{◌≡◌};
 use crate::course::{Course, Next};
 use crate::script::{lowest, op_at};
 use crate::turn::{Answer, Stepped, apply_one, commit_one, step_one};
-use attr_images::AttrLayout;
 use attr_types::Fields;
 use attribute_kinds::Attribute;
+use image_format::AttrLayout;
 use std::alloc::{AllocError, Global};
 use store_api::Store;
 

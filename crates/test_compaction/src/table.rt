@@ -3,10 +3,10 @@
 ghost use Rattle.std.specs.Prelude.{◌≤◌, length};
 ghost use Rattle.attr_types.specs.declared.field.TheConstants.{MOST_FIELDS};
 
-use attr_plain::PlainTable;
 use attr_types::{Field, FieldItems, Fields, Item, Items, Kind, MOST_FIELDS, Value};
 use check_images::{CheckFault, Keys, check_image, check_tree, stored_long, stored_text};
 use entry_ref::{word_in, words_at};
+use plain_model::PlainTable;
 use std::alloc::{AllocError, Global};
 use std::collections::BTreeMap;
 use test_kit::is_same_table;

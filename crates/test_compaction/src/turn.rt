@@ -1,9 +1,9 @@
 //! One operation, one commit and one step of a compaction of attributes in a store.
 ghost use Rattle.std.specs.Prelude.{◌≡◌};
 
-use attr_images::AttrLayout;
 use attr_types::{Applied, Fields, Op, fits};
 use attribute_kinds::{AttrError, Attribute, Compacted};
+use image_format::AttrLayout;
 use std::alloc::{AllocError, Global};
 use store_api::Store;
 

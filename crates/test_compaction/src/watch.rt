@@ -4,10 +4,10 @@ use crate::census::{Census, take};
 use crate::course::Load;
 use crate::script::{Script, follow_one};
 use crate::table::{is_lawful, reads_as};
-use attr_plain::PlainTable;
 use attr_types::Fields;
 use check_images::CheckFault;
 use entry_ref::{word_in, words_at};
+use plain_model::PlainTable;
 use std::alloc::{AllocError, Global};
 use std::collections::BTreeMap;
 

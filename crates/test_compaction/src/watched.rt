@@ -13,8 +13,8 @@ ghost use Rattle.word_arena.specs.Ruled.{start_in, writer_of};
 use crate::watch::Watch;
 use crate::words::Words;
 use arena_api::{Advance, Frozen, Oldest, Work};
-use attr_images::AttrLayout;
 use entry_ref::{EntryRef, Layout};
+use image_format::AttrLayout;
 use std::alloc::Global;
 use word_arena::{Home, Writer};
 

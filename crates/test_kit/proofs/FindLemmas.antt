@@ -8,7 +8,7 @@ use Rattle.std.specs.declared.cmp.Ordering.{Ordering}
 use Rattle.std.specs.declared.cmp.Ordering.TheVariants.{Less, Equal, Greater}
 use Rattle.std.specs.Ordering.{nat_cmp, is_eq, MatchOrdering}
 use Rattle.tree_read.specs.Pairs.{choose, lookup_pair}
-use Rattle.attr_images.specs.Words.{weight_in_bits}
+use Rattle.image_format.specs.Words.{weight_in_bits}
 use Rattle.posting_store.specs.Walks.{first_doc}
 use Rattle.posting_store.proofs.ItemLemmas.{cmp_same}
 use Rattle.posting_store.proofs.PairLemmas.{weighed, against}

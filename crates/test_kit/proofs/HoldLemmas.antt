@@ -9,8 +9,8 @@ use Rattle.store_api.specs.Parts.{Owns, After, times, uses}
 use Rattle.store_api.proofs.PartLemmas.{all-owns, all-then}
 use Rattle.store_api.proofs.UnitLemmas.{unit-accepts, accept-stays, undone}
 use Rattle.store_api.proofs.Uses.{uses-out}
-use Rattle.attr_images.specs.Postings.{index_of}
-use Rattle.attr_index.specs.Index.{Index}
+use Rattle.image_format.specs.Postings.{index_of}
+use Rattle.index_model.specs.Index.{Index}
 use Rattle.attr_types.specs.declared.kind.ValueType.{ValueType}
 use Rattle.value_index.specs.Changes.{MakesIndex}
 use Rattle.value_index.specs.Forms.{IsPlainIndex}

@@ -2,8 +2,8 @@ ghost use Rattle.std.specs.Prelude.{◌≡◌, ◌/◌, ◌%◌, IsSome, IsTrue}
 ghost use Rattle.std.specs.BTreeMap.{is_at};
 ghost use Rattle.std.specs.Map.{lookup};
 ghost use Rattle.std.specs.Ordering.{nat_cmp};
-ghost use Rattle.attr_images.specs.Postings.{index_of};
-ghost use Rattle.attr_index.specs.Index.{list_of};
+ghost use Rattle.image_format.specs.Postings.{index_of};
+ghost use Rattle.index_model.specs.Index.{list_of};
 ghost use Rattle.attr_types.specs.Value.{type_of};
 ghost use Rattle.posting_store.specs.Lists.{list_at, IsList, IsPlain};
 ghost use Rattle.posting_store.specs.Walks.{postings_from, first_doc, HasPosting, IsListPlace};

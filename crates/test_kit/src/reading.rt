@@ -1,7 +1,7 @@
 ghost use Rattle.std.specs.Prelude.{◌≡◌, map, IfOk};
-ghost use Rattle.attr_images.specs.Postings.{index_of};
-ghost use Rattle.attr_images.specs.Values.{stored_value, IsValueRecord};
-ghost use Rattle.attr_index.specs.Index.{list_of};
+ghost use Rattle.image_format.specs.Postings.{index_of};
+ghost use Rattle.image_format.specs.Values.{stored_value, IsValueRecord};
+ghost use Rattle.index_model.specs.Index.{list_of};
 ghost use Rattle.attr_types.specs.Value.{type_of};
 ghost use Rattle.posting_store.specs.Lists.{list_at, IsList, IsPlain};
 ghost use Rattle.value_index.specs.Forms.{IsPlainIndex};

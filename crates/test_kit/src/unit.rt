@@ -2,8 +2,8 @@ ghost use Rattle.std.specs.Prelude.{◌≡◌, IfOk, OnErr, IsSome};
 ghost use Rattle.std.specs.BTreeMap.{is_at};
 ghost use Rattle.std.specs.Map.{lookup};
 ghost use Rattle.std.specs.Ordering.{nat_cmp};
-ghost use Rattle.attr_images.specs.Postings.{index_of};
-ghost use Rattle.attr_index.specs.Index.{list_of, with_posting, without_posting};
+ghost use Rattle.image_format.specs.Postings.{index_of};
+ghost use Rattle.index_model.specs.Index.{list_of, with_posting, without_posting};
 ghost use Rattle.attr_types.specs.Value.{type_of};
 ghost use Rattle.test_kit.specs.Holds.{HoldsIndex};
 

@@ -2,7 +2,7 @@ ghost use Rattle.std.specs.Prelude.{◌≡◌, ◌↔◌, [], map, true, IfOk, O
 ghost use Rattle.std.specs.BTreeMap.{is_at};
 ghost use Rattle.std.specs.Map.{lookup};
 ghost use Rattle.std.specs.Ordering.{nat_cmp};
-ghost use Rattle.attr_index.specs.Index.{list_of, with_posting, without_posting};
+ghost use Rattle.index_model.specs.Index.{list_of, with_posting, without_posting};
 ghost use Rattle.attr_types.specs.Value.{type_of};
 ghost use Rattle.store_api.specs.Ledgers.{IsNew};
 ghost use Rattle.test_kit.specs.Holds.{as_listed};
@@ -26,7 +26,7 @@ pub struct ValueLists<const OFFSET_BITS: u32, S: Store<OFFSET_BITS>> {
 }
 
 impl<const OFFSET_BITS: u32, S: Store<OFFSET_BITS>> Model for ValueLists<OFFSET_BITS, S> {
-    ghost use Rattle.attr_images.specs.Postings.{index_of};
+    ghost use Rattle.image_format.specs.Postings.{index_of};
     ghost use Rattle.test_kit.specs.Holds.{ListsView, HoldsIndex};
 
     ghost Value = { ListsView };

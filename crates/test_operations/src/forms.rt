@@ -1,8 +1,8 @@
 //! The forms of the lists of an image's first attribute, as its records have them.
-use attr_images::FIRST_VECTOR;
 use attr_types::{Field, ValueType};
 use check_images::{CheckFault, Keys, check_tree, stored_long, stored_text};
 use entry_ref::{word_in, words_at};
+use image_format::FIRST_VECTOR;
 use std::alloc::{AllocError, Global};
 use std::collections::BTreeMap;
 

@@ -1,7 +1,7 @@
 //! The answers of the last commit of attributes, beside a plain table.
 ghost use Rattle.std.specs.Prelude.{◌≡◌, ◌≤◌, length};
-ghost use Rattle.attr_images.specs.Images.{IsLawfulImage};
-ghost use Rattle.attr_images.specs.Shapes.{shape_of, types_of};
+ghost use Rattle.image_format.specs.Images.{IsLawfulImage};
+ghost use Rattle.image_format.specs.Shapes.{shape_of, types_of};
 ghost use Rattle.attr_types.specs.declared.field.TheConstants.{MOST_FIELDS};
 
 use crate::ask::{one_query, parts_of};
@@ -9,10 +9,10 @@ use crate::counts::Told;
 use crate::make::Sizes;
 use crate::turn::Noted;
 use arena_api::{Frozen, Work};
-use attr_plain::PlainTable;
 use attr_types::{Doc, Fields, Parts, Query, Score, scores_of};
 use check_images::{CheckFault, check_image};
 use entry_ref::{EntryRef, word_in, words_at};
+use plain_model::PlainTable;
 use query_eval::{documents, hits, scores};
 use std::alloc::{AllocError, Global};
 use std::collections::BTreeMap;

@@ -1,7 +1,7 @@
 //! Episodes of operations. Each begins without documents, and at its end the last commit is asked.
 ghost use Rattle.std.specs.Prelude.{◌≡◌, ◌<◌, ◌≤◌, length};
-ghost use Rattle.attr_images.specs.Images.{IsLawfulImage};
-ghost use Rattle.attr_images.specs.Shapes.{shape_of, types_of};
+ghost use Rattle.image_format.specs.Images.{IsLawfulImage};
+ghost use Rattle.image_format.specs.Shapes.{shape_of, types_of};
 ghost use Rattle.attr_types.specs.declared.field.TheConstants.{MOST_FIELDS};
 
 use crate::counts::Told;
@@ -11,10 +11,10 @@ use crate::turn::{
     Answer, Committed, Noted, apply_one, apply_plain, close, commit_one, new_attribute, new_plain,
 };
 use arena_api::Work;
-use attr_images::AttrLayout;
-use attr_plain::PlainTable;
 use attr_types::{Applied, Fields, Op};
 use attribute_kinds::{Attribute, Published};
+use image_format::AttrLayout;
+use plain_model::PlainTable;
 use std::alloc::{AllocError, Global};
 use store_api::Store;
 use test_kit::Random;

@@ -1,17 +1,17 @@
 //! One operation on attributes in a store and on the plain table.
 ghost use Rattle.std.specs.Prelude.{◌≡◌, ◌<◌, ◌≤◌, length, IfOk};
 ghost use Rattle.arena_api.specs.Calls.{IsFresh};
-ghost use Rattle.attr_images.specs.Images.{IsLawfulImage};
-ghost use Rattle.attr_images.specs.Shapes.{shape_of, types_of};
+ghost use Rattle.image_format.specs.Images.{IsLawfulImage};
+ghost use Rattle.image_format.specs.Shapes.{shape_of, types_of};
 ghost use Rattle.attr_types.specs.declared.field.TheConstants.{MOST_FIELDS};
 
 use arena_api::{Frozen, Work};
-use attr_images::{AttrLayout, shape_of};
-use attr_plain::PlainTable;
 use attr_types::{Applied, Fields, Op, fits};
 use attribute_kinds::{AttrError, Attribute, Published, committed_work};
 use entry_store::EntryStore;
+use image_format::{AttrLayout, shape_of};
 use mem_work::MemWork;
+use plain_model::PlainTable;
 use std::alloc::{AllocError, Global};
 use std::collections::BTreeMap;
 use store_api::Store;

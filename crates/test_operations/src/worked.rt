@@ -1,8 +1,8 @@
 //! Operations of a feed on attributes without documents, in the order of a row's lines, and the answers of their last
 //! commit.
 ghost use Rattle.std.specs.Prelude.{◌≡◌, ◌<◌, ◌≤◌, length};
-ghost use Rattle.attr_images.specs.Images.{IsLawfulImage};
-ghost use Rattle.attr_images.specs.Shapes.{shape_of, types_of};
+ghost use Rattle.image_format.specs.Images.{IsLawfulImage};
+ghost use Rattle.image_format.specs.Shapes.{shape_of, types_of};
 ghost use Rattle.attr_types.specs.declared.field.TheConstants.{MOST_FIELDS};
 
 use crate::ask::alone;
@@ -10,13 +10,13 @@ use crate::forms::push_forms;
 use crate::told::{count_changed, push_answer, push_commit, push_documents, push_table};
 use crate::turn::{Noted, apply_one, close, commit_one, new_attribute};
 use arena_api::{Frozen, Work};
-use attr_images::AttrLayout;
 use attr_io::SliceSource;
 use attr_types::{Field, Fields, Op, Ops, Query};
 use attribute_kinds::{Attribute, Published};
 use check_images::{CheckFault, check_image};
 use entry_ref::{EntryRef, word_in, words_at};
 use feed_reader::{FeedError, read_feed};
+use image_format::AttrLayout;
 use query_eval::hits;
 use query_text::parse_query;
 use std::alloc::{AllocError, Global};

@@ -4,7 +4,7 @@ use Rattle.atomic_table.specs.Seated.{TableId}
 use Rattle.arena_api.specs.Calls.{IsFresh}
 use Rattle.gen_core.specs.declared.views.WriterView.{WriterView}
 use Rattle.word_arena.specs.Knows.{view_of}
-use Rattle.attr_images.specs.Shapes.{shape_of, types_of}
+use Rattle.image_format.specs.Shapes.{shape_of, types_of}
 use Rattle.attr_types.specs.declared.field.Field.{Field}
 use Rattle.attr_types.specs.declared.field.TheConstants.{MOST_FIELDS}
 

@@ -1,11 +1,10 @@
 //! Calls that are repeated after memory was refused.
 ghost use Rattle.std.specs.Prelude.{◌≡◌, ◌<◌, ◌^◌, ◌≤◌, length};
-ghost use Rattle.attr_images.specs.Images.{IsLawfulImage};
-ghost use Rattle.attr_images.specs.Shapes.{shape_of, types_of};
+ghost use Rattle.image_format.specs.Images.{IsLawfulImage};
+ghost use Rattle.image_format.specs.Shapes.{shape_of, types_of};
 ghost use Rattle.attr_types.specs.declared.field.TheConstants.{MOST_FIELDS};
 
 use arena_api::Frozen;
-use attr_images::AttrLayout;
 use attr_io::SliceSource;
 use attr_saver::{LoadError, Saved, read_saved};
 use attr_types::{
@@ -14,6 +13,7 @@ use attr_types::{
 use attribute_kinds::{AttrError, Attribute};
 use entry_ref::EntryRef;
 use feed_reader::{FeedError, read_feed};
+use image_format::AttrLayout;
 use query_eval::{hits, scores};
 use query_text::parse_ask;
 use std::alloc::{AllocError, Global};

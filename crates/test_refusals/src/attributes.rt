@@ -1,15 +1,15 @@
 //! One attribute of longs over a running memory: its operations and commits.
 ghost use Rattle.std.specs.Prelude.{◌≡◌, length, IfOk, OnOk};
-ghost use Rattle.attr_images.specs.Shapes.{shape_of, types_of};
+ghost use Rattle.image_format.specs.Shapes.{shape_of, types_of};
 ghost use Rattle.word_arena.specs.Ruled.{reader_of, writer_of};
 ghost use Rattle.test_refusals.specs.New.{IsNewWriter};
 
 use arena_api::{Advance, Oldest};
-use attr_images::AttrLayout;
 use attr_types::{
     Doc, Field, FieldItems, Fields, Item, Items, Kind, Name, Op, Value, ValueType, fits,
 };
 use attribute_kinds::{AttrError, Attribute, CommitInfo};
+use image_format::AttrLayout;
 use std::alloc::{AllocError, Global};
 use store_api::Store;
 use test_kit::push_number;

@@ -1,16 +1,16 @@
 //! Puts before a guard, under it, and after its release.
 ghost use Rattle.std.specs.Prelude.{◌≡◌, ◌<◌, ◌≤◌, ◌^◌, length};
 ghost use Rattle.attr_types.specs.declared.field.TheConstants.{MOST_FIELDS};
-ghost use Rattle.attr_images.specs.Shapes.{shape_of, types_of};
+ghost use Rattle.image_format.specs.Shapes.{shape_of, types_of};
 ghost use Rattle.word_arena.specs.Ruled.{reader_of, writer_of};
 ghost use Rattle.test_refusals.specs.New.{IsNewWriter};
 
 use crate::attributes::{NoRoom, commit, compact, one_field, put, seat_in, tell_commit};
 use crate::lost::lose;
 use crate::steps::{Steps, follow, tell_offset};
-use attr_images::{AttrLayout, shape_of};
 use attr_types::Fields;
 use attribute_kinds::Attribute;
+use image_format::{AttrLayout, shape_of};
 use std::alloc::{AllocError, Global};
 use store_api::Store;
 use word_arena::{Arena, Config, Guarded, Limits, Reader, Writer};
@@ -34,7 +34,7 @@ pub struct Load {
 
 /// How many of the puts were committed, and why no more.
 #[derive(Clone, Copy, Drop)]
-pub struct Came {
+pub struct RunResult {
     pub committed: u32,
     pub full: Option<NoRoom>,
 }
@@ -42,9 +42,9 @@ pub struct Came {
 /// What was committed before the guard, under it and after it, and the guard's commit.
 #[derive(Clone, Copy, Drop)]
 pub struct Told {
-    pub before: Came,
-    pub under: Came,
-    pub after: Came,
+    pub before: RunResult,
+    pub under: RunResult,
+    pub after: RunResult,
     pub commit: u32,
 }
 
@@ -99,7 +99,7 @@ fn put_all<const OFFSET_BITS: u32, S: Store<OFFSET_BITS, Layout = AttrLayout>>(
     load: Load,
     above: u32,
     last: u32,
-) -> Result<Came, AllocError>
+) -> Result<RunResult, AllocError>
     requires same { attribute.old.fields ≡ fields.now }
     ensures same { attribute.new.fields ≡ fields.now }
 {
@@ -108,13 +108,13 @@ fn put_all<const OFFSET_BITS: u32, S: Store<OFFSET_BITS, Layout = AttrLayout>>(
         let number = i.saturating_add(1);
         let full = put_next(alloc, attribute, fields, load, number)?;
         if full.is_some() {
-            return Ok(Came { committed, full });
+            return Ok(RunResult { committed, full });
         }
         if number % load.batch.max(1) == 0 {
             committed = number;
         }
     }
-    Ok(Came {
+    Ok(RunResult {
         committed,
         full: None,
     })
@@ -128,7 +128,7 @@ fn put_under<const OFFSET_BITS: u32, S: Store<OFFSET_BITS, Layout = AttrLayout>>
     fields: &Fields,
     load: Load,
     above: u32,
-) -> Result<Came, AllocError>
+) -> Result<RunResult, AllocError>
     requires same { attribute.old.fields ≡ fields.now }
     ensures same { attribute.new.fields ≡ fields.now }
 {

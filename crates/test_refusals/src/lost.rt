@@ -2,15 +2,15 @@
 //! and the table then.
 ghost use Rattle.std.specs.Prelude.{◌≡◌, ◌≤◌, length};
 ghost use Rattle.attr_types.specs.declared.field.TheConstants.{MOST_FIELDS};
-ghost use Rattle.attr_images.specs.Shapes.{shape_of, types_of};
+ghost use Rattle.image_format.specs.Shapes.{shape_of, types_of};
 ghost use Rattle.word_arena.specs.Ruled.{reader_of};
 
 use crate::attributes::{NoRoom, commit, put};
-use attr_images::AttrLayout;
 use attr_io::NoGate;
 use attr_rounds::{Asked, Round, Told, go_round};
 use attr_types::{Ask, Asks, Fields, Leaf, Query, Value};
 use attribute_kinds::Attribute;
+use image_format::AttrLayout;
 use std::alloc::{AllocError, Global};
 use store_api::Store;
 use test_kit::push_number;

@@ -1,8 +1,8 @@
 //! A run of operations on attributes without documents, and the answers of their last commit.
 ghost use Rattle.std.specs.Prelude.{◌≡◌, ◌<◌, ◌≤◌, length, slice_get, Some, IfOk};
 ghost use Rattle.arena_api.specs.Calls.{IsFresh};
-ghost use Rattle.attr_images.specs.Images.{IsLawfulImage};
-ghost use Rattle.attr_images.specs.Shapes.{shape_of, types_of};
+ghost use Rattle.image_format.specs.Images.{IsLawfulImage};
+ghost use Rattle.image_format.specs.Shapes.{shape_of, types_of};
 ghost use Rattle.attr_types.specs.declared.field.TheConstants.{MOST_FIELDS};
 
 use crate::again::{Refused, apply, commit, read};
@@ -11,11 +11,11 @@ use crate::saves::{first_law, saved, tell_saved, tell_writes};
 use crate::script::Script;
 use crate::told::{push_answer, push_commit};
 use arena_api::{Frozen, Work};
-use attr_images::{AttrLayout, shape_of};
 use attr_types::{Fields, Op};
 use attribute_kinds::{Attribute, Published, committed_work};
 use entry_ref::EntryRef;
 use entry_store::EntryStore;
+use image_format::{AttrLayout, shape_of};
 use mem_work::MemWork;
 use std::alloc::{AllocError, Global};
 use store_api::Store;

@@ -2,9 +2,9 @@
 ghost use Rattle.std.specs.Prelude.{◌≡◌, false};
 
 use crate::attributes::{push_info, put, refused};
-use attr_images::AttrLayout;
 use attr_types::Fields;
 use attribute_kinds::Attribute;
+use image_format::AttrLayout;
 use std::alloc::{AllocError, Global};
 use store_api::Store;
 use word_arena::Reader;

@@ -9,7 +9,7 @@ use Rattle.std.specs.Map.{lookup}
 use Rattle.std.specs.Ordering.{nat_cmp, match_ordering, is_eq, MatchOrdering}
 use Rattle.tree_read.proofs.TreeLemmas.{root_of_many}
 use Rattle.array_store.proofs.ArrayLemmas.{list_array, item_there}
-use Rattle.attr_images.specs.Postings.{short, tree, list_form, IsPostingList}
+use Rattle.image_format.specs.Postings.{short, tree, list_form, IsPostingList}
 use Rattle.entry_ref.specs.Records.{Records}
 use Rattle.tree_read.specs.Trees.{IsRootNode}
 use Rattle.tree_read.proofs.PlaceLemmas.{leads-root, step-size}

@@ -1,9 +1,9 @@
 ghost use Rattle.std.specs.Prelude.{◌≤◌, length, IfOk};
 
 use crate::made::{Row, Words, one_field, records_of, two_fields};
-use attr_images::shape_of;
 use attr_types::{FieldItems, Fields, Item, Items, Kind, Value, ValueType};
 use check_images::{CheckFault, check_image};
+use image_format::shape_of;
 use std::alloc::{AllocError, Global};
 
 /// The attributes of an image: one, or those of `two_fields`.

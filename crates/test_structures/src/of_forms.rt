@@ -2,7 +2,7 @@ ghost use Rattle.store_api.specs.Ledgers.{IsNew};
 
 use crate::cases::{Case, Row, right_rows};
 use crate::steps::{made, walked, words_of};
-use attr_images::FIRST_VECTOR;
+use image_format::FIRST_VECTOR;
 use std::alloc::{AllocError, Global};
 use std::test::Fail;
 use store_api::Store;

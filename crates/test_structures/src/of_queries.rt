@@ -1,16 +1,16 @@
 //! Queries of an image with bit vectors.
-ghost use Rattle.attr_images.specs.Images.{IsLawfulImage};
-ghost use Rattle.attr_images.specs.Shapes.{shape_of, types_of};
+ghost use Rattle.image_format.specs.Images.{IsLawfulImage};
+ghost use Rattle.image_format.specs.Shapes.{shape_of, types_of};
 ghost use Rattle.attr_types.specs.declared.field.TheConstants.{MOST_FIELDS};
 ghost use Rattle.entry_ref.specs.Maps.{seen};
 ghost use Rattle.std.specs.Prelude.{◌≡◌, ◌≤◌, length};
 
 use crate::held::Held;
 use crate::made::{Map, Row, Words, one_field, records_of};
-use attr_images::shape_of;
 use attr_types::{Doc, Fields, Kind, Query, ValueType};
 use check_images::check_image;
 use entry_ref::EntryRef;
+use image_format::shape_of;
 use query_eval::hits;
 use query_text::parse_query;
 use std::alloc::{AllocError, Global};

@@ -1,6 +1,6 @@
 -- The children of a node that was read.
 use Rattle.std.proofs.Common.{◌≡◌, ℕ, suc, ◌<◌, ◌≤◌, length, get_or, sym, subst, arith}
-use Rattle.list_facts.proofs.Each.{AllByRecursion-at}
+use Rattle.list_lemmas.proofs.Each.{AllByRecursion-at}
 use Rattle.entry_ref.specs.Records.{Records}
 use Rattle.tree_read.specs.Nodes.{node_values}
 use Rattle.tree_read.specs.Trees.{IsNode, IsRootNode, root_level, root_least}

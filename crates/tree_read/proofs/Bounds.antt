@@ -4,7 +4,7 @@ use Rattle.std.proofs.lemmas.List.Elements.{All-from_recursion}
 use Rattle.std.specs.Cmp.{IsTotalOrder}
 use Rattle.std.specs.List.{zip, flat_map, All, AllByRecursion, IsDistinct}
 use Rattle.std.specs.declared.cmp.Ordering.{Ordering}
-use Rattle.list_facts.proofs.Each.{AllByRecursion-append}
+use Rattle.list_lemmas.proofs.Each.{AllByRecursion-append}
 use Rattle.entry_ref.specs.Records.{Records}
 use Rattle.tree_read.proofs.DistinctLemmas.{tree_nodes_distinct}
 use Rattle.tree_read.proofs.TreeLemmas.{length-node_keys, pairs_many}

@@ -6,8 +6,8 @@ use Rattle.std.specs.declared.cmp.Ordering.{Ordering}
 use Rattle.std.specs.declared.cmp.Ordering.TheVariants.{Less, Equal, Greater}
 use Rattle.std.specs.List.{zip, flat_map, AllByRecursion}
 use Rattle.std.specs.List.Sorted.{IsStrictlySortedBy}
-use Rattle.list_facts.proofs.Pairs.{length-zip_even}
-use Rattle.list_facts.proofs.Each.{AllByRecursion-at}
+use Rattle.list_lemmas.proofs.Pairs.{length-zip_even}
+use Rattle.list_lemmas.proofs.Each.{AllByRecursion-at}
 use Rattle.entry_ref.specs.Records.{Records, HasWord, word_at}
 use Rattle.tree_read.specs.Nodes.{used_of, node_keys, node_values, IsNodeForm}
 use Rattle.tree_read.specs.Trees.{pairs_below, last_key, IsNode, HasLastKeys}

@@ -4,8 +4,8 @@ use Rattle.std.proofs.lemmas.List.{append-nil, take_more}
 use Rattle.std.proofs.lemmas.Grind.{flat_map-append}
 use Rattle.std.proofs.lemmas.List.Folds.{length-flat_map-take}
 use Rattle.std.specs.List.{zip, flat_map, AllByRecursion}
-use Rattle.list_facts.proofs.Pairs.{length-zip_even}
-use Rattle.list_facts.proofs.Each.{AllByRecursion-weaker, AllByRecursion-at}
+use Rattle.list_lemmas.proofs.Pairs.{length-zip_even}
+use Rattle.list_lemmas.proofs.Each.{AllByRecursion-weaker, AllByRecursion-at}
 use Rattle.entry_ref.specs.Records.{Records}
 use Rattle.tree_read.specs.Nodes.{count_of}
 use Rattle.tree_read.specs.Trees.{pairs_below, last_key, IsNode}

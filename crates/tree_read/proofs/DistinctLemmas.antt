@@ -6,7 +6,7 @@ use Rattle.std.specs.Cmp.{IsTotalOrder}
 use Rattle.std.specs.List.{flat_map, AllByRecursion, IsDistinct}
 use Rattle.std.specs.List.Sorted.{IsStrictlySortedBy}
 use Rattle.std.specs.Ordering.{ordering_reverse}
-use Rattle.list_facts.proofs.Each.{AllByRecursion-append, AllByRecursion-left}
+use Rattle.list_lemmas.proofs.Each.{AllByRecursion-append, AllByRecursion-left}
 use Rattle.entry_ref.specs.Records.{Records}
 use Rattle.tree_read.proofs.TreeLemmas.{IsNode-form, pairs_many}
 use Rattle.tree_read.specs.Nodes.{level_of, node_values}

@@ -2,7 +2,7 @@
 use Rattle.std.proofs.Common.{◌≡◌, ℕ, ◌+◌, ◌^◌, ◌-◌, ◌<◌, ◌≤◌, List, ◌++◌, length, slice_index, take, drop, replicate, refl, sym, ap, ◌∙◌, arith, length-append}
 use Rattle.std.proofs.lemmas.List.{get_or-drop, get_or-append_right, get_or_append_left, length-replicate, take-append-le, take_at, drop_at}
 use Rattle.std.proofs.lemmas.Nat.{div-mul-add, mod-mul-add}
-use Rattle.list_facts.proofs.Places.{slice_index-zeros}
+use Rattle.list_lemmas.proofs.Places.{slice_index-zeros}
 use Rattle.tree_read.specs.Nodes.{level_of, used_of, node_keys, node_values, slot_words, node_words, IsNodeForm}
 
 pub length-slot_words : (slots : List ℕ) → length slots ≤ 16 → length (slot_words slots) ≡ 16

@@ -6,7 +6,7 @@ use Rattle.std.specs.declared.cmp.Ordering.TheVariants.{Less, Equal, Greater}
 use Rattle.std.specs.Ordering.{ordering_reverse}
 use Rattle.std.specs.List.{flat_map, AllByRecursion}
 use Rattle.std.specs.List.Sorted.{IsStrictlySortedBy}
-use Rattle.list_facts.proofs.Each.{AllByRecursion-append}
+use Rattle.list_lemmas.proofs.Each.{AllByRecursion-append}
 use Rattle.tree_read.specs.Trees.{last_key}
 use Rattle.tree_read.specs.Keys.{AllBelow}
 use Rattle.tree_read.specs.Pairs.{choose, put, take_out}

@@ -4,7 +4,7 @@ use Rattle.std.specs.declared.cmp.Ordering.{Ordering}
 use Rattle.std.specs.declared.cmp.Ordering.TheVariants.{Less, Equal, Greater}
 use Rattle.std.specs.List.{flat_map, AllByRecursion}
 use Rattle.std.specs.Option.{option_map}
-use Rattle.list_facts.proofs.Each.{AllByRecursion-left, AllByRecursion-right}
+use Rattle.list_lemmas.proofs.Each.{AllByRecursion-left, AllByRecursion-right}
 use Rattle.tree_read.specs.Trees.{last_key}
 use Rattle.tree_read.specs.Keys.{AllBelow}
 use Rattle.tree_read.specs.Pairs.{choose, lookup, lookup_pair, put, take_out, seek}

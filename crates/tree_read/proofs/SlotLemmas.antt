@@ -3,8 +3,8 @@ use Rattle.std.proofs.Common.{◌≡◌, ℕ, zero, suc, List, [], ◌∷◌, �
 use Rattle.std.proofs.lemmas.List.{map-append, take_at, drop_at, append-nil, take-append-drop, length-map}
 use Rattle.std.proofs.lemmas.Grind.{flat_map-append}
 use Rattle.std.specs.List.{zip, flat_map, AllByRecursion}
-use Rattle.list_facts.proofs.Pairs.{zip-append}
-use Rattle.list_facts.proofs.Each.{AllByRecursion-append, AllByRecursion-left, AllByRecursion-right, AllByRecursion-weaker}
+use Rattle.list_lemmas.proofs.Pairs.{zip-append}
+use Rattle.list_lemmas.proofs.Each.{AllByRecursion-append, AllByRecursion-left, AllByRecursion-right, AllByRecursion-weaker}
 use Rattle.entry_ref.specs.Records.{Records}
 use Rattle.tree_read.specs.ProofsForTrees.{pairs-same, nodes-same, IsNode-same}
 use Rattle.tree_read.specs.Nodes.{node_keys, node_values}

@@ -5,8 +5,8 @@ use Rattle.std.proofs.lemmas.Map.Keys.{below_from_sorted}
 use Rattle.std.proofs.Math.Nat.{pow-suc}
 use Rattle.std.specs.List.{flat_map, AllByRecursion, zip}
 use Rattle.std.specs.Ordering.{nat_cmp}
-use Rattle.list_facts.proofs.Pairs.{length-zip_even}
-use Rattle.list_facts.proofs.Each.{AllByRecursion-weaker}
+use Rattle.list_lemmas.proofs.Pairs.{length-zip_even}
+use Rattle.list_lemmas.proofs.Each.{AllByRecursion-weaker}
 use Rattle.entry_ref.specs.Records.{Records, SameAt}
 use Rattle.tree_read.specs.Nodes.{level_of, used_of, count_of, node_keys, node_values, IsNodeForm}
 use Rattle.tree_read.specs.ProofsForTrees.{nodes_there, tree_pairs-same, IsRootNode-same}

@@ -5,7 +5,7 @@ use Rattle.std.specs.Prelude.{min}
 use Rattle.std.specs.declared.cmp.Ordering.{Ordering}
 use Rattle.std.specs.List.{zip, flat_map, AllByRecursion}
 use Rattle.std.specs.List.Sorted.{IsStrictlySortedBy}
-use Rattle.list_facts.proofs.Each.{AllByRecursion-flat_map}
+use Rattle.list_lemmas.proofs.Each.{AllByRecursion-flat_map}
 use Rattle.entry_ref.specs.Records.{Records, SameAt, AllThere}
 use Rattle.tree_read.specs.Nodes.{level_of, count_of, node_keys, node_values, IsNodeForm}
 use Rattle.tree_read.specs.Trees.{pairs_below, nodes_below, last_key, HasLastKeys, HasCount, IsNode, root_level, root_least, tree_pairs}

@@ -3,8 +3,8 @@ use Rattle.std.proofs.Common.{◌≡◌, ℕ, zero, suc, ◌+◌, ◌-◌, ◌*�
 use Rattle.std.proofs.lemmas.List.{take-append-le, take_all, drop-drop, drop-replicate}
 use Rattle.std.specs.Int.{from_be_bytes, to_be_bytes, bytes_high_first, w64}
 use Rattle.std.specs.List.{flat_map}
-use Rattle.list_facts.proofs.Places.{get_or-take_each}
-use Rattle.attr_images.specs.Values.{packed_bytes}
+use Rattle.list_lemmas.proofs.Places.{get_or-take_each}
+use Rattle.image_format.specs.Values.{packed_bytes}
 
 -- the first eight of many, and of few with zeros behind them
 pub eight_of_many : (bytes eight : List ℕ) → 8 ≤ length bytes → eight ≡ take 8 bytes → eight ≡ take 8 (bytes ++ replicate 8 0)

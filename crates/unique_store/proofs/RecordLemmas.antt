@@ -7,10 +7,10 @@ use Rattle.std.proofs.lemmas.Grind.{flat_map-append}
 use Rattle.std.specs.Int.{from_be_bytes, to_be_bytes, w64}
 use Rattle.std.specs.List.{flat_map}
 use Rattle.std.specs.Prelude.{slice_index, IfOk}
-use Rattle.attr_images.proofs.RootLemmas.{length-filled}
+use Rattle.image_format.proofs.RootLemmas.{length-filled}
 use Rattle.entry_ref.specs.Records.{Records}
-use Rattle.attr_images.specs.Values.{stored_text, stored_value, value_of, value_words, IsLawfulValue, IsValueRecord}
-use Rattle.attr_images.specs.Words.{class_of, filled}
+use Rattle.image_format.specs.Values.{stored_text, stored_value, value_of, value_words, IsLawfulValue, IsValueRecord}
+use Rattle.image_format.specs.Words.{class_of, filled}
 use Rattle.attr_types.specs.Value.{type_of}
 use Rattle.attr_types.specs.declared.kind.ValueType.{ValueType}
 use Rattle.attr_types.specs.declared.kind.ValueType.TheVariants as types

@@ -1,7 +1,7 @@
 -- The record of a value, as a law.
 use Rattle.std.specs.Prelude.{◌≢◌, ℕ, ◌<◌, List, length}
 use Rattle.tree_read.specs.declared.node_format.TheConstants.{NODE_WORDS}
-use Rattle.attr_images.specs.Values.{IsValueRecord}
+use Rattle.image_format.specs.Values.{IsValueRecord}
 use Rattle.attr_types.specs.declared.kind.ValueType.{ValueType}
 
 -- a value's record has at least two words, and is not a tree node

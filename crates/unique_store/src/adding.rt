@@ -1,6 +1,6 @@
 ghost use Rattle.std.specs.Prelude.{◌≡◌, ◌+◌, ◌/◌, ◌≤◌, true, length, IfOk, IfErr, OnErr, IsUtf8};
-ghost use Rattle.attr_images.specs.Values.{value_words, stored_value, IsValueRecord};
-ghost use Rattle.attr_images.specs.Words.{class_of};
+ghost use Rattle.image_format.specs.Values.{value_words, stored_value, IsValueRecord};
+ghost use Rattle.image_format.specs.Words.{class_of};
 ghost use Rattle.attr_types.specs.Value.{type_of};
 ghost use Rattle.attr_types.specs.declared.kind.ValueType.TheVariants as types;
 ghost use Rattle.attr_types.specs.declared.value.Value.TheVariants as values;

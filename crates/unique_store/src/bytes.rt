@@ -1,6 +1,6 @@
 ghost use Rattle.std.specs.Prelude.{◌≡◌, ◌+◌, ◌/◌, ◌≤◌, ◌<◌, ◌++◌, length, take, drop, replicate};
 ghost use Rattle.std.specs.Int.{from_be_bytes, w64};
-ghost use Rattle.attr_images.specs.Values.{packed_bytes};
+ghost use Rattle.image_format.specs.Values.{packed_bytes};
 
 /// Returns fewer than eight bytes, followed by zeros.
 fn filled_eight(bytes: &[u8]) -> [u8; 8]

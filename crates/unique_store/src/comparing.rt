@@ -1,7 +1,7 @@
 ghost use Rattle.std.specs.Prelude.{◌≡◌, ◌≤◌, length};
 ghost use Rattle.std.specs.Cmp.Lexicographic.{slice_cmp};
 ghost use Rattle.std.specs.Ordering.{nat_cmp};
-ghost use Rattle.attr_images.specs.Values.{stored_text, stored_value, IsValueRecord};
+ghost use Rattle.image_format.specs.Values.{stored_text, stored_value, IsValueRecord};
 ghost use Rattle.attr_types.specs.Value.{type_of, value_cmp};
 ghost use Rattle.attr_types.specs.declared.kind.ValueType.TheVariants as types;
 

@@ -1,7 +1,7 @@
 ghost use Rattle.std.specs.Prelude.{◌≡◌, ◌++◌, IfOk, OnOk};
 ghost use Rattle.std.specs.Int.{cast_signed, to_be_bytes, w64};
 ghost use Rattle.entry_ref.specs.Records.{word_at};
-ghost use Rattle.attr_images.specs.Values.{stored_text, stored_value, IsValueRecord};
+ghost use Rattle.image_format.specs.Values.{stored_text, stored_value, IsValueRecord};
 ghost use Rattle.attr_types.specs.declared.kind.ValueType.TheVariants as types;
 
 use arena_api::{Frozen, word_of};

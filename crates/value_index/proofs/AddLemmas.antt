@@ -9,10 +9,10 @@ use Rattle.store_api.specs.Parts.{Owns, Turns}
 use Rattle.store_api.specs.Units.{MayDo}
 use Rattle.store_api.proofs.May.{may_do-same, may_do-then}
 use Rattle.store_api.proofs.PartLemmas.{turns-same, turns-then}
-use Rattle.attr_images.specs.Postings.{index_of}
-use Rattle.attr_images.specs.Values.{stored_value}
-use Rattle.attr_index.proofs.MapLemmas.{IsWalk, walk_put, walk_same, walk_ends}
-use Rattle.attr_index.specs.Index.{IsFormed, list_of, with_posting}
+use Rattle.image_format.specs.Postings.{index_of}
+use Rattle.image_format.specs.Values.{stored_value}
+use Rattle.index_model.proofs.MapLemmas.{IsWalk, walk_put, walk_same, walk_ends}
+use Rattle.index_model.specs.Index.{IsFormed, list_of, with_posting}
 use Rattle.attr_types.specs.Value.{value_cmp, type_of, AreOfType}
 use Rattle.attr_types.specs.declared.kind.ValueType.{ValueType}
 use Rattle.attr_types.specs.declared.value.Value.{Value}

@@ -16,12 +16,12 @@ use Rattle.store_api.proofs.PartLemmas.{after, owns-some, turns-as, turns-then}
 use Rattle.tree_read.specs.ProofsForTrees.{SameAt-right, all-same, tree_nodes-same}
 use Rattle.tree_read.specs.Trees.{tree_nodes, tree_pairs}
 use Rattle.frozen_btree.specs.Changes.{tree}
-use Rattle.attr_images.specs.Postings.{list_form, postings_reach, index_of}
-use Rattle.attr_images.specs.ProofsForImages.{postings_at-same}
-use Rattle.attr_images.specs.Values.{stored_value, value_of}
-use Rattle.attr_images.specs.declared.TheConstants.{LEAST_DENSE}
-use Rattle.attr_index.specs.Index.{list_of}
-use Rattle.attr_index.proofs.ListLemmas.{list_of-with_list_here}
+use Rattle.image_format.specs.Postings.{list_form, postings_reach, index_of}
+use Rattle.image_format.specs.ProofsForImages.{postings_at-same}
+use Rattle.image_format.specs.Values.{stored_value, value_of}
+use Rattle.image_format.specs.declared.TheConstants.{LEAST_DENSE}
+use Rattle.index_model.specs.Index.{list_of}
+use Rattle.index_model.proofs.ListLemmas.{list_of-with_list_here}
 use Rattle.attr_types.specs.Value.{type_of, value_cmp}
 use Rattle.attr_types.specs.declared.kind.ValueType.{ValueType}
 use Rattle.attr_types.specs.declared.value.Value.{Value}

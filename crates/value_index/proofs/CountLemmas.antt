@@ -13,11 +13,11 @@ use Rattle.frozen_btree.specs.Changes.{levels}
 use Rattle.frozen_btree.specs.Makes.{CountsNodes}
 use Rattle.array_store.proofs.ClassLemmas.{class_least}
 use Rattle.array_store.specs.Adding.{MakesOneOf}
-use Rattle.attr_images.specs.Values.{value_words}
-use Rattle.attr_images.specs.Words.{class_of}
+use Rattle.image_format.specs.Values.{value_words}
+use Rattle.image_format.specs.Words.{class_of}
 use Rattle.attr_types.specs.declared.value.Value.{Value}
 use Rattle.enum_dictionary.specs.Dictionaries.{beside_value}
-use Rattle.attr_images.specs.Postings.{is_dense}
+use Rattle.image_format.specs.Postings.{is_dense}
 use Rattle.posting_store.specs.Changes.{list_change_most}
 use Rattle.posting_store.specs.Lists.{is_vector, list_levels}
 use Rattle.value_index.specs.Flows.{list_word}

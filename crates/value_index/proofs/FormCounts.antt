@@ -4,12 +4,12 @@ use Rattle.std.proofs.lemmas.Bool.{le-leb, lt-ltb, ltb-true}
 use Rattle.std.specs.List.{range_with_len}
 use Rattle.std.specs.Map.{keys_of}
 use Rattle.std.specs.Prelude.{filter}
-use Rattle.list_facts.proofs.Tests.{too_many}
+use Rattle.list_lemmas.proofs.Tests.{too_many}
 use Rattle.frozen_btree.proofs.BuildLemmas.{nodes_above-some}
 use Rattle.frozen_btree.specs.Builds.{groups, nodes_above, nodes_of}
-use Rattle.attr_images.specs.Postings.{is_dense}
-use Rattle.attr_images.specs.Words.{class_of}
-use Rattle.attr_images.specs.declared.TheConstants.{BLOCK_DOCUMENTS, LEAST_DENSE}
+use Rattle.image_format.specs.Postings.{is_dense}
+use Rattle.image_format.specs.Words.{class_of}
+use Rattle.image_format.specs.declared.TheConstants.{BLOCK_DOCUMENTS, LEAST_DENSE}
 use Rattle.bit_vector.specs.Changes.{vector_most}
 use Rattle.bit_vector.specs.Vectors.{count_blocks, is_block_of}
 use Rattle.bit_vector.specs.declared.TheConstants.{MOST_BLOCKS}

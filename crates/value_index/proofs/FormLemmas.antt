@@ -7,18 +7,18 @@ use Rattle.std.specs.List.{AllByRecursion}
 use Rattle.std.specs.Map.{lookup as lookup_in, remove_entry}
 use Rattle.std.specs.Option.{unwrap_or}
 use Rattle.std.specs.Ordering.{match_ordering}
-use Rattle.list_facts.proofs.Options.{same_Some}
-use Rattle.list_facts.proofs.Tests.{too_many}
+use Rattle.list_lemmas.proofs.Options.{same_Some}
+use Rattle.list_lemmas.proofs.Tests.{too_many}
 use Rattle.entry_ref.specs.Records.{Records, SameAt}
 use Rattle.tree_read.specs.Pairs.{lookup_pair}
 use Rattle.tree_read.proofs.PairLemmas.{lookup-of_pair}
 use Rattle.tree_read.specs.ProofsForTrees.{SameAt-left, tree_pairs-same}
 use Rattle.tree_read.specs.Trees.{tree_nodes, tree_pairs}
-use Rattle.attr_images.specs.Postings.{dictionary_reach, index_of, is_dense}
-use Rattle.attr_images.specs.ProofsForImages.{trees_index-same}
-use Rattle.attr_images.specs.declared.TheConstants.{FIRST_VECTOR, LEAST_DENSE, MOST_SPREAD}
-use Rattle.attr_index.specs.Changes.{settled, IsBetween}
-use Rattle.attr_index.specs.Index.{Index, list_of}
+use Rattle.image_format.specs.Postings.{dictionary_reach, index_of, is_dense}
+use Rattle.image_format.specs.ProofsForImages.{trees_index-same}
+use Rattle.image_format.specs.declared.TheConstants.{FIRST_VECTOR, LEAST_DENSE, MOST_SPREAD}
+use Rattle.index_model.specs.Changes.{settled, IsBetween}
+use Rattle.index_model.specs.Index.{Index, list_of}
 use Rattle.attr_types.specs.Value.{type_of}
 use Rattle.attr_types.specs.declared.kind.Kind.TheVariants.{Single}
 use Rattle.attr_types.specs.declared.kind.ValueType.{ValueType}

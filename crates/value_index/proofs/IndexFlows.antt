@@ -12,9 +12,9 @@ use Rattle.store_api.specs.Statuses.{in_use}
 use Rattle.store_api.specs.Units.{MayDo}
 use Rattle.tree_read.specs.ProofsForTrees.{SameAt-left, SameAt-right, tree_nodes-same, tree_pairs-same}
 use Rattle.tree_read.specs.Trees.{tree_nodes, tree_pairs}
-use Rattle.attr_images.specs.Postings.{dictionary_reach, list_form, postings_reach}
-use Rattle.attr_images.specs.ProofsForImages.{postings_reach-same}
-use Rattle.attr_images.specs.Values.{stored_value, value_of}
+use Rattle.image_format.specs.Postings.{dictionary_reach, list_form, postings_reach}
+use Rattle.image_format.specs.ProofsForImages.{postings_reach-same}
+use Rattle.image_format.specs.Values.{stored_value, value_of}
 use Rattle.attr_types.specs.ProofsForOrder.{value_cmp_exact}
 use Rattle.attr_types.specs.Value.{type_of, value_cmp}
 use Rattle.attr_types.specs.declared.kind.ValueType.{ValueType}

@@ -7,11 +7,11 @@ use Rattle.std.specs.Ordering.{nat_cmp}
 use Rattle.entry_ref.specs.Records.{Records, SameAt, Among}
 use Rattle.tree_read.specs.ProofsForTrees.{SameAt-left, SameAt-right, all-same}
 use Rattle.tree_read.specs.Trees.{tree_pairs, tree_nodes}
-use Rattle.attr_images.specs.Postings.{list_form, postings_at, postings_reach, dictionary_reach, index_of, IsDictionaryEntry}
-use Rattle.attr_images.specs.ProofsForImages.{trees_index-same}
-use Rattle.attr_images.specs.Values.{stored_value, IsValueRecord}
-use Rattle.attr_images.specs.declared.TheConstants.{LEAST_DENSE}
-use Rattle.attr_index.specs.Index.{IsFormed}
+use Rattle.image_format.specs.Postings.{list_form, postings_at, postings_reach, dictionary_reach, index_of, IsDictionaryEntry}
+use Rattle.image_format.specs.ProofsForImages.{trees_index-same}
+use Rattle.image_format.specs.Values.{stored_value, IsValueRecord}
+use Rattle.image_format.specs.declared.TheConstants.{LEAST_DENSE}
+use Rattle.index_model.specs.Index.{IsFormed}
 use Rattle.attr_types.specs.Value.{value_cmp}
 use Rattle.attr_types.specs.declared.kind.Kind.TheVariants.{Single}
 use Rattle.attr_types.specs.declared.kind.ValueType.{ValueType}

@@ -7,14 +7,14 @@ use Rattle.std.specs.List.{flat_map, AllByRecursion}
 use Rattle.std.specs.List.Sorted.{IsStrictlySortedBy}
 use Rattle.std.specs.Map.{lookup}
 use Rattle.std.specs.Option.{unwrap_or}
-use Rattle.list_facts.proofs.Options.{same_Some}
-use Rattle.attr_images.proofs.ImageLemmas.{value_typed}
+use Rattle.list_lemmas.proofs.Options.{same_Some}
+use Rattle.image_format.proofs.ImageLemmas.{value_typed}
 use Rattle.entry_ref.specs.Records.{Records, Among}
 use Rattle.tree_read.specs.Pairs.{choose, lookup_pair}
 use Rattle.tree_read.specs.Trees.{tree_pairs, tree_nodes}
-use Rattle.attr_images.specs.Postings.{list_form, postings_reach, dictionary_reach, index_of}
-use Rattle.attr_images.specs.Values.{stored_value, IsValueRecord}
-use Rattle.attr_index.specs.Index.{list_of}
+use Rattle.image_format.specs.Postings.{list_form, postings_reach, dictionary_reach, index_of}
+use Rattle.image_format.specs.Values.{stored_value, IsValueRecord}
+use Rattle.index_model.specs.Index.{list_of}
 use Rattle.attr_types.specs.ProofsForOrder.{value_cmp_exact}
 use Rattle.attr_types.specs.Value.{type_of, value_cmp}
 use Rattle.attr_types.specs.declared.kind.ValueType.{ValueType}

@@ -12,9 +12,9 @@ use Rattle.tree_read.specs.Nodes.{level_of}
 use Rattle.tree_read.specs.Trees.{tree_pairs, IsRootNode}
 use Rattle.tree_read.proofs.TreeLemmas.{many_pairs}
 use Rattle.frozen_btree.specs.Changes.{levels}
-use Rattle.attr_images.specs.Postings.{ListForm, short, tree, vector, block_documents, vector_documents, index_of, list_form, postings_at, IsBlock, IsPostingList}
-use Rattle.attr_images.specs.Values.{stored_value}
-use Rattle.attr_images.specs.Words.{weight_in_bits}
+use Rattle.image_format.specs.Postings.{ListForm, short, tree, vector, block_documents, vector_documents, index_of, list_form, postings_at, IsBlock, IsPostingList}
+use Rattle.image_format.specs.Values.{stored_value}
+use Rattle.image_format.specs.Words.{weight_in_bits}
 use Rattle.attr_types.specs.Value.{type_of}
 use Rattle.attr_types.specs.declared.kind.ValueType.{ValueType}
 use Rattle.attr_types.specs.declared.value.Value.{Value}

@@ -12,10 +12,10 @@ use Rattle.tree_read.specs.ProofsForTrees.{SameAt-left, SameAt-right, flat_map-s
 use Rattle.tree_read.specs.Trees.{tree_pairs, tree_nodes}
 use Rattle.frozen_btree.specs.Changes.{tree}
 use Rattle.array_store.specs.Adding.{AddsRecord}
-use Rattle.attr_images.specs.Postings.{list_form, postings_reach, dictionary_reach}
-use Rattle.attr_images.specs.ProofsForImages.{postings_reach-same}
-use Rattle.attr_images.specs.Values.{stored_value, value_of, IsValueRecord}
-use Rattle.attr_images.specs.declared.TheConstants.{LEAST_DENSE}
+use Rattle.image_format.specs.Postings.{list_form, postings_reach, dictionary_reach}
+use Rattle.image_format.specs.ProofsForImages.{postings_reach-same}
+use Rattle.image_format.specs.Values.{stored_value, value_of, IsValueRecord}
+use Rattle.image_format.specs.declared.TheConstants.{LEAST_DENSE}
 use Rattle.attr_types.specs.Value.{type_of}
 use Rattle.attr_types.specs.declared.value.Value.{Value}
 use Rattle.enum_dictionary.specs.Dictionaries.{beside_value}

@@ -9,11 +9,11 @@ use Rattle.store_api.specs.Parts.{Owns, Turns}
 use Rattle.store_api.specs.Units.{MayDo}
 use Rattle.store_api.proofs.May.{may_do-same, may_do-then}
 use Rattle.store_api.proofs.PartLemmas.{turns-same, turns-then}
-use Rattle.attr_images.specs.Postings.{index_of}
-use Rattle.attr_images.specs.Values.{stored_value}
-use Rattle.attr_index.proofs.MapLemmas.{IsWalkBack, back_begins, back_there, back_take, back_stay, back_ends}
-use Rattle.attr_index.specs.Changes.{first_given}
-use Rattle.attr_index.specs.Index.{IsFormed, list_of, without_posting}
+use Rattle.image_format.specs.Postings.{index_of}
+use Rattle.image_format.specs.Values.{stored_value}
+use Rattle.index_model.proofs.MapLemmas.{IsWalkBack, back_begins, back_there, back_take, back_stay, back_ends}
+use Rattle.index_model.specs.Changes.{first_given}
+use Rattle.index_model.specs.Index.{IsFormed, list_of, without_posting}
 use Rattle.attr_types.specs.Value.{value_cmp, type_of, AreOfType}
 use Rattle.attr_types.specs.declared.kind.ValueType.{ValueType}
 use Rattle.attr_types.specs.declared.value.Value.{Value}

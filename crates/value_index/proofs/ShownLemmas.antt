@@ -8,7 +8,7 @@ use Rattle.std.specs.List.Sorted.{IsStrictlySortedBy}
 use Rattle.std.specs.Map.{keys_of, lookup, remove_entry}
 use Rattle.std.specs.Ordering.{match_ordering, ordering_reverse}
 use Rattle.tree_read.specs.Pairs.{choose, lookup_pair, put, take_out}
-use Rattle.attr_index.specs.Index.{Index, with_list}
+use Rattle.index_model.specs.Index.{Index, with_list}
 use Rattle.attr_types.specs.ProofsForOrder.{value_cmp_total, value_cmp_exact}
 use Rattle.attr_types.specs.Value.{value_cmp}
 use Rattle.attr_types.specs.declared.value.Value.{Value}

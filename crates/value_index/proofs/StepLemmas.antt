@@ -7,7 +7,7 @@ use Rattle.std.specs.BTreeMap.{insert_entry, is_at}
 use Rattle.std.specs.declared.cmp.Ordering.TheVariants.{Less, Equal, Greater}
 use Rattle.std.specs.Map.{lookup as lookup_in}
 use Rattle.std.specs.Ordering.{nat_cmp, match_ordering}
-use Rattle.list_facts.proofs.Options.{same_Some}
+use Rattle.list_lemmas.proofs.Options.{same_Some}
 use Rattle.entry_ref.specs.Records.{Records}
 use Rattle.tree_read.specs.Pairs.{lookup_pair, put, take_out}
 use Rattle.store_api.specs.Ledgers.{Ledger}
@@ -18,11 +18,11 @@ use Rattle.store_api.specs.declared.store.StoreError.{StoreError}
 use Rattle.tree_read.specs.Trees.{tree_pairs}
 use Rattle.array_store.proofs.ClassLemmas.{class_least}
 use Rattle.array_store.specs.Adding.{AddsRecord}
-use Rattle.attr_images.specs.Postings.{index_of}
-use Rattle.attr_images.specs.Values.{stored_value, value_words, IsValueRecord}
-use Rattle.attr_images.specs.Words.{class_of}
-use Rattle.attr_images.specs.declared.TheConstants.{LEAST_DENSE}
-use Rattle.attr_index.specs.Index.{list_of, with_list}
+use Rattle.image_format.specs.Postings.{index_of}
+use Rattle.image_format.specs.Values.{stored_value, value_words, IsValueRecord}
+use Rattle.image_format.specs.Words.{class_of}
+use Rattle.image_format.specs.declared.TheConstants.{LEAST_DENSE}
+use Rattle.index_model.specs.Index.{list_of, with_list}
 use Rattle.attr_types.specs.Value.{type_of, value_cmp}
 use Rattle.attr_types.specs.declared.value.Value.{Value}
 use Rattle.enum_dictionary.specs.Dictionaries.{beside_value, entry_of, MakesDictionary}

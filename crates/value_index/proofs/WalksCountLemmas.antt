@@ -15,14 +15,14 @@ use Rattle.array_store.proofs.ClassLemmas.{class_no_node}
 use Rattle.tree_read.specs.Pairs.{lookup_pair}
 use Rattle.tree_read.specs.Trees.{tree_pairs}
 use Rattle.frozen_btree.specs.Changes.{levels}
-use Rattle.attr_images.specs.Postings.{ListForm, short, tree, vector, index_of, list_form}
-use Rattle.attr_images.specs.Values.{value_words}
-use Rattle.attr_images.specs.Words.{class_of}
-use Rattle.attr_index.specs.Index.{list_of}
+use Rattle.image_format.specs.Postings.{ListForm, short, tree, vector, index_of, list_form}
+use Rattle.image_format.specs.Values.{value_words}
+use Rattle.image_format.specs.Words.{class_of}
+use Rattle.index_model.specs.Index.{list_of}
 use Rattle.attr_types.specs.Value.{type_of}
 use Rattle.attr_types.specs.declared.value.Value.{Value}
 use Rattle.enum_dictionary.specs.Dictionaries.{beside_value}
-use Rattle.attr_images.specs.Postings.{is_dense}
+use Rattle.image_format.specs.Postings.{is_dense}
 use Rattle.posting_store.specs.Changes.{list_most}
 use Rattle.posting_store.specs.Lists.{is_vector, form_levels}
 use Rattle.value_index.specs.Changes.{add_most, change_most, new_most, nodes_most, value_levels}

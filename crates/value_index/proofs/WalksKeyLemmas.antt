@@ -4,12 +4,12 @@ use Rattle.std.specs.BTreeMap.{insert_entry, is_at}
 use Rattle.std.specs.Map.{keys_of, remove_entry}
 use Rattle.std.specs.Ordering.{match_ordering}
 use Rattle.entry_ref.specs.Records.{Records}
-use Rattle.attr_images.specs.Postings.{index_of}
-use Rattle.attr_images.specs.Values.{stored_value, value_of}
-use Rattle.attr_index.proofs.ChangeLemmas.{by_value}
-use Rattle.attr_index.proofs.ListLemmas.{list_of-with_list_here, list_of-with_list_other}
-use Rattle.attr_index.specs.Changes.{settled}
-use Rattle.attr_index.specs.Index.{Index, IsFormed, list_of, without_posting}
+use Rattle.image_format.specs.Postings.{index_of}
+use Rattle.image_format.specs.Values.{stored_value, value_of}
+use Rattle.index_model.proofs.ChangeLemmas.{by_value}
+use Rattle.index_model.proofs.ListLemmas.{list_of-with_list_here, list_of-with_list_other}
+use Rattle.index_model.specs.Changes.{settled}
+use Rattle.index_model.specs.Index.{Index, IsFormed, list_of, without_posting}
 use Rattle.attr_types.specs.Value.{type_of, AreOfType}
 use Rattle.attr_types.specs.declared.kind.ValueType.{ValueType}
 use Rattle.attr_types.specs.declared.value.Value.{Value}

@@ -5,10 +5,10 @@ use Rattle.std.specs.List.{AllByRecursion}
 use Rattle.std.specs.List.Sorted.{IsStrictlySortedBy}
 use Rattle.std.specs.Map.{keys_of, lookup, remove_entry}
 use Rattle.std.specs.Option.{is_some}
-use Rattle.attr_index.proofs.MapLemmas.{IsWalk, IsWalkBack, none_before}
-use Rattle.attr_index.proofs.OfLemmas.{all_found}
-use Rattle.attr_index.specs.Changes.{settled}
-use Rattle.attr_index.specs.Index.{Index, list_of}
+use Rattle.index_model.proofs.MapLemmas.{IsWalk, IsWalkBack, none_before}
+use Rattle.index_model.proofs.OfLemmas.{all_found}
+use Rattle.index_model.specs.Changes.{settled}
+use Rattle.index_model.specs.Index.{Index, list_of}
 use Rattle.attr_types.specs.ProofsForOrder.{value_cmp_total}
 use Rattle.attr_types.specs.Value.{value_cmp}
 use Rattle.attr_types.specs.declared.value.Value.{Value}

@@ -6,11 +6,11 @@ use Rattle.store_api.specs.Ledgers.{Ledger}
 use Rattle.store_api.specs.Parts.{Owns, Turns}
 use Rattle.tree_read.specs.declared.node_format.TheConstants.{NODE_WORDS}
 use Rattle.frozen_btree.specs.Changes.{levels}
-use Rattle.attr_images.specs.Postings.{index_of, is_dense}
-use Rattle.attr_images.specs.Values.{stored_value, value_words}
-use Rattle.attr_images.specs.Words.{class_of}
-use Rattle.attr_images.specs.declared.TheConstants.{BLOCK_WORDS, MOST_SHORT}
-use Rattle.attr_index.specs.Index.{Index, list_of}
+use Rattle.image_format.specs.Postings.{index_of, is_dense}
+use Rattle.image_format.specs.Values.{stored_value, value_words}
+use Rattle.image_format.specs.Words.{class_of}
+use Rattle.image_format.specs.declared.TheConstants.{BLOCK_WORDS, MOST_SHORT}
+use Rattle.index_model.specs.Index.{Index, list_of}
 use Rattle.attr_types.specs.declared.kind.ValueType.{ValueType}
 use Rattle.attr_types.specs.declared.value.Value.{Value}
 use Rattle.posting_store.specs.Changes.{list_change_most, list_width}

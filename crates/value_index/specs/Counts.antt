@@ -7,12 +7,12 @@ use Rattle.std.specs.Map.{keys_of, lookup, remove_entry}
 use Rattle.std.specs.Ordering.{nat_cmp}
 use Rattle.tree_read.specs.declared.node_format.TheConstants.{NODE_WORDS}
 use Rattle.frozen_btree.specs.Builds.{nodes_of}
-use Rattle.attr_images.specs.Words.{class_of}
-use Rattle.attr_images.specs.declared.TheConstants.{LEAST_DENSE, MOST_SHORT}
+use Rattle.image_format.specs.Words.{class_of}
+use Rattle.image_format.specs.declared.TheConstants.{LEAST_DENSE, MOST_SHORT}
 use Rattle.bit_vector.specs.Changes.{vector_most}
 use Rattle.bit_vector.specs.Vectors.{count_blocks}
-use Rattle.attr_index.specs.Changes.{is_weight, IsBetween}
-use Rattle.attr_index.specs.Index.{Index, list_of}
+use Rattle.index_model.specs.Changes.{is_weight, IsBetween}
+use Rattle.index_model.specs.Index.{Index, list_of}
 use Rattle.attr_types.specs.Value.{value_cmp}
 use Rattle.attr_types.specs.declared.value.Value.{Value}
 use Rattle.value_index.specs.Changes.{new_most}

@@ -6,8 +6,8 @@ use Rattle.entry_ref.specs.Records.{Records, Among}
 use Rattle.store_api.specs.Parts.{Part}
 use Rattle.tree_read.specs.Trees.{tree_pairs, tree_nodes}
 use Rattle.tree_read.specs.Pairs.{lookup_pair}
-use Rattle.attr_images.specs.Postings.{dictionary_reach}
-use Rattle.attr_images.specs.declared.TheConstants.{LEAST_DENSE}
+use Rattle.image_format.specs.Postings.{dictionary_reach}
+use Rattle.image_format.specs.declared.TheConstants.{LEAST_DENSE}
 use Rattle.attr_types.specs.declared.kind.ValueType.{ValueType}
 use Rattle.attr_types.specs.declared.value.Value.{Value}
 use Rattle.enum_dictionary.specs.Dictionaries.{IsDictionary, beside_value}
@@ -21,7 +21,7 @@ pub record IsValuePair (m : Records) (p : ℕ × ℕ) : Type 0 where
   pub list_is : IsList m p.1
   pub long : is_vector p.1 ≡ true → LEAST_DENSE ≤ length (list_at m p.1)
 
--- the root of an index whose values have this type; its contents are `index_of` of attr_images
+-- the root of an index whose values have this type; its contents are `index_of` of image_format
 pub record IsIndex (type : ValueType) (m : Records) (root : ℕ) : Type 0 where
   pub dictionary_is : IsDictionary type m root
   pub pairs : AllByRecursion (IsValuePair m) (tree_pairs m root)

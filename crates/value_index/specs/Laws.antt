@@ -3,9 +3,9 @@ use Rattle.std.specs.Prelude.{◌≡◌, ℕ, ◌<◌, Bool, [], length, Some}
 use Rattle.std.specs.List.{AllByRecursion}
 use Rattle.entry_ref.specs.Records.{Records, SameAt, Among}
 use Rattle.tree_read.specs.Trees.{tree_pairs, IsTree}
-use Rattle.attr_images.specs.Postings.{index_of, IsDictionaryEntry}
-use Rattle.attr_images.specs.Values.{stored_value, IsValueRecord}
-use Rattle.attr_index.specs.Index.{IsFormed, list_of}
+use Rattle.image_format.specs.Postings.{index_of, IsDictionaryEntry}
+use Rattle.image_format.specs.Values.{stored_value, IsValueRecord}
+use Rattle.index_model.specs.Index.{IsFormed, list_of}
 use Rattle.attr_types.specs.Value.{type_of, value_cmp}
 use Rattle.attr_types.specs.declared.kind.ValueType.{ValueType}
 use Rattle.attr_types.specs.declared.value.Value.{Value}

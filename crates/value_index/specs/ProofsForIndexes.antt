@@ -3,8 +3,8 @@
 use Rattle.std.proofs.Common.{◌≡◌, ℕ, ◌++◌}
 use Rattle.entry_ref.specs.Records.{Records, SameAt}
 use Rattle.tree_read.specs.Trees.{tree_nodes}
-use Rattle.attr_images.specs.Postings.{dictionary_reach}
-use Rattle.attr_images.specs.ProofsForImages.{trees_reach-same}
+use Rattle.image_format.specs.Postings.{dictionary_reach}
+use Rattle.image_format.specs.ProofsForImages.{trees_reach-same}
 use Rattle.attr_types.specs.declared.kind.Kind.TheVariants.{Single}
 use Rattle.attr_types.specs.declared.kind.ValueType.TheVariants.{Long}
 

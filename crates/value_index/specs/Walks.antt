@@ -3,8 +3,8 @@ use Rattle.std.specs.Prelude.{ℕ, ℤ, [], ◌∷◌, Option}
 use Rattle.entry_ref.specs.Records.{Records}
 use Rattle.store_api.specs.Ledgers.{Ledger}
 use Rattle.store_api.specs.Parts.{Owns, Turns}
-use Rattle.attr_images.specs.Postings.{index_of}
-use Rattle.attr_index.specs.Changes.{IsBetween}
+use Rattle.image_format.specs.Postings.{index_of}
+use Rattle.index_model.specs.Changes.{IsBetween}
 use Rattle.attr_types.specs.declared.kind.ValueType.{ValueType}
 use Rattle.attr_types.specs.declared.value.Value.{Value}
 use Rattle.value_index.specs.Changes.{KeepsKeys}

@@ -1,8 +1,8 @@
 -- The widths for which a walk may be refused.
 use Rattle.std.specs.Prelude.{◌≡◌, ◌⊎◌, ℕ, ℤ, Bool, length, Option, IsSome}
 use Rattle.tree_read.specs.declared.node_format.TheConstants.{NODE_WORDS}
-use Rattle.attr_index.specs.Changes.{settled}
-use Rattle.attr_index.specs.Index.{Index, list_of}
+use Rattle.index_model.specs.Changes.{settled}
+use Rattle.index_model.specs.Index.{Index, list_of}
 use Rattle.attr_types.specs.declared.value.Value.{Value}
 use Rattle.value_index.specs.Changes.{IsValueWidth}
 

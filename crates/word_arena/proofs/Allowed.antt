@@ -7,7 +7,7 @@ use lib.Seq.{map-set}
 use Rattle.std.specs.Prelude.{slice_get, All, option_map, Option, nat_eq}
 use Rattle.std.specs.Option.{unwrap_or}
 use Rattle.std.proofs.lemmas.Option.{slice_get_within}
-use Rattle.list_facts.proofs.Places.{slice_get-set_same}
+use Rattle.list_lemmas.proofs.Places.{slice_get-set_same}
 use Rattle.gen_core.proofs.Counts.{load_newest_keeps, raise_keeps, bounce_keeps, release_keeps}
 use Rattle.atomic_table.specs.Table.{State, Me, Step, step, keeps, Allows, Splits, Joins}
 use Rattle.entry_ref.specs.Records.{Records}

@@ -4,7 +4,7 @@ use Rattle.std.specs.Prelude.{slice_get, All, option_and_then}
 use Rattle.std.specs.Option.{unwrap_or}
 use Rattle.std.proofs.lemmas.Bool.{cases_eq, and_from, and_left}
 use Rattle.std.proofs.lemmas.Nat.{same_from_place}
-use Rattle.list_facts.proofs.Places.{slice_get-set_same, slice_get-set_other}
+use Rattle.list_lemmas.proofs.Places.{slice_get-set_same, slice_get-set_other}
 use Rattle.entry_ref.specs.References.{buffer_of, offset_of}
 use Rattle.entry_ref.specs.declared.images.Image.{Image}
 use Rattle.entry_ref.specs.Images.{words_at}

@@ -12,7 +12,7 @@ use Rattle.gen_core.specs.Steps.{view_at}
 use Rattle.gen_core.specs.Events.{Happens, Happen, MayOpen, opening}
 use Rattle.gen_core.proofs.HeldBack.{holds_back}
 use Rattle.gen_core.proofs.Layouts.{IsLayout}
-use Rattle.list_facts.proofs.Options.{same_Some}
+use Rattle.list_lemmas.proofs.Options.{same_Some}
 use Rattle.word_arena.specs.declared.rule.Watched.{Watched}
 use Rattle.word_arena.specs.Ruled.{Slot, writer_in, writer_of}
 use Rattle.word_arena.specs.PlayEvents.{IsEvent, IsStep}

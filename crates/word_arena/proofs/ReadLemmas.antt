@@ -2,7 +2,7 @@
 use Rattle.std.proofs.Common.{◌≡◌, ℕ, ◌+◌, ◌<◌, List, [], ◌∷◌, ◌++◌, length, take, drop, set, slice_index, sym, ap, ◌∙◌}
 use Rattle.std.proofs.Math.Seq.{take-add}
 use Rattle.std.proofs.lemmas.List.{take_more_set, drop-drop}
-use Rattle.list_facts.proofs.Places.{drop-read}
+use Rattle.list_lemmas.proofs.Places.{drop-read}
 
 pub read_more : (into ws : List ℕ) (first i x : ℕ) → i < length into → first + i < length ws → x ≡ slice_index ws (first + i) → take i into ≡ take i (drop first ws)
     → take (i + 1) (set into i x) ≡ take (i + 1) (drop first ws)

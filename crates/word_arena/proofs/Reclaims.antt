@@ -6,7 +6,7 @@ use Rattle.std.specs.Prelude.{slice_get, nat_lt, option_and_then, option_map}
 use Rattle.std.specs.Option.{unwrap_or}
 use Rattle.std.proofs.lemmas.Bool.{cases_eq, lt-ltb, ltb-true}
 use Rattle.std.proofs.lemmas.Option.{slice_get_within}
-use Rattle.list_facts.proofs.Places.{slice_get-set_same, slice_get-set_other}
+use Rattle.list_lemmas.proofs.Places.{slice_get-set_same, slice_get-set_other}
 use Rattle.entry_ref.specs.Images.{words_at}
 use Rattle.entry_ref.specs.References.{buffer_of}
 use Rattle.gen_core.specs.declared.views.OpenHold.{OpenHold}

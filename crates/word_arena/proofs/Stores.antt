@@ -21,7 +21,7 @@ use Rattle.gen_core.specs.Good.{GoodView}
 use Rattle.gen_core.specs.Conditions.{MayStoreWord}
 use Rattle.gen_core.specs.Events.{stored, published}
 use Rattle.gen_core.proofs.Lists.{at_longer}
-use Rattle.list_facts.proofs.Places.{slice_get-set_same, slice_get-set_other}
+use Rattle.list_lemmas.proofs.Places.{slice_get-set_same, slice_get-set_other}
 use Rattle.gen_core.proofs.ViewLemmas.{last_at, last_image-push}
 use Rattle.gen_core.proofs.WriterRecords.{records-published}
 use Rattle.gen_core.proofs.GoodViews.{some-commit, floor-last, unkept-avoids}

@@ -24,7 +24,7 @@ use Rattle.gen_core.specs.Views.{active_in}
 use Rattle.gen_core.specs.Work.{writer_records, stored_by, IsRecordStored}
 use Rattle.gen_core.proofs.Work.{records-found}
 use Rattle.std.proofs.lemmas.List.{length-map, length_push}
-use Rattle.list_facts.proofs.Options.{same_Some}
+use Rattle.list_lemmas.proofs.Options.{same_Some}
 use Rattle.gen_core.specs.Good.{GoodView, IsBefore, HasNothingIn}
 use Rattle.gen_core.proofs.Lists.{all_drop-at, all_found}
 use Rattle.gen_core.proofs.Holds.{newest-most, oldest-least}

@@ -6,7 +6,7 @@ ghost use Rattle.word_arena.specs.Ruled.{bare, writer_of};
 ghost use Rattle.word_arena.specs.Knows.{IsToken, core_sizes};
 
 use crate::config::Config;
-use crate::rule::{Place, Words};
+use crate::rule::{ArenaSeat, Words};
 use crate::words::{CLOSED, FIRST_COUNT, FIRST_STATE};
 use atomic_table::Table;
 use entry_ref::Layout;
@@ -24,7 +24,7 @@ pub struct Arena<const OFFSET_BITS: u32, L: Layout> {
 pub struct Token<const OFFSET_BITS: u32> {
     pub(crate) sizes: Sizes,
     pub(crate) buffers: Vec<Buffer>,
-    pub(crate) place: Place,
+    pub(crate) place: ArenaSeat,
     ghost stands: { IsToken OFFSET_BITS sizes buffers.items place.table_id (bare place.me) },
 }
 

@@ -88,7 +88,7 @@ impl<const OFFSET_BITS: u32, L: Layout> Writer<OFFSET_BITS, L> {
     }
 
     // Begins the next generation.
-    pub(crate) fn go_on(&mut self) -> Advance
+    pub(crate) fn advance_generation(&mut self) -> Advance
         ensures table { self.new.place.table_id ≡ self.old.place.table_id }
         ensures view { AdvancesView result (writer_of self.old.place.me.0) (writer_of self.new.place.me.0) }
     {

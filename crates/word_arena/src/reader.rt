@@ -11,7 +11,7 @@ ghost use Rattle.entry_ref.specs.Records.{HasWord, word_at};
 
 use crate::arena::Arena;
 use crate::plays::{Bounce, LoadNewest, LoadRoot, LoadWord, Raise, Release};
-use crate::rule::Place;
+use crate::rule::ArenaSeat;
 use crate::steps::Steps;
 use crate::words::{COMMIT_BASE, FIRST_COUNT, GENERATION_BASE, LAST, RAISED, ROOT, first_word};
 use arena_api::Frozen;
@@ -22,7 +22,7 @@ use std::sync::ledger::Ledger;
 #[derive(Drop)]
 pub struct Reader<const OFFSET_BITS: u32, L: Layout> {
     pub(crate) arena: Arc<Arena<OFFSET_BITS, L>>,
-    pub(crate) place: Place,
+    pub(crate) place: ArenaSeat,
     ghost stands: { IsWatch OFFSET_BITS arena.value.table.shared.table_id arena.value.sizes place.table_id (bare place.me) },
 }
 
@@ -32,7 +32,7 @@ pub struct Guarded<const OFFSET_BITS: u32, L: Layout> {
     pub(crate) arena: Arc<Arena<OFFSET_BITS, L>>,
     pub(crate) hold: u64,
     pub(crate) found: u64,
-    pub(crate) place: Place,
+    pub(crate) place: ArenaSeat,
     ghost stands: { IsGuard OFFSET_BITS arena.value.table.shared.table_id arena.value.sizes hold found place.table_id (bare place.me) },
 }
 
@@ -41,7 +41,7 @@ pub struct Guarded<const OFFSET_BITS: u32, L: Layout> {
 pub struct Aimed<const OFFSET_BITS: u32, L: Layout> {
     pub(crate) arena: Arc<Arena<OFFSET_BITS, L>>,
     pub(crate) hold: u64,
-    pub(crate) place: Place,
+    pub(crate) place: ArenaSeat,
     ghost stands: { IsAim OFFSET_BITS arena.value.table.shared.table_id arena.value.sizes hold place.table_id (bare place.me) },
 }
 
@@ -230,7 +230,7 @@ impl<const OFFSET_BITS: u32, L: Layout> Guarded<OFFSET_BITS, L> {
 /// Loads words of a record of the guarded commit from place `at` on, where its word `first` is.
 fn load_words<const OFFSET_BITS: u32, L: Layout>(
     arena: &Arena<OFFSET_BITS, L>,
-    seat: &mut Place,
+    seat: &mut ArenaSeat,
     entry: EntryRef<OFFSET_BITS>,
     first: u32,
     at: u64,

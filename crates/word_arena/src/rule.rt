@@ -19,16 +19,16 @@ pub struct Watched {
     pub mine: LinkedList<Event>,
 }
 
-pub struct Law<L> {
+pub struct OneRunRule<L> {
     layout: PhantomData<L>,
 }
 
-impl<L: Layout> TableRule<(), Watched, Sizes> for Law<L> {
+impl<L: Layout> TableRule<(), Watched, Sizes> for OneRunRule<L> {
     ghost holds = { OneRun L.reaches L.lawful };
 
     ghost first = { λ sizes. record { view = Writer (opening_view sizes); seen = []; mine = [] } };
 }
 
-pub type Words<L> = Table<(), Watched, Sizes, Law<L>, Global>;
+pub type Words<L> = Table<(), Watched, Sizes, OneRunRule<L>, Global>;
 
-pub type Place = Seat<(), Watched>;
+pub type ArenaSeat = Seat<(), Watched>;

@@ -11,7 +11,7 @@ pub(crate) const MOST_READERS: u32 = 64;
 
 /// The owners of an arena. All are made when the writer is made, so that no reader has to count one.
 #[derive(Drop)]
-pub(crate) struct Seats<const OFFSET_BITS: u32, L: Layout> {
+pub(crate) struct Owners<const OFFSET_BITS: u32, L: Layout> {
     pub(crate) arena: Arc<Arena<OFFSET_BITS, L>>,
     pub(crate) spare: Vec<Arc<Arena<OFFSET_BITS, L>>>,
     pub(crate) made: u32,
@@ -19,12 +19,12 @@ pub(crate) struct Seats<const OFFSET_BITS: u32, L: Layout> {
     ghost rest: { length spare.items + made ≡ 64 },
 }
 
-impl<const OFFSET_BITS: u32, L: Layout> Seats<OFFSET_BITS, L> {
+impl<const OFFSET_BITS: u32, L: Layout> Owners<OFFSET_BITS, L> {
     /// Returns the owners of an arena of which no reader was made.
     pub(crate) fn new(
         alloc: Global,
         arena: Arena<OFFSET_BITS, L>,
-    ) -> Result<Seats<OFFSET_BITS, L>, AllocError>
+    ) -> Result<Owners<OFFSET_BITS, L>, AllocError>
         ensures arena { IfOk result (λ s. s.arena.value ≡ arena) }
         ensures made { IfOk result (λ s. s.made ≡ 0) }
     {
@@ -36,7 +36,7 @@ impl<const OFFSET_BITS: u32, L: Layout> Seats<OFFSET_BITS, L> {
             let owner = Arc::try_clone(&arena)?;
             spare.push(owner)?;
         }
-        Ok(Seats {
+        Ok(Owners {
             arena,
             spare,
             made: 0,

@@ -17,7 +17,7 @@ ghost use Rattle.word_arena.specs.WriterSteps.{IsTaggedBelow};
 use crate::arena::Arena;
 use crate::buffers::{count_free, last_of, lowest_free, width_of};
 use crate::plays::{FindWord, HandOut, Publish, StoreWidth, StoreWord};
-use crate::rule::Place;
+use crate::rule::ArenaSeat;
 use crate::words::{ACTIVE, COMMIT_BASE, FIRST_STATE, ROOT, first_word};
 use crate::writer::Writer;
 use arena_api::{Advance, Frozen, Oldest, Work};
@@ -87,7 +87,7 @@ impl<const OFFSET_BITS: u32, L: Layout> Writer<OFFSET_BITS, L> {
 /// Loads the word of an entry that is at this place. The word counts as stored from then on.
 fn find_in<const OFFSET_BITS: u32, L: Layout>(
     arena: &Arena<OFFSET_BITS, L>,
-    seat: &mut Place,
+    seat: &mut ArenaSeat,
     entry: EntryRef<OFFSET_BITS>,
     i: u32,
     at: usize,
@@ -112,7 +112,7 @@ fn find_in<const OFFSET_BITS: u32, L: Layout>(
 /// since a load is cheaper.
 fn put_in<const OFFSET_BITS: u32, L: Layout>(
     arena: &Arena<OFFSET_BITS, L>,
-    seat: &mut Place,
+    seat: &mut ArenaSeat,
     entry: EntryRef<OFFSET_BITS>,
     i: u32,
     at: usize,
@@ -137,7 +137,7 @@ fn put_in<const OFFSET_BITS: u32, L: Layout>(
 /// Sets the first words of an entry, the first of which is at this place.
 fn put_words<const OFFSET_BITS: u32, L: Layout>(
     arena: &Arena<OFFSET_BITS, L>,
-    seat: &mut Place,
+    seat: &mut ArenaSeat,
     entry: EntryRef<OFFSET_BITS>,
     first: usize,
     words: &[u64],
@@ -162,7 +162,7 @@ fn put_words<const OFFSET_BITS: u32, L: Layout>(
 /// Sets the words of an entry from word `start` on to 0; its first word is at this place.
 fn put_zeros<const OFFSET_BITS: u32, L: Layout>(
     arena: &Arena<OFFSET_BITS, L>,
-    seat: &mut Place,
+    seat: &mut ArenaSeat,
     entry: EntryRef<OFFSET_BITS>,
     first: usize,
     start: u32,
@@ -188,7 +188,7 @@ fn put_zeros<const OFFSET_BITS: u32, L: Layout>(
 /// Stores the word of an entry that is at this place.
 fn store_in<const OFFSET_BITS: u32, L: Layout>(
     arena: &Arena<OFFSET_BITS, L>,
-    seat: &mut Place,
+    seat: &mut ArenaSeat,
     entry: EntryRef<OFFSET_BITS>,
     i: u32,
     at: usize,
@@ -331,7 +331,7 @@ impl<const OFFSET_BITS: u32, L: Layout> Work<OFFSET_BITS> for Writer<OFFSET_BITS
     }
 
     fn advance(&mut self) -> Advance {
-        self.go_on()
+        self.advance_generation()
     }
 
     fn reclaim(&mut self) -> Oldest {

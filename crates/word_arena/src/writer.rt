@@ -15,8 +15,8 @@ ghost use Rattle.entry_ref.specs.Records.{HasWord, word_at};
 use crate::arena::{Arena, Token};
 use crate::plays::{Cut, Glue, LoadOwn, MeetLoad};
 use crate::reader::Reader;
-use crate::rule::Place;
-use crate::seats::{MOST_READERS, Seats};
+use crate::rule::ArenaSeat;
+use crate::seats::{MOST_READERS, Owners};
 use crate::words::{ROOT, first_word};
 use arena_api::Frozen;
 use entry_ref::{EntryRef, Layout, place_of};
@@ -27,11 +27,11 @@ use thiserror::Error;
 
 #[derive(Drop)]
 pub struct Writer<const OFFSET_BITS: u32, L: Layout> {
-    pub(crate) seats: Seats<OFFSET_BITS, L>,
+    pub(crate) seats: Owners<OFFSET_BITS, L>,
     pub(crate) buffers: Vec<Buffer>,
     pub(crate) holds: Holds,
     pub(crate) last: u32,
-    pub(crate) place: Place,
+    pub(crate) place: ArenaSeat,
     ghost stands: { IsDesk OFFSET_BITS seats.arena.value.table.shared.table_id seats.arena.value.sizes buffers.items holds last seats.made
         place.table_id (bare place.me) },
 }
@@ -61,7 +61,7 @@ impl<const OFFSET_BITS: u32, L: Layout> Arena<OFFSET_BITS, L> {
             buffers,
             place,
         } = token;
-        let seats = Seats::new(alloc, self)?;
+        let seats = Owners::new(alloc, self)?;
         Ok(Writer {
             seats,
             buffers,
@@ -133,7 +133,7 @@ impl<const OFFSET_BITS: u32, L: Layout> Writer<OFFSET_BITS, L> {
 /// Loads words of a record of the writer from place `at` on, where its word `first` is.
 fn load_words<const OFFSET_BITS: u32, L: Layout>(
     arena: &Arena<OFFSET_BITS, L>,
-    seat: &mut Place,
+    seat: &mut ArenaSeat,
     entry: EntryRef<OFFSET_BITS>,
     first: u32,
     at: u64,

@@ -1,6 +1,6 @@
 use Rattle.std.proofs.Common.{◌≡◌, drop, nat_le}
 use Rattle.std.specs.List.{find}
-use Rattle.attr_images.specs.Words.{classes}
+use Rattle.image_format.specs.Words.{classes}
 use Rattle.array_store.proofs.class.class_of.Given as goal
 
 -- the widths that are left hold it just where all do

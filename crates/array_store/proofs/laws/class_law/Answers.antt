@@ -1,4 +1,4 @@
-use Rattle.attr_images.proofs.RootLemmas.{length-filled}
+use Rattle.image_format.proofs.RootLemmas.{length-filled}
 use Rattle.array_store.proofs.ClassLemmas.{class_holds, class_least, class_width, class_no_node}
 use Rattle.array_store.proofs.laws.class_law.Goals as goal
 

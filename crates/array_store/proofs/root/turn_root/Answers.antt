@@ -1,6 +1,6 @@
 use Rattle.std.proofs.Common.{length, ◌∙◌, arith}
 use Rattle.std.proofs.lemmas.Result.{err_from_is_err_and}
-use Rattle.attr_images.specs.Words.{class_of}
+use Rattle.image_format.specs.Words.{class_of}
 use Rattle.array_store.proofs.RootLemmas.{one_dropped, owns_still, makes_root}
 use Rattle.array_store.proofs.root.turn_root.Goals as goal
 

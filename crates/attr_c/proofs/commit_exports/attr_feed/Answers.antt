@@ -15,19 +15,19 @@ use Rattle.attr_c.proofs.commit_exports.attr_feed.Goals as goal
 
 pub returns-in-Narrow-clause-front : goal.returns-in-Narrow-clause-front
 returns-in-Narrow-clause-front c = λ not.
-    let is : c.args.at.now.value.open ≡ Narrow c.in-Narrow.open = search rules in
+    let is : c.args.at.now.value.inner ≡ Narrow c.in-Narrow.inner = search rules in
     let bytes = c.args.bytes.now in
     let told = c.feed_told.new.told in
-    let now = c.feed_told.new.open.attribute in
+    let now = c.feed_told.new.inner.attribute in
     subst (λ (o : AnyOpen). FedTo (open_fields o) bytes told.line (drop told.place bytes) (open_table o) now.table (open_operations o) now.operations told.skipped) (sym is)
     (c.feed_told.ensures.front (λ zero. not (ap (λ (z : ℤ). to_z w32 (of_z w32 z)) zero)))
 
 pub returns-in-Wide-clause-front : goal.returns-in-Wide-clause-front
 returns-in-Wide-clause-front c = λ not.
-    let is : c.args.at.now.value.open ≡ Wide c.in-Wide.open = search rules in
+    let is : c.args.at.now.value.inner ≡ Wide c.in-Wide.inner = search rules in
     let bytes = c.args.bytes.now in
     let told = c.feed_told-in-Wide.new.told in
-    let now = c.feed_told-in-Wide.new.open.attribute in
+    let now = c.feed_told-in-Wide.new.inner.attribute in
     subst (λ (o : AnyOpen). FedTo (open_fields o) bytes told.line (drop told.place bytes) (open_table o) now.table (open_operations o) now.operations told.skipped) (sym is)
     (c.feed_told-in-Wide.ensures.front (λ zero. not (ap (λ (z : ℤ). to_z w32 (of_z w32 z)) zero)))
 
@@ -39,24 +39,24 @@ returns-in-Wide-clause-next c = λ not. c.feed_told-in-Wide.ensures.next (λ zer
 
 pub returns-in-Narrow-clause-store : goal.returns-in-Narrow-clause-store
 returns-in-Narrow-clause-store c =
-    let is : c.args.at.now.value.open ≡ Narrow c.in-Narrow.open = search rules in
-    subst (λ (o : AnyOpen). KeepsStore (open_ledger o) (open_ledger (Narrow c.feed_told.new.open))) (sym is) c.feed_told.ensures.keeps
+    let is : c.args.at.now.value.inner ≡ Narrow c.in-Narrow.inner = search rules in
+    subst (λ (o : AnyOpen). KeepsStore (open_ledger o) (open_ledger (Narrow c.feed_told.new.inner))) (sym is) c.feed_told.ensures.keeps
 
 pub returns-in-Wide-clause-store : goal.returns-in-Wide-clause-store
 returns-in-Wide-clause-store c =
-    let is : c.args.at.now.value.open ≡ Wide c.in-Wide.open = search rules in
-    subst (λ (o : AnyOpen). KeepsStore (open_ledger o) (open_ledger (Wide c.feed_told-in-Wide.new.open))) (sym is) c.feed_told-in-Wide.ensures.keeps
+    let is : c.args.at.now.value.inner ≡ Wide c.in-Wide.inner = search rules in
+    subst (λ (o : AnyOpen). KeepsStore (open_ledger o) (open_ledger (Wide c.feed_told-in-Wide.new.inner))) (sym is) c.feed_told-in-Wide.ensures.keeps
 
 pub returns-in-Narrow-clause-done : goal.returns-in-Narrow-clause-done
 returns-in-Narrow-clause-done c = λ zero.
-    let is : c.args.at.now.value.open ≡ Narrow c.in-Narrow.open = search rules in
+    let is : c.args.at.now.value.inner ≡ Narrow c.in-Narrow.inner = search rules in
     let ok = sym (to_z-of_z w32 c.feed_told.result (record { sfits = c.feed_told.type_inv })) ∙ zero in
-    subst (λ (o : AnyOpen). AppliesOpen (λ ops. feed_of (open_fields o) c.args.bytes.now ≡ Ok ops) o (Narrow c.feed_told.new.open)) (sym is) (c.feed_told.ensures.done ok)
+    subst (λ (o : AnyOpen). AppliesOpen (λ ops. feed_of (open_fields o) c.args.bytes.now ≡ Ok ops) o (Narrow c.feed_told.new.inner)) (sym is) (c.feed_told.ensures.done ok)
 
 pub returns-in-Narrow-clause-stopped : goal.returns-in-Narrow-clause-stopped
 returns-in-Narrow-clause-stopped c = λ not.
-    let is : c.args.at.now.value.open ≡ Narrow c.in-Narrow.open = search rules in
-    let now = c.feed_told.new.open in
+    let is : c.args.at.now.value.inner ≡ Narrow c.in-Narrow.inner = search rules in
+    let now = c.feed_told.new.inner in
     let told = c.feed_told.new.told in
     let bytes = c.args.bytes.now in
     let rest = drop told.place bytes in
@@ -76,14 +76,14 @@ returns-in-Narrow-clause-tells c =
 
 pub returns-in-Wide-clause-done : goal.returns-in-Wide-clause-done
 returns-in-Wide-clause-done c = λ zero.
-    let is : c.args.at.now.value.open ≡ Wide c.in-Wide.open = search rules in
+    let is : c.args.at.now.value.inner ≡ Wide c.in-Wide.inner = search rules in
     let ok = sym (to_z-of_z w32 c.feed_told-in-Wide.result (record { sfits = c.feed_told-in-Wide.type_inv })) ∙ zero in
-    subst (λ (o : AnyOpen). AppliesOpen (λ ops. feed_of (open_fields o) c.args.bytes.now ≡ Ok ops) o (Wide c.feed_told-in-Wide.new.open)) (sym is) (c.feed_told-in-Wide.ensures.done ok)
+    subst (λ (o : AnyOpen). AppliesOpen (λ ops. feed_of (open_fields o) c.args.bytes.now ≡ Ok ops) o (Wide c.feed_told-in-Wide.new.inner)) (sym is) (c.feed_told-in-Wide.ensures.done ok)
 
 pub returns-in-Wide-clause-stopped : goal.returns-in-Wide-clause-stopped
 returns-in-Wide-clause-stopped c = λ not.
-    let is : c.args.at.now.value.open ≡ Wide c.in-Wide.open = search rules in
-    let now = c.feed_told-in-Wide.new.open in
+    let is : c.args.at.now.value.inner ≡ Wide c.in-Wide.inner = search rules in
+    let now = c.feed_told-in-Wide.new.inner in
     let told = c.feed_told-in-Wide.new.told in
     let bytes = c.args.bytes.now in
     let rest = drop told.place bytes in

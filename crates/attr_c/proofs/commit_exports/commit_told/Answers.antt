@@ -37,8 +37,8 @@ returns-clause-home g c = c.commit-came.ensures.home
 pub returns-clause-stopped : goal.returns-clause-stopped
 returns-clause-stopped g c = λ not.
     let ledger = g.S.Store.ledger in
-    let was = c.args.open.now in
-    let now = c.commit-came.new.open in
+    let was = c.args.inner.now in
+    let now = c.commit-came.new.inner in
     let code = to_z-of_z w32 c.ended.result (record { sfits = c.ended.type_inv }) in
     let failed = c.ended.ensures.other (λ zero. not (ap (λ (z : ℤ). to_z w32 (of_z w32 z)) zero)) in
     stopped_as _ _ _ _ _ _ code

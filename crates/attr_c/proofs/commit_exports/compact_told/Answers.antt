@@ -15,8 +15,8 @@ returns-clause-steps g c = λ zero.
 
 pub returns-clause-stopped : goal.returns-clause-stopped
 returns-clause-stopped g c = λ not.
-    let was = c.args.open.now in
-    let now = c.compact-came.new.open in
+    let was = c.args.inner.now in
+    let now = c.compact-came.new.inner in
     let told = c.ended.new.told in
     let code = to_z-of_z w32 c.ended.result (record { sfits = c.ended.type_inv }) in
     let failed = c.ended.ensures.other (λ zero. not (ap (λ (z : ℤ). to_z w32 (of_z w32 z)) zero)) in

@@ -25,8 +25,8 @@ returns-clause-next g c = λ not.
 
 pub returns-clause-stopped : goal.returns-clause-stopped
 returns-clause-stopped g c = λ not.
-    let was = c.args.open.now in
-    let fed = c.feed-came.new.open in
+    let was = c.args.inner.now in
+    let fed = c.feed-came.new.inner in
     let told = c.ended.new.told in
     let bytes = c.args.bytes.now in
     let first = c.feed-came.new.told in

@@ -28,8 +28,8 @@ returns-clause-keeps g c = c.load-came.ensures.keeps
 
 pub returns-clause-stopped : goal.returns-clause-stopped
 returns-clause-stopped g c = λ not.
-    let was = c.args.open.now in
-    let now = c.load-came.new.open in
+    let was = c.args.inner.now in
+    let now = c.load-came.new.inner in
     let told = c.ended.new.told in
     let bytes = c.args.bytes.now in
     let which = ArePuts (AreFirstOf was.fields bytes) in

@@ -6,12 +6,12 @@ use Rattle.attr_c.proofs.feeding.apply.Goals as goal
 pub returns-in-Err-clause-why : goal.returns-in-Err-clause-why
 returns-in-Err-clause-why g c =
     let e = c.in-Err.ensures in
-    refused_by g.S.Store.ledger g.S.Frozen.records c.args.open.now.attribute c.apply.new.self c.args.op.now c.in-Err.error e.left e.keeps e.entries e.counts e.refused e.widths e.spares e.room
+    refused_by g.S.Store.ledger g.S.Frozen.records c.args.inner.now.attribute c.apply.new.self c.args.op.now c.in-Err.error e.left e.keeps e.entries e.counts e.refused e.widths e.spares e.room
 
 pub returns-in-Ok-clause-done : goal.returns-in-Ok-clause-done
 returns-in-Ok-clause-done g c =
     let e = c.in-Ok.ensures in
-    applies_one g.S.Store.ledger _ c.args.open.now.attribute c.apply.new.self c.args.op.now refl
+    applies_one g.S.Store.ledger _ c.args.inner.now.attribute c.apply.new.self c.args.op.now refl
     (record {
       table = e.table;
       operations = e.operations;

@@ -4,8 +4,8 @@ use Rattle.feed_reader.specs.Lines.{lines_of}
 use Rattle.attr_c.specs.declared.told.Told.{Told}
 use Rattle.attr_types.specs.declared.op.Op.{Op}
 use Rattle.attr_c.specs.Feeding.{AreOpsOf, FedLine, FedTo, IfLine, IsFirstOp, IsOpOf, IsSaidBefore, RefusesLine}
-use Rattle.attr_steps.proofs.StepLemmas.{keeps_same}
-use Rattle.compact_steps.proofs.WalkLemmas.{keeps_then}
+use Rattle.attr_operations.proofs.StepLemmas.{keeps_same}
+use Rattle.compaction_steps.proofs.WalkLemmas.{keeps_then}
 use Rattle.attr_c.proofs.ApplyingLemmas.{applies_none, applies_then, applies_wider}
 use Rattle.attr_c.proofs.EndLemmas.{line_since}
 use Rattle.attr_c.proofs.FeedLemmas.{drop_none, drop_on, fed_none, fed_on, fed_refused, fed_small, fed_still, fed_whole, said_more, said_none, said_whole}
@@ -13,15 +13,15 @@ use Rattle.attr_c.proofs.feeding.feed.Goals as goal
 
 pub loop-rest-init : goal.loop-rest-init
 loop-rest-init g c = record {
-  fed = fed_none c.args.open.now.fields c.args.bytes.now c.args.open.now.attribute.table c.args.open.now.attribute.operations;
+  fed = fed_none c.args.inner.now.fields c.args.bytes.now c.args.inner.now.attribute.table c.args.inner.now.attribute.operations;
   told = refl;
   pool = refl;
   counts = refl;
   fields = refl;
   dense = refl;
-  keeps = keeps_same (g.S.Store.ledger c.args.open.now.attribute.store);
+  keeps = keeps_same (g.S.Store.ledger c.args.inner.now.attribute.store);
   plan = refl;
-  done = applies_none g.S.Store.ledger (IsSaidBefore c.args.open.now.fields c.args.bytes.now c.args.bytes.now) c.args.open.now.attribute (said_none c.args.open.now.fields c.args.bytes.now);
+  done = applies_none g.S.Store.ledger (IsSaidBefore c.args.inner.now.fields c.args.bytes.now c.args.bytes.now) c.args.inner.now.attribute (said_none c.args.inner.now.fields c.args.bytes.now);
   commit = record { table = refl; operations = refl };
   at = drop_none c.args.bytes.now;
   small = omega arith;
@@ -30,9 +30,9 @@ loop-rest-init g c = record {
 
 pub overflow_add-told : goal.overflow_add-told
 overflow_add-told g c =
-    let was = c.args.open.now in
-    let mid = c.loop-rest.open.attribute in
-    let now = c.feed_line.new.open.attribute in
+    let was = c.args.inner.now in
+    let mid = c.loop-rest.inner.attribute in
+    let now = c.feed_line.new.inner.attribute in
     let i = c.loop-rest.invariant in
     let line = c.split_line.result.0.now in
     let fed = subst (λ (fs : List Field). FedLine fs line mid.table now.table mid.operations now.operations (Ok c.in-Ok.applied)) i.fields c.in-Ok.ensures.fed in
@@ -44,9 +44,9 @@ overflow_add-told g c =
 pub loop-rest-preserved : goal.loop-rest-preserved
 loop-rest-preserved g c =
     let ledger = g.S.Store.ledger in
-    let was = c.args.open.now in
-    let mid = c.loop-rest.open.attribute in
-    let now = c.feed_line.new.open.attribute in
+    let was = c.args.inner.now in
+    let mid = c.loop-rest.inner.attribute in
+    let now = c.feed_line.new.inner.attribute in
     let i = c.loop-rest.invariant in
     let skipped = c.loop-rest.told.skipped in
     let rest = c.loop-rest.rest.now in
@@ -70,7 +70,7 @@ loop-rest-preserved g c =
       dense = c.in-Ok.ensures.dense ∙ i.dense;
       keeps = keeps_then (ledger was.attribute.store) (ledger mid.store) (ledger now.store) i.keeps c.in-Ok.ensures.keeps;
       plan = c.in-Ok.ensures.plan ∙ i.plan;
-      done = applies_then ledger (IsSaidBefore was.fields c.args.bytes.now rest) (AreOpsOf c.loop-rest.open.fields line) (IsSaidBefore was.fields c.args.bytes.now after) was.attribute mid now
+      done = applies_then ledger (IsSaidBefore was.fields c.args.bytes.now rest) (AreOpsOf c.loop-rest.inner.fields line) (IsSaidBefore was.fields c.args.bytes.now after) was.attribute mid now
           (λ xs ys before of_line. said_more was.fields c.args.bytes.now rest line after c.split_line.ensures.lines xs before ys (subst (λ (fs : List Field). AreOpsOf fs line ys) i.fields of_line)) i.done
           c.in-Ok.ensures.done;
       commit = record { table = c.in-Ok.ensures.commit.table ∙ i.commit.table; operations = c.in-Ok.ensures.commit.operations ∙ i.commit.operations };
@@ -81,9 +81,9 @@ loop-rest-preserved g c =
 
 pub returns-in-Err-clause-front : goal.returns-in-Err-clause-front
 returns-in-Err-clause-front g c =
-    let was = c.args.open.now in
-    let mid = c.loop-rest.open.attribute in
-    let now = c.feed_line.new.open.attribute in
+    let was = c.args.inner.now in
+    let mid = c.loop-rest.inner.attribute in
+    let now = c.feed_line.new.inner.attribute in
     let i = c.loop-rest.invariant in
     let skipped = c.loop-rest.told.skipped in
     let line = c.split_line.result.0.now in
@@ -94,9 +94,9 @@ returns-in-Err-clause-front g c =
 
 pub returns-in-Err-clause-refused : goal.returns-in-Err-clause-refused
 returns-in-Err-clause-refused g c =
-    let was = c.args.open.now in
-    let mid = c.loop-rest.open.attribute in
-    let now = c.feed_line.new.open.attribute in
+    let was = c.args.inner.now in
+    let mid = c.loop-rest.inner.attribute in
+    let now = c.feed_line.new.inner.attribute in
     let i = c.loop-rest.invariant in
     let line = c.split_line.result.0.now in
     let fed = subst (λ (fs : List Field). FedLine fs line mid.table now.table mid.operations now.operations (Err c.in-Err.stop)) i.fields c.in-Err.ensures.fed in
@@ -106,9 +106,9 @@ returns-in-Err-clause-refused g c =
 
 pub returns-in-Err-clause-why : goal.returns-in-Err-clause-why
 returns-in-Err-clause-why g c =
-    let was = c.args.open.now in
-    let mid = c.loop-rest.open in
-    let now = c.feed_line.new.open.attribute in
+    let was = c.args.inner.now in
+    let mid = c.loop-rest.inner in
+    let now = c.feed_line.new.inner.attribute in
     let bytes = c.args.bytes.now in
     let i = c.loop-rest.invariant in
     let rest = c.loop-rest.rest.now in
@@ -142,15 +142,15 @@ returns-in-Err-clause-next g c =
 pub returns-in-Err-clause-keeps : goal.returns-in-Err-clause-keeps
 returns-in-Err-clause-keeps g c =
     let ledger = g.S.Store.ledger in
-    keeps_then (ledger c.args.open.now.attribute.store) (ledger c.loop-rest.open.attribute.store) (ledger c.feed_line.new.open.attribute.store) c.loop-rest.invariant.keeps c.in-Err.ensures.keeps
+    keeps_then (ledger c.args.inner.now.attribute.store) (ledger c.loop-rest.inner.attribute.store) (ledger c.feed_line.new.inner.attribute.store) c.loop-rest.invariant.keeps c.in-Err.ensures.keeps
 
 pub returns-in-Err-clause-dense : goal.returns-in-Err-clause-dense
 returns-in-Err-clause-dense g c = c.in-Err.ensures.dense ∙ c.loop-rest.invariant.dense
 
 pub returns-clause-whole : goal.returns-clause-whole
 returns-clause-whole g c =
-    let was = c.args.open.now in
-    let mid = c.loop-rest.open.attribute in
+    let was = c.args.inner.now in
+    let mid = c.loop-rest.inner.attribute in
     fed_whole was.fields c.args.bytes.now was.attribute.table mid.table was.attribute.operations mid.operations c.loop-rest.told.skipped (c.loop-rest.passed + 1)
     c.loop-rest.rest.now (search rules) c.loop-rest.invariant.fed
 
@@ -159,7 +159,7 @@ returns-in-Err-clause-plan g c = c.in-Err.ensures.plan ∙ c.loop-rest.invariant
 
 pub returns-clause-done : goal.returns-clause-done
 returns-clause-done g c =
-    let was = c.args.open.now in
+    let was = c.args.inner.now in
     let i = c.loop-rest.invariant in
-    applies_wider g.S.Store.ledger (IsSaidBefore was.fields c.args.bytes.now c.loop-rest.rest.now) _ was.attribute c.loop-rest.open.attribute
+    applies_wider g.S.Store.ledger (IsSaidBefore was.fields c.args.bytes.now c.loop-rest.rest.now) _ was.attribute c.loop-rest.inner.attribute
     (λ ops. said_whole was.fields c.args.bytes.now c.loop-rest.rest.now ops (search rules)) i.done

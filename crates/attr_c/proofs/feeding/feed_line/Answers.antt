@@ -7,17 +7,17 @@ use Rattle.attr_c.proofs.feeding.feed_line.Goals as goal
 
 pub returns-in-Ok-Some-clause-fed : goal.returns-in-Ok-Some-clause-fed
 returns-in-Ok-Some-clause-fed g c =
-    let was = c.args.open.now.attribute in
-    let is = c.apply.new.open.attribute in
+    let was = c.args.inner.now.attribute in
+    let is = c.apply.new.inner.attribute in
     let left = c.in-Err-apply.ensures.left in
-    fed_stopped c.args.open.now.fields c.args.line.now was.table is.table was.operations is.operations c.in-Err-apply.stop c.in-Err-apply.ensures.kind
+    fed_stopped c.args.inner.now.fields c.args.line.now was.table is.table was.operations is.operations c.in-Err-apply.stop c.in-Err-apply.ensures.kind
     (record { table = left.0; operations = left.1 })
 
 pub returns-in-Ok-Some-clause-why : goal.returns-in-Ok-Some-clause-why
 returns-in-Ok-Some-clause-why g c =
-    let was = c.args.open.now.attribute in
-    let now = c.apply.new.open.attribute in
-    let fields = c.args.open.now.fields in
+    let was = c.args.inner.now.attribute in
+    let now = c.apply.new.inner.attribute in
+    let fields = c.args.inner.now.fields in
     let line = c.args.line.now in
     let is : c.operation_in.result ≡ Ok (Some c.in-Ok-Some.op) = search rules in
     let said = subst (SaysLine fields line) is c.operation_in.ensures in
@@ -28,8 +28,8 @@ returns-in-Ok-Some-clause-why g c =
 
 pub returns-in-Ok-None-clause-done : goal.returns-in-Ok-None-clause-done
 returns-in-Ok-None-clause-done g c =
-    let fields = c.args.open.now.fields in
+    let fields = c.args.inner.now.fields in
     let line = c.args.line.now in
     let is : c.operation_in.result ≡ Ok None = search rules in
     let said = subst (SaysLine fields line) is c.operation_in.ensures in
-    applies_none g.S.Store.ledger (AreOpsOf fields line) c.args.open.now.attribute said
+    applies_none g.S.Store.ledger (AreOpsOf fields line) c.args.inner.now.attribute said

@@ -1,20 +1,20 @@
 use Rattle.std.proofs.Common.{◌≡◌, ◌∙◌, length, rules, subst, sym, vec_len}
 use Rattle.std.proofs.lemmas.List.{nil_from_length}
-use Rattle.list_facts.proofs.Tests.{zero_from_test}
+use Rattle.list_lemmas.proofs.Tests.{zero_from_test}
 use Rattle.attr_c.specs.Seats.{HasNoReader}
 use Rattle.attr_c.specs.declared.state.AnyOpen.TheVariants.{Narrow, Wide}
 use Rattle.attr_c.proofs.open_exports.has_no_reader.Goals as goal
 
 pub returns-in-Narrow-clause-yes : goal.returns-in-Narrow-clause-yes
 returns-in-Narrow-clause-yes c = λ empty.
-    let is : c.args.open.now ≡ Narrow c.in-Narrow.open = search rules in
-    let count : length c.in-Narrow.open.pool.items ≡ vec_len c.in-Narrow.open.pool = search rules in
-    let none = zero_from_test (vec_len c.in-Narrow.open.pool) c.is_empty.result c.is_empty.ensures empty in
-    subst HasNoReader (sym is) (nil_from_length c.in-Narrow.open.pool.items (count ∙ none))
+    let is : c.args.inner.now ≡ Narrow c.in-Narrow.inner = search rules in
+    let count : length c.in-Narrow.inner.pool.items ≡ vec_len c.in-Narrow.inner.pool = search rules in
+    let none = zero_from_test (vec_len c.in-Narrow.inner.pool) c.is_empty.result c.is_empty.ensures empty in
+    subst HasNoReader (sym is) (nil_from_length c.in-Narrow.inner.pool.items (count ∙ none))
 
 pub returns-in-Wide-clause-yes : goal.returns-in-Wide-clause-yes
 returns-in-Wide-clause-yes c = λ empty.
-    let is : c.args.open.now ≡ Wide c.in-Wide.open = search rules in
-    let count : length c.in-Wide.open.pool.items ≡ vec_len c.in-Wide.open.pool = search rules in
-    let none = zero_from_test (vec_len c.in-Wide.open.pool) c.is_empty-in-Wide.result c.is_empty-in-Wide.ensures empty in
-    subst HasNoReader (sym is) (nil_from_length c.in-Wide.open.pool.items (count ∙ none))
+    let is : c.args.inner.now ≡ Wide c.in-Wide.inner = search rules in
+    let count : length c.in-Wide.inner.pool.items ≡ vec_len c.in-Wide.inner.pool = search rules in
+    let none = zero_from_test (vec_len c.in-Wide.inner.pool) c.is_empty-in-Wide.result c.is_empty-in-Wide.ensures empty in
+    subst HasNoReader (sym is) (nil_from_length c.in-Wide.inner.pool.items (count ∙ none))

@@ -4,9 +4,9 @@ use Rattle.std.specs.BTreeMap.{is_at}
 use Rattle.std.specs.Map.{lookup}
 use Rattle.std.specs.Ordering.{nat_cmp}
 use Rattle.attr_field.specs.Documents.{IsDocuments}
-use Rattle.attr_images.specs.Documents.{column_at}
-use Rattle.attr_images.specs.Images.{table_of, IsLawfulImage}
-use Rattle.attr_images.proofs.ImageLemmas.{field_is_there}
+use Rattle.image_format.specs.Documents.{column_at}
+use Rattle.image_format.specs.Images.{table_of, IsLawfulImage}
+use Rattle.image_format.proofs.ImageLemmas.{field_is_there}
 use Rattle.attr_c.specs.Said.{items_of}
 use Rattle.attr_c.proofs.ItemLemmas.{field_there, has_documents_root, documents_are}
 use Rattle.attr_c.proofs.reading.field_items.Goals as goal

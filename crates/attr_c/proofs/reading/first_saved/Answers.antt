@@ -1,8 +1,8 @@
 use Rattle.std.proofs.Common.{◌∙◌, ℕ, List, ap, subst}
 use Rattle.std.proofs.lemmas.Result.{IfOk-weaker}
-use Rattle.attr_images.specs.Images.{operations_at, table_of, IsLawfulImage}
-use Rattle.attr_images.specs.Shapes.{shape_of, types_of}
-use Rattle.attr_index.specs.Columns.{column_of}
+use Rattle.image_format.specs.Images.{operations_at, table_of, IsLawfulImage}
+use Rattle.image_format.specs.Shapes.{shape_of, types_of}
+use Rattle.index_model.specs.Columns.{column_of}
 use Rattle.attr_saver.specs.Bytes.{saved_bytes}
 use Rattle.attr_saver.specs.Lawful.{save_of}
 use Rattle.attr_saver.specs.declared.saved.SavedDocument.{SavedDocument}

@@ -1,6 +1,6 @@
 use Rattle.std.proofs.Common.{◌≡◌, ℕ, Some, Option, option_map, sym, ap, subst, ◌∙◌, arith}
 use Rattle.std.specs.Prelude.{IfOk}
-use Rattle.attr_images.specs.Values.{stored_value, IsValueRecord}
+use Rattle.image_format.specs.Values.{stored_value, IsValueRecord}
 use Rattle.attr_compaction.specs.declared.plan.PlanKey.{PlanKey}
 use Rattle.attr_compaction.specs.declared.plan.PlanKey.TheVariants.{Pair}
 use Rattle.attr_compaction.proofs.pairs.next_in.Goals as goal

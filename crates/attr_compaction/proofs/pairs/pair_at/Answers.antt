@@ -2,7 +2,7 @@ use Rattle.std.proofs.Common.{◌≡◌, ◌≢◌, ◌<◌, ℕ, [], true≢fal
 use Rattle.std.specs.Prelude.{IfOk}
 use Rattle.tree_read.proofs.PlaceLemmas.{first_pair}
 use Rattle.tree_read.specs.SearchPlaces.{pairs_from}
-use Rattle.attr_images.specs.Values.{stored_value, IsValueRecord}
+use Rattle.image_format.specs.Values.{stored_value, IsValueRecord}
 use Rattle.attr_compaction.specs.declared.plan.PlanKey.{PlanKey}
 use Rattle.attr_compaction.specs.declared.plan.PlanKey.TheVariants.{Pair}
 use Rattle.posting_store.specs.Lists.{IsList}

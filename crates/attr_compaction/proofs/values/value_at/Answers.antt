@@ -1,6 +1,6 @@
 use Rattle.std.proofs.Common.{◌≡◌, ◌≢◌, ℕ, [], true≢false, Some, Option, option_map, sym, ap, subst, ◌∙◌, arith}
 use Rattle.tree_read.specs.SearchPlaces.{pairs_from}
-use Rattle.attr_images.specs.Values.{stored_value, IsValueRecord}
+use Rattle.image_format.specs.Values.{stored_value, IsValueRecord}
 use Rattle.attr_compaction.specs.declared.plan.PlanKey.TheVariants.{Value}
 use Rattle.enum_dictionary.proofs.BehindLemmas.{first_of_all}
 use Rattle.unique_store.proofs.RecordLemmas.{value_there}

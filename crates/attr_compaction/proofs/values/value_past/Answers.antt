@@ -2,7 +2,7 @@ use Rattle.std.proofs.Common.{◌≡◌, ℕ, sym, ap, subst, ◌∙◌, arith}
 use Rattle.std.specs.List.{AllByRecursion}
 use Rattle.std.specs.Prelude.{IfOk, Option}
 use Rattle.tree_read.specs.SearchPlaces.{pairs_from, IsAt}
-use Rattle.attr_images.specs.Values.{stored_value, IsValueRecord}
+use Rattle.image_format.specs.Values.{stored_value, IsValueRecord}
 use Rattle.attr_types.specs.declared.kind.ValueType.{ValueType}
 use Rattle.std.specs.Option.{option_map}
 use Rattle.attr_compaction.specs.declared.plan.PlanKey.{PlanKey}

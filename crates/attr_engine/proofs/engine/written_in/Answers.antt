@@ -6,6 +6,6 @@ use Rattle.attr_engine.proofs.engine.written_in.Goals as goal
 
 pub returns : goal.returns
 returns c =
-    let came = c.requires.came in
+    let run_result = c.requires.run_result in
     IfOk-weaker c.written_of.result _ _
-    (λ w wrote. run_of (run_in c.args.request.now) c.args.ops.now c.args.came w came (sym came.asked ∙ sym c.is_some.ensures ∙ c.if-is_some.false) wrote) c.written_of.ensures
+    (λ w wrote. run_of (run_in c.args.request.now) c.args.ops.now c.args.run_result w run_result (sym run_result.asked ∙ sym c.is_some.ensures ∙ c.if-is_some.false) wrote) c.written_of.ensures

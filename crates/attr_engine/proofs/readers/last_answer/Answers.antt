@@ -3,7 +3,7 @@ use Rattle.gen_core.specs.declared.views.Sizes.{Sizes}
 use Rattle.gen_core.specs.declared.views.WriterView.{WriterView}
 use Rattle.word_arena.specs.Ruled.{reader_of, writer_of}
 use Rattle.word_arena.specs.Released.{IsWholeRun}
-use Rattle.attr_images.specs.Images.{attr_reaches, IsLawfulImage}
+use Rattle.image_format.specs.Images.{attr_reaches, IsLawfulImage}
 use Rattle.attr_engine.proofs.ReaderLemmas.{last_of, keeps_joined, one_of}
 use Rattle.attr_engine.proofs.WriterLemmas.{keeps_on}
 use Rattle.attr_engine.proofs.readers.last_answer.Goals as goal

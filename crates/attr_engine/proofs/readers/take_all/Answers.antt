@@ -5,10 +5,10 @@ use Rattle.std.specs.Global.{Global}
 use Rattle.std.specs.Vec.Iter.{into_iter_items}
 use Rattle.std.specs.List.{AllZip}
 use Rattle.std.specs.declared.alloc.AllocError.{AllocError}
-use Rattle.list_facts.proofs.Pairs.{AllZip-push}
+use Rattle.list_lemmas.proofs.Pairs.{AllZip-push}
 use Rattle.gen_core.specs.declared.views.WriterView.{WriterView}
 use Rattle.word_arena.specs.Ruled.{reader_of, writer_of}
-use Rattle.attr_images.specs.declared.layout.AttrLayout.{AttrLayout}
+use Rattle.image_format.specs.declared.layout.AttrLayout.{AttrLayout}
 use Rattle.attr_types.specs.Scores.{ask_tree}
 use Rattle.attr_rounds.specs.declared.rounds.Reading.{Reading}
 use Rattle.attr_rounds.specs.declared.rounds.Round.{Round}

@@ -9,7 +9,7 @@ use Rattle.attr_report.specs.Run.{run_in}
 use Rattle.attr_engine.specs.Saver.{one_if, save_parts}
 use Rattle.attr_engine.specs.Steps.{parts, LoadsInto}
 use Rattle.attr_engine.specs.Rounds.{operations_of, tells_of}
-use Rattle.attr_engine.proofs.RunLemmas.{asked_as, last_as, last_on, came_of}
+use Rattle.attr_engine.proofs.RunLemmas.{asked_as, last_as, last_on, run_result_of}
 use Rattle.attr_engine.proofs.SaverLemmas.{chosen_asked, chosen_is, if_both, save_after, save_beside}
 use Rattle.attr_engine.specs.Rounds.{IsSaveOf}
 use Rattle.attr_rounds.specs.Saves.{saves_of}
@@ -51,7 +51,7 @@ returns g c =
     (has.asked ∙ ap (λ (p : Bool × Bool). p.0) c.save_parts-save.ensures) (c.in_ok-saved.ensures.asked ∙ ap (λ (p : Bool × Bool). p.1) c.save_parts-save.ensures) in
     let saves = chosen_is (IsSaveOf run c.args.ops.now c.in_ok-loading.loading.loaded.operations) run.after run.after c.in_ok-loading.loading.saved c.in_ok-saved.saved c.chosen_save-saved.result refl
     c.chosen_save-saved.ensures beside behind in
-    came_of run c.args.ops.now w v c.in_ok-loading.loading.loaded loads c.requires.buffers c.requires.words
+    run_result_of run c.args.ops.now w v c.in_ok-loading.loading.loaded loads c.requires.buffers c.requires.words
     made c.requires.new.shape_is c.requires.new.commits
     c.in_ok-loading.loading.first.items c.in_ok-later.later.items c.chosen-rounds.result c.in_ok-last.last c.chosen_save-saved.result c.chosen-rounds.ensures
     (record { each = first; count = has.count ∙ ap (λ (p : ℕ × ℕ). p.0) c.parts-beside.ensures })

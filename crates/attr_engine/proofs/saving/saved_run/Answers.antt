@@ -7,7 +7,7 @@ use Rattle.attr_engine.proofs.WritingLemmas.{saved_run_of}
 use Rattle.attr_engine.proofs.saving.saved_run.Goals as goal
 
 pub returns : goal.returns
-returns c = saved_run_of (run_in c.args._request.now) c.args._ops.now c.args.came c.in-Some.save _ c.requires.came c.in-Some.is (record {
+returns c = saved_run_of (run_in c.args._request.now) c.args._ops.now c.args.run_result c.in-Some.save _ c.requires.run_result c.in-Some.is (record {
   loaded = refl;
   full = refl;
   rounds = c.in_ok-rounds.ensures ∙ ap (λ (all_rounds : List (Vec (Round Told) Global)). map (λ r. operations_of_rounds r.items) all_rounds) c.as_slice.ensures.value;

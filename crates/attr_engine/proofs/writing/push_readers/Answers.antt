@@ -2,7 +2,7 @@ use Rattle.std.proofs.Common.{◌≡◌, ◌+◌, ◌∙◌, sym, ap, string_byt
 use Rattle.std.specs.Prelude.{Vec}
 use Rattle.std.specs.Global.{Global}
 use Rattle.std.proofs.Math.Seq.{drop-length}
-use Rattle.list_facts.proofs.Places.{drop-read}
+use Rattle.list_lemmas.proofs.Places.{drop-read}
 use Rattle.attr_rounds.specs.declared.rounds.Round.{Round}
 use Rattle.attr_rounds.specs.declared.asked.Told.{Told}
 use Rattle.attr_engine.specs.Writing.{rounds_text, readers_text}

@@ -3,9 +3,9 @@ use Rattle.std.specs.Prelude.{IfOk, IfErr}
 use Rattle.store_api.specs.Parts.{Owns}
 use Rattle.store_api.specs.Units.{MayDo, MakesWithin}
 use Rattle.store_api.proofs.May.{may_do-same}
-use Rattle.attr_images.specs.Documents.{column_at}
-use Rattle.attr_index.specs.Changes.{first_weights}
-use Rattle.attr_index.specs.Columns.{Column, items_of, with_change}
+use Rattle.image_format.specs.Documents.{column_at}
+use Rattle.index_model.specs.Changes.{first_weights}
+use Rattle.index_model.specs.Columns.{Column, items_of, with_change}
 use Rattle.store_api.specs.Calls.{RefusesOf}
 use Rattle.attr_types.specs.declared.items.Item.{Item}
 use Rattle.attr_field.specs.Widths.{IsFieldWidth}

@@ -1,11 +1,11 @@
 use Rattle.std.proofs.Common.{◌+◌, ◌*◌, ◌^◌, ◌<◌, List, [], length, None, Some, refl, sym, ap, subst, ◌∙◌, arith, inl}
 use Rattle.std.proofs.lemmas.Result.{err_from_is_err_and}
 use Rattle.store_api.proofs.May.{may_do-same, may_do-then}
-use Rattle.attr_images.specs.Documents.{column_at}
-use Rattle.attr_images.specs.Postings.{index_of}
-use Rattle.attr_index.specs.Changes.{first_weights, IsBetween}
-use Rattle.attr_index.specs.Columns.{Column, items_of, with_change}
-use Rattle.attr_index.specs.Index.{Index, IsIndexOf}
+use Rattle.image_format.specs.Documents.{column_at}
+use Rattle.image_format.specs.Postings.{index_of}
+use Rattle.index_model.specs.Changes.{first_weights, IsBetween}
+use Rattle.index_model.specs.Columns.{Column, items_of, with_change}
+use Rattle.index_model.specs.Index.{Index, IsIndexOf}
 use Rattle.attr_field.specs.DocumentsChanges.{IsDocumentWidth}
 use Rattle.value_index.specs.Widths.{IsWalkWidth}
 use Rattle.posting_store.proofs.RefusalLemmas.{of_more}

@@ -3,11 +3,11 @@ use Rattle.std.specs.Prelude.{IfErr, IfOk}
 use Rattle.store_api.specs.Calls.{RefusesOf}
 use Rattle.store_api.proofs.May.{may_do-same}
 use Rattle.store_api.specs.Units.{MakesWithin}
-use Rattle.attr_images.specs.Documents.{column_at}
-use Rattle.attr_index.specs.Columns.{with_change}
+use Rattle.image_format.specs.Documents.{column_at}
+use Rattle.index_model.specs.Columns.{with_change}
 use Rattle.attr_types.specs.declared.items.Item.{Item}
 use Rattle.attr_field.specs.Widths.{IsFieldWidth}
-use Rattle.attr_index.specs.Changes.{first_weights}
+use Rattle.index_model.specs.Changes.{first_weights}
 use Rattle.value_index.specs.Counts.{besides, by_width}
 use Rattle.value_index.specs.Forms.{IsOfForm}
 use Rattle.attr_field.specs.Forms.{wants}

@@ -3,7 +3,7 @@ use Rattle.std.specs.BTreeMap.{is_at}
 use Rattle.std.specs.Map.{lookup}
 use Rattle.std.specs.Prelude.{is_some, unwrap_or}
 use Rattle.attr_types.specs.declared.items.Item.{Item}
-use Rattle.attr_images.specs.Documents.{column_at}
+use Rattle.image_format.specs.Documents.{column_at}
 use Rattle.attr_field.proofs.CompareLemmas.{there_again, there_full}
 use Rattle.attr_field.proofs.RefLemmas.{if_ok}
 use Rattle.attr_field.proofs.comparing.has_already.Goals as goal

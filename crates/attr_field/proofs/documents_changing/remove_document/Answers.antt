@@ -6,8 +6,8 @@ use Rattle.tree_read.specs.Pairs.{take_out}
 use Rattle.store_api.specs.Parts.{Owns}
 use Rattle.store_api.specs.Units.{MayDo}
 use Rattle.doc_vector.specs.Documents.{beside_document, IsDocumentMap}
-use Rattle.attr_images.specs.Documents.{column_at}
-use Rattle.attr_index.specs.Columns.{with_change}
+use Rattle.image_format.specs.Documents.{column_at}
+use Rattle.index_model.specs.Columns.{with_change}
 use Rattle.attr_field.specs.DocumentsChanges.{AreBeside, MakesDocuments}
 use Rattle.attr_field.specs.Documents.{documents_part, documents_refer, IsDocuments}
 use Rattle.frozen_btree.specs.Changes.{levels}

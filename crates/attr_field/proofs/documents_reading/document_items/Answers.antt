@@ -1,5 +1,5 @@
 use Rattle.std.proofs.Common.{None, Some, sym, ap, subst, ◌∙◌, arith}
-use Rattle.attr_images.specs.Documents.{items_at, AreItemRecords}
+use Rattle.image_format.specs.Documents.{items_at, AreItemRecords}
 use Rattle.attr_field.proofs.ReadLemmas.{found_records, found_items}
 use Rattle.attr_field.proofs.documents_reading.document_items.Goals as goal
 

@@ -1,9 +1,9 @@
 use Rattle.std.proofs.Common.{◌≡◌, ◌+◌, ◌<◌, ◌∷◌, [], ◌++◌, ℕ, suc, length, map, take, slice_index, sym, ap, subst, ◌∙◌, arith}
 use Rattle.std.proofs.lemmas.List.{take_all}
-use Rattle.list_facts.proofs.Each.{AllByRecursion-at}
+use Rattle.list_lemmas.proofs.Each.{AllByRecursion-at}
 use Rattle.array_store.specs.Arrays.{IsArray}
-use Rattle.attr_images.specs.Values.{IsValueRecord}
-use Rattle.attr_images.specs.Words.{stored_items}
+use Rattle.image_format.specs.Values.{IsValueRecord}
+use Rattle.image_format.specs.Words.{stored_items}
 use Rattle.attr_types.specs.declared.items.Item.{Item}
 use Rattle.attr_field.specs.Items.{item_of, word_entry}
 use Rattle.attr_field.proofs.ReadLemmas.{map_more}

@@ -1,5 +1,5 @@
 use Rattle.std.proofs.Common.{◌≡◌, map, take}
-use Rattle.attr_images.specs.Words.{stored_items}
+use Rattle.image_format.specs.Words.{stored_items}
 use Rattle.attr_field.specs.Items.{item_of, word_entry}
 use Rattle.attr_field.proofs.documents_reading.read_list.Given as goal
 

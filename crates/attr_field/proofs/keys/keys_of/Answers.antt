@@ -1,9 +1,9 @@
 use Rattle.std.proofs.Common.{◌≡◌, [], ◌∷◌, ◌++◌, ◌+◌, suc, ◌<◌, length, refl, sym, subst, ◌∙◌, arith, rules}
 use Rattle.std.proofs.lemmas.Result.{err_from_is_err_and}
 use Rattle.std.proofs.lemmas.Option.{slice_get_read}
-use Rattle.list_facts.proofs.Each.{AllByRecursion-slice_get, AllByRecursion-map_slice_get}
-use Rattle.attr_images.specs.Postings.{index_of}
-use Rattle.attr_index.specs.Index.{list_of}
+use Rattle.list_lemmas.proofs.Each.{AllByRecursion-slice_get, AllByRecursion-map_slice_get}
+use Rattle.image_format.specs.Postings.{index_of}
+use Rattle.index_model.specs.Index.{list_of}
 use Rattle.attr_types.specs.Value.{type_of}
 use Rattle.attr_types.specs.declared.items.Item.{Item}
 use Rattle.value_index.specs.Indexes.{IsIndex}

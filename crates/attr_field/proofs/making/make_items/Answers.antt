@@ -1,7 +1,7 @@
 use Rattle.std.proofs.Common.{[], length, sym, ap, subst, refl, arith}
 use Rattle.std.proofs.lemmas.Option.{slice_get_read}
 use Rattle.std.proofs.lemmas.List.{nil_from_length}
-use Rattle.list_facts.proofs.Tests.{zero_from_test, above_zero_from_test}
+use Rattle.list_lemmas.proofs.Tests.{zero_from_test, above_zero_from_test}
 use Rattle.store_api.proofs.PartLemmas.{turns-same}
 use Rattle.attr_types.specs.Lawful.{IsLawfulItems}
 use Rattle.attr_field.specs.Items.{entries_by_key, has_list, MakesItems}

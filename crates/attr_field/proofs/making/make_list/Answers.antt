@@ -1,7 +1,7 @@
 use Rattle.std.proofs.Common.{ℕ, ◌+◌, subst, length, map, ap, ◌∙◌, arith}
 use Rattle.attr_field.specs.Items.{entries_by_key, word_entry, IsItemsWidth}
 use Rattle.array_store.specs.Adding.{MakesOneOf}
-use Rattle.attr_images.specs.Words.{class_of}
+use Rattle.image_format.specs.Words.{class_of}
 use Rattle.attr_field.proofs.DocumentsCountLemmas.{one-none}
 use Rattle.attr_field.proofs.KeyLemmas.{words_length, made_list}
 use Rattle.posting_store.proofs.RefusalLemmas.{if_one}

@@ -5,10 +5,10 @@ use Rattle.std.specs.Option.{option_copied}
 use Rattle.posting_store.proofs.RefusalLemmas.{if_more, of_more}
 use Rattle.posting_store.specs.Lists.{AreOnes}
 use Rattle.store_api.proofs.May.{may_do-same}
-use Rattle.attr_images.specs.Documents.{column_at}
-use Rattle.attr_images.specs.Postings.{index_of}
-use Rattle.attr_index.specs.Changes.{first_weights, is_weight, IsBetween}
-use Rattle.attr_index.specs.Index.{list_of, with_posting}
+use Rattle.image_format.specs.Documents.{column_at}
+use Rattle.image_format.specs.Postings.{index_of}
+use Rattle.index_model.specs.Changes.{first_weights, is_weight, IsBetween}
+use Rattle.index_model.specs.Index.{list_of, with_posting}
 use Rattle.attr_types.specs.Lawful.{HaveWeightOne}
 use Rattle.attr_types.specs.Value.{type_of, value_cmp, values_of, AreOfType}
 use Rattle.attr_types.specs.declared.items.Item.{Item}

@@ -6,11 +6,11 @@ use Rattle.std.specs.Option.{is_some, option_copied}
 use Rattle.posting_store.proofs.RefusalLemmas.{if_more}
 use Rattle.posting_store.specs.Lists.{AreOnes}
 use Rattle.store_api.proofs.May.{may_do-same}
-use Rattle.attr_images.specs.Documents.{column_at}
-use Rattle.attr_images.specs.Postings.{index_of}
-use Rattle.attr_index.proofs.MapLemmas.{back_begins}
-use Rattle.attr_index.specs.Changes.{first_given, first_weights, IsBetween}
-use Rattle.attr_index.specs.Index.{list_of, without_posting, Index, IsIndexOf}
+use Rattle.image_format.specs.Documents.{column_at}
+use Rattle.image_format.specs.Postings.{index_of}
+use Rattle.index_model.proofs.MapLemmas.{back_begins}
+use Rattle.index_model.specs.Changes.{first_given, first_weights, IsBetween}
+use Rattle.index_model.specs.Index.{list_of, without_posting, Index, IsIndexOf}
 use Rattle.attr_types.specs.Value.{type_of, values_of, AreOfType}
 use Rattle.attr_types.specs.declared.items.Item.{Item}
 use Rattle.attr_types.specs.declared.kind.ValueType.{ValueType}

@@ -2,9 +2,9 @@ use Rattle.std.proofs.Common.{◌≡◌, ◌∷◌, [], length, Some, arith, ◌
 use Rattle.std.specs.Prelude.{take}
 use Rattle.attr_field.specs.DocumentsChanges.{MakesDocuments, documents_most, AreBeside, AreKeysOf, IsDocumentWidth}
 use Rattle.attr_field.specs.Steps.{StepsField, FindsBy}
-use Rattle.attr_images.specs.Documents.{column_at}
-use Rattle.attr_images.specs.Postings.{index_of}
-use Rattle.attr_index.specs.Columns.{with_change}
+use Rattle.image_format.specs.Documents.{column_at}
+use Rattle.image_format.specs.Postings.{index_of}
+use Rattle.index_model.specs.Columns.{with_change}
 use Rattle.value_index.specs.Forms.{KeepsForm}
 use Rattle.attr_field.proofs.CountLemmas.{documents_low, few_entry, low_entry}
 use Rattle.attr_field.proofs.RefLemmas.{owns_documents, if_ok}

@@ -1,8 +1,8 @@
 use Rattle.std.proofs.Common.{◌≡◌, [], None, arith}
 use Rattle.attr_field.specs.DocumentsChanges.{MakesDocuments}
-use Rattle.attr_images.specs.Documents.{column_at}
-use Rattle.attr_images.specs.Postings.{index_of}
-use Rattle.attr_index.specs.Columns.{with_change}
+use Rattle.image_format.specs.Documents.{column_at}
+use Rattle.image_format.specs.Postings.{index_of}
+use Rattle.index_model.specs.Columns.{with_change}
 use Rattle.attr_field.specs.Steps.{StepsField}
 use Rattle.attr_field.proofs.CountLemmas.{documents_low, few_taken, low_taken}
 use Rattle.attr_field.proofs.RefLemmas.{owns_documents, if_ok}

@@ -2,7 +2,7 @@ use Rattle.std.proofs.Common.{◌≡◌, ◌∙◌, ◌+◌, refl, sym, subst, a
 use Rattle.std.proofs.lemmas.List.{take_more}
 use Rattle.std.specs.Prelude.{take}
 use Rattle.std.proofs.lemmas.Option.{slice_get_read}
-use Rattle.list_facts.proofs.Each.{AllByRecursion-slice_get}
+use Rattle.list_lemmas.proofs.Each.{AllByRecursion-slice_get}
 use Rattle.attr_types.specs.Lawful.{OpFits}
 use Rattle.attribute_kinds.specs.Calls.{RefusesOperation}
 use Rattle.attribute_kinds.specs.Counts.{NamesWidth}

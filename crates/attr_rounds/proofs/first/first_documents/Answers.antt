@@ -1,10 +1,10 @@
 use Rattle.std.proofs.Common.{ℕ, arith, sym, ap, subst, ◌∙◌}
 use Rattle.std.proofs.lemmas.Result.{IfOk-weaker}
 use Rattle.attr_field.specs.Documents.{IsDocuments}
-use Rattle.attr_images.specs.Documents.{column_at}
-use Rattle.attr_images.specs.Images.{table_of, IsLawfulImage}
-use Rattle.attr_index.specs.Columns.{column_of}
-use Rattle.attr_images.proofs.ImageLemmas.{field_is_there}
+use Rattle.image_format.specs.Documents.{column_at}
+use Rattle.image_format.specs.Images.{table_of, IsLawfulImage}
+use Rattle.index_model.specs.Columns.{column_of}
+use Rattle.image_format.proofs.ImageLemmas.{field_is_there}
 use Rattle.query_eval.proofs.CountLemmas.{has_documents}
 use Rattle.attr_rounds.proofs.ImageLemmas.{first_are}
 use Rattle.attr_rounds.proofs.first.first_documents.Goals as goal

@@ -1,6 +1,6 @@
 use Rattle.std.proofs.Common.{◌≡◌, ◌+◌, ◌++◌, drop, map, string_bytes}
 use Rattle.attr_rounds.specs.Lines.{lines_from}
-use Rattle.attr_images.specs.Images.{table_of}
+use Rattle.image_format.specs.Images.{table_of}
 use Rattle.attr_types.specs.Scores.{ask_tree}
 use Rattle.attr_rounds.proofs.lines.push_lines.Given as goal
 

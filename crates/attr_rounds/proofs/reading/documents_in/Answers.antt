@@ -7,8 +7,8 @@ use Rattle.tree_read.specs.Trees.{tree_pairs}
 use Rattle.tree_read.specs.SearchPlaces.{IsAt, first_key, pairs_from}
 use Rattle.doc_vector.specs.Documents.{IsDocumentPair}
 use Rattle.attr_field.specs.Documents.{IsDocuments}
-use Rattle.attr_images.specs.Documents.{column_at}
-use Rattle.attr_index.specs.Columns.{column_of}
+use Rattle.image_format.specs.Documents.{column_at}
+use Rattle.index_model.specs.Columns.{column_of}
 use Rattle.attr_types.specs.declared.items.Item.{Item}
 use Rattle.attr_rounds.proofs.ColumnLemmas.{put_more, there_is, column_ascends, first_number, others, read_pairs}
 use Rattle.attr_rounds.proofs.reading.documents_in.Goals as goal

@@ -1,8 +1,8 @@
 use Rattle.std.proofs.Common.{◌≡◌, ◌++◌, length}
 use Rattle.std.specs.List.{AllByRecursion}
 use Rattle.tree_read.specs.SearchPlaces.{IsAt, pairs_from}
-use Rattle.attr_images.specs.Documents.{column_at}
-use Rattle.attr_index.specs.Columns.{column_of}
+use Rattle.image_format.specs.Documents.{column_at}
+use Rattle.index_model.specs.Columns.{column_of}
 use Rattle.doc_vector.specs.Documents.{IsDocumentPair}
 use Rattle.attr_rounds.proofs.ColumnLemmas.{read_pairs}
 use Rattle.attr_rounds.proofs.reading.documents_in.Given as goal

@@ -3,7 +3,7 @@ use Rattle.std.proofs.Common.{arith, drop, length, ◌<◌, List, ℕ, String, G
 use Rattle.std.proofs.Math.Seq.{drop-length}
 use Rattle.std.proofs.lemmas.List.{map-append}
 use Rattle.std.proofs.lemmas.Result.{err_from_is_err_and}
-use Rattle.list_facts.proofs.Places.{drop-read}
+use Rattle.list_lemmas.proofs.Places.{drop-read}
 use Rattle.attr_types.specs.Scores.{AskTree, ask_tree}
 use Rattle.attr_types.specs.declared.ask.Ask.{Ask}
 use Rattle.attr_run.specs.Run.{asks_from}

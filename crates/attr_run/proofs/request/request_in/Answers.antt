@@ -2,7 +2,7 @@ use Rattle.std.proofs.Common.{◌∙◌, ap, sym, Ok, Err, map, Vec, Global}
 use Rattle.std.proofs.lemmas.Result.{err_from_is_err_and}
 use Rattle.attr_types.specs.Scores.{ask_tree}
 use Rattle.attr_types.specs.declared.ask.Ask.{Ask}
-use Rattle.attr_words.specs.Settings.{given_by}
+use Rattle.command_line.specs.Settings.{given_by}
 use Rattle.attr_report.specs.Run.{Run, run_in}
 use Rattle.attr_run.proofs.AskedLemmas.{asked-at_settings, asked-at_asks, asked-whole}
 use Rattle.attr_run.proofs.RuleLemmas.{ruled-settings, ruled-query}

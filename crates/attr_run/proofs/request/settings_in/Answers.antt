@@ -1,5 +1,5 @@
 use Rattle.std.proofs.Common.{◌≡◌, ap, List, ℕ, Ok, Err, subst, arith}
-use Rattle.attr_words.specs.Settings.{given_by, settings_in as given_in}
+use Rattle.command_line.specs.Settings.{given_by, settings_in as given_in}
 use Rattle.attr_run.specs.Run.{given_or_refused}
 use Rattle.attr_run.specs.Steps.{Says, words_stop}
 use Rattle.attr_run.proofs.AskedLemmas.{words-refused, words_stop-words}

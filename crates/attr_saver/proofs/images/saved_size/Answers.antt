@@ -1,6 +1,6 @@
 use Rattle.std.proofs.Common.{ℕ, length, sym, ap, subst, ◌∙◌, arith}
 use Rattle.std.specs.Prelude.{slice_index}
-use Rattle.attr_images.specs.Images.{root_words, operations_at, table_of}
+use Rattle.image_format.specs.Images.{root_words, operations_at, table_of}
 use Rattle.tree_read.specs.Trees.{tree_pairs}
 use Rattle.attr_saver.specs.Stored.{AreStored}
 use Rattle.attr_saver.proofs.ImageLemmas.{reads_first, save_size}

@@ -1,6 +1,6 @@
 use Rattle.std.proofs.Common.{◌≡◌, subst, arith}
 use Rattle.tree_read.specs.SearchPlaces.{first_key, first_value, pairs_from}
-use Rattle.attr_images.specs.Documents.{AreItemRecords}
+use Rattle.image_format.specs.Documents.{AreItemRecords}
 use Rattle.attr_saver.proofs.StoredLemmas.{next_pair, document_len}
 use Rattle.attr_saver.proofs.stored_documents.next_size.Goals as goal
 

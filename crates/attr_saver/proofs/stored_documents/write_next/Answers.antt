@@ -1,6 +1,6 @@
 use Rattle.std.proofs.Common.{◌≡◌, subst, arith}
 use Rattle.tree_read.specs.SearchPlaces.{first_key, first_value, pairs_from}
-use Rattle.attr_images.specs.Documents.{AreItemRecords}
+use Rattle.image_format.specs.Documents.{AreItemRecords}
 use Rattle.attr_saver.proofs.StoredLemmas.{next_pair, same_text}
 use Rattle.attr_saver.proofs.WriteLemmas.{writes-as}
 use Rattle.attr_saver.proofs.stored_documents.write_next.Goals as goal

@@ -2,10 +2,10 @@ use Rattle.std.specs.Int.{w16, to_be_bytes}
 use Rattle.std.proofs.Common.{ℕ, length, sym, subst, arith}
 use Rattle.std.specs.List.{AllByRecursion}
 use Rattle.array_store.specs.Arrays.{IsArray}
-use Rattle.attr_images.specs.Values.{IsValueRecord}
+use Rattle.image_format.specs.Values.{IsValueRecord}
 use Rattle.attr_saver.specs.Stored.{entry_in}
 use Rattle.std.proofs.lemmas.Result.{err_from_is_err_and}
-use Rattle.attr_images.specs.Words.{stored_items}
+use Rattle.image_format.specs.Words.{stored_items}
 use Rattle.attr_saver.proofs.StoredLemmas.{words_rest}
 use Rattle.attr_saver.proofs.WriteLemmas.{writes-cut, writes-then}
 use Rattle.attr_saver.proofs.stored_items.write_counted.Goals as goal

@@ -1,9 +1,9 @@
 use Rattle.std.proofs.Common.{◌<◌, ℕ, length, slice_index, sym, ap, subst, ◌∙◌, arith}
 use Rattle.std.proofs.lemmas.Result.{err_from_is_err_and}
-use Rattle.list_facts.proofs.Each.{AllByRecursion-at}
+use Rattle.list_lemmas.proofs.Each.{AllByRecursion-at}
 use Rattle.array_store.specs.Arrays.{IsArray}
-use Rattle.attr_images.specs.Values.{IsValueRecord}
-use Rattle.attr_images.specs.Words.{stored_items}
+use Rattle.image_format.specs.Values.{IsValueRecord}
+use Rattle.image_format.specs.Words.{stored_items}
 use Rattle.attr_saver.specs.Stored.{entry_in}
 use Rattle.attr_saver.proofs.StoredLemmas.{words_split, words_over}
 use Rattle.attr_saver.proofs.WriteLemmas.{front-on, front-cut, front-end, front-start}

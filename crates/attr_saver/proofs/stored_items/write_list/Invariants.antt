@@ -1,5 +1,5 @@
 use Rattle.std.proofs.Common.{◌≡◌}
-use Rattle.attr_images.specs.Words.{stored_items}
+use Rattle.image_format.specs.Words.{stored_items}
 use Rattle.attr_saver.proofs.StoredLemmas.{words_rest}
 use Rattle.attr_saver.proofs.WriteLemmas.{IsFront}
 use Rattle.attr_saver.proofs.stored_items.write_list.Given as goal

@@ -1,7 +1,7 @@
 use Rattle.std.specs.Int.{w32, to_be_bytes}
 use Rattle.std.proofs.Common.{◌/◌, ◌%◌, ◌^◌}
 use Rattle.std.proofs.lemmas.Result.{err_from_is_err_and}
-use Rattle.attr_images.specs.Values.{stored_value}
+use Rattle.image_format.specs.Values.{stored_value}
 use Rattle.attr_saver.specs.Bytes.{value_bytes}
 use Rattle.attr_saver.proofs.StoredLemmas.{weighted_bytes}
 use Rattle.attr_saver.proofs.WriteLemmas.{writes-cut, writes-then}

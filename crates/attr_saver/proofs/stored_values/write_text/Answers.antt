@@ -1,7 +1,7 @@
 use Rattle.std.specs.Int.{w16, to_be_bytes}
 use Rattle.std.proofs.Common.{length}
 use Rattle.std.proofs.lemmas.Result.{err_from_is_err_and}
-use Rattle.attr_images.specs.Values.{stored_text}
+use Rattle.image_format.specs.Values.{stored_text}
 use Rattle.attr_saver.proofs.WriteLemmas.{writes-cut, writes-then}
 use Rattle.attr_saver.proofs.stored_values.write_text.Goals as goal
 

@@ -1,5 +1,5 @@
 use Rattle.std.proofs.Common.{◌≡◌, drop}
-use Rattle.attr_images.specs.Values.{stored_text}
+use Rattle.image_format.specs.Values.{stored_text}
 use Rattle.attr_saver.proofs.StoredLemmas.{text_rest}
 use Rattle.attr_saver.proofs.WriteLemmas.{IsFront}
 use Rattle.attr_saver.proofs.stored_values.write_words.Given as goal

@@ -3,7 +3,7 @@ use Rattle.std.proofs.Common.{ℤ, ◌+ℤ◌, ◌*ℤ◌, arith, List, to_z, of
 use Rattle.std.proofs.lemmas.Int.{to_z-of_z}
 use Rattle.std.specs.Int.{w32, w128}
 use Rattle.std.specs.Int.RustNames.{FitsSigned, unsigned_abs}
-use Rattle.list_facts.proofs.Places.{drop-read}
+use Rattle.list_lemmas.proofs.Places.{drop-read}
 use Rattle.attr_types.proofs.ScoreLemmas.{product_shown, product_shown-bound, sum_fits, sum_bound, sum_step}
 use Rattle.attr_types.specs.Scores.{score_of, weight_of}
 use Rattle.attr_types.specs.declared.part.Part.{Part}

@@ -1,8 +1,8 @@
 use Rattle.std.proofs.Common.{sym, ap, subst, ◌∙◌, rules}
 use Rattle.entry_ref.specs.Images.{words_at}
 use Rattle.arena_api.specs.Works.{WorkView, last_image}
-use Rattle.attr_images.specs.Images.{IsLawfulImage, operations_at, table_of}
-use Rattle.attr_images.specs.Shapes.{shape_of, types_of}
+use Rattle.image_format.specs.Images.{IsLawfulImage, operations_at, table_of}
+use Rattle.image_format.specs.Shapes.{shape_of, types_of}
 use Rattle.attribute_kinds.proofs.Taking.{lawful_taken, operations_taken, table_taken}
 use Rattle.attribute_kinds.proofs.attribute.committed_work.Goals as goal
 

@@ -1,5 +1,5 @@
 use Rattle.std.proofs.Common.{◌≡◌, ◌≤◌, ◌<◌, ◌-◌, ℕ, false}
-use Rattle.attr_index.specs.Sets.{in_words}
+use Rattle.index_model.specs.Sets.{in_words}
 use Rattle.bit_vector.proofs.bits.next_bit.Given as goal
 
 abbrev pub invariant-loop-i : goal.invariant-loop-i

@@ -1,5 +1,5 @@
 use Rattle.std.proofs.Common.{get_or, refl, ◌/◌}
-use Rattle.attr_index.proofs.BitLemmas.{insert_words}
+use Rattle.index_model.proofs.BitLemmas.{insert_words}
 use Rattle.bit_vector.proofs.bits.set_bit.Goals as goal
 
 pub returns-clause-bits : goal.returns-clause-bits

@@ -1,7 +1,7 @@
 use Rattle.std.proofs.Common.{ℕ, List, length, sym, ap, ◌∙◌, arith}
 use Rattle.tree_read.specs.Trees.{tree_pairs}
-use Rattle.attr_images.specs.Postings.{IsBlock}
-use Rattle.attr_index.specs.Sets.{in_words}
+use Rattle.image_format.specs.Postings.{IsBlock}
+use Rattle.index_model.specs.Sets.{in_words}
 use Rattle.bit_vector.proofs.BitLemmas.{zero_bits}
 use Rattle.bit_vector.proofs.VectorLemmas.{bit_lacking, bit_there, found_all}
 use Rattle.bit_vector.proofs.blocks.block_words.Goals as goal

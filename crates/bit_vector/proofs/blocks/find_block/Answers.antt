@@ -1,6 +1,6 @@
 use Rattle.std.proofs.Common.{sym, arith}
 use Rattle.tree_read.specs.Trees.{tree_pairs}
-use Rattle.attr_images.specs.Postings.{IsBlock}
+use Rattle.image_format.specs.Postings.{IsBlock}
 use Rattle.bit_vector.proofs.VectorLemmas.{found_all}
 use Rattle.bit_vector.proofs.blocks.find_block.Goals as goal
 

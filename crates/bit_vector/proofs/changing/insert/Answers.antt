@@ -7,8 +7,8 @@ use Rattle.store_api.specs.Parts.{Owns}
 use Rattle.store_api.specs.Units.{MayDo, MakesWithin}
 use Rattle.store_api.proofs.May.{may_do-same}
 use Rattle.frozen_btree.specs.Changes.{levels}
-use Rattle.attr_images.specs.Postings.{vector_documents}
-use Rattle.attr_index.specs.Sets.{has}
+use Rattle.image_format.specs.Postings.{vector_documents}
+use Rattle.index_model.specs.Sets.{has}
 use Rattle.attr_types.specs.Lawful.{IsDocNumber}
 use Rattle.bit_vector.specs.Blocks.{SetsBlock}
 use Rattle.bit_vector.specs.Changes.{vector_most, vector_part, IsVectorWidth, MakesVector}

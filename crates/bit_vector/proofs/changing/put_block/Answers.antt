@@ -9,7 +9,7 @@ use Rattle.tree_read.specs.Trees.{tree_pairs}
 use Rattle.frozen_btree.specs.Changes.{levels}
 use Rattle.frozen_btree.specs.Makes.{CountsNodes}
 use Rattle.attr_types.specs.Lawful.{IsDocNumber}
-use Rattle.attr_images.specs.Postings.{block_documents, IsBlock}
+use Rattle.image_format.specs.Postings.{block_documents, IsBlock}
 use Rattle.bit_vector.specs.Blocks.{beside_block, SetsBlock}
 use Rattle.bit_vector.specs.Changes.{vector_part}
 use Rattle.bit_vector.specs.Vectors.{IsVector}

@@ -6,7 +6,7 @@ use Rattle.frozen_btree.specs.Changes.{levels}
 use Rattle.frozen_btree.specs.Makes.{CountsNodes}
 use Rattle.frozen_btree.proofs.TopLemmas.{levels-same}
 use Rattle.attr_types.specs.Lawful.{IsDocNumber}
-use Rattle.attr_images.specs.Postings.{block_documents, IsBlock}
+use Rattle.image_format.specs.Postings.{block_documents, IsBlock}
 use Rattle.bit_vector.specs.Changes.{IsVectorWidth}
 use Rattle.bit_vector.proofs.CountLemmas.{if_one, of_one, within_blocks, within_both, within_wider}
 use Rattle.bit_vector.proofs.TurnLemmas.{made_nodes, made_owns, made_vector, padded_same, sets_if}

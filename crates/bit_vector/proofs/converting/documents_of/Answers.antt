@@ -1,6 +1,6 @@
 use Rattle.std.proofs.Common.{◌≡◌, ◌++◌, ℕ, List, drop, sym, ap, subst, ◌∙◌, arith}
 use Rattle.std.proofs.lemmas.List.{append-nil}
-use Rattle.attr_images.specs.Postings.{vector_documents}
+use Rattle.image_format.specs.Postings.{vector_documents}
 use Rattle.bit_vector.specs.Walks.{documents_from, IsVectorPlace}
 use Rattle.bit_vector.proofs.DropLemmas.{not_end}
 use Rattle.bit_vector.proofs.WalkLemmas.{fewer_documents, more_documents}

@@ -1,5 +1,5 @@
 use Rattle.std.proofs.Common.{◌≡◌, ◌++◌, length}
-use Rattle.attr_images.specs.Postings.{vector_documents}
+use Rattle.image_format.specs.Postings.{vector_documents}
 use Rattle.bit_vector.specs.Walks.{documents_from, IsVectorPlace}
 use Rattle.bit_vector.proofs.converting.documents_of.Given as goal
 

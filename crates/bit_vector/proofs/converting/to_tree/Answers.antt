@@ -3,14 +3,14 @@ use Rattle.std.specs.Prelude.{IfOk, IfErr}
 use Rattle.std.specs.List.{zip}
 use Rattle.std.specs.List.Sorted.{IsStrictlySortedBy}
 use Rattle.std.specs.Ordering.{nat_cmp}
-use Rattle.list_facts.proofs.Each.{AllByRecursion-each}
+use Rattle.list_lemmas.proofs.Each.{AllByRecursion-each}
 use Rattle.store_api.specs.Calls.{Refuses}
 use Rattle.store_api.specs.Units.{MayDo}
 use Rattle.store_api.proofs.May.{may_do-same}
 use Rattle.tree_read.specs.Trees.{tree_pairs}
 use Rattle.frozen_btree.specs.Builds.{nodes_of}
 use Rattle.frozen_btree.specs.Makes.{CountsNodes}
-use Rattle.attr_images.specs.Postings.{vector_documents}
+use Rattle.image_format.specs.Postings.{vector_documents}
 use Rattle.bit_vector.specs.Changes.{MakesTree}
 use Rattle.bit_vector.proofs.CountLemmas.{counts_none}
 use Rattle.bit_vector.proofs.DocumentLemmas.{sorted}

@@ -1,7 +1,7 @@
 use Rattle.std.proofs.Common.{◌≡◌, ℕ, List, length, drop, refl, sym, ap, subst, ◌∙◌, arith}
 use Rattle.std.specs.List.{AllByRecursion}
 use Rattle.tree_read.specs.SearchPlaces.{IsAt, pairs_from}
-use Rattle.attr_images.specs.Postings.{block_documents, vector_documents, IsBlock}
+use Rattle.image_format.specs.Postings.{block_documents, vector_documents, IsBlock}
 use Rattle.bit_vector.specs.Vectors.{blocks_documents}
 use Rattle.bit_vector.proofs.DropLemmas.{count_few, first_all, first_count, not_end, rest_all}
 use Rattle.bit_vector.proofs.VectorLemmas.{vector_ascends}

@@ -1,5 +1,5 @@
 use Rattle.std.proofs.Common.{◌≡◌, ◌+◌, ◌*◌, get_or, count_ones, refl, ap, ◌∙◌, arith}
-use Rattle.attr_index.specs.Sets.{in_words}
+use Rattle.index_model.specs.Sets.{in_words}
 use Rattle.bit_vector.proofs.OnesLemmas.{block_count, one_word, ones_few, passing, word_few}
 use Rattle.bit_vector.proofs.counting.count_block.Goals as goal
 

@@ -1,5 +1,5 @@
 use Rattle.std.proofs.Common.{◌≡◌, ◌*◌}
-use Rattle.attr_index.specs.Sets.{in_words}
+use Rattle.index_model.specs.Sets.{in_words}
 use Rattle.bit_vector.proofs.OnesLemmas.{passing}
 use Rattle.bit_vector.proofs.counting.count_block.Given as goal
 

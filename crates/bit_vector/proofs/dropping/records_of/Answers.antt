@@ -3,7 +3,7 @@ use Rattle.std.proofs.lemmas.List.{append-nil}
 use Rattle.std.specs.List.{AllByRecursion}
 use Rattle.tree_read.specs.SearchPlaces.{IsAt, pairs_from}
 use Rattle.tree_read.specs.Trees.{tree_pairs}
-use Rattle.attr_images.specs.Postings.{IsBlock}
+use Rattle.image_format.specs.Postings.{IsBlock}
 use Rattle.bit_vector.proofs.DropLemmas.{blocks_few, blocks_small, fewer, first_all, not_end, rest_all, walked}
 use Rattle.bit_vector.proofs.dropping.records_of.Goals as goal
 

@@ -2,7 +2,7 @@ use Rattle.std.proofs.Common.{◌≡◌, ◌++◌, ◌∷◌, [], ℕ, List, tru
 use Rattle.store_api.specs.Units.{MayDo, MakesWithin}
 use Rattle.store_api.proofs.May.{may_do-same}
 use Rattle.tree_read.specs.Trees.{tree_pairs}
-use Rattle.attr_index.specs.Sets.{in_words}
+use Rattle.index_model.specs.Sets.{in_words}
 use Rattle.bit_vector.specs.Fillings.{block_most, IsBlockOf, MakesBlock}
 use Rattle.bit_vector.specs.Vectors.{is_block_of}
 use Rattle.bit_vector.specs.declared.filling.Blocks.{Blocks}

@@ -4,7 +4,7 @@ use Rattle.store_api.specs.Calls.{IsUsedWidth}
 use Rattle.store_api.proofs.May.{may_do-same, may_do-then}
 use Rattle.tree_read.specs.Trees.{tree_pairs}
 use Rattle.frozen_btree.specs.Changes.{levels}
-use Rattle.attr_images.specs.Postings.{IsBlock}
+use Rattle.image_format.specs.Postings.{IsBlock}
 use Rattle.bit_vector.proofs.CountLemmas.{if_one, of_one, within_both, within_wider}
 use Rattle.bit_vector.proofs.MoveLemmas.{block_used, copied_has, copied_owns, copied_same, copied_vector, found_moves_by, moved_within, root_some, vector_low, way_used}
 use Rattle.bit_vector.proofs.VectorLemmas.{found_all}

@@ -1,7 +1,7 @@
 use Rattle.std.proofs.Common.{◌≡◌, ◌+◌, ◌*◌, ◌/◌, ◌%◌, length, sym, ap, ◌∙◌, arith}
 use Rattle.tree_read.specs.Trees.{tree_pairs}
-use Rattle.attr_images.specs.Postings.{vector_documents, IsBlock}
-use Rattle.attr_index.specs.Sets.{has, in_words}
+use Rattle.image_format.specs.Postings.{vector_documents, IsBlock}
+use Rattle.index_model.specs.Sets.{has, in_words}
 use Rattle.bit_vector.proofs.VectorLemmas.{bit_lacking, bit_there, found_all}
 use Rattle.bit_vector.proofs.reading.contains.Goals as goal
 

@@ -2,12 +2,12 @@ use Rattle.std.proofs.Common.{◌≡◌, ℕ, List, map, sym, subst, ◌∙◌, 
 use Rattle.std.specs.Prelude.{Contains}
 use Rattle.std.proofs.lemmas.Result.{err_from_is_err_and}
 use Rattle.std.specs.List.{AllByRecursion}
-use Rattle.attr_images.proofs.ImageLemmas.{index_keys}
+use Rattle.image_format.proofs.ImageLemmas.{index_keys}
 use Rattle.tree_read.specs.Trees.{tree_pairs}
-use Rattle.attr_index.specs.Columns.{Column, documents_with}
-use Rattle.attr_images.specs.Documents.{column_at}
-use Rattle.attr_images.specs.Postings.{list_form, postings_at, index_of}
-use Rattle.attr_images.specs.Values.{stored_value}
+use Rattle.index_model.specs.Columns.{Column, documents_with}
+use Rattle.image_format.specs.Documents.{column_at}
+use Rattle.image_format.specs.Postings.{list_form, postings_at, index_of}
+use Rattle.image_format.specs.Values.{stored_value}
 use Rattle.attr_types.specs.declared.items.Item.{Item}
 use Rattle.attr_types.specs.declared.value.Value.{Value}
 use Rattle.entry_ref.specs.Maps.{seen}

@@ -1,7 +1,7 @@
 use Rattle.std.proofs.Common.{ℕ, List, map, sym, ap, subst, ◌∙◌, true≢false}
 use Rattle.std.proofs.lemmas.Result.{err_from_is_err_and}
 use Rattle.std.specs.List.{AllByRecursion}
-use Rattle.attr_images.specs.Documents.{items_at, AreItemRecords}
+use Rattle.image_format.specs.Documents.{items_at, AreItemRecords}
 use Rattle.attr_types.specs.Lawful.{IsDocNumber, IsLawfulItems}
 use Rattle.attr_types.specs.declared.items.Item.{Item}
 use Rattle.entry_ref.specs.Maps.{seen}

@@ -2,7 +2,7 @@ use Rattle.std.proofs.Common.{◌≡◌, ℕ, ap, sym, ◌∙◌, arith}
 use Rattle.std.specs.Prelude.{ℤ, Vec}
 use Rattle.std.proofs.lemmas.List.{append-nil}
 use Rattle.std.specs.declared.alloc.Global.{Global}
-use Rattle.attr_images.specs.declared.TheConstants.{BLOCK_DOCUMENTS}
+use Rattle.image_format.specs.declared.TheConstants.{BLOCK_DOCUMENTS}
 use Rattle.check_images.proofs.BlockLemmas.{bit_in, bit_out, block_end}
 use Rattle.check_images.proofs.blocks.push_block.Goals as goal
 use Rattle.check_images.proofs.blocks.push_block.Goals.{then-has_bit+in_ok-push, else-has_bit}

@@ -1,5 +1,5 @@
 use Rattle.std.proofs.Common.{◌≡◌, ◌++◌}
-use Rattle.attr_images.specs.declared.TheConstants.{BLOCK_DOCUMENTS}
+use Rattle.image_format.specs.declared.TheConstants.{BLOCK_DOCUMENTS}
 use Rattle.check_images.proofs.BlockLemmas.{documents_below}
 use Rattle.check_images.proofs.blocks.push_block.Given as goal
 

@@ -1,7 +1,7 @@
 use Rattle.std.proofs.Common.{ℕ, sym, subst}
 use Rattle.std.proofs.lemmas.Result.{err_from_is_err_and}
-use Rattle.list_facts.proofs.Each.{AllByRecursion-at}
-use Rattle.attr_images.specs.Postings.{IsBlock}
+use Rattle.list_lemmas.proofs.Each.{AllByRecursion-at}
+use Rattle.image_format.specs.Postings.{IsBlock}
 use Rattle.entry_ref.specs.Maps.{seen}
 use Rattle.check_images.proofs.Walks.{refuted_by}
 use Rattle.check_images.proofs.BlockLemmas.{blocks_more, forms_more}

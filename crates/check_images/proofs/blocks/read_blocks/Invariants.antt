@@ -1,6 +1,6 @@
 use Rattle.std.proofs.Common.{◌≡◌, ℕ, pos, map, take}
 use Rattle.std.specs.List.{flat_map, AllByRecursion}
-use Rattle.attr_images.specs.Postings.{block_documents, IsBlock}
+use Rattle.image_format.specs.Postings.{block_documents, IsBlock}
 use Rattle.entry_ref.specs.Maps.{seen}
 use Rattle.check_images.proofs.blocks.read_blocks.Given as goal
 

@@ -1,5 +1,5 @@
 use Rattle.std.proofs.Common.{◌≡◌, take}
-use Rattle.attr_index.specs.Columns.{documents_with}
+use Rattle.index_model.specs.Columns.{documents_with}
 use Rattle.check_images.proofs.dictionary.documents_with.Given as goal
 
 abbrev pub invariant-loop-entry : goal.invariant-loop-entry

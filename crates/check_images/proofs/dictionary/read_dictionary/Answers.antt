@@ -1,9 +1,9 @@
 use Rattle.std.proofs.Common.{◌≡◌, ℕ}
 use Rattle.std.proofs.lemmas.Result.{err_from_is_err_and}
-use Rattle.list_facts.proofs.Each.{AllByRecursion-at}
-use Rattle.attr_index.specs.Columns.{documents_with}
-use Rattle.attr_images.specs.Postings.{list_form, postings_at, IsDictionaryEntry}
-use Rattle.attr_images.specs.Values.{stored_value}
+use Rattle.list_lemmas.proofs.Each.{AllByRecursion-at}
+use Rattle.index_model.specs.Columns.{documents_with}
+use Rattle.image_format.specs.Postings.{list_form, postings_at, IsDictionaryEntry}
+use Rattle.image_format.specs.Values.{stored_value}
 use Rattle.entry_ref.specs.Maps.{seen}
 use Rattle.check_images.proofs.Walks.{refuted_by}
 use Rattle.check_images.proofs.dictionary.read_dictionary.Goals as goal

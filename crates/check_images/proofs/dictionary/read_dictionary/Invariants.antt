@@ -1,8 +1,8 @@
 use Rattle.std.proofs.Common.{◌≡◌, ℕ, map, take}
 use Rattle.std.specs.List.{AllByRecursion}
-use Rattle.attr_index.specs.Columns.{documents_with}
-use Rattle.attr_images.specs.Postings.{list_form, postings_at, IsDictionaryEntry}
-use Rattle.attr_images.specs.Values.{stored_value}
+use Rattle.index_model.specs.Columns.{documents_with}
+use Rattle.image_format.specs.Postings.{list_form, postings_at, IsDictionaryEntry}
+use Rattle.image_format.specs.Values.{stored_value}
 use Rattle.entry_ref.specs.Maps.{seen}
 use Rattle.check_images.proofs.dictionary.read_dictionary.Given as goal
 

@@ -1,6 +1,6 @@
 use Rattle.std.proofs.Common.{◌∙◌, sym, ap}
 use Rattle.std.proofs.lemmas.Result.{err_from_is_err_and}
-use Rattle.attr_index.specs.Columns.{documents_with}
+use Rattle.index_model.specs.Columns.{documents_with}
 use Rattle.entry_ref.specs.Maps.{seen}
 use Rattle.check_images.proofs.Walks.{refuted_by}
 use Rattle.check_images.proofs.ItemLemmas.{value_told}

@@ -1,7 +1,7 @@
 use Rattle.std.proofs.Common.{◌-◌, ◌+◌, ◌∷◌, length, map, take, drop, refl, sym, ap, ap₂, ◌∙◌, true≢false}
 use Rattle.std.specs.List.{zip}
 use Rattle.std.specs.Map.{keys_of}
-use Rattle.attr_index.specs.Columns.{Column}
+use Rattle.index_model.specs.Columns.{Column}
 use Rattle.attr_types.specs.Table.{Table}
 use Rattle.entry_ref.specs.Maps.{seen}
 use Rattle.check_images.proofs.BlockLemmas.{more_than_none}

@@ -2,9 +2,9 @@ use Rattle.std.proofs.Common.{◌<◌, ◌≡◌, ℕ, List, arith, true≢false
 use Rattle.std.specs.Prelude.{OnOk, IfOk, IfErr, Vec}
 use Rattle.std.proofs.lemmas.Result.{on_ok_weaker, IfOk-weaker}
 use Rattle.std.specs.declared.alloc.Global.{Global}
-use Rattle.attr_images.specs.Images.{attributes_from, IsRootRecord}
-use Rattle.attr_images.specs.Shapes.{shape_of, types_of}
-use Rattle.attr_images.specs.Tables.{table_of_columns, columns_at, AreLawfulAttributes}
+use Rattle.image_format.specs.Images.{attributes_from, IsRootRecord}
+use Rattle.image_format.specs.Shapes.{shape_of, types_of}
+use Rattle.image_format.specs.Tables.{table_of_columns, columns_at, AreLawfulAttributes}
 use Rattle.attr_types.specs.Value.{Document}
 use Rattle.attr_types.specs.declared.field.Field.{Field}
 use Rattle.entry_ref.specs.Maps.{seen}

@@ -1,6 +1,6 @@
 use Rattle.std.proofs.Common.{◌≡◌, ℕ, map, take}
 use Rattle.std.specs.List.{AllByRecursion}
-use Rattle.attr_images.specs.Documents.{items_at, AreItemRecords}
+use Rattle.image_format.specs.Documents.{items_at, AreItemRecords}
 use Rattle.entry_ref.specs.Maps.{seen}
 use Rattle.check_images.proofs.items.read_documents.Given as goal
 

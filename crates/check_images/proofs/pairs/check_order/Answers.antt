@@ -1,5 +1,5 @@
 use Rattle.std.proofs.Common.{length, sym, ap, ◌∙◌}
-use Rattle.list_facts.proofs.Tests.{zero_from_test, above_zero_from_test}
+use Rattle.list_lemmas.proofs.Tests.{zero_from_test, above_zero_from_test}
 use Rattle.check_images.proofs.KeyLemmas.{ascends-first, ascends-more, ascends-last, is_less, not_less}
 use Rattle.check_images.specs.Keys.{stored_cmp}
 use Rattle.entry_ref.specs.Maps.{seen}

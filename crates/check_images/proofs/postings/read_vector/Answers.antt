@@ -1,8 +1,8 @@
 use Rattle.std.proofs.Common.{ℕ, ◌<◌, length, map, sym, ap, subst, ◌∙◌, arith}
 use Rattle.std.proofs.lemmas.Result.{err_from_is_err_and}
 use Rattle.std.specs.List.{flat_map, AllByRecursion}
-use Rattle.attr_images.specs.Postings.{block_documents, vector_documents, IsBlock}
-use Rattle.attr_images.specs.declared.TheConstants.{MOST_SHORT}
+use Rattle.image_format.specs.Postings.{block_documents, vector_documents, IsBlock}
+use Rattle.image_format.specs.declared.TheConstants.{MOST_SHORT}
 use Rattle.entry_ref.specs.Maps.{seen}
 use Rattle.check_images.proofs.BlockLemmas.{weighed, many_documents}
 use Rattle.check_images.proofs.Walks.{refuted_by}

@@ -1,6 +1,6 @@
 use Rattle.std.proofs.Common.{◌≡◌, ◌<◌, ◌^◌, ℕ, map, take}
 use Rattle.std.specs.List.{AllByRecursion}
-use Rattle.attr_images.specs.Words.{weight_in_bits}
+use Rattle.image_format.specs.Words.{weight_in_bits}
 use Rattle.check_images.proofs.postings.weigh_pairs.Given as goal
 
 abbrev pub invariant-loop-pair : goal.invariant-loop-pair

@@ -1,6 +1,6 @@
 use Rattle.std.proofs.Common.{◌+◌, ◌-◌, ◌/◌, ◌++◌, ◌∷◌, [], ℕ, List, length, ap, ◌∙◌}
 use Rattle.std.specs.Int.{from_be_bytes, w64}
-use Rattle.attr_images.specs.Values.{packed_bytes}
+use Rattle.image_format.specs.Values.{packed_bytes}
 use Rattle.check_images.proofs.TextLemmas.{pack_step}
 use Rattle.check_images.proofs.values.pack.Goals as goal
 

@@ -1,5 +1,5 @@
 use Rattle.std.proofs.Common.{◌≡◌, ◌+◌, ◌-◌, ◌/◌, ◌++◌, length}
-use Rattle.attr_images.specs.Values.{packed_bytes}
+use Rattle.image_format.specs.Values.{packed_bytes}
 use Rattle.check_images.proofs.values.pack.Given as goal
 
 -- the words so far and those of the bytes that are left

@@ -1,7 +1,7 @@
 use Rattle.std.proofs.Common.{◌<◌, get_or, nat_le, ◌∙◌, arith}
-use Rattle.list_facts.proofs.Places.{find-drop_next}
-use Rattle.attr_images.specs.Words.{classes}
-use Rattle.list_facts.proofs.Tests.{too_many}
+use Rattle.list_lemmas.proofs.Places.{find-drop_next}
+use Rattle.image_format.specs.Words.{classes}
+use Rattle.list_lemmas.proofs.Tests.{too_many}
 use Rattle.check_images.proofs.words.class_of.Goals as goal
 
 pub loop-width-preserved : goal.loop-width-preserved

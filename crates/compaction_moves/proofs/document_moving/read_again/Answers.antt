@@ -7,8 +7,8 @@ use Rattle.store_api.specs.Calls.{IsUsedWidth, RefusesOf}
 use Rattle.store_api.specs.Units.{MayDo, MakesWithin}
 use Rattle.store_api.proofs.May.{may_do-same}
 use Rattle.frozen_btree.specs.Changes.{levels}
-use Rattle.attr_images.specs.Documents.{column_at}
-use Rattle.attr_index.specs.Columns.{items_of}
+use Rattle.image_format.specs.Documents.{column_at}
+use Rattle.index_model.specs.Columns.{items_of}
 use Rattle.value_index.proofs.CountLemmas.{within_none}
 use Rattle.attr_field.specs.DocumentsChanges.{documents_most}
 use Rattle.compaction_moves.specs.DocumentMoves.{CanMoveItems, MovesItems}

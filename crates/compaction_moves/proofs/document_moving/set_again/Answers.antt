@@ -6,8 +6,8 @@ use Rattle.store_api.specs.Parts.{Owns}
 use Rattle.store_api.specs.Units.{MayDo, MakesWithin}
 use Rattle.store_api.proofs.May.{may_do-same}
 use Rattle.frozen_btree.specs.Changes.{levels}
-use Rattle.attr_images.specs.Documents.{column_at}
-use Rattle.attr_index.specs.Columns.{with_change}
+use Rattle.image_format.specs.Documents.{column_at}
+use Rattle.index_model.specs.Columns.{with_change}
 use Rattle.posting_store.proofs.RefusalLemmas.{if_more}
 use Rattle.value_index.specs.Indexes.{IsKey}
 use Rattle.value_index.proofs.CountLemmas.{within_none}

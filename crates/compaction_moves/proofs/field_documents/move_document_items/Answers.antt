@@ -1,8 +1,8 @@
 use Rattle.std.proofs.Common.{◌≡◌, length, true, sym, subst, arith}
 use Rattle.std.proofs.lemmas.Result.{err_from_is_err_and}
 use Rattle.compaction_moves.specs.Cleared.{trees_of_roots}
-use Rattle.attr_images.specs.Documents.{column_at}
-use Rattle.attr_index.specs.Columns.{items_of}
+use Rattle.image_format.specs.Documents.{column_at}
+use Rattle.index_model.specs.Columns.{items_of}
 use Rattle.compaction_moves.proofs.MakeLemmas.{makes_items}
 use Rattle.compaction_moves.specs.DocumentMoves.{CanMoveItems, MovesItems}
 use Rattle.compaction_moves.proofs.MoveLemmas.{items_can, items_done}

@@ -2,8 +2,8 @@ use Rattle.std.proofs.Common.{◌≡◌, ◌+◌, ◌*◌, refl, ◌∙◌, arit
 use Rattle.std.proofs.lemmas.Result.{err_from_is_err_and}
 use Rattle.std.specs.Prelude.{length}
 use Rattle.array_store.proofs.ClassLemmas.{class_width}
-use Rattle.attr_images.specs.Values.{value_words}
-use Rattle.attr_images.specs.Words.{class_of}
+use Rattle.image_format.specs.Values.{value_words}
+use Rattle.image_format.specs.Words.{class_of}
 use Rattle.entry_ref.specs.References.{buffer_of}
 use Rattle.store_api.specs.Calls.{IsUsedWidth}
 use Rattle.store_api.specs.Parts.{entry}

@@ -3,8 +3,8 @@ use Rattle.std.proofs.lemmas.Result.{err_from_is_err_and}
 use Rattle.compaction_moves.specs.Cleared.{trees_of_roots}
 use Rattle.attr_compaction.specs.declared.plan.PlanKey.TheVariants.{Pair}
 use Rattle.compaction_moves.specs.IndexMoves.{MovesList}
-use Rattle.attr_images.specs.Postings.{index_of}
-use Rattle.attr_index.specs.Index.{list_of}
+use Rattle.image_format.specs.Postings.{index_of}
+use Rattle.index_model.specs.Index.{list_of}
 use Rattle.attr_types.specs.Value.{type_of}
 use Rattle.compaction_moves.proofs.MakeLemmas.{makes_list}
 use Rattle.compaction_moves.proofs.MoveLemmas.{list_done, owned_index, typed_pair, value_index}

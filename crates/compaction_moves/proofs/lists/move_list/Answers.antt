@@ -8,8 +8,8 @@ use Rattle.store_api.proofs.May.{may_do-same}
 use Rattle.tree_read.specs.Trees.{tree_pairs}
 use Rattle.attr_types.specs.Value.{type_of}
 use Rattle.enum_dictionary.specs.Dictionaries.{beside_value}
-use Rattle.attr_images.specs.Postings.{index_of}
-use Rattle.attr_index.specs.Index.{list_of}
+use Rattle.image_format.specs.Postings.{index_of}
+use Rattle.index_model.specs.Index.{list_of}
 use Rattle.value_index.specs.Indexes.{index_part, IsIndex}
 use Rattle.value_index.proofs.CountLemmas.{within_none}
 use Rattle.value_index.proofs.StepLemmas.{entry_found, entry_none}

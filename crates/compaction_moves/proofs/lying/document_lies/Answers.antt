@@ -1,6 +1,6 @@
 use Rattle.std.proofs.Common.{ℕ, Option, sym, ap, subst, ◌∙◌, arith}
 use Rattle.std.specs.Prelude.{unwrap_or}
-use Rattle.attr_images.specs.Documents.{AreItemRecords}
+use Rattle.image_format.specs.Documents.{AreItemRecords}
 use Rattle.attr_field.proofs.ReadLemmas.{found_records}
 use Rattle.compaction_moves.specs.DocumentMoves.{AreItemsApart}
 use Rattle.compaction_moves.proofs.lying.document_lies.Goals as goal

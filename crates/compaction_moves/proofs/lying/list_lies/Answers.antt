@@ -1,11 +1,11 @@
 use Rattle.std.proofs.Common.{◌≡◌, ◌≢◌, ◌<◌, ◌+◌, ℕ, suc, length, map, take, slice_index, sym, ap, subst, ◌∙◌, arith}
 use Rattle.std.proofs.lemmas.List.{take_all}
-use Rattle.list_facts.proofs.Each.{AllByRecursion-at}
+use Rattle.list_lemmas.proofs.Each.{AllByRecursion-at}
 use Rattle.entry_ref.specs.References.{buffer_of}
 use Rattle.frozen_btree.specs.Paths.{NoneIn}
 use Rattle.array_store.specs.Arrays.{IsArray}
-use Rattle.attr_images.specs.Values.{IsValueRecord}
-use Rattle.attr_images.specs.Words.{stored_items}
+use Rattle.image_format.specs.Values.{IsValueRecord}
+use Rattle.image_format.specs.Words.{stored_items}
 use Rattle.compaction_moves.proofs.LyingLemmas.{record_of, none_at, none_more}
 use Rattle.compaction_moves.proofs.lying.list_lies.Goals as goal
 

@@ -1,6 +1,6 @@
 use Rattle.std.proofs.Common.{◌≡◌, map, take}
 use Rattle.frozen_btree.specs.Paths.{NoneIn}
-use Rattle.attr_images.specs.Words.{stored_items}
+use Rattle.image_format.specs.Words.{stored_items}
 use Rattle.compaction_moves.proofs.LyingLemmas.{record_of}
 use Rattle.compaction_moves.proofs.lying.list_lies.Given as goal
 

@@ -2,7 +2,7 @@ use Rattle.std.proofs.Common.{◌≡◌, ◌≢◌, [], drop, arith, sym, ap, su
 use Rattle.std.specs.declared.cmp.Ordering.TheVariants.{Equal}
 use Rattle.tree_read.specs.Trees.{tree_pairs}
 use Rattle.tree_read.specs.SearchPlaces.{pairs_from}
-use Rattle.attr_images.specs.Values.{stored_value, IsValueRecord}
+use Rattle.image_format.specs.Values.{stored_value, IsValueRecord}
 use Rattle.attr_types.specs.Value.{type_of, value_cmp}
 use Rattle.unique_store.proofs.RecordLemmas.{value_there}
 use Rattle.enum_dictionary.specs.Dictionaries.{beside_value}

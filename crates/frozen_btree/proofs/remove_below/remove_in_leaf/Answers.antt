@@ -2,7 +2,7 @@ use Rattle.std.proofs.Common.{◌≡◌, ◌-◌, ℕ, List, length, slice_index
 use Rattle.std.specs.Prelude.{IsSome, slice_index_or}
 use Rattle.std.proofs.lemmas.List.Edits.{length-remove}
 use Rattle.std.specs.List.{zip, remove}
-use Rattle.list_facts.proofs.Pairs.{length-zip_even}
+use Rattle.list_lemmas.proofs.Pairs.{length-zip_even}
 use Rattle.tree_read.specs.Nodes.{count_of, node_keys, node_values}
 use Rattle.tree_read.specs.Trees.{pairs_below, IsNode}
 use Rattle.tree_read.proofs.TreeLemmas.{IsNode-form, IsNode-count}

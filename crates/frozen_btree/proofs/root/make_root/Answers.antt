@@ -1,5 +1,5 @@
 use Rattle.std.proofs.Common.{◌≡◌, ◌≢◌, ℕ, suc, ◌-◌, ◌<◌, List, length, get_or, sym, ap, subst, ◌∙◌, arith}
-use Rattle.list_facts.proofs.Tests.{zero_from_test, above_zero_from_test}
+use Rattle.list_lemmas.proofs.Tests.{zero_from_test, above_zero_from_test}
 use Rattle.tree_read.specs.Trees.{IsNode}
 use Rattle.tree_read.specs.Slots.{IsInHand}
 use Rattle.tree_read.proofs.ReadLemmas.{node-size}

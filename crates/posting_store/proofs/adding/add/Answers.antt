@@ -3,7 +3,7 @@ use Rattle.std.proofs.lemmas.Int.{to_z-of_z}
 use Rattle.std.proofs.lemmas.Result.{err_from_is_err_and}
 use Rattle.std.specs.BTreeMap.{insert_entry}
 use Rattle.std.specs.Ordering.{nat_cmp}
-use Rattle.attr_images.specs.Postings.{is_dense}
+use Rattle.image_format.specs.Postings.{is_dense}
 use Rattle.store_api.proofs.May.{may_do-same, may_do-then}
 use Rattle.store_api.specs.Units.{MakesWithin}
 use Rattle.posting_store.specs.Lists.{list_at, list_levels, is_vector, AreOnes}

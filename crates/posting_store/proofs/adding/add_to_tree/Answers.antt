@@ -3,7 +3,7 @@ use Rattle.std.proofs.lemmas.Int.{to_z-of_z}
 use Rattle.std.specs.BTreeMap.{insert_entry}
 use Rattle.std.specs.Int.{cast_unsigned}
 use Rattle.std.specs.Ordering.{nat_cmp}
-use Rattle.attr_images.specs.Words.{weight_in_bits}
+use Rattle.image_format.specs.Words.{weight_in_bits}
 use Rattle.posting_store.specs.Lists.{list_at}
 use Rattle.posting_store.specs.Changes.{IsListWidth, MakesList}
 use Rattle.std.proofs.lemmas.Result.{err_from_is_err_and}

@@ -1,6 +1,6 @@
 use Rattle.std.proofs.Common.{◌≡◌, ◌∷◌, [], true, false, length, sym, ap, subst, ◌∙◌, ◌<◌}
 use Rattle.std.specs.Prelude.{IfOk, IfErr}
-use Rattle.attr_images.specs.Postings.{is_dense}
+use Rattle.image_format.specs.Postings.{is_dense}
 use Rattle.store_api.specs.Calls.{RefusesOf}
 use Rattle.store_api.specs.Parts.{Owns}
 use Rattle.store_api.specs.Units.{MayDo, MakesWithin}

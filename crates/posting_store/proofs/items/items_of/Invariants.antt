@@ -1,5 +1,5 @@
 use Rattle.std.proofs.Common.{◌≡◌, ◌≤◌, ◌+◌, ◌++◌, length, map}
-use Rattle.attr_images.specs.Words.{unpacked}
+use Rattle.image_format.specs.Words.{unpacked}
 use Rattle.posting_store.specs.Lists.{list_at}
 use Rattle.posting_store.specs.Walks.{postings_from, IsListPlace}
 use Rattle.posting_store.proofs.items.items_of.Given as goal

@@ -2,7 +2,7 @@ use Rattle.std.proofs.Common.{◌<◌, ◌/◌, ℕ, ℤ, w32, List, map, get_or
 use Rattle.std.specs.BTreeMap.{insert_entry}
 use Rattle.std.specs.Ordering.{nat_cmp}
 use Rattle.std.proofs.lemmas.Int.{to_z-of_z}
-use Rattle.attr_images.specs.Words.{unpacked}
+use Rattle.image_format.specs.Words.{unpacked}
 use Rattle.posting_store.proofs.ItemLemmas.{DocBelow, put_before, put_last, take_all}
 use Rattle.posting_store.proofs.items.put_item.Goals as goal
 

@@ -2,7 +2,7 @@ use Rattle.std.proofs.Common.{◌/◌, ℕ, List, map, get_or, sym, ap, ◌∙�
 use Rattle.std.specs.BTreeMap.{is_at}
 use Rattle.std.specs.Map.{remove_entry}
 use Rattle.std.specs.Ordering.{nat_cmp}
-use Rattle.attr_images.specs.Words.{unpacked}
+use Rattle.image_format.specs.Words.{unpacked}
 use Rattle.posting_store.proofs.ItemLemmas.{DocApart, take_here, take_none, take_all}
 use Rattle.posting_store.proofs.items.take_item.Goals as goal
 

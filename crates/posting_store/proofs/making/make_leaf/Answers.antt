@@ -1,7 +1,7 @@
 use Rattle.std.proofs.Common.{ℕ, ◌/◌, ◌%◌, ◌∙◌, length, get_or, refl, arith, length-set}
 use Rattle.std.specs.List.{zip}
 use Rattle.std.proofs.lemmas.Result.{err_from_is_err_and}
-use Rattle.list_facts.proofs.Each.{AllByRecursion-each}
+use Rattle.list_lemmas.proofs.Each.{AllByRecursion-each}
 use Rattle.store_api.proofs.May.{may_do-same}
 use Rattle.posting_store.specs.Changes.{IsListWidth}
 use Rattle.posting_store.proofs.RefusalLemmas.{of_one}

@@ -5,7 +5,7 @@ use Rattle.posting_store.specs.Changes.{IsListWidth}
 use Rattle.array_store.proofs.ClassLemmas.{class_width}
 use Rattle.store_api.proofs.May.{may_do-same}
 use Rattle.std.proofs.Common.{length, ◌+◌}
-use Rattle.attr_images.specs.Words.{class_of}
+use Rattle.image_format.specs.Words.{class_of}
 use Rattle.std.proofs.lemmas.Result.{err_from_is_err_and}
 
 pub returns-in_err-record-clause-counts : goal.returns-in_err-record-clause-counts

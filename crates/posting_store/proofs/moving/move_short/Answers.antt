@@ -2,7 +2,7 @@ use Rattle.std.proofs.Common.{◌≡◌, ◌+◌, length, ◌∙◌, arith}
 use Rattle.std.proofs.lemmas.Result.{err_from_is_err_and}
 use Rattle.entry_ref.specs.References.{buffer_of}
 use Rattle.array_store.proofs.ClassLemmas.{class_width}
-use Rattle.attr_images.specs.Words.{stored_items}
+use Rattle.image_format.specs.Words.{stored_items}
 use Rattle.posting_store.specs.Lists.{is_vector, list_at, list_levels}
 use Rattle.posting_store.proofs.RefusalLemmas.{of_one}
 use Rattle.store_api.specs.Calls.{IsUsedWidth}

@@ -3,7 +3,7 @@ use Rattle.std.specs.Prelude.{IfOk, IfErr, IsSome}
 use Rattle.std.specs.BTreeMap.{is_at}
 use Rattle.std.specs.Map.{lookup, remove_entry}
 use Rattle.std.specs.Ordering.{nat_cmp}
-use Rattle.attr_images.specs.Postings.{is_dense}
+use Rattle.image_format.specs.Postings.{is_dense}
 use Rattle.store_api.specs.Calls.{RefusesOf}
 use Rattle.store_api.specs.Parts.{Owns}
 use Rattle.store_api.specs.Units.{MayDo, MakesWithin}

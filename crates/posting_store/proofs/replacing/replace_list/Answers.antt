@@ -1,5 +1,5 @@
 use Rattle.std.proofs.Common.{length, map}
-use Rattle.attr_images.specs.Words.{unpacked}
+use Rattle.image_format.specs.Words.{unpacked}
 use Rattle.store_api.proofs.May.{may_do-then}
 use Rattle.posting_store.specs.Changes.{list_most}
 use Rattle.posting_store.proofs.ChangeLemmas.{old_stays, old_owned, replaces, counts_then}

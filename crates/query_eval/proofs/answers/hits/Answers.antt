@@ -4,9 +4,9 @@ use Rattle.attr_types.specs.Query.{tree_of}
 use Rattle.attr_types.specs.Table.{hits}
 use Rattle.attr_types.specs.declared.field.Field.{Field}
 use Rattle.attr_types.specs.declared.field.TheConstants.{MOST_FIELDS}
-use Rattle.attr_images.specs.Images.{table_of, IsLawfulImage}
-use Rattle.attr_index.specs.Sets.{Holds}
-use Rattle.attr_index.specs.Found.{found}
+use Rattle.image_format.specs.Images.{table_of, IsLawfulImage}
+use Rattle.index_model.specs.Sets.{Holds}
+use Rattle.index_model.specs.Found.{found}
 use Rattle.query_eval.specs.Indexes.{AreIndexed, HasDictionaries, dictionaries_at, indexes_in}
 use Rattle.query_eval.specs.declared.dictionary.Dictionary.{Dictionary}
 use Rattle.query_eval.proofs.ImageLemmas.{all_indexed, all_dictionaries, found_hits}

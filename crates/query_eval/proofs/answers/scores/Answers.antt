@@ -3,8 +3,8 @@ use Rattle.std.proofs.lemmas.Option.{slice_get_read}
 use Rattle.std.proofs.lemmas.Result.{IfOk-weaker}
 use Rattle.std.specs.Prelude.{slice_get}
 use Rattle.attr_types.specs.declared.field.Field.{Field}
-use Rattle.attr_images.specs.Images.{table_of, IsLawfulImage}
-use Rattle.attr_images.specs.Postings.{index_of}
+use Rattle.image_format.specs.Images.{table_of, IsLawfulImage}
+use Rattle.image_format.specs.Postings.{index_of}
 use Rattle.attr_types.specs.Scores.{scores}
 use Rattle.attr_types.specs.declared.part.Part.{Part}
 use Rattle.query_eval.specs.Parts.{IsIndexed}

@@ -1,6 +1,6 @@
 use Rattle.std.proofs.Common.{ℕ, arith, ◌≡◌, ◌||◌, ◌&&◌, ◌+◌, ◌*◌, nat_lt, subst}
-use Rattle.attr_images.specs.Postings.{block_documents}
-use Rattle.attr_index.specs.Sets.{has}
+use Rattle.image_format.specs.Postings.{block_documents}
+use Rattle.index_model.specs.Sets.{has}
 use Rattle.query_eval.proofs.BlockLemmas.{none_yet, one_more, all_there, word_documents}
 use Rattle.query_eval.proofs.blocks.push_block.Goals as goal
 

@@ -1,7 +1,7 @@
 use Rattle.std.proofs.Common.{◌≡◌, ◌||◌, ◌&&◌, ◌+◌, ◌*◌, ℕ}
 use Rattle.std.specs.Prelude.{nat_lt}
-use Rattle.attr_images.specs.Postings.{block_documents}
-use Rattle.attr_index.specs.Sets.{has}
+use Rattle.image_format.specs.Postings.{block_documents}
+use Rattle.index_model.specs.Sets.{has}
 use Rattle.query_eval.proofs.blocks.push_block.Given as goal
 
 -- those of the words so far are there

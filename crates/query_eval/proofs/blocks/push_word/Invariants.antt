@@ -1,6 +1,6 @@
 use Rattle.std.proofs.Common.{◌≡◌, ◌||◌, ℕ, true}
 use Rattle.attr_types.specs.Lawful.{IsDocNumber}
-use Rattle.attr_index.specs.Sets.{has}
+use Rattle.index_model.specs.Sets.{has}
 use Rattle.query_eval.specs.Blocks.{in_word}
 use Rattle.query_eval.proofs.blocks.push_word.Given as goal
 

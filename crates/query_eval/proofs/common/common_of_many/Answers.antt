@@ -2,8 +2,8 @@ use Rattle.std.proofs.Common.{◌≡◌, ◌<◌, ℕ, List, Option, length, ap,
 use Rattle.std.proofs.lemmas.Result.{IfOk-weaker}
 use Rattle.std.specs.Prelude.{IfSome, Vec}
 use Rattle.std.specs.declared.alloc.Global.{Global}
-use Rattle.attr_index.specs.Found.{found}
-use Rattle.attr_index.specs.Sets.{has}
+use Rattle.index_model.specs.Found.{found}
+use Rattle.index_model.specs.Sets.{has}
 use Rattle.attr_types.specs.Query.{and, query_trees}
 use Rattle.query_eval.specs.Indexes.{indexes_in}
 use Rattle.query_eval.specs.Lists.{all_have, AreListsOf}

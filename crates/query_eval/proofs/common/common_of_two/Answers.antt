@@ -1,8 +1,8 @@
 use Rattle.std.proofs.Common.{◌≡◌, ◌&&◌, Bool, arith, ap, ap₂, subst, ◌∙◌}
 use Rattle.std.specs.Map.{keys_of}
-use Rattle.attr_images.specs.Postings.{list_form, postings_at}
-use Rattle.attr_index.specs.Found.{found}
-use Rattle.attr_index.specs.Sets.{has}
+use Rattle.image_format.specs.Postings.{list_form, postings_at}
+use Rattle.index_model.specs.Found.{found}
+use Rattle.index_model.specs.Sets.{has}
 use Rattle.attr_types.specs.Query.{tree_of}
 use Rattle.query_eval.proofs.QueryLemmas.{two_found}
 use Rattle.query_eval.specs.Indexes.{indexes_in}

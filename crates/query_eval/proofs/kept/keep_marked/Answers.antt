@@ -1,7 +1,7 @@
 use Rattle.std.proofs.Common.{◌||◌, ◌&&◌, ℕ, List, arith, ap, ◌∙◌}
 use Rattle.std.specs.Map.{keys_of}
 use Rattle.tree_read.specs.Trees.{tree_pairs}
-use Rattle.attr_index.specs.Sets.{has, in_words}
+use Rattle.index_model.specs.Sets.{has, in_words}
 use Rattle.query_eval.proofs.LeafListLemmas.{tree_documents, tree_keys}
 use Rattle.query_eval.proofs.kept.keep_marked.Goals as goal
 

@@ -1,6 +1,6 @@
 use Rattle.std.proofs.Common.{◌<◌, ◌/◌, ◌||◌, ℕ, length, get_or, nat_eq, arith, refl, ap, ◌∙◌}
-use Rattle.attr_index.proofs.BitLemmas.{insert_words}
-use Rattle.attr_index.specs.Sets.{in_words}
+use Rattle.index_model.proofs.BitLemmas.{insert_words}
+use Rattle.index_model.specs.Sets.{in_words}
 use Rattle.query_eval.proofs.kept.mark.Goals as goal
 
 pub returns : goal.returns

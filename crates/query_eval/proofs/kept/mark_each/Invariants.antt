@@ -1,5 +1,5 @@
 use Rattle.std.proofs.Common.{◌≡◌, ◌||◌, ℕ, drop}
-use Rattle.attr_index.specs.Sets.{has, in_words}
+use Rattle.index_model.specs.Sets.{has, in_words}
 use Rattle.query_eval.proofs.kept.mark_each.Given as goal
 
 abbrev pub invariant-loop-doc : goal.invariant-loop-doc

@@ -1,8 +1,8 @@
 use Rattle.std.proofs.Common.{◌≡◌, ◌||◌, ℕ, map, drop}
 use Rattle.std.specs.Map.{keys_of}
-use Rattle.attr_images.specs.Words.{unpacked}
-use Rattle.attr_index.specs.Postings.{HaveDocNumbers}
-use Rattle.attr_index.specs.Sets.{has, in_words}
+use Rattle.image_format.specs.Words.{unpacked}
+use Rattle.index_model.specs.Postings.{HaveDocNumbers}
+use Rattle.index_model.specs.Sets.{has, in_words}
 use Rattle.query_eval.proofs.lists.insert_words.Given as goal
 
 abbrev pub invariant-loop-word : goal.invariant-loop-word

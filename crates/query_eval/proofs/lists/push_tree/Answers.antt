@@ -1,6 +1,6 @@
 use Rattle.std.proofs.Common.{◌||◌, ℕ, List, arith, ap, ◌∙◌}
 use Rattle.tree_read.specs.Trees.{tree_pairs}
-use Rattle.attr_index.specs.Sets.{has}
+use Rattle.index_model.specs.Sets.{has}
 use Rattle.query_eval.proofs.LeafListLemmas.{tree_documents, tree_keys}
 use Rattle.query_eval.proofs.lists.push_tree.Goals as goal
 

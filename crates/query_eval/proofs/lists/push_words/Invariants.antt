@@ -1,7 +1,7 @@
 use Rattle.std.proofs.Common.{◌≡◌, ◌++◌, map, drop}
 use Rattle.std.specs.Map.{keys_of}
-use Rattle.attr_images.specs.Words.{unpacked}
-use Rattle.attr_index.specs.Postings.{HaveDocNumbers}
+use Rattle.image_format.specs.Words.{unpacked}
+use Rattle.index_model.specs.Postings.{HaveDocNumbers}
 use Rattle.query_eval.proofs.lists.push_words.Given as goal
 
 abbrev pub invariant-loop-word : goal.invariant-loop-word

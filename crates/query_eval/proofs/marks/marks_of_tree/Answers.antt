@@ -2,8 +2,8 @@ use Rattle.std.proofs.Common.{◌≡◌, ◌<◌, ◌||◌, ℕ, Bool, List, ari
 use Rattle.std.specs.List.{AllByRecursion}
 use Rattle.std.specs.Map.{keys_of}
 use Rattle.tree_read.specs.Trees.{tree_pairs, IsRootNode}
-use Rattle.attr_index.proofs.BitLemmas.{zeros}
-use Rattle.attr_index.specs.Sets.{has}
+use Rattle.index_model.proofs.BitLemmas.{zeros}
+use Rattle.index_model.specs.Sets.{has}
 use Rattle.attr_types.specs.Lawful.{IsDocNumber}
 use Rattle.query_eval.proofs.LeafListLemmas.{tree_documents, tree_keys}
 use Rattle.query_eval.proofs.marks.marks_of_tree.Goals as goal

@@ -1,7 +1,7 @@
 use Rattle.std.proofs.Common.{◌≤◌, rules, sym, subst, arith}
 use Rattle.std.proofs.lemmas.List.{drop_all, drop_more}
 use Rattle.std.specs.List.{AllByRecursion}
-use Rattle.attr_images.specs.declared.TheConstants.{FIRST_VECTOR}
+use Rattle.image_format.specs.declared.TheConstants.{FIRST_VECTOR}
 use Rattle.query_eval.proofs.members.are_vectors.Goals as goal
 
 pub loop-list-preserved : goal.loop-list-preserved

@@ -1,6 +1,6 @@
 use Rattle.std.proofs.Common.{◌≤◌, drop}
 use Rattle.std.specs.List.{AllByRecursion}
-use Rattle.attr_images.specs.declared.TheConstants.{FIRST_VECTOR}
+use Rattle.image_format.specs.declared.TheConstants.{FIRST_VECTOR}
 use Rattle.query_eval.proofs.members.are_vectors.Given as goal
 
 -- if those that are left are bit vectors, all are

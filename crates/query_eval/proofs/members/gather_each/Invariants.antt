@@ -1,5 +1,5 @@
 use Rattle.std.proofs.Common.{◌≡◌, ◌||◌, ℕ, drop}
-use Rattle.attr_index.specs.Gathers.{is_gathered}
+use Rattle.index_model.specs.Gathers.{is_gathered}
 use Rattle.query_eval.specs.Lists.{some_has, AreListWords}
 use Rattle.query_eval.proofs.members.gather_each.Given as goal
 

@@ -1,5 +1,5 @@
 use Rattle.std.proofs.Common.{◌≡◌, ◌++◌, ℕ, map, drop}
-use Rattle.attr_index.specs.Found.{found}
+use Rattle.index_model.specs.Found.{found}
 use Rattle.attr_types.specs.Query.{tree_of}
 use Rattle.query_eval.specs.Indexes.{indexes_in}
 use Rattle.query_eval.specs.Lists.{list_has, AreListWords}

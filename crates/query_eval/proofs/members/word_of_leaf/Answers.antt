@@ -1,8 +1,8 @@
 use Rattle.std.proofs.Common.{◌≡◌, sym, ap, ◌∙◌}
 use Rattle.std.specs.Map.{keys_of}
-use Rattle.attr_images.specs.Postings.{index_of}
-use Rattle.attr_index.specs.Index.{list_of}
-use Rattle.attr_index.specs.Leaves.{listed, meeting}
+use Rattle.image_format.specs.Postings.{index_of}
+use Rattle.index_model.specs.Index.{list_of}
+use Rattle.index_model.specs.Leaves.{listed, meeting}
 use Rattle.attr_types.specs.declared.query.Leaf.{Leaf}
 use Rattle.query_eval.proofs.ValueLemmas.{value_listed, word_listed}
 use Rattle.query_eval.proofs.members.word_of_leaf.Goals as goal

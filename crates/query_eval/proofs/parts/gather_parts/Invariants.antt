@@ -1,6 +1,6 @@
 use Rattle.std.proofs.Common.{◌≡◌, ◌||◌, ℕ, drop}
-use Rattle.attr_images.specs.Postings.{index_of}
-use Rattle.attr_index.specs.Gathers.{is_gathered}
+use Rattle.image_format.specs.Postings.{index_of}
+use Rattle.index_model.specs.Gathers.{is_gathered}
 use Rattle.query_eval.specs.Weights.{is_found}
 use Rattle.query_eval.proofs.parts.gather_parts.Given as goal
 

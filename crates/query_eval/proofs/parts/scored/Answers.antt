@@ -1,10 +1,10 @@
 use Rattle.std.proofs.Common.{ℕ, List, map, sym, ap, subst, ◌∙◌}
 use Rattle.std.proofs.lemmas.Result.{IfOk-weaker}
-use Rattle.attr_images.specs.Postings.{index_of}
-use Rattle.attr_index.specs.Changes.{HasItems}
+use Rattle.image_format.specs.Postings.{index_of}
+use Rattle.index_model.specs.Changes.{HasItems}
 use Rattle.attr_types.specs.Scores.{score_of}
 use Rattle.attr_types.specs.declared.score.Score.{Score}
-use Rattle.attr_index.proofs.DocLemmas.{same_ascending}
+use Rattle.index_model.proofs.DocLemmas.{same_ascending}
 use Rattle.query_eval.proofs.parts.scored.Goals as goal
 
 pub returns-clause-scores : goal.returns-clause-scores

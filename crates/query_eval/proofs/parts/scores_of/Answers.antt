@@ -3,8 +3,8 @@ use Rattle.std.proofs.lemmas.Int.{to_z-of_z}
 use Rattle.std.proofs.lemmas.List.{drop_all, append-nil}
 use Rattle.std.specs.Int.{w128}
 use Rattle.std.specs.Int.RustNames.{FitsSigned}
-use Rattle.attr_images.specs.Postings.{index_of}
-use Rattle.attr_index.specs.Changes.{HasItems}
+use Rattle.image_format.specs.Postings.{index_of}
+use Rattle.index_model.specs.Changes.{HasItems}
 use Rattle.attr_types.specs.Scores.{score_of}
 use Rattle.attr_types.specs.declared.score.Score.{Score}
 use Rattle.query_eval.proofs.ScoreListLemmas.{score_more}

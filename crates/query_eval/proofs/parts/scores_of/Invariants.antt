@@ -1,6 +1,6 @@
 use Rattle.std.proofs.Common.{◌≡◌, ◌++◌, ℕ, List, map, drop}
-use Rattle.attr_images.specs.Postings.{index_of}
-use Rattle.attr_index.specs.Changes.{HasItems}
+use Rattle.image_format.specs.Postings.{index_of}
+use Rattle.index_model.specs.Changes.{HasItems}
 use Rattle.attr_types.specs.Scores.{score_of}
 use Rattle.attr_types.specs.declared.items.Item.{Item}
 use Rattle.query_eval.proofs.parts.scores_of.Given as goal

@@ -2,7 +2,7 @@ use Rattle.std.proofs.Common.{ℕ, ℤ, List, rules, ap, ◌∙◌}
 use Rattle.std.proofs.lemmas.Int.{to_z-of_z}
 use Rattle.std.specs.Int.{w32}
 use Rattle.std.specs.Int.RustNames.{FitsSigned}
-use Rattle.attr_images.specs.Postings.{list_form, postings_at, index_of}
+use Rattle.image_format.specs.Postings.{list_form, postings_at, index_of}
 use Rattle.query_eval.specs.Weights.{weight_in_list}
 use Rattle.query_eval.proofs.WordLemmas.{weight_by_list}
 use Rattle.query_eval.proofs.parts.weight_of_value.Goals as goal

@@ -4,9 +4,9 @@ use Rattle.std.specs.Prelude.{slice_get, IfSome, Vec}
 use Rattle.std.specs.declared.alloc.Global.{Global}
 use Rattle.attr_types.specs.Query.{tree_of, query_trees}
 use Rattle.attr_types.specs.declared.query.Query.{Query}
-use Rattle.attr_index.specs.Gathers.{is_gathered}
-use Rattle.attr_index.specs.Sets.{has, Holds}
-use Rattle.attr_index.specs.Found.{found, found_all, is_listed}
+use Rattle.index_model.specs.Gathers.{is_gathered}
+use Rattle.index_model.specs.Sets.{has, Holds}
+use Rattle.index_model.specs.Found.{found, found_all, is_listed}
 use Rattle.query_eval.specs.Indexes.{AreMatched, IsMatched, indexes_in}
 use Rattle.query_eval.specs.Lists.{some_has, AreListsOf}
 use Rattle.query_eval.proofs.JoinLemmas.{members_some}

@@ -1,8 +1,8 @@
 use Rattle.std.proofs.Common.{◌≡◌, ◌||◌, ℕ, drop}
 use Rattle.std.specs.Prelude.{slice_get}
 use Rattle.attr_types.specs.Query.{query_trees}
-use Rattle.attr_index.specs.Gathers.{is_gathered}
-use Rattle.attr_index.specs.Found.{found_some}
+use Rattle.index_model.specs.Gathers.{is_gathered}
+use Rattle.index_model.specs.Found.{found_some}
 use Rattle.query_eval.proofs.queries.+gathering.Given as goal
 use Rattle.query_eval.proofs.QueryLemmas.{IsCommon}
 use Rattle.query_eval.specs.Indexes.{AreMatched, indexes_in}

@@ -1,6 +1,6 @@
 use Rattle.std.proofs.Common.{◌≡◌, ◌||◌, ℕ, drop}
-use Rattle.attr_index.specs.Gathers.{is_gathered}
-use Rattle.attr_index.specs.Found.{is_listed}
+use Rattle.index_model.specs.Gathers.{is_gathered}
+use Rattle.index_model.specs.Found.{is_listed}
 use Rattle.query_eval.specs.Indexes.{AreIndexed, indexes_in}
 use Rattle.query_eval.proofs.queries.gather_listed.Given as goal
 

@@ -1,12 +1,12 @@
 use Rattle.std.proofs.Common.{◌≡◌, ◌||◌, ℕ, List, sym, ap, ◌∙◌}
 use Rattle.std.proofs.lemmas.Result.{IfOk-weaker}
 use Rattle.std.specs.Map.{keys_of}
-use Rattle.attr_images.specs.Postings.{index_of}
-use Rattle.attr_index.specs.Index.{list_of}
+use Rattle.image_format.specs.Postings.{index_of}
+use Rattle.index_model.specs.Index.{list_of}
 use Rattle.attr_types.specs.declared.query.Leaf.{Leaf}
-use Rattle.attr_index.specs.Gathers.{is_gathered}
-use Rattle.attr_index.specs.Sets.{has}
-use Rattle.attr_index.specs.Leaves.{listed, meeting}
+use Rattle.index_model.specs.Gathers.{is_gathered}
+use Rattle.index_model.specs.Sets.{has}
+use Rattle.index_model.specs.Leaves.{listed, meeting}
 use Rattle.query_eval.proofs.ValueLemmas.{value_listed}
 use Rattle.query_eval.proofs.queries.gather_meeting.Goals as goal
 

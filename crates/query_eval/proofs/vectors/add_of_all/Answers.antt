@@ -1,6 +1,6 @@
 use Rattle.std.proofs.Common.{◌≡◌, ◌<◌, ◌+◌, ◌*◌, ℕ, List, length, get_or, bit_or, rules, refl, ap, subst, ◌∙◌}
 use Rattle.std.proofs.lemmas.Simd.{length-zip2}
-use Rattle.attr_index.specs.Sets.{in_words}
+use Rattle.index_model.specs.Sets.{in_words}
 use Rattle.query_eval.specs.Lists.{list_has, IsVectorWord}
 use Rattle.query_eval.proofs.JoinLemmas.{all_after, some_more}
 use Rattle.bit_vector.proofs.KernelLemmas.{either_bit}

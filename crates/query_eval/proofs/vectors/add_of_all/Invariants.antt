@@ -1,5 +1,5 @@
 use Rattle.std.proofs.Common.{◌≡◌, ◌||◌, ◌+◌, ◌*◌, ◌<◌, ℕ, length, drop}
-use Rattle.attr_index.specs.Sets.{in_words}
+use Rattle.index_model.specs.Sets.{in_words}
 use Rattle.query_eval.specs.Lists.{some_has, AreVectorWords}
 use Rattle.query_eval.proofs.vectors.add_of_all.Given as goal
 

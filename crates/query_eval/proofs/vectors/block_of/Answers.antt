@@ -2,8 +2,8 @@ use Rattle.std.proofs.Common.{◌≡◌, ℕ, List, Some, None, length, sym, ap,
 use Rattle.std.specs.Ordering.{nat_cmp}
 use Rattle.tree_read.specs.Pairs.{lookup_pair}
 use Rattle.tree_read.specs.Trees.{tree_pairs}
-use Rattle.attr_images.specs.Postings.{IsBlock}
-use Rattle.attr_index.specs.Sets.{in_words}
+use Rattle.image_format.specs.Postings.{IsBlock}
+use Rattle.index_model.specs.Sets.{in_words}
 use Rattle.query_eval.proofs.ListLemmas.{vector_form, bit_there, bit_lacking}
 use Rattle.query_eval.proofs.LookupLemmas.{pair_among}
 use Rattle.query_eval.proofs.vectors.block_of.Goals as goal

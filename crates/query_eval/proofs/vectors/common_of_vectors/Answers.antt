@@ -2,7 +2,7 @@ use Rattle.std.proofs.Common.{◌≡◌, ◌&&◌, ◌||◌, ℕ, List, arith, s
 use Rattle.std.specs.List.{AllByRecursion}
 use Rattle.tree_read.specs.SearchPlaces.{IsAt, pairs_from}
 use Rattle.tree_read.specs.Trees.{tree_pairs}
-use Rattle.attr_index.specs.Sets.{has}
+use Rattle.index_model.specs.Sets.{has}
 use Rattle.query_eval.specs.Blocks.{IsDocumentBlock, documents_of}
 use Rattle.query_eval.specs.Lists.{all_have, AreVectorWords}
 use Rattle.query_eval.proofs.ListLemmas.{vector_blocks, has_vector}

@@ -1,5 +1,5 @@
 use Rattle.std.proofs.Common.{◌≡◌, ◌&&◌, ◌+◌, ◌*◌, ◌<◌, ℕ, length, drop}
-use Rattle.attr_index.specs.Sets.{in_words}
+use Rattle.index_model.specs.Sets.{in_words}
 use Rattle.query_eval.specs.Lists.{all_have, AreVectorWords}
 use Rattle.query_eval.proofs.vectors.keep_in_all.Given as goal
 

@@ -1,5 +1,5 @@
 use Rattle.std.proofs.Common.{◌≡◌, ◌||◌, ◌&&◌, ℕ, drop}
-use Rattle.attr_index.specs.Sets.{has}
+use Rattle.index_model.specs.Sets.{has}
 use Rattle.query_eval.specs.Lists.{list_has}
 use Rattle.query_eval.specs.Vectors.{IsInHand}
 use Rattle.query_eval.proofs.vectors.kept_in_vector.Given as goal

@@ -1,7 +1,7 @@
 use Rattle.std.proofs.Common.{◌≡◌, ◌<◌, ◌+◌, ◌*◌, ◌&&◌, ◌||◌, ℕ, List, ap, subst, ◌∙◌}
 use Rattle.std.proofs.lemmas.Result.{on_ok_weaker}
-use Rattle.attr_images.specs.Postings.{block_documents}
-use Rattle.attr_index.specs.Sets.{has, in_words}
+use Rattle.image_format.specs.Postings.{block_documents}
+use Rattle.index_model.specs.Sets.{has, in_words}
 use Rattle.query_eval.specs.Lists.{all_have}
 use Rattle.query_eval.proofs.JoinLemmas.{kept_block, kept_number}
 use Rattle.query_eval.proofs.vectors.push_common.Goals as goal

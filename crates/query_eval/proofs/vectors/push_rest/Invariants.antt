@@ -1,7 +1,7 @@
 use Rattle.std.proofs.Common.{◌≡◌, ◌||◌, ◌&&◌, ℕ, length}
 use Rattle.std.specs.List.{AllByRecursion}
 use Rattle.tree_read.specs.SearchPlaces.{IsAt, pairs_from}
-use Rattle.attr_index.specs.Sets.{has}
+use Rattle.index_model.specs.Sets.{has}
 use Rattle.query_eval.specs.Blocks.{IsDocumentBlock, documents_of}
 use Rattle.query_eval.specs.Lists.{all_have}
 use Rattle.query_eval.proofs.vectors.push_rest.Given as goal

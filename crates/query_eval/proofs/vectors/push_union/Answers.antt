@@ -1,7 +1,7 @@
 use Rattle.std.proofs.Common.{◌≡◌, ◌<◌, ◌+◌, ◌*◌, ◌||◌, ℕ, ap, subst, ◌∙◌}
 use Rattle.std.proofs.lemmas.Result.{on_ok_weaker}
-use Rattle.attr_images.specs.Postings.{block_documents}
-use Rattle.attr_index.specs.Sets.{has, in_words}
+use Rattle.image_format.specs.Postings.{block_documents}
+use Rattle.index_model.specs.Sets.{has, in_words}
 use Rattle.query_eval.specs.Lists.{some_has}
 use Rattle.query_eval.proofs.JoinLemmas.{added_block, added_number}
 use Rattle.query_eval.proofs.vectors.push_union.Goals as goal

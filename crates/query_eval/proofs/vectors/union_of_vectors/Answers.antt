@@ -1,5 +1,5 @@
 use Rattle.std.proofs.Common.{◌≡◌, ◌&&◌, ◌*◌, ℕ, List, nat_lt, arith, ap, ◌∙◌}
-use Rattle.attr_index.specs.Sets.{has}
+use Rattle.index_model.specs.Sets.{has}
 use Rattle.query_eval.specs.Lists.{some_has}
 use Rattle.query_eval.proofs.JoinLemmas.{blocks_all}
 use Rattle.query_eval.proofs.vectors.union_of_vectors.Goals as goal

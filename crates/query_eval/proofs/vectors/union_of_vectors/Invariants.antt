@@ -1,6 +1,6 @@
 use Rattle.std.proofs.Common.{◌≡◌, ◌&&◌, ◌*◌, ℕ}
 use Rattle.std.specs.Prelude.{nat_lt}
-use Rattle.attr_index.specs.Sets.{has}
+use Rattle.index_model.specs.Sets.{has}
 use Rattle.query_eval.specs.Lists.{some_has}
 use Rattle.query_eval.proofs.vectors.union_of_vectors.Given as goal
 

@@ -2,10 +2,10 @@ use Rattle.std.proofs.Common.{◌≡◌, ◌≢◌, ◌||◌, ℕ, [], drop, sym
 use Rattle.std.specs.Map.{keys_of}
 use Rattle.tree_read.specs.Trees.{tree_pairs}
 use Rattle.tree_read.specs.SearchPlaces.{IsAt, pairs_from}
-use Rattle.attr_images.specs.Postings.{list_form, postings_at}
-use Rattle.attr_index.specs.Gathers.{is_gathered}
-use Rattle.attr_index.specs.Sets.{has}
-use Rattle.attr_index.specs.Leaves.{listed}
+use Rattle.image_format.specs.Postings.{list_form, postings_at}
+use Rattle.index_model.specs.Gathers.{is_gathered}
+use Rattle.index_model.specs.Sets.{has}
+use Rattle.index_model.specs.Leaves.{listed}
 use Rattle.query_eval.specs.Parts.{IsIndexPair, AreIndexPairs, index_of_pairs}
 use Rattle.query_eval.proofs.PartLemmas.{all_drop, all_goes}
 use Rattle.query_eval.proofs.walks.gather_every.Goals as goal

@@ -1,9 +1,9 @@
 use Rattle.std.proofs.Common.{◌≡◌, ◌||◌, ℕ, length}
 use Rattle.tree_read.specs.Trees.{tree_pairs}
 use Rattle.tree_read.specs.SearchPlaces.{IsAt, pairs_from}
-use Rattle.attr_index.specs.Gathers.{is_gathered}
-use Rattle.attr_index.specs.Sets.{has}
-use Rattle.attr_index.specs.Leaves.{listed}
+use Rattle.index_model.specs.Gathers.{is_gathered}
+use Rattle.index_model.specs.Sets.{has}
+use Rattle.index_model.specs.Leaves.{listed}
 use Rattle.query_eval.specs.Parts.{AreIndexPairs, index_of_pairs}
 use Rattle.query_eval.proofs.walks.gather_every.Given as goal
 

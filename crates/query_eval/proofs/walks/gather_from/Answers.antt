@@ -1,11 +1,11 @@
 use Rattle.std.proofs.Common.{◌≡◌, ◌≢◌, ◌||◌, ℕ, [], drop, false, sym, ap, subst, ◌∙◌, true≢false}
 use Rattle.std.specs.Map.{keys_of}
 use Rattle.tree_read.specs.SearchPlaces.{IsAt, first_key, pairs_from}
-use Rattle.attr_images.specs.Postings.{list_form, postings_at}
-use Rattle.attr_images.specs.Values.{stored_value}
-use Rattle.attr_index.specs.Gathers.{is_gathered}
-use Rattle.attr_index.specs.Sets.{has}
-use Rattle.attr_index.specs.Leaves.{listed, stands_beyond, run}
+use Rattle.image_format.specs.Postings.{list_form, postings_at}
+use Rattle.image_format.specs.Values.{stored_value}
+use Rattle.index_model.specs.Gathers.{is_gathered}
+use Rattle.index_model.specs.Sets.{has}
+use Rattle.index_model.specs.Leaves.{listed, stands_beyond, run}
 use Rattle.query_eval.specs.Parts.{IsIndexPair, AreIndexPairs, index_of_pairs}
 use Rattle.query_eval.proofs.PartLemmas.{all_drop, run_goes}
 use Rattle.query_eval.proofs.walks.gather_from.Goals as goal

@@ -1,8 +1,8 @@
 use Rattle.std.proofs.Common.{◌≡◌, ◌||◌, ℕ, length}
 use Rattle.tree_read.specs.SearchPlaces.{IsAt, pairs_from}
-use Rattle.attr_index.specs.Gathers.{is_gathered}
-use Rattle.attr_index.specs.Sets.{has}
-use Rattle.attr_index.specs.Leaves.{listed, run}
+use Rattle.index_model.specs.Gathers.{is_gathered}
+use Rattle.index_model.specs.Sets.{has}
+use Rattle.index_model.specs.Leaves.{listed, run}
 use Rattle.query_eval.specs.Parts.{AreIndexPairs, index_of_pairs}
 use Rattle.query_eval.proofs.walks.gather_from.Given as goal
 

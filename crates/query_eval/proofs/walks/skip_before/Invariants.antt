@@ -1,6 +1,6 @@
 use Rattle.std.proofs.Common.{◌≡◌, length}
 use Rattle.tree_read.specs.SearchPlaces.{IsAt, pairs_from}
-use Rattle.attr_index.specs.Leaves.{from}
+use Rattle.index_model.specs.Leaves.{from}
 use Rattle.query_eval.specs.Parts.{AreIndexPairs, index_of_pairs}
 use Rattle.query_eval.proofs.walks.skip_before.Given as goal
 

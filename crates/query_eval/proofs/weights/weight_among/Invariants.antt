@@ -1,5 +1,5 @@
 use Rattle.std.proofs.Common.{◌≡◌, map, drop}
-use Rattle.attr_images.specs.Words.{unpacked}
+use Rattle.image_format.specs.Words.{unpacked}
 use Rattle.query_eval.specs.Weights.{weight_in_list}
 use Rattle.query_eval.proofs.weights.weight_among.Given as goal
 

@@ -3,7 +3,7 @@ use Rattle.std.proofs.lemmas.Int.{to_z-of_z}
 use Rattle.std.specs.Int.{w32}
 use Rattle.std.specs.Int.RustNames.{FitsSigned}
 use Rattle.tree_read.specs.Trees.{tree_pairs}
-use Rattle.attr_images.specs.Postings.{postings_at, tree}
+use Rattle.image_format.specs.Postings.{postings_at, tree}
 use Rattle.query_eval.specs.Weights.{weight_in_list}
 use Rattle.query_eval.proofs.LookupLemmas.{pair_among}
 use Rattle.query_eval.proofs.WeightLemmas.{tree_weight}

@@ -6,7 +6,7 @@ use Rattle.entry_ref.specs.Records.{HasWord, word_at}
 use Rattle.tree_read.specs.Trees.{tree_pairs}
 use Rattle.tree_read.specs.Pairs.{lookup_pair}
 use Rattle.std.specs.Ordering.{nat_cmp}
-use Rattle.attr_images.specs.Postings.{IsBlock}
+use Rattle.image_format.specs.Postings.{IsBlock}
 use Rattle.query_eval.proofs.LookupLemmas.{pair_among}
 use Rattle.query_eval.proofs.WeightLemmas.{vector_weight}
 use Rattle.query_eval.proofs.weights.weight_in_vector.Goals as goal

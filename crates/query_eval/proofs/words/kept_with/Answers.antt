@@ -1,6 +1,6 @@
 use Rattle.std.proofs.Common.{◌≡◌, ℕ, ℤ, Bool, true, false, ◌&&◌, List, refl, ap, ◌∙◌}
 use Rattle.std.specs.Map.{keys_of}
-use Rattle.attr_index.specs.Sets.{has}
+use Rattle.index_model.specs.Sets.{has}
 use Rattle.query_eval.proofs.words.kept_with.Goals as goal
 
 never : (a : Bool) → false ≡ (a && false)

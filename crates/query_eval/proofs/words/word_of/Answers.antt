@@ -1,7 +1,7 @@
 use Rattle.std.proofs.Common.{ℕ, Some, arith, sym, ap, subst, ◌∙◌}
 use Rattle.tree_read.specs.Trees.{tree_pairs}
 use Rattle.tree_read.specs.Pairs.{lookup_pair}
-use Rattle.attr_images.specs.Postings.{list_form, postings_at}
+use Rattle.image_format.specs.Postings.{list_form, postings_at}
 use Rattle.enum_dictionary.specs.Dictionaries.{beside_value}
 use Rattle.query_eval.proofs.PartLemmas.{type_is, is_dictionary}
 use Rattle.query_eval.specs.Weights.{IsListWord}

@@ -3,7 +3,7 @@ use Rattle.std.specs.Prelude.{IsSome}
 use Rattle.std.specs.BTreeMap.{is_at}
 use Rattle.std.specs.Map.{lookup}
 use Rattle.std.specs.Ordering.{nat_cmp}
-use Rattle.list_facts.proofs.Each.{AllByRecursion-each}
+use Rattle.list_lemmas.proofs.Each.{AllByRecursion-each}
 use Rattle.tree_read.specs.Trees.{tree_pairs}
 use Rattle.posting_store.proofs.FormLemmas.{tree_at, tree_form}
 use Rattle.posting_store.proofs.PairLemmas.{weighed}

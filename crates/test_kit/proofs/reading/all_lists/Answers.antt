@@ -1,5 +1,5 @@
 use Rattle.std.proofs.Common.{◌≡◌, ◌≢◌, ℕ, ◌++◌, List, [], ◌∷◌, map, drop, sym, ap, subst, ◌∙◌, arith, true≢false}
-use Rattle.attr_images.specs.Values.{stored_value, IsValueRecord}
+use Rattle.image_format.specs.Values.{stored_value, IsValueRecord}
 use Rattle.tree_read.specs.SearchPlaces.{IsAt, pairs_from}
 use Rattle.posting_store.specs.Lists.{list_at, IsList}
 use Rattle.test_kit.specs.Holds.{as_listed}

@@ -1,6 +1,6 @@
 use Rattle.std.proofs.Common.{◌≡◌, ◌++◌, map, length}
 use Rattle.tree_read.specs.SearchPlaces.{IsAt, pairs_from}
-use Rattle.attr_images.specs.Postings.{index_of}
+use Rattle.image_format.specs.Postings.{index_of}
 use Rattle.test_kit.specs.Holds.{as_listed}
 use Rattle.test_kit.proofs.PairLemmas.{listed, ArePairs}
 use Rattle.test_kit.proofs.reading.all_lists.Given as goal

@@ -1,8 +1,8 @@
 use Rattle.std.proofs.Common.{◌≡◌, ℤ, w32, to_z, of_z, sym, subst, arith}
 use Rattle.std.proofs.lemmas.Int.{to_z-of_z}
 use Rattle.std.specs.Prelude.{IfOk, OnErr}
-use Rattle.attr_images.specs.Postings.{index_of}
-use Rattle.attr_index.specs.Index.{with_posting}
+use Rattle.image_format.specs.Postings.{index_of}
+use Rattle.index_model.specs.Index.{with_posting}
 use Rattle.test_kit.specs.Holds.{HoldsIndex}
 use Rattle.test_kit.proofs.typed.add_typed.Goals as goal
 

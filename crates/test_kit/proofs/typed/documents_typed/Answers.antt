@@ -1,8 +1,8 @@
 use Rattle.std.proofs.Common.{◌≡◌, sym, subst, arith}
 use Rattle.value_index.specs.Indexes.{IsIndex}
 use Rattle.std.specs.Prelude.{IfOk}
-use Rattle.attr_images.specs.Postings.{index_of}
-use Rattle.attr_index.specs.Index.{list_of}
+use Rattle.image_format.specs.Postings.{index_of}
+use Rattle.index_model.specs.Index.{list_of}
 use Rattle.test_kit.proofs.typed.documents_typed.Goals as goal
 
 pub documents_of-requires : goal.documents_of-requires

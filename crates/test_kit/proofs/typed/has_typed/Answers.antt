@@ -4,8 +4,8 @@ use Rattle.std.specs.Prelude.{IsSome, IsTrue}
 use Rattle.std.specs.BTreeMap.{is_at}
 use Rattle.std.specs.Map.{lookup}
 use Rattle.std.specs.Ordering.{nat_cmp}
-use Rattle.attr_images.specs.Postings.{index_of}
-use Rattle.attr_index.specs.Index.{list_of}
+use Rattle.image_format.specs.Postings.{index_of}
+use Rattle.index_model.specs.Index.{list_of}
 use Rattle.test_kit.proofs.typed.has_typed.Goals as goal
 
 pub has-requires : goal.has-requires

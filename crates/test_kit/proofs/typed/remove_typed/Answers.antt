@@ -3,8 +3,8 @@ use Rattle.std.specs.Prelude.{IfOk, OnErr, IsSome}
 use Rattle.std.specs.BTreeMap.{is_at}
 use Rattle.std.specs.Map.{lookup}
 use Rattle.std.specs.Ordering.{nat_cmp}
-use Rattle.attr_images.specs.Postings.{index_of}
-use Rattle.attr_index.specs.Index.{list_of, without_posting}
+use Rattle.image_format.specs.Postings.{index_of}
+use Rattle.index_model.specs.Index.{list_of, without_posting}
 use Rattle.test_kit.specs.Holds.{HoldsIndex}
 use Rattle.test_kit.proofs.typed.remove_typed.Goals as goal
 

@@ -1,7 +1,7 @@
 use Rattle.std.proofs.Common.{ℤ, w32, arith, ap, refl, sym, subst, ◌∙◌, true≢false}
 use Rattle.std.proofs.lemmas.Int.{to_z-of_z}
-use Rattle.attr_images.specs.Postings.{index_of}
-use Rattle.attr_index.specs.Index.{with_posting}
+use Rattle.image_format.specs.Postings.{index_of}
+use Rattle.index_model.specs.Index.{with_posting}
 use Rattle.attr_types.specs.Value.{type_of}
 use Rattle.value_index.specs.Changes.{MakesIndex}
 use Rattle.test_kit.proofs.HoldLemmas.{begun_owns, begun_index, begun_plain, holds_next, index_next, left_same, holds_still}

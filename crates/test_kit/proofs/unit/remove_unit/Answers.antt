@@ -3,8 +3,8 @@ use Rattle.std.specs.Prelude.{IsSome}
 use Rattle.std.specs.BTreeMap.{is_at}
 use Rattle.std.specs.Map.{lookup}
 use Rattle.std.specs.Ordering.{nat_cmp}
-use Rattle.attr_images.specs.Postings.{index_of}
-use Rattle.attr_index.specs.Index.{without_posting, list_of}
+use Rattle.image_format.specs.Postings.{index_of}
+use Rattle.index_model.specs.Index.{without_posting, list_of}
 use Rattle.attr_types.specs.Value.{type_of}
 use Rattle.test_kit.proofs.HoldLemmas.{begun_owns, begun_index, begun_plain, holds_next, index_next, left_same, holds_still}
 use Rattle.test_kit.proofs.unit.remove_unit.Goals as goal

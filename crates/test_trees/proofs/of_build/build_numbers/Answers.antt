@@ -3,7 +3,7 @@ use Rattle.std.specs.List.{zip}
 use Rattle.std.specs.List.Sorted.{IsStrictlySortedBy}
 use Rattle.std.specs.Ordering.{nat_cmp}
 use Rattle.std.proofs.lemmas.Result.{IfOk-weaker}
-use Rattle.list_facts.proofs.Each.{AllByRecursion-each}
+use Rattle.list_lemmas.proofs.Each.{AllByRecursion-each}
 use Rattle.test_trees.proofs.RowLemmas.{keys_of_pairs}
 use Rattle.test_trees.proofs.of_build.build_numbers.Goals as goal
 

@@ -1,5 +1,5 @@
 use Rattle.std.proofs.Common.{arith}
-use Rattle.attr_images.proofs.TextLemmas.{text_reads}
+use Rattle.image_format.proofs.TextLemmas.{text_reads}
 use Rattle.attr_types.specs.declared.value.Value.TheVariants as values
 use Rattle.unique_store.proofs.RecordLemmas.{added_record, added_value}
 use Rattle.unique_store.proofs.adding.add_by.Goals as goal

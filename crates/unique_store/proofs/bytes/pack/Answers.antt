@@ -1,7 +1,7 @@
 use Rattle.std.proofs.Common.{◌+◌, ◌-◌, ◌/◌, ◌<◌, ◌++◌, ◌∙◌, ℕ, List, length, take, ap, arith}
 use Rattle.std.proofs.lemmas.List.{length-set, take_more_set}
 use Rattle.std.specs.Prelude.{slice_set}
-use Rattle.attr_images.specs.Values.{packed_bytes}
+use Rattle.image_format.specs.Values.{packed_bytes}
 use Rattle.unique_store.proofs.ByteLemmas.{pack_step}
 use Rattle.unique_store.proofs.bytes.pack.Goals as goal
 

@@ -1,5 +1,5 @@
 use Rattle.std.proofs.Common.{◌≡◌, ◌+◌, ◌-◌, ◌/◌, ◌++◌, length, take}
-use Rattle.attr_images.specs.Values.{packed_bytes}
+use Rattle.image_format.specs.Values.{packed_bytes}
 use Rattle.unique_store.proofs.bytes.pack.Given as goal
 
 -- the words so far and those of the bytes that are left

@@ -1,5 +1,5 @@
 use Rattle.std.proofs.Common.{◌∙◌, sym, arith}
-use Rattle.attr_images.specs.Values.{stored_text}
+use Rattle.image_format.specs.Values.{stored_text}
 use Rattle.attr_types.specs.declared.kind.ValueType.TheVariants as types
 use Rattle.unique_store.proofs.ByteLemmas.{small_text}
 use Rattle.unique_store.proofs.OrderLemmas.{first_differs}

@@ -4,7 +4,7 @@ use Rattle.std.specs.Cmp.Lexicographic.{slice_cmp}
 use Rattle.std.specs.Ordering.{nat_cmp}
 use Rattle.std.specs.Int.{from_be_bytes, w64}
 use Rattle.entry_ref.specs.Records.{HasWord, word_at}
-use Rattle.attr_images.specs.Values.{stored_text}
+use Rattle.image_format.specs.Values.{stored_text}
 use Rattle.unique_store.proofs.ByteLemmas.{small_text}
 use Rattle.unique_store.proofs.OrderLemmas.{order, by_length, order_begins, differs, goes_on, ends, past}
 use Rattle.unique_store.proofs.RecordLemmas.{text_count, text_size, text_word}

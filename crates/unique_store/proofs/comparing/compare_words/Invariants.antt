@@ -1,7 +1,7 @@
 use Rattle.std.proofs.Common.{◌≡◌, ◌*◌, drop}
 use Rattle.std.specs.Cmp.Lexicographic.{slice_cmp}
 use Rattle.std.specs.Ordering.{nat_cmp}
-use Rattle.attr_images.specs.Values.{stored_text}
+use Rattle.image_format.specs.Values.{stored_text}
 use Rattle.unique_store.proofs.OrderLemmas.{order, by_length}
 use Rattle.unique_store.proofs.comparing.compare_words.Given as goal
 

@@ -2,8 +2,8 @@ use Rattle.std.proofs.Common.{◌≡◌, ℤ, pos, w32, true, length, sym, subst
 use Rattle.std.proofs.lemmas.Int.{to_z-of_z}
 use Rattle.std.specs.BTreeMap.{insert_entry}
 use Rattle.std.specs.Ordering.{nat_cmp}
-use Rattle.attr_images.specs.Postings.{index_of}
-use Rattle.attr_index.specs.Index.{list_of, with_posting}
+use Rattle.image_format.specs.Postings.{index_of}
+use Rattle.index_model.specs.Index.{list_of, with_posting}
 use Rattle.attr_types.specs.Value.{type_of}
 use Rattle.store_api.specs.Calls.{RefusesOf}
 use Rattle.store_api.specs.Units.{MakesWithin}

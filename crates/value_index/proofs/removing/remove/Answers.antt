@@ -3,8 +3,8 @@ use Rattle.std.specs.Prelude.{IfOk, IfErr, length}
 use Rattle.std.specs.BTreeMap.{is_at}
 use Rattle.std.specs.Map.{lookup as lookup_in, remove_entry}
 use Rattle.std.specs.Ordering.{nat_cmp}
-use Rattle.attr_images.specs.Postings.{index_of}
-use Rattle.attr_index.specs.Index.{list_of, without_posting}
+use Rattle.image_format.specs.Postings.{index_of}
+use Rattle.index_model.specs.Index.{list_of, without_posting}
 use Rattle.attr_types.specs.Value.{type_of}
 use Rattle.enum_dictionary.specs.Dictionaries.{beside_value}
 use Rattle.tree_read.specs.Pairs.{lookup_pair}

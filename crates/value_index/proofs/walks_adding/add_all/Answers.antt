@@ -6,10 +6,10 @@ use Rattle.std.specs.List.{AllByRecursion}
 use Rattle.std.specs.Map.{lookup}
 use Rattle.store_api.proofs.May.{may_do-then}
 use Rattle.store_api.specs.Units.{MakesWithin}
-use Rattle.attr_images.specs.Postings.{index_of}
-use Rattle.attr_index.proofs.MapLemmas.{was_weight}
-use Rattle.attr_index.specs.Changes.{is_weight}
-use Rattle.attr_index.specs.Index.{list_of, with_posting}
+use Rattle.image_format.specs.Postings.{index_of}
+use Rattle.index_model.proofs.MapLemmas.{was_weight}
+use Rattle.index_model.specs.Changes.{is_weight}
+use Rattle.index_model.specs.Index.{list_of, with_posting}
 use Rattle.attr_types.specs.Value.{type_of, value_cmp}
 use Rattle.attr_types.specs.declared.kind.ValueType.{ValueType}
 use Rattle.attr_types.specs.declared.value.Value.{Value}

@@ -1,8 +1,8 @@
 use Rattle.std.specs.Prelude.{◌≡◌, ℕ, false}
 use Rattle.std.specs.BTreeMap.{get}
-use Rattle.attr_images.specs.Postings.{index_of}
+use Rattle.image_format.specs.Postings.{index_of}
 use Rattle.attr_types.specs.Value.{value_cmp}
-use Rattle.attr_index.specs.Index.{list_of}
+use Rattle.index_model.specs.Index.{list_of}
 use Rattle.attr_types.specs.declared.value.Value.{Value}
 use Rattle.value_index.specs.Counts.{is_added, put_forms, put_records, value_nodes, AddsLow}
 use Rattle.value_index.specs.Forms.{IsPlainIndex}

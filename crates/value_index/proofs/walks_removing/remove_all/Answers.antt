@@ -3,15 +3,15 @@ use Rattle.std.proofs.lemmas.Result.{err_from_is_err_and}
 use Rattle.std.specs.BTreeMap.{get, is_at}
 use Rattle.std.specs.Map.{remove_entry}
 use Rattle.store_api.proofs.May.{may_do-then}
-use Rattle.attr_images.specs.Postings.{index_of}
-use Rattle.attr_index.proofs.MapLemmas.{none_then, some_then}
-use Rattle.attr_index.specs.Index.{list_of, without_posting}
+use Rattle.image_format.specs.Postings.{index_of}
+use Rattle.index_model.proofs.MapLemmas.{none_then, some_then}
+use Rattle.index_model.specs.Index.{list_of, without_posting}
 use Rattle.attr_types.specs.Value.{type_of, value_cmp}
 use Rattle.attr_types.specs.declared.kind.ValueType.{ValueType}
 use Rattle.attr_types.specs.declared.value.Value.{Value}
 use Rattle.value_index.specs.Changes.{IsChangeWidth, MakesIndex}
 use Rattle.value_index.specs.Indexes.{IsIndex}
-use Rattle.attr_index.specs.Changes.{first_given}
+use Rattle.index_model.specs.Changes.{first_given}
 use Rattle.posting_store.specs.Lists.{AreOnes}
 use Rattle.value_index.specs.Counts.{is_gone, taken_forms, taken_records, value_nodes, IsLow}
 use Rattle.value_index.proofs.FormLemmas.{between_ones, ones_lookup}

@@ -1,7 +1,7 @@
 use Rattle.std.proofs.Common.{◌<◌, ◌≤◌, ◌∙◌, length, refl, sym, ap, subst, arith, rules}
 use Rattle.std.specs.Prelude.{is_some}
 use Rattle.std.proofs.lemmas.Result.{err_from_is_err_and}
-use Rattle.attr_images.specs.Shapes.{shape_of, types_of}
+use Rattle.image_format.specs.Shapes.{shape_of, types_of}
 use Rattle.attr_types.specs.declared.field.TheConstants.{MOST_FIELDS}
 use Rattle.attribute_kinds.proofs.Opening.{forms_made, stands_made, table_made}
 use Rattle.attribute_kinds.proofs.attribute.Attribute+OFFSET_BITS+EntryStore+OFFSET_BITS+W.create.Goals as goal

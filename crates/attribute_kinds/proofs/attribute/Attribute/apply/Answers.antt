@@ -5,29 +5,29 @@ use Rattle.std.specs.declared.alloc.Global.{Global}
 use Rattle.entry_ref.specs.Images.{words_at}
 use Rattle.entry_ref.specs.declared.images.Image.{Image}
 use Rattle.arena_api.specs.Works.{last_image}
-use Rattle.attr_images.specs.Images.{table_of}
-use Rattle.attr_images.specs.Shapes.{shape_of, types_of}
+use Rattle.image_format.specs.Images.{table_of}
+use Rattle.image_format.specs.Shapes.{shape_of, types_of}
 use Rattle.attr_types.specs.Lawful.{OpFits}
 use Rattle.attr_types.specs.Table.{after_op}
-use Rattle.attr_steps.specs.Calls.{KeepsStore, LeavesEntries}
+use Rattle.attr_operations.specs.Calls.{KeepsStore, LeavesEntries}
 use Rattle.attribute_kinds.specs.Calls.{RefusesOperation, applied_to}
-use Rattle.attr_steps.specs.Counts.{MakesOperation, SparesOperation}
-use Rattle.attr_steps.specs.Widths.{IsFullAmong, IsOperationWidth}
+use Rattle.attr_operations.specs.Counts.{MakesOperation, SparesOperation}
+use Rattle.attr_operations.specs.Widths.{IsFullAmong, IsOperationWidth}
 use Rattle.attribute_kinds.specs.Counts.{LacksBuffers, NamesWidth, SparesOf}
 use Rattle.attr_field.specs.declared.roots.FieldRoots.{FieldRoots}
 use Rattle.store_api.specs.declared.store.StoreError.{StoreError}
-use Rattle.attr_steps.specs.Fields.{AreFields, HaveForms, OwnsFields, trees_of}
-use Rattle.attr_steps.specs.Steps.{Stepped}
-use Rattle.attr_steps.specs.Views.{table_at}
+use Rattle.attr_operations.specs.Fields.{AreFields, HaveForms, OwnsFields, trees_of}
+use Rattle.attr_operations.specs.Steps.{Stepped}
+use Rattle.attr_operations.specs.Views.{table_at}
 use Rattle.attribute_kinds.specs.Views.{AttributeView}
 use Rattle.attribute_kinds.proofs.ApplyLemmas.{changed_not, refused_not, refuses_operation, table_made, table_skipped, applied_made, applied_skipped}
-use Rattle.attr_steps.proofs.Holding.{holds_owns}
+use Rattle.attr_operations.proofs.Holding.{holds_owns}
 use Rattle.attribute_kinds.proofs.StandLemmas.{stands_turned, stands_left}
-use Rattle.attr_steps.proofs.Columns.{trees_sound}
-use Rattle.attr_steps.proofs.FieldSteps.{laws_of}
+use Rattle.attr_operations.proofs.Columns.{trees_sound}
+use Rattle.attr_operations.proofs.FieldSteps.{laws_of}
 use Rattle.attribute_kinds.proofs.RoomLemmas.{lacks_buffers, names_width, spares_operation}
-use Rattle.attr_steps.proofs.StepLemmas.{leaves_same}
-use Rattle.compact_steps.specs.Units.{IsUnderWay}
+use Rattle.attr_operations.proofs.StepLemmas.{leaves_same}
+use Rattle.compaction_steps.specs.Units.{IsUnderWay}
 use Rattle.attribute_kinds.proofs.PlanLemmas.{if_some_map, under_same, under_stepped}
 use Rattle.attribute_kinds.proofs.attribute.Attribute.apply.Goals as goal
 

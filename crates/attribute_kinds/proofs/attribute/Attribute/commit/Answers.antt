@@ -4,23 +4,23 @@ use Rattle.entry_ref.specs.Images.{words_at}
 use Rattle.entry_ref.specs.declared.images.Image.{Image}
 use Rattle.arena_api.specs.Calls.{told_after}
 use Rattle.arena_api.specs.Works.{last_image}
-use Rattle.attr_images.specs.Images.{table_of}
-use Rattle.attr_images.specs.Shapes.{shape_of, types_of}
-use Rattle.attr_images.specs.Words.{class_of}
+use Rattle.image_format.specs.Images.{table_of}
+use Rattle.image_format.specs.Shapes.{shape_of, types_of}
+use Rattle.image_format.specs.Words.{class_of}
 use Rattle.attr_types.specs.declared.field.TheConstants.{MOST_FIELDS}
-use Rattle.attr_steps.specs.Calls.{KeepsStore, LeavesEntries}
+use Rattle.attr_operations.specs.Calls.{KeepsStore, LeavesEntries}
 use Rattle.attribute_kinds.specs.Calls.{CommitsImage, IsForRoot, HasNoCommitLeft, RefusesCommit}
-use Rattle.attr_steps.specs.Commits.{CommitsAttributes, IsForWidth}
-use Rattle.attr_steps.proofs.Referring.{forms_stay}
-use Rattle.attr_steps.specs.Fields.{HaveForms, HoldsAttributes, trees_of}
-use Rattle.attr_steps.specs.Views.{table_at}
+use Rattle.attr_operations.specs.Commits.{CommitsAttributes, IsForWidth}
+use Rattle.attr_operations.proofs.Referring.{forms_stay}
+use Rattle.attr_operations.specs.Fields.{HaveForms, HoldsAttributes, trees_of}
+use Rattle.attr_operations.specs.Views.{table_at}
 use Rattle.attribute_kinds.specs.Views.{AttributeView}
 use Rattle.attribute_kinds.proofs.CommitViews.{for_root, image_committed, refuses_commit, spent_same, stands_committed, table_committed}
 use Rattle.array_store.specs.Adding.{MakesOneOf}
 use Rattle.attr_field.proofs.DocumentsCountLemmas.{one-none}
 use Rattle.attribute_kinds.proofs.StandLemmas.{stands_left}
-use Rattle.attr_steps.proofs.StepLemmas.{keeps_same, leaves_same}
-use Rattle.compact_steps.specs.Units.{IsUnderWay}
+use Rattle.attr_operations.proofs.StepLemmas.{keeps_same, leaves_same}
+use Rattle.compaction_steps.specs.Units.{IsUnderWay}
 use Rattle.attribute_kinds.proofs.PlanLemmas.{if_some_map, under_committed, under_same}
 use Rattle.attribute_kinds.proofs.attribute.Attribute.commit.Goals as goal
 

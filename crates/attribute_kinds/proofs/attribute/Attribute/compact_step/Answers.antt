@@ -7,19 +7,19 @@ use Rattle.entry_ref.specs.Images.{words_at}
 use Rattle.entry_ref.specs.declared.images.Image.{Image}
 use Rattle.attr_compaction.specs.Places.{PlanView}
 use Rattle.attr_field.specs.declared.roots.FieldRoots.{FieldRoots}
-use Rattle.attr_images.specs.Images.{table_of}
-use Rattle.attr_images.specs.Shapes.{shape_of, types_of}
+use Rattle.image_format.specs.Images.{table_of}
+use Rattle.image_format.specs.Shapes.{shape_of, types_of}
 use Rattle.attr_types.specs.declared.field.Field.{Field}
 use Rattle.attr_types.specs.declared.field.TheConstants.{MOST_FIELDS}
-use Rattle.attr_steps.proofs.StepLemmas.{keeps_same}
-use Rattle.attr_steps.specs.Fields.{HaveForms, HoldsAttributes, KeepForms, trees_of}
-use Rattle.compact_steps.specs.Units.{ArePlain, IsUnderWay}
-use Rattle.attr_steps.specs.Views.{table_at}
-use Rattle.compact_steps.proofs.KeyCounts.{keys_none, keys_plain}
-use Rattle.compact_steps.proofs.PlainLemmas.{plain_by}
-use Rattle.compact_steps.specs.Counts.{MakesKeys}
-use Rattle.compact_steps.specs.Compactions.{Compacts, KeepsStoreBut}
-use Rattle.compact_steps.specs.Walks.{HasLastField}
+use Rattle.attr_operations.proofs.StepLemmas.{keeps_same}
+use Rattle.attr_operations.specs.Fields.{HaveForms, HoldsAttributes, KeepForms, trees_of}
+use Rattle.compaction_steps.specs.Units.{ArePlain, IsUnderWay}
+use Rattle.attr_operations.specs.Views.{table_at}
+use Rattle.compaction_steps.proofs.KeyCounts.{keys_none, keys_plain}
+use Rattle.compaction_steps.proofs.PlainLemmas.{plain_by}
+use Rattle.compaction_steps.specs.Counts.{MakesKeys}
+use Rattle.compaction_steps.specs.Compactions.{Compacts, KeepsStoreBut}
+use Rattle.compaction_steps.specs.Walks.{HasLastField}
 use Rattle.attribute_kinds.specs.Counts.{HasNoVectors}
 use Rattle.attribute_kinds.specs.Compacting.{CompactsTo, IsIdle, RefusesStep}
 use Rattle.attribute_kinds.specs.Standing.{IsAttribute}

@@ -1,5 +1,5 @@
 use Rattle.std.proofs.Common.{refl, sym, ap, subst, ◌∙◌}
-use Rattle.attr_images.specs.Shapes.{shape_of, types_of}
+use Rattle.image_format.specs.Shapes.{shape_of, types_of}
 use Rattle.attribute_kinds.specs.Calls.{HasCommit}
 use Rattle.attribute_kinds.specs.Views.{AttributeView}
 use Rattle.attribute_kinds.proofs.attribute.Attribute.into_store.Goals as goal

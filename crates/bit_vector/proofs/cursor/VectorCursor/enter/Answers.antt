@@ -1,6 +1,6 @@
 use Rattle.std.proofs.Common.{◌+◌, ◌*◌, ◌≤◌, ℕ, List, filter, length, nat_le, false, refl, sym, ap, ◌∙◌, arith}
 use Rattle.tree_read.specs.SearchPlaces.{pairs_from}
-use Rattle.attr_images.specs.Postings.{IsBlock}
+use Rattle.image_format.specs.Postings.{IsBlock}
 use Rattle.bit_vector.specs.Vectors.{blocks_documents}
 use Rattle.bit_vector.specs.Walks.{IsBlockPlace}
 use Rattle.bit_vector.proofs.DropLemmas.{blocks_small, first_all, not_end}

@@ -1,6 +1,6 @@
 use Rattle.std.proofs.Common.{◌≡◌, ◌+◌, ◌*◌, ◌/◌, ℕ, filter, drop, length, nat_le, sym, ap, subst, ◌∙◌, arith}
 use Rattle.tree_read.specs.SearchPlaces.{IsAt, pairs_from}
-use Rattle.attr_images.specs.Postings.{IsBlock}
+use Rattle.image_format.specs.Postings.{IsBlock}
 use Rattle.bit_vector.specs.Vectors.{blocks_documents}
 use Rattle.bit_vector.specs.Walks.{documents_from, IsBlockPlace, IsInBlock, IsVectorPlace}
 use Rattle.bit_vector.proofs.DropLemmas.{first_all, not_none}

@@ -1,5 +1,5 @@
 use Rattle.std.proofs.Common.{◌≡◌, ◌+◌, ◌-◌, true, List, Some, slice_set, sym, ap, subst, ◌∙◌, arith}
-use Rattle.list_facts.proofs.Options.{same_Some}
+use Rattle.list_lemmas.proofs.Options.{same_Some}
 use Rattle.entry_ref.specs.References.{buffer_of, offset_of, packed}
 use Rattle.entry_ref.proofs.Bits.{packed-same}
 use Rattle.buffer_states.specs.declared.Buffer.{Buffer}

@@ -20,9 +20,9 @@ seal-requires-clause-inside g c =
     let active : is_state_active (buffer_at s.buffers b).state ≡ true = subst (λ (u : LedgerView). is_state_active (buffer_at u.buffers b).state ≡ true) (sym c.self.view_is) c.requires.active in
     (active-shelf bits v s.held.held s.held.room s.unheld k b active).0
 
-pub seal-requires-clause-open : goal.seal-requires-clause-open
+pub seal-requires-clause-opened : goal.seal-requires-clause-opened
 unfolding entries_of
-seal-requires-clause-open g c =
+seal-requires-clause-opened g c =
     let s = c.self.inside in
     let k = c.self.invariant in
     let bits = g.row.OFFSET_BITS in

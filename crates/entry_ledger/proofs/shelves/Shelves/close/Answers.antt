@@ -14,5 +14,5 @@ invariant_of-self c =
     let h : b < length xs = subst (λ (v : ShelvesView). b < length v.shelves) (sym c.self.view_is) c.requires.inside in
     let sealed : (shelf_at xs b).sealed ≡ true = subst (λ (v : ShelvesView). (shelf_at v.shelves b).sealed ≡ true) (sym c.self.view_is) c.requires.sealed in
     let settled : count_by is_touched (shelf_at xs b).states ≡ 0 = subst (λ (v : ShelvesView). count_by is_touched (shelf_at v.shelves b).states ≡ 0) (sym c.self.view_is) c.requires.settled in
-    subst (λ (n : ShelfView). AreShelves s.words (set xs b n) s.made.items s.filled.items s.open.items s.touched) (sym c.close.ensures)
-    (closed s.words xs s.made.items s.filled.items s.open.items s.touched c.self.invariant b h sealed settled)
+    subst (λ (n : ShelfView). AreShelves s.words (set xs b n) s.made.items s.filled.items s.stacks.items s.touched) (sym c.close.ensures)
+    (closed s.words xs s.made.items s.filled.items s.stacks.items s.touched c.self.invariant b h sealed settled)

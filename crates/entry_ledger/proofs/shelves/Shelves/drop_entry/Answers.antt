@@ -23,7 +23,7 @@ enter-requires c e =
     let used : is_used (state_at (shelf_at xs b).states c.args.place) ≡ true = subst (λ (v : ShelvesView). is_used (state_at (shelf_at v.shelves b).states c.args.place) ≡ true) (sym c.self.view_is) c.requires.used in
     let shelf : c.index_mut-shelf.result.now ≡ shelf_at xs b = get_or_read xs b _ h c.index_mut-shelf.ensures.value empty_shelf in
     let had : c.has_touched-had_touched.result ≡ has_touched (shelf_at xs b) = c.has_touched-had_touched.ensures ∙ ap has_touched shelf in
-    touched-room s.words xs s.made.items s.filled.items s.open.items s.touched k b h (with_state_at (shelf_at xs b) c.args.place (dropped c.args.last (state_at (shelf_at xs b).states c.args.place)))
+    touched-room s.words xs s.made.items s.filled.items s.stacks.items s.touched k b h (with_state_at (shelf_at xs b) c.args.place (dropped c.args.last (state_at (shelf_at xs b).states c.args.place)))
     (sym had ∙ not-true _ e) (drop-touched (shelf_at xs b) c.args.place c.args.last there used)
 
 pub enter_row-requires-clause-room : goal.enter_row-requires-clause-room
@@ -47,8 +47,8 @@ enter_row-requires-clause-room c e =
       | else-is_free w ↦ w.enters-is ∙ w.if-is_free.false ∙ sym (ap (λ (t : Bool). t && has_one_spare (with_state_at (shelf_at xs b) c.args.place state)) (sym free ∙ w.if-is_free.false))
     ] in
     let parts = and_parts _ _ (sym (taken-gains (shelf_at xs b) c.args.place state there (used-free _ used)) ∙ sym both ∙ e) in
-    subst (λ w. length (stack_at s.open.items w).list < (stack_at s.open.items w).room) (sym wide)
-    (row-room s.words xs s.made.items s.filled.items s.open.items s.touched k b h (with_state_at (shelf_at xs b) c.args.place state) c.args.place there refl (not-true _ parts.1) parts.0)
+    subst (λ w. length (stack_at s.stacks.items w).list < (stack_at s.stacks.items w).room) (sym wide)
+    (row-room s.words xs s.made.items s.filled.items s.stacks.items s.touched k b h (with_state_at (shelf_at xs b) c.args.place state) c.args.place there refl (not-true _ parts.1) parts.0)
 
 pub invariant_of-self : goal.invariant_of-self
 invariant_of-self c =
@@ -73,7 +73,7 @@ invariant_of-self c =
     let had : c.has_touched-had_touched.result ≡ has_touched (shelf_at xs b) = c.has_touched-had_touched.ensures ∙ ap has_touched shelf in
     let list = ap (λ (t : StackView). t.list) c.enter.ensures ∙ entered-list (not c.has_touched-had_touched.result) s.touched (s.touched.list ++ b ∷ []) in
     let room = ap (λ (t : StackView). t.room) c.enter.ensures ∙ entered-room (not c.has_touched-had_touched.result) s.touched (s.touched.list ++ b ∷ []) in
-    gained-row s.words xs s.made.items s.filled.items s.open.items s.touched k b h c.args.place state there
+    gained-row s.words xs s.made.items s.filled.items s.stacks.items s.touched k b h c.args.place state there
     (λ e. absurd (true≢false (sym e ∙ used-free _ used)))
     c.if-is_free.enters (both ∙ taken-gains (shelf_at xs b) c.args.place state there (used-free _ used))
     c.enter.new.self

@@ -41,8 +41,8 @@ enter_row-requires-clause-room c e =
       | else-frees w ↦ w.enters-is ∙ w.if-frees.false ∙ sym (ap (λ (t : Bool). t && has_one_spare (with_state_at old x now)) (sym frees ∙ w.if-frees.false))
     ] in
     let parts = and_parts _ _ (sym (state-gains old x now there keeps) ∙ sym both ∙ e) in
-    subst (λ w. length (stack_at s.open.items w).list < (stack_at s.open.items w).room) (sym wide)
-    (row-room s.words xs s.made.items s.filled.items s.open.items s.touched k b h (with_state_at old x now) x there refl (not-true _ parts.1) parts.0)
+    subst (λ w. length (stack_at s.stacks.items w).list < (stack_at s.stacks.items w).room) (sym wide)
+    (row-room s.words xs s.made.items s.filled.items s.stacks.items s.touched k b h (with_state_at old x now) x there refl (not-true _ parts.1) parts.0)
 
 pub invariant_of-self : goal.invariant_of-self
 invariant_of-self c =
@@ -79,10 +79,10 @@ invariant_of-self c =
     let list = ap (λ (t : StackView). t.list) c.leave.ensures ∙ entered-list c.has_one_touched.result s.touched (take (length s.touched.list - 1) s.touched.list)
     ∙ ap (λ t. cond t (take (length s.touched.list - 1) s.touched.list) s.touched.list) leaves in
     let room = ap (λ (t : StackView). t.room) c.leave.ensures ∙ entered-room c.has_one_touched.result s.touched (take (length s.touched.list - 1) s.touched.list) in
-    gained-row s.words xs s.made.items s.filled.items s.open.items s.touched k b h x now there keeps
+    gained-row s.words xs s.made.items s.filled.items s.stacks.items s.touched k b h x now there keeps
     c.if-frees.enters (both ∙ state-gains old x now there keeps)
     c.leave.new.self
     (subst (IsStack empty_shelf has_touched (set xs b (with_state_at old x now))) (sym list)
-    (touched-leave s.words xs s.made.items s.filled.items s.open.items s.touched k b h (with_state_at old x now) (has_touched (with_state_at old x now)) refl top.0 top.1))
+    (touched-leave s.words xs s.made.items s.filled.items s.stacks.items s.touched k b h (with_state_at old x now) (has_touched (with_state_at old x now)) refl top.0 top.1))
     (omega (arith, k.touched_room, room))
     c.settle.new.self c.width-width.result c.enter_row.new.stacks.items new wide c.enter_row.ensures

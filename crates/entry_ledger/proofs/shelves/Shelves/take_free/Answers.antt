@@ -28,7 +28,7 @@ enter-requires c e =
     let shelf : c.index_mut-shelf.result.now ≡ shelf_at xs b = get_or_read xs b _ below c.index_mut-shelf.ensures.value empty_shelf in
     let can : IsOpen (shelf_at xs b) x = subst (λ (t : ShelfView). IsOpen t x) shelf c.in-Some.ensures.open in
     let had : c.has_touched-had_touched.result ≡ has_touched (shelf_at xs b) = c.has_touched-had_touched.ensures ∙ ap has_touched shelf in
-    touched-room s.words xs s.made.items s.filled.items s.open.items s.touched k b below (with_made (shelf_at xs b) x) (sym had ∙ not-true _ e) (made-touched (shelf_at xs b) x can)
+    touched-room s.words xs s.made.items s.filled.items s.stacks.items s.touched k b below (with_made (shelf_at xs b) x) (sym had ∙ not-true _ e) (made-touched (shelf_at xs b) x can)
 
 pub invariant_of-self : goal.invariant_of-self
 invariant_of-self c =
@@ -47,7 +47,7 @@ invariant_of-self c =
     let new : c.take.new.self ≡ with_made (shelf_at xs b) x = c.in-Some.ensures.made ∙ ap (λ (t : ShelfView). with_made t x) shelf in
     let list = ap (λ (t : StackView). t.list) c.enter.ensures ∙ entered-list (not c.has_touched-had_touched.result) s.touched (s.touched.list ++ b ∷ []) in
     let room = ap (λ (t : StackView). t.room) c.enter.ensures ∙ entered-room (not c.has_touched-had_touched.result) s.touched (s.touched.list ++ b ∷ []) in
-    took-inside s.words xs s.made.items s.filled.items s.open.items s.touched k b below w x wide more.can c.requires.width can (more.still x (k.each_shelf b).taken can) c.enter.new.self
+    took-inside s.words xs s.made.items s.filled.items s.stacks.items s.touched k b below w x wide more.can c.requires.width can (more.still x (k.each_shelf b).taken can) c.enter.new.self
     (subst (IsStack empty_shelf has_touched (set xs b (with_made (shelf_at xs b) x))) (sym list)
     (stack-enter empty_shelf has_touched xs s.touched.list k.touched_is b (with_made (shelf_at xs b) x) below (made-touched (shelf_at xs b) x can) c.has_touched-had_touched.result had))
     (omega (arith, k.touched_room, room))

@@ -1,5 +1,5 @@
 use Rattle.std.proofs.Common.{◌+◌, ◌*◌, refl, arith}
-use Rattle.list_facts.proofs.Places.{slice_index-zeros}
+use Rattle.list_lemmas.proofs.Places.{slice_index-zeros}
 use Rattle.mem_work.proofs.Views.{view-opened, records-opened}
 use Rattle.mem_work.proofs.Marked.{fresh-at, mark-fresh}
 use Rattle.mem_work.proofs.memory.MemWork.create.Goals as goal

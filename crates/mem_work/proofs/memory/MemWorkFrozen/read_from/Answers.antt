@@ -1,5 +1,5 @@
 use Rattle.std.proofs.Common.{length, sym, ◌∙◌, arith}
-use Rattle.list_facts.proofs.Tests.{above_zero_from_test}
+use Rattle.list_lemmas.proofs.Tests.{above_zero_from_test}
 use Rattle.mem_work.proofs.Views.{record-words}
 use Rattle.mem_work.proofs.memory.MemWorkFrozen.read_from.Goals as goal
 

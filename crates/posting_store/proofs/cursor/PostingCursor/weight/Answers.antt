@@ -1,5 +1,5 @@
 use Rattle.std.proofs.Common.{ap, ◌%◌, ◌∙◌, arith}
-use Rattle.attr_images.specs.Words.{weight_in_bits}
+use Rattle.image_format.specs.Words.{weight_in_bits}
 use Rattle.posting_store.proofs.CursorLemmas.{this_weight, vector_weight, weight_again}
 use Rattle.posting_store.proofs.cursor.PostingCursor.weight.Goals as goal
 

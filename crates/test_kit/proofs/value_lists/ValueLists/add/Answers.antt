@@ -1,7 +1,7 @@
 use Rattle.std.proofs.Common.{◌≡◌, ℤ, w32, to_z, of_z, ap, subst, ◌∙◌}
 use Rattle.std.proofs.lemmas.Int.{to_z-of_z}
-use Rattle.attr_images.specs.Postings.{index_of}
-use Rattle.attr_index.specs.Index.{with_posting}
+use Rattle.image_format.specs.Postings.{index_of}
+use Rattle.index_model.specs.Index.{with_posting}
 use Rattle.test_kit.specs.Holds.{ListsView}
 use Rattle.test_kit.proofs.value_lists.ValueLists.add.Goals as goal
 

@@ -10,27 +10,27 @@ pub returns-clause-holds : goal.returns-clause-holds
 returns-clause-holds g c =
     let s = c.args.self.now in
     let w : WriterView = writer_of s.place.me.0 in
-    let e = c.go_on.ensures in
-    subst (λ h. Advances c.go_on.result (view_of s.place.table_id w) (view_of h (writer_of c.go_on.new.self.place.me.0))) (sym e.table) (advance-holds w s.stands.good s.place.table_id _ _ e.view)
+    let e = c.advance_generation.ensures in
+    subst (λ h. Advances c.advance_generation.result (view_of s.place.table_id w) (view_of h (writer_of c.advance_generation.new.self.place.me.0))) (sym e.table) (advance-holds w s.stands.good s.place.table_id _ _ e.view)
 
 pub returns-clause-commits : goal.returns-clause-commits
 returns-clause-commits g c =
     let s = c.args.self.now in
-    advance-commits (writer_of s.place.me.0) s.stands.good s.place.table_id _ _ c.go_on.new.self.stands.good c.go_on.ensures.view
+    advance-commits (writer_of s.place.me.0) s.stands.good s.place.table_id _ _ c.advance_generation.new.self.stands.good c.advance_generation.ensures.view
 
 pub returns-clause-knows : goal.returns-clause-knows
 returns-clause-knows g c =
     let s = c.args.self.now in
     let w : WriterView = writer_of s.place.me.0 in
-    let e = c.go_on.ensures in
-    subst (λ h. view_of h (writer_of c.go_on.new.self.place.me.0) ≡ advanced (view_of s.place.table_id w) (view_of h (writer_of c.go_on.new.self.place.me.0))) (sym e.table)
+    let e = c.advance_generation.ensures in
+    subst (λ h. view_of h (writer_of c.advance_generation.new.self.place.me.0) ≡ advanced (view_of s.place.table_id w) (view_of h (writer_of c.advance_generation.new.self.place.me.0))) (sym e.table)
     (advance-knows w s.stands.good s.place.table_id _ _ e.view)
 
 pub returns-clause-alone : goal.returns-clause-alone
-returns-clause-alone g c = let s = c.args.self.now in advance-alone (writer_of s.place.me.0) s.stands.good s.place.table_id _ _ c.go_on.ensures.view
+returns-clause-alone g c = let s = c.args.self.now in advance-alone (writer_of s.place.me.0) s.stands.good s.place.table_id _ _ c.advance_generation.ensures.view
 
 pub returns-clause-records : goal.returns-clause-records
-returns-clause-records g c = let s = c.args.self.now in advance-records (writer_of s.place.me.0) s.stands.good s.place.table_id _ _ c.go_on.ensures.view
+returns-clause-records g c = let s = c.args.self.now in advance-records (writer_of s.place.me.0) s.stands.good s.place.table_id _ _ c.advance_generation.ensures.view
 
 pub returns-clause-shape : goal.returns-clause-shape
-returns-clause-shape g c = let s = c.args.self.now in advance-shape (writer_of s.place.me.0) s.stands.good s.place.table_id _ _ c.go_on.ensures.view
+returns-clause-shape g c = let s = c.args.self.now in advance-shape (writer_of s.place.me.0) s.stands.good s.place.table_id _ _ c.advance_generation.ensures.view

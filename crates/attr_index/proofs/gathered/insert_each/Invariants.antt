@@ -1,7 +1,0 @@
-use Rattle.std.proofs.Common.{◌≡◌, ◌||◌, ℕ, drop}
-use Rattle.attr_index.proofs.gathered.insert_each.Given as goal
-use Rattle.attr_index.specs.Sets.{has, in_words}
-
-abbrev pub invariant-loop-doc : goal.invariant-loop-doc
-invariant-loop-doc l =
-    (doc : ℕ) → (in_words l.set doc || has (drop l.doc-index l.docs) doc) ≡ (in_words l.fn.set doc || has l.docs doc)

@@ -1,6 +1,0 @@
-use Rattle.std.proofs.Common.{arith}
-use Rattle.attr_index.proofs.DocLemmas.{adjacent}
-use Rattle.attr_index.proofs.gathered.is_sorted.Goals as goal
-
-pub returns : goal.returns
-returns c = λ is. adjacent c.args.docs.now (λ k low. c.loop-place.invariant k (let past = c.loop-place-test.false in omega (arith, low, past)))

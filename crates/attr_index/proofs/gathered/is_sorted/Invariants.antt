@@ -1,5 +1,0 @@
-use Rattle.std.proofs.Common.{ℕ, suc, ◌<◌, slice_index}
-use Rattle.attr_index.proofs.gathered.is_sorted.Given as goal
-
-abbrev pub invariant-loop-place : goal.invariant-loop-place
-invariant-loop-place l = (k : ℕ) → suc k < l.place → slice_index l.docs k < slice_index l.docs (suc k)

@@ -1,7 +1,0 @@
-use Rattle.std.proofs.Common.{◌≡◌, take}
-use Rattle.std.specs.List.{filter}
-use Rattle.attr_index.proofs.gathered.kept_searched.Given as goal
-use Rattle.attr_index.specs.Sets.{has}
-
-abbrev pub invariant-loop-doc : goal.invariant-loop-doc
-invariant-loop-doc l = l.kept ≡ filter (has l.list) (take l.doc-index l.docs)

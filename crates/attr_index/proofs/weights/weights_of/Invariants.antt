@@ -1,6 +1,0 @@
-use Rattle.std.proofs.Common.{◌≡◌, [], drop}
-use Rattle.attr_index.specs.Changes.{first_weights}
-use Rattle.attr_index.proofs.weights.weights_of.Given as goal
-
-abbrev pub invariant-loop-item : goal.invariant-loop-item
-invariant-loop-item l = first_weights l.weights.entries (drop l.item-index l.items) ≡ first_weights [] l.items

@@ -1,6 +1,0 @@
-use Rattle.std.proofs.Common.{◌≡◌, map, take, string_bytes}
-use Rattle.attr_words.proofs.options.copied.Given as goal
-
-abbrev pub invariant-loop-text : goal.invariant-loop-text
-invariant-loop-text l = map (λ s. string_bytes s) l.copies.items ≡ map (λ t. t.now)
-    (take l.text-index l.texts)

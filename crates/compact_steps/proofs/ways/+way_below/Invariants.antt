@@ -1,4 +1,0 @@
-use Rattle.compact_steps.proofs.ways.+way_below.Given as goal
-
-abbrev pub decreases-way_below : goal.decreases-way_below
-decreases-way_below g l = l.level

@@ -1,0 +1,10 @@
+use Rattle.std.proofs.Common.{◌≡◌, ◌≤◌, length, take}
+use Rattle.std.specs.List.{filter}
+use Rattle.index_model.proofs.gathered.kept_walked.Given as goal
+use Rattle.index_model.specs.Sets.{has}
+
+abbrev pub invariant-loop-doc : goal.invariant-loop-doc
+invariant-loop-doc l = record {
+  within : l.place ≤ length l.list;
+  kept : l.kept ≡ filter (has l.list) (take l.doc-index l.docs);
+}
