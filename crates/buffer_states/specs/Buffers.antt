@@ -4,7 +4,7 @@ use Rattle.std.specs.Prelude.{length, slice_set, slice_index_or, sum_by}
 use Rattle.buffer_states.specs.declared.BufferState.{BufferState}
 use Rattle.buffer_states.specs.declared.BufferState.TheVariants.{Free, Active, OnHold}
 use Rattle.buffer_states.specs.declared.Buffer.{Buffer}
-use Rattle.buffer_states.specs.declared.Words.{Words}
+use Rattle.buffer_states.specs.declared.WordCounts.{WordCounts}
 
 -- a free buffer with all numbers 0
 abbrev pub new_buffer : Buffer
@@ -106,7 +106,7 @@ abbrev pub freed_below : ℕ → Buffer → Buffer
 freed_below oldest buffer = if is_on_hold buffer.state && nat_lt buffer.generation oldest then new_buffer else buffer
 
 -- the words of all buffers together
-abbrev pub words_of : List Buffer → Words
+abbrev pub words_of : List Buffer → WordCounts
 words_of buffers = record {
   used = sum_by (λ (buffer : Buffer). buffer.used) buffers;
   dead = sum_by (λ (buffer : Buffer). buffer.dead) buffers;

@@ -54,7 +54,7 @@ pub struct Buffer {
 
 /// The words of all buffers together.
 #[derive(Clone, Copy, Debug, PartialEq, Eq, Drop)]
-pub struct Words {
+pub struct WordCounts {
     pub used: u64,
     pub dead: u64,
     pub held: u64,
@@ -339,11 +339,11 @@ impl Buffers {
     }
 
     /// Returns the used, dead and held words of all buffers.
-    pub fn words(&self) -> Words
+    pub fn words(&self) -> WordCounts
         requires { length self.now < 2 ^ 32 }
         ensures { result ≡ words_of self.now }
     {
-        let mut words = Words {
+        let mut words = WordCounts {
             used: 0,
             dead: 0,
             held: 0,

@@ -7,7 +7,7 @@ use Rattle.store_api.specs.Ledgers.{capacity, no_counts, with_counts}
 use Rattle.store_api.specs.Calls.{GivesBackOf, DropsOf, EndsOf, SealsOf, took_spare}
 use Rattle.store_api.specs.Usages.{over_buffers}
 use Rattle.buffer_states.specs.declared.BufferState.TheVariants.{Free, Active, OnHold}
-use Rattle.buffer_states.specs.declared.Words.{Words}
+use Rattle.buffer_states.specs.declared.WordCounts.{WordCounts}
 use Rattle.buffer_states.specs.Buffers.{is_state_free, is_state_active, is_on_hold}
 use Rattle.entry_ledger.specs.declared.state.State.{State}
 use Rattle.entry_ledger.specs.declared.state.State.TheVariants.{Free as FreeState, Made, Dropped}
@@ -149,7 +149,7 @@ pub record IsVictim (bits : ℕ) (e : EntriesView) (b : ℕ) : Type 0 where
       → (dead_words bits e a < dead_words bits e b) ⊎ ((dead_words bits e a ≡ dead_words bits e b) × (b ≤ a))
 
 -- the words of all buffers together
-pub record HasWords (bits : ℕ) (e : EntriesView) (words : Words) : Type 0 where
+pub record HasWords (bits : ℕ) (e : EntriesView) (words : WordCounts) : Type 0 where
   pub used : words.used ≡ over_buffers (used_words bits e) e.count
   pub dead : words.dead ≡ over_buffers (dead_words bits e) e.count
   pub held : words.held ≡ over_buffers (held_words bits e) e.count

@@ -9,7 +9,7 @@ ghost use Rattle.entry_ledger.specs.Ledgers.{entries_of, taken_buffer, dropped_b
 ghost use Rattle.entry_ledger.specs.Ledgers.{is_dropped_now, is_dead_after, touched_total, held_after, CanRelease, Releases};
 
 use crate::{Shelves, State};
-use buffer_states::{Buffers, Words};
+use buffer_states::{Buffers, WordCounts};
 use entry_ref::EntryRef;
 use hold_lists::HoldList;
 use std::alloc::{AllocError, Global};
@@ -151,7 +151,7 @@ impl<const OFFSET_BITS: u32> EntryLedger<OFFSET_BITS> {
 
     /// Returns the used, dead and held words of all buffers.
     #[tactic(none)]
-    pub fn words(&self) -> Words
+    pub fn words(&self) -> WordCounts
         ensures { HasWords OFFSET_BITS (entries_of OFFSET_BITS self.now) result }
     {
         self.buffers.words()

@@ -7,7 +7,7 @@ use Rattle.list_lemmas.specs.Counting.{one_if}
 use Rattle.entry_ledger.specs.declared.state.State.{State}
 use Rattle.entry_ledger.specs.declared.state.State.TheVariants.{Free, Returned, Made, InUse, LetGo, DroppedNow, Dropped}
 use Rattle.buffer_states.specs.Buffers.{is_state_active, is_on_hold}
-use Rattle.buffer_states.specs.declared.Words.{Words}
+use Rattle.buffer_states.specs.declared.WordCounts.{WordCounts}
 use Rattle.entry_ref.specs.References.{packed}
 use Rattle.entry_ref.specs.Records.{Records}
 use Rattle.arena_api.specs.Works.{WorkView, Buffer, Tag, active_width, last_image}
@@ -193,7 +193,7 @@ module _ {H : Type 0} (bits : ℕ) (work : WorkView H) (shape : ℕ) (m : Record
   over-words : (states words : ℕ → ℕ) → ((b : ℕ) → b < work.sizes.buffers → words b ≡ states b) → over_buffers states e.count ≡ over_buffers words work.sizes.buffers
   over-words states words same = ap (over_buffers states) st.count ∙ over-same states words work.sizes.buffers (λ b below. sym (same b below))
 
-  pub usage-is : (active on_hold : ℕ) (words : Words) → active ≡ count_marks is_state_active e.mark e.count → on_hold ≡ count_marks is_on_hold e.mark e.count → HasWords bits e words
+  pub usage-is : (active on_hold : ℕ) (words : WordCounts) → active ≡ count_marks is_state_active e.mark e.count → on_hold ≡ count_marks is_on_hold e.mark e.count → HasWords bits e words
       → IsUsage bits ledger (record { active = active; on_hold = on_hold; used = words.used; dead = words.dead; held = words.held })
   usage-is active on_hold words few waits has = record {
     active = few ∙ ap (count_marks is_state_active e.mark) st.count ∙ count-active e.mark work.buffer work.sizes.buffers st.marks;

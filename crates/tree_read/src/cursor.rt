@@ -31,9 +31,9 @@ pub struct Cursor<const OFFSET_BITS: u32> {
 impl<const OFFSET_BITS: u32> Model for Cursor<OFFSET_BITS> {
     ghost use Rattle.std.specs.Prelude.{◌≤◌};
     ghost use Rattle.tree_read.specs.declared.node_format.TheConstants.{MOST_SLOTS};
-    ghost use Rattle.tree_read.specs.SearchPlaces.{Place};
+    ghost use Rattle.tree_read.specs.SearchPlaces.{CursorPlace};
 
-    ghost Value = { Place };
+    ghost Value = { CursorPlace };
 
     ghost view = { λ c. record { root = c.root; path = c.path; leaf = c.leaf; slot = c.slot; used = c.used; words = c.words } };
 

@@ -6,7 +6,7 @@ ghost use Rattle.word_arena.specs.Ruled.{bare, writer_of};
 ghost use Rattle.word_arena.specs.Knows.{IsToken, core_sizes};
 
 use crate::config::Config;
-use crate::rule::{ArenaSeat, Words};
+use crate::rule::{ArenaSeat, WordTable};
 use crate::words::{CLOSED, FIRST_COUNT, FIRST_STATE};
 use atomic_table::Table;
 use entry_ref::Layout;
@@ -15,7 +15,7 @@ use std::alloc::{AllocError, Global};
 
 #[derive(Drop)]
 pub struct Arena<const OFFSET_BITS: u32, L: Layout> {
-    pub(crate) table: Words<L>,
+    pub(crate) table: WordTable<L>,
     pub(crate) sizes: Sizes,
 }
 

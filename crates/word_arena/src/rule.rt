@@ -29,6 +29,6 @@ impl<L: Layout> TableRule<(), Watched, Sizes> for OneRunRule<L> {
     ghost first = { λ sizes. record { view = Writer (opening_view sizes); seen = []; mine = [] } };
 }
 
-pub type Words<L> = Table<(), Watched, Sizes, OneRunRule<L>, Global>;
+pub type WordTable<L> = Table<(), Watched, Sizes, OneRunRule<L>, Global>;
 
 pub type ArenaSeat = Seat<(), Watched>;
