@@ -1,3 +1,5 @@
+//! Takes a reader in again after its rounds.
+
 ghost use Rattle.std.specs.Prelude.{◌≡◌, All};
 ghost use Rattle.gen_core.specs.Events.{joined};
 ghost use Rattle.word_arena.specs.Ruled.{reader_of, writer_of};

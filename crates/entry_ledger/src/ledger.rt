@@ -1,3 +1,5 @@
+//! The states of all entries of a store, with what a unit changed.
+
 ghost use Rattle.std.specs.Prelude.{◌≡◌, ◌≢◌, ◌↔◌, ◌<◌, ◌≤◌, ◌+◌, ◌-◌, ◌*◌, ◌/◌, ◌^◌, if◌then◌else◌, ℕ, true, false};
 ghost use Rattle.std.specs.Prelude.{length, slice_set, Some, None, IsNone, IfSome, IfNone, IfOk, OnOk, OnErr};
 ghost use Rattle.entry_ref.specs.References.{buffer_limit, offset_limit, buffer_of};

@@ -1,3 +1,5 @@
+//! The entries of one buffer.
+
 ghost use Rattle.std.specs.Prelude.{◌≡◌, ◌↔◌, ◌<◌, ◌≤◌, ◌+◌, ◌^◌, ℕ, [], true, false, nat_lt, length, slice_set, vec_len, vec_capacity};
 ghost use Rattle.std.specs.Prelude.{◌-◌, count_by};
 ghost use Rattle.std.specs.List.{SwappedAt};

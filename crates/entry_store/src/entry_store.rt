@@ -1,3 +1,5 @@
+//! A store over a memory with holds: `EntryStore`.
+
 ghost use Rattle.std.specs.Prelude.{◌≡◌, ◌<◌, ◌≤◌, ◌+◌, ◌^◌, ℕ, Some, None, true, false, [], length, take, drop};
 ghost use Rattle.std.specs.Prelude.{IfSome, IfNone, IfOk, IfErr, OnOk, OnErr};
 ghost use Rattle.arena_api.specs.Works.{last_image};

@@ -1,3 +1,5 @@
+//! Joins, shifts and merges two neighbouring nodes.
+
 ghost use Rattle.std.specs.Prelude.{◌≡◌, ◌^◌, ◌≤◌, ◌<◌, ◌+◌, ◌++◌, true, length, slice_set, suc, OnOk, OnErr, IfErr};
 ghost use Rattle.store_api.specs.Calls.{Refuses};
 ghost use Rattle.frozen_nodes.specs.Makes.{MakesNodes};

@@ -1,3 +1,5 @@
+//! Copies the nodes of a buffer below a node, on the way to a key.
+
 ghost use Rattle.std.specs.Prelude.{◌≡◌, ◌≢◌, ◌≤◌, ◌<◌, ◌+◌, ℕ, true, length, slice_index, suc, Ok, IfOk, IfErr};
 ghost use Rattle.std.specs.declared.cmp.Ordering.{Ordering};
 ghost use Rattle.entry_ref.specs.References.{buffer_of};

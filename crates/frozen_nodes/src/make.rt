@@ -1,3 +1,5 @@
+//! Makes nodes from slots.
+
 ghost use Rattle.std.specs.Prelude.{◌≡◌, ◌^◌, ◌<◌, ◌≤◌, ◌+◌, ◌∷◌, ◌++◌, ℕ, List, true, length, IfOk, IfErr, OnErr};
 ghost use Rattle.tree_read.specs.Nodes.{slot_words, node_words, used_of};
 ghost use Rattle.store_api.specs.Calls.{Refuses};

@@ -1,3 +1,5 @@
+//! The one or two nodes that replace a node.
+
 ghost use Rattle.std.specs.Prelude.{◌≡◌, ◌≤◌, ◌<◌, ◌^◌, ◌++◌, ℕ, List, true, length, take, drop, insert, suc, IfOk, IfErr};
 ghost use Rattle.std.specs.List.{AllByRecursion};
 ghost use Rattle.tree_read.specs.Nodes.{level_of, used_of, node_keys, node_values, IsNodeForm};

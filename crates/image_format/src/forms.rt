@@ -1,3 +1,5 @@
+//! When a posting list is a bit vector.
+
 ghost use Rattle.std.specs.Prelude.{◌≡◌};
 ghost use Rattle.image_format.specs.Postings.{is_dense};
 

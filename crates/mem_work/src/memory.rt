@@ -1,3 +1,5 @@
+//! A memory without readers: `MemWork`.
+
 ghost use Rattle.std.specs.Prelude.{◌≡◌, ◌≢◌, ◌<◌, ◌≤◌, ◌+◌, ◌-◌, ◌*◌, ◌^◌, ℕ, [], IfOk, length, IfSome, slice_index, take, drop};
 ghost use Rattle.std.proofs.Common.{sym, ◌∙◌};
 ghost use Rattle.entry_ref.specs.References.{buffer_of, buffer_limit, offset_limit};

@@ -1,3 +1,5 @@
+//! A cursor over the documents of a list.
+
 ghost use Rattle.std.specs.Prelude.{◌≡◌, ◌↔◌, drop, length, [], true, false, IsTrue};
 ghost use Rattle.entry_ref.specs.Records.{Records};
 ghost use Rattle.posting_store.specs.Lists.{list_at, is_vector, IsList, IsPlain};

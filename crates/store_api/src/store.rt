@@ -1,3 +1,5 @@
+//! The trait `Store`: entries in the buffers of a memory, with a ledger of their states.
+
 ghost use Rattle.std.specs.Prelude.{◌≡◌, ◌<◌, ◌≤◌, ◌+◌, ◌-◌, ◌*◌, ◌/◌, ◌↔◌, ℕ, List, None, Some, true, false, length, IfOk, IfErr, OnErr};
 ghost use Rattle.std.specs.Prelude.{IfSome, IfNone};
 ghost use Rattle.std.specs.List.{IsDistinct, All};

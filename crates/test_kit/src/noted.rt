@@ -1,3 +1,5 @@
+//! A memory with a copy of what was stored last at each reference.
+
 ghost use Rattle.std.specs.Prelude.{◌≡◌, ◌≢◌, ◌<◌, ◌≤◌, ◌+◌, ◌^◌, ℕ, length, IfSome, take, drop};
 ghost use Rattle.entry_ref.specs.References.{buffer_of};
 ghost use Rattle.entry_ref.specs.Images.{words_at};

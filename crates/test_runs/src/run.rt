@@ -1,3 +1,5 @@
+//! A run of a line of words over a feed, as a text.
+
 use attr_io::{Gate, NoGate, Sink, SliceSource, Source, VecSink};
 use attr_run::{Outcome, Status, Words, attr_main};
 use std::alloc::{AllocError, Global};

@@ -1,3 +1,5 @@
+//! A cursor over the pairs of a tree.
+
 ghost use Rattle.std.specs.Prelude.{◌≡◌, ◌↔◌, ◌<◌, ◌++◌, ℕ, [], drop, replicate, IsTrue};
 ghost use Rattle.entry_ref.specs.Records.{Records};
 ghost use Rattle.tree_read.specs.Nodes.{level_of};

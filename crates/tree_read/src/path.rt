@@ -1,3 +1,5 @@
+//! The path from a root down to a leaf.
+
 ghost use Rattle.std.specs.Prelude.{◌≡◌, ◌<◌, ℕ, List, [], ◌∷◌, length, reverse, IfSome, IfNone};
 
 use arrayvec::ArrayVec;

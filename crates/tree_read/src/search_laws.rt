@@ -1,3 +1,5 @@
+//! Laws of searches and cursors, for the crates above.
+
 ghost use Rattle.std.specs.Prelude.{◌≡◌, ℕ, List, filter, find, not};
 ghost use Rattle.std.specs.Option.{option_map};
 ghost use Rattle.std.specs.Ordering.{is_lt, is_eq, is_gt};
