@@ -25,7 +25,7 @@ use entry_ref::{EntryRef, Layout, place_of};
 use gen_core::Buffer;
 use std::marker::Model;
 
-/// The arena that a work belongs to. No value of this type is made.
+/// The arena that a work belongs to, by the name of its table. It stands in clauses alone, and no value of it is made.
 pub struct Home {
     nothing: u64,
 }

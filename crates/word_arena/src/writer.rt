@@ -25,6 +25,12 @@ use generation_handler::Holds;
 use std::alloc::{AllocError, Global};
 use thiserror::Error;
 
+/// The one writer of an arena. It reads its own records (`Frozen`), makes records and commits them (`Work`), makes readers
+/// and takes them in.
+///
+/// `Arena::writer` makes it. It belongs to one thread at a time; its calls wait for no reader. Between two commits its
+/// records are those of the last commit and those stored whole since then. It keeps its own copy of the queue of holds and
+/// of the buffers' states, since it alone changes them.
 #[derive(Drop)]
 pub struct Writer<const OFFSET_BITS: u32, L: Layout> {
     pub(crate) seats: Owners<OFFSET_BITS, L>,
@@ -36,7 +42,7 @@ pub struct Writer<const OFFSET_BITS: u32, L: Layout> {
         place.table_id (bare place.me) },
 }
 
-/// The highest number of readers was made.
+/// The highest number of readers, 64, was made. Joined readers count too, so this answer stays.
 #[derive(Clone, Copy, PartialEq, Eq, Debug, Drop, Error)]
 #[error("{made} readers were made, and there can be no more")]
 pub struct NoSeat {
