@@ -131,9 +131,14 @@ module _ (reaches : ℕ → Records → ℕ → List ℕ) (lawful : ℕ → Reco
   run-split s [] ys t h = (s, refl, h)
   run-split s (x ∷ xs) ys t h = let rest = run-split h.0 xs ys t h.2 in (rest.0, (h.0, h.1, rest.1), rest.2)
 
+  -- a commit of a run is one of each longer run
+  pub commit-later : (sizes : Sizes) (events later : List Event) (number : ℕ) (image : Image) (t : State) → IsCommitIn reaches lawful sizes events number image → Happen reaches lawful (opening sizes) (events ++ later) t
+      → slice_get t.writer.commits number ≡ Some image
+  commit-later sizes events later number image t a run =
+      let cut = run-split (opening sizes) events later t run in
+      let same : a.end ≡ cut.0 = same-end events (opening sizes) a.end cut.0 a.run cut.1 in
+      commits-on later number image cut.0 t cut.2 (subst (Has number image) same a.commit)
+
   pub commits_agree : (sizes : Sizes) (events later : List Event) (number : ℕ) (image other : Image) → IsCommitIn reaches lawful sizes events number image
       → IsCommitIn reaches lawful sizes (events ++ later) number other → image ≡ other
-  commits_agree sizes events later number image other a b =
-      let cut = run-split (opening sizes) events later b.end b.run in
-      let same : a.end ≡ cut.0 = same-end events (opening sizes) a.end cut.0 a.run cut.1 in
-      same_Some image other (sym (commits-on later number image cut.0 b.end cut.2 (subst (Has number image) same a.commit)) ∙ b.commit)
+  commits_agree sizes events later number image other a b = same_Some image other (sym (commit-later sizes events later number image b.end a b.run) ∙ b.commit)

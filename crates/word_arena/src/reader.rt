@@ -40,6 +40,7 @@ ghost use Rattle.gen_core.specs.Events.{released, sees};
 ghost use Rattle.word_arena.specs.Ruled.{bare, start_in, reader_of, seen_image, seen_number, IsAimOf, IsLater, IsHigher, Missed, Tries, IsWatch};
 ghost use Rattle.word_arena.specs.Ruled.{IsAim, IsGuard};
 ghost use Rattle.word_arena.specs.PlayEvents.{LoadsNewest, RaiseFinds, TryFinds};
+ghost use Rattle.word_arena.specs.Runs.{GuardsCommit};
 ghost use Rattle.entry_ref.specs.Records.{HasWord, word_at};
 
 use crate::arena::Arena;
@@ -114,6 +115,7 @@ impl<const OFFSET_BITS: u32, L: Layout> Reader<OFFSET_BITS, L> {
     pub fn try_guard(self) -> Result<Guarded<OFFSET_BITS, L>, Again<OFFSET_BITS, L>>
         ensures ok { IfOk result (λ g. IsLater L.reaches L.lawful (reader_of self.place.me.0) (reader_of g.place.me.0)) }
         ensures again { IfErr result (λ a. IsHigher (reader_of self.place.me.0) (reader_of a.reader.place.me.0)) }
+        ensures commit { IfOk result (λ g. GuardsCommit L.reaches L.lawful g.place.me.0) }
         ensures even { IfOk result (λ g. (n : ℕ) × TryFinds L.reaches L.lawful self.place.me n × (n % 2 ≡ 0)) }
         ensures odd { IfErr result (λ a. TryFinds L.reaches L.lawful self.place.me a.found × (a.found % 2 ≡ 1)) }
         ensures found { IfErr result (λ a. a.found ≡ (reader_of a.reader.place.me.0).misses.found) }
@@ -129,6 +131,7 @@ impl<const OFFSET_BITS: u32, L: Layout> Reader<OFFSET_BITS, L> {
     /// there is at most one try for each generation between the first aim and the last.
     pub fn guard<C: Ledger>(self, tries: &mut Steps<C>) -> Guarded<OFFSET_BITS, L>
         ensures later { IsLater L.reaches L.lawful (reader_of self.place.me.0) (reader_of result.place.me.0) }
+        ensures commit { GuardsCommit L.reaches L.lawful result.place.me.0 }
         ensures some { tries.old + 1 ≤ tries.new }
         ensures tried { Tries (reader_of self.place.me.0) (reader_of result.place.me.0) (tries.new - (tries.old + 1)) }
         ensures few { tries.new + (reader_of result.place.me.0).first ≤ tries.old + 1 + (reader_of result.place.me.0).least }
@@ -158,6 +161,7 @@ impl<const OFFSET_BITS: u32, L: Layout> Aimed<OFFSET_BITS, L> {
     pub fn try_raise(self) -> Result<Guarded<OFFSET_BITS, L>, Again<OFFSET_BITS, L>>
         ensures ok { IfOk result (λ g. IsLater L.reaches L.lawful (reader_of self.place.me.0) (reader_of g.place.me.0)) }
         ensures again { IfErr result (λ a. IsHigher (reader_of self.place.me.0) (reader_of a.reader.place.me.0)) }
+        ensures commit { IfOk result (λ g. GuardsCommit L.reaches L.lawful g.place.me.0) }
         ensures even { IfOk result (λ g. (n : ℕ) × RaiseFinds L.reaches L.lawful self.place.me n × (n % 2 ≡ 0)) }
         ensures odd { IfErr result (λ a. RaiseFinds L.reaches L.lawful self.place.me a.found × (a.found % 2 ≡ 1)) }
         ensures found { IfErr result (λ a. a.found ≡ (reader_of a.reader.place.me.0).misses.found) }
@@ -233,6 +237,7 @@ impl<const OFFSET_BITS: u32, L: Layout> Guarded<OFFSET_BITS, L> {
     /// Loads the last commit again, under the same hold. No count changes.
     pub fn again(self) -> Guarded<OFFSET_BITS, L>
         ensures later { IsLater L.reaches L.lawful (reader_of self.place.me.0) (reader_of result.place.me.0) }
+        ensures commit { GuardsCommit L.reaches L.lawful result.place.me.0 }
         ensures not_older { seen_number (reader_of self.place.me.0) ≤ seen_number (reader_of result.place.me.0) }
         ensures view { reader_of result.place.me.0 ≡ sees (reader_of self.place.me.0) self.hold
             (seen_number (reader_of result.place.me.0)) (seen_image (reader_of result.place.me.0)) }

@@ -12,6 +12,7 @@ ghost use Rattle.gen_core.specs.Views.{last_tag_in};
 ghost use Rattle.gen_core.specs.Work.{writer_records};
 ghost use Rattle.word_arena.specs.Knows.{view_of, given, buffers_by, place_by, known_by, HasDesk, KeepsDesk};
 ghost use Rattle.word_arena.specs.Released.{HandsOut};
+ghost use Rattle.word_arena.specs.Runs.{KnowsCommits};
 ghost use Rattle.word_arena.specs.WriterSteps.{IsTaggedBelow};
 
 use crate::arena::Arena;
@@ -294,6 +295,7 @@ impl<const OFFSET_BITS: u32, L: Layout> Work<OFFSET_BITS> for Writer<OFFSET_BITS
         Some(buffer)
     }
 
+    /// All commits of the writer, this one too, are then those of the run that it has seen.
     fn publish(&mut self, root: EntryRef<OFFSET_BITS>) -> u32
         requires lawful { L.lawful (⟦<Writer<OFFSET_BITS, L> as Frozen<OFFSET_BITS>>⟧.shape self.old)
             (⟦<Writer<OFFSET_BITS, L> as Frozen<OFFSET_BITS>>⟧.records self.old) root }
@@ -309,6 +311,7 @@ impl<const OFFSET_BITS: u32, L: Layout> Work<OFFSET_BITS> for Writer<OFFSET_BITS
             (⟦<Writer<OFFSET_BITS, L> as Work<OFFSET_BITS>>⟧.knows self.new).commits
             (next_image L.reaches (⟦<Writer<OFFSET_BITS, L> as Frozen<OFFSET_BITS>>⟧.shape self.old)
             (⟦<Writer<OFFSET_BITS, L> as Frozen<OFFSET_BITS>>⟧.records self.old) root.entry) }
+        ensures in_run { KnowsCommits L.reaches L.lawful (writer_of self.old.place.me.0).sizes self.new.place.me.0 }
         ensures records { ⟦<Writer<OFFSET_BITS, L> as Frozen<OFFSET_BITS>>⟧.records self.new
             ≡ words_at (next_image L.reaches (⟦<Writer<OFFSET_BITS, L> as Frozen<OFFSET_BITS>>⟧.shape self.old)
             (⟦<Writer<OFFSET_BITS, L> as Frozen<OFFSET_BITS>>⟧.records self.old) root.entry) }
