@@ -151,6 +151,7 @@ fn put_words<const OFFSET_BITS: u32, L: Layout>(
     ensures knows { known_by seat.new ≡ record (known_by seat.old) { stored = (known_by seat.new).stored } }
     ensures filled { (i : ℕ) → i < length words.now
         → (known_by seat.new).stored entry.entry i ≡ Some (slice_index words.now i) }
+    ensures apart { (q j : ℕ) → q ≢ entry.entry → (known_by seat.new).stored q j ≡ (known_by seat.old).stored q j }
     ensures others { (q : ℕ) → q ≢ entry.entry
         → writer_records (writer_of seat.new.me.0) q ≡ writer_records (writer_of seat.old.me.0) q }
     ensures shape { (writer_of seat.new.me.0).sizes.shape ≡ (writer_of seat.old.me.0).sizes.shape }
@@ -177,6 +178,7 @@ fn put_zeros<const OFFSET_BITS: u32, L: Layout>(
     ensures filled { (i : ℕ) → start ≤ i → i < width → (known_by seat.new).stored entry.entry i ≡ Some 0 }
     ensures kept { (i : ℕ) → i < start
         → (known_by seat.new).stored entry.entry i ≡ (known_by seat.old).stored entry.entry i }
+    ensures apart { (q j : ℕ) → q ≢ entry.entry → (known_by seat.new).stored q j ≡ (known_by seat.old).stored q j }
     ensures others { (q : ℕ) → q ≢ entry.entry
         → writer_records (writer_of seat.new.me.0) q ≡ writer_records (writer_of seat.old.me.0) q }
     ensures shape { (writer_of seat.new.me.0).sizes.shape ≡ (writer_of seat.old.me.0).sizes.shape }
@@ -253,6 +255,9 @@ impl<const OFFSET_BITS: u32, L: Layout> Work<OFFSET_BITS> for Writer<OFFSET_BITS
             ≡ record (⟦<Writer<OFFSET_BITS, L> as Work<OFFSET_BITS>>⟧.knows self.old) {
               stored = (⟦<Writer<OFFSET_BITS, L> as Work<OFFSET_BITS>>⟧.knows self.new).stored;
             } }
+        ensures apart { (q i : ℕ) → q ≢ entry.entry
+            → (⟦<Writer<OFFSET_BITS, L> as Work<OFFSET_BITS>>⟧.knows self.new).stored q i
+            ≡ (⟦<Writer<OFFSET_BITS, L> as Work<OFFSET_BITS>>⟧.knows self.old).stored q i }
         ensures shape { ⟦<Writer<OFFSET_BITS, L> as Frozen<OFFSET_BITS>>⟧.shape self.new
             ≡ ⟦<Writer<OFFSET_BITS, L> as Frozen<OFFSET_BITS>>⟧.shape self.old }
     {

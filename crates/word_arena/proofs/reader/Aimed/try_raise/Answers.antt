@@ -39,6 +39,7 @@ returns-then-count-eq0-clause-ok g c =
     let more = h.1.least in
     record {
       same_sizes = h.1.same_sizes ∙ b.sizes_same;
+      same_number = h.1.same_number ∙ b.number_same;
       later = omega arith;
       seen = h.1.seen;
       saw = saw_on h.1.saw b.saw;
@@ -74,7 +75,7 @@ returns-clause-again g c =
     let least = b.least in
     let limit = told.limit in
     let view : reader_of c.fetch_sub.new.seat.me.0 ≡ bounced (reader_of c.fetch_add-count.new.seat.me.0) = ap (λ (m : Me Slot View). reader_in m.0) told.is in
-    subst (IsHigher (reader_of c.args.self.place.me.0)) (sym view) (record { higher = omega arith; seen = b.seen; saw = b.saw; same_sizes = b.sizes_same; limit = limit })
+    subst (IsHigher (reader_of c.args.self.place.me.0)) (sym view) (record { higher = omega arith; seen = b.seen; saw = b.saw; same_sizes = b.sizes_same; same_number = b.number_same; limit = limit })
 
 pub returns-then-count-eq0-clause-even : goal.returns-then-count-eq0-clause-even
 returns-then-count-eq0-clause-even g c =
