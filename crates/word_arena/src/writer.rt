@@ -9,6 +9,7 @@ ghost use Rattle.gen_core.specs.Events.{opening_view, with_reader, newcomer, joi
 ghost use Rattle.arena_api.specs.Calls.{IsFresh};
 ghost use Rattle.word_arena.specs.Ruled.{bare, start_in, writer_of, reader_of};
 ghost use Rattle.word_arena.specs.Released.{IsWholeRun};
+ghost use Rattle.word_arena.specs.Runs.{LoadsRootOnce, TookReads, KnowsCommits};
 ghost use Rattle.word_arena.specs.Knows.{view_of, IsDesk, HasDesk};
 ghost use Rattle.entry_ref.specs.Records.{HasWord, word_at};
 
@@ -25,6 +26,12 @@ use generation_handler::Holds;
 use std::alloc::{AllocError, Global};
 use thiserror::Error;
 
+/// The one writer of an arena. It reads its own records (`Frozen`), makes records and commits them (`Work`), makes readers
+/// and takes them in.
+///
+/// `Arena::writer` makes it. It belongs to one thread at a time; its calls wait for no reader. Between two commits its
+/// records are those of the last commit and those stored whole since then. It keeps its own copy of the queue of holds and
+/// of the buffers' states, since it alone changes them.
 #[derive(Drop)]
 pub struct Writer<const OFFSET_BITS: u32, L: Layout> {
     pub(crate) seats: Owners<OFFSET_BITS, L>,
@@ -36,7 +43,7 @@ pub struct Writer<const OFFSET_BITS: u32, L: Layout> {
         place.table_id (bare place.me) },
 }
 
-/// The highest number of readers was made.
+/// The highest number of readers, 64, was made. Joined readers count too, so this answer stays.
 #[derive(Clone, Copy, PartialEq, Eq, Debug, Drop, Error)]
 #[error("{made} readers were made, and there can be no more")]
 pub struct NoSeat {
@@ -94,14 +101,18 @@ impl<const OFFSET_BITS: u32, L: Layout> Writer<OFFSET_BITS, L> {
         Ok(Reader { arena, place })
     }
 
-    /// Joins a reader. All that it saw is then known to be commits; and what the writer has seen is then the whole
-    /// run so far, in which no buffer was handed out while a reader had a guard from before its hold.
+    /// Joins a reader, and loads the root once. All that the reader saw is then known to be commits, and to be its own
+    /// reads of the root; and what the writer has seen is then the whole run so far, in which no buffer was handed out
+    /// while a reader had a guard from before its hold.
     pub fn take_in(&mut self, reader: Reader<OFFSET_BITS, L>)
         requires { reader.place.table_id ≡ self.old.place.table_id }
         ensures view { writer_of self.new.place.me.0 ≡ joined (writer_of self.old.place.me.0) (reader_of reader.place.me.0) }
         ensures table { self.new.place.table_id ≡ self.old.place.table_id }
         ensures commits { All (IsCommit (writer_of self.new.place.me.0).commits) (writer_of self.new.place.me.0).saw }
         ensures run { IsWholeRun L.reaches L.lawful (writer_of self.old.place.me.0).sizes self.new.place.me.0.seen }
+        ensures meets { LoadsRootOnce self.old.place.me.0 self.new.place.me.0 }
+        ensures reads { TookReads self.new.place.me.0 }
+        ensures knows { KnowsCommits L.reaches L.lawful (writer_of self.old.place.me.0).sizes self.new.place.me.0 }
     {
         let Reader { arena: _, place } = reader;
         let arena = self.seats.arena();
