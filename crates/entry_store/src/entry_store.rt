@@ -466,6 +466,10 @@ impl<const OFFSET_BITS: u32, W: Work<OFFSET_BITS>> Store<OFFSET_BITS>
         self.entries.seal(buffer);
     }
 
+    fn unseal(&mut self, buffer: u32) {
+        self.entries.unseal(buffer);
+    }
+
     fn finish(&mut self, buffer: u32) {
         self.entries.finish(buffer);
     }
