@@ -63,6 +63,17 @@ back-has has last (Some State.LetGo) h = refl
 back-has has last (Some (State.DroppedNow after)) h = refl
 back-has has last (Some (State.Dropped after g)) h = use-has (status_of has last (Some (State.Dropped after g))) h
 
+-- no unit changes what a commit left out
+back-left : (has : Bool) (last : ℕ) (o : Option State) → status_of has last o ≡ Status.left → back_of has last o ≡ Status.left
+back-left has last None e = e
+back-left has last (Some State.Free) e = e
+back-left has last (Some State.Returned) e = e
+back-left has last (Some State.Made) e = absurd (cc)
+back-left has last (Some (State.InUse after)) e = e
+back-left has last (Some State.LetGo) e = absurd (cc)
+back-left has last (Some (State.DroppedNow after)) e = absurd (cc)
+back-left has last (Some (State.Dropped after g)) e = e
+
 abbrev tag-in : Tag → Status → Tag
 tag-in other (Status.held tag) = tag
 tag-in other status = other
@@ -234,6 +245,9 @@ module _ {H : Type 0} (bits : ℕ) (work : WorkView H) (m : Records) (e : Entrie
     back_records = λ k r. cond (has_record (back-same ended r k)) (m r) [];
     fresh = st.no_fresh ended;
   }
+
+  pub store_left_out : (r : ℕ) → status r ≡ Status.left → ((e.mark (buffer_of bits r)).sealed ≡ true) × (backs work.commits e r ≡ Status.left)
+  store_left_out r is = (st.left_out r is, back-left (is_in (last_image work.commits) r) e.last (e.state r) is)
 
   pub store_sealed : (shape b : ℕ) → (e.mark b).sealed ≡ true → IsUnfilled (ledger_of bits work shape m e unit) b
   store_sealed shape b is =
