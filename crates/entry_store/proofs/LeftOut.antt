@@ -1,9 +1,9 @@
 -- An entry that a commit left out: which calls leave it as it is.
 use Rattle.std.proofs.Common.{◌≡◌, ℕ, Bool, true, false, cond, eqb, ltb, Option, Some, None, refl, sym, ap, subst, ◌∙◌, option_map}
-use Rattle.std.proofs.lemmas.Bool.{false≢true, eq-eqb}
+use Rattle.std.proofs.lemmas.Bool.{false≢true}
 use Rattle.entry_ledger.specs.declared.state.State.{State}
 use Rattle.entry_ledger.specs.declared.state.State.TheVariants.{Free, Returned, Made, InUse, LetGo, DroppedNow, Dropped}
-use Rattle.entry_ledger.specs.States.{is_used, dropped, undone}
+use Rattle.entry_ledger.specs.States.{is_used, dropped}
 use Rattle.arena_api.specs.Works.{Tag}
 use Rattle.store_api.specs.Statuses.{Status, in_use, after_accept, after_commit, free_below}
 use Rattle.entry_store.specs.Standing.{status_by, status_of, tag_at}
@@ -35,26 +35,6 @@ accept-left Status.dropped e = e
 accept-left Status.let_go e = absurd (cc)
 accept-left (Status.held tag) e = e
 accept-left Status.left e = e
-
-use-again : (t has : Bool) → t ≡ true → cond t Status.pending (cond has Status.live Status.left) ≡ Status.left → ⊥
-use-again true has is e = (cc)
-use-again false has is e = false≢true is
-
-use-live : (t has : Bool) → has ≡ true → cond t Status.pending (cond has Status.live Status.left) ≡ Status.left → ⊥
-use-live true has is e = (cc)
-use-live false true is e = (cc)
-use-live false false is e = false≢true is
-
-pub undone-left : (has : Bool) (last : ℕ) (o : Option State) → (status_of has last o ≡ Status.dropped → has ≡ true) → status_of has last (option_map (undone last) o) ≡ Status.left
-    → status_of has last o ≡ Status.left
-undone-left has last None live e = e
-undone-left has last (Some Free) live e = e
-undone-left has last (Some Returned) live e = e
-undone-left has last (Some Made) live e = absurd (cc)
-undone-left has last (Some (InUse after)) live e = e
-undone-left has last (Some LetGo) live e = absurd (use-again (eqb last last) has (eq-eqb last last refl) e)
-undone-left has last (Some (DroppedNow after)) live e = absurd (use-live (eqb after last) has (live refl) e)
-undone-left has last (Some (Dropped after g)) live e = e
 
 below-held : (t : Bool) (tag : Tag) → cond t Status.free (Status.held tag) ≡ Status.left → ⊥
 below-held true tag e = (cc)

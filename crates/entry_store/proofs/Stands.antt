@@ -21,7 +21,8 @@ use Rattle.entry_ledger.specs.Entries.{EntriesView, IsGood, is_settled_entry}
 use Rattle.entry_ledger.specs.Calls.{CanTake, free_mark, Drops, Accepts, Undoes, Frees, made_at, opened_at, new_entries, with_state, freed}
 use Rattle.entry_store.specs.Standing.{Stands, IsOver, status_by, status_of, statuses, backs, back_of, is_in_generation, is_mark_of}
 use Rattle.entry_store.specs.ProofsForMarks.{mark-free, marks-opened, marks-freed, held-freed, width-freed}
-use Rattle.entry_store.proofs.LeftOut.{pending-left, dropped-left, accept-left, undone-left, below-left}
+use Rattle.entry_store.specs.ProofsForStore.{dropped-live, undone-left}
+use Rattle.entry_store.proofs.LeftOut.{pending-left, dropped-left, accept-left, below-left}
 use Rattle.entry_store.proofs.Queues.{newest-drop}
 use Rattle.entry_store.proofs.Soundness.{sound-made, sound-opened, sound-reclaimed, sound-same, lets-last}
 use Rattle.entry_store.specs.ProofsForStates.{IsWeaker, sound-weaker, with_state-at, in_use-used, dropped-weaker, dropped-since, undone-weaker, undone-settled, undone-since, accepted-status, accepted-settled}
@@ -109,12 +110,6 @@ module _ {H : Type 0} (bits : ℕ) (work : WorkView H) (m : Records) (e : Entrie
   undone-at q None is = inl refl
   undone-at q (Some s) is = undone-weaker (has q) e s (st.good.up_to q s is)
 
-  -- what is dropped is in the last commit
-  dropped-live : (q : ℕ) → statuses work.commits e q ≡ Status.dropped → has q ≡ true
-  dropped-live q is =
-      let some = st.sound.there q (ap has_record is) in
-      lt-ltb 0 _ (subst (λ ws. 0 < length ws) (st.sound.committed q (ap is_committed is)) some)
-
   pub stands-undone : (new : EntriesView) → Undoes e new → IsGood bits new → Stands bits work m new false
   stands-undone new undoes good =
       stands-changed new false undoes.same good
@@ -122,7 +117,7 @@ module _ {H : Type 0} (bits : ℕ) (work : WorkView H) (m : Records) (e : Entrie
       (λ q. subst (λ o. is_in_generation e.last e.generation o ≡ true) (sym (undoes.state q)) (undone-since e.last e.generation (e.state q) (st.since q)))
       (λ ended q. subst (λ o. is_settled_entry o ≡ true) (sym (undoes.state q)) (undone-settled e.last (e.state q)))
       (λ ended. undoes.fresh)
-      (λ q left. undone-left (has q) e.last (e.state q) (dropped-live q) (sym (ap (status_of (has q) e.last) (undoes.state q)) ∙ left))
+      (λ q left. undone-left (has q) e.last (e.state q) (dropped-live bits work m e unit st q) (sym (ap (status_of (has q) e.last) (undoes.state q)) ∙ left))
 
   -- an entry is made
   module _ (width r : ℕ) (ws : List ℕ) (can : CanTake bits e width r) (some : 0 < length ws) (begun : unit ≡ true) where

@@ -365,7 +365,7 @@ impl<const OFFSET_BITS: u32, W: Work<OFFSET_BITS>> Store<OFFSET_BITS>
     for EntryStore<OFFSET_BITS, W> {
     ghost use Rattle.std.specs.Prelude.{refl};
     ghost use Rattle.entry_store.specs.ProofsForStore.{store_recorded, store_placed, store_taken, store_filled, store_spares, store_unkept};
-    ghost use Rattle.entry_store.specs.ProofsForStore.{store_held, store_last, store_settled, store_steady, store_left_out, store_sealed, store_finished};
+    ghost use Rattle.entry_store.specs.ProofsForStore.{store_held, store_last, store_settled, store_steady, store_left_out, store_left_stays, store_sealed, store_finished};
     ghost use Rattle.entry_store.specs.ProofsForStore.{store_counted};
     ghost use Rattle.entry_store.specs.ProofsForStore.{store_enough, store_few_buffers, store_few_records, store_few_nodes, store_unfilled};
 
@@ -536,6 +536,9 @@ impl<const OFFSET_BITS: u32, W: Work<OFFSET_BITS>> Store<OFFSET_BITS>
         s.unit s.stands };
 
     ghost left_out = { λ s. store_left_out OFFSET_BITS (W.knows s.work) (W.records s.work) (entries_of OFFSET_BITS s.entries)
+        s.unit s.stands };
+
+    ghost left_stays = { λ s. store_left_stays OFFSET_BITS (W.knows s.work) (W.records s.work) (entries_of OFFSET_BITS s.entries)
         s.unit s.stands };
 
     ghost sealed = { λ s. store_sealed OFFSET_BITS (W.knows s.work) (W.records s.work) (entries_of OFFSET_BITS s.entries)

@@ -226,9 +226,11 @@ pub trait Store<const OFFSET_BITS: u32>: Frozen<OFFSET_BITS> {
 
     ghost settled: { (s : Self) → (ledger s).unit ≡ false → IsSettled (ledger s) (Self.records s) };
 
-    // an entry that a commit left out lies in a sealed buffer, and no unit changes it
-    ghost left_out: { (s : Self) (r : ℕ) → (ledger s).status r ≡ Status.left
-        → ((ledger s).sealed (buffer_of OFFSET_BITS r) ≡ true) × ((ledger s).back r ≡ Status.left) };
+    // an entry that a commit left out lies in a sealed buffer
+    ghost left_out: { (s : Self) (r : ℕ) → (ledger s).status r ≡ Status.left → (ledger s).sealed (buffer_of OFFSET_BITS r) ≡ true };
+
+    // no unit leaves an entry out, or changes one that was left out
+    ghost left_stays: { (s : Self) (r : ℕ) → ((ledger s).status r ≡ Status.left) ↔ ((ledger s).back r ≡ Status.left) };
 
     // what was in use before the open unit keeps its words until the unit ends
     ghost steady: { (s : Self) (r : ℕ) → in_use ((ledger s).back r) ≡ true → Self.records s r ≡ (ledger s).back_records r };
