@@ -93,6 +93,9 @@ with_released buffers b =
 abbrev pub sealed_at : List Buffer → ℕ → List Buffer
 sealed_at buffers b = slice_set buffers b (record (buffer_at buffers b) { sealed = true })
 
+abbrev pub unsealed_at : List Buffer → ℕ → List Buffer
+unsealed_at buffers b = slice_set buffers b (record (buffer_at buffers b) { sealed = false })
+
 -- buffer b goes on hold with this generation, and has no entries any more
 abbrev pub on_hold_at : List Buffer → ℕ → ℕ → List Buffer
 on_hold_at buffers b generation =

@@ -89,7 +89,7 @@ impl Model for Buffers {
 
 impl Buffers {
     ghost use Rattle.buffer_states.specs.Buffers.{new_buffer, buffer_at, activated, with_counts, with_next, with_taken, with_given};
-    ghost use Rattle.buffer_states.specs.Buffers.{with_dropped, with_kept, with_dropped_held, with_released, sealed_at};
+    ghost use Rattle.buffer_states.specs.Buffers.{with_dropped, with_kept, with_dropped_held, with_released, sealed_at, unsealed_at};
     ghost use Rattle.buffer_states.specs.Buffers.{on_hold_at, freed_at, freed_below, is_state_free, is_state_active, is_on_hold};
     ghost use Rattle.buffer_states.specs.Buffers.{is_candidate, IsVictim, IsLowestFree, words_of};
     ghost use Rattle.std.specs.Prelude.{All};
@@ -262,6 +262,14 @@ impl Buffers {
         ensures { self.new ≡ sealed_at self.old buffer }
     {
         self.buffers[buffer as usize].sealed = true;
+    }
+
+    /// Takes the mark of a buffer away that a compaction gives up.
+    pub fn unseal(&mut self, buffer: u32)
+        requires { buffer < length self.old }
+        ensures { self.new ≡ unsealed_at self.old buffer }
+    {
+        self.buffers[buffer as usize].sealed = false;
     }
 
     /// Puts an active buffer on hold with a generation. It has no entries any more.

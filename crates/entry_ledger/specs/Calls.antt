@@ -4,7 +4,7 @@ use Rattle.std.specs.Option.{option_map}
 use Rattle.entry_ref.specs.References.{buffer_of}
 use Rattle.entry_ref.specs.Places.{IsEntry}
 use Rattle.store_api.specs.Ledgers.{capacity, no_counts, with_counts}
-use Rattle.store_api.specs.Calls.{GivesBackOf, DropsOf, EndsOf, SealsOf, took_spare}
+use Rattle.store_api.specs.Calls.{GivesBackOf, DropsOf, EndsOf, SealsOf, UnsealsOf, took_spare}
 use Rattle.store_api.specs.Usages.{over_buffers}
 use Rattle.buffer_states.specs.declared.BufferState.TheVariants.{Free, Active, OnHold}
 use Rattle.buffer_states.specs.declared.WordCounts.{WordCounts}
@@ -124,6 +124,12 @@ pub record Frees (old new : EntriesView) (oldest : ℕ) : Type 0 where
 pub record Seals (old new : EntriesView) (b : ℕ) : Type 0 where
   pub mark : new.mark ≡ with_mark old.mark b (record (old.mark b) { sealed = true })
   pub counts : (w : ℕ) → SealsOf (old.of_width w) (new.of_width w)
+  pub same : new ≡ record old { mark = new.mark; of_width = new.of_width }
+
+-- a buffer is no longer sealed
+pub record Unseals (old new : EntriesView) (b : ℕ) : Type 0 where
+  pub mark : new.mark ≡ with_mark old.mark b (record (old.mark b) { sealed = false })
+  pub counts : (w : ℕ) → UnsealsOf (old.of_width w) (new.of_width w)
   pub same : new ≡ record old { mark = new.mark; of_width = new.of_width }
 
 -- a sealed buffer goes on hold, and has no entries any more

@@ -103,6 +103,12 @@ impl Shelf {
         self.sealed = true;
     }
 
+    pub fn unseal(&mut self)
+        ensures { self.new ≡ record self.old { sealed = false } }
+    {
+        self.sealed = false;
+    }
+
     /// Returns the number of words of each entry, or 0 if the shelf has no space for entries.
     pub fn width(&self) -> u32
         ensures { result ≡ self.now.width }

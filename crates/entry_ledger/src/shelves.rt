@@ -348,6 +348,20 @@ impl Shelves {
         }
     }
 
+    /// Takes the seal of a shelf away. What is free in it can be made again.
+    pub fn unseal(&mut self, buffer: u32)
+        requires inside { buffer < length self.old.shelves }
+        requires opened { 0 < (shelf_at self.old.shelves buffer).width }
+        requires sealed { (shelf_at self.old.shelves buffer).sealed ≡ true }
+        ensures { self.new ≡ with_shelf self.old buffer (record (shelf_at self.old.shelves buffer) { sealed = false }) }
+    {
+        let shelf = &mut self.shelves[buffer as usize];
+        shelf.unseal();
+        let enters = shelf.can_make();
+        let row = place_of(shelf.width());
+        self.stacks[row].enter(buffer, enters);
+    }
+
     /// Removes all entries of a sealed shelf in which the unit changed nothing.
     pub fn close(&mut self, buffer: u32)
         requires inside { buffer < length self.old.shelves }
