@@ -69,9 +69,11 @@ inline const std::uint8_t *bytes_of(std::string_view text) {
 inline void must_ask(std::int32_t code, std::string_view text, const attr_answer &answer) {
     if (code == ATTR_OK) return;
     bool has_place = code == ATTR_SYNTAX || code == ATTR_NO_FIELD;
-    std::string said = message(code);
-    if (has_place && answer.place < text.size()) said += ": at byte " + std::to_string(answer.place) + ", " + std::string(text.substr(answer.place, 40));
-    if (has_place && answer.place >= text.size()) said += ": at its end";
+    std::string said = code == ATTR_SYNTAX ? "the text is no query and no dot product: it breaks off" : message(code) + ":";
+    if (has_place && answer.place < text.size())
+        said += " at byte " + std::to_string(answer.place) + ", before " + std::string(text.substr(answer.place, 40));
+    else if (has_place) said += " at its end";
+    else said.pop_back();
     throw error(code, said, 0, has_place ? answer.place : 0);
 }
 

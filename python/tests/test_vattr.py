@@ -155,7 +155,7 @@ class Answers(unittest.TestCase):
             self.engine.feed(put(20, year=1) + "\n" + '{"put":1}\n')
         self.assertEqual((refused.exception.code, refused.exception.line), (Code.BAD_ID, 3))
         self.assertEqual(str(refused.exception), "the id does not end with the number of a document: line 3, at byte 42")
-        for text, code, said in [("or(1", Code.SYNTAX, "at its end"), ("none:1", Code.NO_FIELD, "at byte 0, none:1"), ('"x"', Code.WRONG_TYPE, "")]:
+        for text, code, said in [("or(1", Code.SYNTAX, "no query and no dot product: it breaks off at its end"), ("year:x", Code.SYNTAX, "at byte 5, before x"), ("none:1", Code.NO_FIELD, "at byte 0, before none:1"), ('"x"', Code.WRONG_TYPE, "")]:
             with self.assertRaises(Refused) as refused:
                 self.reader.hits(text)
             self.assertEqual(refused.exception.code, code)

@@ -12,7 +12,7 @@ import threading
 import weakref
 from typing import Any, Callable, Deque, List, Optional, Union
 
-from ._library import Answer, AnswerTold, Code, Counts, Handle, Item, ItemTold, Misuse, Refused, Score, Sizes, Told, lib
+from ._library import Answer, AnswerTold, Code, Counts, Handle, Item, ItemTold, Misuse, Refused, Score, Sizes, Told, lib, message
 
 Bytes = Union[bytes, bytearray, memoryview]
 
@@ -140,7 +140,7 @@ class Engine(_Owned):
         code = lib.attr_open(text, len(text), ctypes.byref(sizes), ctypes.byref(out), ctypes.byref(place))
         if code:
             more = f": attribute number {place.value}, from 0" if code == Code.ATTRIBUTES else ""
-            raise Refused(code, more, place=place.value)
+            raise Refused(code, message(code) + more, place=place.value)
         self._own(out.at, lib.attr_close)
         self.names = [part.split(":")[0] for part in text.decode().split(",")]
         # (a reader keeps this and not the engine, which can go before it)
@@ -156,7 +156,7 @@ class Engine(_Owned):
             more = f": line {told.line}, at byte {told.place}" if told.line else ""
             if code == Code.FULL:
                 more += f": {told.active} buffers in use, {told.held} held" + (f" by a reader of commit {told.oldest} or later" if told.is_held else "")
-            raise Refused(code, more, told.line, told.place, told)
+            raise Refused(code, message(code) + more, told.line, told.place, told)
         return told
 
     def feed(self, lines: Union[str, Bytes]) -> Told:
@@ -307,8 +307,11 @@ class Reader(_Owned):
             if code in (Code.SYNTAX, Code.NO_FIELD):
                 place = told.place
                 rest = text[place:place + 40].decode(errors="replace")
-                more = f": at byte {place}, {rest}" if rest else ": at its end"
-            raise Refused(code, more, place=place, told=told)
+                more = f" at byte {place}, before {rest}" if rest else " at its end"
+                if code == Code.SYNTAX:
+                    raise Refused(code, "the text is no query and no dot product: it breaks off" + more, place=place, told=told)
+                more = ":" + more
+            raise Refused(code, message(code) + more, place=place, told=told)
         return told
 
     def ask(self, text: str) -> Answer:

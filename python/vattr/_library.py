@@ -181,8 +181,8 @@ def quoted(text: str) -> str:
 class Refused(Exception):
     """A call was refused: `code` says why, `line` and `place` where, and `told` has all that the call told."""
 
-    def __init__(self, code: int, more: str = "", line: int = 0, place: int = 0, told: object = None) -> None:
-        super().__init__(message(code) + more)
+    def __init__(self, code: int, text: str = "", line: int = 0, place: int = 0, told: object = None) -> None:
+        super().__init__(text or message(code))
         self.code, self.line, self.place, self.told = Code(code), line, place, told
 
 

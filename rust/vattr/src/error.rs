@@ -110,9 +110,13 @@ impl Error {
         if matches!(code, sys::ATTR_SYNTAX | sys::ATTR_NO_FIELD) {
             error.place = place;
             let rest = text.get(place as usize..).unwrap_or("");
+            error.message = match code {
+                sys::ATTR_SYNTAX => "the text is no query and no dot product: it breaks off".to_string(),
+                _ => error.message + ":",
+            };
             error.message += &match rest {
-                "" => ": at its end".to_string(),
-                rest => format!(": at byte {place}, {}", rest.chars().take(40).collect::<String>()),
+                "" => " at its end".to_string(),
+                rest => format!(" at byte {place}, before {}", rest.chars().take(40).collect::<String>()),
             };
         }
         error

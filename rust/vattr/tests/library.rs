@@ -119,7 +119,7 @@ fn refusals_name_their_place() {
     assert!(refused.to_string().ends_with(": line 3, at byte 41"), "{refused}");
     let reader = engine.reader().unwrap();
     let said = |text| reader.hits(text).unwrap_err();
-    assert!(said("or(1").to_string().ends_with(": at its end"));
+    assert!(said("or(1").to_string().ends_with("it breaks off at its end"));
     assert_eq!((said("none:1").code, said("\"x\"").code), (Code::NoField, Code::WrongType));
     assert_eq!(engine.reader().unwrap_err().code, Code::NoReader);
     let code = |text, sizes| Engine::open(text, sizes).map(drop).map_err(|it: Error| it.code);
