@@ -8,6 +8,15 @@
 #include <stdlib.h>
 #include <sys/mman.h>
 
+/* The text needs a processor with x86-64-v2 (SSE4.2, POPCNT): this note has the system's loader refuse a program, or a library, where it is
+   missing ("CPU ISA level is lower than required"), before an instruction of the text runs. */
+__asm__(".pushsection .note.gnu.property, \"a\", @note\n"
+        ".p2align 3\n"
+        ".long 4, 16, 5\n"
+        ".asciz \"GNU\"\n"
+        ".long 0xc0008002, 4, 2, 0\n" /* GNU_PROPERTY_X86_ISA_1_NEEDED: 4 bytes, GNU_PROPERTY_X86_ISA_1_V2, and 4 to fill up */
+        ".popsection");
+
 /* An answer to a request for memory: whether there is any, and where. Without memory `place` is some address that is not null. */
 struct answer { bool ok; void *place; };
 

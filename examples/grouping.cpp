@@ -12,7 +12,7 @@ std::string put(unsigned document, int year, int plays) {
 }
 
 std::map<std::int64_t, std::vector<std::uint32_t>> by_decade(attr::reader &reader) {
-    attr::reader::guard guard(reader);
+    attr::guard guard = reader.hold();
     std::map<std::int64_t, std::vector<std::uint32_t>> groups;
     for (std::uint32_t document : reader.hits("year:[1950;1989]")) groups[reader.number(document, 0, 0) / 10 * 10].push_back(document);
     for (auto &group : groups)

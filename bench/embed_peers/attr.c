@@ -1,4 +1,4 @@
-/* The job over libattr. Operations are lines of JSON, which are read in the figure. */
+/* The job over libvattr. Operations are lines of JSON, which are read in the figure. */
 #include "job.h"
 #include "attr.h"
 

@@ -1,5 +1,5 @@
-# Completion of attr for bash. Made by dist/pages from docs/COMMAND_LINE.md: change it there.
-_attr() {
+# Completion of vattr for bash. Made by dist/pages from docs/COMMAND_LINE.md: change it there.
+_vattr() {
     local word=${COMP_WORDS[COMP_CWORD]} before=${COMP_WORDS[COMP_CWORD-1]} given names=() it
     # (readline parts `--kind=array` at the sign)
     [[ $word != = ]] || word=
@@ -18,4 +18,4 @@ _attr() {
     done
     [[ $word && $word != -* ]] || mapfile -t COMPREPLY < <(compgen -W "${names[*]}" -- "$word")
 }
-complete -F _attr attr
+complete -F _vattr vattr
