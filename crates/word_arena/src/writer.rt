@@ -1,5 +1,5 @@
 //! The one writer.
-ghost use Rattle.std.specs.Prelude.{take, drop, ◌≡◌, ◌+◌, ◌*◌, ◌^◌, ◌<◌, ◌≤◌, ℕ, length, IfSome, [], IfOk, IfErr, slice_get, Some, All};
+ghost use Rattle.std.specs.Prelude.{take, drop, ◌≡◌, ◌∷◌, ◌+◌, ◌*◌, ◌^◌, ◌<◌, ◌≤◌, ℕ, length, IfSome, [], IfOk, IfErr, slice_get, Some, All};
 ghost use Rattle.entry_ref.specs.Images.{words_at};
 ghost use Rattle.entry_ref.specs.Places.{place};
 ghost use Rattle.gen_core.specs.declared.views.View.TheVariants.{Writer as WriterSees};
@@ -15,10 +15,11 @@ ghost use Rattle.entry_ref.specs.Records.{HasWord, word_at};
 use crate::arena::{Arena, Token};
 use crate::plays::{Cut, Glue, LoadOwn, MeetLoad};
 use crate::reader::Reader;
-use crate::rule::ArenaSeat;
+use crate::rule::{ArenaSeat, Watched};
 use crate::seats::{MOST_READERS, Owners};
 use crate::words::{ROOT, first_word};
 use arena_api::Frozen;
+use atomic_table::Badge;
 use entry_ref::{EntryRef, Layout, place_of};
 use gen_core::Buffer;
 use generation_handler::Holds;
@@ -110,6 +111,21 @@ impl<const OFFSET_BITS: u32, L: Layout> Writer<OFFSET_BITS, L> {
             .table
             .shared
             .load::<MeetLoad<L>>(&mut self.place, ROOT);
+    }
+
+    /// Gives up the memory, and keeps what the writer knew at the end. It has no bytes.
+    pub fn into_badge(self) -> Badge<Watched>
+        ensures table { result.table_id ≡ self.place.table_id }
+        ensures knows { result.views ≡ self.place.me.0 ∷ [] }
+    {
+        let Writer {
+            seats: _,
+            buffers: _,
+            holds: _,
+            last: _,
+            place,
+        } = self;
+        place.into_badge()
     }
 
     // Returns the place of a word of a record, by the width that is stored in its buffer.
