@@ -12,7 +12,7 @@ ghost use Rattle.posting_store.specs.Lists.{list_at, list_levels, is_vector, Are
 ghost use Rattle.posting_store.specs.Changes.{list_part, list_most, list_change_most, IsListWidth, IsListChangeWidth};
 ghost use Rattle.posting_store.specs.Changes.{MakesByRule, MakesList};
 
-use crate::cursor::count;
+use crate::cursor::has_at_least;
 use crate::forming::by_rule;
 use crate::items::{items_of, take_item};
 use crate::posting::{Posting, root_of};
@@ -183,7 +183,7 @@ pub fn remove<const OFFSET_BITS: u32, S: Store<OFFSET_BITS>>(
         (length (remove_entry (is_at (nat_cmp doc)) (list_at (S.records store.old) list)))) (S.ledger store.old) (S.ledger store.new)) }
     ensures may { MayDo (S.ledger store.old) (S.ledger store.new) }
 {
-    if count(store, list) > 9 {
+    if has_at_least(store, list, 10) {
         remove_from_long(alloc, store, list, doc, dense, documents)
     } else {
         remove_from_short(store, list, doc)
