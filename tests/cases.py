@@ -26,7 +26,7 @@ class Maker:
         names = [first[0], *self.dice.sample([it for it in NAMES if it != first[0]], self.count - 1)]
         self.fields = [(name, self.dice.choice(model.KINDS), self.dice.choice(model.TYPES)) for name in names]
         # (a heavy case has lists of all lengths, and so records of all widths: it fills a small store)
-        self.is_heavy = self.odd(0.06)
+        self.is_heavy = self.odd(0.08)
         if self.is_heavy:
             self.fields[0] = (self.fields[0][0], self.dice.choice(model.KINDS[1:]), self.fields[0][2])
         self.documents = self.dice.choice([3, 3, 12, 12, 200, 200, 2000])
@@ -38,8 +38,8 @@ class Maker:
 
     # Values as JSON.
 
-    def value(self, value_type):
-        if self.odd(0.02):
+    def value(self, value_type, odd=0.02):
+        if odd and self.odd(odd):
             return None
         if value_type == "long":
             return self.dice.choice(LONGS) if self.odd(0.2) else self.dice.randrange(-self.values, self.values)
@@ -72,7 +72,10 @@ class Maker:
         if kind == "single":
             return self.json(self.value(value_type))
         if kind == "array":
-            return "[" + ",".join(self.json(self.value(value_type)) for _ in range(count)) + "]"
+            found = [self.json(self.value(value_type, 0)) for _ in range(count)]
+            if found and self.odd(0.02):
+                found[self.dice.randrange(count)] = self.json(None)
+            return "[" + ",".join(found) + "]"
         names = [f'"{it}"' for it in range(count)] if count > 300 else [self.element(value_type) for _ in range(count)]
         return "{" + ",".join(f"{name}:{self.weight()}" for name in names) + "}"
 
@@ -140,6 +143,7 @@ class Maker:
 
     def feed(self):
         size = self.dice.choice([0, 1, 2, 5, 10, 20, 40, 40, 80]) if not self.odd(0.02) else self.dice.choice([300, 1000])
+        size = size if not self.is_heavy else self.dice.choice([20, 40])
         lines = [b"" if self.odd(0.02) else self.line() for _ in range(size)]
         good = []
         for line in lines:

@@ -193,7 +193,7 @@ def with_rounds(output, readers, rounds):
     if not output.startswith(b"final "):
         return output
     answers = [line for line in output.split(b"\n")[:-1] if not line.startswith((b"full ", b"done "))]
-    lines = b"\n".join([answers[0].removeprefix(b"final "), *answers[1:]]) + b"\n"
+    lines = b"\n".join([answers[0][len(b"final "):], *answers[1:]]) + b"\n"
     return b"".join(f"reader {reader} round {number} ".encode() + lines
                     for reader in range(1, readers + 1) for number in range(1, rounds + 1)) + output
 
@@ -208,7 +208,7 @@ def variants(row):
     at = next((at for at, word in enumerate(row.words) if row.words[at:at + 2] == [b"--readers", b"0"]), None)
     if at is not None and row.status in (0, 6) and row.output.startswith((b"final ", b"made ")):
         words = [*row.words[:at], b"--readers", b"2", b"--rounds", b"2", b"--after", *row.words[at + 2:]]
-        yield small([word for word in words[:at + 5]] + words[at + 5:]), with_rounds(row.output, 2, 2)
+        yield small(words), with_rounds(row.output, 2, 2)
 
 
 def run_plain(program, row):
