@@ -12,8 +12,11 @@ import rows
 NAMES = ["f", "g", "h", "year", "and", "dot", "a_1", "_"]
 TEXTS = ["", "a", "b", "tea", "ten", "t", "z", "é", "ü\u0000", 'q"\\', "\U0001f600", "a" * 9, "a" * 17, "tea" * 100]
 LONGS = [0, 1, -1, 5, 7, 10, 2**31, -2**31 - 1, 2**63 - 1, -2**63, 2**63 - 2]
-BAD = ["1.5", "-0", "1e2", "true", "[1]", "{}", '"x"', "9223372036854775808", "-9223372036854775809", "18446744073709551616", "null", "5", "[]",
-       '{"a":1}', '{"5":2147483648}', '{"05":1}', '"\\ud800"', "[null]", "1e999", "01", "+1", "nul", '"' + "a" * 1025 + '"', "[" * 130]
+ODD_WORDS = [("batch", 7), ("kind", "list"), ("value", ""), ("seed", 65536), ("readers", 9), ("rounds", "x"), ("buffers", 1024),
+             ("also", "f:single:long"), ("also", "q:single"), ("also", "q:array:long,"), ("speed", 5), ("help", None), ("help", "x"),
+             ("batch", "+5"), ("batch", "007"), ("batch", "-0"), ("after", "true")]
+BAD = ["1.5", "-0", "1e2", "true", "[1]", "{}", '"x"', "9223372036854775808", "-9223372036854775809", "18446744073709551616", "null", "5",
+       "[]", '{"a":1}', '{"5":2147483648}', '{"05":1}', '"\\ud800"', "[null]", "1e999", "01", "+1", "nul", '"' + "a" * 1025 + '"', "[" * 130]
 
 
 class Maker:
@@ -138,8 +141,8 @@ class Maker:
     def damaged(self, data):
         """The bytes with one place changed."""
         at = self.dice.randrange(len(data)) if data else 0
-        with_what = self.dice.choice([b"", b"", b'"', b"{", b"}", b",", b":", b"0", b"-", b".", b"\\", b"\xff", b"\xc3", b" ", b"\x01", b"\n"])
-        return self.dice.choice([data[:at] + with_what + data[at + 1:], data[:at] + with_what + data[at:], data[:at]])
+        put = self.dice.choice([b"", b"", b'"', b"{", b"}", b",", b":", b"0", b"-", b".", b"\\", b"\xff", b"\xc3", b" ", b"\x01", b"\n"])
+        return self.dice.choice([data[:at] + put + data[at + 1:], data[:at] + put + data[at:], data[:at]])
 
     def feed(self):
         size = self.dice.choice([0, 1, 2, 5, 10, 20, 40, 40, 80]) if not self.odd(0.02) else self.dice.choice([300, 1000])
@@ -188,8 +191,8 @@ class Maker:
             sets = [field for field in self.fields if field[1] == "weightedset"] or ([self.fields[0]] if self.odd(0.1) else [])
             if sets:
                 name, _, value_type = self.dice.choice(sets)
-                part = lambda: f'{self.value("long") or 0}' if value_type == "long" else '"' + self.dice.choice(["a", "tea", "t1", "t2", ""]) + '"'
-                parts = ",".join(f"{part()}:{self.weight()}" for _ in range(self.dice.randrange(1, 5)))
+                values = [str(self.value("long") or 0), "5"] if value_type == "long" else ['"a"', '"tea"', '"t1"', '"t2"', '""']
+                parts = ",".join(f"{self.dice.choice(values)}:{self.weight()}" for _ in range(self.dice.randrange(1, 5)))
                 return (f"{name}:" if name != self.fields[0][0] else "") + f"dot({parts})"
         if depth < 3 and self.odd(0.35):
             members = ",".join(self.query(depth + 1) for _ in range(self.dice.randrange(1, 4)))
@@ -203,7 +206,8 @@ class Maker:
             query += ")" * query.count("and(") if self.odd(0.8) else ""
         if self.odd(0.04):
             at = self.dice.randrange(len(query))
-            query = query[:at] + self.dice.choice(["", "", '"', "(", ")", ",", "0", "-", "é", "*", ";", "d", "_"]) + query[at + self.dice.randrange(2):]
+            put = self.dice.choice(["", "", '"', "(", ")", ",", "0", "-", "é", "*", ";", "d", "_"])
+            query = query[:at] + put + query[at + self.dice.randrange(2):]
         return query
 
     # Words.
@@ -221,9 +225,7 @@ class Maker:
         given += [("rounds", dice.choice([1, 2, 5, 20]))] if self.odd(0.8) else []
         given += [(flag, None) for flag, chance in (("after", 0.3), ("wide", 0.2), ("dense", 0.2), ("save", 0.15)) if self.odd(chance)]
         if self.odd(0.03):
-            given.append(dice.choice([("batch", 7), ("kind", "list"), ("value", ""), ("seed", 65536), ("readers", 9), ("rounds", "x"), ("buffers", 1024),
-                                      ("also", "f:single:long"), ("also", "q:single"), ("also", "q:array:long,"), ("speed", 5), ("help", None),
-                                      ("help", "x"), ("batch", "+5"), ("batch", "007"), ("batch", "-0"), ("after", "true")]))
+            given.append(dice.choice(ODD_WORDS))
         if self.odd(0.02):
             del given[dice.randrange(len(given))]
         dice.shuffle(given)
@@ -327,7 +329,8 @@ def case(program, seed, number):
         return None, kind
     status, output, _ = rows.run(program, words, feed)
     told = shlex.join(word.decode(errors="backslashreplace") for word in words)
-    return (f"case {number} of seed {seed}: {found}\n    attr {told}\n    on {feed[:1500]!r}\n    found  {rows.shown(status, output)}"), kind
+    ran = rows.shown(status, output)
+    return f"case {number} of seed {seed}: {found}\n    attr {told}\n    on {feed[:1500]!r}\n    found  {ran}", kind
 
 
 def batch(job):

@@ -1,5 +1,7 @@
-"""Random calls of the library for C beside the plain model: feeds in pieces, lines that are refused, commits, compactions, queries, items and
-saves, at the last commit and under a guard of an older one. By ctypes, over examples/attr_engine.py.
+"""Random calls of the library for C beside the plain model, by ctypes, over examples/attr_engine.py.
+
+Feeds in pieces, lines that are refused, commits, compactions, queries, items and saves, at the last commit and under a guard of an older
+one.
 """
 import ctypes
 import importlib
@@ -23,13 +25,6 @@ def must(found, wanted, what):
         raise Wrong(f"{what}: {str(found)[:500]} in place of {str(wanted)[:500]}")
 
 
-class Settings:
-    """What the model's table of a commit needs to know."""
-
-    def __init__(self, fields):
-        self.fields = fields
-
-
 def load_engine(library):
     """The module examples/attr_engine.py over a library."""
     os.environ["ATTR_LIBRARY"] = library
@@ -37,13 +32,6 @@ def load_engine(library):
     if folder not in sys.path:
         sys.path.insert(0, folder)
     return importlib.import_module("attr_engine")
-
-
-def save_of(fields, table, operations):
-    """The save of a table by the model."""
-    load = model.Load.__new__(model.Load)
-    load.settings, load.tables, load.points = Settings(fields), [table], [operations]
-    return load.save(0)
 
 
 class Case:
@@ -141,11 +129,11 @@ class Case:
     def save(self, reader, table, operations):
         lib, answer = self.attr._lib, self.attr.Answer()
         at = ctypes.byref(reader._at)
-        lib.attr_saved.restype, lib.attr_saved.argtypes = ctypes.c_size_t, [ctypes.c_void_p, ctypes.c_size_t, ctypes.c_void_p, ctypes.c_size_t]
+        lib.attr_saved.restype, lib.attr_saved.argtypes = ctypes.c_size_t, [ctypes.c_void_p, ctypes.c_size_t] * 2
         must(lib.attr_save(at, ctypes.byref(answer)), 0, "a save")
         into = ctypes.create_string_buffer(answer.count + 1)
         length = lib.attr_saved(at, 0, into, answer.count + 1)
-        must(into.raw[:length], save_of(self.fields, table, operations), "the bytes of a save")
+        must(into.raw[:length], model.save_of(table, self.fields[0], operations), "the bytes of a save")
 
     def look(self, reader, table, operations):
         """Queries, items and a save of a reader."""

@@ -557,6 +557,27 @@ def distinct(lists):
     return {value for value, _ in lists[0]} if lists else set()
 
 
+def saved_item(item, kind, value_type):
+    """The bytes of an item in a save."""
+    value, weight = item
+    if value_type == "long":
+        found = value.to_bytes(8, "big", signed=True)
+    else:
+        found = len(value.encode()).to_bytes(2, "big") + value.encode()
+    return found + (weight.to_bytes(4, "big", signed=True) if kind == "weightedset" else b"")
+
+
+def save_of(table, field, operations):
+    """The bytes of the save of a table's first attribute, after so many operations (docs/FORMATS.md)."""
+    _, kind, value_type = field
+    found = [b"ATS1", bytes([KINDS.index(kind), TYPES.index(value_type)]), operations.to_bytes(4, "big"), len(table).to_bytes(4, "big")]
+    for document in sorted(table):
+        items = table[document][0]
+        found += [document.to_bytes(4, "big"), len(items).to_bytes(2, "big")]
+        found += [saved_item(item, kind, value_type) for item in items]
+    return b"".join(found)
+
+
 class Load:
     """The tables of a load at its commit points, with the operations skipped and the weight up to each operation (docs/COMMAND_LINE.md)."""
 
@@ -579,17 +600,8 @@ class Load:
         return "".join(f"{number}:{query.answer(table)}\n" for number, query in enumerate(self.settings.queries, 1))
 
     def save(self, at):
-        """The bytes of the first attribute's table at a commit point (docs/FORMATS.md)."""
-        _, kind, value_type = self.settings.fields[0]
-        table = self.tables[at]
-        found = [b"ATS1", bytes([KINDS.index(kind), TYPES.index(value_type)]), self.points[at].to_bytes(4, "big"), len(table).to_bytes(4, "big")]
-        for document in sorted(table):
-            items = table[document][0]
-            found += [document.to_bytes(4, "big"), len(items).to_bytes(2, "big")]
-            for value, weight in items:
-                found += [value.to_bytes(8, "big", signed=True)] if value_type == "long" else [len(value.encode()).to_bytes(2, "big"), value.encode()]
-                found += [weight.to_bytes(4, "big", signed=True)] if kind == "weightedset" else []
-        return b"".join(found)
+        """The save at a commit point."""
+        return save_of(self.tables[at], self.settings.fields[0], self.points[at])
 
     def is_plain(self):
         """Whether the attribute is a single long alone, so that few widths are in use."""
