@@ -163,7 +163,7 @@ class Maker:
 
     # Queries.
 
-    def leaf(self, depth=0):
+    def leaf(self):
         name, _, value_type = self.dice.choice(self.fields)
         if self.odd(0.01):
             value_type = self.dice.choice(model.TYPES)
