@@ -3,10 +3,12 @@ import copy
 import gc
 import os
 import pickle
+import random
 import resource
 import subprocess
 import sys
 import threading
+import time
 import unittest
 
 sys.path.insert(0, os.environ.get("VATTR_PACKAGE", os.path.join(os.path.dirname(os.path.abspath(__file__)), "..")))
@@ -333,6 +335,35 @@ class Misuses(unittest.TestCase):
                 os._exit(came)
         self.assertEqual(os.waitpid(child, 0)[1], 0)
         self.assertEqual(list(reader.hits("[;]")), [1])
+
+    def test_random_calls_of_six_threads(self):
+        """Threads that share all handles and close them under each other: an exception each time, and never a crash."""
+        end, readers, guards, done = time.monotonic() + 2, [], [], []
+        engines = [Engine("year:single:long", buffers=32, readers=6) for _ in range(2)]
+
+        def run(seed):
+            pick, lines = random.Random(seed), "".join(put(document, year=document % 50) for document in range(1, 200))
+            while time.monotonic() < end:
+                engine, reader = pick.choice(engines), pick.choice(readers or [None])
+                calls = [lambda: readers.append(engine.reader()), lambda: engine.feed(lines), engine.commit, engine.compact, engine.counts, engine.unbind,
+                         lambda: guards.pop(), lambda: guards.pop().release(), lambda: readers.pop(pick.randrange(len(readers))), gc.collect]
+                if reader:
+                    calls += [lambda: engine.take_back(reader), reader.close, lambda: guards.append(reader.hold()), reader.unbind, reader.save,
+                              lambda: reader.items(pick.randrange(300)), *[lambda: (sum(reader.hits(f"[{pick.randrange(50)};]")), reader.unbind())] * 8]
+                try:
+                    pick.choice(calls)()
+                    done.append(1)
+                except (Misuse, Refused, IndexError, ValueError):
+                    pass
+
+        threads = [threading.Thread(target=run, args=(seed,)) for seed in range(6)]
+        for it in threads:
+            it.start()
+        for it in threads:
+            it.join()
+        self.assertGreater(len(done), 50)
+        for engine in engines:
+            engine.close()
 
     def test_exit_with_a_thread_in_a_call(self):
         text = ("import sys, threading; sys.path.insert(0, %r); import vattr; e = vattr.Engine('a:single:long', readers=1); r = e.reader()\n"
