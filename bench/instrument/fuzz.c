@@ -1,6 +1,7 @@
-/* Every call of attr.h that takes bytes, as libFuzzer wants it. An input is a byte that picks the attributes, and calls one after another: a byte
-   that picks the call, two bytes of length, and the bytes. Beside what the sanitizer sees, each answer is held against others: counts against
-   copies, the order of documents, a save against the save of what was loaded from it (but for its operations), and each code against those that the call may return. */
+/* Every call of attr.h that takes bytes, as libFuzzer wants it. An input is a byte that picks the attributes, and calls one after another:
+   a byte that picks the call, two bytes of length, and the bytes. Beside what the sanitizer sees, each answer is held against others:
+   counts against copies, the order of documents, a save against the save of what was loaded from it (but for its operations), and each
+   code against those that the call may return. */
 #include "attr.h"
 #include <stdio.h>
 #include <stdlib.h>
@@ -8,7 +9,8 @@
 
 #define MUST(holds) ((holds) ? (void)0 : (fprintf(stderr, "fuzz: not so: %s (line %d)\n", #holds, __LINE__), abort()))
 
-static const char *const names[8] = {"a:single:long", "a:single:string", "a:array:long", "a:array:string", "a:weightedset:long", "a:weightedset:string",
+static const char *const names[8] = {"a:single:long", "a:single:string", "a:array:long", "a:array:string", "a:weightedset:long",
+                                     "a:weightedset:string",
                                      "a:single:long,b:array:string,c:weightedset:string", "a:weightedset:long,b:single:string"};
 static const struct attr_sizes small = {5, 8192, 2, 0, 0}, dense = {5, 8192, 2, 0, 1}, wide = {6, 8192, 2, 1, 1};
 enum { MOST = 1 << 16 };
@@ -56,7 +58,8 @@ static attr_engine *second(attr_engine *other, const char *attributes) {
     return other;
 }
 
-static void one(attr_engine *engine, attr_reader *reader, attr_engine *other, const char *names_of_other, unsigned call, const uint8_t *bytes, size_t length) {
+static void one(attr_engine *engine, attr_reader *reader, attr_engine *other, const char *names_of_other, unsigned call,
+                const uint8_t *bytes, size_t length) {
     struct attr_told told;
     struct attr_answer answer;
     int32_t code;

@@ -1,6 +1,6 @@
-# The calls that instrument puts before accesses to memory: mem_r8 and so on hand address, width, kind (0 read, 1 write, 2 atomic) and the place of
-# the access to `hook`, in C, and change neither a register nor a flag. With ASAN only accesses that the shadow memory of AddressSanitizer (which
-# begins at 0x7fff8000 on x86-64 Linux) does not allow as they are go there.
+# The calls that instrument puts before accesses to memory: mem_r8 and so on hand address, width, kind (0 read, 1 write, 2 atomic) and the
+# place of the access to `hook`, in C, and change neither a register nor a flag. With ASAN only accesses that the shadow memory of
+# AddressSanitizer (which begins at 0x7fff8000 on x86-64 Linux) does not allow as they are go there.
 .macro SAVE
     pushq %rax
     pushq %rcx

@@ -1,6 +1,6 @@
-/* Each access told to ThreadSanitizer. A locked instruction and an exchange are atomic. So is a read of one of the words that the threads share,
-   which an instruction does not show: they are the first 18 of each block of words (word_arena's table: `opening_words`), and all other words are
-   read and written plainly, ordered by these. */
+/* Each access told to ThreadSanitizer. A locked instruction and an exchange are atomic. So is a read of one of the words that the threads
+   share, which an instruction does not show: they are the first 18 of each block of words (word_arena's table: `opening_words`), and all
+   other words are read and written plainly, ordered by these. */
 #include <stdbool.h>
 #include <stddef.h>
 #include <stdint.h>
@@ -41,8 +41,10 @@ static bool is_shared(uintptr_t at) {
 }
 
 void hook(void *place, size_t width, int kind, void *from) {
-    static void (*const reads[])(void *, void *) = {[1] = __tsan_read1_pc, [2] = __tsan_read2_pc, [4] = __tsan_read4_pc, [8] = __tsan_read8_pc, [16] = __tsan_read16_pc};
-    static void (*const writes[])(void *, void *) = {[1] = __tsan_write1_pc, [2] = __tsan_write2_pc, [4] = __tsan_write4_pc, [8] = __tsan_write8_pc, [16] = __tsan_write16_pc};
+    static void (*const reads[])(void *, void *) = {
+        [1] = __tsan_read1_pc, [2] = __tsan_read2_pc, [4] = __tsan_read4_pc, [8] = __tsan_read8_pc, [16] = __tsan_read16_pc};
+    static void (*const writes[])(void *, void *) = {
+        [1] = __tsan_write1_pc, [2] = __tsan_write2_pc, [4] = __tsan_write4_pc, [8] = __tsan_write8_pc, [16] = __tsan_write16_pc};
     uintptr_t at = (uintptr_t)place;
     if (kind == 2) __tsan_atomic64_fetch_add(place, 0, SEQUENTIALLY_CONSISTENT);
     else if (kind == 0 && width == 8 && is_shared(at)) __tsan_atomic64_load(place, SEQUENTIALLY_CONSISTENT);
