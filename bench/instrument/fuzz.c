@@ -58,12 +58,38 @@ static attr_engine *second(attr_engine *other, const char *attributes) {
     return other;
 }
 
+/* Many puts, or removes, by a rule of six bytes, so that a short input has lists and trees of each size, and compactions. */
+static void bulk(attr_engine *engine, const char *attributes, const uint8_t *rule) {
+    static char lines[1 << 16];
+    const char *kind = strchr(attributes, ':') + 1, *type = strchr(kind, ':') + 1;
+    const char *quote = *type == 's' || *kind == 'w' ? "\"" : "";
+    struct attr_told told;
+    for (unsigned i = 0, size = 0; i < rule[0] * 2u; i++) {
+        unsigned document = 1 + (rule[1] * 16u + i * (1u + rule[2])) % 5000, value = i * (1u + rule[3]) % (1u + rule[4] * 4u);
+        char *at = lines + size;
+        size_t room = sizeof lines - size;
+        if (rule[5] % 4 == 0) size += (unsigned)snprintf(at, room, "{\"remove\":\"id:a:b::%u\"}\n", document);
+        else {
+            const char *form = *kind == 's' ? "%s%u%s" : *kind == 'a' ? "[%s%u%s,%s0%s]" : "{%s%u%s:3}";
+            char items[64];
+            if (*kind == 'a' && *type == 'l') form = "[%s%u%s,%s7%s]";
+            snprintf(items, sizeof items, form, quote, value, quote, quote, quote);
+            size += (unsigned)snprintf(at, room, "{\"put\":\"id:a:b::%u\",\"fields\":{\"a\":%s}}\n", document, items);
+        }
+        if (size < sizeof lines - 256 && i + 1 < rule[0] * 2u) continue;
+        int32_t code = attr_feed(engine, (const uint8_t *)lines, size, &told);
+        MUST(code == ATTR_OK || code == ATTR_FULL || code == ATTR_BAD_VALUE || code == ATTR_WRONG_TYPE || code == ATTR_UNSUPPORTED);
+        if (code != ATTR_OK) return;
+        size = 0;
+    }
+}
+
 static void one(attr_engine *engine, attr_reader *reader, attr_engine *other, const char *names_of_other, unsigned call,
                 const uint8_t *bytes, size_t length) {
     struct attr_told told;
     struct attr_answer answer;
     int32_t code;
-    switch (call % 8) {
+    switch (call % 9) {
     case 0:
     case 1:
         for (size_t from = 0; from <= length;) {
@@ -91,6 +117,9 @@ static void one(attr_engine *engine, attr_reader *reader, attr_engine *other, co
     case 6:
         if (length % 2) attr_hold(reader, &answer);
         else attr_release(reader);
+        break;
+    case 8:
+        if (length >= 6) bulk(engine, names_of_other, bytes);
         break;
     default: {
         size_t count = save_of(reader, saved);
