@@ -1,5 +1,5 @@
-/* stacks: at some thousand moments of feeding, compacting, asking and saving, the unwinder of the C library walks the stack from wherever the
-   timer's signal struck, and has to come to the caller each time. It tells whether the frames that dist/frames gives are right. */
+/* stacks: at some thousand moments of feeding, compacting, asking and saving, the unwinder of the C library walks the stack from wherever
+   the timer's signal struck, and has to come to the caller each time. It tells whether the frames that dist/frames gives are right. */
 #define _GNU_SOURCE
 #include "attr.h"
 #include <dlfcn.h>

@@ -1,5 +1,5 @@
-// handles: what attr.hpp promises of its handles: guards nest and outlive moves, each handle can be moved, closed and destroyed in each state,
-// a handle that is gone is refused by an exception, and every call of attr.h is there.
+// handles: what attr.hpp promises of its handles: guards nest and outlive moves, each handle can be moved, closed and destroyed in each
+// state, a handle that is gone is refused by an exception, and every call of attr.h is there.
 #include "attr.hpp"
 #include <iostream>
 #include <type_traits>
@@ -105,15 +105,18 @@ void calls() {
     expect(refusal([&] { reader.hits("or(1"); }, ATTR_SYNTAX).find("at its end") != std::string::npos, "a syntax error at the end");
     expect(refusal([&] { reader.hits("year:x"); }, ATTR_SYNTAX).find("at byte") != std::string::npos, "a syntax error with its place");
     expect(refusal([&] { reader.items(7, 9); }, ATTR_BOUNDS) != "no such refusal", "items out of bounds");
-    expect(refusal([&] { engine.feed("{\"remove\":\"id:a:b::9\"}\n\n{\"put\":1}\n"); }, ATTR_BAD_ID).find("line 3") != std::string::npos, "a line's number");
+    std::string said = refusal([&] { engine.feed("{\"remove\":\"id:a:b::9\"}\n\n{\"put\":1}\n"); }, ATTR_BAD_ID);
+    expect(said.find("line 3") != std::string::npos, "a line's number");
     expect(refusal([&] { engine.open_reader(); }, ATTR_NO_READER) != "no such refusal", "no reader left");
-    expect(refusal([] { attr::engine("a:single:long,b", {64, 8192, 1, 0, 0}); }, ATTR_ATTRIBUTES).find("number 1") != std::string::npos, "attributes");
+    said = refusal([] { attr::engine("a:single:long,b", {64, 8192, 1, 0, 0}); }, ATTR_ATTRIBUTES);
+    expect(said.find("number 1") != std::string::npos, "attributes");
     expect(engine.counts().operations == 2 && engine.compact(256).finished <= 1, "counts and a step of a compaction");
     attr::engine single("year:single:long", {64, 8192, 1, 0, 0});
     put(single, 3, "\"year\":5");
     std::vector<std::uint8_t> bytes = single.open_reader().save();
     attr::engine loaded("year:single:long", {64, 8192, 1, 0, 0});
-    expect(loaded.load(bytes).operations == 1 && loaded.commit().commit == 1 && loaded.open_reader().hits("5").size() == 1, "a save is loaded");
+    expect(loaded.load(bytes).operations == 1 && loaded.commit().commit == 1, "a save is loaded");
+    expect(loaded.open_reader().hits("5").size() == 1, "what was loaded is found");
     bytes.pop_back();
     expect(refusal([&] { loaded.load(bytes); }, ATTR_BAD_SAVE) != "no such refusal", "half a save");
     expect(attr::version() == ATTR_VERSION && attr::message(ATTR_FULL).size() > 5, "the version and a message");

@@ -49,8 +49,12 @@ static void openings(void) {
     sizes = good; sizes.readers = 65; want("65 readers", opens("a:single:long", sizes, &place), ATTR_BOUNDS);
 }
 
-/* Where 512 MiB are asked for and 256 MiB are to be had; in a process of its own, and not under valgrind, which needs more itself. */
+/* Where 512 MiB are asked for and 256 MiB are to be had; in a process of its own, and not under valgrind or (compiled with NO_MEMORY_LIMIT)
+   a sanitizer, which need more themselves. */
 static void memory(void) {
+#ifdef NO_MEMORY_LIMIT
+    return;
+#endif
     const char *preload = getenv("LD_PRELOAD");
     if (preload && strstr(preload, "vgpreload")) return;
     int status = 1;

@@ -280,7 +280,8 @@ public:
         std::int32_t code = attr_open(detail::bytes_of(attributes), attributes.size(), &sizes, &handle_.at, &place);
         if (code == ATTR_OK) return;
         handle_.at = nullptr;
-        throw error(code, message(code) + (code == ATTR_ATTRIBUTES ? ": attribute number " + std::to_string(place) + ", from 0" : ""), 0, place);
+        std::string which = code == ATTR_ATTRIBUTES ? ": attribute number " + std::to_string(place) + ", from 0" : "";
+        throw error(code, message(code) + which, 0, place);
     }
     engine(engine &&other) noexcept : handle_(std::exchange(other.handle_, attr_engine{nullptr})), number_(other.number_) {}
     engine &operator=(engine &&other) noexcept {

@@ -1,6 +1,7 @@
 """Builds the package with the library inside: what pip asks of a build backend (PEP 517), over dist/ and the standard library alone.
 
-In a checkout the texts of the library are in ../dist; a source archive has them in dist/. A C compiler, binutils, awk, gzip and make are needed.
+In a checkout the texts of the library are in ../dist; a source archive has them in dist/. A C compiler, binutils, awk, gzip and make are
+needed.
 """
 import base64
 import hashlib
@@ -65,7 +66,8 @@ def build_wheel(wheel_directory, config_settings=None, metadata_directory=None):
     files.append(("vattr/libvattr.so", library()))
     files.append((f"{info}/METADATA", metadata()))
     files.append((f"{info}/WHEEL", f"Wheel-Version: 1.0\nGenerator: build_vattr\nRoot-Is-Purelib: false\nTag: {TAG}\n".encode()))
-    sums = [f"{name},sha256={base64.urlsafe_b64encode(hashlib.sha256(data).digest()).rstrip(b'=').decode()},{len(data)}" for name, data in files]
+    sum_of = lambda data: base64.urlsafe_b64encode(hashlib.sha256(data).digest()).rstrip(b"=").decode()
+    sums = [f"{name},sha256={sum_of(data)},{len(data)}" for name, data in files]
     files.append((f"{info}/RECORD", "\n".join([*sums, f"{info}/RECORD,,", ""]).encode()))
     name = f"vattr-{version()}-{TAG}.whl"
     with zipfile.ZipFile(os.path.join(wheel_directory, name), "w", zipfile.ZIP_DEFLATED) as wheel:
@@ -81,7 +83,8 @@ def build_sdist(sdist_directory, config_settings=None):
     base = f"vattr-{version()}"
     files = [(name, read(os.path.join(HERE, name))) for name in ("pyproject.toml", "build_vattr.py", "README.md")]
     files += [(f"vattr/{name}", read(os.path.join(HERE, "vattr", name))) for name in modules()]
-    files += [(f"tests/{name}", read(os.path.join(HERE, "tests", name))) for name in sorted(os.listdir(os.path.join(HERE, "tests"))) if name.endswith(".py")]
+    tests = os.path.join(HERE, "tests")
+    files += [(f"tests/{name}", read(os.path.join(tests, name))) for name in sorted(os.listdir(tests)) if name.endswith(".py")]
     files += [(name, read(os.path.join(TOP, name))) for name in TEXTS]
     files.append(("PKG-INFO", metadata()))
     with tarfile.open(os.path.join(sdist_directory, f"{base}.tar.gz"), "w:gz", format=tarfile.PAX_FORMAT) as archive:

@@ -3,10 +3,12 @@ import copy
 import gc
 import os
 import pickle
+import random
 import resource
 import subprocess
 import sys
 import threading
+import time
 import unittest
 
 sys.path.insert(0, os.environ.get("VATTR_PACKAGE", os.path.join(os.path.dirname(os.path.abspath(__file__)), "..")))
@@ -155,7 +157,9 @@ class Answers(unittest.TestCase):
             self.engine.feed(put(20, year=1) + "\n" + '{"put":1}\n')
         self.assertEqual((refused.exception.code, refused.exception.line), (Code.BAD_ID, 3))
         self.assertEqual(str(refused.exception), "the id does not end with the number of a document: line 3, at byte 42")
-        for text, code, said in [("or(1", Code.SYNTAX, "no query and no dot product: it breaks off at its end"), ("year:x", Code.SYNTAX, "at byte 5, before x"), ("none:1", Code.NO_FIELD, "at byte 0, before none:1"), ('"x"', Code.WRONG_TYPE, "")]:
+        for text, code, said in [("or(1", Code.SYNTAX, "no query and no dot product: it breaks off at its end"),
+                                 ("year:x", Code.SYNTAX, "at byte 5, before x"), ("none:1", Code.NO_FIELD, "at byte 0, before none:1"),
+                                 ('"x"', Code.WRONG_TYPE, "")]:
             with self.assertRaises(Refused) as refused:
                 self.reader.hits(text)
             self.assertEqual(refused.exception.code, code)
@@ -279,10 +283,12 @@ class Misuses(unittest.TestCase):
         reader = self.engine.reader()
         for call in (lambda: self.engine.feed(None), lambda: self.engine.feed(3), lambda: reader.hits(3), lambda: reader.items("1"),
                      lambda: Engine(None), lambda: self.engine.take_back(None), lambda: self.engine.take_back(self.engine), Reader,
-                     lambda: reader.items(1.5), lambda: copy.copy(reader), lambda: copy.deepcopy(self.engine), lambda: pickle.dumps(reader)):
+                     lambda: reader.items(1.5), lambda: copy.copy(reader), lambda: copy.deepcopy(self.engine),
+                     lambda: pickle.dumps(reader)):
             self.assertRaises(TypeError, call)
-        for call in (lambda: reader.items(-1), lambda: reader.items(1 << 32), lambda: self.engine.compact(-1), lambda: reader.hits("[;]", first=-1),
-                     lambda: reader.hits("[;]", most=-1), lambda: Engine("a:single:long", buffers=-1), lambda: Engine("a:single:long", readers=1 << 32)):
+        for call in (lambda: reader.items(-1), lambda: reader.items(1 << 32), lambda: self.engine.compact(-1),
+                     lambda: reader.hits("[;]", first=-1), lambda: reader.hits("[;]", most=-1),
+                     lambda: Engine("a:single:long", buffers=-1), lambda: Engine("a:single:long", readers=1 << 32)):
             self.assertRaises(ValueError, call)
         self.assertRaises(UnicodeEncodeError, reader.hits, "\ud800")
         for sizes in (dict(buffers=8191, words=65536), dict(readers=65), dict(buffers=0), dict(words=1)):
@@ -333,6 +339,37 @@ class Misuses(unittest.TestCase):
                 os._exit(came)
         self.assertEqual(os.waitpid(child, 0)[1], 0)
         self.assertEqual(list(reader.hits("[;]")), [1])
+
+    def test_random_calls_of_six_threads(self):
+        """Threads that share all handles and close them under each other: an exception each time, and never a crash."""
+        end, readers, guards, done = time.monotonic() + 2, [], [], []
+        engines = [Engine("year:single:long", buffers=32, readers=6) for _ in range(2)]
+
+        def run(seed):
+            pick, lines = random.Random(seed), "".join(put(document, year=document % 50) for document in range(1, 200))
+            while time.monotonic() < end:
+                engine, reader = pick.choice(engines), pick.choice(readers or [None])
+                calls = [lambda: readers.append(engine.reader()), lambda: engine.feed(lines), engine.commit, engine.compact, engine.counts,
+                         engine.unbind, lambda: guards.pop(), lambda: guards.pop().release(),
+                         lambda: readers.pop(pick.randrange(len(readers))), gc.collect]
+                if reader:
+                    asks = lambda: (sum(reader.hits(f"[{pick.randrange(50)};]")), reader.unbind())
+                    calls += [lambda: engine.take_back(reader), reader.close, lambda: guards.append(reader.hold()), reader.unbind,
+                              reader.save, lambda: reader.items(pick.randrange(300)), *[asks] * 8]
+                try:
+                    pick.choice(calls)()
+                    done.append(1)
+                except (Misuse, Refused, IndexError, ValueError):
+                    pass
+
+        threads = [threading.Thread(target=run, args=(seed,)) for seed in range(6)]
+        for it in threads:
+            it.start()
+        for it in threads:
+            it.join()
+        self.assertGreater(len(done), 50)
+        for engine in engines:
+            engine.close()
 
     def test_exit_with_a_thread_in_a_call(self):
         text = ("import sys, threading; sys.path.insert(0, %r); import vattr; e = vattr.Engine('a:single:long', readers=1); r = e.reader()\n"

@@ -15,5 +15,6 @@ raises Misuse and calls nothing.
 from ._handles import Engine, Guard, Reader
 from ._library import VERSION, Answer, Code, Counts, Item, Misuse, Refused, Score, Told, message, quoted
 
-__all__ = ["Answer", "Code", "Counts", "Engine", "Guard", "Item", "Misuse", "Reader", "Refused", "Score", "Told", "VERSION", "message", "quoted"]
+__all__ = ["Answer", "Code", "Counts", "Engine", "Guard", "Item", "Misuse", "Reader", "Refused", "Score", "Told", "VERSION", "message",
+           "quoted"]
 __version__ = f"{VERSION // 1000000}.{VERSION // 1000 % 1000}.{VERSION % 1000}"

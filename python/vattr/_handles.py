@@ -1,7 +1,7 @@
 """Engine, Reader and Guard: handles that refuse what the library could not bear.
 
-A handle belongs to the thread that first uses it, and to no other until unbind() or until that thread has ended. Beside that each handle has a
-lock that no call waits for: where another call is under way, the later one raises. So at most one call with a handle runs at a time.
+A handle belongs to the thread that first uses it, and to no other until unbind() or until that thread has ended. Beside that each handle
+has a lock that no call waits for: where another call is under way, the later one raises. So at most one call with a handle runs at a time.
 """
 import array
 import collections
@@ -132,11 +132,13 @@ class Engine(_Owned):
 
     _what = "engine"
 
-    def __init__(self, attributes: str, buffers: int = 256, words: int = 8192, readers: int = 4, wide: bool = False, dense: bool = False) -> None:
+    def __init__(self, attributes: str, buffers: int = 256, words: int = 8192, readers: int = 4, wide: bool = False,
+                 dense: bool = False) -> None:
         if "_at" in self.__dict__:
             raise Misuse("the engine is open already")
         text, out, place = _bytes(attributes), Handle(), ctypes.c_uint64()
-        sizes = Sizes(*(_number(value, name) for value, name in zip((buffers, words, readers, bool(wide), bool(dense)), ("buffers", "words", "readers", "wide", "dense"))))
+        numbers = {"buffers": buffers, "words": words, "readers": readers, "wide": bool(wide), "dense": bool(dense)}
+        sizes = Sizes(*(_number(value, name) for name, value in numbers.items()))
         code = lib.attr_open(text, len(text), ctypes.byref(sizes), ctypes.byref(out), ctypes.byref(place))
         if code:
             more = f": attribute number {place.value}, from 0" if code == Code.ATTRIBUTES else ""
@@ -155,7 +157,8 @@ class Engine(_Owned):
         if code:
             more = f": line {told.line}, at byte {told.place}" if told.line else ""
             if code == Code.FULL:
-                more += f": {told.active} buffers in use, {told.held} held" + (f" by a reader of commit {told.oldest} or later" if told.is_held else "")
+                more += f": {told.active} buffers in use, {told.held} held"
+                more += f" by a reader of commit {told.oldest} or later" if told.is_held else ""
             raise Refused(code, message(code) + more, told.line, told.place, told)
         return told
 
@@ -343,7 +346,8 @@ class Reader(_Owned):
         found = self._answer(text, first, most, "B", 16, lib.attr_scores)
         return (Score * (len(found) // 16)).from_buffer(found) if found else (Score * 0)()
 
-    def _answer(self, text: Optional[str], first: int, most: Optional[int], code: str, width: int, call: Callable[..., int]) -> "array.array[int]":
+    def _answer(self, text: Optional[str], first: int, most: Optional[int], code: str, width: int,
+                call: Callable[..., int]) -> "array.array[int]":
         first = _number(first, "first", 2**63)
         wanted = None if most is None else _number(most, "most", 2**32)
         data, at = None if text is None else _bytes(text), self._enter()

@@ -1,5 +1,5 @@
-//! Finds the library: in the folder that `VATTR_LIB_DIR` names; else made from the texts of the checkout's dist/, by make and a C compiler, and
-//! linked as an archive; else by pkg-config.
+//! Finds the library: in the folder that `VATTR_LIB_DIR` names; else made from the texts of the checkout's dist/, by make and a C
+//! compiler, and linked as an archive; else by pkg-config.
 use std::env;
 use std::path::Path;
 use std::process::Command;
@@ -15,8 +15,16 @@ fn main() {
         for name in ["Makefile", "attr_c.s.gz", "frames", "runtime.c", "../include/attr.h"] {
             println!("cargo:rerun-if-changed={}", dist.join(name).display());
         }
-        let made = Command::new("make").arg("-s").arg("-C").arg(&dist).arg(format!("OUT={out}")).arg(format!("{out}/libvattr.a"))
-            .env_remove("MAKEFLAGS").env_remove("CFLAGS").status().expect("make is needed to make the library from dist/");
+        let made = Command::new("make")
+            .arg("-s")
+            .arg("-C")
+            .arg(&dist)
+            .arg(format!("OUT={out}"))
+            .arg(format!("{out}/libvattr.a"))
+            .env_remove("MAKEFLAGS")
+            .env_remove("CFLAGS")
+            .status()
+            .expect("make is needed to make the library from dist/");
         assert!(made.success(), "make could not make libvattr.a from dist/");
         println!("cargo:rustc-link-search=native={out}\ncargo:rustc-link-lib=static=vattr");
     } else {

@@ -39,7 +39,8 @@ pub struct Engine {
     number: u64,
 }
 
-// SAFETY: the library binds a handle to no thread. Each call takes the engine for itself, and what moves it to another thread orders the calls.
+// SAFETY: the library binds a handle to no thread. Each call takes the engine for itself, and what moves it to another thread orders the
+// calls.
 unsafe impl Send for Engine {}
 
 /// The reader is of another engine, and is given back as it was.

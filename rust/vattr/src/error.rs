@@ -88,7 +88,14 @@ impl Error {
         let mut text = [0u8; 80];
         // SAFETY: `text` has the room that is told.
         let length = unsafe { sys::attr_message(code, text.as_mut_ptr(), text.len()) };
-        Error { code: Code::of(code), line: 0, place: 0, next: 0, operations: 0, message: String::from_utf8_lossy(&text[..length]).into_owned() }
+        Error {
+            code: Code::of(code),
+            line: 0,
+            place: 0,
+            next: 0,
+            operations: 0,
+            message: String::from_utf8_lossy(&text[..length]).into_owned(),
+        }
     }
 
     pub(crate) fn of_writer(code: i32, told: &sys::attr_told) -> Error {

@@ -1,7 +1,7 @@
 //! Attributes of a document collection, in memory, for search, sorting and grouping: the library of `attr.h` as safe Rust.
 //!
-//! An [`Engine`] belongs to the thread that writes. It hands out [`Reader`]s, each of which answers queries in one thread at a time, without a
-//! lock. A [`Guard`] keeps a reader at one commit.
+//! An [`Engine`] belongs to the thread that writes. It hands out [`Reader`]s, each of which answers queries in one thread at a time,
+//! without a lock. A [`Guard`] keeps a reader at one commit.
 //!
 //! ```
 //! use vattr::{Engine, Sizes};

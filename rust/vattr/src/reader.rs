@@ -43,8 +43,8 @@ pub struct Reader {
     guards: Cell<u32>,
 }
 
-// SAFETY: the library binds a handle to no thread. The reader is not `Sync`, so one thread at a time calls, and what moves it to another thread
-// orders the calls.
+// SAFETY: the library binds a handle to no thread. The reader is not `Sync`, so one thread at a time calls, and what moves it to another
+// thread orders the calls.
 unsafe impl Send for Reader {}
 
 impl fmt::Debug for Reader {
@@ -102,8 +102,8 @@ impl Reader {
     /// Takes a guard of the last commit, or of the one that the reader holds already.
     pub fn hold(&self) -> Result<Guard<'_>, Error> {
         let mut answer = sys::attr_answer::default();
-        // SAFETY: the handle is open until the reader is dropped, and no other call with it is under way, as the reader is not `Sync` and no call
-        // leads back here. So it is with all calls below.
+        // SAFETY: the handle is open until the reader is dropped, and no other call with it is under way, as the reader is not `Sync` and
+        // no call leads back here. So it is with all calls below.
         let code = unsafe { sys::attr_hold(self.handle.get(), &mut answer) };
         let answer = answered(code, "", answer)?;
         self.guards.set(self.guards.get() + 1);
