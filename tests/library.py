@@ -1,9 +1,8 @@
-"""Random calls of the library for C beside the plain model, by ctypes, over examples/attr_engine.py.
+"""Random calls of the library for C beside the plain model, by the Python package of python/.
 
 Feeds in pieces, lines that are refused, commits, compactions, queries, items and saves, at the last commit and under a guard of an older
 one.
 """
-import ctypes
 import importlib
 import os
 import sys
@@ -13,7 +12,7 @@ import model
 
 LINE_CODES = {"NotJson": 21, "NoOperation": 22, "BadId": 23, "BadValue": 24, "Unsupported": 25, "TooManyItems": 26}
 QUERY_CODES = {"Syntax": 11, "NoField": 12, "WrongType": 13, "OutOfRange": 14, "TooDeep": 15}
-FULL, NO_DOCUMENT = 7, 10
+FULL = 7
 
 
 class Wrong(Exception):
@@ -26,12 +25,12 @@ def must(found, wanted, what):
 
 
 def load_engine(library):
-    """The module examples/attr_engine.py over a library."""
-    os.environ["ATTR_LIBRARY"] = library
-    folder = os.path.join(os.path.dirname(os.path.dirname(os.path.realpath(__file__))), "examples")
+    """The package vattr over a library."""
+    os.environ["VATTR_LIBRARY"] = os.path.abspath(library)
+    folder = os.path.join(os.path.dirname(os.path.dirname(os.path.realpath(__file__))), "python")
     if folder not in sys.path:
         sys.path.insert(0, folder)
-    return importlib.import_module("attr_engine")
+    return importlib.import_module("vattr")
 
 
 class Case:
@@ -114,26 +113,17 @@ class Case:
             must(reader.count(text), len(wanted), f"the count of {text}")
         else:
             found = [(doc, word.score(table[doc])) for doc in sorted(table)]
-            must(reader.scores(text), [(doc, score) for doc, score in found if score is not None], f"the dot product {text}")
+            scores = [(it.document, it.score) for it in reader.scores(text)]
+            must(scores, [(doc, score) for doc, score in found if score is not None], f"the dot product {text}")
 
     def items(self, reader, document, table):
         """The items of a document in each attribute."""
         for number in range(len(self.fields)):
-            try:
-                found = reader.items(document, number)
-            except self.attr.Refused as refused:
-                found = refused.code
-            wanted = table[document][number] if document in table else NO_DOCUMENT
-            must(found, wanted, f"the items of document {document} in attribute {number}")
+            found = reader.items(document, number)
+            must(found, table.get(document, [None] * len(self.fields))[number], f"the items of document {document} in attribute {number}")
 
     def save(self, reader, table, operations):
-        lib, answer = self.attr._lib, self.attr.Answer()
-        at = ctypes.byref(reader._at)
-        lib.attr_saved.restype, lib.attr_saved.argtypes = ctypes.c_size_t, [ctypes.c_void_p, ctypes.c_size_t] * 2
-        must(lib.attr_save(at, ctypes.byref(answer)), 0, "a save")
-        into = ctypes.create_string_buffer(answer.count + 1)
-        length = lib.attr_saved(at, 0, into, answer.count + 1)
-        must(into.raw[:length], model.save_of(table, self.fields[0], operations), "the bytes of a save")
+        must(reader.save(), model.save_of(table, self.fields[0], operations), "the bytes of a save")
 
     def look(self, reader, table, operations):
         """Queries, items and a save of a reader."""
@@ -157,7 +147,7 @@ class Case:
 
     def course(self, reader, older):
         """Feeds all lines in pieces, and looks at the table after each."""
-        held = None
+        held = guard = None
         lines = self.maker.feed().split(b"\n")
         while lines:
             size = self.maker.dice.choice([1, 1, 3, 10])
@@ -170,12 +160,13 @@ class Case:
                 self.compact()
             self.look(reader, self.committed, self.saved_operations)
             if held is None and self.maker.odd(0.2):
-                must(older.hold().operations, self.saved_operations, "a guard")
+                guard = older.hold()
+                must(guard.operations, self.saved_operations, "a guard")
                 held = (self.committed, self.saved_operations)
             elif held is not None:
                 self.look(older, *held)
                 if self.maker.odd(0.2):
-                    older.release()
+                    guard.release()
                     held = None
         return "done"
 
