@@ -1,11 +1,14 @@
 -- Operations applied one after another, and what stays of a store.
 use Rattle.std.proofs.Common.{◌≡◌, ℕ, ◌+◌, ◌<◌, ◌≤◌, Bool, true, false, if◌then◌else◌, List, [], ◌∷◌, ◌++◌, length, take, inl, inr, refl, sym, ap, ◌∙◌, subst, arith}
-use Rattle.std.specs.Prelude.{Result, Ok, Err, IfOk, Option, Some, None}
-use Rattle.std.proofs.lemmas.List.{length_push}
+use Rattle.std.specs.Prelude.{Result, Ok, Err, IfOk, Option, Some, None, slice_get}
+use Rattle.std.proofs.lemmas.List.{length_push, length-take-le}
+use Rattle.std.proofs.Math.Seq.{take-length}
 use Rattle.entry_ref.specs.Images.{words_at}
 use Rattle.entry_ref.specs.declared.images.Image.{Image}
 use Rattle.arena_api.specs.Works.{WorkView}
 use Rattle.arena_api.specs.Calls.{published}
+use Rattle.arena_api.specs.declared.answers.Oldest.{Oldest}
+use Rattle.attr_operations.specs.Calls.{IsOutOfRoom}
 use Rattle.store_api.specs.Calls.{with_hold}
 use Rattle.store_api.specs.Ledgers.{Ledger}
 use Rattle.attr_types.specs.declared.applied.Applied.{Applied}
@@ -16,10 +19,13 @@ use Rattle.attr_types.specs.Table.{Table, after_op, is_skipped, after_ops, skipp
 use Rattle.attr_types.specs.declared.field.Field.{Field}
 use Rattle.attr_types.specs.declared.op.Op.{Op}
 use Rattle.attribute_kinds.specs.Views.{AttributeView}
-use Rattle.attribute_kinds.specs.Calls.{KeepsStore, KeepsStoreBut, CommitsImage, applied_to}
+use Rattle.attribute_kinds.specs.Calls.{KeepsStore, KeepsStoreBut, CommitsImage, IsForRoot, RefusesCommit, RefusesOperation, applied_to}
+use Rattle.attribute_kinds.specs.declared.answers.AttrError.{AttrError}
+use Rattle.attribute_kinds.specs.declared.answers.AttrError.TheVariants as errors
+use Rattle.attr_loader.specs.Refusals.{IsRefusedCommit, IsRefusedOperation}
 use Rattle.attribute_kinds.specs.declared.answers.CommitInfo.{CommitInfo}
 use Rattle.attr_loader.specs.Loading.{StaysIn}
-use Rattle.attr_loader.specs.Batches.{skips_of, AppliesAll, CommitsBatch, FindsNoRoom, IsFullStore, KeepsCommit, KeepsTable, LoadsBatch}
+use Rattle.attr_loader.specs.Batches.{skips_of, AppliesAll, CannotCommit, CommitsBatch, FindsNoRoom, IsFullStore, KeepsCommit, KeepsTable, LoadsBatch}
 use Rattle.attr_loader.specs.declared.batch.Batch.{Batch}
 use Rattle.attr_loader.specs.declared.batch.Batch.TheVariants.{Done, Full}
 
@@ -148,23 +154,66 @@ module _ {S H : Type 0} (ledger : S → Ledger H) where
   loads_of a b c ops skipped count (Ok (Full before active held)) some long applies made =
       let is = made.0 in
       record {
-        keeps = keeps_on a b c applies.keeps made.1.keeps;
+        keeps = keeps_on a b c applies.keeps made.1.keeps.keeps;
         some = omega (arith, is, long, some);
         most = omega (arith, is, long);
         full = made.1.full;
-        at = inr (is ∙ long, made.1.table ∙ applies.table);
+        applied = length ops;
+        table = made.1.keeps.table ∙ applies.table ∙ ap (after_ops a.fields a.table) (sym (take-length ops));
+        operations = made.1.keeps.operations ∙ applies.operations;
+        fits = omega arith;
+        refused = record {
+          old = ledger b.store;
+          keeps = made.1.store;
+          width = made.1.width;
+          oldest = made.1.oldest;
+          call = inr (record { number_is = is ∙ long; is_last = refl; refuses = made.1.refuses });
+        };
       }
 
+  full_store : (old : Ledger H) (c : AttributeView S) (width active held : ℕ) (oldest : Oldest) → IsOutOfRoom old (ledger c.store) width active held oldest → IsFullStore ledger c active held
+  full_store old c width active held oldest out = record { free = out.free; active_is = out.active_is; held_is = out.held_is; all = out.all; unread = out.unread }
+
   -- an operation that was refused, after so many
-  pub stops_at : (a b c : AttributeView S) (ops : List Op) (done skipped active held : ℕ) → done < length ops → AppliesAll ledger a b (take done ops) skipped → KeepsCommit ledger b c
-      → c.table ≡ b.table → IsFullStore ledger c active held → FindsNoRoom ledger a c ops (done + 1) active held
-  stops_at a b c ops done skipped active held below applies keeps table full = record {
-    keeps = keeps_on a b c applies.keeps keeps;
-    some = omega arith;
-    most = omega (arith, below);
-    full = full;
-    at = inl (table ∙ applies.table ∙ ap (λ n. after_ops a.fields a.table (take n ops)) (omega arith));
-  }
+  pub stops_at : (a b c : AttributeView S) (ops : List Op) (op : Op) (done skipped width active held : ℕ) (oldest : Oldest) (error : AttrError) → done < length ops → slice_get ops done ≡ Some op
+      → AppliesAll ledger a b (take done ops) skipped → KeepsCommit ledger b c → KeepsStore (ledger b.store) (ledger c.store) → c ≡ record b { store = c.store }
+      → IsRefusedOperation (ledger b.store) (ledger c.store) b.dense b.fields b.table op error → error ≡ errors.Full width active held oldest
+      → FindsNoRoom ledger a c ops (done + 1) active held
+  stops_at a b c ops op done skipped width active held oldest error below is applies keeps store left refuses error_is =
+      let here = subst (IsRefusedOperation (ledger b.store) (ledger c.store) b.dense b.fields b.table op) error_is refuses in
+      let there = subst (λ (v : AttributeView S). IsRefusedOperation (ledger b.store) (ledger c.store) v.dense v.fields v.table op (errors.Full width active held oldest)) (sym left) here in
+      let fits : done ≤ length ops = omega (arith, below) in
+      record {
+        keeps = keeps_on a b c applies.keeps keeps;
+        some = omega arith;
+        most = omega (arith, below);
+        full = full_store (ledger b.store) c width active held oldest here.refused;
+        applied = done;
+        table = ap (λ (v : AttributeView S). v.table) left ∙ applies.table;
+        operations = ap (λ (v : AttributeView S). v.operations) left ∙ applies.operations ∙ ap (λ n. a.operations + n) (length-take-le done ops fits);
+        fits = fits;
+        refused = record {
+          old = ledger b.store;
+          keeps = store;
+          width = width;
+          oldest = oldest;
+          call = inl (record { number_is = refl; op = op; is_next = is; refuses = there });
+        };
+      }
+
+  -- a commit that was refused
+  pub cannot_commit : (b c : AttributeView S) (width active held : ℕ) (oldest : Oldest) (error : AttrError) → KeepsCommit ledger b c → KeepsStore (ledger b.store) (ledger c.store)
+      → c ≡ record b { store = c.store } → IsRefusedCommit (ledger b.store) (ledger c.store) b.fields error → error ≡ errors.Full width active held oldest → CannotCommit ledger b c active held
+  cannot_commit b c width active held oldest error keeps store left refuses error_is =
+      let here = subst (IsRefusedCommit (ledger b.store) (ledger c.store) b.fields) error_is refuses in
+      record {
+        keeps = record { keeps = keeps; table = ap (λ (v : AttributeView S). v.table) left; operations = ap (λ (v : AttributeView S). v.operations) left };
+        full = full_store (ledger b.store) c width active held oldest here.refused.room;
+        store = store;
+        width = width;
+        oldest = oldest;
+        refuses = subst (λ (v : AttributeView S). IsRefusedCommit (ledger b.store) (ledger c.store) v.fields (errors.Full width active held oldest)) (sym left) here;
+      }
 
   pub applies_none : (a : AttributeView S) → AppliesAll ledger a a [] 0
   applies_none a = record {

@@ -20,7 +20,8 @@ use Rattle.attr_types.specs.Table.{after_ops, after, skipped, skipped_ops}
 use Rattle.attr_types.specs.declared.field.Field.{Field}
 use Rattle.attr_types.specs.declared.op.Op.{Op}
 use Rattle.attribute_kinds.specs.Views.{AttributeView}
-use Rattle.attr_loader.specs.Loading.{commit_point, IsImageAfter, AreCommits, told_of, IsAtStart, IsSpent, StaysIn, Loads}
+use Rattle.attr_loader.specs.Loading.{commit_point, IsFullAt, IsImageAfter, AreCommits, told_of, IsAtStart, IsSpent, StaysIn, Loads}
+use Rattle.attr_loader.specs.Refusals.{IsRefusedCall}
 use Rattle.attr_loader.specs.Batches.{FindsNoRoom, HasNoCommit, LoadsAll}
 use Rattle.attr_loader.specs.declared.error.LoadError.{LoadError}
 use Rattle.attr_loader.specs.declared.error.LoadError.TheVariants.{CommitsSpent, Memory}
@@ -38,6 +39,18 @@ get_last [] image x zero is from = (refl, (let e : Some image ≡ Some x = is in
 get_last [] image x (suc k) is from = absurd (let e : None ≡ Some x = is in cc)
 get_last (i ∷ told) image x zero is from = absurd (omega (arith, from))
 get_last (i ∷ told) image x (suc k) is from = let h = get_last told image x k is (omega (arith, from)) in (omega (arith, h.0), h.1)
+
+-- what is read of a front and of a back
+take_reads : {A : Type 0} (n k : ℕ) (xs : List A) (x : A) → slice_get (take n xs) k ≡ Some x → slice_get xs k ≡ Some x
+take_reads zero k xs x is = absurd (let e : None ≡ Some x = is in cc)
+take_reads (suc n) k [] x is = absurd (let e : None ≡ Some x = is in cc)
+take_reads (suc n) zero (y ∷ xs) x is = is
+take_reads (suc n) (suc k) (y ∷ xs) x is = take_reads n k xs x is
+
+drop_reads : {A : Type 0} (n k : ℕ) (xs : List A) (x : A) → slice_get (drop n xs) k ≡ Some x → slice_get xs (n + k) ≡ Some x
+drop_reads zero k xs x is = subst (λ j. slice_get xs j ≡ Some x) (let e : k ≡ 0 + k = omega arith in e) is
+drop_reads (suc n) k [] x is = absurd (let e : None ≡ Some x = is in cc)
+drop_reads (suc n) k (y ∷ xs) x is = subst (λ j. slice_get (y ∷ xs) j ≡ Some x) (let e : suc (n + k) ≡ suc n + k = omega arith in e) (drop_reads n k xs x is)
 
 module _ (fields : List Field) (batch : ℕ) (ops : List Op) where
   pub one_image_more : (last : ℕ) (told : List Image) (image : Image) → AreCommits fields batch ops last told → IsImageAfter fields ops (commit_point batch (length ops) (suc last)) image
@@ -193,16 +206,48 @@ module _ {S H : Type 0} (ledger : S → Ledger H) (batch : ℕ) (ops : List Op) 
             omega (arith, first, more_is, s);
       }
 
+    -- the operations of the part are those from here on
+    read_on : (k : ℕ) (op : Op) → slice_get part k ≡ Some op → slice_get ops (count + k) ≡ Some op
+    read_on k op is =
+        drop_reads count k ops op (subst (λ (xs : List Op). slice_get xs k ≡ Some op) rest_is
+        (take_reads (min (length rest) batch) k rest op (subst (λ (xs : List Op). slice_get xs k ≡ Some op) part_is is)))
+
+    -- the refused call, as one of the whole load
+    call_on : (c : AttributeView S) (before active held applied now : ℕ) → now ≡ count + applied
+        → IsRefusedCall c.fields c.dense c.table part applied (length part) (ledger c.store) (record { operation = before; active = active; held = held })
+        → IsRefusedCall c.fields c.dense c.table ops now (min (count + batch) (length ops)) (ledger c.store) (record { operation = count + before; active = active; held = held })
+    call_on c before active held applied now now_is full = record {
+      old = full.old;
+      keeps = full.keeps;
+      width = full.width;
+      oldest = full.oldest;
+      call = elim full.call [
+        | inl next ↦ inl (record {
+          number_is = (let number = next.number_is in omega (arith, number, now_is));
+          op = next.op;
+          is_next = subst (λ n. slice_get ops n ≡ Some next.op) (sym now_is) (read_on applied next.op next.is_next);
+          refuses = next.refuses;
+        })
+        | inr commit ↦ inr (record {
+          number_is = (let number = commit.number_is in omega (arith, number, now_is));
+          is_last = (let p = part-long in let long = commit.is_last in omega (arith, p, long, below, now_is));
+          refuses = commit.refuses;
+        })
+      ];
+    }
+
     -- where the operation that found no room was refused
     full_at : (c : AttributeView S) (before active held : ℕ) → FindsNoRoom ledger b c part before active held
-        → (c.table ≡ after start.fields ops (count + before - 1)) ⊎ ((count + before ≡ min (count + batch) (length ops)) × (c.table ≡ after start.fields ops (count + before)))
-    full_at c before active held full = elim full.at [
-      | inl at ↦ inl (at ∙ after_part (before - 1) (omega (arith, full.most)) ∙ ap (λ n. after start.fields ops n) (let first = full.some in omega (arith, first)))
-      | inr at ↦ inr (
-        (let p = part-long in let long = at.0 in omega (arith, p, long, below)),
-        at.1 ∙ after_all ∙ ap (λ n. after start.fields ops (count + n)) (sym at.0),
-      )
-    ]
+        → IsFullAt ledger batch ops start c count (record { operation = count + before; active = active; held = held })
+    full_at c before active held full =
+        let now : c.operations ≡ count + full.applied = (let more = full.operations in let here = stands.operations in omega (arith, more, here)) in
+        record {
+          free = full.full.free;
+          active_is = full.full.active_is;
+          held_is = full.full.held_is;
+          table = full.table ∙ after_part full.applied full.fits ∙ ap (λ n. after start.fields ops n) (sym now);
+          refused = call_on c before active held full.applied c.operations now full.refused;
+        }
 
     pub finds_no_room : (c : AttributeView S) (before active held : ℕ) → 0 < batch → FindsNoRoom ledger b c part before active held
         → (start.dense ≡ false → length start.fields ≡ 1 → HasMadeNothing (ledger start.store) → IsOwed (load_of (ledger start.store).work.sizes.buffers (ledger start.store).work.sizes.words start.fields batch ops)
@@ -233,7 +278,7 @@ module _ {S H : Type 0} (ledger : S → Ledger H) (batch : ℕ) (ops : List Op) 
             here ∙ ap (λ n. batch * n) (sym batch_is),
             full.full.all,
           );
-      full = record { free = full.full.free; active_is = full.full.active_is; held_is = full.full.held_is; at = full_at c before active held full };
+      full = full_at c before active held full;
       owed = owed;
       small = λ one nothing plan many is. absurd (small one nothing plan many is);
       unheld = λ none few.

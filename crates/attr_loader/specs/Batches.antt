@@ -1,10 +1,11 @@
 -- How one batch changes attributes.
-use Rattle.std.specs.Prelude.{◌≡◌, ℕ, ◌+◌, ◌-◌, ◌*◌, ◌<◌, ◌≤◌, ◌⊎◌, true, List, length, take, None}
+use Rattle.std.specs.Prelude.{◌≡◌, ℕ, ◌+◌, ◌*◌, ◌<◌, ◌≤◌, true, List, length, take, None}
 use Rattle.entry_ref.specs.declared.images.Image.{Image}
 use Rattle.entry_ref.specs.Images.{words_at}
 use Rattle.arena_api.specs.Calls.{told_after}
 use Rattle.arena_api.specs.Generations.{current}
 use Rattle.arena_api.specs.Works.{free_count}
+use Rattle.arena_api.specs.declared.answers.Oldest.{Oldest}
 use Rattle.store_api.specs.Ledgers.{Ledger, active_count, capacity, held_count, is_width}
 use Rattle.attr_types.specs.declared.applied.Applied.{Applied}
 use Rattle.attr_types.specs.declared.applied.Applied.TheVariants.{Changed, Skipped}
@@ -16,6 +17,10 @@ use Rattle.attribute_kinds.specs.Views.{AttributeView}
 use Rattle.attr_loader.specs.Made.{Steps, after_keys, after_root}
 use Rattle.attr_loader.specs.Runs.{step_keys}
 use Rattle.attr_loader.specs.Loading.{told_of, StaysIn}
+use Rattle.attr_loader.specs.Refusals.{IsRefusedCall, IsRefusedCommit}
+use Rattle.attr_loader.specs.declared.loaded.NoRoom.{NoRoom}
+use Rattle.attr_operations.specs.Calls.{KeepsStore}
+use Rattle.attribute_kinds.specs.declared.answers.AttrError.TheVariants as errors
 use Rattle.attr_loader.specs.Room.{after_values, is_single_long, values_of, AreSparse, IsMade, IsRefusedBy, LeavesRoom}
 use Rattle.attr_loader.specs.declared.error.LoadError.{LoadError}
 use Rattle.attr_loader.specs.declared.error.LoadError.TheVariants.{CommitsSpent, Memory}
@@ -71,21 +76,28 @@ module _ {S H : Type 0} (ledger : S → Ledger H) where
     pub all : active + held ≡ (ledger a.store).work.sizes.buffers
     pub unread : (ledger a.store).work.made ≡ 0 → current (ledger a.store).work < (ledger a.store).work.sizes.generations → held ≡ 0
 
-  -- there was no space for one of the operations, after those before it; or for their commit, and then the last is
+  -- there was no space for one of the operations, after those applied before it; or for their commit, and then the last is
   -- named
   pub record FindsNoRoom (old new : AttributeView S) (ops : List Op) (before active held : ℕ) : Type 0 where
     pub keeps : KeepsCommit old new
     pub some : 1 ≤ before
     pub most : before ≤ length ops
     pub full : IsFullStore new active held
-    pub at : (new.table ≡ after_ops old.fields old.table (take (before - 1) ops))
-        ⊎ ((before ≡ length ops) × (new.table ≡ after_ops old.fields old.table ops))
+    pub applied : ℕ
+    pub table : new.table ≡ after_ops old.fields old.table (take applied ops)
+    pub operations : new.operations ≡ old.operations + applied
+    pub fits : applied ≤ length ops
+    pub refused : IsRefusedCall new.fields new.dense new.table ops applied (length ops) (ledger new.store)
+        (record { operation = before; active = active; held = held })
 
-  -- there was no space for a commit, and the table is unchanged
-  pub record RefusesCommit (old new : AttributeView S) (active held : ℕ) : Type 0 where
-    pub keeps : KeepsCommit old new
-    pub table : new.table ≡ old.table
+  -- there was no space for the root record of a commit, and the attributes are as they were
+  pub record CannotCommit (old new : AttributeView S) (active held : ℕ) : Type 0 where
+    pub keeps : KeepsTable old new
     pub full : IsFullStore new active held
+    pub store : KeepsStore (ledger old.store) (ledger new.store)
+    pub width : ℕ
+    pub oldest : Oldest
+    pub refuses : IsRefusedCommit (ledger old.store) (ledger new.store) new.fields (errors.Full width active held oldest)
 
   -- memory was exhausted, or the last possible commit is made
   abbrev pub HasNoCommit : AttributeView S → LoadError → Type 0
@@ -99,7 +111,7 @@ module _ {S H : Type 0} (ledger : S → Ledger H) where
   -- a commit of this many operations, with this many skipped
   abbrev pub CommitsBatch : AttributeView S → AttributeView S → ℕ → ℕ → Batch → Type 0
   CommitsBatch old new count skipped (Done more) = (more ≡ skipped) × MakesCommit old new
-  CommitsBatch old new count skipped (Full before active held) = (before ≡ count) × RefusesCommit old new active held
+  CommitsBatch old new count skipped (Full before active held) = (before ≡ count) × CannotCommit old new active held
 
   -- the store of one attribute has made at most these steps more, after any steps before
   abbrev pub AddsSteps : AttributeView S → AttributeView S → (Steps → Steps) → Type 0

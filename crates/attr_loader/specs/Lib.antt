@@ -1,5 +1,6 @@
 pub mod Room
 pub mod Attributes
+pub mod Refusals
 pub mod Loading
 pub mod Batches
 pub mod Runs

@@ -1,6 +1,6 @@
 -- How a loading changes attributes and the recorded images of their store.
 use Rattle.std.specs.Prelude.{◌≡◌, false, ℕ, suc, ◌+◌, ◌-◌, ◌*◌, ◌/◌, ◌^◌, ◌<◌, ◌≤◌, min, List, [], length, slice_get, Option, Some, None}
-use Rattle.std.specs.Prelude.{◌⊎◌, All, IfSome}
+use Rattle.std.specs.Prelude.{All, IfSome}
 use Rattle.std.specs.List.{AllByRecursion}
 use Rattle.entry_ref.specs.declared.images.Image.{Image}
 use Rattle.entry_ref.specs.Images.{no_image, words_at}
@@ -13,6 +13,7 @@ use Rattle.attr_types.specs.Table.{after, skipped}
 use Rattle.attr_types.specs.declared.field.Field.{Field}
 use Rattle.attr_types.specs.declared.op.Op.{Op}
 use Rattle.attribute_kinds.specs.Views.{AttributeView}
+use Rattle.attr_loader.specs.Refusals.{IsRefusedCall}
 use Rattle.attr_loader.specs.Runs.{IsOwed, IsSmall}
 use Rattle.attr_loader.specs.Room.{load_of, HasMadeNothing}
 use Rattle.attr_loader.specs.declared.error.LoadError.{LoadError}
@@ -70,14 +71,14 @@ module _ {S H : Type 0} (ledger : S → Ledger H) where
     pub fields : new.fields ≡ old.fields
     pub dense : new.dense ≡ old.dense
 
-  -- the operation that ran out of space: no buffer is free, and this many are in use and held. It was refused after
-  -- those before it; or it is the last of its batch, and their commit was refused
+  -- the operation that ran out of space: no buffer is free, and this many are in use and held. The attributes refused that
+  -- operation, after those before it; or the commit of the batch of which it is the last
   pub record IsFullAt (batch : ℕ) (ops : List Op) (old new : AttributeView S) (loaded : ℕ) (full : NoRoom) : Type 0 where
     pub free : free_count (ledger new.store).work.buffer (ledger new.store).work.sizes.buffers ≡ 0
     pub active_is : full.active ≡ active_count (ledger new.store).work.buffer (ledger new.store).work.sizes.buffers
     pub held_is : full.held ≡ held_count (ledger new.store).work.buffer (ledger new.store).work.sizes.buffers
-    pub at : (new.table ≡ after old.fields ops (full.operation - 1))
-        ⊎ ((full.operation ≡ min (loaded + batch) (length ops)) × (new.table ≡ after old.fields ops full.operation))
+    pub table : new.table ≡ after old.fields ops new.operations
+    pub refused : IsRefusedCall new.fields new.dense new.table ops new.operations (min (loaded + batch) (length ops)) (ledger new.store) full
 
   -- a loading: the recorded images are those of its commits, and the last has everything that was loaded
   pub record Loads (batch : ℕ) (ops : List Op) (old new : AttributeView S) (loaded : Loaded) : Type 0 where

@@ -1,6 +1,6 @@
 use Rattle.std.proofs.Common.{◌≡◌, ◌∙◌, ◌+◌, refl, sym, subst, ap, arith, length, ◌++◌, ◌∷◌, [], List}
 use Rattle.std.proofs.lemmas.List.{take_more}
-use Rattle.std.specs.Prelude.{take}
+use Rattle.std.specs.Prelude.{Some, ◌<◌, slice_get, take}
 use Rattle.std.proofs.lemmas.Option.{slice_get_read}
 use Rattle.list_lemmas.proofs.Each.{AllByRecursion-slice_get}
 use Rattle.attr_types.specs.Lawful.{OpFits}
@@ -11,7 +11,7 @@ use Rattle.attr_loader.specs.Room.{after_values, values_of, IsMade, IsRefusedBy}
 use Rattle.attr_loader.proofs.RoomRuns.{room_applied, room_on, room_refused, take_all}
 use Rattle.attr_loader.specs.Batches.{skips_of, AddsSteps, AppliesAll}
 use Rattle.attr_types.specs.declared.op.Op.{Op}
-use Rattle.attr_loader.proofs.Applying.{applies_none, keeps_of, one_more, at_most_one}
+use Rattle.attr_loader.proofs.Applying.{applies_none, keeps_of, one_more, at_most_one, stops_at}
 use Rattle.attr_loader.proofs.batch.apply_all.Goals as goal
 
 pub loop-op-preserved : goal.loop-op-preserved
@@ -53,6 +53,26 @@ loop-op-init g c = record {
   plan = refl;
   room = λ steps made. made;
 }
+
+pub returns-in-Err-Full-clause-applies : goal.returns-in-Err-Full-clause-applies
+returns-in-Err-Full-clause-applies g c =
+    let i = c.loop-op.invariant in
+    let h = c.in-Err-Full.ensures in
+    let all = c.apply.ensures in
+    let ledger = g.S.Store.ledger in
+    let start = c.args.attribute.now in
+    let new = c.apply.new.self in
+    let ops = c.args.ops.now in
+    let before = c.loop-op.attribute in
+    let done = i.done in
+    let one = c.loop-op-test.true in
+    let at : c.loop-op.op-index ≡ c.loop-op.done = omega (arith, done) in
+    let below : c.loop-op.done < length ops = omega (arith, done, one) in
+    rw c.in-Err-Full.field-0-is (stops_at ledger start before new ops c.op-item.result c.loop-op.done c.loop-op.skipped _ c.in-Err-Full.active c.in-Err-Full.held _ _ below
+    (subst (λ n. slice_get ops n ≡ Some c.op-item.result) at (slice_get_read ops (length ops) c.loop-op.op-index c.op-item.result refl one c.op-item.is))
+    (subst (λ n. AppliesAll ledger start before (take n ops) c.loop-op.skipped) at i.applies)
+    (keeps_of ledger before new all.keeps all.fields all.dense all.committed all.published) all.keeps h.left
+    (record { refused = h.refused; made = all.counts; width = h.widths; spares = h.spares; room = h.room }) c.in-Err-Full.field-0-is)
 
 pub returns-in-Err-Full-clause-room : goal.returns-in-Err-Full-clause-room
 returns-in-Err-Full-clause-room g c =

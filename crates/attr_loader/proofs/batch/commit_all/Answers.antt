@@ -21,6 +21,10 @@ returns-in_ok-compact_after-in-Done-clause-room g c =
       quiet_then ledger c.args.attribute.now mid c.compact_after.new.attribute after_root (λ steps. steps) root made.1.stays.sizes made.1.stays.fields made.1.stays.dense c.compact_after.ensures.quiet,
     )
 
+pub returns-in-Full-clause-commits : goal.returns-in-Full-clause-commits
+returns-in-Full-clause-commits g c =
+    subst (CommitsBatch g.S.Store.ledger c.args.attribute.now c.commit_table.new.attribute c.args.count c.args.skipped) c.in-Full.is c.in_ok-more.ensures.commits
+
 pub returns-in-Full-clause-room : goal.returns-in-Full-clause-room
 returns-in-Full-clause-room g c =
     subst (CommitsRoot g.S.Store.ledger c.args.attribute.now c.commit_table.new.attribute) c.in-Full.is c.in_ok-more.ensures.room

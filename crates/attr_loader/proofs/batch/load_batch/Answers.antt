@@ -19,6 +19,10 @@ returns-in-Done-clause-room g c =
     applies.keeps.stays.sizes applies.keeps.stays.fields applies.keeps.stays.dense
     (named_of ledger c.apply_all.new.attribute c.commit_all.new.attribute _ c.in-Done.skipped c.commit_all.result c.commit_all.ensures.commits) c.commit_all.ensures.room
 
+pub returns-in-Full-clause-loads : goal.returns-in-Full-clause-loads
+returns-in-Full-clause-loads g c =
+    subst (AppliesBatch g.S.Store.ledger c.args.attribute.now c.apply_all.new.attribute c.args.ops.now) c.in-Full.is c.in_ok-skipped.ensures.applies
+
 pub returns-in-Full-clause-room : goal.returns-in-Full-clause-room
 returns-in-Full-clause-room g c =
     let ledger = g.S.Store.ledger in
