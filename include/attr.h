@@ -21,8 +21,8 @@
  *   4. No call is made from a signal handler, or from the child of a fork of a process with threads.
  *   5. malloc, realloc and free come from one allocator, and align as C says.
  *
- * Each call returns an attr_code, ATTR_OK where it did what it says. A call that returns another code has left all as it was,
- * but for what its comment names. Each call writes the whole of its "told" struct: fields that it does not name are 0.
+ * Each call returns an attr_code, ATTR_OK where it did what it says. A failed call changes nothing except what its comment says.
+ * Each call writes the whole of its "told" struct: fields that it does not name are 0.
  */
 #ifndef ATTR_H
 #define ATTR_H
@@ -64,7 +64,7 @@ enum attr_code {
     ATTR_NOT_JSON = 21,
     ATTR_NO_OPERATION = 22,     /* not exactly one of put, update and remove */
     ATTR_BAD_ID = 23,           /* no id that ends with a document's number */
-    ATTR_BAD_VALUE = 24,        /* a field has not the form of its attribute */
+    ATTR_BAD_VALUE = 24,        /* a field does not fit its attribute */
     ATTR_UNSUPPORTED = 25,      /* a condition, or an operator that the attribute has not */
     ATTR_TOO_MANY_ITEMS = 26,   /* more than 1,023 items */
     ATTR_LINE_TOO_LONG = 27,    /* more than 16,777,216 bytes */

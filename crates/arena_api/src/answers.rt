@@ -1,3 +1,5 @@
+//! What a memory answers its writer: an advance of the generation, and the oldest open hold.
+
 /// The outcome of an advance of the generation.
 #[derive(Clone, Copy, PartialEq, Eq, Debug, Drop)]
 pub enum Advance {

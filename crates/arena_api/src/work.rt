@@ -1,3 +1,5 @@
+//! A memory with its writer: buffers of words, records, holds and commits.
+
 ghost use Rattle.std.specs.Prelude.{◌≡◌, ◌≢◌, ◌<◌, ◌≤◌, ◌+◌, ◌-◌, ◌*◌, ◌↔◌, ◌⊎◌, ℕ, List, length, slice_index, Some, IsNone, IfSome};
 ghost use Rattle.std.specs.Prelude.{IfNone};
 ghost use Rattle.std.specs.List.{AllByRecursion};
@@ -33,7 +35,7 @@ pub trait Work<const OFFSET_BITS: u32>: Frozen<OFFSET_BITS> {
         ensures others { (q : ℕ) → q ≢ entry.entry → Self.records self.new q ≡ Self.records self.old q }
         ensures shape { Self.shape self.new ≡ Self.shape self.old };
 
-    /// Stores a whole record: the given words, followed by zeros.
+    /// Stores a whole record: the given words, followed by zeros. No word of another entry is stored.
     fn put(&mut self, entry: EntryRef<OFFSET_BITS>, width: u32, words: &[u64])
         requires entry { IsEntry OFFSET_BITS (knows self.old).sizes.buffers (knows self.old).sizes.words width entry }
         requires width { active_width ((knows self.old).buffer (buffer_of OFFSET_BITS entry)) ≡ width }
@@ -41,6 +43,7 @@ pub trait Work<const OFFSET_BITS: u32>: Frozen<OFFSET_BITS> {
         requires unkept { InNoCommit (knows self.old).commits entry }
         ensures records { Self.records self.new ≡ with_words (Self.records self.old) entry.entry (padded words.now width) }
         ensures knows { knows self.new ≡ record (knows self.old) { stored = (knows self.new).stored } }
+        ensures apart { (q i : ℕ) → q ≢ entry.entry → (knows self.new).stored q i ≡ (knows self.old).stored q i }
         ensures shape { Self.shape self.new ≡ Self.shape self.old }
     {
         for i in 0..width {

@@ -1,3 +1,5 @@
+//! Arrays of items in records of a store: added, counted and read.
+
 ghost use Rattle.std.specs.Prelude.{◌≡◌, ◌+◌, ◌<◌, ◌≤◌, ◌∷◌, true, length, slice_index, IfOk, IfErr, OnErr};
 ghost use Rattle.image_format.specs.Words.{class_of, stored_items};
 ghost use Rattle.store_api.specs.Calls.{Refuses};

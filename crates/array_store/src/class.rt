@@ -1,3 +1,5 @@
+//! The width class of a record: the least width that holds its words.
+
 ghost use Rattle.std.specs.Prelude.{◌≡◌, ◌≤◌, true};
 ghost use Rattle.image_format.specs.Words.{class_of};
 ghost use Rattle.store_api.specs.Ledgers.{is_width};

@@ -1,3 +1,5 @@
+//! Makes a record of words, padded with zeros up to its class.
+
 ghost use Rattle.std.specs.Prelude.{◌≡◌, ◌≤◌, true, length, IfOk, IfErr, OnErr};
 ghost use Rattle.image_format.specs.Words.{class_of};
 ghost use Rattle.store_api.specs.Calls.{Refuses};

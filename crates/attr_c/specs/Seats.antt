@@ -13,8 +13,8 @@ use Rattle.attr_c.specs.declared.answer.Answer.{Answer}
 use Rattle.attr_c.specs.declared.answer.Answer.TheVariants.{Hits}
 use Rattle.attr_c.specs.declared.seat.AnyKept.{AnyKept}
 use Rattle.attr_c.specs.declared.seat.AnyKept.TheVariants as kept
-use Rattle.attr_c.specs.declared.seat.Place.{Place}
-use Rattle.attr_c.specs.declared.seat.Place.TheVariants.{Free, Kept}
+use Rattle.attr_c.specs.declared.seat.SeatState.{SeatState}
+use Rattle.attr_c.specs.declared.seat.SeatState.TheVariants.{Free, Kept}
 use Rattle.attr_c.specs.declared.seat.Seat.{Seat}
 use Rattle.attr_c.specs.declared.state.AnyOpen.{AnyOpen}
 use Rattle.attr_c.specs.declared.state.AnyOpen.TheVariants as opens
@@ -31,7 +31,7 @@ abbrev pub kept_view : AnyKept → KeptView
 kept_view (kept.Narrow k) = k
 kept_view (kept.Wide k) = k
 
-abbrev pub is_kept : Place → Bool
+abbrev pub is_kept : SeatState → Bool
 is_kept (Free r) = false
 is_kept (Kept k) = true
 
@@ -53,12 +53,12 @@ pub record IsTaken (reader guard : KeptView) : Type 0 where
   pub guard_is : IsGuardOf reader.reader guard.reader
 
 -- the guard that a place has, or takes
-abbrev pub TakesGuard : Place → KeptView → Type 0
+abbrev pub TakesGuard : SeatState → KeptView → Type 0
 TakesGuard (Free r) guard = IsTaken (reader_view r) guard
 TakesGuard (Kept k) guard = guard ≡ kept_view k
 
 -- the guard stays, or was given back
-abbrev pub LeavesGuard : Bool → KeptView → Place → Type 0
+abbrev pub LeavesGuard : Bool → KeptView → SeatState → Type 0
 LeavesGuard true guard (Kept k) = kept_view k ≡ guard
 LeavesGuard true guard (Free r) = ⊥
 LeavesGuard false guard (Free r) = reader_view r ≡ record guard { reader = released guard.reader }
@@ -97,31 +97,31 @@ pub record SavesTable (guard : KeptView) (told : Answered) (bytes : List ℕ) : 
   pub count : told.count ≡ length bytes
 
 -- the reader is under a guard, its own or one that it took, and it is told of which commit
-abbrev pub HoldsGuard : Option Place → Option Place → Answered → Type 0
+abbrev pub HoldsGuard : Option SeatState → Option SeatState → Answered → Type 0
 HoldsGuard (Some before) (Some (Kept k)) told = TakesGuard before (kept_view k) × TellsCommit (kept_view k) told
 HoldsGuard (Some before) (Some (Free r)) told = ⊥
 HoldsGuard (Some before) None told = ⊥
 HoldsGuard None after told = ⊥
 
 -- the reader is without a guard: it had none, or gave it back
-abbrev pub Releases : Place → AnyReader → Type 0
+abbrev pub Releases : SeatState → AnyReader → Type 0
 Releases (Free r) after = after ≡ r
 Releases (Kept k) after = LeavesGuard false (kept_view k) (Free after)
 
-abbrev pub ReleasesGuard : Option Place → Option Place → Type 0
+abbrev pub ReleasesGuard : Option SeatState → Option SeatState → Type 0
 ReleasesGuard (Some before) (Some (Free r)) = Releases before r
 ReleasesGuard (Some before) (Some (Kept k)) = ⊥
 ReleasesGuard (Some before) None = ⊥
 ReleasesGuard None after = ⊥
 
 -- a call by one guard: the place's own, which stays, or one that was taken and given back
-pub record ByGuard (before after : Place) (P : KeptView → Type 0) : Type 0 where
+pub record ByGuard (before after : SeatState) (P : KeptView → Type 0) : Type 0 where
   pub guard : KeptView
   pub takes : TakesGuard before guard
   pub leaves : LeavesGuard (is_kept before) guard after
   pub is : P guard
 
-abbrev pub ByGuardOf : Option Place → Option Place → (KeptView → Type 0) → Type 0
+abbrev pub ByGuardOf : Option SeatState → Option SeatState → (KeptView → Type 0) → Type 0
 ByGuardOf (Some before) (Some after) P = ByGuard before after P
 ByGuardOf (Some before) None P = ⊥
 ByGuardOf None after P = ⊥
@@ -137,7 +137,7 @@ HasNoReader (opens.Narrow old) = old.pool.items ≡ []
 HasNoReader (opens.Wide old) = old.pool.items ≡ []
 
 -- such a reader has a seat, without a guard
-abbrev pub SeatsReader : AnyOpen → AnyOpen → Option Place → Type 0
+abbrev pub SeatsReader : AnyOpen → AnyOpen → Option SeatState → Type 0
 SeatsReader old new (Some (Free reader)) = TakesReader old new reader
 SeatsReader old new (Some (Kept reader)) = ⊥
 SeatsReader old new None = ⊥
@@ -148,26 +148,26 @@ OpensSeat old new (Some seat) = SeatsReader old new seat.place × KeepsNothing s
 OpensSeat old new None = ⊥
 
 -- the reader of a seat, without a guard
-abbrev pub IsReaderOf : Option Place → AnyReader → Type 0
+abbrev pub IsReaderOf : Option SeatState → AnyReader → Type 0
 IsReaderOf (Some place) reader = Releases place reader
 IsReaderOf None reader = ⊥
 
 -- the reader of a seat is now the last that was not given away; the others are before it, as they were
-pub record TakesBack (old new : AnyOpen) (seat : Option Place) : Type 0 where
+pub record TakesBack (old new : AnyOpen) (seat : Option SeatState) : Type 0 where
   pub reader : AnyReader
   pub is : IsReaderOf seat reader
   pub last : TakesReader new old reader
 
 -- how many bits of a reference are for the place in a buffer
-abbrev pub place_bits : Place → ℕ
+abbrev pub place_bits : SeatState → ℕ
 place_bits (Free r) = (reader_view r).reader.sizes.offset_bits
 place_bits (Kept k) = (kept_view k).reader.sizes.offset_bits
 
 -- a reader with the references of this width
-abbrev pub IsOwn : AnyOpen → Option Place → Type 0
+abbrev pub IsOwn : AnyOpen → Option SeatState → Type 0
 IsOwn o (Some place) = place_bits place ≡ open_bits o
 IsOwn o None = ⊥
 
 -- a reader with the references of the other width
-abbrev pub IsForeign : AnyOpen → Place → Type 0
+abbrev pub IsForeign : AnyOpen → SeatState → Type 0
 IsForeign o place = place_bits place ≢ open_bits o

@@ -13,7 +13,7 @@ use crate::attributes::fields_in;
 use crate::codes::{BOUNDS, LOST, MEMORY, NO_READER, NO_TEXT, OK};
 use crate::handles::{HeldEngine, HeldSeat, OpenedEngine, OpenedSeat};
 use crate::opening::{may_cross, opened_in_bounds};
-use crate::seat::{Place, Seat, reader_of};
+use crate::seat::{Seat, SeatState, reader_of};
 use crate::state::{AnyOpen, AnyReader, Engine, Waiting};
 use crate::told::Sizes;
 use std::alloc::Global;
@@ -159,8 +159,8 @@ fn put_last<const OFFSET_BITS: u32>(
 /// Puts a reader back to those that are to be given away.
 fn put_back(inner: &mut AnyOpen, reader: AnyReader) -> i32
     ensures returned { result ≡ OK → TakesReader inner.new inner.old reader }
-    ensures lost { result ≡ LOST → IsForeign inner.old (Place.Free reader) }
-    ensures own { result ≢ LOST → place_bits (Place.Free reader) ≡ open_bits inner.old }
+    ensures lost { result ≡ LOST → IsForeign inner.old (SeatState.Free reader) }
+    ensures own { result ≢ LOST → place_bits (SeatState.Free reader) ≡ open_bits inner.old }
     ensures others { result ≢ OK → result ≢ LOST → result ≡ MEMORY }
     ensures left { result ≢ OK → KeepsWaiting inner.old inner.new }
     ensures keeps { KeepsTables inner.old inner.new }
@@ -198,7 +198,7 @@ pub extern "C" fn attr_reader_open(alloc: Global, at: &mut HeldEngine, out: &mut
     let Some(reader) = next_reader(&mut engine.inner) else {
         return NO_READER;
     };
-    seat.place = Some(Place::Free(reader));
+    seat.place = Some(SeatState::Free(reader));
     *out = OpenedSeat::new(seat);
     OK
 }

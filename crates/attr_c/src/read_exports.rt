@@ -12,7 +12,7 @@ use crate::asking::{answer_any, items_any, save_any, tell_any};
 use crate::codes::{LOST, NO_TEXT, OK};
 use crate::copying::{copy_bytes, copy_from, item_at, text_at};
 use crate::handles::HeldSeat;
-use crate::seat::{Place, Seat, kept_of, left, reader_of};
+use crate::seat::{Seat, SeatState, kept_of, left, reader_of};
 use crate::told::{Answered, ItemTold, Scored};
 use std::alloc::Global;
 
@@ -47,7 +47,7 @@ pub extern "C" fn attr_hold(at: &mut HeldSeat, told: &mut Answered) -> i32
     };
     let (mut kept, _) = kept_of(place);
     tell_any(&mut kept, told);
-    seat.place = Some(Place::Kept(kept));
+    seat.place = Some(SeatState::Kept(kept));
     OK
 }
 
@@ -66,7 +66,7 @@ pub extern "C" fn attr_release(at: &mut HeldSeat) -> i32
     let Some(place) = seat.place.take() else {
         return LOST;
     };
-    seat.place = Some(Place::Free(reader_of(place)));
+    seat.place = Some(SeatState::Free(reader_of(place)));
     OK
 }
 

@@ -17,7 +17,7 @@ pub enum AnyKept {
 
 /// A reader, under a guard of its own or not.
 #[derive(Drop)]
-pub enum Place {
+pub enum SeatState {
     Free(AnyReader),
     Kept(AnyKept),
 }
@@ -26,7 +26,7 @@ pub enum Place {
 #[derive(Drop)]
 pub struct Seat {
     /// None only while a call runs.
-    pub place: Option<Place>,
+    pub place: Option<SeatState>,
     pub answer: Answer,
     pub items: Items,
     pub saved: Vec<u8>,
@@ -56,7 +56,7 @@ fn guarded_reader(reader: AnyReader) -> AnyKept
 }
 
 fn released(kept: AnyKept) -> AnyReader
-    ensures { LeavesGuard false (kept_view kept) (Place.Free result) }
+    ensures { LeavesGuard false (kept_view kept) (SeatState.Free result) }
 {
     match kept {
         AnyKept::Narrow(kept) => AnyReader::Narrow(kept.release()),
@@ -65,33 +65,33 @@ fn released(kept: AnyKept) -> AnyReader
 }
 
 /// A reader under a guard, and whether it was so before.
-pub fn kept_of(place: Place) -> (AnyKept, bool)
+pub fn kept_of(place: SeatState) -> (AnyKept, bool)
     ensures guard { TakesGuard place (kept_view result.0) }
     ensures stays { result.1 ≡ is_kept place }
 {
     match place {
-        Place::Free(reader) => (guarded_reader(reader), false),
-        Place::Kept(kept) => (kept, true),
+        SeatState::Free(reader) => (guarded_reader(reader), false),
+        SeatState::Kept(kept) => (kept, true),
     }
 }
 
 /// The reader, under the guard still or not.
-pub fn left(kept: AnyKept, stays: bool) -> Place
+pub fn left(kept: AnyKept, stays: bool) -> SeatState
     ensures { LeavesGuard stays (kept_view kept) result }
 {
     if stays {
-        Place::Kept(kept)
+        SeatState::Kept(kept)
     } else {
-        Place::Free(released(kept))
+        SeatState::Free(released(kept))
     }
 }
 
 /// The reader without a guard.
-pub fn reader_of(place: Place) -> AnyReader
+pub fn reader_of(place: SeatState) -> AnyReader
     ensures { Releases place result }
 {
     match place {
-        Place::Free(reader) => reader,
-        Place::Kept(kept) => released(kept),
+        SeatState::Free(reader) => reader,
+        SeatState::Kept(kept) => released(kept),
     }
 }

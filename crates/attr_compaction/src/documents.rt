@@ -1,3 +1,5 @@
+//! The keys of the document phase: one document after another.
+
 ghost use Rattle.std.specs.Prelude.{◌≡◌};
 ghost use Rattle.std.specs.Option.{option_map};
 ghost use Rattle.attr_compaction.specs.declared.plan.PlanKey.TheVariants as keys;

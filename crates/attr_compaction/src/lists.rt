@@ -1,3 +1,5 @@
+//! The keys of one posting list, whatever its form.
+
 ghost use Rattle.std.specs.Prelude.{◌≡◌, ◌<◌, ◌/◌, ◌%◌, true, false, nat_lt};
 ghost use Rattle.std.specs.List.{find};
 ghost use Rattle.image_format.specs.Postings.{list_form};

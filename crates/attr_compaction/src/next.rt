@@ -1,3 +1,5 @@
+//! The next key of a phase, and the first of the phase after it.
+
 ghost use Rattle.std.specs.Prelude.{◌≡◌, ◌<◌, IfOk};
 ghost use Rattle.attr_compaction.specs.declared.plan.TheConstants.{PHASES};
 ghost use Rattle.doc_vector.specs.Documents.{IsDocumentMap};

@@ -1,3 +1,5 @@
+//! The keys of the list phase: each document of each value.
+
 ghost use Rattle.std.specs.Prelude.{◌≡◌, IfOk, Some};
 ghost use Rattle.std.specs.List.{AllByRecursion};
 ghost use Rattle.tree_read.specs.Trees.{tree_pairs};

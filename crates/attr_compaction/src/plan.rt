@@ -1,3 +1,5 @@
+//! The plan of a compaction: its victim, and the key that it visited last.
+
 ghost use Rattle.std.specs.Prelude.{◌≡◌, ◌⊎◌, ◌<◌, ◌≤◌, false, if◌then◌else◌};
 ghost use Rattle.std.specs.declared.cmp.Ordering.TheVariants.{Less};
 ghost use Rattle.attr_compaction.specs.Places.{first_place, is_start, next_stage, place_after, place_cmp, HasKey, IsPast};

@@ -1,3 +1,5 @@
+//! Why a run was not made.
+
 ghost use Rattle.std.specs.Prelude.{◌≡◌};
 ghost use Rattle.attr_engine.specs.declared.error.EngineError.TheVariants as errors;
 

@@ -1,3 +1,5 @@
+//! What a run comes to: what was loaded, the rounds of each reader, and the saves.
+
 use attr_loader::Loaded;
 use attr_rounds::{Round, Told};
 

@@ -1,3 +1,5 @@
+//! What a run writes, with its progress.
+
 use attr_loader::NoRoom;
 use attr_types::RoundList;
 

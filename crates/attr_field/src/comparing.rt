@@ -1,3 +1,5 @@
+//! Whether a document has these items already, so that nothing is to be done.
+
 ghost use Rattle.std.specs.Prelude.{◌≡◌, ◌↔◌, true, Some, IsTrue, IfOk, is_some};
 ghost use Rattle.std.specs.BTreeMap.{is_at};
 ghost use Rattle.std.specs.Map.{lookup};

@@ -1,3 +1,5 @@
+//! The map from documents to the records of their items, changed.
+
 ghost use Rattle.std.specs.Prelude.{◌≡◌, ◌+◌, ◌*◌, ◌∷◌, [], true, length, None, Some, IsSome, IfOk, IfErr, unwrap_or};
 ghost use Rattle.std.specs.BTreeMap.{is_at};
 ghost use Rattle.std.specs.Map.{lookup};

@@ -1,3 +1,5 @@
+//! Laws of the documents of an attribute, for the crates above.
+
 ghost use Rattle.attr_field.specs.DocumentsLaws.{NothingIsDocuments, DocumentsStay, DocumentsAreLawful, DocumentsReach};
 ghost use Rattle.attr_field.specs.DocumentsLaws.{DocumentsHaveValues};
 

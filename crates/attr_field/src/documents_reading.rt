@@ -1,3 +1,5 @@
+//! The items of a document, read from their record.
+
 ghost use Rattle.std.specs.Prelude.{◌≡◌, map, IfOk};
 ghost use Rattle.std.specs.BTreeMap.{is_at};
 ghost use Rattle.std.specs.List.{AllByRecursion};
@@ -42,8 +44,8 @@ fn weight_of(word: u64) -> i32
     ((word % WEIGHT_BASE) as u32).cast_signed()
 }
 
-/// Returns the item of a word.
-fn read_item<const OFFSET_BITS: u32, F: Frozen<OFFSET_BITS>>(
+/// Returns the item of a word of a document's record. The reference of a single value is such a word.
+pub fn read_item<const OFFSET_BITS: u32, F: Frozen<OFFSET_BITS>>(
     alloc: Global,
     frozen: &mut F,
     kind: Kind,
@@ -94,8 +96,8 @@ fn read_list<const OFFSET_BITS: u32, F: Frozen<OFFSET_BITS>>(
     Ok(Items::from_vec(items))
 }
 
-/// Returns the items of a reference.
-fn read_items<const OFFSET_BITS: u32, F: Frozen<OFFSET_BITS>>(
+/// Returns the items of a document, by its reference.
+pub fn read_items<const OFFSET_BITS: u32, F: Frozen<OFFSET_BITS>>(
     alloc: Global,
     frozen: &mut F,
     kind: Kind,

@@ -1,3 +1,5 @@
+//! The dictionary's keys of the values that a document has.
+
 ghost use Rattle.std.specs.Prelude.{◌≡◌, ◌<◌, length, IfOk};
 ghost use Rattle.std.specs.List.{AllByRecursion};
 ghost use Rattle.attr_field.specs.DocumentsChanges.{AreKeysOf};

@@ -1,3 +1,5 @@
+//! Laws of an attribute's roots, for the crates above.
+
 ghost use Rattle.attr_field.specs.Laws.{NothingIsField, FieldStays, FieldIsLawful};
 ghost use Rattle.attr_field.specs.Laws.{FieldOwnsKeys, FieldReaches, FieldReachesOwn};
 ghost use Rattle.value_index.specs.Laws.{FormStays, NothingIsOfForm};

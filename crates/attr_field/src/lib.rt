@@ -17,7 +17,7 @@ mod weights;
 pub use changing::{put, remove};
 pub use documents_changing::{remove_document, set_document};
 pub use documents_laws::documents_law;
-pub use documents_reading::document_items;
+pub use documents_reading::{document_items, read_item, read_items};
 pub use keys::keys_of;
 pub use laws::field_law;
 pub use reading::items;

@@ -1,3 +1,5 @@
+//! An attribute, by the roots of its document tree and its dictionary.
+
 use entry_ref::EntryRef;
 
 /// An attribute, by the roots of its two trees. Each root is 0 if the attribute has no documents.

@@ -1,3 +1,5 @@
+//! Tasks run side by side, each in a thread.
+
 ghost use Rattle.std.specs.Prelude.{◌≡◌, length, IfOk, All};
 ghost use Rattle.std.specs.List.{AllZip};
 ghost use denote.Param.Send.{IsSync, IsSend};

@@ -1,3 +1,5 @@
+//! The points that a run passes, and what it calls there.
+
 /// A point of a run: after a commit of the loader, or before or after a round of a reader. Readers and their rounds
 /// are numbered from 1; `operations` is the number of operations in the commit.
 #[derive(Clone, Copy, Debug, PartialEq, Eq)]

@@ -1,3 +1,5 @@
+//! Reads a source to its end, in pieces, up to a limit.
+
 ghost use Rattle.std.specs.Prelude.{◌≡◌, ◌<◌, ◌≤◌, ◌⊎◌, length, vec_len, IfOk, IsErrOf};
 ghost use Rattle.std.specs.Io.KnownBytes.{Consumes, IsAtEnd};
 ghost use Rattle.attr_io.specs.Bytes.{HasMoreThan, ReadsPieces, piece_bytes};

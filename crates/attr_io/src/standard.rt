@@ -1,3 +1,5 @@
+//! Standard input and output as a source and a sink.
+
 ghost use Rattle.std.specs.Prelude.{◌≡◌, ◌↔◌, IsErr, IfOk, OnOk, OnErr, Ok};
 ghost use Rattle.attr_io.specs.Bytes.{TakesSome};
 ghost use Rattle.attr_io.specs.Faults.{CountsFaults, counted_up};

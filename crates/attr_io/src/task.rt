@@ -1,3 +1,5 @@
+//! Work that is done once, in a thread or not.
+
 /// Work that is done once. Unlike a closure that captures borrowed values, its input and result can be stated across
 /// a thread.
 pub trait Task {

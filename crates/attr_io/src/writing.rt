@@ -1,3 +1,5 @@
+//! Writes all of a text to a sink.
+
 ghost use Rattle.std.specs.Prelude.{OnOk, OnErr};
 ghost use Rattle.std.specs.Io.KnownBytes.{Appends};
 ghost use Rattle.attr_io.specs.Bytes.{AppendsFront};

@@ -1,3 +1,5 @@
+//! Why a loading failed.
+
 ghost use Rattle.std.specs.Prelude.{◌≡◌};
 ghost use Rattle.attr_loader.specs.declared.error.LoadError.TheVariants as errors;
 

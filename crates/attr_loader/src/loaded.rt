@@ -1,3 +1,5 @@
+//! The result of a loading, and of one that ran out of space.
+
 /// The operation that ran out of space, numbered from 1, with the number of buffers in use and of buffers that wait
 /// for readers.
 #[derive(Clone, Copy, Drop)]

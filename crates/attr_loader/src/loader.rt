@@ -1,3 +1,5 @@
+//! Loads operations in batches, with a commit and a step of compaction after each.
+
 ghost use Rattle.std.specs.Prelude.{IfOk, IfErr};
 ghost use Rattle.attr_loader.specs.Loading.{CanLoad, IsSpent, Loads};
 

@@ -1,3 +1,5 @@
+//! A loading as a task, which hands the attributes back.
+
 ghost use Rattle.std.specs.Prelude.{IfOk, IfErr};
 ghost use Rattle.attr_loader.specs.Loading.{CanLoad, IsSpent, Loads};
 

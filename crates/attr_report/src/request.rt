@@ -1,3 +1,5 @@
+//! A requested run, as its settings and asks.
+
 use attr_types::{Asks, Fields};
 
 /// Operations that are made from a number instead of reading a feed.

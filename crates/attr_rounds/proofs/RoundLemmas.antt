@@ -55,6 +55,7 @@ module _ {A : Type 0} (operations : ℕ → Records → ℕ → ℕ) (answers : 
       → MakesRound operations answers lawful r t round
   of_guard reaches r g t round later same commit count answer = record {
     same_sizes = same.same_sizes ∙ later.same_sizes;
+    same_number = same.same_number ∙ later.same_number;
     image = seen_image g;
     saw = same.saw ∙ later.saw ∙ ap (λ n. (n, seen_image g) ∷ r.saw) (sym commit);
     later = subst (λ n. r.seen ≤ n) (sym commit) later.later;
@@ -78,6 +79,7 @@ module _ {A : Type 0} (operations : ℕ → Records → ℕ → ℕ) (answers : 
   pub sight_kept : (r m t : ReaderView) (rounds : List (Round A)) → Makes r m rounds → SeesSame m t → Makes r t rounds
   sight_kept r m t rounds before same = record {
     same_sizes = same.same_sizes ∙ before.same_sizes;
+    same_number = same.same_number ∙ before.same_number;
     are_seen = record {
       each = subst (λ (z : Sizes). AllZip (IsOfSeen operations answers lawful z.shape) rounds (seen_last (length rounds) t.saw)) (sym same.same_sizes)
           (subst (λ saw. AllZip (IsOfSeen operations answers lawful m.sizes.shape) rounds (seen_last (length rounds) saw)) (sym same.saw) before.are_seen.each);
@@ -89,6 +91,7 @@ module _ {A : Type 0} (operations : ℕ → Records → ℕ → ℕ) (answers : 
   pub no_rounds : (r : ReaderView) → Makes r r []
   no_rounds r = record {
     same_sizes = refl;
+    same_number = refl;
     are_seen = record { each = tt };
     nothing_else = refl;
     forward = IsNonDecreasingBy-push (λ x. x) (r.seen ∷ []) r.seen (λ i j d ij lt. let e : i ≡ j = omega (arith, ij, lt) in
@@ -123,6 +126,7 @@ module _ {A : Type 0} (operations : ℕ → Records → ℕ → ℕ) (answers : 
     pub one_more : Makes r t (rounds ++ round ∷ [])
     one_more = record {
       same_sizes = next.same_sizes ∙ before.same_sizes;
+      same_number = next.same_number ∙ before.same_number;
       are_seen = record { each = all_seen };
       nothing_else = nothing_else;
       forward = forward;

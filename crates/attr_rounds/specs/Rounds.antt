@@ -15,6 +15,7 @@ seen_last count saw = reverse (take count saw)
 -- a reader has seen the same commits as before, and nothing else, whatever hold it stands on
 pub record SeesSame (r r' : ReaderView) : Type 0 where
   pub same_sizes : r'.sizes ≡ r.sizes
+  pub same_number : r'.number ≡ r.number
   pub seen : r'.seen ≡ r.seen
   pub saw : r'.saw ≡ r.saw
 
@@ -46,6 +47,7 @@ module _ {A : Type 0} (operations : ℕ → Records → ℕ → ℕ) (answers : 
     -- is older than one that it saw before
     pub record MakesRounds (r r' : ReaderView) (rounds : List (Round A)) : Type 0 where
       pub same_sizes : r'.sizes ≡ r.sizes
+      pub same_number : r'.number ≡ r.number
       pub are_seen : AreSeen r' rounds
       pub nothing_else : drop (length rounds) r'.saw ≡ r.saw
       pub forward : IsNonDecreasing ((r.seen ∷ map (λ round. round.commit) rounds) ++ r'.seen ∷ [])
@@ -53,6 +55,7 @@ module _ {A : Type 0} (operations : ℕ → Records → ℕ → ℕ) (answers : 
     -- one round that leads from one view of a reader to another
     pub record MakesRound (r r' : ReaderView) (round : Round A) : Type 0 where
       pub same_sizes : r'.sizes ≡ r.sizes
+      pub same_number : r'.number ≡ r.number
       pub image : Image
       pub saw : r'.saw ≡ (round.commit, image) ∷ r.saw
       pub later : r.seen ≤ round.commit

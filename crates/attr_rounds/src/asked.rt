@@ -1,3 +1,5 @@
+//! The asks of a run, answered at one commit as lines of text or as counts.
+
 ghost use Rattle.std.specs.Prelude.{◌≡◌, length, map, IfOk};
 ghost use Rattle.attr_rounds.specs.Lines.{CanAsk, TellsTable};
 ghost use Rattle.image_format.specs.Images.{operations_at, table_of, IsLawfulImage};

@@ -1,3 +1,5 @@
+//! The documents of an image, read for a save or a summary.
+
 ghost use Rattle.std.specs.Prelude.{◌≡◌, ◌≤◌, ◌<◌, ◌^◌, Some, length, slice_get, slice_index, IfOk};
 ghost use Rattle.image_format.specs.Images.{root_words, table_of, IsLawfulImage};
 ghost use Rattle.image_format.specs.Shapes.{shape_of, types_of};

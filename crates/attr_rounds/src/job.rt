@@ -1,3 +1,5 @@
+//! The rounds of one reader, as a task.
+
 ghost use Rattle.std.specs.Prelude.{◌≡◌, length, IfOk};
 ghost use Rattle.word_arena.specs.Ruled.{reader_of};
 ghost use Rattle.attr_rounds.specs.Rounds.{MakesRounds};

@@ -1,3 +1,5 @@
+//! What each round asks of a commit.
+
 ghost use Rattle.std.specs.Prelude.{◌≡◌, ℕ, IfOk};
 ghost use Rattle.entry_ref.specs.Records.{Records};
 

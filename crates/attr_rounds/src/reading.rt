@@ -1,3 +1,5 @@
+//! The documents of one attribute of an image, collected in order.
+
 ghost use Rattle.std.specs.Prelude.{◌≡◌, ◌∷◌, [], List, Some, IsSome, IfOk, OnOk};
 ghost use Rattle.std.specs.BTreeMap.{insert_entry, is_at};
 ghost use Rattle.std.specs.Map.{lookup};

@@ -1,3 +1,5 @@
+//! The rounds of a reader: each under a guard of the last commit.
+
 ghost use Rattle.std.specs.Prelude.{◌≡◌, ◌<◌, ◌+◌, ◌-◌, ◌^◌, length, IfOk, OnOk};
 ghost use Rattle.gen_core.specs.declared.views.ReaderView.{ReaderView};
 ghost use Rattle.word_arena.specs.Ruled.{reader_of, IsLater};

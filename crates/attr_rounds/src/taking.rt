@@ -1,7 +1,10 @@
+//! Takes a reader in again after its rounds.
+
 ghost use Rattle.std.specs.Prelude.{◌≡◌, All};
 ghost use Rattle.gen_core.specs.Events.{joined};
 ghost use Rattle.word_arena.specs.Ruled.{reader_of, writer_of};
 ghost use Rattle.word_arena.specs.Released.{IsWholeRun};
+ghost use Rattle.word_arena.specs.Runs.{LoadsRootOnce, TookReads};
 ghost use Rattle.attr_rounds.specs.Rounds.{AreSeen, IsOfCommit};
 
 use crate::question::Question;
@@ -9,7 +12,8 @@ use crate::rounds::{Reading, Round};
 use entry_ref::Layout;
 use word_arena::Writer;
 
-/// Joins a reader after its rounds with this question. Each round is then known to be at a commit of the writer.
+/// Joins a reader after its rounds with this question. Each round is then known to be at a commit of the writer, and what
+/// the reader saw to be its own reads of the root.
 pub fn take_in<const OFFSET_BITS: u32, L: Layout, Q: Question<OFFSET_BITS, L>>(
     writer: &mut Writer<OFFSET_BITS, L>,
     reading: Reading<OFFSET_BITS, L, Q::Answer>,
@@ -23,6 +27,8 @@ pub fn take_in<const OFFSET_BITS: u32, L: Layout, Q: Question<OFFSET_BITS, L>>(
     ensures view { writer_of writer.new.place.me.0 ≡ joined (writer_of writer.old.place.me.0) (reader_of reading.reader.place.me.0) }
     ensures table { writer.new.place.table_id ≡ writer.old.place.table_id }
     ensures run { IsWholeRun L.reaches L.lawful (writer_of writer.old.place.me.0).sizes writer.new.place.me.0.seen }
+    ensures meets { LoadsRootOnce writer.old.place.me.0 writer.new.place.me.0 }
+    ensures reads { TookReads writer.new.place.me.0 }
 {
     let Reading { reader, rounds } = reading;
     writer.take_in(reader);

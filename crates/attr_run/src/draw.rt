@@ -1,3 +1,5 @@
+//! Pseudorandom draws for made operations: a linear congruential step.
+
 ghost use Rattle.std.specs.Prelude.{◌≡◌, ◌<◌};
 ghost use Rattle.attr_run.specs.Made.{next_draw};
 

@@ -1,3 +1,5 @@
+//! The outcome of `attr`: its status, its progress, and the exit status of the process.
+
 ghost use Rattle.std.specs.Prelude.{◌≡◌};
 ghost use Rattle.std.specs.Process.{exit_status};
 ghost use Rattle.attr_run.specs.Answers.{progress_of, HasNoRun};

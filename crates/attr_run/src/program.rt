@@ -1,3 +1,5 @@
+//! `attr` as a program: over the words after its name, standard input and standard output.
+
 use crate::outcome::Outcome;
 use crate::run::attr_main;
 use crate::words::Words;

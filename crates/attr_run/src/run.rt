@@ -1,3 +1,5 @@
+//! The whole run, `attr_main`: reads the words and the feed, makes the run, and writes its text.
+
 ghost use Rattle.std.specs.Prelude.{◌≡◌, ◌⊎◌, ◌<◌, ◌≤◌, ◌^◌, ℕ, [], Some, Ok, Err, length, Option};
 ghost use Rattle.std.specs.Prelude.{IsOk, IsOkAnd, IfOk, IfErr, IsErrOf, OnOk, IfSome};
 ghost use Rattle.std.specs.Io.KnownBytes.{Appends, Keeps};

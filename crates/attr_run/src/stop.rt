@@ -1,3 +1,5 @@
+//! Why a run ends without a report.
+
 ghost use Rattle.std.specs.Prelude.{◌≡◌};
 ghost use Rattle.attr_run.specs.Steps.{feed_stop, words_stop};
 ghost use Rattle.attr_run.specs.declared.stop.Stop.TheVariants as stops;

@@ -1,3 +1,5 @@
+//! The texts of refusals, and the help.
+
 ghost use Rattle.std.specs.Prelude.{◌≡◌, ◌++◌, ◌≤◌, OnOk, IfOk, string_bytes};
 ghost use Rattle.attr_run.specs.Texts.{help_text, query_refusal, query_line, line_refusal};
 ghost use Rattle.attr_run.specs.Texts.{feed_line, answer_text};

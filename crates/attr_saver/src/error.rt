@@ -1,3 +1,5 @@
+//! Why a save was not written or read.
+
 ghost use Rattle.std.specs.Prelude.{◌≡◌};
 ghost use Rattle.attr_saver.specs.declared.error.Broken.TheVariants as broken;
 ghost use Rattle.attr_saver.specs.declared.error.LoadError.TheVariants as loading;

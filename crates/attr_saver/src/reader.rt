@@ -1,3 +1,5 @@
+//! Bytes that are read from the front, field by field.
+
 ghost use Rattle.std.specs.Prelude.{◌≡◌, length};
 ghost use Rattle.std.specs.Int.{w8, w16, w32, w64};
 ghost use Rattle.attr_saver.specs.Answers.{Gives};

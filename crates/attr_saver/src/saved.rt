@@ -1,3 +1,5 @@
+//! What a save holds.
+
 use attr_types::{Doc, Items, Kind, ListOf, ValueType};
 
 /// A document with its items in the saved attribute.

@@ -1,3 +1,5 @@
+//! The bytes of a save.
+
 ghost use Rattle.std.specs.Prelude.{◌≡◌, IfOk, Ok};
 ghost use Rattle.attr_saver.specs.Bytes.{saved_bytes};
 ghost use Rattle.attr_saver.specs.Fields.{read_of};

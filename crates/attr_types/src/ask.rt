@@ -1,3 +1,5 @@
+//! What one word of the command line asks for: hits or scores.
+
 use crate::part::Parts;
 use crate::{ListOf, Query};
 

@@ -1,3 +1,5 @@
+//! What an update does to the items of a document.
+
 use crate::items::Items;
 use crate::list::ListOf;
 use crate::value::{Value, Values};

@@ -1,3 +1,5 @@
+//! The number of a document.
+
 ghost use Rattle.std.specs.Prelude.{◌≡◌, ◌≤◌};
 
 use crate::list::ListOf;

@@ -1,3 +1,5 @@
+//! Why a text is no query for these attributes.
+
 use std::alloc::AllocError;
 use thiserror::Error;
 

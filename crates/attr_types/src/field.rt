@@ -1,3 +1,5 @@
+//! An attribute: its name, its kind and the type of its values.
+
 ghost use Rattle.std.specs.Prelude.{◌≡◌, IfOk, string_bytes};
 
 use crate::kind::{Kind, ValueType};

@@ -1,3 +1,5 @@
+//! The items of a document: values with weights.
+
 use crate::list::ListOf;
 use crate::value::Value;
 

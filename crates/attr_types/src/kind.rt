@@ -1,3 +1,5 @@
+//! The kind of an attribute, and the type of its values.
+
 /// The collection type of an attribute: how many values a document has.
 /// <https://docs.vespa.ai/en/attributes.html>
 #[derive(Clone, Copy, Debug, PartialEq, Eq)]

@@ -1,3 +1,5 @@
+//! A list of things in order, seen by contracts as a plain list.
+
 ghost use Rattle.std.specs.Prelude.{◌≡◌, [], ◌∷◌, ◌++◌, length, OnOk, IfOk, OnErr, IsTrue, ◌↔◌};
 
 use std::alloc::{AllocError, Global};

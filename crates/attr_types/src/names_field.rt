@@ -1,3 +1,5 @@
+//! Names of attributes, as texts spell them.
+
 ghost use Rattle.std.specs.Prelude.{◌≡◌, ◌<◌, IfSome, length};
 ghost use Rattle.std.specs.List.{list_all};
 ghost use Rattle.attr_types.specs.Names.{begins_name, continues_name, is_begun, is_name, field_named};

@@ -1,3 +1,5 @@
+//! An operation on one document: a put, an update or a remove.
+
 use crate::change::FieldChanges;
 use crate::doc::Doc;
 use crate::items::FieldItems;

@@ -1,3 +1,5 @@
+//! One part of a dot product: a value and its factor.
+
 use crate::{ListOf, Value};
 
 /// One part of a dot product: a value, and the factor for the weight of an item with this value.

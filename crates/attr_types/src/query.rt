@@ -1,3 +1,5 @@
+//! Queries: conditions on values, joined by and and or.
+
 use crate::text::Text;
 use crate::value::Value;
 

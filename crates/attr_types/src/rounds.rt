@@ -1,3 +1,5 @@
+//! The rounds of readers, as counts of operations.
+
 use crate::list::ListOf;
 
 /// How many operations each round of one reader saw, in the order of the rounds.

@@ -1,3 +1,5 @@
+//! A text of at most 1,024 bytes of UTF-8.
+
 ghost use Rattle.std.specs.Prelude.{◌≡◌, ◌≤◌, IfOk, length, string_len, string_bytes, IsUtf8};
 
 use std::alloc::{AllocError, Global};

@@ -1,3 +1,5 @@
+//! The names of kinds and of value types.
+
 ghost use Rattle.std.specs.Prelude.{◌≡◌};
 ghost use Rattle.attr_types.specs.Names.{kind_named, value_named};
 

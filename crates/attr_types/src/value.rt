@@ -1,3 +1,5 @@
+//! A value: a long or a text.
+
 use crate::list::ListOf;
 use crate::text::Text;
 

@@ -1,3 +1,5 @@
+//! What the calls of a collection of attributes answer.
+
 ghost use Rattle.std.specs.Prelude.{◌≡◌};
 ghost use Rattle.std.specs.Option.{option_map};
 ghost use Rattle.attribute_kinds.specs.Refusals.{has_finished, refusal_of_store, told_of};

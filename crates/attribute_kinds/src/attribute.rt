@@ -1,3 +1,5 @@
+//! The attributes of a collection in one store: operations, commits and steps of compaction.
+
 ghost use Rattle.std.specs.Prelude.{◌≡◌, ℕ, ◌<◌, ◌≤◌, ◌+◌, ◌-◌, ◌*◌, ◌^◌, [], None, false, length};
 ghost use Rattle.std.specs.Prelude.{IfOk, IfErr, OnOk, OnErr, Ok, Err, replicate};
 ghost use Rattle.entry_ref.specs.Images.{words_at};

@@ -1,3 +1,5 @@
+//! Commits of a root record alone.
+
 ghost use Rattle.std.specs.Prelude.{◌≡◌, ◌<◌, [], true, IfOk};
 ghost use Rattle.store_api.specs.Parts.{Owns, Turns};
 ghost use Rattle.store_api.specs.Units.{MayDo};

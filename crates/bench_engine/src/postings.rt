@@ -1,3 +1,5 @@
+//! The workload of an index: postings whose values are uniform or by Zipf's law.
+
 use std::alloc::{AllocError, Global};
 use test_kit::Random;
 

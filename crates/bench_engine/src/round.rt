@@ -1,3 +1,5 @@
+//! Units of entries, made and dropped.
+
 ghost use Rattle.std.specs.Prelude.{◌≡◌, ℕ, true, false, OnOk};
 ghost use Rattle.bench_engine.specs.Units.{HoldsRoot, Made};
 

@@ -1,3 +1,5 @@
+//! The workload of a store: units and commits.
+
 ghost use Rattle.std.specs.Prelude.{◌≤◌, IfOk};
 ghost use Rattle.store_api.specs.Ledgers.{IsNew};
 ghost use Rattle.bench_engine.specs.Units.{HoldsRoot};

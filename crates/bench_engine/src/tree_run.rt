@@ -1,3 +1,5 @@
+//! The workload of a tree: inserts, finds, walks and removes.
+
 ghost use Rattle.std.specs.Prelude.{◌≡◌, ◌<◌, ◌≤◌, ◌+◌, length, IfOk, OnOk};
 ghost use Rattle.tree_read.specs.Trees.{IsRootNode};
 

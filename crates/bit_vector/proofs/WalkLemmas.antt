@@ -9,7 +9,7 @@ use Rattle.std.proofs.lemmas.List.Elements.{filter-append}
 use Rattle.list_lemmas.proofs.Each.{AllByRecursion-right}
 use Rattle.list_lemmas.proofs.Tests.{too_many}
 use Rattle.entry_ref.specs.Records.{Records}
-use Rattle.tree_read.specs.SearchPlaces.{Place, IsAt, pairs_from, first_key, first_value}
+use Rattle.tree_read.specs.SearchPlaces.{CursorPlace, IsAt, pairs_from, first_key, first_value}
 use Rattle.tree_read.specs.Trees.{tree_pairs}
 use Rattle.attr_types.specs.Lawful.{IsDocNumber}
 use Rattle.image_format.specs.Postings.{block_documents, IsBlock}
@@ -238,7 +238,7 @@ drop_blocks : (m : Records) (ps : List (ℕ × ℕ)) → AllByRecursion (λ p. I
 drop_blocks m [] all = tt
 drop_blocks m (p ∷ ps) all = all.1
 
-pub next_blocks : (m : Records) (at then_at : Place) → IsBlockPlace m at → IsAt m then_at → pairs_from m then_at ≡ drop 1 (pairs_from m at) → IsBlockPlace m then_at
+pub next_blocks : (m : Records) (at then_at : CursorPlace) → IsBlockPlace m at → IsAt m then_at → pairs_from m then_at ≡ drop 1 (pairs_from m at) → IsBlockPlace m then_at
 next_blocks m at then_at is stands rest = record {
   stands = stands;
   ascends = subst (λ (ps : List (ℕ × ℕ)). IsStrictlySortedBy nat_cmp (map (λ p. p.0) ps)) (sym rest) (drop_sorted (pairs_from m at) is.ascends);
@@ -246,7 +246,7 @@ next_blocks m at then_at is stands rest = record {
   numbers = subst (λ (ps : List (ℕ × ℕ)). AllByRecursion IsDocNumber (blocks_documents m ps)) (sym rest) (drop_numbers m (pairs_from m at) is.numbers);
 }
 
-pub first_blocks : (m : Records) (root : ℕ) (at : Place) → IsVector m root → IsAt m at → pairs_from m at ≡ tree_pairs m root → IsBlockPlace m at
+pub first_blocks : (m : Records) (root : ℕ) (at : CursorPlace) → IsVector m root → IsAt m at → pairs_from m at ≡ tree_pairs m root → IsBlockPlace m at
 first_blocks m root at is stands pairs = record {
   stands = stands;
   ascends = subst (λ (ps : List (ℕ × ℕ)). IsStrictlySortedBy nat_cmp (map (λ p. p.0) ps)) (sym pairs) is.tree_is.ascends;

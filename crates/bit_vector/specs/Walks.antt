@@ -4,7 +4,7 @@ use Rattle.std.specs.List.{AllByRecursion}
 use Rattle.std.specs.List.Sorted.{IsStrictlySortedBy}
 use Rattle.std.specs.Ordering.{nat_cmp}
 use Rattle.entry_ref.specs.Records.{Records}
-use Rattle.tree_read.specs.SearchPlaces.{Place, IsAt, HasPair, pairs_from, first_key, first_value}
+use Rattle.tree_read.specs.SearchPlaces.{CursorPlace, IsAt, HasPair, pairs_from, first_key, first_value}
 use Rattle.attr_types.specs.Lawful.{IsDocNumber}
 use Rattle.image_format.specs.Postings.{IsBlock}
 use Rattle.image_format.specs.declared.TheConstants.{BLOCK_DOCUMENTS}
@@ -21,7 +21,7 @@ abbrev pub HasDocument : {bits : ℕ} → VectorCursor bits → Type 0
 HasDocument at = HasPair at.blocks
 
 -- the position of a tree's cursor is in the blocks of a bit vector
-pub record IsBlockPlace (m : Records) (at : Place) : Type 0 where
+pub record IsBlockPlace (m : Records) (at : CursorPlace) : Type 0 where
   pub stands : IsAt m at
   pub ascends : IsStrictlySortedBy nat_cmp (map (λ p. p.0) (pairs_from m at))
   pub blocks : AllByRecursion (λ p. IsBlock p.0 (m p.1)) (pairs_from m at)

@@ -1,5 +1,5 @@
-//! The number of documents of a bit vector.
-ghost use Rattle.std.specs.Prelude.{◌≡◌, ◌<◌, ◌≤◌, ◌+◌, ◌*◌, ℕ, length};
+//! Documents of a bit vector, counted.
+ghost use Rattle.std.specs.Prelude.{◌≡◌, ◌<◌, ◌≤◌, ◌+◌, ◌*◌, ℕ, length, nat_le};
 ghost use Rattle.image_format.specs.Postings.{block_documents, vector_documents};
 ghost use Rattle.bit_vector.specs.Vectors.{IsVector};
 
@@ -25,20 +25,24 @@ fn count_block<const OFFSET_BITS: u32, F: Frozen<OFFSET_BITS>>(
     count
 }
 
-/// Returns the number of documents of a bit vector.
-pub fn count<const OFFSET_BITS: u32, F: Frozen<OFFSET_BITS>>(
+/// Returns whether a bit vector has at least so many documents. It counts block by block and stops at the block that settles it.
+pub fn has_at_least<const OFFSET_BITS: u32, F: Frozen<OFFSET_BITS>>(
     frozen: &mut F,
     root: EntryRef<OFFSET_BITS>,
-) -> u32
+    least: u32,
+) -> bool
     requires vector { IsVector (F.records frozen.old) root }
-    ensures count { result ≡ length (vector_documents (F.records frozen.old) root.entry) }
+    ensures least { result ≡ nat_le least (length (vector_documents (F.records frozen.old) root.entry)) }
     ensures same { frozen.new ≡ frozen.old }
 {
     let mut cursor = Cursor::first(frozen, root);
     let mut count = 0;
     while !cursor.at_end() {
+        if count >= least {
+            return true;
+        }
         count += count_block(frozen, EntryRef::from_raw(cursor.value() as u32));
         cursor.next(frozen);
     }
-    count
+    count >= least
 }

@@ -17,7 +17,7 @@ mod reading;
 
 pub use changing::{insert, remove};
 pub use converting::{from_tree, to_tree};
-pub use counting::count;
+pub use counting::has_at_least;
 pub use cursor::VectorCursor;
 pub use dropping::drop_vector;
 pub use kernels::{block_and, block_or};

@@ -4,7 +4,7 @@ use Rattle.std.specs.Prelude.{length, slice_set, slice_index_or, sum_by}
 use Rattle.buffer_states.specs.declared.BufferState.{BufferState}
 use Rattle.buffer_states.specs.declared.BufferState.TheVariants.{Free, Active, OnHold}
 use Rattle.buffer_states.specs.declared.Buffer.{Buffer}
-use Rattle.buffer_states.specs.declared.Words.{Words}
+use Rattle.buffer_states.specs.declared.WordCounts.{WordCounts}
 
 -- a free buffer with all numbers 0
 abbrev pub new_buffer : Buffer
@@ -93,6 +93,9 @@ with_released buffers b =
 abbrev pub sealed_at : List Buffer → ℕ → List Buffer
 sealed_at buffers b = slice_set buffers b (record (buffer_at buffers b) { sealed = true })
 
+abbrev pub unsealed_at : List Buffer → ℕ → List Buffer
+unsealed_at buffers b = slice_set buffers b (record (buffer_at buffers b) { sealed = false })
+
 -- buffer b goes on hold with this generation, and has no entries any more
 abbrev pub on_hold_at : List Buffer → ℕ → ℕ → List Buffer
 on_hold_at buffers b generation =
@@ -106,7 +109,7 @@ abbrev pub freed_below : ℕ → Buffer → Buffer
 freed_below oldest buffer = if is_on_hold buffer.state && nat_lt buffer.generation oldest then new_buffer else buffer
 
 -- the words of all buffers together
-abbrev pub words_of : List Buffer → Words
+abbrev pub words_of : List Buffer → WordCounts
 words_of buffers = record {
   used = sum_by (λ (buffer : Buffer). buffer.used) buffers;
   dead = sum_by (λ (buffer : Buffer). buffer.dead) buffers;

@@ -54,7 +54,7 @@ pub struct Buffer {
 
 /// The words of all buffers together.
 #[derive(Clone, Copy, Debug, PartialEq, Eq, Drop)]
-pub struct Words {
+pub struct WordCounts {
     pub used: u64,
     pub dead: u64,
     pub held: u64,
@@ -89,7 +89,7 @@ impl Model for Buffers {
 
 impl Buffers {
     ghost use Rattle.buffer_states.specs.Buffers.{new_buffer, buffer_at, activated, with_counts, with_next, with_taken, with_given};
-    ghost use Rattle.buffer_states.specs.Buffers.{with_dropped, with_kept, with_dropped_held, with_released, sealed_at};
+    ghost use Rattle.buffer_states.specs.Buffers.{with_dropped, with_kept, with_dropped_held, with_released, sealed_at, unsealed_at};
     ghost use Rattle.buffer_states.specs.Buffers.{on_hold_at, freed_at, freed_below, is_state_free, is_state_active, is_on_hold};
     ghost use Rattle.buffer_states.specs.Buffers.{is_candidate, IsVictim, IsLowestFree, words_of};
     ghost use Rattle.std.specs.Prelude.{All};
@@ -264,6 +264,14 @@ impl Buffers {
         self.buffers[buffer as usize].sealed = true;
     }
 
+    /// Takes the mark of a buffer away that a compaction gives up.
+    pub fn unseal(&mut self, buffer: u32)
+        requires { buffer < length self.old }
+        ensures { self.new ≡ unsealed_at self.old buffer }
+    {
+        self.buffers[buffer as usize].sealed = false;
+    }
+
     /// Puts an active buffer on hold with a generation. It has no entries any more.
     pub fn put_on_hold(&mut self, buffer: u32, generation: u64)
         requires inside { buffer < length self.old }
@@ -339,11 +347,11 @@ impl Buffers {
     }
 
     /// Returns the used, dead and held words of all buffers.
-    pub fn words(&self) -> Words
+    pub fn words(&self) -> WordCounts
         requires { length self.now < 2 ^ 32 }
         ensures { result ≡ words_of self.now }
     {
-        let mut words = Words {
+        let mut words = WordCounts {
             used: 0,
             dead: 0,
             held: 0,

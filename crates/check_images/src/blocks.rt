@@ -1,3 +1,5 @@
+//! Checks the blocks of a bit vector.
+
 ghost use Rattle.std.specs.Prelude.{◌≡◌, ◌<◌, ◌^◌, ◌++◌, ℕ, pos, map, OnOk, IfOk, IfErr};
 ghost use Rattle.std.specs.List.{flat_map, AllByRecursion};
 ghost use Rattle.image_format.specs.Postings.{block_documents, IsBlock};

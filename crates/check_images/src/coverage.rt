@@ -1,3 +1,5 @@
+//! Checks that each value of a column stands in the dictionary.
+
 ghost use Rattle.std.specs.Prelude.{◌↔◌, ℕ, List, IsTrue, Contains};
 ghost use Rattle.std.specs.List.{AllByRecursion};
 ghost use Rattle.attr_types.specs.declared.items.Item.{Item};

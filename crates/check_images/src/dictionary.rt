@@ -1,3 +1,5 @@
+//! Checks a dictionary against the documents.
+
 ghost use Rattle.std.specs.Prelude.{◌≡◌, ℕ, map, option_map, OnOk, IfOk, IfErr};
 ghost use Rattle.std.specs.List.{find, AllByRecursion};
 ghost use Rattle.std.specs.Ordering.{is_eq};

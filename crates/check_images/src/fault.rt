@@ -1,3 +1,5 @@
+//! Why a check has no result.
+
 use std::alloc::AllocError;
 
 /// Why a check has no result.

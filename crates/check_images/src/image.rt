@@ -1,3 +1,5 @@
+//! Checks a whole image from its root record.
+
 ghost use Rattle.std.specs.Prelude.{◌≡◌, ◌↔◌, ◌≤◌, ◌+◌, ℕ, length, drop, IsTrue, OnOk, IfOk, IfErr};
 ghost use Rattle.std.specs.List.{AllByRecursion};
 ghost use Rattle.image_format.specs.Images.{attributes_from, table_of, IsRootRecord, IsLawfulImage};

@@ -1,3 +1,5 @@
+//! Checks the items of a document.
+
 ghost use Rattle.std.specs.Prelude.{◌≡◌, ◌≤◌, ℕ, ℤ, pos, map, IfOk, OnOk, IfErr};
 ghost use Rattle.std.specs.List.{AllByRecursion};
 ghost use Rattle.image_format.specs.Documents.{weighted, IsItemsRecord, items_at, AreItemRecords};

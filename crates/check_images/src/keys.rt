@@ -1,3 +1,5 @@
+//! How the checker reads and compares the keys of a tree.
+
 ghost use Rattle.std.specs.Prelude.{◌≡◌, IfOk, slice_index};
 ghost use Rattle.std.specs.Int.{cast_signed, w64};
 ghost use Rattle.image_format.specs.Values.{stored_text};

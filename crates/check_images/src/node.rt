@@ -1,3 +1,5 @@
+//! Checks the form of a node.
+
 ghost use Rattle.std.specs.Prelude.{◌≡◌, ◌↔◌, length, IsTrue};
 ghost use Rattle.tree_read.specs.Nodes.{used_of, IsNodeForm};
 ghost use Rattle.check_images.specs.Slots.{AreZero};

@@ -1,3 +1,5 @@
+//! Collects the pairs of a tree, and checks that their keys ascend.
+
 ghost use Rattle.std.specs.Prelude.{◌≡◌, ◌≤◌, ◌∷◌, [], ◌++◌, length, OnOk, IfErr};
 ghost use Rattle.std.specs.List.{zip};
 ghost use Rattle.tree_read.specs.Nodes.{used_of, node_keys, node_values};

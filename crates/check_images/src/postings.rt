@@ -1,3 +1,5 @@
+//! Checks a posting list in each of its forms.
+
 ghost use Rattle.std.specs.Prelude.{◌≡◌, ◌<◌, ◌^◌, ℕ, map, OnOk, IfOk, IfErr};
 ghost use Rattle.std.specs.List.{AllByRecursion};
 ghost use Rattle.image_format.specs.Postings.{list_form, tree, vector, postings_at, IsPostingList};

@@ -1,3 +1,5 @@
+//! Lists of words, read by the checker.
+
 ghost use Rattle.std.specs.Prelude.{◌≡◌, drop};
 
 /// Returns the words after the first.

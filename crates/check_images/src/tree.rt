@@ -1,3 +1,5 @@
+//! Checks a tree: levels, counts, fill and order.
+
 ghost use Rattle.std.specs.Prelude.{◌≡◌, ◌++◌, OnOk, IfOk, IfErr};
 ghost use Rattle.tree_read.specs.Nodes.{IsNodeForm};
 ghost use Rattle.tree_read.specs.Trees.{pairs_below, tree_pairs, IsNode, root_least};

@@ -1,3 +1,5 @@
+//! The words of a value, computed by the checker for itself.
+
 ghost use Rattle.std.specs.Prelude.{◌≡◌, ◌≤◌, ◌+◌, ◌/◌, ◌++◌, length, take, drop, replicate, IfOk};
 ghost use Rattle.image_format.specs.Values.{packed_bytes, value_words, value_of, IsLawfulValue, IsValueRecord};
 ghost use Rattle.check_images.specs.Told.{Tells};

@@ -1,3 +1,5 @@
+//! Widths and padding, computed by the checker for itself.
+
 ghost use Rattle.std.specs.Prelude.{◌≡◌, ◌↔◌, ◌≤◌, ◌∷◌, length, map, OnOk, IfOk, IsTrue};
 ghost use Rattle.image_format.specs.Words.{class_of, filled, stored_items, unpacked, IsStoredList};
 ghost use Rattle.check_images.specs.Told.{Tells};

@@ -5,7 +5,7 @@ use Rattle.std.specs.List.{slice_split}
 use Rattle.clap.specs.Walk.{Text}
 use Rattle.attr_types.specs.declared.field.Field.{Field}
 use Rattle.attr_types.specs.Names.{is_name, field_named, kind_named, value_named}
-use Rattle.command_line.specs.declared.also.Part.{Part}
+use Rattle.command_line.specs.declared.also.AlsoPart.{AlsoPart}
 use Rattle.command_line.specs.declared.reading.WordsError.{WordsError}
 use Rattle.command_line.specs.declared.reading.WordsError.TheVariants.{Also}
 
@@ -20,7 +20,7 @@ pub record Piece : Type 0 where
   pub place : ℕ
   pub text : Text
 
-abbrev pub piece_of : Part → Piece
+abbrev pub piece_of : AlsoPart → Piece
 piece_of part = record { place = part.place; text = part.text.now }
 
 -- texts that follow each other, with one byte between them

@@ -16,7 +16,7 @@ use std::alloc::{AllocError, Global};
 
 /// A piece of a text, and the offset at which it begins.
 #[derive(Clone, Copy, Debug)]
-pub(crate) struct Part<'a> {
+pub(crate) struct AlsoPart<'a> {
     pub place: u64,
     pub text: &'a str,
 }
@@ -31,21 +31,21 @@ fn texts_in<'a>(alloc: Global, text: &'a str, mark: char) -> Result<Vec<&'a str>
 }
 
 /// Returns texts that follow each other, with one byte between them, as parts.
-fn placed<'a>(alloc: Global, place: u64, texts: &[&'a str]) -> Result<Vec<Part<'a>>, AllocError>
+fn placed<'a>(alloc: Global, place: u64, texts: &[&'a str]) -> Result<Vec<AlsoPart<'a>>, AllocError>
     requires { place + span (map (λ t. t.now) texts.now) < 2 ^ 64 }
     ensures { IfOk result (λ parts. map piece_of parts.items ≡ placed place (map (λ t. t.now) texts.now)) }
 {
     let mut parts = Vec::new(alloc);
     let mut place = place;
     for text in texts {
-        parts.push(Part { place, text })?;
+        parts.push(AlsoPart { place, text })?;
         place += text.len() as u64 + 1;
     }
     Ok(parts)
 }
 
 /// Splits a piece at a character.
-fn cut<'a>(alloc: Global, whole: Part<'a>, mark: char) -> Result<Vec<Part<'a>>, AllocError>
+fn cut<'a>(alloc: Global, whole: AlsoPart<'a>, mark: char) -> Result<Vec<AlsoPart<'a>>, AllocError>
     requires ascii { mark < 128 }
     requires small { whole.place + length whole.text.now + 1 < 2 ^ 64 }
     ensures pieces { IfOk result (λ parts. map piece_of parts.items ≡ pieces mark (piece_of whole.entry)) }
@@ -57,13 +57,13 @@ fn cut<'a>(alloc: Global, whole: Part<'a>, mark: char) -> Result<Vec<Part<'a>>, 
 }
 
 /// Returns the part with this number, or an empty part at the end of the whole.
-fn part_at<'a>(whole: Part<'a>, parts: &[Part<'a>], number: usize) -> Part<'a>
+fn part_at<'a>(whole: AlsoPart<'a>, parts: &[AlsoPart<'a>], number: usize) -> AlsoPart<'a>
     requires { whole.place + length whole.text.now < 2 ^ 64 }
     ensures { piece_of result ≡ part_at (piece_of whole.entry) (map piece_of parts.now) number }
 {
     match parts.get(number) {
         Some(part) => *part,
-        None => Part {
+        None => AlsoPart {
             place: whole.place + whole.text.len() as u64,
             text: "",
         },
@@ -71,7 +71,7 @@ fn part_at<'a>(whole: Part<'a>, parts: &[Part<'a>], number: usize) -> Part<'a>
 }
 
 /// Returns the name of a field, if no attribute before it has the same name.
-fn name_in(alloc: Global, before: &[Field], part: Part<'_>) -> Result<Name, WordsError>
+fn name_in(alloc: Global, before: &[Field], part: AlsoPart<'_>) -> Result<Name, WordsError>
     ensures { Says (λ name. name) result
         (or_broken (piece_of part.entry) (new_name before.now part.entry.text.now)) }
 {
@@ -84,14 +84,14 @@ fn name_in(alloc: Global, before: &[Field], part: Part<'_>) -> Result<Name, Word
 }
 
 /// Returns the kind that a part names.
-fn kind_in(part: Part<'_>) -> Result<Kind, WordsError>
+fn kind_in(part: AlsoPart<'_>) -> Result<Kind, WordsError>
     ensures { Says (λ kind. kind) result (or_broken (piece_of part.entry) (kind_named part.entry.text.now)) }
 {
     kind_named(part.text).ok_or(WordsError::Also { place: part.place })
 }
 
 /// Returns the value type that a part names.
-fn value_in(part: Part<'_>) -> Result<ValueType, WordsError>
+fn value_in(part: AlsoPart<'_>) -> Result<ValueType, WordsError>
     ensures { Says (λ value. value) result (or_broken (piece_of part.entry) (value_named part.entry.text.now)) }
 {
     value_named(part.text).ok_or(WordsError::Also { place: part.place })
@@ -99,7 +99,7 @@ fn value_in(part: Part<'_>) -> Result<ValueType, WordsError>
 
 /// Returns the attribute of a field `name:kind:value`.
 #[tactic(auto, unfolding(crate::specs::Also::field_in))]
-fn field_in(alloc: Global, before: &[Field], whole: Part<'_>) -> Result<Field, WordsError>
+fn field_in(alloc: Global, before: &[Field], whole: AlsoPart<'_>) -> Result<Field, WordsError>
     requires { whole.place + length whole.text.now + 1 < 2 ^ 64 }
     ensures { Says (λ field. field) result (field_in before.now (piece_of whole.entry)) }
 {
@@ -115,7 +115,7 @@ fn field_in(alloc: Global, before: &[Field], whole: Part<'_>) -> Result<Field, W
 
 /// Returns the attribute of a field, if one more attribute is allowed.
 #[tactic(auto, unfolding(crate::specs::Also::next_field))]
-fn next_field(alloc: Global, before: &[Field], whole: Part<'_>) -> Result<Field, WordsError>
+fn next_field(alloc: Global, before: &[Field], whole: AlsoPart<'_>) -> Result<Field, WordsError>
     requires { whole.place + length whole.text.now + 1 < 2 ^ 64 }
     ensures { Says (λ field. field) result (next_field before.now (piece_of whole.entry)) }
 {
@@ -127,7 +127,7 @@ fn next_field(alloc: Global, before: &[Field], whole: Part<'_>) -> Result<Field,
 }
 
 /// Returns the attributes followed by those of further fields.
-fn fields_from(alloc: Global, first: Field, parts: &[Part<'_>]) -> Result<Fields, WordsError>
+fn fields_from(alloc: Global, first: Field, parts: &[AlsoPart<'_>]) -> Result<Fields, WordsError>
     requires { AllByRecursion (EndsBefore 18446744073709551614) (map piece_of parts.now) }
     ensures { Says (λ fields. fields) result (fields_from (first ∷ []) (map piece_of parts.now)) }
 {
@@ -151,7 +151,7 @@ pub(crate) fn fields_of(
     match also {
         None => Ok(Fields::of_one(alloc, first)?),
         Some(text) => {
-            let whole = Part {
+            let whole = AlsoPart {
                 place: 0,
                 text: text.as_str(),
             };

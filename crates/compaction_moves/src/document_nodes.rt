@@ -1,3 +1,5 @@
+//! Moves the nodes above one document out of the victim.
+
 ghost use Rattle.std.specs.Prelude.{◌≡◌, ◌∷◌, [], true, IfOk, IfErr, OnErr};
 ghost use Rattle.store_api.specs.Calls.{IsUsedWidth, Refuses};
 ghost use Rattle.store_api.specs.Parts.{Owns};

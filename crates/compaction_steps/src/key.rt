@@ -1,3 +1,5 @@
+//! Visits one key of the plan, in a unit of its own.
+
 ghost use Rattle.std.specs.Prelude.{◌≡◌, ◌<◌, set, slice_get, Some, IfOk, IfErr, OnErr};
 ghost use Rattle.attr_compaction.specs.declared.plan.TheConstants.{PHASES};
 ghost use Rattle.attr_operations.specs.Calls.{KeepsStore, LeavesEntries, RefusesUnit};

@@ -1,3 +1,5 @@
+//! Passes keys under which nothing lies in the victim.
+
 ghost use Rattle.std.specs.Prelude.{◌≡◌, ◌<◌, ◌≤◌, length};
 ghost use Rattle.attr_compaction.specs.declared.plan.TheConstants.{PHASES};
 ghost use Rattle.attr_operations.specs.Fields.{HoldsAttributes, trees_of};

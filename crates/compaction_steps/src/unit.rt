@@ -1,3 +1,5 @@
+//! One turn of a compaction: a key visited, or the phase ended.
+
 ghost use Rattle.std.specs.Prelude.{◌≡◌, ◌<◌, length, IfOk, IfErr, OnErr};
 ghost use Rattle.attr_compaction.specs.declared.plan.TheConstants.{PHASES};
 ghost use Rattle.attr_operations.specs.Calls.{KeepsStore, LeavesEntries, RefusesUnit};

@@ -1,3 +1,5 @@
+//! Visits a number of keys, one turn after another.
+
 ghost use Rattle.compaction_steps.specs.Counts.{MakesKeys};
 ghost use Rattle.attr_operations.specs.Views.{table_at};
 ghost use Rattle.std.specs.Prelude.{◌≡◌, ◌<◌, ◌+◌, length, nat_eq, if◌then◌else◌, Ok, Err, Some};

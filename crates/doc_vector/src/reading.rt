@@ -1,3 +1,5 @@
+//! Reads the reference of a document's items, and walks the documents.
+
 ghost use Rattle.std.specs.Prelude.{◌≡◌};
 ghost use Rattle.tree_read.specs.Trees.{tree_pairs};
 ghost use Rattle.tree_read.specs.Pairs.{lookup, seek};

@@ -3,6 +3,7 @@ pub mod Victims
 pub mod Replaced
 pub mod Seals
 pub mod Retires
+pub mod Unseals
 pub mod States
 pub mod Counts
 pub mod Spares
@@ -41,4 +42,5 @@ pub mod Steps
 pub mod Making
 pub mod Gains
 pub mod Opening
+pub mod Unsealing
 pub mod Creating

@@ -67,7 +67,7 @@ empty-none : (o : ℕ) → state_in empty_shelf o ≡ None
 empty-none zero = refl
 empty-none (suc y) = at-suc empty_shelf y
 
-present : (xs : List State) (i : ℕ) → i < length xs → slice_get xs i ≡ Some (state_at xs i)
+pub present : (xs : List State) (i : ℕ) → i < length xs → slice_get xs i ≡ Some (state_at xs i)
 present [] i below = absurd (omega (arith, below))
 present (y ∷ ys) zero below = refl
 present (y ∷ ys) (suc i) below = present ys i (omega (arith, below))

@@ -9,7 +9,7 @@ use Rattle.entry_ref.specs.References.{packed}
 use Rattle.store_api.specs.Ledgers.{capacity}
 use Rattle.store_api.specs.Usages.{over_buffers}
 use Rattle.buffer_states.specs.declared.Buffer.{Buffer}
-use Rattle.buffer_states.specs.declared.Words.{Words}
+use Rattle.buffer_states.specs.declared.WordCounts.{WordCounts}
 use Rattle.buffer_states.specs.Buffers.{buffer_at, new_buffer, is_state_active, is_candidate, words_of}
 use Rattle.buffer_states.specs.Buffers.{IsVictim as IsVictimBuffer}
 use Rattle.entry_ledger.specs.declared.state.State.{State}
@@ -102,12 +102,12 @@ module _ (bits : ℕ) (v : LedgerView) (held : List HeldEntry) (room unheld : �
       sym (sum_list count new_buffer v.buffers) ∙ sum_same (λ b. count (buffer_at v.buffers b)) words (length v.buffers) (λ b below. sym (each b below))
       ∙ over-below words (length v.buffers) ∙ ap (over_buffers words) k.count
 
-  pub words-are : (words : Words) → words ≡ words_of v.buffers → HasWords bits (entries_of bits v) words
+  pub words-are : (words : WordCounts) → words ≡ words_of v.buffers → HasWords bits (entries_of bits v) words
   unfolding entries_of
   words-are words is = record {
-    used = ap (λ (w : Words). w.used) is ∙ summed (λ (b : Buffer). b.used) (used_words bits e) used-is;
-    dead = ap (λ (w : Words). w.dead) is ∙ summed (λ (b : Buffer). b.dead) (dead_words bits e) dead-is;
-    held = ap (λ (w : Words). w.held) is ∙ summed (λ (b : Buffer). b.held) (held_words bits e) held-is;
+    used = ap (λ (w : WordCounts). w.used) is ∙ summed (λ (b : Buffer). b.used) (used_words bits e) used-is;
+    dead = ap (λ (w : WordCounts). w.dead) is ∙ summed (λ (b : Buffer). b.dead) (dead_words bits e) dead-is;
+    held = ap (λ (w : WordCounts). w.held) is ∙ summed (λ (b : Buffer). b.held) (held_words bits e) held-is;
   }
 
   candidate-back : (b : ℕ) → IsCandidate bits e b → (b < length v.buffers) × (is_candidate (buffer_at v.buffers b) ≡ true)

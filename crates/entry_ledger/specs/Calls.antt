@@ -4,10 +4,10 @@ use Rattle.std.specs.Option.{option_map}
 use Rattle.entry_ref.specs.References.{buffer_of}
 use Rattle.entry_ref.specs.Places.{IsEntry}
 use Rattle.store_api.specs.Ledgers.{capacity, no_counts, with_counts}
-use Rattle.store_api.specs.Calls.{GivesBackOf, DropsOf, EndsOf, SealsOf, took_spare}
+use Rattle.store_api.specs.Calls.{GivesBackOf, DropsOf, EndsOf, SealsOf, UnsealsOf, took_spare}
 use Rattle.store_api.specs.Usages.{over_buffers}
 use Rattle.buffer_states.specs.declared.BufferState.TheVariants.{Free, Active, OnHold}
-use Rattle.buffer_states.specs.declared.Words.{Words}
+use Rattle.buffer_states.specs.declared.WordCounts.{WordCounts}
 use Rattle.buffer_states.specs.Buffers.{is_state_free, is_state_active, is_on_hold}
 use Rattle.entry_ledger.specs.declared.state.State.{State}
 use Rattle.entry_ledger.specs.declared.state.State.TheVariants.{Free as FreeState, Made, Dropped}
@@ -126,6 +126,12 @@ pub record Seals (old new : EntriesView) (b : ℕ) : Type 0 where
   pub counts : (w : ℕ) → SealsOf (old.of_width w) (new.of_width w)
   pub same : new ≡ record old { mark = new.mark; of_width = new.of_width }
 
+-- a buffer is no longer sealed
+pub record Unseals (old new : EntriesView) (b : ℕ) : Type 0 where
+  pub mark : new.mark ≡ with_mark old.mark b (record (old.mark b) { sealed = false })
+  pub counts : (w : ℕ) → UnsealsOf (old.of_width w) (new.of_width w)
+  pub same : new ≡ record old { mark = new.mark; of_width = new.of_width }
+
 -- a sealed buffer goes on hold, and has no entries any more
 abbrev pub retired_at : ℕ → EntriesView → ℕ → EntriesView
 retired_at bits e b = record e {
@@ -149,7 +155,7 @@ pub record IsVictim (bits : ℕ) (e : EntriesView) (b : ℕ) : Type 0 where
       → (dead_words bits e a < dead_words bits e b) ⊎ ((dead_words bits e a ≡ dead_words bits e b) × (b ≤ a))
 
 -- the words of all buffers together
-pub record HasWords (bits : ℕ) (e : EntriesView) (words : Words) : Type 0 where
+pub record HasWords (bits : ℕ) (e : EntriesView) (words : WordCounts) : Type 0 where
   pub used : words.used ≡ over_buffers (used_words bits e) e.count
   pub dead : words.dead ≡ over_buffers (dead_words bits e) e.count
   pub held : words.held ≡ over_buffers (held_words bits e) e.count

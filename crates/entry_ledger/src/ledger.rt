@@ -1,3 +1,5 @@
+//! The states of all entries of a store, with what a unit changed.
+
 ghost use Rattle.std.specs.Prelude.{◌≡◌, ◌≢◌, ◌↔◌, ◌<◌, ◌≤◌, ◌+◌, ◌-◌, ◌*◌, ◌/◌, ◌^◌, if◌then◌else◌, ℕ, true, false};
 ghost use Rattle.std.specs.Prelude.{length, slice_set, Some, None, IsNone, IfSome, IfNone, IfOk, OnOk, OnErr};
 ghost use Rattle.entry_ref.specs.References.{buffer_limit, offset_limit, buffer_of};
@@ -9,7 +11,7 @@ ghost use Rattle.entry_ledger.specs.Ledgers.{entries_of, taken_buffer, dropped_b
 ghost use Rattle.entry_ledger.specs.Ledgers.{is_dropped_now, is_dead_after, touched_total, held_after, CanRelease, Releases};
 
 use crate::{Shelves, State};
-use buffer_states::{Buffers, Words};
+use buffer_states::{Buffers, WordCounts};
 use entry_ref::EntryRef;
 use hold_lists::HoldList;
 use std::alloc::{AllocError, Global};
@@ -58,7 +60,7 @@ impl<const OFFSET_BITS: u32> Model for EntryLedger<OFFSET_BITS> {
 impl<const OFFSET_BITS: u32> EntryLedger<OFFSET_BITS> {
     ghost use Rattle.entry_ledger.specs.Entries.{IsGood, width_of, is_used_entry, is_settled_entry, is_dropped_since, count_marks};
     ghost use Rattle.entry_ledger.specs.Calls.{new_entries, CanTake, made_at, opened_at, Drops, StepsEnd, IsEnded, Accepts, Undoes};
-    ghost use Rattle.entry_ledger.specs.Calls.{Frees, Seals, retired_at};
+    ghost use Rattle.entry_ledger.specs.Calls.{Frees, Seals, Unseals, retired_at};
     ghost use Rattle.entry_ledger.specs.Calls.{IsCandidate, IsVictim, IsLowestFree, HasWords};
 
     /// Creates a ledger of `buffers` free buffers with `words` words each.
@@ -151,7 +153,7 @@ impl<const OFFSET_BITS: u32> EntryLedger<OFFSET_BITS> {
 
     /// Returns the used, dead and held words of all buffers.
     #[tactic(none)]
-    pub fn words(&self) -> Words
+    pub fn words(&self) -> WordCounts
         ensures { HasWords OFFSET_BITS (entries_of OFFSET_BITS self.now) result }
     {
         self.buffers.words()
@@ -308,6 +310,20 @@ impl<const OFFSET_BITS: u32> EntryLedger<OFFSET_BITS> {
     {
         self.shelves.seal(buffer);
         self.buffers.seal(buffer);
+    }
+
+    /// Takes the seal of a buffer away that is not finished, while no unit is open. What is free in it can be made
+    /// again.
+    #[tactic(none)]
+    pub fn unseal(&mut self, buffer: u32)
+        requires sealed { ((entries_of OFFSET_BITS self.old).mark buffer).sealed ≡ true }
+        requires unfinished { (entries_of OFFSET_BITS self.old).finished ≢ Some buffer }
+        requires settled { (r : ℕ) → is_settled_entry ((entries_of OFFSET_BITS self.old).state r) ≡ true }
+        ensures unseals { Unseals (entries_of OFFSET_BITS self.old) (entries_of OFFSET_BITS self.new) buffer }
+        ensures good { IsGood OFFSET_BITS (entries_of OFFSET_BITS self.new) }
+    {
+        self.shelves.unseal(buffer);
+        self.buffers.unseal(buffer);
     }
 
     /// Marks a sealed buffer, so that the next commit puts it on hold.

@@ -1,3 +1,5 @@
+//! The entries of one buffer.
+
 ghost use Rattle.std.specs.Prelude.{◌≡◌, ◌↔◌, ◌<◌, ◌≤◌, ◌+◌, ◌^◌, ℕ, [], true, false, nat_lt, length, slice_set, vec_len, vec_capacity};
 ghost use Rattle.std.specs.Prelude.{◌-◌, count_by};
 ghost use Rattle.std.specs.List.{SwappedAt};
@@ -99,6 +101,12 @@ impl Shelf {
         ensures { self.new ≡ record self.old { sealed = true } }
     {
         self.sealed = true;
+    }
+
+    pub fn unseal(&mut self)
+        ensures { self.new ≡ record self.old { sealed = false } }
+    {
+        self.sealed = false;
     }
 
     /// Returns the number of words of each entry, or 0 if the shelf has no space for entries.

@@ -1,3 +1,5 @@
+//! A shelf for each buffer, and the buffers of each width that have space.
+
 ghost use Rattle.std.specs.Prelude.{◌≡◌, ◌≢◌, ◌↔◌, ◌<◌, ◌≤◌, ◌+◌, ◌-◌, ◌/◌, ◌^◌, ◌++◌, ◌∷◌, if◌then◌else◌, ℕ, [], true, false, length};
 ghost use Rattle.std.specs.Prelude.{replicate, slice_set, count_by, Some, None, IsNone, IfSome, IfNone, IfOk, OnOk, OnErr};
 ghost use Rattle.store_api.specs.Ledgers.{is_width, capacity};
@@ -344,6 +346,20 @@ impl Shelves {
         if let Some(place) = stack.position(buffer) {
             stack.remove(place);
         }
+    }
+
+    /// Takes the seal of a shelf away. What is free in it can be made again.
+    pub fn unseal(&mut self, buffer: u32)
+        requires inside { buffer < length self.old.shelves }
+        requires opened { 0 < (shelf_at self.old.shelves buffer).width }
+        requires sealed { (shelf_at self.old.shelves buffer).sealed ≡ true }
+        ensures { self.new ≡ with_shelf self.old buffer (record (shelf_at self.old.shelves buffer) { sealed = false }) }
+    {
+        let shelf = &mut self.shelves[buffer as usize];
+        shelf.unseal();
+        let enters = shelf.can_make();
+        let row = place_of(shelf.width());
+        self.stacks[row].enter(buffer, enters);
     }
 
     /// Removes all entries of a sealed shelf in which the unit changed nothing.

@@ -1,3 +1,5 @@
+//! A stack of numbers with reserved space.
+
 ghost use Rattle.std.specs.Prelude.{◌≡◌, ◌≢◌, ◌<◌, ◌-◌, ◌^◌, ◌++◌, ◌∷◌, [], ℕ, true, length, take, remove, slice_index, IfOk, IfNone};
 ghost use Rattle.std.specs.Prelude.{IfSome, Some, if◌then◌else◌};
 

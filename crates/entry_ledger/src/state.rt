@@ -1,3 +1,5 @@
+//! The state of a taken entry.
+
 ghost use Rattle.std.specs.Prelude.{◌≡◌, true};
 
 /// The state of a taken entry.

@@ -1,3 +1,5 @@
+//! The index of a width among the widths.
+
 ghost use Rattle.std.specs.Prelude.{◌≡◌, ◌<◌, true};
 ghost use Rattle.store_api.specs.Ledgers.{is_width};
 ghost use Rattle.entry_ledger.specs.Shelves.{row_of};

@@ -1,3 +1,5 @@
+//! Records read through a map from references to words.
+
 ghost use Rattle.std.specs.Prelude.{◌≡◌, slice_index};
 ghost use Rattle.entry_ref.specs.Maps.{seen};
 

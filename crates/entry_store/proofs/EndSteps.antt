@@ -47,11 +47,17 @@ module _ {H : Type 0} (bits : ℕ) (work : WorkView H) (m : Records) (e : Entrie
     since = λ r. gone-since (eqb (buffer_of bits r) b) r;
     settled = λ ended r. gone-settled (eqb (buffer_of bits r) b) r;
     no_fresh = st.no_fresh;
+    left_out = λ r is. gone-left (eqb (buffer_of bits r) b) r (sym (by_test (eqb (buffer_of bits r) b) r) ∙ is);
   }
     where
       by_test : (t : Bool) (r : ℕ) → status_of (is_in (last_image work.commits) r) e.last (cond t None (e.state r)) ≡ cond t Status.unmade (statuses work.commits e r)
       by_test true r = refl
       by_test false r = refl
+
+      gone-left : (t : Bool) (r : ℕ) → cond t Status.unmade (statuses work.commits e r) ≡ Status.left
+          → (cond t (record { state = OnHold; width = (e.mark b).width; generation = e.generation; sealed = false }) (e.mark (buffer_of bits r))).sealed ≡ true
+      gone-left true r is = absurd (cc)
+      gone-left false r is = st.left_out r is
 
       gone-since : (t : Bool) (r : ℕ) → is_in_generation e.last e.generation (cond t None (e.state r)) ≡ true
       gone-since true r = refl
@@ -179,4 +185,5 @@ module _ {H : Type 0} (bits : ℕ) (work next : WorkView H) (m : Records) (e new
     since = λ r. subst (λ x. is_in_generation x.last x.generation (x.state r) ≡ true) (sym follows) (old r);
     settled = λ ended r. subst (λ x. is_settled_entry (x.state r) ≡ true) (sym follows) (st.settled refl r);
     no_fresh = λ ended w. ap (λ x. (x.of_width w).fresh) follows ∙ st.no_fresh refl w;
+    left_out = λ r is. ap (λ x. (x.mark (buffer_of bits r)).sealed) follows ∙ st.left_out r (sym (status-advanced r) ∙ is);
   }

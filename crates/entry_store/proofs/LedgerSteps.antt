@@ -18,10 +18,10 @@ use Rattle.store_api.specs.Statuses.{Status, in_use, is_open, has_record, is_fre
 use Rattle.store_api.specs.Ledgers.{Ledger, is_in, capacity, with_counts}
 use Rattle.store_api.specs.Units.{KeepsCommits, IsSameBack}
 use Rattle.store_api.specs.Calls.{GivesBack, DropsEntry}
-use Rattle.store_api.specs.Calls.{Accepts as AcceptsUnit, Undoes as UndoesUnit, Seals as SealsBuffer}
+use Rattle.store_api.specs.Calls.{Accepts as AcceptsUnit, Undoes as UndoesUnit, Seals as SealsBuffer, Unseals as UnsealsBuffer}
 use Rattle.store_api.proofs.Uses.{open_no_record}
 use Rattle.entry_ledger.specs.Entries.{EntriesView, is_free_entry, is_open_entry}
-use Rattle.entry_ledger.specs.Calls.{CanTake, Drops, Accepts, Undoes, Frees, Seals, made_at, opened_at, free_mark, with_mark}
+use Rattle.entry_ledger.specs.Calls.{CanTake, Drops, Accepts, Undoes, Frees, Seals, Unseals, made_at, opened_at, free_mark, with_mark}
 use Rattle.entry_store.specs.Standing.{Stands, IsOver, status_by, status_of, statuses, backs, back_of, records_by_status, ledger_of}
 use Rattle.entry_store.specs.Steps.{TakesOne, OpensBuffer, TellsOldest}
 use Rattle.entry_store.specs.ProofsForMarks.{mark-width}
@@ -339,6 +339,32 @@ module _ {H : Type 0} (bits : ℕ) (work : WorkView H) (shape : ℕ) (m : Record
 
   pub seals-records : (new : EntriesView) (b : ℕ) → Seals e new b → records_by_status (statuses work.commits new) m ≡ records
   seals-records new b seals = ap (λ x. records_by_status (statuses work.commits x) m) seals.same
+
+  -- a seal is taken away
+  pub unseals-buffer : (new : EntriesView) (b : ℕ) → Unseals e new b → UnsealsBuffer before (ledger_of bits work shape m new unit) b
+  unseals-buffer new b unseals = record {
+    sealed = λ a. ap (λ f. (f a).sealed) unseals.mark ∙ by_test (eqb a b) a;
+    counts = unseals.counts;
+    same = λ k. record (ledger_of bits work shape m new unit) {
+      status = λ q. (status-now q) k;
+      back = λ q. (back-now q) k;
+      back_records = λ q. cond (has_record (back-now q k)) (m q) [];
+      finished = (unseals.same k).finished;
+    };
+  }
+    where
+      by_test : (t : Bool) (a : ℕ) → (cond t (record (e.mark b) { sealed = false }) (e.mark a)).sealed ≡ cond t false (e.mark a).sealed
+      by_test true a = refl
+      by_test false a = refl
+
+      status-now : (q : ℕ) → statuses work.commits new q ≡ statuses work.commits e q
+      status-now q = ap (λ x. statuses work.commits x q) unseals.same
+
+      back-now : (q : ℕ) → backs work.commits new q ≡ backs work.commits e q
+      back-now q = ap (λ x. backs work.commits x q) unseals.same
+
+  pub unseals-records : (new : EntriesView) (b : ℕ) → Unseals e new b → records_by_status (statuses work.commits new) m ≡ records
+  unseals-records new b unseals = ap (λ x. records_by_status (statuses work.commits x) m) unseals.same
 
 -- a reclaim
 module _ {H : Type 0} (bits : ℕ) (work : WorkView H) (shape : ℕ) (m : Records) (e : EntriesView) (unit : Bool) (st : IsOver bits work m e unit) (next : WorkView H) (new : EntriesView) (answer : Oldest)

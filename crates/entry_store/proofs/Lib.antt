@@ -1,5 +1,6 @@
 pub mod Queues
 pub mod Soundness
+pub mod LeftOut
 pub mod Stands
 pub mod LedgerSteps
 pub mod Compose

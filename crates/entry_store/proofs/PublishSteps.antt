@@ -1,7 +1,7 @@
 -- A commit is published, and counted.
-use Rattle.std.proofs.Common.{◌≡◌, ℕ, ◌+◌, ◌<◌, ◌≤◌, Bool, true, false, cond, eqb, leb, List, [], ◌∷◌, length, Option, Some, None, refl, sym, ap, subst, ◌∙◌, arith, not}
+use Rattle.std.proofs.Common.{◌≡◌, ℕ, ◌+◌, ◌<◌, ◌≤◌, Bool, true, false, cond, eqb, leb, List, [], ◌∷◌, length, Option, Some, None, refl, sym, ap, subst, ◌∙◌, arith, not, inl, inr}
 use Rattle.std.specs.Prelude.{◌&&◌, ◌||◌}
-use Rattle.std.proofs.lemmas.Bool.{true≢false, false≢true, cond-true, eqb-true, ne_eqb, leb-true, lt-ltb, and_parts}
+use Rattle.std.proofs.lemmas.Bool.{true≢false, false≢true, cond-true, eqb-true, ne_eqb, leb-true, lt-ltb, and_parts, cases_Bool}
 use Rattle.entry_ledger.specs.declared.state.State.{State}
 use Rattle.entry_ledger.specs.declared.state.State.TheVariants.{Free, Returned, Made, InUse, LetGo, DroppedNow, Dropped}
 use Rattle.entry_ref.specs.References.{buffer_of}
@@ -16,11 +16,12 @@ use Rattle.arena_api.proofs.Reached.{image-same}
 use Rattle.store_api.specs.Statuses.{Status, in_use, has_record, is_let_go, after_commit}
 use Rattle.store_api.specs.Ledgers.{is_in, is_this, is_held}
 use Rattle.store_api.specs.Calls.{IsWhole}
-use Rattle.store_api.proofs.CommitLemmas.{in-among}
+use Rattle.store_api.proofs.CommitLemmas.{in-among, among-in}
 use Rattle.entry_ledger.specs.Entries.{EntriesView, IsGood, is_timely, is_settled_entry, is_dropped_since}
 use Rattle.entry_store.specs.Standing.{Stands, status_by, status_of, statuses, records_by_status, ledger_of, is_in_generation, is_mark_of, AreSoundStatuses, tag_at}
 use Rattle.entry_store.specs.Steps.{Publishes}
 use Rattle.entry_store.specs.ProofsForStore.{some_filtered}
+use Rattle.entry_store.proofs.LeftOut.{commit-left}
 use Rattle.entry_store.proofs.Soundness.{sound-published}
 
 -- what the commit makes of a status, by states that the commit leaves
@@ -129,6 +130,13 @@ module _ (bits : ℕ) (reaches : ℕ → Records → ℕ → List ℕ) (lawful :
   module _ (whole : IsWhole bits (ledger_of bits work shape m e unit) (reaches shape records root)) where
     used-in : (r : ℕ) → is_in image r ≡ true → in_use (statuses work.commits e r) ≡ true
     used-in r h = whole.used r (in-among (reaches shape records root) records root r h)
+
+    -- what is in use and not reached lies in a sealed buffer
+    out-sealed : (r : ℕ) → in_use (statuses work.commits e r) ≡ true → is_in image r ≡ false → (e.mark (buffer_of bits r)).sealed ≡ true
+    out-sealed r used out = elim (cases_Bool (e.mark (buffer_of bits r)).sealed) [
+      | inl t ↦ t
+      | inr t ↦ absurd (true≢false (sym (among-in (reaches shape records root) records root r (present shape records root law) (whole.all r used t)) ∙ out))
+    ]
 
     pub words-apart : (r : ℕ) → is_this e.finished (buffer_of bits r) ≡ true → words_at image r ≡ []
     words-apart r is = none-in (words_at image r) (λ some. true≢false (sym is ∙ whole.apart r (in-among (reaches shape records root) records root r (lt-ltb 0 _ some))))
@@ -245,6 +253,8 @@ module _ (bits : ℕ) (reaches : ℕ → Records → ℕ → List ℕ) (lawful :
             since = λ r. since-before after.last after.generation (after.state r) (tagged r);
             settled = λ ended r. subst (λ x. is_settled_entry (x.state r) ≡ true) (sym counts) (st.settled ended r);
             no_fresh = λ ended w. ap (λ x. (x.of_width w).fresh) counts ∙ st.no_fresh ended w;
+            left_out = λ r is. ap (λ x. (x.mark (buffer_of bits r)).sealed) counts
+                ∙ commit-left tag (is_in image r) (statuses work.commits e r) (sym (status-now r) ∙ is) (st.left_out r) (out-sealed r);
             timely = let now = ap current knows in let last = adds.last in let early = st.timely in omega arith;
             unread = λ b inside alone limit.
                 subst (λ w. is_held (w.buffer b) ≡ false) (sym knows) (st.unread b (subst (λ k. b < k) (ap (λ w. w.sizes.buffers) knows) inside) (sym (ap (λ w. w.made) knows) ∙ alone)

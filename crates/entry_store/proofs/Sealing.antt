@@ -1,14 +1,14 @@
 -- A buffer is sealed, finished, chosen; and how much of the buffers is in use.
 use Rattle.std.proofs.Common.{◌≡◌, ◌≢◌, ℕ, zero, suc, ◌+◌, ◌*◌, ◌<◌, Bool, true, false, cond, eqb, Option, Some, None, refl, sym, ap, subst, ◌∙◌, arith, inl, inr, ⊎_elim}
 use Rattle.std.specs.Prelude.{IfSome, IfNone}
-use Rattle.std.proofs.lemmas.Bool.{true≢false, eq-eqb, eqb-true}
+use Rattle.std.proofs.lemmas.Bool.{true≢false, eq-eqb, ne_eqb, eqb-true}
 use Rattle.entry_ledger.proofs.Marks.{this-false}
 use Rattle.list_lemmas.specs.Counting.{one_if}
 use Rattle.entry_ledger.specs.declared.state.State.{State}
 use Rattle.entry_ledger.specs.declared.state.State.TheVariants.{Free, Returned, Made, InUse, LetGo, DroppedNow, Dropped}
 use Rattle.buffer_states.specs.Buffers.{is_state_active, is_on_hold}
-use Rattle.buffer_states.specs.declared.Words.{Words}
-use Rattle.entry_ref.specs.References.{packed}
+use Rattle.buffer_states.specs.declared.WordCounts.{WordCounts}
+use Rattle.entry_ref.specs.References.{buffer_of, packed}
 use Rattle.entry_ref.specs.Records.{Records}
 use Rattle.arena_api.specs.Works.{WorkView, Buffer, Tag, active_width, last_image}
 use Rattle.store_api.specs.Statuses.{Status, is_taken, is_dead, is_held_status}
@@ -18,7 +18,7 @@ use Rattle.store_api.specs.Usages.{IsUsage, over_buffers, held_words}
 use Rattle.store_api.specs.Victims.{IsCandidate, IsVictim, HasNoVictim, count_entries, used_words, dead_words}
 use Rattle.entry_ledger.specs.Entries.{EntriesView, IsGood, width_of, is_settled_entry, is_taken_entry, is_dead_entry, is_held_entry, count_marks}
 use Rattle.entry_ledger.specs.Entries.{count_entries as count_states, used_words as used_states, dead_words as dead_states, held_words as held_states}
-use Rattle.entry_ledger.specs.Calls.{Seals, HasWords}
+use Rattle.entry_ledger.specs.Calls.{Seals, Unseals, HasWords}
 use Rattle.entry_ledger.specs.Calls.{IsCandidate as IsCandidateEntry, IsVictim as IsVictimEntry}
 use Rattle.entry_store.specs.Standing.{Stands, statuses, status_of, ledger_of, is_mark_of, is_in_generation, tag_at}
 use Rattle.entry_store.specs.ProofsForMarks.{mark-width, mark-active, count-active, count-held}
@@ -138,10 +138,16 @@ module _ {H : Type 0} (bits : ℕ) (work : WorkView H) (shape : ℕ) (m : Record
     since = λ r. subst (λ x. is_in_generation x.last x.generation (x.state r) ≡ true) (sym seals.same) (st.since r);
     settled = λ ended r. ap (λ x. is_settled_entry (x.state r)) seals.same ∙ st.settled ended r;
     no_fresh = λ ended w. let few = (seals.counts w).fresh in let none = st.no_fresh ended w in omega arith;
+    left_out = λ r is. subst (λ f. (f (buffer_of bits r)).sealed ≡ true) (sym seals.mark)
+        (sealed-still (eqb (buffer_of bits r) b) (buffer_of bits r) (st.left_out r (sym (ap (λ x. statuses work.commits x r) seals.same) ∙ is)));
     timely = st.timely;
     unread = st.unread;
   }
     where
+      sealed-still : (t : Bool) (a : ℕ) → (e.mark a).sealed ≡ true → (cond t (record (e.mark b) { sealed = true }) (e.mark a)).sealed ≡ true
+      sealed-still true a is = refl
+      sealed-still false a is = is
+
       sealed-mark : (a : ℕ) (c : Buffer) → is_mark_of (e.mark a) c ≡ true → is_mark_of (record (e.mark a) { sealed = true }) c ≡ true
       sealed-mark a (Buffer.free t) is = is
       sealed-mark a (Buffer.active w t) is = is
@@ -149,6 +155,40 @@ module _ {H : Type 0} (bits : ℕ) (work : WorkView H) (shape : ℕ) (m : Record
 
       marked : (t : Bool) (a : ℕ) → (t ≡ true → a ≡ b) → is_mark_of (e.mark a) (work.buffer a) ≡ true → is_mark_of (cond t (record (e.mark b) { sealed = true }) (e.mark a)) (work.buffer a) ≡ true
       marked true a same is = subst (λ x. is_mark_of (record (e.mark x) { sealed = true }) (work.buffer a) ≡ true) (same refl) (sealed-mark a (work.buffer a) is)
+      marked false a same is = is
+
+  pub stands-unsealed : (new : EntriesView) (b : ℕ) → Unseals e new b → IsGood bits new → ((r : ℕ) → statuses work.commits e r ≡ Status.left → buffer_of bits r ≢ b)
+      → Stands bits work m new unit
+  stands-unsealed new b unseals good none_left = record {
+    good = good;
+    count = ap (λ x. x.count) unseals.same ∙ st.count;
+    words = ap (λ x. x.words) unseals.same ∙ st.words;
+    last = ap (λ x. x.last) unseals.same ∙ st.last;
+    generation = ap (λ x. x.generation) unseals.same ∙ st.generation;
+    oldest = ap (λ x. x.oldest) unseals.same ∙ st.oldest;
+    marks = λ a inside. subst (λ f. is_mark_of (f a) (work.buffer a) ≡ true) (sym unseals.mark) (marked (eqb a b) a (λ t. eqb-true a b t) (st.marks a inside));
+    sound = sound-same bits work m (statuses work.commits e) (statuses work.commits new) st.sound status-now;
+    since = λ r. subst (λ x. is_in_generation x.last x.generation (x.state r) ≡ true) (sym unseals.same) (st.since r);
+    settled = λ ended r. ap (λ x. is_settled_entry (x.state r)) unseals.same ∙ st.settled ended r;
+    no_fresh = λ ended w. (unseals.counts w).fresh ∙ st.no_fresh ended w;
+    left_out = λ r is.
+        let was = sym (status-now r) ∙ is in
+        subst (λ f. (f (buffer_of bits r)).sealed ≡ true) (sym unseals.mark)
+        (ap (λ t. (cond t (record (e.mark b) { sealed = false }) (e.mark (buffer_of bits r))).sealed) (ne_eqb (buffer_of bits r) b (none_left r was)) ∙ st.left_out r was);
+    timely = st.timely;
+    unread = st.unread;
+  }
+    where
+      status-now : (r : ℕ) → statuses work.commits new r ≡ statuses work.commits e r
+      status-now r = ap (λ x. statuses work.commits x r) unseals.same
+
+      unsealed-mark : (a : ℕ) (c : Buffer) → is_mark_of (e.mark a) c ≡ true → is_mark_of (record (e.mark a) { sealed = false }) c ≡ true
+      unsealed-mark a (Buffer.free t) is = is
+      unsealed-mark a (Buffer.active w t) is = is
+      unsealed-mark a (Buffer.held w t) is = is
+
+      marked : (t : Bool) (a : ℕ) → (t ≡ true → a ≡ b) → is_mark_of (e.mark a) (work.buffer a) ≡ true → is_mark_of (cond t (record (e.mark b) { sealed = false }) (e.mark a)) (work.buffer a) ≡ true
+      marked true a same is = subst (λ x. is_mark_of (record (e.mark x) { sealed = false }) (work.buffer a) ≡ true) (same refl) (unsealed-mark a (work.buffer a) is)
       marked false a same is = is
 
   pub stands-finished : (new : EntriesView) (b : ℕ) → new ≡ record e { finished = Some b } → IsGood bits new → Stands bits work m new unit
@@ -164,6 +204,7 @@ module _ {H : Type 0} (bits : ℕ) (work : WorkView H) (shape : ℕ) (m : Record
     since = λ r. ap (λ x. is_in_generation x.last x.generation (x.state r)) is ∙ st.since r;
     settled = λ ended r. ap (λ x. is_settled_entry (x.state r)) is ∙ st.settled ended r;
     no_fresh = λ ended w. ap (λ x. (x.of_width w).fresh) is ∙ st.no_fresh ended w;
+    left_out = λ r left. ap (λ x. (x.mark (buffer_of bits r)).sealed) is ∙ st.left_out r (sym (ap (λ x. statuses work.commits x r) is) ∙ left);
     timely = st.timely;
     unread = st.unread;
   }
@@ -193,7 +234,7 @@ module _ {H : Type 0} (bits : ℕ) (work : WorkView H) (shape : ℕ) (m : Record
   over-words : (states words : ℕ → ℕ) → ((b : ℕ) → b < work.sizes.buffers → words b ≡ states b) → over_buffers states e.count ≡ over_buffers words work.sizes.buffers
   over-words states words same = ap (over_buffers states) st.count ∙ over-same states words work.sizes.buffers (λ b below. sym (same b below))
 
-  pub usage-is : (active on_hold : ℕ) (words : Words) → active ≡ count_marks is_state_active e.mark e.count → on_hold ≡ count_marks is_on_hold e.mark e.count → HasWords bits e words
+  pub usage-is : (active on_hold : ℕ) (words : WordCounts) → active ≡ count_marks is_state_active e.mark e.count → on_hold ≡ count_marks is_on_hold e.mark e.count → HasWords bits e words
       → IsUsage bits ledger (record { active = active; on_hold = on_hold; used = words.used; dead = words.dead; held = words.held })
   usage-is active on_hold words few waits has = record {
     active = few ∙ ap (count_marks is_state_active e.mark) st.count ∙ count-active e.mark work.buffer work.sizes.buffers st.marks;

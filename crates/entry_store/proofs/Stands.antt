@@ -1,9 +1,12 @@
 -- A store stands after each of its calls.
-use Rattle.std.proofs.Common.{◌≡◌, ℕ, ◌<◌, ◌≤◌, Bool, true, false, cond, eqb, List, length, Option, Some, None, refl, sym, ap, subst, ◌∙◌, arith, inl, inr, option_map}
-use Rattle.std.proofs.lemmas.Bool.{true≢false, false≢true, cases_eq, eq-eqb, ne_eqb}
+use Rattle.std.proofs.Common.{◌≡◌, ℕ, ◌<◌, ◌≤◌, Bool, true, false, cond, eqb, ltb, List, length, Option, Some, None, refl, sym, ap, subst, ◌∙◌, arith, inl, inr, option_map}
+use Rattle.std.proofs.lemmas.Bool.{true≢false, false≢true, cases_eq, eq-eqb, ne_eqb, lt-ltb}
 use Rattle.entry_ledger.specs.declared.state.State.{State}
 use Rattle.entry_ledger.specs.declared.state.State.TheVariants.{Made}
 use Rattle.entry_ledger.specs.States.{dropped, undone}
+use Rattle.buffer_states.specs.declared.BufferState.{BufferState}
+use Rattle.buffer_states.specs.declared.BufferState.TheVariants.{Free as FreeBuffer, Active, OnHold}
+use Rattle.buffer_states.specs.Buffers.{is_state_free, is_state_active, is_on_hold}
 use Rattle.entry_ref.specs.References.{buffer_of}
 use Rattle.entry_ref.specs.Images.{words_at}
 use Rattle.entry_ref.specs.Records.{Records, with_words}
@@ -12,12 +15,14 @@ use Rattle.arena_api.specs.Works.{is_free as is_free_buffer}
 use Rattle.arena_api.specs.Calls.{IsKept, IsInOrder, IsLowestFree, IsFresh, FitsEntry, handed_out}
 use Rattle.arena_api.specs.Generations.{LetsGo, Reclaims, current, reclaimed, freed_below}
 use Rattle.arena_api.specs.declared.answers.Oldest.{Oldest}
-use Rattle.store_api.specs.Statuses.{Status, in_use, free_below, with_status}
+use Rattle.store_api.specs.Statuses.{Status, in_use, has_record, is_committed, free_below, with_status}
 use Rattle.store_api.specs.Ledgers.{is_in, is_held}
 use Rattle.entry_ledger.specs.Entries.{EntriesView, IsGood, is_settled_entry}
 use Rattle.entry_ledger.specs.Calls.{CanTake, free_mark, Drops, Accepts, Undoes, Frees, made_at, opened_at, new_entries, with_state, freed}
 use Rattle.entry_store.specs.Standing.{Stands, IsOver, status_by, status_of, statuses, backs, back_of, is_in_generation, is_mark_of}
-use Rattle.entry_store.specs.ProofsForMarks.{marks-opened, marks-freed, held-freed, width-freed}
+use Rattle.entry_store.specs.ProofsForMarks.{mark-free, marks-opened, marks-freed, held-freed, width-freed}
+use Rattle.entry_store.specs.ProofsForStore.{dropped-live, undone-left}
+use Rattle.entry_store.proofs.LeftOut.{pending-left, dropped-left, accept-left, below-left}
 use Rattle.entry_store.proofs.Queues.{newest-drop}
 use Rattle.entry_store.proofs.Soundness.{sound-made, sound-opened, sound-reclaimed, sound-same, lets-last}
 use Rattle.entry_store.specs.ProofsForStates.{IsWeaker, sound-weaker, with_state-at, in_use-used, dropped-weaker, dropped-since, undone-weaker, undone-settled, undone-since, accepted-status, accepted-settled}
@@ -30,6 +35,16 @@ status-set has last state r s q c is = elim (cases_eq q r) [
   | inr ne ↦ subst (λ t. status_of has last (cond t (Some s) (state q)) ≡ cond t c (status_of has last (state q))) (sym (ne_eqb q r ne)) refl
 ]
 
+free-active : (s : BufferState) → is_state_free s ≡ true → is_state_active s ≡ true → ⊥
+free-active FreeBuffer free active = false≢true active
+free-active Active free active = false≢true free
+free-active OnHold free active = false≢true free
+
+active-held : (s : BufferState) → is_state_active s ≡ true → is_on_hold s ≡ false
+active-held FreeBuffer active = absurd (false≢true active)
+active-held Active active = refl
+active-held OnHold active = absurd (false≢true active)
+
 module _ {H : Type 0} (bits : ℕ) (work : WorkView H) (m : Records) (e : EntriesView) (unit : Bool) (st : Stands bits work m e unit) where
   abbrev has : ℕ → Bool
   has q = is_in (last_image work.commits) q
@@ -39,8 +54,9 @@ module _ {H : Type 0} (bits : ℕ) (work : WorkView H) (m : Records) (e : Entrie
       → ((q : ℕ) → IsWeaker (status_of (has q) e.last (new.state q)) (statuses work.commits e q))
       → ((q : ℕ) → is_in_generation e.last e.generation (new.state q) ≡ true)
       → (now ≡ false → (q : ℕ) → is_settled_entry (new.state q) ≡ true) → (now ≡ false → (w : ℕ) → (new.of_width w).fresh ≡ 0)
+      → ((q : ℕ) → status_of (has q) e.last (new.state q) ≡ Status.left → statuses work.commits e q ≡ Status.left)
       → Stands bits work m new now
-  stands-changed new now same good weaker since settled fresh = record {
+  stands-changed new now same good weaker since settled fresh left = record {
     good = good;
     count = ap (λ x. x.count) same ∙ st.count;
     words = ap (λ x. x.words) same ∙ st.words;
@@ -54,6 +70,8 @@ module _ {H : Type 0} (bits : ℕ) (work : WorkView H) (m : Records) (e : Entrie
         (subst (λ g. is_in_generation e.last g (new.state q) ≡ true) (sym (ap (λ x. x.generation) same)) (since q));
     settled = settled;
     no_fresh = fresh;
+    left_out = λ q is. ap (λ x. (x.mark (buffer_of bits q)).sealed) same
+        ∙ st.left_out q (left q (sym (ap (λ l. status_of (has q) l (new.state q)) (ap (λ x. x.last) same)) ∙ is));
     timely = st.timely;
     unread = st.unread;
   }
@@ -74,6 +92,8 @@ module _ {H : Type 0} (bits : ℕ) (work : WorkView H) (m : Records) (e : Entrie
         stands-changed new unit drops.same good dropped-at
         (λ q. state-dropped (λ q o. is_in_generation e.last e.generation o ≡ true) q (λ same. dropped-since e.last e.generation s (in_use-used (has r) e.last s used)) (λ ne. st.since q))
         (λ ended q. absurd (true≢false (sym begun ∙ ended))) (λ ended w. absurd (true≢false (sym begun ∙ ended)))
+        (λ q. state-dropped (λ q o. status_of (has q) e.last o ≡ Status.left → statuses work.commits e q ≡ Status.left) q
+        (λ same left. absurd (dropped-left (has q) e.last s (in_use-used (has r) e.last s used) left)) (λ ne left. left))
 
   -- a unit ends
   pub stands-accepted : (new : EntriesView) → Accepts e new → IsGood bits new → Stands bits work m new false
@@ -84,6 +104,7 @@ module _ {H : Type 0} (bits : ℕ) (work : WorkView H) (m : Records) (e : Entrie
       (λ q. subst (λ o. is_in_generation e.last e.generation o ≡ true) (sym (accepts.state q)) (accepted-since e.last e.generation (e.state q) (st.since q)))
       (λ ended q. subst (λ o. is_settled_entry o ≡ true) (sym (accepts.state q)) (accepted-settled e.last e.generation (e.state q)))
       (λ ended. accepts.fresh)
+      (λ q left. accept-left (statuses work.commits e q) (sym (ap (status_of (has q) e.last) (accepts.state q) ∙ accepted-status (has q) e.last e.generation (e.state q)) ∙ left))
 
   undone-at : (q : ℕ) (o : Option State) → e.state q ≡ o → IsWeaker (status_of (has q) e.last (option_map (undone e.last) o)) (status_of (has q) e.last o)
   undone-at q None is = inl refl
@@ -96,6 +117,7 @@ module _ {H : Type 0} (bits : ℕ) (work : WorkView H) (m : Records) (e : Entrie
       (λ q. subst (λ o. is_in_generation e.last e.generation o ≡ true) (sym (undoes.state q)) (undone-since e.last e.generation (e.state q) (st.since q)))
       (λ ended q. subst (λ o. is_settled_entry o ≡ true) (sym (undoes.state q)) (undone-settled e.last (e.state q)))
       (λ ended. undoes.fresh)
+      (λ q left. undone-left (has q) e.last (e.state q) (dropped-live bits work m e unit st q) (sym (ap (status_of (has q) e.last) (undoes.state q)) ∙ left))
 
   -- an entry is made
   module _ (width r : ℕ) (ws : List ℕ) (can : CanTake bits e width r) (some : 0 < length ws) (begun : unit ≡ true) where
@@ -118,6 +140,7 @@ module _ {H : Type 0} (bits : ℕ) (work : WorkView H) (m : Records) (e : Entrie
       since = λ q. with_state-at (λ o. is_in_generation e.last e.generation o ≡ true) e.state r Made q (λ same. refl) (λ ne. st.since q);
       settled = λ ended q. absurd (true≢false (sym begun ∙ ended));
       no_fresh = λ ended w. absurd (true≢false (sym begun ∙ ended));
+      left_out = λ q is. st.left_out q (pending-left (eqb q r) (statuses work.commits e q) (sym (status-made q) ∙ is));
       timely = st.timely;
       unread = st.unread;
     }
@@ -132,6 +155,13 @@ module _ {H : Type 0} (bits : ℕ) (work : WorkView H) (m : Records) (e : Entrie
         by_test : (t : Bool) → is_held (cond t (Buffer.active width (last_tag (work.buffer b))) (work.buffer a)) ≡ false
         by_test true = refl
         by_test false = h
+
+    -- the buffer that was free is not sealed
+    opened-sealed : (a : ℕ) → (e.mark a).sealed ≡ true → ((opened_at e b width).mark a).sealed ≡ true
+    opened-sealed a sealed = elim (cases_eq a b) [
+      | inl same ↦ absurd (free-active (e.mark b).state (mark-free (e.mark b) (work.buffer b) (st.marks b low.below) ∙ low.free) (st.good.sealed b (subst (λ n. (e.mark n).sealed ≡ true) same sealed)).active)
+      | inr ne ↦ ap (λ t. (cond t (record { state = Active; width = width; generation = 0; sealed = false }) (e.mark a)).sealed) (ne_eqb a b ne) ∙ sealed
+    ]
 
     pub stands-opened : IsGood bits (opened_at e b width) → ((w : ℕ) → ((opened_at e b width).of_width w).fresh ≡ (e.of_width w).fresh) → Stands bits (handed_out work b width) m (opened_at e b width) unit
     stands-opened good fresh =
@@ -148,6 +178,7 @@ module _ {H : Type 0} (bits : ℕ) (work : WorkView H) (m : Records) (e : Entrie
           since = st.since;
           settled = st.settled;
           no_fresh = λ ended w. fresh w ∙ st.no_fresh ended w;
+          left_out = λ q is. opened-sealed (buffer_of bits q) (st.left_out q is);
           timely = st.timely;
           unread = λ a below alone low. held-opened a (st.unread a below alone low);
         }
@@ -180,6 +211,12 @@ module _ {H : Type 0} (bits : ℕ) (work : WorkView H) (m : Records) (e : Entrie
       ∙ ap (status_of (now-has q) e.last) (freed-undone e.last answer.generation (e.state q))
       ∙ freed-status (now-has q) e.last e.generation answer.generation (option_map (undone e.last) (e.state q)) (undone-since e.last e.generation (e.state q) (st.since q)) below
 
+  -- a sealed buffer is active, and stays
+  freed-sealed : (b : ℕ) → (e.mark b).sealed ≡ true → (new.mark b).sealed ≡ true
+  freed-sealed b sealed =
+      ap (λ k. k.sealed) (frees.mark b)
+      ∙ ap (λ t. (cond t (cond (ltb (e.mark b).generation answer.generation) free_mark (e.mark b)) (e.mark b)).sealed) (active-held (e.mark b).state (st.good.sealed b sealed).active) ∙ sealed
+
   newest-same : newest_of next.queue ≡ newest_of work.queue
   newest-same = ap newest_of reclaims.queue ∙ newest-drop reclaims.closed work.queue reclaims.left
 
@@ -210,6 +247,7 @@ module _ {H : Type 0} (bits : ℕ) (work : WorkView H) (m : Records) (e : Entrie
         (freed-since e.last e.generation answer.generation (e.state q) (st.since q))));
     settled = λ ended q. subst (λ o. is_settled_entry o ≡ true) (sym (frees.state q)) (freed-settled answer.generation (e.state q) (st.settled ended q));
     no_fresh = λ ended w. (frees.counts w).fresh ∙ st.no_fresh ended w;
+    left_out = λ q is. freed-sealed (buffer_of bits q) (st.left_out q (below-left answer.generation (statuses work.commits e q) (sym (status-freed below q) ∙ is)));
     timely = let now = current-same in let last = goes.last in omega arith;
     unread = unread;
   }
@@ -235,6 +273,7 @@ over-from bits work m e unit st = record {
   since = st.since;
   settled = st.settled;
   no_fresh = st.no_fresh;
+  left_out = st.left_out;
 }
 
 -- a new store stands
@@ -260,6 +299,7 @@ stands-new bits work m e fresh new good =
       since = λ r. refl;
       settled = λ _ r. refl;
       no_fresh = λ _ w. refl;
+      left_out = λ r is. absurd (cc);
       timely = let now = ap (λ q. (newest_of q).generation) fresh.queue in omega arith;
       unread = λ b below alone limit. free-held (work.buffer b) (fresh.buffers b);
     })

@@ -4,11 +4,12 @@ use Rattle.std.proofs.Common.{◌≡◌, ℕ, zero, suc, ◌+◌, ◌*◌, ◌/�
 use Rattle.std.proofs.Common.{Some, None, refl, sym, ap, subst, ◌∙◌, arith}
 use Rattle.std.specs.List.{IsDistinct, All, AllByRecursion}
 use Rattle.std.proofs.lemmas.List.Elements.{All-head, All-tail, All-from_recursion}
-use Rattle.std.proofs.Common.{inl, inr, leb}
-use Rattle.std.specs.Prelude.{◌&&◌}
-use Rattle.std.proofs.lemmas.Bool.{false≢true, cond-true, cases_Bool, eq-eqb, ne_eqb, leb-true, and_parts}
+use Rattle.std.proofs.Common.{inl, inr, leb, option_map}
+use Rattle.std.specs.Prelude.{◌&&◌, ◌↔◌}
+use Rattle.std.proofs.lemmas.Bool.{false≢true, cond-true, cases_Bool, eq-eqb, ne_eqb, leb-true, lt-ltb, and_parts}
 use Rattle.entry_ledger.specs.declared.state.State.{State}
-use Rattle.entry_ledger.specs.declared.state.State.TheVariants.{Dropped}
+use Rattle.entry_ledger.specs.declared.state.State.TheVariants.{Free, Returned, Made, InUse, LetGo, DroppedNow, Dropped}
+use Rattle.entry_ledger.specs.States.{undone}
 use Rattle.entry_ref.specs.References.{buffer_of}
 use Rattle.entry_ref.specs.Places.{IsEntry}
 use Rattle.entry_ref.specs.Records.{Records}
@@ -62,6 +63,37 @@ back-has has last (Some (State.InUse after)) h = use-has (status_of has last (So
 back-has has last (Some State.LetGo) h = refl
 back-has has last (Some (State.DroppedNow after)) h = refl
 back-has has last (Some (State.Dropped after g)) h = use-has (status_of has last (Some (State.Dropped after g))) h
+
+use-again : (t has : Bool) → t ≡ true → cond t Status.pending (cond has Status.live Status.left) ≡ Status.left → ⊥
+use-again true has is e = (cc)
+use-again false has is e = false≢true is
+
+use-live : (t has : Bool) → has ≡ true → cond t Status.pending (cond has Status.live Status.left) ≡ Status.left → ⊥
+use-live true has is e = (cc)
+use-live false true is e = (cc)
+use-live false false is e = false≢true is
+
+pub undone-left : (has : Bool) (last : ℕ) (o : Option State) → (status_of has last o ≡ Status.dropped → has ≡ true) → status_of has last (option_map (undone last) o) ≡ Status.left
+    → status_of has last o ≡ Status.left
+undone-left has last None live e = e
+undone-left has last (Some Free) live e = e
+undone-left has last (Some Returned) live e = e
+undone-left has last (Some Made) live e = absurd (cc)
+undone-left has last (Some (InUse after)) live e = e
+undone-left has last (Some LetGo) live e = absurd (use-again (eqb last last) has (eq-eqb last last refl) e)
+undone-left has last (Some (DroppedNow after)) live e = absurd (use-live (eqb after last) has (live refl) e)
+undone-left has last (Some (Dropped after g)) live e = e
+
+-- no unit changes what a commit left out
+back-left : (has : Bool) (last : ℕ) (o : Option State) → status_of has last o ≡ Status.left → back_of has last o ≡ Status.left
+back-left has last None e = e
+back-left has last (Some State.Free) e = e
+back-left has last (Some State.Returned) e = e
+back-left has last (Some State.Made) e = absurd (cc)
+back-left has last (Some (State.InUse after)) e = e
+back-left has last (Some State.LetGo) e = absurd (cc)
+back-left has last (Some (State.DroppedNow after)) e = absurd (cc)
+back-left has last (Some (State.Dropped after g)) e = e
 
 abbrev tag-in : Tag → Status → Tag
 tag-in other (Status.held tag) = tag
@@ -234,6 +266,21 @@ module _ {H : Type 0} (bits : ℕ) (work : WorkView H) (m : Records) (e : Entrie
     back_records = λ k r. cond (has_record (back-same ended r k)) (m r) [];
     fresh = st.no_fresh ended;
   }
+
+  pub store_left_out : (r : ℕ) → status r ≡ Status.left → (e.mark (buffer_of bits r)).sealed ≡ true
+  store_left_out r is = st.left_out r is
+
+  -- what is dropped is in the last commit
+  pub dropped-live : (r : ℕ) → status r ≡ Status.dropped → is_in (last_image work.commits) r ≡ true
+  dropped-live r is =
+      let some = st.sound.there r (ap has_record is) in
+      lt-ltb 0 _ (subst (λ ws. 0 < length ws) (st.sound.committed r (ap is_committed is)) some)
+
+  pub store_left_stays : (r : ℕ) → (status r ≡ Status.left) ↔ (backs work.commits e r ≡ Status.left)
+  store_left_stays r = (
+    back-left (is_in (last_image work.commits) r) e.last (e.state r),
+    undone-left (is_in (last_image work.commits) r) e.last (e.state r) (dropped-live r),
+  )
 
   pub store_sealed : (shape b : ℕ) → (e.mark b).sealed ≡ true → IsUnfilled (ledger_of bits work shape m e unit) b
   store_sealed shape b is =

@@ -102,6 +102,7 @@ pub record IsOver {H : Type 0} (bits : ℕ) (work : WorkView H) (m : Records) (e
   pub since : (r : ℕ) → is_in_generation e.last e.generation (e.state r) ≡ true
   pub settled : unit ≡ false → (r : ℕ) → is_settled_entry (e.state r) ≡ true
   pub no_fresh : unit ≡ false → (w : ℕ) → (e.of_width w).fresh ≡ 0
+  pub left_out : (r : ℕ) → statuses work.commits e r ≡ Status.left → (e.mark (buffer_of bits r)).sealed ≡ true
 
 -- the work and the entries belong to one store
 pub record Stands {H : Type 0} (bits : ℕ) (work : WorkView H) (m : Records) (e : EntriesView) (unit : Bool) : Type 0 where
@@ -117,6 +118,8 @@ pub record Stands {H : Type 0} (bits : ℕ) (work : WorkView H) (m : Records) (e
   -- if no unit is open, no unit has changed an entry
   pub settled : unit ≡ false → (r : ℕ) → is_settled_entry (e.state r) ≡ true
   pub no_fresh : unit ≡ false → (w : ℕ) → (e.of_width w).fresh ≡ 0
+  -- what a commit left out lies in a sealed buffer
+  pub left_out : (r : ℕ) → statuses work.commits e r ≡ Status.left → (e.mark (buffer_of bits r)).sealed ≡ true
   -- each generation ended with a commit
   pub timely : current work ≤ work.commits.last
   pub unread : (b : ℕ) → b < work.sizes.buffers → work.made ≡ 0 → current work < work.sizes.generations → is_held (work.buffer b) ≡ false

@@ -1,3 +1,5 @@
+//! A store over a memory with holds: `EntryStore`.
+
 ghost use Rattle.std.specs.Prelude.{◌≡◌, ◌<◌, ◌≤◌, ◌+◌, ◌^◌, ℕ, Some, None, true, false, [], length, take, drop};
 ghost use Rattle.std.specs.Prelude.{IfSome, IfNone, IfOk, IfErr, OnOk, OnErr};
 ghost use Rattle.arena_api.specs.Works.{last_image};
@@ -365,7 +367,7 @@ impl<const OFFSET_BITS: u32, W: Work<OFFSET_BITS>> Store<OFFSET_BITS>
     for EntryStore<OFFSET_BITS, W> {
     ghost use Rattle.std.specs.Prelude.{refl};
     ghost use Rattle.entry_store.specs.ProofsForStore.{store_recorded, store_placed, store_taken, store_filled, store_spares, store_unkept};
-    ghost use Rattle.entry_store.specs.ProofsForStore.{store_held, store_last, store_settled, store_steady, store_sealed, store_finished};
+    ghost use Rattle.entry_store.specs.ProofsForStore.{store_held, store_last, store_settled, store_steady, store_left_out, store_left_stays, store_sealed, store_finished};
     ghost use Rattle.entry_store.specs.ProofsForStore.{store_counted};
     ghost use Rattle.entry_store.specs.ProofsForStore.{store_enough, store_few_buffers, store_few_records, store_few_nodes, store_unfilled};
 
@@ -466,6 +468,10 @@ impl<const OFFSET_BITS: u32, W: Work<OFFSET_BITS>> Store<OFFSET_BITS>
         self.entries.seal(buffer);
     }
 
+    fn unseal(&mut self, buffer: u32) {
+        self.entries.unseal(buffer);
+    }
+
     fn finish(&mut self, buffer: u32) {
         self.entries.finish(buffer);
     }
@@ -529,6 +535,12 @@ impl<const OFFSET_BITS: u32, W: Work<OFFSET_BITS>> Store<OFFSET_BITS>
         s.unit s.stands (W.shape s.work) };
 
     ghost steady = { λ s. store_steady OFFSET_BITS (W.knows s.work) (W.records s.work) (entries_of OFFSET_BITS s.entries)
+        s.unit s.stands };
+
+    ghost left_out = { λ s. store_left_out OFFSET_BITS (W.knows s.work) (W.records s.work) (entries_of OFFSET_BITS s.entries)
+        s.unit s.stands };
+
+    ghost left_stays = { λ s. store_left_stays OFFSET_BITS (W.knows s.work) (W.records s.work) (entries_of OFFSET_BITS s.entries)
         s.unit s.stands };
 
     ghost sealed = { λ s. store_sealed OFFSET_BITS (W.knows s.work) (W.records s.work) (entries_of OFFSET_BITS s.entries)

@@ -1,3 +1,5 @@
+//! Sets and removes the entry of a value.
+
 ghost use Rattle.std.specs.Prelude.{◌≡◌, ◌+◌, ◌*◌, ◌∷◌, [], true, IsSome, IfOk, IfErr};
 ghost use Rattle.tree_read.specs.Trees.{tree_pairs};
 ghost use Rattle.tree_read.specs.Keys.{KeepsOthers};

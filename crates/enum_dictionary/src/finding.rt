@@ -1,3 +1,5 @@
+//! Finds the entry of a value.
+
 ghost use Rattle.std.specs.Prelude.{◌≡◌};
 ghost use Rattle.std.specs.Option.{option_map};
 ghost use Rattle.tree_read.specs.Trees.{tree_pairs};

@@ -1,3 +1,5 @@
+//! Values as sought keys: the stored keys are records.
+
 ghost use Rattle.std.specs.Prelude.{◌≡◌, ◌∷◌, []};
 ghost use Rattle.image_format.specs.Values.{stored_value, IsValueRecord};
 ghost use Rattle.attr_types.specs.Value.{type_of, value_cmp};

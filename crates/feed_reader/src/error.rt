@@ -1,3 +1,5 @@
+//! Why a feed was not read.
+
 ghost use Rattle.std.specs.Prelude.{◌≡◌};
 ghost use Rattle.feed_reader.specs.declared.error.LinesError.TheVariants as lines_errors;
 

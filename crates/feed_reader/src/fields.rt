@@ -1,3 +1,5 @@
+//! The items or changes that a line gives each attribute.
+
 ghost use Rattle.std.specs.Prelude.{◌≡◌, IfOk, option_map};
 ghost use Rattle.serde_json.specs.View.{view};
 ghost use Rattle.feed_reader.specs.Answers.{ReadsAs};

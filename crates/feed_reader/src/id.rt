@@ -1,3 +1,5 @@
+//! The document that an id names.
+
 ghost use Rattle.std.specs.Prelude.{◌≡◌, option_map};
 ghost use Rattle.feed_reader.specs.Id.{cut_at_colon, cut_some_at_colon, id_read};
 

@@ -1,3 +1,5 @@
+//! The items in a JSON value.
+
 ghost use Rattle.std.specs.Prelude.{◌≡◌, map, IfOk, []};
 ghost use Rattle.serde_json.specs.View.{view, items_view, members_view};
 ghost use Rattle.feed_reader.specs.declared.refusal.Refusal.TheVariants.{BadValue};

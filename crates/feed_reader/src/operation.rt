@@ -1,3 +1,5 @@
+//! What a line asks for: its member put, update or remove.
+
 use attr_types::{FieldChanges, FieldItems};
 
 /// The member that says what a line does.

@@ -1,3 +1,5 @@
+//! Why a line is refused.
+
 ghost use Rattle.std.specs.Prelude.{◌≡◌};
 ghost use Rattle.feed_reader.specs.declared.refusal.LineError.TheVariants as line_errors;
 

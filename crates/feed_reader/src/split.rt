@@ -1,3 +1,5 @@
+//! Splits bytes into lines.
+
 ghost use Rattle.std.specs.Prelude.{◌≡◌, ◌<◌, ◌≤◌, ◌+◌, ◌∷◌, length, position};
 ghost use Rattle.feed_reader.specs.Lines.{is_newline, lines_of, is_blank};
 

@@ -1,3 +1,5 @@
+//! The change that an update makes to an attribute.
+
 ghost use Rattle.std.specs.Prelude.{◌≡◌, option_map};
 ghost use Rattle.serde_json.specs.View.{view, members_view};
 ghost use Rattle.feed_reader.specs.Answers.{ReadsAs};

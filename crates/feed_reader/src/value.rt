@@ -1,3 +1,5 @@
+//! One value or weight in JSON.
+
 ghost use Rattle.std.specs.Prelude.{◌≡◌};
 ghost use Rattle.serde_json.specs.View.{view};
 ghost use Rattle.feed_reader.specs.declared.refusal.Refusal.TheVariants.{BadValue};

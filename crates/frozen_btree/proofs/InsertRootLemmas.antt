@@ -9,7 +9,7 @@ use Rattle.frozen_nodes.proofs.MadeLemmas.{made-balance}
 use Rattle.store_api.specs.Parts.{times}
 use Rattle.frozen_nodes.specs.Makes.{MakesNode}
 use Rattle.tree_read.specs.Slots.{slot_pairs, slot_nodes, IsInHand}
-use Rattle.frozen_nodes.specs.declared.make.Part.{Part}
+use Rattle.frozen_nodes.specs.declared.make.MadeNode.{MadeNode}
 use Rattle.frozen_nodes.proofs.MakesLemmas.{makes-none}
 use Rattle.tree_read.proofs.SlotLemmas.{hand-children, slot_pairs-inner, slot_nodes-inner}
 use Rattle.frozen_nodes.specs.Parts.{AreParts}
@@ -17,7 +17,7 @@ use Rattle.frozen_btree.specs.Inserts.{IsRootOver}
 use Rattle.frozen_nodes.specs.declared.parts.Parts.TheVariants.{One, Two}
 
 -- one part is the root
-pub one_root : {H : Type 0} (old : Ledger H) (m : Records) (level : ℕ) (part : Part) (pairs : List (ℕ × ℕ)) → level ≤ 7 → AreParts m (root_least level) level (One part) pairs
+pub one_root : {H : Type 0} (old : Ledger H) (m : Records) (level : ℕ) (part : MadeNode) (pairs : List (ℕ × ℕ)) → level ≤ 7 → AreParts m (root_least level) level (One part) pairs
     → IsRootOver old old m m level (One part) part.node
 one_root old m level part pairs low parts = record {
   height = level;
@@ -30,7 +30,7 @@ one_root old m level part pairs low parts = record {
 }
 
 -- a root over two
-module _ (m : Records) (least level : ℕ) (first second : Part) (pairs : List (ℕ × ℕ)) (parts : AreParts m least level (Two first second) pairs)
+module _ (m : Records) (least level : ℕ) (first second : MadeNode) (pairs : List (ℕ × ℕ)) (parts : AreParts m least level (Two first second) pairs)
     (ks vs : List ℕ) (keys : ks ≡ first.key ∷ second.key ∷ []) (values : vs ≡ first.node ∷ second.node ∷ []) where
   upper-hand : IsInHand m (suc level) ks vs
   upper-hand =

@@ -9,7 +9,7 @@ use Rattle.store_api.specs.Ledgers.{Ledger}
 use Rattle.tree_read.proofs.SlotLemmas.{slot_pairs-append, slot_nodes-append, hand-right, slot_pairs-kept, slot_nodes-kept}
 use Rattle.frozen_nodes.specs.Makes.{MakesNode, MakesPart}
 use Rattle.tree_read.specs.Slots.{slot_pairs, slot_nodes, IsInHand}
-use Rattle.frozen_nodes.specs.declared.make.Part.{Part}
+use Rattle.frozen_nodes.specs.declared.make.MadeNode.{MadeNode}
 use Rattle.frozen_btree.proofs.StandLemmas.{stands-one, stands-two}
 use Rattle.frozen_btree.specs.Settles.{MakesSlots, SettlesSlots}
 
@@ -144,7 +144,7 @@ few-right m n keeps level k1 v1 k2 v2 even hand keys values e f most few =
     omega arith
 
 -- a part of slots that are these
-pub part-at : {H : Type 0} (old new : Ledger H) (m n : Records) (level : ℕ) (keys values : List ℕ) (part : Part) (level_is : ℕ) (keys_are values_are : List ℕ)
+pub part-at : {H : Type 0} (old new : Ledger H) (m n : Records) (level : ℕ) (keys values : List ℕ) (part : MadeNode) (level_is : ℕ) (keys_are values_are : List ℕ)
     → level ≡ level_is → keys ≡ keys_are → values ≡ values_are → MakesPart old new m n level keys values part → MakesPart old new m n level_is keys_are values_are part
 part-at old new m n level keys values part level_is keys_are values_are e f g makes =
     subst (λ l. MakesPart old new m n l keys_are values_are part) e

@@ -8,7 +8,7 @@ use Rattle.tree_read.specs.Trees.{tree_pairs, tree_nodes, IsRootNode}
 use Rattle.tree_read.specs.declared.node_format.TheConstants.{MOST_SLOTS}
 use Rattle.tree_read.specs.Slots.{slot_pairs, slot_nodes, IsInHand}
 use Rattle.frozen_nodes.specs.Makes.{MakesPart}
-use Rattle.frozen_nodes.specs.declared.make.Part.{Part}
+use Rattle.frozen_nodes.specs.declared.make.MadeNode.{MadeNode}
 
 -- the fewest groups of at most 16 into which n items can be divided
 abbrev pub groups : ℕ → ℕ
@@ -31,7 +31,7 @@ nodes_of n = nodes_above 7 n
 -- a node of a level was made of slots, and added after those that were made before
 pub record AddsPart {H : Type 0} (old new : Ledger H) (m n : Records) (level : ℕ)
     (keys values keys_before nodes_before keys_after nodes_after : List ℕ) : Type 0 where
-  pub part : Part
+  pub part : MadeNode
   pub made : MakesPart old new m n level keys values part
   pub keys_are : keys_after ≡ keys_before ++ part.key ∷ []
   pub nodes_are : nodes_after ≡ nodes_before ++ part.node ∷ []

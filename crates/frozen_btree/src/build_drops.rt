@@ -1,3 +1,5 @@
+//! Drops a whole tree.
+
 ghost use Rattle.std.specs.Prelude.{◌≡◌, ◌<◌, ◌∷◌, [], ℕ, true};
 ghost use Rattle.tree_read.specs.Trees.{nodes_below, IsNode, IsRootNode};
 ghost use Rattle.tree_read.specs.Keys.{KeepsOthers};

@@ -1,3 +1,5 @@
+//! Copies of nodes, with one child changed.
+
 ghost use Rattle.std.specs.Prelude.{◌≡◌, ◌<◌, ◌+◌, true, length, slice_set, IfOk, IfErr};
 ghost use Rattle.store_api.specs.Calls.{Refuses};
 ghost use Rattle.frozen_nodes.specs.Makes.{MakesNodes};

@@ -1,3 +1,5 @@
+//! Inserts a pair below a node: copies the path, and splits full nodes.
+
 ghost use Rattle.std.specs.Prelude.{◌≡◌, ◌≤◌, ◌<◌, ◌+◌, ◌*◌, ◌^◌, ◌++◌, ◌∷◌, [], ℕ, List, true, length, suc, IfOk, IfErr};
 ghost use Rattle.tree_read.specs.Nodes.{level_of, node_keys};
 ghost use Rattle.tree_read.specs.Trees.{pairs_below, IsNode};

@@ -1,3 +1,5 @@
+//! Inserts a pair into the slots of a leaf.
+
 ghost use Rattle.std.specs.Prelude.{◌≡◌, ◌≤◌, ◌<◌, true, IfOk, IfErr};
 ghost use Rattle.tree_read.specs.Nodes.{used_of, node_keys, node_values, IsNodeForm};
 ghost use Rattle.store_api.specs.Calls.{Refuses};

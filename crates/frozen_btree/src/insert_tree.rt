@@ -1,3 +1,5 @@
+//! Inserts a pair into a tree.
+
 ghost use Rattle.std.specs.Prelude.{◌≡◌, ◌≤◌, ◌<◌, ◌+◌, ◌*◌, ◌^◌, ◌∷◌, [], true, length, IfOk, IfErr, OnErr};
 ghost use Rattle.std.specs.List.{flat_map};
 ghost use Rattle.tree_read.specs.Trees.{pairs_below, tree_pairs, IsTree, Keeps, root_least};

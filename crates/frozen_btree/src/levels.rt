@@ -1,3 +1,5 @@
+//! Builds a tree of pairs, level by level.
+
 ghost use Rattle.std.specs.Prelude.{◌≡◌, ◌^◌, ◌<◌, ◌≤◌, ◌-◌, ◌∷◌, [], true, length, IfOk, IfErr};
 ghost use Rattle.std.specs.List.{zip};
 ghost use Rattle.tree_read.specs.Trees.{tree_pairs, Keeps};

@@ -29,7 +29,7 @@ mod touch_tree;
 mod whole_leaf;
 
 pub use build_drops::drop_tree;
-pub use frozen_nodes::{Part, add_slot, make_part, make_words, set_slot};
+pub use frozen_nodes::{MadeNode, add_slot, make_part, make_words, set_slot};
 pub use insert_tree::insert;
 pub use laws::way_law;
 pub use levels::build;

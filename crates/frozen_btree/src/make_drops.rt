@@ -1,3 +1,5 @@
+//! Drops the nodes that a change replaced.
+
 ghost use Rattle.std.specs.Prelude.{◌≡◌, ◌∷◌, [], true};
 ghost use Rattle.store_api.specs.Parts.{Owns, entries};
 ghost use Rattle.frozen_btree.specs.Changes.{DropsEntries};

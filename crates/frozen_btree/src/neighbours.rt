@@ -1,10 +1,12 @@
+//! Joins, shifts and merges two neighbouring nodes.
+
 ghost use Rattle.std.specs.Prelude.{◌≡◌, ◌^◌, ◌≤◌, ◌<◌, ◌+◌, ◌++◌, true, length, slice_set, suc, OnOk, OnErr, IfErr};
 ghost use Rattle.store_api.specs.Calls.{Refuses};
 ghost use Rattle.frozen_nodes.specs.Makes.{MakesNodes};
 ghost use Rattle.tree_read.specs.Slots.{slot_pairs, slot_nodes, IsInHand};
 ghost use Rattle.frozen_btree.specs.Settles.{SettlesSlots};
 
-use frozen_nodes::{Part, make_part};
+use frozen_nodes::{MadeNode, make_part};
 use store_api::{Store, StoreError};
 use tree_read::{LEAST_SLOTS, MOST_SLOTS, NODE_WORDS, Slots, append};
 
@@ -49,7 +51,7 @@ fn shift(left: &mut Slots, right: &mut Slots)
 }
 
 /// Sets a slot of a parent.
-pub fn set_part(slots: &mut Slots, place: usize, part: Part)
+pub fn set_part(slots: &mut Slots, place: usize, part: MadeNode)
     requires even { length slots.old.keys.items ≡ length slots.old.values.items }
     requires place { place < length slots.old.keys.items }
     ensures keys { slots.new.keys.items ≡ slice_set slots.old.keys.items place part.key }

@@ -1,3 +1,5 @@
+//! Puts a changed child back into its parent, and fills up a short one.
+
 ghost use Rattle.std.specs.Prelude.{◌≡◌, ◌^◌, ◌≤◌, ◌<◌, ◌++◌, ◌∷◌, [], true, length, slice_index, suc, OnOk, OnErr, IfErr};
 ghost use Rattle.tree_read.specs.Nodes.{level_of, count_of, node_keys, node_values, IsNodeForm};
 ghost use Rattle.store_api.specs.Calls.{Refuses};

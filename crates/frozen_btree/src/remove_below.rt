@@ -1,3 +1,5 @@
+//! Removes a pair below a node: copies the path, and fills up short nodes.
+
 ghost use Rattle.std.specs.Prelude.{◌≡◌, ◌≤◌, ◌<◌, ◌+◌, ◌-◌, ◌*◌, true, length, suc, IsSome, OnOk, OnErr, IfErr};
 ghost use Rattle.std.specs.List.{zip};
 ghost use Rattle.tree_read.specs.Nodes.{level_of, used_of, node_keys, node_values};

@@ -1,3 +1,5 @@
+//! Removes a pair from a tree.
+
 ghost use Rattle.std.specs.Prelude.{◌≡◌, ◌<◌, ◌≤◌, ◌+◌, ◌^◌, ◌∷◌, [], true, length, IsSome, IfOk, IfErr, OnErr};
 ghost use Rattle.tree_read.specs.Nodes.{level_of, node_keys, node_values};
 ghost use Rattle.tree_read.specs.Trees.{tree_pairs, IsTree, Keeps};

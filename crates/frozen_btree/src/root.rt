@@ -1,3 +1,5 @@
+//! Roots of few pairs.
+
 ghost use Rattle.std.specs.Prelude.{◌≡◌, ◌^◌, ◌≤◌, ◌<◌, ◌∷◌, [], true, length, IfOk, IfErr};
 ghost use Rattle.store_api.specs.Calls.{Refuses};
 ghost use Rattle.frozen_nodes.specs.Makes.{MakesNodes, MakesNode};

@@ -1,3 +1,5 @@
+//! The nodes of one level, as the slots of the next level hold them.
+
 ghost use Rattle.std.specs.Prelude.{◌≡◌, ◌^◌, ◌<◌, ◌≤◌, ◌+◌, ◌∷◌, ◌++◌, [], true, length, IfOk, IfErr, OnOk};
 ghost use Rattle.store_api.specs.Calls.{Refuses};
 ghost use Rattle.store_api.specs.declared.store.StoreError.TheVariants.{Memory};

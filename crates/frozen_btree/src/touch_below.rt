@@ -1,3 +1,5 @@
+//! Copies the nodes of a buffer below a node, on the way to a key.
+
 ghost use Rattle.std.specs.Prelude.{◌≡◌, ◌≢◌, ◌≤◌, ◌<◌, ◌+◌, ℕ, true, length, slice_index, suc, Ok, IfOk, IfErr};
 ghost use Rattle.std.specs.declared.cmp.Ordering.{Ordering};
 ghost use Rattle.entry_ref.specs.References.{buffer_of};
@@ -44,7 +46,7 @@ fn touch_leaf<const OFFSET_BITS: u32, S: Store<OFFSET_BITS>>(
 
 /// A slot of a node above the leaves, and its child.
 #[derive(Clone, Copy, Drop)]
-struct Step {
+struct ChildSlot {
     slot: usize,
     child: u32,
 }
@@ -54,7 +56,7 @@ fn step_at<const OFFSET_BITS: u32, S: Store<OFFSET_BITS>, K: KeyOrder<OFFSET_BIT
     store: &mut S,
     node: EntryRef<OFFSET_BITS>,
     key: &K,
-) -> Step
+) -> ChildSlot
     requires above { 0 < level_of (S.records store.old node) }
     requires node { IsNode (S.records store.old) 1 (level_of (S.records store.old node)) node }
     requires readable { AllReadable K.can_read (S.records store.old)
@@ -66,7 +68,7 @@ fn step_at<const OFFSET_BITS: u32, S: Store<OFFSET_BITS>, K: KeyOrder<OFFSET_BIT
 {
     let slots = read_node(store, node);
     let slot = place_of(store, &slots.keys, key);
-    Step {
+    ChildSlot {
         slot,
         child: slots.values[slot] as u32,
     }

@@ -1,3 +1,5 @@
+//! Copies the nodes of a buffer on the way to a key.
+
 ghost use Rattle.std.specs.Prelude.{◌≡◌, ◌∷◌, [], true, Ok, IfOk, IfErr, OnErr};
 ghost use Rattle.tree_read.specs.Trees.{tree_pairs, IsTree, Keeps};
 ghost use Rattle.tree_read.specs.Keys.{seen_by, AllReadable, KeepsOthers, IsKeyedTree};

@@ -1,3 +1,5 @@
+//! Makes a tree of one leaf.
+
 ghost use Rattle.std.specs.Prelude.{◌≡◌, ◌≤◌, ◌∷◌, [], true, length, IfOk, IfErr};
 ghost use Rattle.std.specs.List.{zip};
 ghost use Rattle.tree_read.specs.Trees.{tree_pairs, Keeps};

@@ -9,7 +9,7 @@ use Rattle.store_api.proofs.Times.{times-append}
 use Rattle.store_api.specs.Parts.{times, uses}
 use Rattle.frozen_nodes.specs.Makes.{MakesPart}
 use Rattle.tree_read.specs.Slots.{slot_pairs, slot_nodes, IsInHand}
-use Rattle.frozen_nodes.specs.declared.make.Part.{Part}
+use Rattle.frozen_nodes.specs.declared.make.MadeNode.{MadeNode}
 use Rattle.frozen_nodes.proofs.MakesLemmas.{makes-then, makes-more}
 use Rattle.tree_read.proofs.SlotLemmas.{slot_pairs-append, slot_nodes-append, hand-right, pairs-kept, nodes_below-kept, node-kept, slot_pairs-kept, slot_nodes-kept, hand-kept, hand-take, hand-drop, few-take, few-drop}
 use Rattle.tree_read.proofs.SlotLemmas.{even-take, cut}
@@ -18,7 +18,7 @@ use Rattle.frozen_nodes.specs.declared.parts.Parts.TheVariants.{One, Two}
 use Rattle.frozen_nodes.proofs.MadeLemmas.{made-balance}
 use Rattle.tree_read.proofs.ChildLemmas.{IsNode-lower}
 
-pub one_part : {H : Type 0} (old new : Ledger H) (m n : Records) (level : ℕ) (ks vs : List ℕ) (part : Part) → MakesPart old new m n level ks vs part → MakesParts old new m n level ks vs (One part)
+pub one_part : {H : Type 0} (old new : Ledger H) (m n : Records) (level : ℕ) (ks vs : List ℕ) (part : MadeNode) → MakesPart old new m n level ks vs part → MakesParts old new m n level ks vs (One part)
 one_part old new m n level ks vs part made = record {
   parts_are = record {
     nodes = (made.node.node, tt);
@@ -30,7 +30,7 @@ one_part old new m n level ks vs part made = record {
   balance = λ q. made-balance old new m n level ks vs part.node made.node q ∙ ap (λ refs. uses old q + times q refs) (sym (append-nil (nodes_below n level part.node)));
 }
 
-module _ {H : Type 0} (a b c : Ledger H) (m n o : Records) (level : ℕ) (k1 v1 k2 v2 : List ℕ) (first second : Part) (even : length k1 ≡ length v1) (hand : IsInHand m level (k1 ++ k2) (v1 ++ v2))
+module _ {H : Type 0} (a b c : Ledger H) (m n o : Records) (level : ℕ) (k1 v1 k2 v2 : List ℕ) (first second : MadeNode) (even : length k1 ≡ length v1) (hand : IsInHand m level (k1 ++ k2) (v1 ++ v2))
     (x : MakesPart a b m n level k1 v1 first) (y : MakesPart b c n o level k2 v2 second) where
   behind : IsInHand m level k2 v2
   behind = hand-right m level k1 v1 k2 v2 even hand
@@ -107,7 +107,7 @@ module _ (m : Records) (level : ℕ) (ks vs : List ℕ) (l1 : ℕ) (k1 v1 : List
       (subst (λ l. length (slot_pairs m l k2 v2) < 2 ^ 32) (sym split.second_level) (subst (λ xs. length (slot_pairs m level xs v2) < 2 ^ 32) (sym split.second_keys)
       (subst (λ xs. length (slot_pairs m level (drop 9 ks) xs) < 2 ^ 32) (sym split.second_values) (let few = few-drop m level ks vs hand 9 in omega arith))))
 
-  pub two_made : {H : Type 0} (a b c : Ledger H) (n o : Records) (first second : Part) → length ks ≡ 17 → MakesPart a b m n l1 k1 v1 first → MakesPart b c n o l2 k2 v2 second
+  pub two_made : {H : Type 0} (a b c : Ledger H) (n o : Records) (first second : MadeNode) → length ks ≡ 17 → MakesPart a b m n l1 k1 v1 first → MakesPart b c n o l2 k2 v2 second
       → MakesParts a c m o level ks vs (Two first second)
   two_made a b c n o first second size x y =
       let x1 : MakesPart a b m n level k1 v1 first = subst (λ l. MakesPart a b m n l k1 v1 first) split.first_level x in

@@ -6,7 +6,7 @@ use Rattle.store_api.specs.Units.{MayDo, MakesAtMost}
 use Rattle.store_api.specs.Parts.{times, uses}
 use Rattle.tree_read.specs.Trees.{pairs_below, nodes_below, last_key, IsNode, Keeps}
 use Rattle.tree_read.specs.Slots.{slot_pairs, slot_nodes}
-use Rattle.frozen_nodes.specs.declared.make.Part.{Part}
+use Rattle.frozen_nodes.specs.declared.make.MadeNode.{MadeNode}
 use Rattle.tree_read.specs.declared.node_format.TheConstants.{NODE_WORDS}
 
 -- at most `most` tree nodes were made, and no entry of another width
@@ -31,6 +31,6 @@ pub record MakesNode {H : Type 0} (old new : Ledger H) (m n : Records) (level : 
   pub makes : MakesNodes old new m n 1
 
 -- the same for a part, with its last key
-pub record MakesPart {H : Type 0} (old new : Ledger H) (m n : Records) (level : ℕ) (keys values : List ℕ) (part : Part) : Type 0 where
+pub record MakesPart {H : Type 0} (old new : Ledger H) (m n : Records) (level : ℕ) (keys values : List ℕ) (part : MadeNode) : Type 0 where
   pub node : MakesNode old new m n level keys values part.node
   pub key : part.key ≡ last_key (pairs_below n level part.node)

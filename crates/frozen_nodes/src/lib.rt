@@ -4,7 +4,7 @@
 //! the node that it replaces, if there is one.
 //!
 //! A change edits the words of a copy in memory: it sets, inserts or removes a slot. Then it makes the node, or two
-//! nodes if it would have 17 slots. The parent holds each as a `Part`: its last key and its reference.
+//! nodes if it would have 17 slots. The parent holds each as a `MadeNode`: its last key and its reference.
 #![tactic(auto)]
 
 mod make;
@@ -12,7 +12,7 @@ mod node_parts;
 mod parts;
 mod remove_words;
 
-pub use make::{Part, make_part, make_words};
+pub use make::{MadeNode, make_part, make_words};
 pub use node_parts::{add_slot, set_slot};
 pub use parts::{Parts, count_parts, make_one, put_parts, put_slot};
 pub use remove_words::{take_slot, write_slots};

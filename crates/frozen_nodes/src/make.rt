@@ -1,3 +1,5 @@
+//! Makes nodes from slots.
+
 ghost use Rattle.std.specs.Prelude.{◌≡◌, ◌^◌, ◌<◌, ◌≤◌, ◌+◌, ◌∷◌, ◌++◌, ℕ, List, true, length, IfOk, IfErr, OnErr};
 ghost use Rattle.tree_read.specs.Nodes.{slot_words, node_words, used_of};
 ghost use Rattle.store_api.specs.Calls.{Refuses};
@@ -13,7 +15,7 @@ use tree_read::{LEVEL_BASE, MOST_SLOTS, NODE_WORDS, Slots, append, used_in};
 
 /// A node that was made, as its parent's slot holds it: its last key and its reference.
 #[derive(Clone, Copy, Debug, Drop)]
-pub struct Part {
+pub struct MadeNode {
     pub key: u64,
     pub node: u32,
 }
@@ -68,7 +70,7 @@ fn words_of(slots: &Slots, count: u64) -> ArrayVec<u64, NODE_WORDS>
 pub fn make_part<const OFFSET_BITS: u32, S: Store<OFFSET_BITS>>(
     store: &mut S,
     slots: &Slots,
-) -> Result<Part, StoreError>
+) -> Result<MadeNode, StoreError>
     requires unit { (S.ledger store.old).unit ≡ true }
     requires low { slots.now.level ≤ 7 }
     requires hand { IsInHand (S.records store.old) slots.now.level slots.now.keys.items slots.now.values.items }
@@ -85,7 +87,7 @@ pub fn make_part<const OFFSET_BITS: u32, S: Store<OFFSET_BITS>>(
     let words = words_of(slots, count);
     let node = store.make(NODE_WORDS as u32, &words)?;
     let key = slots.keys[slots.keys.len() - 1];
-    Ok(Part {
+    Ok(MadeNode {
         key,
         node: node.raw(),
     })
@@ -96,7 +98,7 @@ pub fn make_words<const OFFSET_BITS: u32, S: Store<OFFSET_BITS>>(
     store: &mut S,
     words: &[u64; NODE_WORDS],
     near: u32,
-) -> Result<Part, StoreError>
+) -> Result<MadeNode, StoreError>
     requires unit { (S.ledger store.old).unit ≡ true }
     requires some { 0 < used_of words.now }
     requires fits { used_of words.now ≤ MOST_SLOTS }
@@ -111,7 +113,7 @@ pub fn make_words<const OFFSET_BITS: u32, S: Store<OFFSET_BITS>>(
 {
     let node = store.make_near(NODE_WORDS as u32, words, EntryRef::from_raw(near))?;
     let key = words[1 + used_in(words)];
-    Ok(Part {
+    Ok(MadeNode {
         key,
         node: node.raw(),
     })

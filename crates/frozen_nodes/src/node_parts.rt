@@ -1,3 +1,5 @@
+//! Changes one slot in the words of a node.
+
 ghost use Rattle.std.specs.Prelude.{◌≡◌, ◌<◌, ◌≤◌, ◌+◌, ◌-◌, ◌^◌, ◌++◌, ◌∷◌, ℕ, List, length, take, drop, insert, suc, slice_index};
 ghost use Rattle.frozen_nodes.specs.Words.{AreWords};
 

@@ -1,3 +1,5 @@
+//! The one or two nodes that replace a node.
+
 ghost use Rattle.std.specs.Prelude.{◌≡◌, ◌≤◌, ◌<◌, ◌^◌, ◌++◌, ℕ, List, true, length, take, drop, insert, suc, IfOk, IfErr};
 ghost use Rattle.std.specs.List.{AllByRecursion};
 ghost use Rattle.tree_read.specs.Nodes.{level_of, used_of, node_keys, node_values, IsNodeForm};
@@ -7,7 +9,7 @@ ghost use Rattle.frozen_nodes.specs.Makes.{MakesNodes};
 ghost use Rattle.frozen_nodes.specs.Words.{AreWords};
 ghost use Rattle.frozen_nodes.specs.Parts.{MakesParts, part_keys, part_nodes, parts_count};
 
-use crate::{Part, add_slot, make_part, make_words, set_slot};
+use crate::{MadeNode, add_slot, make_part, make_words, set_slot};
 use arena_api::Frozen;
 use arrayvec::ArrayVec;
 use entry_ref::EntryRef;
@@ -17,8 +19,8 @@ use tree_read::{MOST_SLOTS, NODE_WORDS, Slots, append, slots_of, used_in};
 /// The nodes that replace a node: one or two.
 #[derive(Clone, Copy, Debug, Drop)]
 pub enum Parts {
-    One(Part),
-    Two(Part, Part),
+    One(MadeNode),
+    Two(MadeNode, MadeNode),
 }
 
 /// Splits off the slots from the ninth on.

@@ -1,3 +1,5 @@
+//! Removes one slot from the words of a node.
+
 ghost use Rattle.std.specs.Prelude.{◌≡◌, ◌<◌, ◌≤◌, ◌++◌, ◌∷◌, [], ℕ, List, length, take, drop, suc, slice_index};
 ghost use Rattle.std.specs.List.{remove};
 ghost use Rattle.tree_read.specs.Nodes.{slot_words};

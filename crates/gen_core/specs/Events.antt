@@ -85,6 +85,7 @@ with_reader w = record w { made = w.made + 1 }
 abbrev pub newcomer : WriterView → ReaderView
 newcomer w = record {
   sizes = w.sizes;
+  number = w.made;
   seen = last_number w.commits;
   least = w.queue.newest.generation;
   first = w.queue.newest.generation;
@@ -94,7 +95,7 @@ newcomer w = record {
 }
 
 abbrev pub joined : WriterView → ReaderView → WriterView
-joined w r = record w { saw = r.saw ++ w.saw }
+joined w r = record w { saw = r.saw ++ w.saw; taken = r ∷ w.taken }
 
 abbrev pub with_state : ReaderView → ReaderState → ReaderView
 with_state r t = record r { state = t }
@@ -226,6 +227,7 @@ opening_view sizes = record {
   buffers = replicate sizes.buffers (Free None);
   work = [];
   saw = [];
+  taken = [];
   made = 0;
   stops = record { count = 0; found = 0 };
 }

@@ -61,6 +61,7 @@ hold_view commits queue made stops =
       buffers = [];
       work = [];
       saw = [];
+      taken = [];
       made = made;
       stops = stops;
     }
@@ -68,9 +69,10 @@ hold_view commits queue made stops =
 abbrev pub misses_of : ℕ → ℕ → Misses
 misses_of count found = record { count = count; found = found }
 
-abbrev pub hold_reader : ℕ → ℕ → ℕ → Misses → ReaderState → List (ℕ × Image) → ReaderView
-hold_reader seen least first misses state saw = record {
+abbrev pub hold_reader : ℕ → ℕ → ℕ → ℕ → Misses → ReaderState → List (ℕ × Image) → ReaderView
+hold_reader number seen least first misses state saw = record {
   sizes = hold_sizes;
+  number = number;
   seen = seen;
   least = least;
   first = first;
@@ -109,7 +111,7 @@ abbrev pub missed_end : State
 missed_end = record {
   words = hold_words (3 * 2 ^ 32) (3 * 2 ^ 16 + 1) 1 2;
   writer = hold_view 4 (queue_of [] (open_hold 3 1 3) Nothing) 1 (stops_of 0 0);
-  readers = hold_reader 3 1 0 (misses_of 1 1) (Guarded 1 3) ((3, no_image) ∷ []) ∷ [];
+  readers = hold_reader 0 3 1 0 (misses_of 1 1) (Guarded 1 3) ((3, no_image) ∷ []) ∷ [];
 }
 
 -- If the newest hold is renewed, the first raise gives a guard of commit 1.
@@ -120,7 +122,7 @@ abbrev pub renewed_end : State
 renewed_end = record {
   words = hold_words (1 * 2 ^ 32) (1 * 2 ^ 16) 2 1;
   writer = hold_view 2 (queue_of [] (open_hold 1 0 1) Nothing) 1 (stops_of 0 0);
-  readers = hold_reader 1 0 0 (misses_of 0 0) (Guarded 0 1) ((1, no_image) ∷ []) ∷ [];
+  readers = hold_reader 0 1 0 0 (misses_of 0 0) (Guarded 0 1) ((1, no_image) ∷ []) ∷ [];
 }
 
 -- Reader 1 guards generation 0 on hold 0, at which reader 0 aims. Commit 1 begins generation 1 on hold 1. The guard
@@ -133,7 +135,7 @@ abbrev pub closed_end : State
 closed_end = record {
   words = hold_words (2 * 2 ^ 32) (2 * 2 ^ 16 + 1) 1 0;
   writer = hold_view 3 (queue_of [] (open_hold 2 1 2) Nothing) 2 (stops_of 2 2);
-  readers = hold_reader 0 1 0 (misses_of 1 1) Idle [] ∷ hold_reader 0 0 0 (misses_of 0 0) Idle ((0, no_image) ∷ []) ∷ [];
+  readers = hold_reader 0 0 1 0 (misses_of 1 1) Idle [] ∷ hold_reader 1 0 0 0 (misses_of 0 0) Idle ((0, no_image) ∷ []) ∷ [];
 }
 
 -- Then reader 0 aims at generation 2 on hold 1, which reader 1 guards. Commit 3 begins generation 3 on hold 0, and
@@ -150,9 +152,9 @@ reopened_end = record {
   words = hold_words (5 * 2 ^ 32) (5 * 2 ^ 16 + 1) 2 2;
   writer = hold_view 6 (queue_of (open_hold 4 0 4 ∷ []) (open_hold 5 1 5) Nothing) 3 (stops_of 6 2);
   readers =
-      hold_reader 5 2 0 (misses_of 1 1) (Guarded 1 5) ((5, no_image) ∷ [])
-      ∷ hold_reader 2 2 2 (misses_of 0 0) Idle ((2, no_image) ∷ (0, no_image) ∷ [])
-      ∷ hold_reader 4 4 4 (misses_of 0 0) (Guarded 0 4) ((4, no_image) ∷ []) ∷ [];
+      hold_reader 0 5 2 0 (misses_of 1 1) (Guarded 1 5) ((5, no_image) ∷ [])
+      ∷ hold_reader 1 2 2 2 (misses_of 0 0) Idle ((2, no_image) ∷ (0, no_image) ∷ [])
+      ∷ hold_reader 2 4 4 4 (misses_of 0 0) (Guarded 0 4) ((4, no_image) ∷ []) ∷ [];
 }
 
 -- Reader 0 keeps its guard over a commit and loads the root again. It then guards commit 1, still on hold 0, which
@@ -164,7 +166,7 @@ abbrev pub kept_end : State
 kept_end = record {
   words = hold_words (1 * 2 ^ 32) (1 * 2 ^ 16 + 1) 1 0;
   writer = hold_view 2 (queue_of [] (open_hold 1 1 1) Nothing) 1 (stops_of 2 2);
-  readers = hold_reader 1 0 0 (misses_of 0 0) Idle ((1, no_image) ∷ (0, no_image) ∷ []) ∷ [];
+  readers = hold_reader 0 1 0 0 (misses_of 0 0) Idle ((1, no_image) ∷ (0, no_image) ∷ []) ∷ [];
 }
 
 -- Buffers.
@@ -189,12 +191,14 @@ again_end = record {
     buffers = Active 4 (Some (record { generation = 0; commit = 1 })) ∷ Active 3 None ∷ [];
     work = [];
     saw = [];
+    taken = [];
     made = 1;
     stops = stops_of 2 2;
   };
   readers =
       record {
         sizes = buffer_sizes 22;
+        number = 0;
         seen = 1;
         least = 0;
         first = 0;
@@ -214,6 +218,19 @@ stored_events bits =
 abbrev pub stored_image : ℕ → Image
 stored_image bits = record { root = packed bits 1 0; records = (packed bits 1 0, 7 ∷ 9 ∷ []) ∷ [] }
 
+-- the reader when it is joined
+abbrev pub stored_reader : ℕ → ReaderView
+stored_reader bits = record {
+  sizes = buffer_sizes bits;
+  number = 0;
+  seen = 1;
+  least = 0;
+  first = 0;
+  misses = misses_of 0 0;
+  state = Idle;
+  saw = (1, stored_image bits) ∷ [];
+}
+
 abbrev pub stored_end : ℕ → State
 stored_end bits = record {
   words = hold_words (1 * 2 ^ 32 + packed bits 1 0) 0 0 1 ++ 1 ∷ 0 ∷ 2 ∷ 0 ∷ 7 ∷ 9 ∷ 0 ∷ 0 ∷ 0 ∷ 0 ∷ [];
@@ -224,6 +241,7 @@ stored_end bits = record {
     buffers = Active 2 None ∷ Free None ∷ [];
     work = [];
     saw = (1, stored_image bits) ∷ [];
+    taken = stored_reader bits ∷ [];
     made = 1;
     stops = stops_of 0 0;
   };

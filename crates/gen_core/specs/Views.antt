@@ -136,6 +136,7 @@ stands_on Spent = None
 abbrev pub spent : ReaderView
 spent = record {
   sizes = record { offset_bits = 0; buffers = 0; words = 0; shape = 0; commit_limit = 0; generation_limit = 0 };
+  number = 0;
   seen = 0;
   least = 0;
   first = 0;

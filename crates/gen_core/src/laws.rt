@@ -4,6 +4,8 @@ ghost use Rattle.gen_core.specs.Laws.{KeepsGood, HandsOutUnguarded, HoldsBack, E
 ghost use Rattle.gen_core.specs.Laws.{StoreLeavesKept, WidthLeavesKept, PublishedStands, PublishesWhole, RecordsAreFound, FoundAreRecords};
 ghost use Rattle.gen_core.specs.Laws.{RecordsStand, LoadsLaterCommit, KeepsCommits, ViewIsGood, OddIsPassed, AimIsNotBelow, CloseFindsUse};
 ghost use Rattle.gen_core.specs.Laws.{ProbeFindsUse, CountsAreSmall, NoneIsBelowZero, FloorStays};
+ghost use Rattle.gen_core.specs.Reads.{SeesItsReads};
+ghost use Rattle.gen_core.specs.Runs.{CommitsAgree};
 ghost use Rattle.gen_core.specs.Steps.{EventIsOneStep};
 ghost use Rattle.gen_core.specs.ViewLaws.{LastIsKept, LastAreRecords, RecordsLieActive, KeptArePlaced, UnkeptAvoids, StoresOneWord};
 ghost use Rattle.gen_core.specs.ViewLaws.{StoreLeavesOthers, HandsOutNothing, PublishesRecords};
@@ -65,6 +67,18 @@ pub fn records_law<L: Layout>()
 /// The commit that a reader loads is lawful, and not older than any that the reader saw before.
 pub fn root_law<L: Layout>()
     ensures { LoadsLaterCommit L.reaches L.lawful }
+{}
+
+/// What a reader saw are its own reads of the root, in order: at each, the last commit of that moment. It is told from
+/// other readers by its number. The same holds of a reader that was joined.
+pub fn reads_law<L: Layout>()
+    ensures { SeesItsReads L.reaches L.lawful }
+{}
+
+/// A number names one image in a run, however far the run has gone: the events of a run determine its states, and a commit
+/// is never changed.
+pub fn run_law<L: Layout>()
+    ensures { CommitsAgree L.reaches L.lawful }
 {}
 
 /// The commits that joined readers saw are commits of the writer.

@@ -63,7 +63,8 @@ pub struct Stops {
 }
 
 /// The commits (the first is empty), the queue of open holds, the buffers, the words stored since the last commit
-/// (the newest first), what joined readers saw, and the number of readers made.
+/// (the newest first), what joined readers saw and their last views (the last joined first), and the number of readers
+/// made.
 pub struct WriterView {
     pub sizes: Sizes,
     pub commits: LinkedList<Image>,
@@ -71,6 +72,7 @@ pub struct WriterView {
     pub buffers: LinkedList<Buffer>,
     pub work: LinkedList<(u64, u64)>,
     pub saw: LinkedList<(u64, Image)>,
+    pub taken: LinkedList<ReaderView>,
     pub made: u64,
     pub stops: Stops,
 }
@@ -94,10 +96,11 @@ pub struct Misses {
     pub found: u64,
 }
 
-/// The last commit seen; the least generation to aim at; the generation at which the reader aimed first since its
+/// The reader's place among the readers made; the last commit seen; the least generation to aim at; the generation at which the reader aimed first since its
 /// last release, and the misses since then; and each commit seen, the newest first.
 pub struct ReaderView {
     pub sizes: Sizes,
+    pub number: u64,
     pub seen: u64,
     pub least: u64,
     pub first: u64,

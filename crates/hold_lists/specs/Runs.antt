@@ -3,7 +3,7 @@ use Rattle.std.specs.Prelude.{◌≡◌, ℕ, ◌-◌, ◌<◌, ◌≤◌, List,
 use Rattle.std.specs.Prelude.{sum_by, All, AllPairs, Some, Bool, true, nat_eq, if◌then◌else◌}
 use Rattle.hold_lists.specs.Held.{HeldEntry, untagged}
 use Rattle.hold_lists.specs.declared.Run.{Run}
-use Rattle.hold_lists.specs.declared.Place.{Place}
+use Rattle.hold_lists.specs.declared.RunPlace.{RunPlace}
 
 abbrev pub nth_run : List Run → ℕ → Run
 nth_run runs i = slice_index_or runs i (record { generation = 0; commit = 0; count = 0 })
@@ -32,7 +32,7 @@ shortened runs i =
     slice_set runs i (record (nth_run runs i) { count = (nth_run runs i).count - 1 })
 
 -- the first run below a generation, with the number of entries before it
-pub record IsRunBelow (runs : List Run) (oldest : ℕ) (place : Place) : Type 0 where
+pub record IsRunBelow (runs : List Run) (oldest : ℕ) (place : RunPlace) : Type 0 where
   pub inside : place.run < length runs
   pub before : place.before ≡ tagged_count (take place.run runs)
   pub below : (nth_run runs place.run).generation < oldest

@@ -26,7 +26,7 @@ struct Run {
 
 /// A run, and the number of entries before it.
 #[derive(Clone, Copy)]
-struct Place {
+struct RunPlace {
     run: usize,
     before: usize,
 }
@@ -140,7 +140,7 @@ fn follows(runs: &VecDeque<Run>, generation: u64) -> bool
 }
 
 /// Returns the first run below a generation. If the runs rise, it checks only the first run.
-fn first_below(runs: &VecDeque<Run>, rises: bool, oldest: u64) -> Option<Place>
+fn first_below(runs: &VecDeque<Run>, rises: bool, oldest: u64) -> Option<RunPlace>
     requires rising { rises ≡ true → IsRising runs.now.items }
     requires small { tagged_count runs.now.items < 2 ^ 64 }
     ensures some { IfSome result (IsRunBelow runs.now.items oldest) }
@@ -150,7 +150,7 @@ fn first_below(runs: &VecDeque<Run>, rises: bool, oldest: u64) -> Option<Place>
     for i in 0..runs.len() {
         let run = runs[i];
         if run.generation < oldest {
-            return Some(Place { run: i, before });
+            return Some(RunPlace { run: i, before });
         }
         if rises {
             return None;

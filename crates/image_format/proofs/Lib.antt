@@ -7,3 +7,4 @@ pub mod ImageLemmas
 pub mod RootLemmas
 pub mod ExampleLemmas
 pub mod FilledLemmas
+pub mod FormLemmas

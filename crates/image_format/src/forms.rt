@@ -1,13 +1,13 @@
-ghost use Rattle.std.specs.Prelude.{◌≡◌};
+//! The form of a long list, by the number of its documents.
+ghost use Rattle.std.specs.Prelude.{◌≡◌, ℕ, nat_le, true};
 ghost use Rattle.image_format.specs.Postings.{is_dense};
 
 use crate::{LEAST_DENSE, MOST_SPREAD};
 
-/// Returns whether a list is to be a bit vector: `count` documents of `documents` in all, once a change is made.
-pub fn is_dense(dense: bool, count: u32, documents: u32) -> bool
-    ensures { result ≡ is_dense dense count documents }
+/// Returns the least number of documents with which a list is to be a bit vector, of `documents` documents in all, once a change
+/// is made and if bit vectors are wanted.
+pub fn least_dense(documents: u32) -> u32
+    ensures { (count : ℕ) → nat_le result count ≡ is_dense true count documents }
 {
-    dense
-        && count >= LEAST_DENSE
-        && u64::from(documents) <= u64::from(MOST_SPREAD) * u64::from(count)
+    documents.div_ceil(MOST_SPREAD).max(LEAST_DENSE)
 }

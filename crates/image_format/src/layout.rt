@@ -1,3 +1,5 @@
+//! The layout of images of one to eight attributes: which records a root reaches. The format is in `docs/FORMATS.md`.
+
 ghost use Rattle.image_format.specs.ProofsForImages.{attr_empty_reaches, attr_empty_lawful, attr_present, attr_stays};
 ghost use Rattle.image_format.specs.Images.{attr_reaches, IsLawfulImage};
 

@@ -6,7 +6,7 @@ mod laws;
 mod layout;
 mod shape;
 
-pub use forms::is_dense;
+pub use forms::least_dense;
 pub use laws::{
     attribute_law, broken_law, image_law, list_law, one_text_law, root_law, shape_law, table_law,
     there_law, two_fields_law, value_law,

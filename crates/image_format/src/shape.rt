@@ -1,3 +1,5 @@
+//! The kinds and value types of all attributes in one number.
+
 ghost use Rattle.std.specs.Prelude.{◌≡◌, ◌<◌, ◌≤◌, ◌^◌, length};
 ghost use Rattle.image_format.specs.Shapes.{kind_number, type_number, digit_of, shape_of, types_of};
 

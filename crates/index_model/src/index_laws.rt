@@ -1,3 +1,5 @@
+//! Laws of the index of a table, for the crates above.
+
 ghost use Rattle.index_model.specs.IndexLaws.{FoundAreHits, RunIsFilter, SoughtIsFilter, IndexListsDocuments};
 
 /// The documents that the indexes of a table determine for a query are, in ascending order, its hits. The values that

@@ -1,3 +1,5 @@
+//! The values of items, each with its weight.
+
 ghost use Rattle.std.specs.Prelude.{◌≡◌, [], IfOk};
 ghost use Rattle.index_model.specs.Changes.{first_weights};
 

@@ -7,7 +7,7 @@ use Rattle.entry_ref.specs.Places.{IsEntry}
 use Rattle.entry_ref.specs.Records.{Records, SameAt, AllThere, with_words}
 use Rattle.mem_work.specs.Cells.{width_in, begin_of, stamp_at, with_range, standing, is_whole, stored_since, image_in, records_in, buffer_by, memory_view}
 use Rattle.arena_api.proofs.Reached.{lawful-kept, next_image-kept}
-use Rattle.mem_work.proofs.Ranges.{width-range, standing-elsewhere, standing-range, whole-elsewhere, whole-range}
+use Rattle.mem_work.proofs.Ranges.{width-range, standing-elsewhere, standing-range, whole-elsewhere, whole-range, stored-elsewhere}
 
 -- a layout, and words that its last root's image stands in; those of an entry that this image lacks are replaced
 module _ (reaches : ℕ → Records → ℕ → List ℕ) (lawful : ℕ → Records → ℕ → Type 0)
@@ -36,6 +36,10 @@ module _ (reaches : ℕ → Records → ℕ → List ℕ) (lawful : ℕ → Reco
     buffer = λ b. buffer_by (width-range table bits buffers words r width is e ws long room b k);
     commits = record { floor = last; last = last; image = λ n. image-put k };
   }
+
+  pub stored-put : (q i : ℕ) → q ≢ r
+      → stored_since (with_range table (begin_of bits words width r) ws) (set stamps (stamp_at bits buffers words r) (last + 1)) bits buffers words (last + 1) q i ≡ stored_since table stamps bits buffers words (last + 1) q i
+  stored-put q i ne = stored-elsewhere table bits buffers words r width is e ws long room stamps (last + 1) also (last + 1) q i ne
 
   records-elsewhere : (q : ℕ) → q ≢ r
       → records_in reaches shape (with_range table (begin_of bits words width r) ws) (set stamps (stamp_at bits buffers words r) (last + 1)) bits buffers words last root q

@@ -1,16 +1,16 @@
 -- The words of an entry are replaced all at once: they stand, and what stands elsewhere stays.
-use Rattle.std.proofs.Common.{◌≡◌, ◌≢◌, ℕ, suc, ◌+◌, ◌-◌, ◌*◌, ◌<◌, ◌≤◌, ◌⊎◌, inl, inr, true, cond, ◌&&◌, leb, List, [], ◌++◌, length, get_or, set, take, drop, refl, sym, ap, subst, ◌∙◌, arith, length-take}
+use Rattle.std.proofs.Common.{◌≡◌, ◌≢◌, ℕ, suc, ◌+◌, ◌-◌, ◌*◌, ◌<◌, ◌≤◌, ◌⊎◌, inl, inr, Bool, true, false, Option, Some, None, ltb, cond, ◌&&◌, leb, List, [], ◌++◌, length, get_or, set, take, drop, refl, sym, ap, subst, ◌∙◌, arith, length-take}
 use Rattle.std.proofs.Common.{length-drop, get_or-set_other, get_or-set_same, length-append}
 use Rattle.std.specs.List.{list_all}
 use Rattle.std.proofs.Math.ListN.{get_or-append}
 use Rattle.std.proofs.Math.Nat.{mul-le-mul_right}
 use Rattle.std.proofs.lemmas.List.{get_or-take, get_or-drop, get_or-append_right}
-use Rattle.std.proofs.lemmas.Bool.{cases_eq, or_left, le-leb}
+use Rattle.std.proofs.lemmas.Bool.{cases_eq, or_left, le-leb, ltb-true}
 use Rattle.std.proofs.lemmas.Grind.{same_number_lists}
 use Rattle.std.proofs.lemmas.Nat.{same_from_place}
 use Rattle.entry_ref.specs.References.{buffer_of, offset_of}
 use Rattle.entry_ref.specs.Places.{IsEntry}
-use Rattle.mem_work.specs.Cells.{width_in, begin_of, stamp_at, with_range, names_entry, standing, was_stored_since, IsUnused, is_whole}
+use Rattle.mem_work.specs.Cells.{width_in, begin_of, stamp_at, with_range, names_entry, standing, was_stored_since, IsUnused, is_whole, stored_since}
 use Rattle.mem_work.proofs.Standing.{range-set_other, lacks, one_cell, not_first, cond-same, and-same, entry-offset, stamp-below, one_stamp}
 use Rattle.mem_work.specs.ProofsForMemory.{names_entry-true, length-standing, word-standing}
 use Rattle.mem_work.specs.ProofsForMemory.{whole-from}
@@ -119,6 +119,34 @@ module _ (table : List ℕ) (bits buffers words r width : ℕ) (is : width_in ta
         (get_or-set_other stamps here place n 0 (λ same. ne (one_stamp bits buffers words w width q r f e same)))
         ∙ ap (list_all (was_stored_since m (get_or stamps place 0)))
         (range-set_other stamps here from w n (inr (omega (arith, range-fits bits buffers words w q (buffers * words) f refl)))))
+
+    -- and so does what was stored of it
+    pub stored-elsewhere : (m q i : ℕ) → q ≢ r
+        → stored_since (with_range table (begin_of bits words width r) ws) (set stamps (stamp_at bits buffers words r) n) bits buffers words m q i ≡ stored_since table stamps bits buffers words m q i
+    unfolding stored_since
+    stored-elsewhere m q i ne =
+        let t = with_range table (begin_of bits words width r) ws in
+        let s = set stamps here n in
+        let place = stamp_at bits buffers words q in
+        ap (λ w. cond (names_entry bits buffers words w q && (ltb i w && was_stored_since m (get_or s place 0) (get_or s (begin_of bits words w q + i) 0))) (Some (get_or t (begin_of bits words w q + i) 0)) None)
+        (width-range (buffer_of bits q))
+        ∙ where-both _ _ (λ there inside.
+        let w = width_in table words (buffer_of bits q) in
+        let from = begin_of bits words w q in
+        let f = names_entry-true bits buffers words w q there in
+        let below : i < w = ltb-true i w inside in
+        let one : get_or s place 0 ≡ get_or stamps place 0 = get_or-set_other stamps here place n 0 (λ same. ne (one_stamp bits buffers words w width q r f e same)) in
+        let two : get_or s (from + i) 0 ≡ get_or stamps (from + i) 0 =
+        get_or-set_other stamps here (from + i) n 0 (λ same. omega (arith, same, below, range-fits bits buffers words w q (buffers * words) f refl)) in
+        let word : get_or t (from + i) 0 ≡ get_or table (from + i) 0 =
+        range-elsewhere table (begin_of bits words width r) ws width long place-fits (from + i) (lacks (from + i) (begin_of bits words width r) width (λ j less same.
+        ne (one_cell bits buffers words w width q r i j f e (λ b. ap (width_in table words) b ∙ is) below less same).0)) in
+        ((λ k. was_stored_since m (one k) (two k)), ap (λ x. Some x) word))
+      where
+        where-both : (a b : Bool) {c d : Bool} {x y : Option ℕ} → (a ≡ true → b ≡ true → (c ≡ d) × (x ≡ y)) → cond (a && (b && c)) x None ≡ cond (a && (b && d)) y None
+        where-both false b same = refl
+        where-both true false same = refl
+        where-both true true same = let both = same refl refl in (λ k. cond (both.0 k) (both.1 k) None)
 
     -- and the entry was, if its stamp is that or past it
     pub whole-range : (m : ℕ) → m ≤ n → is_whole (with_range table (begin_of bits words width r) ws) (set stamps (stamp_at bits buffers words r) n) bits buffers words m r ≡ true

@@ -1,3 +1,5 @@
+//! The words of all buffers, with the commit under which each was stored.
+
 ghost use Rattle.std.specs.Prelude.{◌≡◌, ◌↔◌, ◌<◌, ◌≤◌, ◌+◌, ◌*◌, ℕ, [], IsNone, IfSome, IfNone, IfOk, length, vec_len, slice_index};
 ghost use Rattle.std.specs.Prelude.{slice_set, take, drop, map, replicate};
 ghost use Rattle.entry_ref.specs.References.{buffer_of, offset_of, buffer_limit, offset_limit};

@@ -1,3 +1,5 @@
+//! Whether an entry is whole.
+
 ghost use Rattle.std.specs.Prelude.{◌≡◌, ◌≢◌, ◌<◌, ◌+◌, ℕ, IfOk, OnOk, [], slice_index, take, drop};
 ghost use Rattle.std.specs.List.{list_all};
 ghost use Rattle.entry_ref.specs.References.{buffer_of};

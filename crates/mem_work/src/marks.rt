@@ -1,3 +1,5 @@
+//! The state of a buffer: handed out, or on hold.
+
 ghost use Rattle.std.specs.Prelude.{◌≡◌};
 ghost use Rattle.mem_work.specs.Marks.{mark_freed, is_held};
 

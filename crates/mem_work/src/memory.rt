@@ -1,3 +1,5 @@
+//! A memory without readers: `MemWork`.
+
 ghost use Rattle.std.specs.Prelude.{◌≡◌, ◌≢◌, ◌<◌, ◌≤◌, ◌+◌, ◌-◌, ◌*◌, ◌^◌, ℕ, [], IfOk, length, IfSome, slice_index, take, drop};
 ghost use Rattle.std.proofs.Common.{sym, ◌∙◌};
 ghost use Rattle.entry_ref.specs.References.{buffer_of, buffer_limit, offset_limit};
@@ -176,6 +178,9 @@ impl<const OFFSET_BITS: u32, L: Layout> Work<OFFSET_BITS> for MemWork<OFFSET_BIT
             ≡ record (⟦<MemWork<OFFSET_BITS, L> as Work<OFFSET_BITS>>⟧.knows self.old) {
               stored = (⟦<MemWork<OFFSET_BITS, L> as Work<OFFSET_BITS>>⟧.knows self.new).stored;
             } }
+        ensures apart { (q i : ℕ) → q ≢ entry.entry
+            → (⟦<MemWork<OFFSET_BITS, L> as Work<OFFSET_BITS>>⟧.knows self.new).stored q i
+            ≡ (⟦<MemWork<OFFSET_BITS, L> as Work<OFFSET_BITS>>⟧.knows self.old).stored q i }
         ensures shape { ⟦<MemWork<OFFSET_BITS, L> as Frozen<OFFSET_BITS>>⟧.shape self.new
             ≡ ⟦<MemWork<OFFSET_BITS, L> as Frozen<OFFSET_BITS>>⟧.shape self.old }
     {

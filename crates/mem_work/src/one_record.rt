@@ -1,3 +1,5 @@
+//! The layout whose root is one record.
+
 ghost use Rattle.std.specs.Prelude.{◌≡◌, IfOk};
 ghost use Rattle.entry_ref.specs.Maps.{seen};
 ghost use Rattle.mem_work.specs.OneRecord.{one_reaches};

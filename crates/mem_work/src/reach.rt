@@ -1,3 +1,5 @@
+//! Layouts whose reach can be computed.
+
 ghost use Rattle.std.specs.Prelude.{◌≡◌, ◌≢◌, ℕ, IfOk, OnOk};
 ghost use Rattle.entry_ref.specs.Maps.{seen};
 ghost use Rattle.mem_work.specs.Entries.{with_those};

@@ -1,3 +1,5 @@
+//! The layout whose root is the root of a tree by number.
+
 use entry_ref::Layout;
 
 /// The layout whose root is the root of a tree by number.

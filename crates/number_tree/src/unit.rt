@@ -1,3 +1,5 @@
+//! Each change of the map, in a unit of its own.
+
 ghost use Rattle.std.specs.Prelude.{◌≡◌, ◌<◌, ◌+◌, ◌*◌, IfOk, IfErr, OnErr, IsSome};
 ghost use Rattle.tree_read.specs.Trees.{tree_pairs};
 ghost use Rattle.tree_read.specs.Pairs.{lookup, put, take_out};

@@ -1,3 +1,5 @@
+//! Walks over the pairs of the map.
+
 ghost use Rattle.std.specs.Prelude.{◌≡◌, ◌<◌, IfOk};
 ghost use Rattle.std.specs.Ordering.{nat_cmp};
 ghost use Rattle.tree_read.specs.Trees.{tree_pairs, by_number, IsRootNode, IsTree};

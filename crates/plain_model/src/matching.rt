@@ -1,3 +1,5 @@
+//! Whether a query matches a document, by its definition.
+
 ghost use Rattle.std.specs.Prelude.{◌≡◌};
 ghost use Rattle.std.specs.List.{list_any};
 ghost use Rattle.attr_types.specs.Query.{begins_with, is_from, is_up_to, meets, meets_some, items_in, matches};

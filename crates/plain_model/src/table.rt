@@ -1,3 +1,5 @@
+//! The plain table, as code.
+
 ghost use Rattle.std.specs.Prelude.{◌≡◌, IfOk, OnOk, OnErr, [], option_and_then, option_copied};
 ghost use Rattle.std.specs.List.Sorted.{IsStrictlyIncreasing};
 ghost use Rattle.attr_types.specs.Lawful.{DocumentsHaveType, IsLawfulTable, OpFits};

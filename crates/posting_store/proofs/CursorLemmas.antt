@@ -10,7 +10,7 @@ use Rattle.entry_ref.specs.Records.{Records}
 use Rattle.std.proofs.lemmas.Int.{of_z-to_z}
 use Rattle.std.specs.Int.{cast_signed, cast_unsigned, w32}
 use Rattle.list_lemmas.proofs.Places.{drop-read}
-use Rattle.tree_read.specs.SearchPlaces.{Place, IsAt, pairs_from, first_key}
+use Rattle.tree_read.specs.SearchPlaces.{CursorPlace, IsAt, pairs_from, first_key}
 use Rattle.tree_read.proofs.PlaceLemmas.{pair-first}
 use Rattle.array_store.specs.Arrays.{IsArray}
 use Rattle.array_store.proofs.ArrayLemmas.{count_read, item_read}
@@ -94,7 +94,7 @@ module _ {bits : ℕ} (m : Records) (self : PostingCursor bits) (list count at :
     this_weight = short_weight (m list) count at low stands.0 stands.1 ∙ ap (λ (s : PostingCursor bits). first_weight (postings_from m s)) (sym is)
 
 -- a place in a tree
-pub tree_doc : {bits : ℕ} (m : Records) (self : PostingCursor bits) (at : Place) (key : ℕ) → self ≡ Tree at → IsListPlace m self → HasPosting self
+pub tree_doc : {bits : ℕ} (m : Records) (self : PostingCursor bits) (at : CursorPlace) (key : ℕ) → self ≡ Tree at → IsListPlace m self → HasPosting self
     → ((m : Records) → IsAt m at → key ≡ first_key (pairs_from m at)) → 1 ≤ key
 tree_doc {bits} m self at key is place some reads =
     let place_is : PostingCursor bits = Tree at in

@@ -1,4 +1,6 @@
-ghost use Rattle.std.specs.Prelude.{◌≡◌, ◌↔◌, drop, length, [], true, false, IsTrue};
+//! A cursor over the documents of a list.
+
+ghost use Rattle.std.specs.Prelude.{◌≡◌, ◌↔◌, drop, length, nat_le, [], true, false, IsTrue};
 ghost use Rattle.entry_ref.specs.Records.{Records};
 ghost use Rattle.posting_store.specs.Lists.{list_at, is_vector, IsList, IsPlain};
 ghost use Rattle.posting_store.specs.Walks.{postings_from, first_doc, first_weight, HasPosting, IsListPlace};
@@ -6,7 +8,7 @@ ghost use Rattle.posting_store.specs.Walks.{postings_from, first_doc, first_weig
 use crate::posting::{Posting, root_of};
 use arena_api::Frozen;
 use attr_types::Doc;
-use bit_vector::{VectorCursor, count as count_documents};
+use bit_vector::{VectorCursor, has_at_least as has_documents};
 use entry_ref::EntryRef;
 use frozen_btree::{Cursor, total};
 use image_format::WEIGHT_BASE;
@@ -101,30 +103,35 @@ fn count_plain<const OFFSET_BITS: u32, F: Frozen<OFFSET_BITS>>(frozen: &mut F, l
     }
 }
 
-/// Returns the number of documents of a list that is a bit vector.
-fn count_vector<const OFFSET_BITS: u32, F: Frozen<OFFSET_BITS>>(
+/// Returns whether a list that is a bit vector has at least so many documents.
+fn vector_has_at_least<const OFFSET_BITS: u32, F: Frozen<OFFSET_BITS>>(
     frozen: &mut F,
     list: Posting,
-) -> u32
+    least: u32,
+) -> bool
     requires list { IsList (F.records frozen.old) list }
     requires vector { is_vector list ≡ true }
-    ensures count { result ≡ length (list_at (F.records frozen.old) list) }
+    ensures least { result ≡ nat_le least (length (list_at (F.records frozen.old) list)) }
     ensures same { frozen.new ≡ frozen.old }
 {
     let root = root_of(frozen, list);
-    count_documents(frozen, root)
+    has_documents(frozen, root, least)
 }
 
-/// Returns the number of documents of a list: in one read, or in one of each word of a bit vector.
-pub fn count<const OFFSET_BITS: u32, F: Frozen<OFFSET_BITS>>(frozen: &mut F, list: Posting) -> u32
+/// Returns whether a list has at least so many documents: in one read, or in reads of the first words of a bit vector.
+pub(crate) fn has_at_least<const OFFSET_BITS: u32, F: Frozen<OFFSET_BITS>>(
+    frozen: &mut F,
+    list: Posting,
+    least: u32,
+) -> bool
     requires list { IsList (F.records frozen.old) list }
-    ensures count { result ≡ length (list_at (F.records frozen.old) list) }
+    ensures least { result ≡ nat_le least (length (list_at (F.records frozen.old) list)) }
     ensures same { frozen.new ≡ frozen.old }
 {
     if list.is_vector() {
-        count_vector(frozen, list)
+        vector_has_at_least(frozen, list, least)
     } else {
-        count_plain(frozen, list)
+        count_plain(frozen, list) >= least
     }
 }
 

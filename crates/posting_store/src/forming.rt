@@ -8,11 +8,11 @@ ghost use Rattle.bit_vector.specs.Changes.{IsVectorWidth};
 ghost use Rattle.posting_store.specs.Lists.{list_at, is_vector, AreOnes, IsList, IsPlain};
 ghost use Rattle.posting_store.specs.Changes.{list_part, form_most, IsFormWidth, MakesByRule, MakesList};
 
-use crate::cursor::count;
+use crate::cursor::has_at_least;
 use crate::dropping::drop_list;
 use crate::posting::{Posting, root_of};
 use bit_vector::{from_tree, to_tree};
-use image_format::is_dense;
+use image_format::least_dense;
 use std::alloc::Global;
 use store_api::{Store, StoreError};
 
@@ -109,6 +109,19 @@ fn as_plain<const OFFSET_BITS: u32, S: Store<OFFSET_BITS>>(
     Ok(list)
 }
 
+/// Returns whether a list is to be a bit vector, of `documents` documents in all.
+fn is_long<const OFFSET_BITS: u32, S: Store<OFFSET_BITS>>(
+    store: &mut S,
+    list: Posting,
+    documents: u32,
+) -> bool
+    requires list { IsList (S.records store.old) list }
+    ensures dense { result ≡ is_dense true (length (list_at (S.records store.old) list)) documents }
+    ensures same { store.new ≡ store.old }
+{
+    has_at_least(store, list, least_dense(documents))
+}
+
 /// Returns the list in the form of the rule.
 pub fn by_rule<const OFFSET_BITS: u32, S: Store<OFFSET_BITS>>(
     alloc: Global,
@@ -135,7 +148,7 @@ pub fn by_rule<const OFFSET_BITS: u32, S: Store<OFFSET_BITS>>(
     if !dense {
         return Ok(list);
     }
-    if is_dense(dense, count(store, list), documents) {
+    if is_long(store, list, documents) {
         as_vector(alloc, store, list)
     } else {
         as_plain(alloc, store, list)

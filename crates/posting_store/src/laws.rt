@@ -1,3 +1,5 @@
+//! Laws of posting lists, for the crates above.
+
 ghost use Rattle.posting_store.specs.Laws.{NothingIsList, ListStays, ListHasDocuments, ListIsThere};
 
 /// 0 is the empty list, and every other list has a document. The records of a list exist, and it stays the same while

@@ -16,7 +16,7 @@ mod removing;
 mod replacing;
 
 pub use adding::add;
-pub use cursor::{PostingCursor, count, walk};
+pub use cursor::{PostingCursor, walk};
 pub use laws::list_law;
 pub use moving::move_posting;
 pub use posting::Posting;

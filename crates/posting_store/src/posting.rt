@@ -1,3 +1,5 @@
+//! A posting list, as the word that a dictionary holds.
+
 ghost use Rattle.std.specs.Prelude.{◌≡◌, ◌↔◌, ◌<◌, ◌+◌, ◌*◌, ◌/◌, ◌%◌, ◌^◌, IsTrue, true, false};
 ghost use Rattle.posting_store.specs.Lists.{is_vector, IsList, IsPlain};
 

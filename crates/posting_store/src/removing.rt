@@ -1,3 +1,5 @@
+//! Removes a document from a posting list.
+
 ghost use Rattle.std.specs.Prelude.{◌≡◌, ◌<◌, ◌≤◌, ◌∷◌, [], ◌||◌, true, false, length, IsSome, IfOk, IfErr};
 ghost use Rattle.std.specs.BTreeMap.{is_at};
 ghost use Rattle.std.specs.Map.{lookup, remove_entry};
@@ -10,7 +12,7 @@ ghost use Rattle.posting_store.specs.Lists.{list_at, list_levels, is_vector, Are
 ghost use Rattle.posting_store.specs.Changes.{list_part, list_most, list_change_most, IsListWidth, IsListChangeWidth};
 ghost use Rattle.posting_store.specs.Changes.{MakesByRule, MakesList};
 
-use crate::cursor::count;
+use crate::cursor::has_at_least;
 use crate::forming::by_rule;
 use crate::items::{items_of, take_item};
 use crate::posting::{Posting, root_of};
@@ -181,7 +183,7 @@ pub fn remove<const OFFSET_BITS: u32, S: Store<OFFSET_BITS>>(
         (length (remove_entry (is_at (nat_cmp doc)) (list_at (S.records store.old) list)))) (S.ledger store.old) (S.ledger store.new)) }
     ensures may { MayDo (S.ledger store.old) (S.ledger store.new) }
 {
-    if count(store, list) > 9 {
+    if has_at_least(store, list, 10) {
         remove_from_long(alloc, store, list, doc, dense, documents)
     } else {
         remove_from_short(store, list, doc)

@@ -1,3 +1,5 @@
+//! The dictionary of an attribute, as a query reads it.
+
 use attr_types::ValueType;
 use entry_ref::EntryRef;
 

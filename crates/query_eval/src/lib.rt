@@ -27,4 +27,4 @@ mod words;
 
 pub use answers::{hits, scores};
 pub use bit_vector::{block_and, block_or};
-pub use image::documents;
+pub use image::{documents, root_at};

@@ -9,7 +9,7 @@ use Rattle.attr_types.specs.declared.error.QueryError.{QueryError}
 use Rattle.attr_types.specs.declared.error.QueryError.TheVariants.{Syntax, NoField, WrongType, OutOfRange, TooDeep, Memory}
 use Rattle.attr_types.specs.Scores.{AskTree}
 use Rattle.attr_types.specs.declared.ask.Ask.{Ask}
-use Rattle.query_text.specs.Grammar.{Words, any_word, queries, Word, whole_query, dot_product, tree_text, word_text, IsAmong, IsFormedWord, IsWordText, judged, Continues, BreaksAt, Answers, AnswersAs, AnswersQuery}
+use Rattle.query_text.specs.Grammar.{AskForms, any_word, queries, Word, whole_query, dot_product, tree_text, word_text, IsAmong, IsFormedWord, IsWordText, judged, Continues, BreaksAt, Answers, AnswersAs, AnswersQuery}
 use Rattle.query_text.specs.Survey.{surveyed}
 use Rattle.query_text.specs.declared.dot.survey.DotSurvey.{DotSurvey}
 use Rattle.query_text.specs.Dot.{dot_surveyed}
@@ -24,19 +24,19 @@ use Rattle.query_text.proofs.Walks.{StopsIn, shorter, none_past, none_whole}
 -- ---- whatever words are read
 
 -- a word's text is read as the checks say, and each text has an answer
-pub record IsRead (words : Words) : Type 0 where
+pub record IsRead (words : AskForms) : Type 0 where
   pub word : (fields : List Field) (text : List ℕ) (word : Word) → IsUtf8 text → IsWordText words text word → ask_by words fields text ≡ judged fields word
   pub total : (fields : List Field) (text : List ℕ) → IsUtf8 text → Answers words fields text (ask_by words fields text)
 
 -- a shorter front of a text goes on to the same word
-continues_shorter : (words : Words) (text : List ℕ) (m n : ℕ) → m ≤ n → Continues words (take n text) → Continues words (take m text)
+continues_shorter : (words : AskForms) (text : List ℕ) (m n : ℕ) → m ≤ n → Continues words (take n text) → Continues words (take m text)
 continues_shorter words text m n short (word, rest, is) = (
   word,
   drop m (take n text) ++ rest,
   record { among = is.among; formed = is.formed; written = shorter text m n rest short ∙ is.written },
 )
 
-no_word : (words : Words) (text : List ℕ) (place : ℕ) (word : Word) → BreaksAt words text place → IsWordText words text word → ⊥
+no_word : (words : AskForms) (text : List ℕ) (place : ℕ) (word : Word) → BreaksAt words text place → IsWordText words text word → ⊥
 no_word words text place word stop is =
     elim (cases_lt place (length text)) [
       | inl inside ↦ stop.stops inside (
@@ -47,11 +47,11 @@ no_word words text place word stop is =
       | inr past ↦ stop.unfinished (omega (arith, stop.within)) word is
     ]
 
-one_place : (words : Words) (text : List ℕ) (m n : ℕ) → BreaksAt words text m → BreaksAt words text n → m < n → ⊥
+one_place : (words : AskForms) (text : List ℕ) (m n : ℕ) → BreaksAt words text m → BreaksAt words text n → m < n → ⊥
 one_place words text m n stop stop' before =
     stop.stops (omega (arith, stop'.within)) (continues_shorter words text (m + 1) n (omega arith) stop'.continues)
 
-same_place : (words : Words) (text : List ℕ) (m n : ℕ) → BreaksAt words text m → BreaksAt words text n → m ≡ n
+same_place : (words : AskForms) (text : List ℕ) (m n : ℕ) → BreaksAt words text m → BreaksAt words text n → m ≡ n
 same_place words text m n stop stop' = elim (cases_lt m n) [
   | inl before ↦ absurd (one_place words text m n stop stop' before)
   | inr past ↦ elim (cases_lt n m) [
@@ -60,7 +60,7 @@ same_place words text m n stop stop' = elim (cases_lt m n) [
   ]
 ]
 
-module _ (words : Words) (read : IsRead words) (fields : List Field) where
+module _ (words : AskForms) (read : IsRead words) (fields : List Field) where
   pub read_once : (text : List ℕ) (answer : Result AskTree QueryError) → IsUtf8 text → Answers words fields text answer → ask_by words fields text ≡ answer
   read_once text answer utf8 (Answers.by_word word is e) = read.word fields text word utf8 is ∙ e
   read_once text answer utf8 (Answers.by_place place stop e) = stopped (read.total fields text utf8)
@@ -215,6 +215,6 @@ says_ask fields text (Err Memory) utf8 said = tt
 
 -- ---- both
 
-pub words_read : (words : Words) → IsRead words
+pub words_read : (words : AskForms) → IsRead words
 words_read any_word = asks_read
 words_read queries = queries_read

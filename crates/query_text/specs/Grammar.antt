@@ -148,17 +148,17 @@ IsFormedWord (whole_query query) = IsFormed query
 IsFormedWord (dot_product name parts) = IsFormedName name × (0 < length parts)
 
 -- the words that a parser reads: all, or only queries
-pub data Words : Type 0 where
-  any_word : Words
-  queries : Words
+pub data AskForms : Type 0 where
+  any_word : AskForms
+  queries : AskForms
 
-abbrev pub IsAmong : Words → Word → Type 0
+abbrev pub IsAmong : AskForms → Word → Type 0
 IsAmong any_word word = Unit {0}
 IsAmong queries (whole_query query) = Unit {0}
 IsAmong queries (dot_product name parts) = ⊥
 
 -- the text is this word, which may have any depth, and numbers and texts of any size
-pub record IsWordText (words : Words) (text : List ℕ) (word : Word) : Type 0 where
+pub record IsWordText (words : AskForms) (text : List ℕ) (word : Word) : Type 0 where
   pub among : IsAmong words word
   pub formed : IsFormedWord word
   pub written : text ≡ word_text word
@@ -331,23 +331,23 @@ judged fields word = unless_unknown (unknown_at fields word)
 -- ---- the answers of the grammar
 
 -- some word begins with this text
-abbrev pub Continues : Words → List ℕ → Type 0
+abbrev pub Continues : AskForms → List ℕ → Type 0
 Continues words front = (word : Word) × (rest : List ℕ) × IsWordText words (front ++ rest) word
 
 -- the text is not a word; `place` is the first byte with which no word continues, or the text's length
-pub record BreaksAt (words : Words) (text : List ℕ) (place : ℕ) : Type 0 where
+pub record BreaksAt (words : AskForms) (text : List ℕ) (place : ℕ) : Type 0 where
   pub within : place ≤ length text
   pub continues : Continues words (take place text)
   pub stops : place < length text → ¬ (Continues words (take (place + 1) text))
   pub unfinished : place ≡ length text → (word : Word) → ¬ (IsWordText words text word)
 
 -- the answer to a text: that of its word, or the place from which on it is not a word
-pub data Answers (words : Words) (fields : List Field) (text : List ℕ) (answer : Result AskTree QueryError) : Type 0 where
+pub data Answers (words : AskForms) (fields : List Field) (text : List ℕ) (answer : Result AskTree QueryError) : Type 0 where
   by_word : (word : Word) → IsWordText words text word → judged fields word ≡ answer → Answers words fields text answer
   by_place : (place : ℕ) → BreaksAt words text place → Err (Syntax place) ≡ answer → Answers words fields text answer
 
 -- the refusal of a parser is that of the grammar, unless memory was exhausted
-abbrev pub RefusesAs : Words → List Field → List ℕ → QueryError → Type 0
+abbrev pub RefusesAs : AskForms → List Field → List ℕ → QueryError → Type 0
 RefusesAs words fields text (Syntax place) = Answers words fields text (Err (Syntax place))
 RefusesAs words fields text (NoField place) = Answers words fields text (Err (NoField place))
 RefusesAs words fields text WrongType = Answers words fields text (Err WrongType)

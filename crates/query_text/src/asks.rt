@@ -1,3 +1,5 @@
+//! Reads a query or a dot product from a text.
+
 ghost use Rattle.std.specs.Prelude.{◌≡◌, ◌<◌, ◌^◌, length, slice_get, true};
 ghost use Rattle.query_text.specs.Asks.{hits_checked, hits_judged, query_of, dot_checked, dot_judged, dot_if, ask_of, ParsesAs, AsksAs};
 ghost use Rattle.query_text.specs.Dot.{dot_surveyed};

@@ -1,2 +1,4 @@
+//! Dot products: scanned, then read.
+
 pub mod read;
 pub mod survey;

@@ -1,3 +1,5 @@
+//! Reads the members of `and(..)` and `or(..)`.
+
 ghost use Rattle.std.specs.Prelude.{◌≡◌, ◌≤◌, ◌<◌, ◌^◌, length, map, option_map, Some};
 ghost use Rattle.attr_types.specs.Query.{tree_of};
 ghost use Rattle.query_text.specs.Grammar.{field_number};

@@ -1,3 +1,5 @@
+//! The states of the scan of a query, and how a byte changes them.
+
 ghost use Rattle.std.specs.Prelude.{◌≡◌};
 ghost use Rattle.query_text.specs.Modes.{is_digit, number_begun, text_begun, value_begun, leaf_begun, query_begun, query_ended};
 ghost use Rattle.query_text.specs.Modes.{number_ended};

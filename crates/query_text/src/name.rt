@@ -1,3 +1,5 @@
+//! Reads names of attributes.
+
 ghost use Rattle.std.specs.Prelude.{◌≡◌, ◌≤◌, ◌<◌, IfSome, length, option_map};
 ghost use Rattle.std.specs.List.{position};
 ghost use Rattle.query_text.specs.Reading.{ends_name, name_end, name_at_front, begins_so, after_name};

@@ -1,3 +1,5 @@
+//! Reads numbers, texts and leaves at the front of a text.
+
 ghost use Rattle.std.specs.Prelude.{◌≡◌, ◌≤◌, length, option_map, true, false, Some, None, if◌then◌else◌};
 ghost use Rattle.query_text.specs.Modes.{is_digit};
 ghost use Rattle.query_text.specs.Survey.{is_long_size};

@@ -1,3 +1,5 @@
+//! Scans a query byte by byte, and finds the first fault.
+
 ghost use Rattle.std.specs.Prelude.{◌≡◌, ◌<◌, ◌≤◌, ◌^◌, ◌+◌, IfSome, length};
 ghost use Rattle.query_text.specs.Grammar.{type_at, first_found, unknown_if};
 ghost use Rattle.query_text.specs.Survey.{is_right, is_in_size, ends_value, ends_query, is_complete, depth_after, begins_after, found_at};

@@ -239,3 +239,24 @@ pub record Seals {H : Type 0} (old new : Ledger H) (b : ℕ) : Type 0 where
   pub sealed : (a : ℕ) → new.sealed a ≡ (if nat_eq a b then true else old.sealed a)
   pub counts : (width : ℕ) → SealsOf (old.of_width width) (new.of_width width)
   pub same : new ≡ record old { sealed = new.sealed; of_width = new.of_width }
+
+-- a width gets the spare entries of a buffer back
+pub record UnsealsOf (old new : OfWidth) : Type 0 where
+  pub made : new.made ≡ old.made
+  pub buffers : new.buffers ≡ old.buffers
+  pub filled : new.filled ≡ old.filled
+  pub spare : old.spare ≤ new.spare
+  pub fresh : new.fresh ≡ old.fresh
+
+-- a buffer is no longer sealed: what is free in it can be made again
+pub record Unseals {H : Type 0} (old new : Ledger H) (b : ℕ) : Type 0 where
+  pub sealed : (a : ℕ) → new.sealed a ≡ (if nat_eq a b then false else old.sealed a)
+  pub counts : (width : ℕ) → UnsealsOf (old.of_width width) (new.of_width width)
+  pub same : new ≡ record old { sealed = new.sealed; of_width = new.of_width }
+
+-- a sealed buffer that may be used again: it is not finished, and no commit has left out an entry of it
+pub record CanUnseal {H : Type 0} (bits : ℕ) (ledger : Ledger H) (b : ℕ) : Type 0 where
+  pub unit : ledger.unit ≡ false
+  pub sealed : ledger.sealed b ≡ true
+  pub unfinished : ledger.finished ≢ Some b
+  pub none_left : (r : ℕ) → ledger.status r ≡ Status.left → buffer_of bits r ≢ b

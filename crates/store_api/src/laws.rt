@@ -1,3 +1,5 @@
+//! Laws of stores and of what structures own in them.
+
 ghost use Rattle.std.specs.Prelude.{◌≡◌, ◌<◌, ◌≤◌, ◌*◌, ◌∷◌, [], ℕ, List, length, nat_eq, true, false};
 ghost use Rattle.entry_ref.specs.References.{buffer_of};
 ghost use Rattle.entry_ref.specs.Images.{image_of, words_at};

@@ -1,3 +1,5 @@
+//! Makes and drops one entry that a structure owns.
+
 ghost use Rattle.std.specs.Prelude.{◌≡◌, ◌≢◌, ◌≤◌, [], ◌∷◌, ℕ, true, false, length, IfOk, IfErr, OnErr};
 ghost use Rattle.entry_ref.specs.References.{buffer_of};
 ghost use Rattle.arena_api.specs.Calls.{padded};

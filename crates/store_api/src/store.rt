@@ -1,3 +1,5 @@
+//! The trait `Store`: entries in the buffers of a memory, with a ledger of their states.
+
 ghost use Rattle.std.specs.Prelude.{◌≡◌, ◌<◌, ◌≤◌, ◌+◌, ◌-◌, ◌*◌, ◌/◌, ◌↔◌, ℕ, List, None, Some, true, false, length, IfOk, IfErr, OnErr};
 ghost use Rattle.std.specs.Prelude.{IfSome, IfNone};
 ghost use Rattle.std.specs.List.{IsDistinct, All};
@@ -13,7 +15,7 @@ ghost use Rattle.store_api.specs.Ledgers.{Ledger, IsEntryOf, IsSpare, IsHeldEntr
 ghost use Rattle.store_api.specs.Ledgers.{is_width, widths};
 ghost use Rattle.store_api.specs.Units.{MayDo};
 ghost use Rattle.store_api.specs.Calls.{GivesBack, MayGiveBack, Makes, Refuses, ComesAfter, DropsEntry};
-ghost use Rattle.store_api.specs.Calls.{Accepts, Undoes, IsWhole, StoresCommit, Seals};
+ghost use Rattle.store_api.specs.Calls.{Accepts, Undoes, IsWhole, StoresCommit, Seals, CanUnseal, Unseals};
 ghost use Rattle.store_api.specs.Victims.{IsVictim, HasNoVictim};
 ghost use Rattle.store_api.specs.Usages.{IsUsage};
 
@@ -153,6 +155,12 @@ pub trait Store<const OFFSET_BITS: u32>: Frozen<OFFSET_BITS> {
         ensures seals { Seals (ledger self.old) (ledger self.new) buffer }
         ensures records { Self.records self.new ≡ Self.records self.old };
 
+    /// Takes the seal of a buffer away, which a compaction gives up: entries are made in it again.
+    fn unseal(&mut self, buffer: u32)
+        requires { CanUnseal OFFSET_BITS (ledger self.old) buffer }
+        ensures unseals { Unseals (ledger self.old) (ledger self.new) buffer }
+        ensures records { Self.records self.new ≡ Self.records self.old };
+
     /// Marks a sealed buffer, so that the next commit puts it on hold.
     fn finish(&mut self, buffer: u32)
         requires sealed { (ledger self.old).sealed buffer ≡ true }
@@ -219,6 +227,12 @@ pub trait Store<const OFFSET_BITS: u32>: Frozen<OFFSET_BITS> {
         → Self.records s r ≡ words_at (last_image (ledger s).work.commits) r };
 
     ghost settled: { (s : Self) → (ledger s).unit ≡ false → IsSettled (ledger s) (Self.records s) };
+
+    // an entry that a commit left out lies in a sealed buffer
+    ghost left_out: { (s : Self) (r : ℕ) → (ledger s).status r ≡ Status.left → (ledger s).sealed (buffer_of OFFSET_BITS r) ≡ true };
+
+    // no unit leaves an entry out, or changes one that was left out
+    ghost left_stays: { (s : Self) (r : ℕ) → ((ledger s).status r ≡ Status.left) ↔ ((ledger s).back r ≡ Status.left) };
 
     // what was in use before the open unit keeps its words until the unit ends
     ghost steady: { (s : Self) (r : ℕ) → in_use ((ledger s).back r) ≡ true → Self.records s r ≡ (ledger s).back_records r };

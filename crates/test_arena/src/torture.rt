@@ -22,6 +22,7 @@ const LOOKS: u64 = 1_000_000_000_000;
 /// What a reader saw.
 #[derive(Clone, Copy, Debug, Default, Drop)]
 pub struct Sight {
+    /// Looks at a commit: two under each hold.
     pub guards: u64,
     /// Holds that were closed when the reader raised them.
     pub bounces: u64,
@@ -73,11 +74,14 @@ impl Sight {
     }
 }
 
-/// Makes one look: takes a guard, reads its words and releases it; or finds the hold closed.
+/// Makes one look: takes a guard, reads its words, loads the root again under the same hold, reads that commit's words and
+/// releases the hold; or finds the hold closed.
 fn look(aimed: Aimed<22, OneNode>, sight: &mut Sight) -> Reader<22, OneNode> {
     match raised(aimed) {
         Ok(held) => {
             let mut held = held;
+            sight.note(held.look());
+            let mut held = held.again();
             sight.note(held.look());
             held.release()
         }

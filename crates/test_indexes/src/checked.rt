@@ -1,3 +1,5 @@
+//! An index over a memory, with a copy of all that it stored.
+
 use crate::plain::Plain;
 use crate::run::{Load, differs_on, root_of};
 use crate::stores::{new_memory, noted_lists};

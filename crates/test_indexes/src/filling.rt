@@ -1,3 +1,5 @@
+//! Dictionaries filled with values.
+
 ghost use Rattle.std.specs.Prelude.{◌≡◌, ◌↔◌, IfOk, IsTrue};
 ghost use Rattle.attr_types.specs.Value.{type_of};
 ghost use Rattle.store_api.specs.Ledgers.{IsNew};

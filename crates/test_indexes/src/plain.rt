@@ -1,3 +1,5 @@
+//! The expected contents of an index.
+
 use std::alloc::{AllocError, Global};
 use std::collections::BTreeMap;
 

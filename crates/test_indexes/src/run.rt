@@ -1,3 +1,5 @@
+//! Random changes of an index beside its plain model.
+
 use crate::plain::{Plain, push_documents};
 use arena_api::Work;
 use attr_types::{Doc, Value};

@@ -5,7 +5,7 @@ use Rattle.attr_types.specs.declared.field.Field.{Field}
 use Rattle.attr_types.specs.Query.{QueryTree}
 use Rattle.attr_types.specs.Query as trees
 use Rattle.attr_types.specs.Scores.{AskTree, hits_of, dot_of}
-use Rattle.query_text.specs.Grammar.{NamedTree, NamedTrees, one, and, or, no_trees, tree, Words, Word, whole_query, dot_product}
+use Rattle.query_text.specs.Grammar.{NamedTree, NamedTrees, one, and, or, no_trees, tree, AskForms, Word, whole_query, dot_product}
 use Rattle.query_text.specs.Grammar.{IsAmong, IsFormedWord, field_of, has_types, has_range, word_levels}
 use Rattle.query_text.specs.Laws.{ask_by}
 
@@ -56,7 +56,7 @@ pub record IsLawfulAsk (fields : List Field) (ask : AskTree) : Type 0 where
 
 -- if the ask is lawful, each parser of such words reads the text as this ask
 abbrev pub ReadsBackAs : List Field → List ℕ → AskTree → Type 0
-ReadsBackAs fields text ask = (words : Words) → IsAmong words (named_word fields ask) → IsLawfulAsk fields ask
+ReadsBackAs fields text ask = (words : AskForms) → IsAmong words (named_word fields ask) → IsLawfulAsk fields ask
     → ask_by words fields text ≡ Ok ask
 
 -- the text before a member of a list, by the number of members before it

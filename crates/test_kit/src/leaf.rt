@@ -1,3 +1,5 @@
+//! Writes leaves of queries as texts.
+
 ghost use Rattle.std.specs.Prelude.{◌≡◌, ◌++◌, IfOk, OnOk, string_bytes};
 ghost use Rattle.std.specs.List.{flat_map};
 ghost use Rattle.query_text.specs.Grammar.{number_text, escaped, quoted, value_text, option_text, leaf_text};

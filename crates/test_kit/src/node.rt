@@ -1,3 +1,5 @@
+//! The layout whose root is one node.
+
 ghost use Rattle.std.specs.Prelude.{◌≡◌, length};
 
 use entry_ref::Layout;

@@ -1,3 +1,5 @@
+//! A memory with a copy of what was stored last at each reference.
+
 ghost use Rattle.std.specs.Prelude.{◌≡◌, ◌≢◌, ◌<◌, ◌≤◌, ◌+◌, ◌^◌, ℕ, length, IfSome, take, drop};
 ghost use Rattle.entry_ref.specs.References.{buffer_of};
 ghost use Rattle.entry_ref.specs.Images.{words_at};
@@ -122,6 +124,9 @@ impl<const OFFSET_BITS: u32, W: Work<OFFSET_BITS>> Work<OFFSET_BITS> for NotedWo
             ≡ record (⟦<NotedWork<OFFSET_BITS, W> as Work<OFFSET_BITS>>⟧.knows self.old) {
               stored = (⟦<NotedWork<OFFSET_BITS, W> as Work<OFFSET_BITS>>⟧.knows self.new).stored;
             } }
+        ensures apart { (q i : ℕ) → q ≢ entry.entry
+            → (⟦<NotedWork<OFFSET_BITS, W> as Work<OFFSET_BITS>>⟧.knows self.new).stored q i
+            ≡ (⟦<NotedWork<OFFSET_BITS, W> as Work<OFFSET_BITS>>⟧.knows self.old).stored q i }
         ensures shape { ⟦<NotedWork<OFFSET_BITS, W> as Frozen<OFFSET_BITS>>⟧.shape self.new
             ≡ ⟦<NotedWork<OFFSET_BITS, W> as Frozen<OFFSET_BITS>>⟧.shape self.old }
     {

@@ -1,3 +1,5 @@
+//! The words that were stored last at each reference.
+
 use std::alloc::{AllocError, Global};
 use std::collections::BTreeMap;
 

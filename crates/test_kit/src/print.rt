@@ -1,3 +1,5 @@
+//! Writes queries and asks as texts.
+
 ghost use Rattle.std.specs.Prelude.{◌≡◌, ◌++◌, IfOk, OnOk, string_bytes};
 ghost use Rattle.attr_types.specs.Scores.{hits_of, dot_of, ask_tree};
 ghost use Rattle.attr_types.specs.Query.{tree_of, query_trees};

@@ -1,3 +1,5 @@
+//! Pseudorandom numbers for tests.
+
 /// Pseudorandom numbers, the same in every run: a xorshift of 64 bits.
 #[derive(Clone, Copy)]
 pub struct Random {

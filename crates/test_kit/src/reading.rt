@@ -1,3 +1,5 @@
+//! The contents of an index, by walks.
+
 ghost use Rattle.std.specs.Prelude.{◌≡◌, map, IfOk};
 ghost use Rattle.image_format.specs.Postings.{index_of};
 ghost use Rattle.image_format.specs.Values.{stored_value, IsValueRecord};

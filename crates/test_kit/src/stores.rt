@@ -1,3 +1,5 @@
+//! Stores for tests.
+
 ghost use Rattle.arena_api.specs.Calls.{IsFresh};
 
 use crate::value_lists::ValueLists;

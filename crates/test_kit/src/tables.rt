@@ -1,3 +1,5 @@
+//! Compares an image with a plain table.
+
 use attr_types::{Doc, FieldItems, Items};
 use std::collections::BTreeMap;
 

@@ -1,3 +1,5 @@
+//! Texts for tests.
+
 use attr_types::Text;
 use std::alloc::{AllocError, Global};
 

@@ -1,3 +1,5 @@
+//! An index alone in a store.
+
 ghost use Rattle.std.specs.Prelude.{◌≡◌, ◌↔◌, [], map, true, IfOk, OnErr, IsSome, IsTrue};
 ghost use Rattle.std.specs.BTreeMap.{is_at};
 ghost use Rattle.std.specs.Map.{lookup};

@@ -1,3 +1,5 @@
+//! What a run of operations counted.
+
 /// The result of a run.
 #[derive(Clone, Copy, Default)]
 pub struct Told {

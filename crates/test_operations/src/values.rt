@@ -1,3 +1,5 @@
+//! The values of tests.
+
 use attr_types::{Value, ValueType};
 use std::alloc::{AllocError, Global};
 use test_kit::text_at;

@@ -1,3 +1,4 @@
+//! Runs of `attr_main` with the words of a line, a feed and a sink in memory, and what they answer.
 use attr_io::{Gate, NoGate, Sink, SliceSource, Source, VecSink};
 use attr_run::{Outcome, Status, Words, attr_main};
 use std::alloc::{AllocError, Global};
@@ -72,26 +73,6 @@ pub fn told<R: Threads + Sync, G: Gate + Sync + 'static>(
     let mut sink = VecSink::create(alloc, room)?;
     let outcome = run_line(rt, alloc, words, feed, &mut sink, gate)?;
     line_of(alloc, outcome.status.exit_code(), sink.taken())
-}
-
-fn hex_of(alloc: Global, code: u8, bytes: &[u8]) -> Result<String, AllocError> {
-    let mut line = format!(in alloc; "{code} ")?;
-    for byte in bytes {
-        write!(line, "{byte:02x}")?;
-    }
-    Ok(line)
-}
-
-/// Returns the exit status of a run and the bytes that it writes, in hexadecimal.
-pub fn saved<R: Threads + Sync>(
-    rt: &R,
-    alloc: Global,
-    words: &str,
-    feed: &str,
-) -> Result<String, AllocError> {
-    let mut sink = VecSink::create(alloc, 4096)?;
-    let outcome = run_line(rt, alloc, words, feed, &mut sink, &NoGate)?;
-    hex_of(alloc, outcome.status.exit_code(), sink.taken())
 }
 
 fn room_in(alloc: Global, status: &Status) -> Result<String, AllocError> {

@@ -1,3 +1,5 @@
+//! Rows of tests over a new store.
+
 ghost use Rattle.std.specs.Prelude.{◌≡◌, ◌<◌, ◌≤◌, true};
 ghost use Rattle.entry_ref.specs.References.{buffer_limit, offset_limit};
 ghost use Rattle.store_api.specs.Ledgers.{is_width, IsNew};

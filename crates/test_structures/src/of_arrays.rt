@@ -1,3 +1,5 @@
+//! Rows of arrays.
+
 ghost use Rattle.std.specs.Prelude.{◌≤◌, length};
 ghost use Rattle.store_api.specs.Ledgers.{IsNew};
 

@@ -1,3 +1,5 @@
+//! Rows of buffer states and victims.
+
 use buffer_states::{BufferState, Buffers};
 use std::alloc::{AllocError, Global};
 use std::test::Fail;

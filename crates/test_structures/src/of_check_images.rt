@@ -1,3 +1,5 @@
+//! Rows of the checker of images, each with one word wrong.
+
 ghost use Rattle.std.specs.Prelude.{◌≤◌, length, IfOk};
 
 use crate::made::{Row, Words, one_field, records_of, two_fields};

@@ -1,3 +1,5 @@
+//! Rows of the checker of trees, each with one word wrong.
+
 use crate::made::{Row, Words, records_of, root};
 use attr_types::ValueType;
 use check_images::{CheckFault, Keys, check_tree, is_node_form};

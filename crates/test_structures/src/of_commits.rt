@@ -1,3 +1,5 @@
+//! Rows of commits of a root record.
+
 ghost use Rattle.std.specs.Prelude.{◌≡◌, ◌<◌, ◌≤◌, true, false, [], ◌∷◌, None, IfOk, OnOk};
 ghost use Rattle.entry_ref.specs.References.{buffer_of};
 ghost use Rattle.store_api.specs.Ledgers.{is_width, is_this, IsNew};

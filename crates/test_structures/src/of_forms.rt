@@ -1,3 +1,5 @@
+//! Rows of the forms of posting lists.
+
 ghost use Rattle.store_api.specs.Ledgers.{IsNew};
 
 use crate::cases::{Case, Row, right_rows};

@@ -1,3 +1,5 @@
+//! Rows of the memory without readers.
+
 use arena_api::Work;
 use entry_ref::EntryRef;
 use mem_work::{MemWork, OneRecord};

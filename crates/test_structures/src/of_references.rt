@@ -1,3 +1,5 @@
+//! Rows of references.
+
 ghost use Rattle.std.specs.Prelude.{◌<◌};
 ghost use Rattle.entry_ref.specs.References.{buffer_limit, offset_limit};
 

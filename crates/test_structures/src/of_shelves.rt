@@ -1,3 +1,5 @@
+//! Rows of the shelves of a ledger.
+
 ghost use Rattle.std.specs.Prelude.{◌≡◌};
 ghost use Rattle.entry_ledger.specs.States.{empty_shelf};
 

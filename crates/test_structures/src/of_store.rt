@@ -1,3 +1,5 @@
+//! Rows of the store: undo, full, reclaim.
+
 ghost use Rattle.std.specs.Prelude.{◌≡◌, true, false};
 ghost use Rattle.store_api.specs.Ledgers.{is_width, IsNew};
 

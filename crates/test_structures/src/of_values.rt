@@ -1,3 +1,5 @@
+//! Rows of stored values.
+
 ghost use Rattle.std.specs.Prelude.{◌≡◌, IsTrue};
 ghost use Rattle.attr_types.specs.Value.{type_of};
 ghost use Rattle.store_api.specs.Ledgers.{IsNew};

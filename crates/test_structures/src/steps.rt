@@ -1,3 +1,5 @@
+//! Short programs over posting lists.
+
 ghost use Rattle.std.specs.Prelude.{◌≡◌, ◌≤◌, pos, true, false, IfOk};
 ghost use Rattle.posting_store.specs.Lists.{IsList};
 ghost use Rattle.store_api.specs.Ledgers.{IsNew};

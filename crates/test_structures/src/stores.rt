@@ -1,3 +1,5 @@
+//! New stores for rows.
+
 ghost use Rattle.std.specs.Prelude.{◌≡◌, ◌<◌, ◌≤◌, true, false, [], IfOk};
 ghost use Rattle.entry_ref.specs.References.{buffer_limit, offset_limit};
 ghost use Rattle.store_api.specs.Ledgers.{is_width, IsNew};

@@ -1,6 +1,6 @@
 //! Rows: `fields ..` begins a row; `feed LINE`, `part TEXT`, `times N TEXT`, `lines N` and `byte N` make its feed;
-//! `read ..` and `table ..` give what must be read of it, and the table after it. Other lines are comments.
-use crate::feeds::{answer_to, table_after};
+//! `read ..` gives what must be read of it. Other lines are comments.
+use crate::feeds::answer_to;
 use crate::fields::fields_in;
 use std::alloc::{AllocError, Global};
 use std::io;
@@ -80,12 +80,6 @@ impl FeedRows {
         answer_to(alloc, &self.feed, &fields)
     }
 
-    /// Returns the table after it.
-    fn table(&self, alloc: Global) -> Result<String, AllocError> {
-        let fields = fields_in(alloc, &self.fields)?;
-        table_after(alloc, &self.feed, fields)
-    }
-
     pub fn take(&mut self, rt: &HostRuntime, line: &str) -> io::Result<()> {
         let alloc = rt.alloc();
         let (kind, rest) = line.split_once(' ').unwrap_or((line, ""));
@@ -93,10 +87,6 @@ impl FeedRows {
             "fields" => Ok(self.begin(alloc, rest)?),
             "read" => {
                 let found = self.read(alloc)?;
-                self.tally.note(rt, &self.fields, &found, rest)
-            }
-            "table" => {
-                let found = self.table(alloc)?;
                 self.tally.note(rt, &self.fields, &found, rest)
             }
             _ => Ok(push_line(alloc, &mut self.feed, line)?),

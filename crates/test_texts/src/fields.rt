@@ -1,3 +1,5 @@
+//! Attributes from short texts.
+
 use attr_types::{Field, Fields, Kind, Name, ValueType};
 use std::alloc::{AllocError, Global};
 

@@ -78,7 +78,7 @@ fn push_change(text: &mut String, change: &Change) -> Result<(), AllocError> {
     }
 }
 
-pub fn push_document(text: &mut String, document: &[Items]) -> Result<(), AllocError> {
+fn push_document(text: &mut String, document: &[Items]) -> Result<(), AllocError> {
     let mut between = "";
     for items in document {
         text.push_str(between)?;

@@ -1,3 +1,5 @@
+//! Rows of command lines.
+
 use attr_types::{Field, Fields};
 use command_line::{Settings, WordsError, read_words};
 use std::alloc::{AllocError, Global};

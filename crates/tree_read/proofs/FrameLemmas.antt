@@ -5,8 +5,8 @@ use Rattle.entry_ref.specs.Records.{Records, SameAt}
 use Rattle.tree_read.specs.Nodes.{level_of, used_of, node_values}
 use Rattle.tree_read.specs.ProofsForTrees.{SameAt-left, SameAt-right, flat_map-same, pairs-same, node-same, IsRootNode-same}
 use Rattle.tree_read.specs.Trees.{pairs_below, nodes_below, root_level, tree_nodes, IsNode}
-use Rattle.tree_read.specs.Steps.{Step}
-use Rattle.tree_read.specs.SearchPlaces.{Place, LeadsTo, pairs_behind, HasPair, pairs_from, IsInLeaf, IsAt}
+use Rattle.tree_read.specs.Steps.{PathStep}
+use Rattle.tree_read.specs.SearchPlaces.{CursorPlace, LeadsTo, pairs_behind, HasPair, pairs_from, IsInLeaf, IsAt}
 use Rattle.tree_read.proofs.RootLemmas.{tree_nodes-at}
 use Rattle.tree_read.proofs.ChildLemmas.{get_or-node_values, values-size}
 use Rattle.tree_read.proofs.PlaceLemmas.{path-node, root_node, pairs_from-some, pairs_from-none}
@@ -27,7 +27,7 @@ unfolding nodes_below
 children_same m n level ref same = same.1
 
 module _ (m n : Records) (top root : ℕ) (node : IsNode m 1 top root) (same : SameAt (nodes_below m top root) m n) where
-  path_same : (path : List Step) (level ref : ℕ) → LeadsTo m top root path level ref → SameAt (nodes_below m level ref) m n
+  path_same : (path : List PathStep) (level ref : ℕ) → LeadsTo m top root path level ref → SameAt (nodes_below m level ref) m n
   path_same [] level ref leads = subst (λ l. SameAt (nodes_below m l ref) m n) (sym leads.0) (subst (λ q. SameAt (nodes_below m top q) m n) (sym leads.1) same)
   path_same (step ∷ path) level ref leads =
       let up = path_same path (suc level) step.node leads.2 in
@@ -36,16 +36,16 @@ module _ (m n : Records) (top root : ℕ) (node : IsNode m 1 top root) (same : S
       let below = SameAt-child m n (nodes_below m level) (node_values (m step.node)) step.slot (omega arith) (children_same m n level step.node up) in
       subst (λ q. SameAt (nodes_below m level q) m n) (get_or-node_values (m step.node) step.slot leads.0 ∙ sym leads.1) below
 
-  step_same : (step : Step) (path : List Step) (level : ℕ) → LeadsTo m top root path (suc level) step.node → n step.node ≡ m step.node
+  step_same : (step : PathStep) (path : List PathStep) (level : ℕ) → LeadsTo m top root path (suc level) step.node → n step.node ≡ m step.node
   step_same step path level leads = node-same m n (suc level) step.node (path_same path (suc level) step.node leads)
 
-  leads_same : (path : List Step) (level ref : ℕ) → LeadsTo m top root path level ref → LeadsTo n top root path level ref
+  leads_same : (path : List PathStep) (level ref : ℕ) → LeadsTo m top root path level ref → LeadsTo n top root path level ref
   leads_same [] level ref leads = leads
   leads_same (step ∷ path) level ref leads =
       let e = step_same step path level leads.2 in
       (subst (λ ws. step.slot < used_of ws) (sym e) leads.0, leads.1 ∙ ap (λ ws. get_or ws (18 + step.slot) 0) (sym e), leads_same path (suc level) step.node leads.2)
 
-  behind_same : (path : List Step) (level ref : ℕ) → LeadsTo m top root path level ref → pairs_behind n level path ≡ pairs_behind m level path
+  behind_same : (path : List PathStep) (level ref : ℕ) → LeadsTo m top root path level ref → pairs_behind n level path ≡ pairs_behind m level path
   behind_same [] level ref leads = refl
   behind_same (step ∷ path) level ref leads =
       let vs = drop (suc step.slot) (node_values (m step.node)) in
@@ -55,7 +55,7 @@ module _ (m n : Records) (top root : ℕ) (node : IsNode m 1 top root) (same : S
       ∙ ap (λ ps. ps ++ pairs_behind n (suc level) path) (flat_map-same m n (nodes_below m level) (pairs_below m level) (pairs_below n level) (pairs-same m n level) vs all)
       ∙ ap (λ ps. flat_map (pairs_below m level) vs ++ ps) (behind_same path (suc level) step.node leads.2)
 
-module _ (m n : Records) (at : Place) (same : SameAt (tree_nodes m at.root) m n) where
+module _ (m n : Records) (at : CursorPlace) (same : SameAt (tree_nodes m at.root) m n) where
   nodes_same : 0 < at.root → SameAt (nodes_below m (root_level m at.root) at.root) m n
   nodes_same some = subst (λ qs. SameAt qs m n) (tree_nodes-at m at.root some) same
 

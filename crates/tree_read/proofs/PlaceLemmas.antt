@@ -6,8 +6,8 @@ use Rattle.entry_ref.specs.Records.{Records, word_at}
 use Rattle.tree_read.specs.Nodes.{level_of, used_of, count_of, node_values}
 use Rattle.tree_read.specs.Trees.{pairs_below, root_level, root_least, tree_pairs, IsNode, IsRootNode}
 use Rattle.tree_read.proofs.TreeLemmas.{IsNode-form}
-use Rattle.tree_read.specs.Steps.{Step}
-use Rattle.tree_read.specs.SearchPlaces.{Place, LeadsTo, Leads, pairs_behind, HasPair, pairs_from, IsAt, first_key, first_value}
+use Rattle.tree_read.specs.Steps.{PathStep}
+use Rattle.tree_read.specs.SearchPlaces.{CursorPlace, LeadsTo, Leads, pairs_behind, HasPair, pairs_from, IsAt, first_key, first_value}
 use Rattle.tree_read.proofs.ChildLemmas.{IsNode-lower, child-node, children, children-from, children-past, leaf-from, leaf-past}
 
 -- what holds of each pair holds of the first
@@ -20,12 +20,12 @@ root_some zero = omega arith
 root_some (suc level) = omega arith
 
 -- a path's length and the level that it leads to make the root's level
-pub path-length : (m : Records) (top root : ℕ) (path : List Step) (level ref : ℕ) → LeadsTo m top root path level ref → length path + level ≡ top
+pub path-length : (m : Records) (top root : ℕ) (path : List PathStep) (level ref : ℕ) → LeadsTo m top root path level ref → length path + level ≡ top
 path-length m top root [] level ref leads = let e = leads.0 in omega arith
 path-length m top root (step ∷ path) level ref leads = let e = path-length m top root path (suc level) step.node leads.2 in omega arith
 
 -- what a path leads to is a node with a used slot
-pub path-node : (m : Records) (top root : ℕ) → IsNode m 1 top root → (path : List Step) (level ref : ℕ) → LeadsTo m top root path level ref → IsNode m 1 level ref
+pub path-node : (m : Records) (top root : ℕ) → IsNode m 1 top root → (path : List PathStep) (level ref : ℕ) → LeadsTo m top root path level ref → IsNode m 1 level ref
 path-node m top root node [] level ref leads = subst (λ l. IsNode m 1 l ref) (sym leads.0) (subst (IsNode m 1 top) (sym leads.1) node)
 path-node m top root node (step ∷ path) level ref leads =
     let up = path-node m top root node path (suc level) step.node leads.2 in
@@ -35,10 +35,10 @@ path-node m top root node (step ∷ path) level ref leads =
 pub root_node : (m : Records) (root : ℕ) → IsRootNode m root → IsNode m 1 (root_level m root) root
 root_node m root node = IsNode-lower m (root_least (root_level m root)) 1 (root_level m root) root (let s = root_some (root_level m root) in omega arith) node
 
-pub leads-node : (m : Records) (root : ℕ) (path : List Step) (ref : ℕ) → Leads m root path ref → IsNode m 1 (level_of (m ref)) ref
+pub leads-node : (m : Records) (root : ℕ) (path : List PathStep) (ref : ℕ) → Leads m root path ref → IsNode m 1 (level_of (m ref)) ref
 leads-node m root path ref leads = path-node m (root_level m root) root (root_node m root leads.tree) path (level_of (m ref)) ref leads.leads
 
-pub leads-length : (m : Records) (root : ℕ) (path : List Step) (ref : ℕ) → Leads m root path ref → length path + level_of (m ref) ≤ 7
+pub leads-length : (m : Records) (root : ℕ) (path : List PathStep) (ref : ℕ) → Leads m root path ref → length path + level_of (m ref) ≤ 7
 leads-length m root path ref leads =
     let e = path-length m (root_level m root) root path (level_of (m ref)) ref leads.leads in omega arith
 
@@ -55,7 +55,7 @@ pub root_pairs : (m : Records) (root : ℕ) → 0 < root → IsRootNode m root �
 root_pairs m zero some tree = absurd (omega arith)
 root_pairs m (suc ref) some tree = ap (λ l. pairs_below m l (suc ref)) (sym (IsNode-form m (root_least (root_level m (suc ref))) (root_level m (suc ref)) (suc ref) tree).at_level)
 
-module _ (m : Records) (root : ℕ) (path : List Step) (node slot child : ℕ) (leads : Leads m root path node) (above : 0 < level_of (m node)) (low : slot < used_of (m node))
+module _ (m : Records) (root : ℕ) (path : List PathStep) (node slot child : ℕ) (leads : Leads m root path node) (above : 0 < level_of (m node)) (low : slot < used_of (m node))
     (is : child ≡ word_at m node (18 + slot)) where
   up : level_of (m node) ≡ suc (level_of (m node) - 1)
   up = omega arith
@@ -98,7 +98,7 @@ module _ (m : Records) (root : ℕ) (path : List Step) (node slot child : ℕ) (
       ∙ ap (λ ps. ps ++ pairs_behind m (level_of (m node)) path) (sym (children-from m 1 (level_of (m node)) l node up here slot low))
 
 -- at the first child
-pub from-first : (m : Records) (root : ℕ) (path : List Step) (node child : ℕ) → Leads m root path node → 0 < level_of (m node) → child ≡ word_at m node 18
+pub from-first : (m : Records) (root : ℕ) (path : List PathStep) (node child : ℕ) → Leads m root path node → 0 < level_of (m node) → child ≡ word_at m node 18
     → pairs_below m (level_of (m child)) child ++ pairs_behind m (level_of (m child)) (record { node = node; slot = 0 } ∷ path)
     ≡ pairs_below m (level_of (m node)) node ++ pairs_behind m (level_of (m node)) path
 from-first m root path node child leads above is =
@@ -106,17 +106,17 @@ from-first m root path node child leads above is =
     from-child m root path node 0 child leads above (let f = (IsNode-form m 1 (level_of (m node)) node here).filled in omega arith) is
     ∙ ap (λ ps. ps ++ pairs_behind m (level_of (m node)) path) (sym (children m 1 (level_of (m node)) (level_of (m node) - 1) node (omega arith) here))
 
-pub first-low : (m : Records) (root : ℕ) (path : List Step) (node : ℕ) → Leads m root path node → 0 < used_of (m node)
+pub first-low : (m : Records) (root : ℕ) (path : List PathStep) (node : ℕ) → Leads m root path node → 0 < used_of (m node)
 first-low m root path node leads = let f = (IsNode-form m 1 (level_of (m node)) node (leads-node m root path node leads)).filled in omega arith
 
 -- what a step down needs of the node and of its child
-pub step-size : (m : Records) (root : ℕ) (path : List Step) (node : ℕ) → Leads m root path node → length (m node) ≡ 34
+pub step-size : (m : Records) (root : ℕ) (path : List PathStep) (node : ℕ) → Leads m root path node → length (m node) ≡ 34
 step-size m root path node leads = (IsNode-form m 1 (level_of (m node)) node (leads-node m root path node leads)).size
 
-pub step-room : (m : Records) (root : ℕ) (path : List Step) (node : ℕ) → Leads m root path node → used_of (m node) ≤ 16
+pub step-room : (m : Records) (root : ℕ) (path : List PathStep) (node : ℕ) → Leads m root path node → used_of (m node) ≤ 16
 step-room m root path node leads = (IsNode-form m 1 (level_of (m node)) node (leads-node m root path node leads)).room
 
-pub step-child : (m : Records) (root : ℕ) (path : List Step) (node slot : ℕ) → Leads m root path node → 0 < level_of (m node) → slot < used_of (m node) → 0 < length (m (word_at m node (18 + slot)))
+pub step-child : (m : Records) (root : ℕ) (path : List PathStep) (node slot : ℕ) → Leads m root path node → 0 < level_of (m node) → slot < used_of (m node) → 0 < length (m (word_at m node (18 + slot)))
 step-child m root path node slot leads above low =
     let size = step-size m root (record { node = node; slot = slot } ∷ path) (word_at m node (18 + slot)) (leads-child m root path node slot (word_at m node (18 + slot)) leads above low refl) in
     omega arith
@@ -128,26 +128,26 @@ from_some slot used xs h = ap (λ b. if b then xs else []) (lt-ltb slot used h)
 from_none : {A : Type 0} (slot used : ℕ) (xs : List A) → used ≤ slot → (if nat_lt slot used then xs else []) ≡ []
 from_none slot used xs h = ap (λ b. if b then xs else []) (le-ltb slot used h)
 
-pub pairs_from-some : (m : Records) (at : Place) → HasPair at → pairs_from m at ≡ drop at.slot (pairs_below m 0 at.leaf) ++ pairs_behind m 0 at.path
+pub pairs_from-some : (m : Records) (at : CursorPlace) → HasPair at → pairs_from m at ≡ drop at.slot (pairs_below m 0 at.leaf) ++ pairs_behind m 0 at.path
 pairs_from-some m at h = from_some at.slot at.used (drop at.slot (pairs_below m 0 at.leaf) ++ pairs_behind m 0 at.path) h
 
-pub pairs_from-none : (m : Records) (at : Place) → at.used ≤ at.slot → pairs_from m at ≡ []
+pub pairs_from-none : (m : Records) (at : CursorPlace) → at.used ≤ at.slot → pairs_from m at ≡ []
 pairs_from-none m at h = from_none at.slot at.used (drop at.slot (pairs_below m 0 at.leaf) ++ pairs_behind m 0 at.path) h
 
 -- at a slot of a leaf
-pub at-slot : (m : Records) (root : ℕ) (path : List Step) (leaf slot used : ℕ) (words : List ℕ) → level_of (m leaf) ≡ 0 → slot < used
+pub at-slot : (m : Records) (root : ℕ) (path : List PathStep) (leaf slot used : ℕ) (words : List ℕ) → level_of (m leaf) ≡ 0 → slot < used
     → pairs_from m (record { root = root; path = path; leaf = leaf; slot = slot; used = used; words = words })
     ≡ drop slot (pairs_below m (level_of (m leaf)) leaf) ++ pairs_behind m (level_of (m leaf)) path
 at-slot m root path leaf slot used words low h =
     pairs_from-some m (record { root = root; path = path; leaf = leaf; slot = slot; used = used; words = words }) h
     ∙ ap (λ l. drop slot (pairs_below m l leaf) ++ pairs_behind m l path) (sym low)
 
-pub at-first : (m : Records) (root : ℕ) (path : List Step) (leaf used : ℕ) (words : List ℕ) → Leads m root path leaf → level_of (m leaf) ≡ 0 → used ≡ used_of (m leaf)
+pub at-first : (m : Records) (root : ℕ) (path : List PathStep) (leaf used : ℕ) (words : List ℕ) → Leads m root path leaf → level_of (m leaf) ≡ 0 → used ≡ used_of (m leaf)
     → pairs_from m (record { root = root; path = path; leaf = leaf; slot = 0; used = used; words = words }) ≡ pairs_below m (level_of (m leaf)) leaf ++ pairs_behind m (level_of (m leaf)) path
 at-first m root path leaf used words leads low is = at-slot m root path leaf 0 used words low (let some = first-low m root path leaf leads in omega arith)
 
 -- the way up from a leaf: the pairs behind a path that leads to some node
-pub record Climbs (m : Records) (root : ℕ) (path : List Step) (rest : List (ℕ × ℕ)) : Type 0 where
+pub record Climbs (m : Records) (root : ℕ) (path : List PathStep) (rest : List (ℕ × ℕ)) : Type 0 where
   pub level : ℕ
   pub ref : ℕ
   pub some : 0 < root
@@ -155,7 +155,7 @@ pub record Climbs (m : Records) (root : ℕ) (path : List Step) (rest : List (�
   pub leads : LeadsTo m (root_level m root) root path level ref
   pub pairs : pairs_behind m level path ≡ rest
 
-pub climbs-from : (m : Records) (root : ℕ) (path : List Step) (leaf : ℕ) → Leads m root path leaf → level_of (m leaf) ≡ 0 → Climbs m root path (pairs_behind m 0 path)
+pub climbs-from : (m : Records) (root : ℕ) (path : List PathStep) (leaf : ℕ) → Leads m root path leaf → level_of (m leaf) ≡ 0 → Climbs m root path (pairs_behind m 0 path)
 climbs-from m root path leaf leads flat = record {
   level = level_of (m leaf);
   ref = leaf;
@@ -165,7 +165,7 @@ climbs-from m root path leaf leads flat = record {
   pairs = ap (λ l. pairs_behind m l path) flat;
 }
 
-module _ (m : Records) (root : ℕ) (step : Step) (path : List Step) (rest : List (ℕ × ℕ)) (it : Climbs m root (step ∷ path) rest) where
+module _ (m : Records) (root : ℕ) (step : PathStep) (path : List PathStep) (rest : List (ℕ × ℕ)) (it : Climbs m root (step ∷ path) rest) where
   step_node : IsNode m 1 (suc it.level) step.node
   step_node = path-node m (root_level m root) root (root_node m root it.tree) path (suc it.level) step.node it.leads.2
 
@@ -212,7 +212,7 @@ pub climbs-end : (m : Records) (root : ℕ) (rest : List (ℕ × ℕ)) → Climb
 climbs-end m root rest it = sym it.pairs
 
 -- one pair on in a leaf, and from its last slot on
-pub next-slot : (m : Records) (at : Place) (next : ℕ) → IsAt m at → HasPair at → next ≡ suc at.slot → next < at.used
+pub next-slot : (m : Records) (at : CursorPlace) (next : ℕ) → IsAt m at → HasPair at → next ≡ suc at.slot → next < at.used
     → pairs_from m (record { root = at.root; path = at.path; leaf = at.leaf; slot = next; used = at.used; words = at.words }) ≡ drop 1 (pairs_from m at)
 next-slot m at next is pair e low =
     let leaf = is pair in
@@ -223,7 +223,7 @@ next-slot m at next is pair e low =
     ∙ ap (λ ps. drop 1 (ps ++ pairs_behind m 0 at.path)) (sym (leaf-from m 1 (level_of (m at.leaf)) at.leaf leaf.leaf node at.slot (omega arith)))
     ∙ ap (drop 1) (sym (pairs_from-some m at pair))
 
-pub next-behind : (m : Records) (at : Place) → IsAt m at → HasPair at → at.used ≤ suc at.slot → pairs_behind m 0 at.path ≡ drop 1 (pairs_from m at)
+pub next-behind : (m : Records) (at : CursorPlace) → IsAt m at → HasPair at → at.used ≤ suc at.slot → pairs_behind m 0 at.path ≡ drop 1 (pairs_from m at)
 next-behind m at is pair past =
     let leaf = is pair in
     let node = leads-node m at.root at.path at.leaf leaf.leads in
@@ -233,7 +233,7 @@ next-behind m at is pair past =
     ∙ ap (drop 1) (sym (pairs_from-some m at pair))
 
 -- the pair that follows
-pub pair-first : (m : Records) (at : Place) → IsAt m at → HasPair at
+pub pair-first : (m : Records) (at : CursorPlace) → IsAt m at → HasPair at
     → pairs_from m at ≡ (word_at m at.leaf (2 + at.slot), word_at m at.leaf (18 + at.slot)) ∷ (drop (suc at.slot) (pairs_below m 0 at.leaf) ++ pairs_behind m 0 at.path)
 pair-first m at is pair =
     let leaf = is pair in
@@ -242,7 +242,7 @@ pair-first m at is pair =
     pairs_from-some m at pair
     ∙ ap (λ ps. ps ++ pairs_behind m 0 at.path) (leaf-from m 1 (level_of (m at.leaf)) at.leaf leaf.leaf node at.slot (omega arith))
 
-pub pair-low : (m : Records) (at : Place) → IsAt m at → HasPair at → at.slot < 16
+pub pair-low : (m : Records) (at : CursorPlace) → IsAt m at → HasPair at → at.slot < 16
 pair-low m at is pair =
     let leaf = is pair in
     let used = leaf.used in
@@ -250,10 +250,10 @@ pair-low m at is pair =
     omega arith
 
 -- by the words in hand
-pub pair-key : (m : Records) (at : Place) → IsAt m at → HasPair at → get_or at.words (2 + at.slot) 0 ≡ first_key (pairs_from m at)
+pub pair-key : (m : Records) (at : CursorPlace) → IsAt m at → HasPair at → get_or at.words (2 + at.slot) 0 ≡ first_key (pairs_from m at)
 pair-key m at is pair = ap (λ ws. get_or ws (2 + at.slot) 0) (is pair).words ∙ sym (ap first_key (pair-first m at is pair))
 
-pub pair-value : (m : Records) (at : Place) → IsAt m at → HasPair at → get_or at.words (18 + at.slot) 0 ≡ first_value (pairs_from m at)
+pub pair-value : (m : Records) (at : CursorPlace) → IsAt m at → HasPair at → get_or at.words (18 + at.slot) 0 ≡ first_value (pairs_from m at)
 pair-value m at is pair = ap (λ ws. get_or ws (18 + at.slot) 0) (is pair).words ∙ sym (ap first_value (pair-first m at is pair))
 
 pub root-few : (m : Records) (root : ℕ) → 0 < root → IsRootNode m root → count_of (m root) < 4294967296
@@ -263,7 +263,7 @@ some_is_none : {A : Type 0} (x : A) (xs ys : List A) → ys ≡ x ∷ xs → ys 
 some_is_none x xs ys e n = let size : length (x ∷ xs) ≡ 0 = ap length (sym e ∙ n) in grind (arith, size)
 
 -- no pair follows just where no pairs do
-pub end-pairs : (m : Records) (at : Place) → IsAt m at → (IsTrue (leb at.used at.slot) → pairs_from m at ≡ []) × (pairs_from m at ≡ [] → IsTrue (leb at.used at.slot))
+pub end-pairs : (m : Records) (at : CursorPlace) → IsAt m at → (IsTrue (leb at.used at.slot) → pairs_from m at ≡ []) × (pairs_from m at ≡ [] → IsTrue (leb at.used at.slot))
 end-pairs m at is = (λ past. pairs_from-none m at (leb-true at.used at.slot past), λ none. decide none (leb at.used at.slot) refl)
   where
     decide : pairs_from m at ≡ [] → (b : Bool) → leb at.used at.slot ≡ b → IsTrue (leb at.used at.slot)

@@ -13,7 +13,7 @@ use Rattle.tree_read.proofs.TreeLemmas.{IsNode-form, length-node_keys, leaf_pair
 use Rattle.tree_read.specs.Keys.{AllBelow}
 use Rattle.tree_read.specs.Pairs.{choose, lookup_pair, seek}
 use Rattle.tree_read.proofs.PairLemmas.{seek-below, lookup_pair-below, lookup_pair-skip, lookup_pair-stop}
-use Rattle.tree_read.specs.Steps.{Step}
+use Rattle.tree_read.specs.Steps.{PathStep}
 use Rattle.tree_read.specs.SearchPlaces.{Leads, pairs_behind, pairs_from}
 use Rattle.tree_read.specs.NodePlaces.{IsSlot, IsFound, IsLacking}
 use Rattle.tree_read.proofs.ReadLemmas.{node-even}
@@ -58,7 +58,7 @@ module _ {V : Type 0} (order : V → V → Ordering) (total : IsTotalOrder order
       (front-below m least (suc level) level ref refl node order reads up total s (used_of (m ref)) (omega arith) before))
 
   -- the key is sought below a node that a path leads to
-  pub record Sought (can : ℕ → Type 0) (whole : List (ℕ × ℕ)) (root : ℕ) (path : List Step) (node slot : ℕ) : Type 0 where
+  pub record Sought (can : ℕ → Type 0) (whole : List (ℕ × ℕ)) (root : ℕ) (path : List PathStep) (node slot : ℕ) : Type 0 where
     pub leads : Leads m root path node
     pub up : IsStrictlySortedBy order (map (λ p. reads p.0) (pairs_below m (level_of (m node)) node))
     pub readable : AllByRecursion (λ p. can p.0) (pairs_below m (level_of (m node)) node)
@@ -91,7 +91,7 @@ module _ {V : Type 0} (order : V → V → Ordering) (total : IsTotalOrder order
         ∙ seek-below (λ k. order (reads k) s) (pairs_below m (level_of (m root)) root)
         (all-below 1 (level_of (m root)) root (leads-node m root [] root (leads-root m root some tree)) root-up (λ j h. first.before j (omega arith)))
 
-  module _ (can : ℕ → Type 0) (whole : List (ℕ × ℕ)) (root : ℕ) (path : List Step) (node slot : ℕ) (it : Sought can whole root path node slot) where
+  module _ (can : ℕ → Type 0) (whole : List (ℕ × ℕ)) (root : ℕ) (path : List PathStep) (node slot : ℕ) (it : Sought can whole root path node slot) where
     module _ (above : 0 < level_of (m node)) (child : ℕ) (is : child ≡ word_at m node (18 + slot)) where
       l : ℕ
       l = level_of (m node) - 1

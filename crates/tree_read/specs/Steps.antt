@@ -2,6 +2,6 @@
 use Rattle.std.specs.Prelude.{ℕ}
 
 -- a node above the leaves, and the slot of one of its children
-pub record Step : Type 0 where
+pub record PathStep : Type 0 where
   pub node : ℕ
   pub slot : ℕ

@@ -1,3 +1,5 @@
+//! A cursor over the pairs of a tree.
+
 ghost use Rattle.std.specs.Prelude.{◌≡◌, ◌↔◌, ◌<◌, ◌++◌, ℕ, [], drop, replicate, IsTrue};
 ghost use Rattle.entry_ref.specs.Records.{Records};
 ghost use Rattle.tree_read.specs.Nodes.{level_of};
@@ -31,9 +33,9 @@ pub struct Cursor<const OFFSET_BITS: u32> {
 impl<const OFFSET_BITS: u32> Model for Cursor<OFFSET_BITS> {
     ghost use Rattle.std.specs.Prelude.{◌≤◌};
     ghost use Rattle.tree_read.specs.declared.node_format.TheConstants.{MOST_SLOTS};
-    ghost use Rattle.tree_read.specs.SearchPlaces.{Place};
+    ghost use Rattle.tree_read.specs.SearchPlaces.{CursorPlace};
 
-    ghost Value = { Place };
+    ghost Value = { CursorPlace };
 
     ghost view = { λ c. record { root = c.root; path = c.path; leaf = c.leaf; slot = c.slot; used = c.used; words = c.words } };
 

@@ -1,3 +1,5 @@
+//! Finds the pair of a key. A node's words are those of `docs/FORMATS.md`.
+
 ghost use Rattle.std.specs.Prelude.{◌≡◌, ◌<◌, length, slice_index, true, false};
 ghost use Rattle.std.specs.Option.{option_map};
 ghost use Rattle.tree_read.specs.Nodes.{level_of, node_keys};

@@ -1,3 +1,5 @@
+//! Searches the keys of one node in memory.
+
 ghost use Rattle.std.specs.Prelude.{◌≡◌, ◌<◌, ◌+◌, length, true, false};
 ghost use Rattle.std.specs.List.{AllByRecursion};
 ghost use Rattle.entry_ref.specs.Records.{HasWord, word_at};

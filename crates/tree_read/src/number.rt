@@ -1,3 +1,5 @@
+//! Numbers as sought keys.
+
 ghost use Rattle.std.specs.Prelude.{refl, []};
 ghost use Rattle.std.specs.Ordering.{nat_cmp};
 ghost use Rattle.std.specs.Cmp.{nat_cmp_total};

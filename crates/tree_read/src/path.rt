@@ -1,3 +1,5 @@
+//! The path from a root down to a leaf.
+
 ghost use Rattle.std.specs.Prelude.{◌≡◌, ◌<◌, ℕ, List, [], ◌∷◌, length, reverse, IfSome, IfNone};
 
 use arrayvec::ArrayVec;
@@ -6,13 +8,13 @@ use std::marker::Model;
 
 /// A node above the leaves, and the slot of one of its children.
 #[derive(Clone, Copy, Debug, Drop)]
-pub struct Step<const OFFSET_BITS: u32> {
+pub struct PathStep<const OFFSET_BITS: u32> {
     pub node: EntryRef<OFFSET_BITS>,
     pub slot: u32,
 }
 
-impl<const OFFSET_BITS: u32> Model for Step<OFFSET_BITS> {
-    ghost use Rattle.tree_read.specs.Steps.{Step as OneStep};
+impl<const OFFSET_BITS: u32> Model for PathStep<OFFSET_BITS> {
+    ghost use Rattle.tree_read.specs.Steps.{PathStep as OneStep};
 
     ghost Value = { OneStep };
 
@@ -21,9 +23,9 @@ impl<const OFFSET_BITS: u32> Model for Step<OFFSET_BITS> {
     ghost inverse = { λ step. record { node = step.node; slot = step.slot } };
 }
 
-impl<const OFFSET_BITS: u32> Default for Step<OFFSET_BITS> {
+impl<const OFFSET_BITS: u32> Default for PathStep<OFFSET_BITS> {
     fn default() -> Self {
-        Step {
+        PathStep {
             node: EntryRef::from_raw(0),
             slot: 0,
         }
@@ -33,12 +35,12 @@ impl<const OFFSET_BITS: u32> Default for Step<OFFSET_BITS> {
 /// The steps down from a root. Contracts see them as a list from the lowest step up.
 #[derive(Drop)]
 pub struct Path<const OFFSET_BITS: u32> {
-    steps: ArrayVec<Step<OFFSET_BITS>, 8>,
+    steps: ArrayVec<PathStep<OFFSET_BITS>, 8>,
 }
 
 impl<const OFFSET_BITS: u32> Model for Path<OFFSET_BITS> {
     ghost use Rattle.std.specs.Prelude.{List, reverse};
-    ghost use Rattle.tree_read.specs.Steps.{Step as OneStep};
+    ghost use Rattle.tree_read.specs.Steps.{PathStep as OneStep};
 
     ghost Value = { List OneStep };
 
@@ -58,10 +60,10 @@ impl<const OFFSET_BITS: u32> Path<OFFSET_BITS> {
         requires { length self.old < 8 }
         ensures { self.new ≡ record { node = node.entry; slot = slot } ∷ self.old }
     {
-        self.steps.push(Step { node, slot });
+        self.steps.push(PathStep { node, slot });
     }
 
-    pub fn pop(&mut self) -> Option<Step<OFFSET_BITS>>
+    pub fn pop(&mut self) -> Option<PathStep<OFFSET_BITS>>
         ensures some { IfSome result (λ step. self.old ≡ step ∷ self.new) }
         ensures none { IfNone result (self.old ≡ []) }
         ensures empty { IfNone result (self.new ≡ []) }

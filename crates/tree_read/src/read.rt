@@ -1,3 +1,5 @@
+//! Reads the words of a node. Their places are those of `docs/FORMATS.md`.
+
 ghost use Rattle.std.specs.Prelude.{◌≡◌, ◌<◌, ◌≤◌, length};
 ghost use Rattle.entry_ref.specs.Records.{HasWord};
 ghost use Rattle.tree_read.specs.Nodes.{level_of, used_of, node_keys, node_values};

@@ -1,3 +1,5 @@
+//! Laws of searches and cursors, for the crates above.
+
 ghost use Rattle.std.specs.Prelude.{◌≡◌, ℕ, List, filter, find, not};
 ghost use Rattle.std.specs.Option.{option_map};
 ghost use Rattle.std.specs.Ordering.{is_lt, is_eq, is_gt};
@@ -5,14 +7,14 @@ ghost use Rattle.entry_ref.specs.Records.{Records, SameAt};
 ghost use Rattle.tree_read.specs.Trees.{tree_nodes};
 ghost use Rattle.tree_read.specs.Keys.{Ascends, seen_by};
 ghost use Rattle.tree_read.specs.Pairs.{lookup, seek};
-ghost use Rattle.tree_read.specs.SearchPlaces.{Place, IsAt, pairs_from};
+ghost use Rattle.tree_read.specs.SearchPlaces.{CursorPlace, IsAt, pairs_from};
 
 use crate::KeyOrder;
 
 /// A cursor's position, and the pairs from it on, stay the same while the records of the tree's nodes stay the same.
 pub fn place_law()
-    ensures at { (m n : Records) (at : Place) → SameAt (tree_nodes m at.root) m n → IsAt m at → IsAt n at }
-    ensures pairs { (m n : Records) (at : Place) → SameAt (tree_nodes m at.root) m n → IsAt m at
+    ensures at { (m n : Records) (at : CursorPlace) → SameAt (tree_nodes m at.root) m n → IsAt m at → IsAt n at }
+    ensures pairs { (m n : Records) (at : CursorPlace) → SameAt (tree_nodes m at.root) m n → IsAt m at
         → pairs_from n at ≡ pairs_from m at }
 {}
 

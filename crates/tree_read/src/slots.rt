@@ -1,3 +1,5 @@
+//! The slots of a node in memory.
+
 ghost use Rattle.std.specs.Prelude.{◌≡◌, ◌≤◌, ◌+◌, ◌++◌, length};
 
 use arrayvec::ArrayVec;

@@ -1,3 +1,5 @@
+//! Adds the record of a value.
+
 ghost use Rattle.std.specs.Prelude.{◌≡◌, ◌+◌, ◌/◌, ◌≤◌, true, length, IfOk, IfErr, OnErr, IsUtf8};
 ghost use Rattle.image_format.specs.Values.{value_words, stored_value, IsValueRecord};
 ghost use Rattle.image_format.specs.Words.{class_of};

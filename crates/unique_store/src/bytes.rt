@@ -1,3 +1,5 @@
+//! Bytes of a text as words, eight in each.
+
 ghost use Rattle.std.specs.Prelude.{◌≡◌, ◌+◌, ◌/◌, ◌≤◌, ◌<◌, ◌++◌, length, take, drop, replicate};
 ghost use Rattle.std.specs.Int.{from_be_bytes, w64};
 ghost use Rattle.image_format.specs.Values.{packed_bytes};

@@ -1,3 +1,5 @@
+//! Reads a stored value.
+
 ghost use Rattle.std.specs.Prelude.{◌≡◌, ◌++◌, IfOk, OnOk};
 ghost use Rattle.std.specs.Int.{cast_signed, to_be_bytes, w64};
 ghost use Rattle.entry_ref.specs.Records.{word_at};

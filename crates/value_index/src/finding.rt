@@ -1,3 +1,5 @@
+//! Finds the key of a value.
+
 ghost use Rattle.std.specs.Prelude.{◌≡◌};
 ghost use Rattle.attr_types.specs.Value.{type_of};
 ghost use Rattle.value_index.specs.Indexes.{key_at, IsIndex};

@@ -1,3 +1,5 @@
+//! Removes a document from the list of a value.
+
 ghost use Rattle.std.specs.Prelude.{◌≡◌, ◌∷◌, [], true, false, length, IsSome, IfOk, IfErr, Some};
 ghost use Rattle.std.specs.BTreeMap.{is_at};
 ghost use Rattle.std.specs.Map.{lookup as lookup_in, remove_entry};

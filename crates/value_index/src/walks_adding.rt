@@ -1,3 +1,5 @@
+//! Adds a document to the lists of all its new values.
+
 ghost use Rattle.std.specs.Prelude.{◌≡◌, ℕ, ◌*◌, ◌∷◌, [], true, None, IfOk, IfErr};
 ghost use Rattle.std.specs.BTreeMap.{get, is_at};
 ghost use Rattle.std.specs.Map.{keys_of, lookup};

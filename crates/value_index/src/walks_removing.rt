@@ -1,3 +1,5 @@
+//! Removes a document from the lists of all its old values.
+
 ghost use Rattle.std.specs.Prelude.{◌≡◌, ℕ, ◌*◌, ◌∷◌, [], true, IfOk, IfErr};
 ghost use Rattle.std.specs.BTreeMap.{get, is_at};
 ghost use Rattle.std.specs.Map.{keys_of, lookup};

@@ -85,6 +85,7 @@ guards {reaches} {lawful} {bits} {arena} {sizes} {z} {z'} {me} {me'} {found} h i
       },
       record {
         same_sizes = ap (λ (x : ReaderView). x.sizes) p.1;
+        same_number = ap (λ (x : ReaderView). x.number) p.1;
         later = subst (λ (x : ReaderView). r.seen ≤ seen_number x) (sym p.1) s.later;
         seen = subst (λ (x : ReaderView). x.seen ≡ seen_number x) (sym p.1) refl;
         saw = subst (λ (x : ReaderView). x.saw ≡ (seen_number x, seen_image x) ∷ r.saw) (sym p.1) refl;
@@ -272,6 +273,7 @@ aimed_post {bits} {arena} {sizes} {z} {z1} {me} {me1} {last} i same told =
       },
       record {
         same_sizes = ap (λ (x : ReaderView). x.sizes) p.1;
+        same_number = ap (λ (x : ReaderView). x.number) p.1;
         seen = ap (λ (x : ReaderView). x.seen) p.1;
         saw = ap (λ (x : ReaderView). x.saw) p.1;
         least = subst (λ (x : ReaderView). (reader_in me.0).least ≤ x.least) (sym p.1) told.least;
@@ -286,6 +288,7 @@ pub record RaisedPost (bits : ℕ) (arena : TableId) (sizes : Sizes) (r : Reader
   pub state : (reader_in me.0).state ≡ found_state count hold
   pub low : hold < 16
   pub sizes_same : (reader_in me.0).sizes ≡ r.sizes
+  pub number_same : (reader_in me.0).number ≡ r.number
   pub seen : (reader_in me.0).seen ≡ r.seen
   pub saw : (reader_in me.0).saw ≡ r.saw
   pub least : (reader_in me.0).least ≡ r.least
@@ -303,6 +306,7 @@ raised_post {bits} {arena} {sizes} {hold} {count} {z} {z1} {me} {me1} a same tol
       state = ap (λ (x : ReaderView). x.state) p.1;
       low = a.low;
       sizes_same = ap (λ (x : ReaderView). x.sizes) p.1;
+      number_same = ap (λ (x : ReaderView). x.number) p.1;
       seen = ap (λ (x : ReaderView). x.seen) p.1;
       saw = ap (λ (x : ReaderView). x.saw) p.1;
       least = ap (λ (x : ReaderView). x.least) p.1;

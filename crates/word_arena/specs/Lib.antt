@@ -4,6 +4,7 @@ pub mod Knows
 pub mod WriterHolds
 pub mod PlayEvents
 pub mod Released
+pub mod Runs
 pub mod WriterSteps
 pub mod ProofsForGuards
 pub mod ProofsForWork

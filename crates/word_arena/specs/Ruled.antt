@@ -234,6 +234,7 @@ pub record IsGuard (bits : ℕ) (arena : TableId) (sizes : Sizes) (hold word : �
 pub record IsLater (reaches : ℕ → Records → ℕ → List ℕ) (lawful : ℕ → Records → ℕ
     → Type 0) (r : ReaderView) (r' : ReaderView) : Type 0 where
   pub same_sizes : r'.sizes ≡ r.sizes
+  pub same_number : r'.number ≡ r.number
   pub later : r.seen ≤ seen_number r'
   pub seen : r'.seen ≡ seen_number r'
   pub saw : r'.saw ≡ (seen_number r', seen_image r') ∷ r.saw
@@ -246,11 +247,13 @@ pub record IsHigher (r : ReaderView) (r' : ReaderView) : Type 0 where
   pub seen : r'.seen ≡ r.seen
   pub saw : r'.saw ≡ r.saw
   pub same_sizes : r'.sizes ≡ r.sizes
+  pub same_number : r'.number ≡ r.number
   pub limit : r'.least ≤ r'.sizes.generation_limit
 
 -- the aim is at least the reader's least generation, and within the limit; nothing else was seen
 pub record IsAimOf (r : ReaderView) (r' : ReaderView) : Type 0 where
   pub same_sizes : r'.sizes ≡ r.sizes
+  pub same_number : r'.number ≡ r.number
   pub seen : r'.seen ≡ r.seen
   pub saw : r'.saw ≡ r.saw
   pub least : r.least ≤ r'.least

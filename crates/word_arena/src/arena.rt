@@ -6,20 +6,26 @@ ghost use Rattle.word_arena.specs.Ruled.{bare, writer_of};
 ghost use Rattle.word_arena.specs.Knows.{IsToken, core_sizes};
 
 use crate::config::Config;
-use crate::rule::{ArenaSeat, Words};
+use crate::rule::{ArenaSeat, WordTable};
 use crate::words::{CLOSED, FIRST_COUNT, FIRST_STATE};
 use atomic_table::Table;
 use entry_ref::Layout;
 use gen_core::{Buffer, Sizes};
 use std::alloc::{AllocError, Global};
 
+/// The words that the writer and its readers share, and their sizes. The layout says what a root reaches and which images
+/// are lawful.
+///
+/// `create` makes it with the token of its one writer; `writer` turns both into the writer, which makes the readers. All
+/// of them own the arena together, and the last one frees it.
 #[derive(Drop)]
 pub struct Arena<const OFFSET_BITS: u32, L: Layout> {
-    pub(crate) table: Words<L>,
+    pub(crate) table: WordTable<L>,
     pub(crate) sizes: Sizes,
 }
 
-/// The writer's seat in a new arena.
+/// The writer's seat in a new arena, and its copy of the buffers. There is one for each arena, so an arena has one writer.
+/// Its one use is `Arena::writer` of the same arena.
 #[derive(Drop)]
 pub struct Token<const OFFSET_BITS: u32> {
     pub(crate) sizes: Sizes,

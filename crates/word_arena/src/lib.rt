@@ -5,6 +5,7 @@ mod arena;
 mod buffers;
 mod config;
 mod holds;
+mod laws;
 mod plays;
 mod reader;
 mod rule;
@@ -16,6 +17,7 @@ mod writer;
 
 pub use arena::{Arena, Token};
 pub use config::{Config, Limits, MOST_COMMITS, MOST_GENERATIONS};
+pub use laws::one_run_law;
 pub use reader::{Again, Aimed, Guarded, Reader};
 pub use rule::Watched;
 pub use steps::Steps;

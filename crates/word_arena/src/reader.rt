@@ -1,4 +1,37 @@
-//! Readers and their guards.
+//! Readers and their guards: how a commit is read while the writer goes on, without a lock.
+//!
+//! # The story of a guard
+//!
+//! A reader takes three steps, and each is a type that the next one uses up.
+//!
+//! 1. `Reader::aim` loads the word of the newest hold. The reader aims at a generation and its hold (`Aimed`).
+//! 2. `Aimed::try_raise` adds 2 to the count of that hold. If the count was even, the hold was open. It stays open from
+//!    then on, since the writer closes a hold only by exchanging a count of 0 for 1.
+//! 3. Only then it loads the root word. The reader has a guard of that commit (`Guarded`) until `release` subtracts 2
+//!    again.
+//!
+//! If the count was odd, the hold is closed. The reader subtracts its 2 and is back (`Again`), with a later generation
+//! to aim at. `Reader::guard` repeats the three steps until it has a guard.
+//!
+//! # Why a stale read is harmless
+//!
+//! Any number of commits may pass between these steps. A reader that aims too late finds its hold in one of two states.
+//!
+//! - The hold is open: still, or again for a later generation. The root is loaded *after* the raise, so it is at least
+//!   the first commit that this hold keeps.
+//! - The hold is closed. Then there is a later generation. So a miss means that the reader was passed, and it tries at
+//!   most once for each generation from the one it aims at first to the last.
+//!
+//! The order matters. A root that is loaded before the raise may be of a commit that is gone when the raise is done.
+//!
+//! A guard may load the root again under its hold (`Guarded::again`): no count changes, and the commit that it finds is
+//! at least the first of the hold, as after a raise.
+//!
+//! # Why nothing is taken from under a guard
+//!
+//! A hold keeps all commits from the one that was last when the hold became the newest. The writer writes no word of a
+//! kept commit, and it hands out no buffer that was put on hold under a guard before that guard is released. `gen_core`
+//! states this as laws on lists of steps, and the README of this crate says how they hold of the running words.
 ghost use Rattle.std.specs.Prelude.{take, drop, ◌%◌, ◌≡◌, ◌+◌, ◌-◌, ◌*◌, ◌<◌, ◌≤◌, ◌^◌, ℕ, List, length, IfSome, Some, slice_index, IfOk, IfErr};
 ghost use Rattle.entry_ref.specs.Images.{words_at};
 ghost use Rattle.entry_ref.specs.Places.{place};
@@ -7,6 +40,7 @@ ghost use Rattle.gen_core.specs.Events.{released, sees};
 ghost use Rattle.word_arena.specs.Ruled.{bare, start_in, reader_of, seen_image, seen_number, IsAimOf, IsLater, IsHigher, Missed, Tries, IsWatch};
 ghost use Rattle.word_arena.specs.Ruled.{IsAim, IsGuard};
 ghost use Rattle.word_arena.specs.PlayEvents.{LoadsNewest, RaiseFinds, TryFinds};
+ghost use Rattle.word_arena.specs.Runs.{GuardsCommit};
 ghost use Rattle.entry_ref.specs.Records.{HasWord, word_at};
 
 use crate::arena::Arena;
@@ -19,6 +53,11 @@ use entry_ref::{EntryRef, Layout, place_of};
 use std::sync::Arc;
 use std::sync::ledger::Ledger;
 
+/// A reader with no guard. It holds no commit, so it delays nothing.
+///
+/// `Writer::reader` makes it, up to 64 for each arena. It belongs to one thread at a time, and no call of it waits for
+/// another seat. `aim`, `try_guard` and `guard` turn it into the next state; `Guarded::release` and a miss (`Again`) give
+/// it back; `Writer::take_in` ends it. A reader that is dropped keeps its seat, and no other harm is done.
 #[derive(Drop)]
 pub struct Reader<const OFFSET_BITS: u32, L: Layout> {
     pub(crate) arena: Arc<Arena<OFFSET_BITS, L>>,
@@ -26,7 +65,11 @@ pub struct Reader<const OFFSET_BITS: u32, L: Layout> {
     ghost stands: { IsWatch OFFSET_BITS arena.value.table.shared.table_id arena.value.sizes place.table_id (bare place.me) },
 }
 
-/// A reader that guards a commit, with the root word that it loaded.
+/// A reader that guards a commit, with the root word that it loaded. It is `Frozen`: it reads the records of that one
+/// image, which stay as they are until `release`.
+///
+/// `again` moves it on to the last commit, `release` gives the reader back. A guard that is dropped without `release`
+/// keeps its hold open for good: the writer can then let go no commit from that hold's first one on.
 #[derive(Drop)]
 pub struct Guarded<const OFFSET_BITS: u32, L: Layout> {
     pub(crate) arena: Arc<Arena<OFFSET_BITS, L>>,
@@ -36,7 +79,8 @@ pub struct Guarded<const OFFSET_BITS: u32, L: Layout> {
     ghost stands: { IsGuard OFFSET_BITS arena.value.table.shared.table_id arena.value.sizes hold found place.table_id (bare place.me) },
 }
 
-/// A reader that has loaded the newest hold and aims at it.
+/// A reader that has loaded the newest hold and aims at it. It holds no commit yet: the hold may be closed before the
+/// raise. Its one call is `try_raise`.
 #[derive(Drop)]
 pub struct Aimed<const OFFSET_BITS: u32, L: Layout> {
     pub(crate) arena: Arc<Arena<OFFSET_BITS, L>>,
@@ -45,7 +89,7 @@ pub struct Aimed<const OFFSET_BITS: u32, L: Layout> {
     ghost stands: { IsAim OFFSET_BITS arena.value.table.shared.table_id arena.value.sizes hold place.table_id (bare place.me) },
 }
 
-/// The hold was closed in the meantime: the reader, and the count that it found.
+/// The hold was closed in the meantime: the reader, which can aim again, and the count that it found, which is odd.
 #[derive(Drop)]
 pub struct Again<const OFFSET_BITS: u32, L: Layout> {
     pub reader: Reader<OFFSET_BITS, L>,
@@ -71,6 +115,7 @@ impl<const OFFSET_BITS: u32, L: Layout> Reader<OFFSET_BITS, L> {
     pub fn try_guard(self) -> Result<Guarded<OFFSET_BITS, L>, Again<OFFSET_BITS, L>>
         ensures ok { IfOk result (λ g. IsLater L.reaches L.lawful (reader_of self.place.me.0) (reader_of g.place.me.0)) }
         ensures again { IfErr result (λ a. IsHigher (reader_of self.place.me.0) (reader_of a.reader.place.me.0)) }
+        ensures commit { IfOk result (λ g. GuardsCommit L.reaches L.lawful g.place.me.0) }
         ensures even { IfOk result (λ g. (n : ℕ) × TryFinds L.reaches L.lawful self.place.me n × (n % 2 ≡ 0)) }
         ensures odd { IfErr result (λ a. TryFinds L.reaches L.lawful self.place.me a.found × (a.found % 2 ≡ 1)) }
         ensures found { IfErr result (λ a. a.found ≡ (reader_of a.reader.place.me.0).misses.found) }
@@ -86,6 +131,7 @@ impl<const OFFSET_BITS: u32, L: Layout> Reader<OFFSET_BITS, L> {
     /// there is at most one try for each generation between the first aim and the last.
     pub fn guard<C: Ledger>(self, tries: &mut Steps<C>) -> Guarded<OFFSET_BITS, L>
         ensures later { IsLater L.reaches L.lawful (reader_of self.place.me.0) (reader_of result.place.me.0) }
+        ensures commit { GuardsCommit L.reaches L.lawful result.place.me.0 }
         ensures some { tries.old + 1 ≤ tries.new }
         ensures tried { Tries (reader_of self.place.me.0) (reader_of result.place.me.0) (tries.new - (tries.old + 1)) }
         ensures few { tries.new + (reader_of result.place.me.0).first ≤ tries.old + 1 + (reader_of result.place.me.0).least }
@@ -115,6 +161,7 @@ impl<const OFFSET_BITS: u32, L: Layout> Aimed<OFFSET_BITS, L> {
     pub fn try_raise(self) -> Result<Guarded<OFFSET_BITS, L>, Again<OFFSET_BITS, L>>
         ensures ok { IfOk result (λ g. IsLater L.reaches L.lawful (reader_of self.place.me.0) (reader_of g.place.me.0)) }
         ensures again { IfErr result (λ a. IsHigher (reader_of self.place.me.0) (reader_of a.reader.place.me.0)) }
+        ensures commit { IfOk result (λ g. GuardsCommit L.reaches L.lawful g.place.me.0) }
         ensures even { IfOk result (λ g. (n : ℕ) × RaiseFinds L.reaches L.lawful self.place.me n × (n % 2 ≡ 0)) }
         ensures odd { IfErr result (λ a. RaiseFinds L.reaches L.lawful self.place.me a.found × (a.found % 2 ≡ 1)) }
         ensures found { IfErr result (λ a. a.found ≡ (reader_of a.reader.place.me.0).misses.found) }
@@ -155,18 +202,21 @@ impl<const OFFSET_BITS: u32, L: Layout> Aimed<OFFSET_BITS, L> {
 }
 
 impl<const OFFSET_BITS: u32, L: Layout> Guarded<OFFSET_BITS, L> {
+    /// Returns the number of the guarded commit.
     pub fn commit(&self) -> u32
         ensures { result ≡ seen_number (reader_of self.now.place.me.0) }
     {
         (self.found / COMMIT_BASE) as u32
     }
 
+    /// Returns the root of the guarded commit, which is invalid in commit 0.
     pub fn root(&self) -> EntryRef<OFFSET_BITS>
         ensures { result ≡ (seen_image (reader_of self.now.place.me.0)).root }
     {
         EntryRef::from_raw((self.found % COMMIT_BASE) as u32)
     }
 
+    /// Gives the guard up: subtracts what the raise added to the hold's count.
     pub fn release(self) -> Reader<OFFSET_BITS, L>
         ensures view { reader_of result.place.me.0 ≡ released (reader_of self.place.me.0) }
         ensures table { result.place.table_id ≡ self.place.table_id }
@@ -187,6 +237,7 @@ impl<const OFFSET_BITS: u32, L: Layout> Guarded<OFFSET_BITS, L> {
     /// Loads the last commit again, under the same hold. No count changes.
     pub fn again(self) -> Guarded<OFFSET_BITS, L>
         ensures later { IsLater L.reaches L.lawful (reader_of self.place.me.0) (reader_of result.place.me.0) }
+        ensures commit { GuardsCommit L.reaches L.lawful result.place.me.0 }
         ensures not_older { seen_number (reader_of self.place.me.0) ≤ seen_number (reader_of result.place.me.0) }
         ensures view { reader_of result.place.me.0 ≡ sees (reader_of self.place.me.0) self.hold
             (seen_number (reader_of result.place.me.0)) (seen_image (reader_of result.place.me.0)) }

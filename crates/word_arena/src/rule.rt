@@ -19,6 +19,7 @@ pub struct Watched {
     pub mine: LinkedList<Event>,
 }
 
+/// The rule that the table keeps at each step: its words and all views come from one run of the core (`OneRun`).
 pub struct OneRunRule<L> {
     layout: PhantomData<L>,
 }
@@ -29,6 +30,8 @@ impl<L: Layout> TableRule<(), Watched, Sizes> for OneRunRule<L> {
     ghost first = { λ sizes. record { view = Writer (opening_view sizes); seen = []; mine = [] } };
 }
 
-pub type Words<L> = Table<(), Watched, Sizes, OneRunRule<L>, Global>;
+/// The words of an arena, under this rule.
+pub type WordTable<L> = Table<(), Watched, Sizes, OneRunRule<L>, Global>;
 
+/// A seat at an arena's words. It takes no bytes but its place in the proof: what it knows is a `Watched`.
 pub type ArenaSeat = Seat<(), Watched>;

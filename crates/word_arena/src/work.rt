@@ -12,6 +12,7 @@ ghost use Rattle.gen_core.specs.Views.{last_tag_in};
 ghost use Rattle.gen_core.specs.Work.{writer_records};
 ghost use Rattle.word_arena.specs.Knows.{view_of, given, buffers_by, place_by, known_by, HasDesk, KeepsDesk};
 ghost use Rattle.word_arena.specs.Released.{HandsOut};
+ghost use Rattle.word_arena.specs.Runs.{KnowsCommits};
 ghost use Rattle.word_arena.specs.WriterSteps.{IsTaggedBelow};
 
 use crate::arena::Arena;
@@ -25,7 +26,7 @@ use entry_ref::{EntryRef, Layout, place_of};
 use gen_core::Buffer;
 use std::marker::Model;
 
-/// The arena that a work belongs to. No value of this type is made.
+/// The arena that a work belongs to, by the name of its table. It stands in clauses alone, and no value of it is made.
 pub struct Home {
     nothing: u64,
 }
@@ -150,6 +151,7 @@ fn put_words<const OFFSET_BITS: u32, L: Layout>(
     ensures knows { known_by seat.new ≡ record (known_by seat.old) { stored = (known_by seat.new).stored } }
     ensures filled { (i : ℕ) → i < length words.now
         → (known_by seat.new).stored entry.entry i ≡ Some (slice_index words.now i) }
+    ensures apart { (q j : ℕ) → q ≢ entry.entry → (known_by seat.new).stored q j ≡ (known_by seat.old).stored q j }
     ensures others { (q : ℕ) → q ≢ entry.entry
         → writer_records (writer_of seat.new.me.0) q ≡ writer_records (writer_of seat.old.me.0) q }
     ensures shape { (writer_of seat.new.me.0).sizes.shape ≡ (writer_of seat.old.me.0).sizes.shape }
@@ -176,6 +178,7 @@ fn put_zeros<const OFFSET_BITS: u32, L: Layout>(
     ensures filled { (i : ℕ) → start ≤ i → i < width → (known_by seat.new).stored entry.entry i ≡ Some 0 }
     ensures kept { (i : ℕ) → i < start
         → (known_by seat.new).stored entry.entry i ≡ (known_by seat.old).stored entry.entry i }
+    ensures apart { (q j : ℕ) → q ≢ entry.entry → (known_by seat.new).stored q j ≡ (known_by seat.old).stored q j }
     ensures others { (q : ℕ) → q ≢ entry.entry
         → writer_records (writer_of seat.new.me.0) q ≡ writer_records (writer_of seat.old.me.0) q }
     ensures shape { (writer_of seat.new.me.0).sizes.shape ≡ (writer_of seat.old.me.0).sizes.shape }
@@ -252,6 +255,9 @@ impl<const OFFSET_BITS: u32, L: Layout> Work<OFFSET_BITS> for Writer<OFFSET_BITS
             ≡ record (⟦<Writer<OFFSET_BITS, L> as Work<OFFSET_BITS>>⟧.knows self.old) {
               stored = (⟦<Writer<OFFSET_BITS, L> as Work<OFFSET_BITS>>⟧.knows self.new).stored;
             } }
+        ensures apart { (q i : ℕ) → q ≢ entry.entry
+            → (⟦<Writer<OFFSET_BITS, L> as Work<OFFSET_BITS>>⟧.knows self.new).stored q i
+            ≡ (⟦<Writer<OFFSET_BITS, L> as Work<OFFSET_BITS>>⟧.knows self.old).stored q i }
         ensures shape { ⟦<Writer<OFFSET_BITS, L> as Frozen<OFFSET_BITS>>⟧.shape self.new
             ≡ ⟦<Writer<OFFSET_BITS, L> as Frozen<OFFSET_BITS>>⟧.shape self.old }
     {
@@ -294,6 +300,7 @@ impl<const OFFSET_BITS: u32, L: Layout> Work<OFFSET_BITS> for Writer<OFFSET_BITS
         Some(buffer)
     }
 
+    /// All commits of the writer, this one too, are then those of the run that it has seen.
     fn publish(&mut self, root: EntryRef<OFFSET_BITS>) -> u32
         requires lawful { L.lawful (⟦<Writer<OFFSET_BITS, L> as Frozen<OFFSET_BITS>>⟧.shape self.old)
             (⟦<Writer<OFFSET_BITS, L> as Frozen<OFFSET_BITS>>⟧.records self.old) root }
@@ -309,6 +316,7 @@ impl<const OFFSET_BITS: u32, L: Layout> Work<OFFSET_BITS> for Writer<OFFSET_BITS
             (⟦<Writer<OFFSET_BITS, L> as Work<OFFSET_BITS>>⟧.knows self.new).commits
             (next_image L.reaches (⟦<Writer<OFFSET_BITS, L> as Frozen<OFFSET_BITS>>⟧.shape self.old)
             (⟦<Writer<OFFSET_BITS, L> as Frozen<OFFSET_BITS>>⟧.records self.old) root.entry) }
+        ensures in_run { KnowsCommits L.reaches L.lawful (writer_of self.old.place.me.0).sizes self.new.place.me.0 }
         ensures records { ⟦<Writer<OFFSET_BITS, L> as Frozen<OFFSET_BITS>>⟧.records self.new
             ≡ words_at (next_image L.reaches (⟦<Writer<OFFSET_BITS, L> as Frozen<OFFSET_BITS>>⟧.shape self.old)
             (⟦<Writer<OFFSET_BITS, L> as Frozen<OFFSET_BITS>>⟧.records self.old) root.entry) }

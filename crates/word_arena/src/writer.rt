@@ -1,5 +1,5 @@
 //! The one writer.
-ghost use Rattle.std.specs.Prelude.{take, drop, ◌≡◌, ◌+◌, ◌*◌, ◌^◌, ◌<◌, ◌≤◌, ℕ, length, IfSome, [], IfOk, IfErr, slice_get, Some, All};
+ghost use Rattle.std.specs.Prelude.{take, drop, ◌≡◌, ◌+◌, ◌*◌, ◌^◌, ◌<◌, ◌≤◌, ℕ, length, IfSome, [], ◌∷◌, IfOk, IfErr, slice_get, Some, All};
 ghost use Rattle.entry_ref.specs.Images.{words_at};
 ghost use Rattle.entry_ref.specs.Places.{place};
 ghost use Rattle.gen_core.specs.declared.views.View.TheVariants.{Writer as WriterSees};
@@ -9,22 +9,30 @@ ghost use Rattle.gen_core.specs.Events.{opening_view, with_reader, newcomer, joi
 ghost use Rattle.arena_api.specs.Calls.{IsFresh};
 ghost use Rattle.word_arena.specs.Ruled.{bare, start_in, writer_of, reader_of};
 ghost use Rattle.word_arena.specs.Released.{IsWholeRun};
+ghost use Rattle.word_arena.specs.Runs.{LoadsRootOnce, TookReads, KnowsCommits};
 ghost use Rattle.word_arena.specs.Knows.{view_of, IsDesk, HasDesk};
 ghost use Rattle.entry_ref.specs.Records.{HasWord, word_at};
 
 use crate::arena::{Arena, Token};
 use crate::plays::{Cut, Glue, LoadOwn, MeetLoad};
 use crate::reader::Reader;
-use crate::rule::ArenaSeat;
+use crate::rule::{ArenaSeat, Watched};
 use crate::seats::{MOST_READERS, Owners};
 use crate::words::{ROOT, first_word};
 use arena_api::Frozen;
+use atomic_table::Badge;
 use entry_ref::{EntryRef, Layout, place_of};
 use gen_core::Buffer;
 use generation_handler::Holds;
 use std::alloc::{AllocError, Global};
 use thiserror::Error;
 
+/// The one writer of an arena. It reads its own records (`Frozen`), makes records and commits them (`Work`), makes readers
+/// and takes them in.
+///
+/// `Arena::writer` makes it. It belongs to one thread at a time; its calls wait for no reader. Between two commits its
+/// records are those of the last commit and those stored whole since then. It keeps its own copy of the queue of holds and
+/// of the buffers' states, since it alone changes them.
 #[derive(Drop)]
 pub struct Writer<const OFFSET_BITS: u32, L: Layout> {
     pub(crate) seats: Owners<OFFSET_BITS, L>,
@@ -36,7 +44,7 @@ pub struct Writer<const OFFSET_BITS: u32, L: Layout> {
         place.table_id (bare place.me) },
 }
 
-/// The highest number of readers was made.
+/// The highest number of readers, 64, was made. Joined readers count too, so this answer stays.
 #[derive(Clone, Copy, PartialEq, Eq, Debug, Drop, Error)]
 #[error("{made} readers were made, and there can be no more")]
 pub struct NoSeat {
@@ -94,14 +102,18 @@ impl<const OFFSET_BITS: u32, L: Layout> Writer<OFFSET_BITS, L> {
         Ok(Reader { arena, place })
     }
 
-    /// Joins a reader. All that it saw is then known to be commits; and what the writer has seen is then the whole
-    /// run so far, in which no buffer was handed out while a reader had a guard from before its hold.
+    /// Joins a reader, and loads the root once. All that the reader saw is then known to be commits, and to be its own
+    /// reads of the root; and what the writer has seen is then the whole run so far, in which no buffer was handed out
+    /// while a reader had a guard from before its hold.
     pub fn take_in(&mut self, reader: Reader<OFFSET_BITS, L>)
         requires { reader.place.table_id ≡ self.old.place.table_id }
         ensures view { writer_of self.new.place.me.0 ≡ joined (writer_of self.old.place.me.0) (reader_of reader.place.me.0) }
         ensures table { self.new.place.table_id ≡ self.old.place.table_id }
         ensures commits { All (IsCommit (writer_of self.new.place.me.0).commits) (writer_of self.new.place.me.0).saw }
         ensures run { IsWholeRun L.reaches L.lawful (writer_of self.old.place.me.0).sizes self.new.place.me.0.seen }
+        ensures meets { LoadsRootOnce self.old.place.me.0 self.new.place.me.0 }
+        ensures reads { TookReads self.new.place.me.0 }
+        ensures knows { KnowsCommits L.reaches L.lawful (writer_of self.old.place.me.0).sizes self.new.place.me.0 }
     {
         let Reader { arena: _, place } = reader;
         let arena = self.seats.arena();
@@ -110,6 +122,22 @@ impl<const OFFSET_BITS: u32, L: Layout> Writer<OFFSET_BITS, L> {
             .table
             .shared
             .load::<MeetLoad<L>>(&mut self.place, ROOT);
+    }
+
+    /// Ends the writer and keeps its seat, which takes no bytes. A value that holds it shows in its clauses what the writer
+    /// has seen of the run.
+    pub fn into_seat(self) -> Badge<Watched>
+        ensures table { result.table_id ≡ self.place.table_id }
+        ensures view { result.views ≡ self.place.me.0 ∷ [] }
+    {
+        let Writer {
+            seats: _,
+            buffers: _,
+            holds: _,
+            last: _,
+            place,
+        } = self;
+        place.into_badge()
     }
 
     // Returns the place of a word of a record, by the width that is stored in its buffer.

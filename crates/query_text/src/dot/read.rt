@@ -1,3 +1,5 @@
+//! Reads the parts of a dot product.
+
 ghost use Rattle.std.specs.Prelude.{◌≡◌, length, option_map};
 ghost use Rattle.query_text.specs.Asks.{dot_front, parts_behind, parts_in};
 ghost use Rattle.query_text.specs.Dot.{if_weight, part_front, parts_front};

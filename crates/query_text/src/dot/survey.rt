@@ -1,3 +1,5 @@
+//! Scans a dot product byte by byte, and finds the first fault.
+
 ghost use Rattle.std.specs.Prelude.{◌≡◌, ◌<◌, length, take};
 ghost use Rattle.query_text.specs.Dot.{letter, is_dot, head_begun, head_next, value_more, after_value, after_weight, dot_next};
 ghost use Rattle.query_text.specs.Dot.{found_after, is_right_part, is_weight_size, is_small_weight, is_small_part, dot_start};

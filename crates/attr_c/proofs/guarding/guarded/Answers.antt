@@ -4,7 +4,7 @@ use Rattle.word_arena.proofs.Guards.{saw_on}
 use Rattle.attr_c.proofs.guarding.guarded.Goals as goal
 
 pub loop-guard-init : goal.loop-guard-init
-loop-guard-init g c = record { table = refl; seen = refl; saw = refl; same_sizes = refl; rises = omega arith }
+loop-guard-init g c = record { table = refl; seen = refl; saw = refl; same_sizes = refl; same_number = refl; rises = omega arith }
 
 pub returns-in-Ok-clause-later : goal.returns-in-Ok-clause-later
 returns-in-Ok-clause-later g c =
@@ -16,6 +16,7 @@ returns-in-Ok-clause-later g c =
     let rises = i.rises in
     record {
       same_sizes = h.same_sizes ∙ i.same_sizes;
+      same_number = h.same_number ∙ i.same_number;
       later = omega arith;
       seen = h.seen;
       saw = saw_on h.saw i.saw;
@@ -40,4 +41,4 @@ loop-guard-preserved g c =
     let i = c.loop-guard.invariant in
     let higher = h.higher in
     let rises = i.rises in
-    record { table = c.in-Err.ensures.back ∙ i.table; seen = h.seen ∙ i.seen; saw = h.saw ∙ i.saw; same_sizes = h.same_sizes ∙ i.same_sizes; rises = omega arith }
+    record { table = c.in-Err.ensures.back ∙ i.table; seen = h.seen ∙ i.seen; saw = h.saw ∙ i.saw; same_sizes = h.same_sizes ∙ i.same_sizes; same_number = h.same_number ∙ i.same_number; rises = omega arith }

@@ -8,6 +8,7 @@ invariant-loop-guard g l = record {
   seen : (reader_of l.reader.place.me.0).seen ≡ (reader_of l.fn.reader.place.me.0).seen;
   saw : (reader_of l.reader.place.me.0).saw ≡ (reader_of l.fn.reader.place.me.0).saw;
   same_sizes : (reader_of l.reader.place.me.0).sizes ≡ (reader_of l.fn.reader.place.me.0).sizes;
+  same_number : (reader_of l.reader.place.me.0).number ≡ (reader_of l.fn.reader.place.me.0).number;
   rises : (reader_of l.fn.reader.place.me.0).least ≤ (reader_of l.reader.place.me.0).least;
 }
 

@@ -3,7 +3,7 @@ use Rattle.std.proofs.lemmas.Int.{to_z-of_z}
 use Rattle.attr_c.specs.Engines.{KeepsWaiting}
 use Rattle.attr_c.specs.Seats.{place_bits, IsForeign, TakesReader}
 use Rattle.attr_c.specs.Stores.{open_bits}
-use Rattle.attr_c.specs.declared.seat.Place.TheVariants.{Free}
+use Rattle.attr_c.specs.declared.seat.SeatState.TheVariants.{Free}
 use Rattle.attr_c.specs.declared.state.AnyOpen.{AnyOpen}
 use Rattle.attr_c.specs.declared.state.Engine.{Engine}
 use Rattle.attr_c.proofs.SeatLemmas.{foreign_seat, own_seat}

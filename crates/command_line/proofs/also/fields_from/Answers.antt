@@ -6,15 +6,15 @@ use Rattle.list_lemmas.proofs.Places.{drop-read}
 use Rattle.attr_types.specs.declared.field.Field.{Field}
 use Rattle.command_line.specs.Also.{EndsBefore, piece_of, fields_from}
 use Rattle.command_line.specs.Settings.{Says}
-use Rattle.command_line.specs.declared.also.Part.{Part}
+use Rattle.command_line.specs.declared.also.AlsoPart.{AlsoPart}
 use Rattle.command_line.proofs.FieldsLemmas.{fields_stopped, fields_next, fields_end}
 use Rattle.command_line.proofs.also.fields_from.Goals as goal
 
-abbrev no_part : Part
+abbrev no_part : AlsoPart
 no_part = record { place = 0; text = record { ref_ptr = (0, 0); now = [] } }
 
 -- the part that is read, and those after it
-split : (parts : List Part) (i : ℕ) → i < length parts
+split : (parts : List AlsoPart) (i : ℕ) → i < length parts
     → map piece_of (drop i parts) ≡ piece_of (slice_index_or parts i no_part) ∷ map piece_of (drop (i + 1) parts)
 split parts i below = ap (map piece_of) (drop-read parts i (slice_index_or parts i no_part) no_part below refl)
 

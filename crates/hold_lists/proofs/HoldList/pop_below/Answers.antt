@@ -7,7 +7,7 @@ use Rattle.hold_lists.proofs.RunLemmas.{at-all, shortened-count, shortened-fille
 use Rattle.hold_lists.specs.Held.{HeldEntry, HeldList, is_below, without_first}
 use Rattle.hold_lists.specs.Runs.{nth_run, held_of, tagged_count, under, shortened, IsRunBelow, IsRising}
 use Rattle.hold_lists.specs.declared.Run.{Run}
-use Rattle.hold_lists.specs.declared.Place.{Place}
+use Rattle.hold_lists.specs.declared.RunPlace.{RunPlace}
 use Rattle.hold_lists.proofs.HoldList.pop_below.Given.{Over}
 use Rattle.hold_lists.proofs.HoldList.pop_below.Goals.{After-remove}
 use Rattle.hold_lists.proofs.HoldList.pop_below.Goals as goal
@@ -19,7 +19,7 @@ returns-in-None-clause-first g c =
     ∙ ap entry (find-none c.args.oldest c.self.inside.runs.items c.self.inside.entries.items c.in-None.ensures.none))
 
 -- what the list was, what was taken from it, and what is left
-record Met (runs : List Run) (entries : List ℕ) (now : HeldList) (oldest : ℕ) (place : Place) (answer : Option ℕ) (next : List ℕ) : Type 0 where
+record Met (runs : List Run) (entries : List ℕ) (now : HeldList) (oldest : ℕ) (place : RunPlace) (answer : Option ℕ) (next : List ℕ) : Type 0 where
   pub is : held_of runs entries ≡ now.held
   pub inside : place.before < length entries
   pub some : 0 < (nth_run runs place.run).count

@@ -24,103 +24,103 @@ returns-then-not-dense-clause-counts g c =
     counts_none (g.S.Store.ledger c.args.store.now) (form_most (is_vector c.args.list) (is_dense c.args.dense (length es) c.args.documents) es)
 
 pub as_vector-requires-clause-unit : goal.as_vector-requires-clause-unit
-as_vector-requires-clause-unit g c = subst (λ s. (g.S.Store.ledger s).unit ≡ true) (sym c.count.ensures.same) c.requires.unit
+as_vector-requires-clause-unit g c = subst (λ s. (g.S.Store.ledger s).unit ≡ true) (sym c.is_long.ensures.same) c.requires.unit
 
 pub as_vector-requires-clause-list : goal.as_vector-requires-clause-list
-as_vector-requires-clause-list g c = subst (λ s. IsList (g.S.Frozen.records s) c.args.list) (sym c.count.ensures.same) c.requires.list
+as_vector-requires-clause-list g c = subst (λ s. IsList (g.S.Frozen.records s) c.args.list) (sym c.is_long.ensures.same) c.requires.list
 
 pub as_vector-requires-clause-many : goal.as_vector-requires-clause-many
 as_vector-requires-clause-many g c =
-    subst (λ s. 8 < length (list_at (g.S.Frozen.records s) c.args.list)) (sym c.count.ensures.same)
+    subst (λ s. 8 < length (list_at (g.S.Frozen.records s) c.args.list)) (sym c.is_long.ensures.same)
     (dense_many c.args.dense (length (list_at (g.S.Frozen.records c.args.store.now) c.args.list)) c.args.documents
-    (ap (λ k. is_dense c.args.dense k c.args.documents) (sym c.count.ensures.count) ∙ sym c.is_dense.ensures ∙ c.if-is_dense.true))
+    (ap (λ b. is_dense b (length (list_at (g.S.Frozen.records c.args.store.now) c.args.list)) c.args.documents) c.if-not-dense.false ∙ sym c.is_long.ensures.dense ∙ c.if-is_long.true))
 
 pub as_vector-requires-clause-ones : goal.as_vector-requires-clause-ones
 as_vector-requires-clause-ones g c =
-    subst (λ s. AreOnes (list_at (g.S.Frozen.records s) c.args.list)) (sym c.count.ensures.same) (c.requires.ones c.if-not-dense.false)
+    subst (λ s. AreOnes (list_at (g.S.Frozen.records s) c.args.list)) (sym c.is_long.ensures.same) (c.requires.ones c.if-not-dense.false)
 
 pub as_vector-requires-clause-owns : goal.as_vector-requires-clause-owns
 as_vector-requires-clause-owns g c =
-    subst (λ s. Owns (g.S.Store.ledger s) (g.S.Frozen.records s) (list_part c.args.list ∷ [])) (sym c.count.ensures.same) c.requires.owns
+    subst (λ s. Owns (g.S.Store.ledger s) (g.S.Frozen.records s) (list_part c.args.list ∷ [])) (sym c.is_long.ensures.same) c.requires.owns
 
 pub as_plain-requires-clause-unit : goal.as_plain-requires-clause-unit
-as_plain-requires-clause-unit g c = subst (λ s. (g.S.Store.ledger s).unit ≡ true) (sym c.count.ensures.same) c.requires.unit
+as_plain-requires-clause-unit g c = subst (λ s. (g.S.Store.ledger s).unit ≡ true) (sym c.is_long.ensures.same) c.requires.unit
 
 pub as_plain-requires-clause-list : goal.as_plain-requires-clause-list
-as_plain-requires-clause-list g c = subst (λ s. IsList (g.S.Frozen.records s) c.args.list) (sym c.count.ensures.same) c.requires.list
+as_plain-requires-clause-list g c = subst (λ s. IsList (g.S.Frozen.records s) c.args.list) (sym c.is_long.ensures.same) c.requires.list
 
 pub as_plain-requires-clause-owns : goal.as_plain-requires-clause-owns
 as_plain-requires-clause-owns g c =
-    subst (λ s. Owns (g.S.Store.ledger s) (g.S.Frozen.records s) (list_part c.args.list ∷ [])) (sym c.count.ensures.same) c.requires.owns
+    subst (λ s. Owns (g.S.Store.ledger s) (g.S.Frozen.records s) (list_part c.args.list ∷ [])) (sym c.is_long.ensures.same) c.requires.owns
 
-pub returns-then-is_dense-clause-makes : goal.returns-then-is_dense-clause-makes
-returns-then-is_dense-clause-makes g c =
+pub returns-then-is_long-clause-makes : goal.returns-then-is_long-clause-makes
+returns-then-is_long-clause-makes g c =
     let ledger = g.S.Store.ledger in
     let records = g.S.Frozen.records in
     let s = c.args.store.now in
     let t = c.as_vector.new.store in
     let es = list_at (records s) c.args.list in
-    let is : is_dense c.args.dense (length es) c.args.documents ≡ true = ap (λ k. is_dense c.args.dense k c.args.documents) (sym c.count.ensures.count) ∙ sym c.is_dense.ensures ∙ c.if-is_dense.true in
+    let is : is_dense c.args.dense (length es) c.args.documents ≡ true = ap (λ b. is_dense b (length es) c.args.documents) c.if-not-dense.false ∙ sym c.is_long.ensures.dense ∙ c.if-is_long.true in
     subst (λ d. IfOk c.as_vector.result (MakesList (ledger s) (ledger t) (records s) (records t) c.args.list es d)) (sym is)
-    (subst (λ s. IfOk c.as_vector.result (MakesList (ledger s) (ledger t) (records s) (records t) c.args.list (list_at (records s) c.args.list) true)) c.count.ensures.same c.as_vector.ensures.makes)
+    (subst (λ s. IfOk c.as_vector.result (MakesList (ledger s) (ledger t) (records s) (records t) c.args.list (list_at (records s) c.args.list) true)) c.is_long.ensures.same c.as_vector.ensures.makes)
 
-pub returns-then-is_dense-clause-counts : goal.returns-then-is_dense-clause-counts
-returns-then-is_dense-clause-counts g c =
+pub returns-then-is_long-clause-counts : goal.returns-then-is_long-clause-counts
+returns-then-is_long-clause-counts g c =
     let ledger = g.S.Store.ledger in
     let records = g.S.Frozen.records in
     let s = c.args.store.now in
     let t = c.as_vector.new.store in
     let es = list_at (records s) c.args.list in
-    let is : is_dense c.args.dense (length es) c.args.documents ≡ true = ap (λ k. is_dense c.args.dense k c.args.documents) (sym c.count.ensures.count) ∙ sym c.is_dense.ensures ∙ c.if-is_dense.true in
+    let is : is_dense c.args.dense (length es) c.args.documents ≡ true = ap (λ b. is_dense b (length es) c.args.documents) c.if-not-dense.false ∙ sym c.is_long.ensures.dense ∙ c.if-is_long.true in
     subst (λ d. MakesWithin (ledger s) (ledger t) (form_most (is_vector c.args.list) d es)) (sym is)
-    (subst (λ s. MakesWithin (ledger s) (ledger t) (form_most (is_vector c.args.list) true (list_at (records s) c.args.list))) c.count.ensures.same c.as_vector.ensures.counts)
+    (subst (λ s. MakesWithin (ledger s) (ledger t) (form_most (is_vector c.args.list) true (list_at (records s) c.args.list))) c.is_long.ensures.same c.as_vector.ensures.counts)
 
-pub returns-then-is_dense-clause-refuses : goal.returns-then-is_dense-clause-refuses
-returns-then-is_dense-clause-refuses g c =
+pub returns-then-is_long-clause-refuses : goal.returns-then-is_long-clause-refuses
+returns-then-is_long-clause-refuses g c =
     let ledger = g.S.Store.ledger in
     let records = g.S.Frozen.records in
     let s = c.args.store.now in
     let t = c.as_vector.new.store in
     let es = list_at (records s) c.args.list in
-    let is : is_dense c.args.dense (length es) c.args.documents ≡ true = ap (λ k. is_dense c.args.dense k c.args.documents) (sym c.count.ensures.count) ∙ sym c.is_dense.ensures ∙ c.if-is_dense.true in
+    let is : is_dense c.args.dense (length es) c.args.documents ≡ true = ap (λ b. is_dense b (length es) c.args.documents) c.if-not-dense.false ∙ sym c.is_long.ensures.dense ∙ c.if-is_long.true in
     subst (λ d. IfErr c.as_vector.result (RefusesOf (IsFormWidth (is_vector c.args.list) d) (ledger s) (ledger t))) (sym is)
-    (subst (λ s. IfErr c.as_vector.result (RefusesOf (IsFormWidth (is_vector c.args.list) true) (ledger s) (ledger t))) c.count.ensures.same c.as_vector.ensures.refuses)
+    (subst (λ s. IfErr c.as_vector.result (RefusesOf (IsFormWidth (is_vector c.args.list) true) (ledger s) (ledger t))) c.is_long.ensures.same c.as_vector.ensures.refuses)
 
-pub returns-then-is_dense-clause-may : goal.returns-then-is_dense-clause-may
-returns-then-is_dense-clause-may g c = subst (λ s. MayDo (g.S.Store.ledger s) (g.S.Store.ledger c.as_vector.new.store)) c.count.ensures.same c.as_vector.ensures.may
+pub returns-then-is_long-clause-may : goal.returns-then-is_long-clause-may
+returns-then-is_long-clause-may g c = subst (λ s. MayDo (g.S.Store.ledger s) (g.S.Store.ledger c.as_vector.new.store)) c.is_long.ensures.same c.as_vector.ensures.may
 
-pub returns-else-is_dense-clause-makes : goal.returns-else-is_dense-clause-makes
-returns-else-is_dense-clause-makes g c =
+pub returns-else-is_long-clause-makes : goal.returns-else-is_long-clause-makes
+returns-else-is_long-clause-makes g c =
     let ledger = g.S.Store.ledger in
     let records = g.S.Frozen.records in
     let s = c.args.store.now in
     let t = c.as_plain.new.store in
     let es = list_at (records s) c.args.list in
-    let is : is_dense c.args.dense (length es) c.args.documents ≡ false = ap (λ k. is_dense c.args.dense k c.args.documents) (sym c.count.ensures.count) ∙ sym c.is_dense.ensures ∙ c.if-is_dense.false in
+    let is : is_dense c.args.dense (length es) c.args.documents ≡ false = ap (λ b. is_dense b (length es) c.args.documents) c.if-not-dense.false ∙ sym c.is_long.ensures.dense ∙ c.if-is_long.false in
     subst (λ d. IfOk c.as_plain.result (MakesList (ledger s) (ledger t) (records s) (records t) c.args.list es d)) (sym is)
-    (subst (λ s. IfOk c.as_plain.result (MakesList (ledger s) (ledger t) (records s) (records t) c.args.list (list_at (records s) c.args.list) false)) c.count.ensures.same c.as_plain.ensures.makes)
+    (subst (λ s. IfOk c.as_plain.result (MakesList (ledger s) (ledger t) (records s) (records t) c.args.list (list_at (records s) c.args.list) false)) c.is_long.ensures.same c.as_plain.ensures.makes)
 
-pub returns-else-is_dense-clause-counts : goal.returns-else-is_dense-clause-counts
-returns-else-is_dense-clause-counts g c =
+pub returns-else-is_long-clause-counts : goal.returns-else-is_long-clause-counts
+returns-else-is_long-clause-counts g c =
     let ledger = g.S.Store.ledger in
     let records = g.S.Frozen.records in
     let s = c.args.store.now in
     let t = c.as_plain.new.store in
     let es = list_at (records s) c.args.list in
-    let is : is_dense c.args.dense (length es) c.args.documents ≡ false = ap (λ k. is_dense c.args.dense k c.args.documents) (sym c.count.ensures.count) ∙ sym c.is_dense.ensures ∙ c.if-is_dense.false in
+    let is : is_dense c.args.dense (length es) c.args.documents ≡ false = ap (λ b. is_dense b (length es) c.args.documents) c.if-not-dense.false ∙ sym c.is_long.ensures.dense ∙ c.if-is_long.false in
     subst (λ d. MakesWithin (ledger s) (ledger t) (form_most (is_vector c.args.list) d es)) (sym is)
-    (subst (λ s. MakesWithin (ledger s) (ledger t) (form_most (is_vector c.args.list) false (list_at (records s) c.args.list))) c.count.ensures.same c.as_plain.ensures.counts)
+    (subst (λ s. MakesWithin (ledger s) (ledger t) (form_most (is_vector c.args.list) false (list_at (records s) c.args.list))) c.is_long.ensures.same c.as_plain.ensures.counts)
 
-pub returns-else-is_dense-clause-refuses : goal.returns-else-is_dense-clause-refuses
-returns-else-is_dense-clause-refuses g c =
+pub returns-else-is_long-clause-refuses : goal.returns-else-is_long-clause-refuses
+returns-else-is_long-clause-refuses g c =
     let ledger = g.S.Store.ledger in
     let records = g.S.Frozen.records in
     let s = c.args.store.now in
     let t = c.as_plain.new.store in
     let es = list_at (records s) c.args.list in
-    let is : is_dense c.args.dense (length es) c.args.documents ≡ false = ap (λ k. is_dense c.args.dense k c.args.documents) (sym c.count.ensures.count) ∙ sym c.is_dense.ensures ∙ c.if-is_dense.false in
+    let is : is_dense c.args.dense (length es) c.args.documents ≡ false = ap (λ b. is_dense b (length es) c.args.documents) c.if-not-dense.false ∙ sym c.is_long.ensures.dense ∙ c.if-is_long.false in
     subst (λ d. IfErr c.as_plain.result (RefusesOf (IsFormWidth (is_vector c.args.list) d) (ledger s) (ledger t))) (sym is)
-    (subst (λ s. IfErr c.as_plain.result (RefusesOf (IsFormWidth (is_vector c.args.list) false) (ledger s) (ledger t))) c.count.ensures.same c.as_plain.ensures.refuses)
+    (subst (λ s. IfErr c.as_plain.result (RefusesOf (IsFormWidth (is_vector c.args.list) false) (ledger s) (ledger t))) c.is_long.ensures.same c.as_plain.ensures.refuses)
 
-pub returns-else-is_dense-clause-may : goal.returns-else-is_dense-clause-may
-returns-else-is_dense-clause-may g c = subst (λ s. MayDo (g.S.Store.ledger s) (g.S.Store.ledger c.as_plain.new.store)) c.count.ensures.same c.as_plain.ensures.may
+pub returns-else-is_long-clause-may : goal.returns-else-is_long-clause-may
+returns-else-is_long-clause-may g c = subst (λ s. MayDo (g.S.Store.ledger s) (g.S.Store.ledger c.as_plain.new.store)) c.is_long.ensures.same c.as_plain.ensures.may

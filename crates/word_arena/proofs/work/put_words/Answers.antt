@@ -1,5 +1,5 @@
 use Rattle.std.proofs.Common.{slice_index, subst, refl, ◌≡◌, ◌+◌, ◌≤◌, ℕ, Some, cond, sym, ap, ◌∙◌, arith, inl, inr}
-use Rattle.std.proofs.lemmas.Bool.{cases_eq, eq-eqb, ne_eqb, and_from, and_right}
+use Rattle.std.proofs.lemmas.Bool.{cases_eq, eq-eqb, ne_eqb, and_from, and_right, and_left}
 use Rattle.entry_ref.proofs.Apart.{place-below}
 use Rattle.gen_core.specs.declared.views.Sizes.{Sizes}
 use Rattle.arena_api.specs.Calls.{MayStore, with_stored}
@@ -50,6 +50,7 @@ loop-i-preserved g c =
             ∙ ap (λ n. Some n) (ap (slice_index c.args.words.now) (sym same))
         | inr other ↦ ap (λ t. cond t (Some word) (now.stored c.args.entry j)) (and_right _ _ (ne_eqb j c.loop-i.i other)) ∙ inv.filled j (omega (arith, lt, other))
       ];
+      apart = λ q j ne. ap (λ v. v.stored q j) e.knows ∙ ap (λ t. cond t (Some word) (now.stored q j)) (and_left _ _ (ne_eqb q c.args.entry ne)) ∙ inv.apart q j ne;
       others = λ q ne. e.others q ne ∙ inv.others q ne;
       shape = e.shape ∙ inv.shape;
     }

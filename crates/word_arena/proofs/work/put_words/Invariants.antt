@@ -11,6 +11,7 @@ invariant-loop-i g l = record {
       known_by l.seat
       ≡ record (known_by l.fn.seat) { stored = (known_by l.seat).stored };
   filled : (j : ℕ) → j < l.i → (known_by l.seat).stored l.entry j ≡ Some (slice_index l.words j);
+  apart : (q j : ℕ) → q ≢ l.entry → (known_by l.seat).stored q j ≡ (known_by l.fn.seat).stored q j;
   others : (q : ℕ) → q ≢ l.entry → writer_records (writer_of l.seat.me.0) q ≡ writer_records (writer_of l.fn.seat.me.0) q;
   shape : (writer_of l.seat.me.0).sizes.shape ≡ (writer_of l.fn.seat.me.0).sizes.shape;
 }

@@ -15,6 +15,7 @@ invariant-loop-i g l = record {
   kept :
       (j : ℕ) → j < l.fn.start → (known_by l.seat).stored l.entry j
       ≡ (known_by l.fn.seat).stored l.entry j;
+  apart : (q j : ℕ) → q ≢ l.entry → (known_by l.seat).stored q j ≡ (known_by l.fn.seat).stored q j;
   others : (q : ℕ) → q ≢ l.entry → writer_records (writer_of l.seat.me.0) q ≡ writer_records (writer_of l.fn.seat.me.0) q;
   shape : (writer_of l.seat.me.0).sizes.shape ≡ (writer_of l.fn.seat.me.0).sizes.shape;
 }

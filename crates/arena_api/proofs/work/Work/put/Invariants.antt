@@ -8,6 +8,7 @@ invariant-loop-i g l =
     record {
       knows : work.knows l.self ≡ record (work.knows l.fn.self) { stored = (work.knows l.self).stored };
       filled : (j : ℕ) → j < l.i → (work.knows l.self).stored l.entry j ≡ Some (slice_index l.words j);
+      apart : (q j : ℕ) → q ≢ l.entry → (work.knows l.self).stored q j ≡ (work.knows l.fn.self).stored q j;
       others : (q : ℕ) → q ≢ l.entry → records l.self q ≡ records l.fn.self q;
       shape : g.Self.Frozen.shape l.self ≡ g.Self.Frozen.shape l.fn.self;
     }

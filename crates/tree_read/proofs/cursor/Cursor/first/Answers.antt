@@ -2,7 +2,7 @@ use Rattle.std.proofs.Common.{◌<◌, ◌++◌, ap, sym, subst, ◌∙◌, arit
 use Rattle.std.proofs.lemmas.List.{append-nil}
 use Rattle.tree_read.specs.Nodes.{level_of}
 use Rattle.tree_read.specs.Trees.{pairs_below}
-use Rattle.tree_read.specs.SearchPlaces.{Place, Leads, pairs_behind}
+use Rattle.tree_read.specs.SearchPlaces.{CursorPlace, Leads, pairs_behind}
 use Rattle.tree_read.proofs.PlaceLemmas.{leads-root, root_pairs}
 use Rattle.tree_read.proofs.cursor.Cursor.first.Goals as goal
 
@@ -11,7 +11,7 @@ enter-requires g c =
     let m = g.F.Frozen.records c.args.frozen.now in
     let root = c.args.root in
     let some : 0 < root = omega arith in
-    (omega arith, (omega arith, subst (λ (p : Place). Leads m p.root p.path root) (sym c.at_end_of-cursor.ensures) (leads-root m root some (c.requires.tree some))))
+    (omega arith, (omega arith, subst (λ (p : CursorPlace). Leads m p.root p.path root) (sym c.at_end_of-cursor.ensures) (leads-root m root some (c.requires.tree some))))
 
 pub returns-then-valid-clause-pairs : goal.returns-then-valid-clause-pairs
 returns-then-valid-clause-pairs g c =
@@ -19,6 +19,6 @@ returns-then-valid-clause-pairs g c =
     let root = c.args.root in
     let some : 0 < root = omega arith in
     c.enter.ensures.pairs
-    ∙ ap (λ (p : Place). pairs_below m (level_of (m root)) root ++ pairs_behind m (level_of (m root)) p.path) c.at_end_of-cursor.ensures
+    ∙ ap (λ (p : CursorPlace). pairs_below m (level_of (m root)) root ++ pairs_behind m (level_of (m root)) p.path) c.at_end_of-cursor.ensures
     ∙ append-nil (pairs_below m (level_of (m root)) root)
     ∙ sym (root_pairs m root some (c.requires.tree some))

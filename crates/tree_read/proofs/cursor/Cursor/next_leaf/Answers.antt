@@ -2,8 +2,8 @@ use Rattle.std.proofs.Common.{◌≡◌, ◌+◌, ◌<◌, ◌≤◌, ◌++◌, 
 use Rattle.entry_ref.specs.Records.{word_at}
 use Rattle.tree_read.specs.Nodes.{level_of, used_of}
 use Rattle.tree_read.specs.Trees.{pairs_below}
-use Rattle.tree_read.specs.Steps.{Step}
-use Rattle.tree_read.specs.SearchPlaces.{Place, Leads, pairs_behind, pairs_from}
+use Rattle.tree_read.specs.Steps.{PathStep}
+use Rattle.tree_read.specs.SearchPlaces.{CursorPlace, Leads, pairs_behind, pairs_from}
 use Rattle.tree_read.proofs.PlaceLemmas.{Climbs, climbs-leads, climbs-above, climbs-child, climbs-on, leads-length, leads-child, step-size, step-room, step-child}
 use Rattle.tree_read.proofs.cursor.Cursor.next_leaf.Goals as goal
 
@@ -14,9 +14,9 @@ push-requires g c =
     let rest = pairs_behind m 0 c.args.self.now.path in
     let root = c.self.inside.root in
     let path = c.pop.new.self in
-    let step : Step = record { node = c.step.inside.node; slot = c.step.inside.slot } in
+    let step : PathStep = record { node = c.step.inside.node; slot = c.step.inside.slot } in
     let it : Climbs m root (step ∷ path) rest =
-    subst (λ p. Climbs m root p rest) (c.in-Some.ensures.some ∙ ap (λ (s : Step). s ∷ path) (sym c.step.view_is)) (subst (λ (p : Place). Climbs m p.root p.path rest) (sym c.self.view_is) c.loop-step.invariant.climbs) in
+    subst (λ p. Climbs m root p rest) (c.in-Some.ensures.some ∙ ap (λ (s : PathStep). s ∷ path) (sym c.step.view_is)) (subst (λ (p : CursorPlace). Climbs m p.root p.path rest) (sym c.self.view_is) c.loop-step.invariant.climbs) in
     let leads = climbs-leads m root step path rest it in
     let most = leads-length m root path step.node leads in
     omega arith
@@ -30,10 +30,10 @@ child_at-child-requires g c = (
         let rest = pairs_behind m 0 c.args.self.now.path in
         let root = c.self.inside.root in
         let path = c.pop.new.self in
-        let step : Step = record { node = c.step.inside.node; slot = c.step.inside.slot } in
+        let step : PathStep = record { node = c.step.inside.node; slot = c.step.inside.slot } in
         let it : Climbs m root (step ∷ path) rest =
-        subst (λ p. Climbs m root p rest) (c.in-Some.ensures.some ∙ ap (λ (s : Step). s ∷ path) (sym c.step.view_is))
-        (subst (λ (p : Place). Climbs m p.root p.path rest) (sym c.self.view_is) c.loop-step.invariant.climbs) in
+        subst (λ p. Climbs m root p rest) (c.in-Some.ensures.some ∙ ap (λ (s : PathStep). s ∷ path) (sym c.step.view_is))
+        (subst (λ (p : CursorPlace). Climbs m p.root p.path rest) (sym c.self.view_is) c.loop-step.invariant.climbs) in
         let leads = climbs-leads m root step path rest it in
         let used : c.read_head.result.used ≡ used_of (m step.node) =
         c.read_head.ensures.used ∙ ap (λ (f : g.row.F.Denot). used_of (records f step.node)) c.loop-step.invariant.same in
@@ -46,10 +46,10 @@ child_at-child-requires g c = (
           let rest = pairs_behind m 0 c.args.self.now.path in
           let root = c.self.inside.root in
           let path = c.pop.new.self in
-          let step : Step = record { node = c.step.inside.node; slot = c.step.inside.slot } in
+          let step : PathStep = record { node = c.step.inside.node; slot = c.step.inside.slot } in
           let it : Climbs m root (step ∷ path) rest =
-          subst (λ p. Climbs m root p rest) (c.in-Some.ensures.some ∙ ap (λ (s : Step). s ∷ path) (sym c.step.view_is))
-          (subst (λ (p : Place). Climbs m p.root p.path rest) (sym c.self.view_is) c.loop-step.invariant.climbs) in
+          subst (λ p. Climbs m root p rest) (c.in-Some.ensures.some ∙ ap (λ (s : PathStep). s ∷ path) (sym c.step.view_is))
+          (subst (λ (p : CursorPlace). Climbs m p.root p.path rest) (sym c.self.view_is) c.loop-step.invariant.climbs) in
           let leads = climbs-leads m root step path rest it in
           let same = c.read_head.ensures.same ∙ c.loop-step.invariant.same in
           rw same (step-size m root path step.node leads)),
@@ -58,10 +58,10 @@ child_at-child-requires g c = (
           let rest = pairs_behind m 0 c.args.self.now.path in
           let root = c.self.inside.root in
           let path = c.pop.new.self in
-          let step : Step = record { node = c.step.inside.node; slot = c.step.inside.slot } in
+          let step : PathStep = record { node = c.step.inside.node; slot = c.step.inside.slot } in
           let it : Climbs m root (step ∷ path) rest =
-          subst (λ p. Climbs m root p rest) (c.in-Some.ensures.some ∙ ap (λ (s : Step). s ∷ path) (sym c.step.view_is))
-          (subst (λ (p : Place). Climbs m p.root p.path rest) (sym c.self.view_is) c.loop-step.invariant.climbs) in
+          subst (λ p. Climbs m root p rest) (c.in-Some.ensures.some ∙ ap (λ (s : PathStep). s ∷ path) (sym c.step.view_is))
+          (subst (λ (p : CursorPlace). Climbs m p.root p.path rest) (sym c.self.view_is) c.loop-step.invariant.climbs) in
           let leads = climbs-leads m root step path rest it in
           let same = c.read_head.ensures.same ∙ c.loop-step.invariant.same in
           let used : c.read_head.result.used ≡ used_of (m step.node) =
@@ -80,9 +80,9 @@ enter-requires g c =
     let rest = pairs_behind m 0 c.args.self.now.path in
     let root = c.self.inside.root in
     let path = c.pop.new.self in
-    let step : Step = record { node = c.step.inside.node; slot = c.step.inside.slot } in
+    let step : PathStep = record { node = c.step.inside.node; slot = c.step.inside.slot } in
     let it : Climbs m root (step ∷ path) rest =
-    subst (λ p. Climbs m root p rest) (c.in-Some.ensures.some ∙ ap (λ (s : Step). s ∷ path) (sym c.step.view_is)) (subst (λ (p : Place). Climbs m p.root p.path rest) (sym c.self.view_is) c.loop-step.invariant.climbs) in
+    subst (λ p. Climbs m root p rest) (c.in-Some.ensures.some ∙ ap (λ (s : PathStep). s ∷ path) (sym c.step.view_is)) (subst (λ (p : CursorPlace). Climbs m p.root p.path rest) (sym c.self.view_is) c.loop-step.invariant.climbs) in
     let leads = climbs-leads m root step path rest it in
     let same = c.read_head.ensures.same ∙ c.loop-step.invariant.same in
     let used : c.read_head.result.used ≡ used_of (m step.node) =
@@ -107,9 +107,9 @@ returns-then-next-read_head-clause-pairs g c =
     let rest = pairs_behind m 0 c.args.self.now.path in
     let root = c.self.inside.root in
     let path = c.pop.new.self in
-    let step : Step = record { node = c.step.inside.node; slot = c.step.inside.slot } in
+    let step : PathStep = record { node = c.step.inside.node; slot = c.step.inside.slot } in
     let it : Climbs m root (step ∷ path) rest =
-    subst (λ p. Climbs m root p rest) (c.in-Some.ensures.some ∙ ap (λ (s : Step). s ∷ path) (sym c.step.view_is)) (subst (λ (p : Place). Climbs m p.root p.path rest) (sym c.self.view_is) c.loop-step.invariant.climbs) in
+    subst (λ p. Climbs m root p rest) (c.in-Some.ensures.some ∙ ap (λ (s : PathStep). s ∷ path) (sym c.step.view_is)) (subst (λ (p : CursorPlace). Climbs m p.root p.path rest) (sym c.self.view_is) c.loop-step.invariant.climbs) in
     let leads = climbs-leads m root step path rest it in
     let same = c.read_head.ensures.same ∙ c.loop-step.invariant.same in
     let used : c.read_head.result.used ≡ used_of (m step.node) =
@@ -133,9 +133,9 @@ loop-step-preserved g c =
     let rest = pairs_behind m 0 c.args.self.now.path in
     let root = c.self.inside.root in
     let path = c.pop.new.self in
-    let step : Step = record { node = c.step.inside.node; slot = c.step.inside.slot } in
+    let step : PathStep = record { node = c.step.inside.node; slot = c.step.inside.slot } in
     let it : Climbs m root (step ∷ path) rest =
-    subst (λ p. Climbs m root p rest) (c.in-Some.ensures.some ∙ ap (λ (s : Step). s ∷ path) (sym c.step.view_is)) (subst (λ (p : Place). Climbs m p.root p.path rest) (sym c.self.view_is) c.loop-step.invariant.climbs) in
+    subst (λ p. Climbs m root p rest) (c.in-Some.ensures.some ∙ ap (λ (s : PathStep). s ∷ path) (sym c.step.view_is)) (subst (λ (p : CursorPlace). Climbs m p.root p.path rest) (sym c.self.view_is) c.loop-step.invariant.climbs) in
     let leads = climbs-leads m root step path rest it in
     let same = c.read_head.ensures.same ∙ c.loop-step.invariant.same in
     let used : c.read_head.result.used ≡ used_of (m step.node) =
@@ -143,6 +143,6 @@ loop-step-preserved g c =
     let past : used_of (m step.node) ≤ suc step.slot = (let test = c.if-next-read_head.false in omega arith) in
     record {
       same = same;
-      root = ap (λ (p : Place). p.root) c.self.view_is ∙ c.loop-step.invariant.root;
+      root = ap (λ (p : CursorPlace). p.root) c.self.view_is ∙ c.loop-step.invariant.root;
       climbs = climbs-on m root step path rest it past;
     }

@@ -3,7 +3,7 @@ use Rattle.entry_ref.specs.Records.{word_at}
 use Rattle.tree_read.specs.Nodes.{level_of, used_of, node_keys}
 use Rattle.tree_read.specs.Trees.{pairs_below, tree_pairs, IsNode}
 use Rattle.tree_read.specs.Keys.{AllReadable, seen_by}
-use Rattle.tree_read.specs.SearchPlaces.{Place}
+use Rattle.tree_read.specs.SearchPlaces.{CursorPlace}
 use Rattle.tree_read.specs.NodePlaces.{IsSlot}
 use Rattle.tree_read.proofs.PlaceLemmas.{leads-node, leads-root, leads-length, child-level, pairs_from-none, step-room, step-child}
 use Rattle.tree_read.proofs.SeekLemmas.{IsFirstSlot, first-words, Sought, root-readable, sought-root, sought-past, sought-node, sought-readable, sought-child, sought-leaf}
@@ -37,7 +37,7 @@ returns-then-spot-cursor-clause-pairs g c =
     first-words (seen_by key.read key.order s m) m 1 (level_of (m root)) root slot (leads-node m root [] root (leads-root m root some tree)) c.visit-spot.ensures.slot in
     let fresh = c.cursor.view_is ∙ c.at_end_of-cursor.ensures in
     let past : used_of (m root) ≤ slot = (let test = c.if-spot-cursor.true in omega arith) in
-    let none : c.cursor.inside.used ≡ 0 = ap (λ (p : Place). p.used) fresh in
+    let none : c.cursor.inside.used ≡ 0 = ap (λ (p : CursorPlace). p.used) fresh in
     pairs_from-none m (record { root = c.cursor.inside.root; path = c.cursor.inside.path; leaf = c.cursor.inside.leaf; slot = c.cursor.inside.slot; used = c.cursor.inside.used; words = c.visit-spot.new.words })
     (omega arith)
     ∙ sym (sought-past key.order total (key.read m) s m (key.can_read m) root some tree c.requires.tree.ascends c.requires.readable slot first past)
@@ -61,9 +61,9 @@ loop-cursor-init g c =
     let sought = sought-root key.order total (key.read m) s m (key.can_read m) root some tree c.requires.tree.ascends c.requires.readable slot first low in
     record {
       same = c.visit-spot.ensures.same;
-      root = ap (λ (p : Place). p.root) fresh;
+      root = ap (λ (p : CursorPlace). p.root) fresh;
       words = c.visit-spot.ensures.words;
-      sought = subst (λ p. Sought key.order total (key.read m) s m (key.can_read m) (tree_pairs m root) root p root slot) (sym (ap (λ (p : Place). p.path) fresh)) sought;
+      sought = subst (λ p. Sought key.order total (key.read m) s m (key.can_read m) (tree_pairs m root) root p root slot) (sym (ap (λ (p : CursorPlace). p.path) fresh)) sought;
     }
 
 pub push-requires : goal.push-requires

@@ -5,6 +5,7 @@ use Rattle.gen_core.specs.Events.{bounced}
 use Rattle.word_arena.specs.Ruled.{Slot, reader_of, IsHigher, reader_in}
 use Rattle.word_arena.proofs.Allowed.{raise_owed, bounce_owed, load_root_owed}
 use Rattle.word_arena.proofs.Guards.{low-inside, odd-state, guards, raised_post, raised-stands, raised-climbs, hit, miss, miss-found, miss-climbs, saw_on, watch_after}
+use Rattle.word_arena.proofs.RunLemmas.{guards_commit}
 use Rattle.word_arena.proofs.reader.Aimed.try_raise.Goals as goal
 
 pub fetch_add-count-requires : goal.fetch_add-count-requires
@@ -38,6 +39,7 @@ returns-then-count-eq0-clause-ok g c =
     let more = h.1.least in
     record {
       same_sizes = h.1.same_sizes ∙ b.sizes_same;
+      same_number = h.1.same_number ∙ b.number_same;
       later = omega arith;
       seen = h.1.seen;
       saw = saw_on h.1.saw b.saw;
@@ -73,7 +75,7 @@ returns-clause-again g c =
     let least = b.least in
     let limit = told.limit in
     let view : reader_of c.fetch_sub.new.seat.me.0 ≡ bounced (reader_of c.fetch_add-count.new.seat.me.0) = ap (λ (m : Me Slot View). reader_in m.0) told.is in
-    subst (IsHigher (reader_of c.args.self.place.me.0)) (sym view) (record { higher = omega arith; seen = b.seen; saw = b.saw; same_sizes = b.sizes_same; limit = limit })
+    subst (IsHigher (reader_of c.args.self.place.me.0)) (sym view) (record { higher = omega arith; seen = b.seen; saw = b.saw; same_sizes = b.sizes_same; same_number = b.number_same; limit = limit })
 
 pub returns-then-count-eq0-clause-even : goal.returns-then-count-eq0-clause-even
 returns-then-count-eq0-clause-even g c =
@@ -104,3 +106,6 @@ returns-clause-found g c =
     let a = c.args.self.stands in
     let b = raised_post a c.fetch_add-count.ensures.0 c.fetch_add-count.ensures.2.told in
     miss-found b c.if-count-eq0.false (reader_of c.fetch_sub.new.seat.me.0) (ap (λ (m : Me Slot View). reader_in m.0) c.fetch_sub.ensures.2.told.is)
+
+pub returns-then-count-eq0-clause-commit : goal.returns-then-count-eq0-clause-commit
+returns-then-count-eq0-clause-commit g c = let e = c.load-found.ensures.2.event in guards_commit g.L.Layout.reaches g.L.Layout.lawful e.0 _ _ _ _ e.1

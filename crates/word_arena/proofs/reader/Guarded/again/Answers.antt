@@ -4,6 +4,7 @@ use Rattle.gen_core.specs.declared.views.ReaderView.{ReaderView}
 use Rattle.word_arena.specs.Ruled.{reader_of, seen_number}
 use Rattle.word_arena.proofs.Allowed.{load_root_owed}
 use Rattle.word_arena.proofs.Guards.{low-inside, guards}
+use Rattle.word_arena.proofs.RunLemmas.{guards_commit}
 use Rattle.word_arena.proofs.reader.Guarded.again.Goals as goal
 
 pub load-now-requires : goal.load-now-requires
@@ -40,3 +41,6 @@ returns-clause-stays g c =
     let s = c.args.self in
     let h = guards s.hold s.stands.post s.stands.low (ap stands_on s.stands.guarded) s.stands.climbs c.load-now.ensures.0 c.load-now.ensures.2.told in
     ap (λ (v : ReaderView). stands_on v.state) h.2.is ∙ sym (ap stands_on s.stands.guarded)
+
+pub returns-clause-commit : goal.returns-clause-commit
+returns-clause-commit g c = let e = c.load-now.ensures.2.event in guards_commit g.L.Layout.reaches g.L.Layout.lawful e.0 _ _ _ _ e.1

@@ -10,6 +10,8 @@ use Rattle.word_arena.specs.Knows.{view_of}
 use Rattle.word_arena.proofs.Allowed.{publish_owed}
 use Rattle.word_arena.proofs.Desks.{desk-some, desk_after}
 use Rattle.word_arena.proofs.Stores.{last-more, publish-adds, publish-records}
+use Rattle.word_arena.proofs.RunLemmas.{knows_commits}
+use Rattle.gen_core.specs.declared.views.Event.TheVariants.{Publish}
 use Rattle.word_arena.proofs.work.WriterWork.publish.Goals as goal
 use Rattle.gen_core.proofs.GoodViews.{some-commit}
 
@@ -61,3 +63,6 @@ returns-clause-records g c =
     let b = c.store.ensures.2.told c.args.root (λ k. number k * 2 ^ 32 + root k) in
     let image = next_image g.L.Layout.reaches w c.args.root in
     ap (λ (v : WriterView). writer_records v) (ap (λ (m : Me Slot View). writer_in m.0) b.is) ∙ publish-records w s.stands.good image s.place.table_id
+
+pub returns-clause-in_run : goal.returns-clause-in_run
+returns-clause-in_run g c = let e = c.store.ensures.2.event in knows_commits g.L.Layout.reaches g.L.Layout.lawful (Publish e.0) refl _ _ _ _ e.1

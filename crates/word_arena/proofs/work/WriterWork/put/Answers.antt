@@ -109,3 +109,6 @@ invariant_of-self g c =
     let st : IsDesk g.row.OFFSET_BITS c.arena-arena.result.now.table.shared.table_id c.arena-arena.result.now.sizes s.buffers.items s.holds s.last s.seats.made s.place.table_id (bare s.place.me) =
     rw c.arena-arena.ensures s.stands in
     record { stands = rw (sym c.arena-arena.ensures) (keeps_both c.put_words.ensures.desk c.put_zeros.ensures.desk s.buffers.items s.holds s.last s.seats.made st) }
+
+pub returns-clause-apart : goal.returns-clause-apart
+returns-clause-apart g c = λ q i ne. c.put_zeros.ensures.apart q i ne ∙ c.put_words.ensures.apart q i ne

@@ -1,4 +1,4 @@
-use Rattle.std.proofs.Common.{ap, refl, subst, ◌∙◌, ◌≡◌, []}
+use Rattle.std.proofs.Common.{ap, refl, subst, ◌∙◌, ◌≡◌, [], ◌∷◌, ◌++◌}
 use Rattle.atomic_table.specs.Table.{Me}
 use Rattle.gen_core.specs.declared.views.View.{View}
 use Rattle.gen_core.specs.declared.views.View.TheVariants.{Writer}
@@ -11,7 +11,10 @@ use Rattle.gen_core.specs.declared.views.Sizes.{Sizes}
 use Rattle.gen_core.proofs.Layouts.{IsLayout}
 use Rattle.word_arena.specs.declared.rule.Watched.{Watched}
 use Rattle.word_arena.specs.Released.{IsWholeRun}
+use Rattle.word_arena.specs.Runs.{KnowsCommits}
 use Rattle.word_arena.proofs.HandsOut.{whole_run}
+use Rattle.word_arena.proofs.RunLemmas.{loads_root, knows_commits, took_reads}
+use Rattle.gen_core.specs.declared.views.Event.TheVariants.{MeetLoad}
 use Rattle.word_arena.proofs.writer.Writer.take_in.Goals as goal
 
 pub join_seat-requires : goal.join_seat-requires
@@ -51,3 +54,21 @@ returns-clause-run g c =
     let layout : IsLayout g.L.Layout.reaches g.L.Layout.lawful = record { empty_reaches = g.L.Layout.empty_reaches; empty_lawful = g.L.Layout.empty_lawful; present = g.L.Layout.present; stays = g.L.Layout.stays } in
     subst (λ (z : Sizes). IsWholeRun g.L.Layout.reaches g.L.Layout.lawful z c.load.new.seat.me.0.seen) (ap (λ (m : Me Slot Watched). (writer_of m.0).sizes) c.join_seat.ensures.2)
     (whole_run g.L.Layout.reaches g.L.Layout.lawful layout _ _ _ _ c.load.ensures.2.event)
+
+-- the join changes the view alone
+pub returns-clause-meets : goal.returns-clause-meets
+returns-clause-meets g c =
+    let k = loads_root c.load.ensures.2.event in
+    record {
+      between = k.between;
+      seen = k.seen ∙ ap (λ (m : Me Slot Watched). (m.0.seen ++ k.between) ++ MeetLoad ∷ []) c.join_seat.ensures.2;
+      mine = k.mine ∙ ap (λ (m : Me Slot Watched). m.0.mine ++ MeetLoad ∷ []) c.join_seat.ensures.2;
+    }
+
+pub returns-clause-reads : goal.returns-clause-reads
+returns-clause-reads g c = took_reads g.L.Layout.reaches g.L.Layout.lawful MeetLoad refl _ _ _ _ c.load.ensures.2.event
+
+pub returns-clause-knows : goal.returns-clause-knows
+returns-clause-knows g c =
+    subst (λ (z : Sizes). KnowsCommits g.L.Layout.reaches g.L.Layout.lawful z c.load.new.seat.me.0) (ap (λ (m : Me Slot Watched). (writer_of m.0).sizes) c.join_seat.ensures.2)
+    (knows_commits g.L.Layout.reaches g.L.Layout.lawful MeetLoad refl _ _ _ _ c.load.ensures.2.event)

@@ -1,11 +1,12 @@
-use Rattle.std.proofs.Common.{◌≡◌, ℕ, List, length, drop, refl, sym, ap, subst, ◌∙◌, arith}
+use Rattle.std.proofs.Common.{◌≡◌, ℕ, List, length, drop, nat_le, refl, sym, ap, subst, ◌∙◌, arith}
+use Rattle.std.proofs.lemmas.Bool.{le-leb}
 use Rattle.std.specs.List.{AllByRecursion}
 use Rattle.tree_read.specs.SearchPlaces.{IsAt, pairs_from}
 use Rattle.image_format.specs.Postings.{block_documents, vector_documents, IsBlock}
 use Rattle.bit_vector.specs.Vectors.{blocks_documents}
 use Rattle.bit_vector.proofs.DropLemmas.{count_few, first_all, first_count, not_end, rest_all}
 use Rattle.bit_vector.proofs.VectorLemmas.{vector_ascends}
-use Rattle.bit_vector.proofs.counting.count.Goals as goal
+use Rattle.bit_vector.proofs.counting.has_at_least.Goals as goal
 
 pub loop-cursor-init : goal.loop-cursor-init
 loop-cursor-init g c =
@@ -72,3 +73,18 @@ overflow_add-count g c =
     let whole = first_count m ps (drop 1 ps) c.loop-cursor.count (length (vector_documents m c.args.root)) c.from_raw.result c.count_block-count.result some refl value_is size inv.whole in
     let few = count_few (vector_documents m c.args.root) (vector_ascends m c.args.root c.requires.vector) c.requires.vector.numbers in
     omega (arith, whole, few)
+
+pub returns-then-count-least-clause-least : goal.returns-then-count-least-clause-least
+returns-then-count-least-clause-least g c =
+    let m = g.F.Frozen.records c.args.frozen.now in
+    let whole = c.loop-cursor.invariant.whole in
+    let enough = c.if-count-least.true in
+    sym (le-leb c.args.least (length (vector_documents m c.args.root)) (omega (arith, whole, enough)))
+
+pub returns-clause-least : goal.returns-clause-least
+returns-clause-least g c =
+    let m = g.F.Frozen.records c.args.frozen.now in
+    let inv = c.loop-cursor.invariant in
+    let none = ap (λ (ps : List (ℕ × ℕ)). length (blocks_documents m ps)) ((c.at_end.ensures.pairs m inv.at).0 c.loop-cursor-test.false) in
+    let whole = inv.whole in
+    ap (nat_le c.args.least) (let e : c.loop-cursor.count ≡ length (vector_documents m c.args.root) = omega (arith, none, whole) in e)

@@ -3,7 +3,7 @@ use Rattle.std.specs.List.{AllByRecursion}
 use Rattle.tree_read.specs.SearchPlaces.{IsAt, pairs_from}
 use Rattle.image_format.specs.Postings.{vector_documents, IsBlock}
 use Rattle.bit_vector.specs.Vectors.{blocks_documents}
-use Rattle.bit_vector.proofs.counting.count.Given as goal
+use Rattle.bit_vector.proofs.counting.has_at_least.Given as goal
 
 abbrev pub invariant-loop-cursor : goal.invariant-loop-cursor
 invariant-loop-cursor g l =

@@ -1,0 +1,5 @@
+pub mod Values
+pub mod Orders
+pub mod Groups
+pub mod Totals
+pub mod Examples

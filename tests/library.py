@@ -1,0 +1,198 @@
+"""Random calls of the library for C beside the plain model, by the Python package.
+
+Feeds in pieces, lines that are refused, commits, compactions, queries, items and saves, at the last commit and under a guard of an older
+one.
+"""
+import importlib
+import os
+import sys
+
+import cases
+import model
+
+LINE_CODES = {"NotJson": 21, "NoOperation": 22, "BadId": 23, "BadValue": 24, "Unsupported": 25, "TooManyItems": 26}
+QUERY_CODES = {"Syntax": 11, "NoField": 12, "WrongType": 13, "OutOfRange": 14, "TooDeep": 15}
+FULL = 7
+
+
+class Wrong(Exception):
+    """What is wrong with a call."""
+
+
+def must(found, wanted, what):
+    if found != wanted:
+        raise Wrong(f"{what}: {str(found)[:500]} in place of {str(wanted)[:500]}")
+
+
+def load_engine(library):
+    """The Python package over a library."""
+    os.environ["VATTR_LIBRARY"] = library
+    folder = os.path.join(os.path.dirname(os.path.dirname(os.path.realpath(__file__))), "python")
+    if folder not in sys.path:
+        sys.path.insert(0, folder)
+    return importlib.import_module("vattr")
+
+
+class Case:
+    """An engine, its plain table, and the table of the last commit."""
+
+    def __init__(self, attr, maker):
+        self.attr, self.maker, self.fields = attr, maker, maker.fields
+        dice = maker.dice
+        text = ",".join(":".join(field) for field in self.fields)
+        self.engine = attr.Engine(text, buffers=dice.choice([12, 24, 64]), words=8192, readers=2, wide=maker.odd(0.2), dense=maker.odd(0.3))
+        self.table, self.committed, self.operations, self.commits = {}, {}, 0, 0
+        self.saved_operations = 0
+
+    def feed(self, lines):
+        """Feeds lines in one call, and again from behind each line that is refused. Returns whether there was room for all."""
+        while lines:
+            data = b"\n".join(lines) + b"\n"
+            applied = skipped = 0
+            code, at = 0, 0
+            for at, line in enumerate(lines):
+                if not line.strip(b" \t\r"):
+                    continue
+                try:
+                    operation = model.read_line(line, self.fields)
+                except model.Fault as fault:
+                    code = LINE_CODES[str(fault)]
+                    break
+                skipped += model.step(self.table, operation, self.fields)
+                applied += 1
+            try:
+                told, found = self.engine.feed(data), 0
+            except self.attr.Refused as refused:
+                told, found = refused.told, refused.code
+            if found == FULL:
+                return False
+            must((found, told.operations, told.skipped), (code, applied, skipped), f"a feed of {data[:300]!r}")
+            self.operations += applied
+            if code == 0:
+                return True
+            place = sum(len(line) + 1 for line in lines[:at])
+            must((told.line, told.place, told.next), (at + 1, place, place + len(lines[at]) + 1), f"the refused line of {data[:300]!r}")
+            lines = lines[at + 1:]
+        return True
+
+    def commit(self):
+        """Returns whether there was room."""
+        try:
+            told = self.engine.commit()
+        except self.attr.Refused as refused:
+            must(refused.code, FULL, "a commit")
+            return False
+        self.commits += 1
+        must((told.commit, told.operations), (self.commits, self.operations), "a commit")
+        self.committed, self.saved_operations = dict(self.table), self.operations
+        return True
+
+    def compact(self):
+        try:
+            self.engine.compact(self.maker.dice.choice([1, 16, 256, 4096]))
+        except self.attr.Refused as refused:
+            must(refused.code, FULL, "a step of a compaction")
+
+    def ask(self, reader, text, table):
+        """One query or dot product."""
+        try:
+            word, code, place = model.Word(text.encode(), self.fields), 0, 0
+        except model.QueryFault as fault:
+            name, _, place = str(fault).partition(" at ")
+            code = QUERY_CODES[name]
+        if code:
+            try:
+                reader.ask(text)
+                found = (0, 0)
+            except self.attr.Refused as refused:
+                found = (refused.code, refused.told.place if place else "")
+            must(found, (code, int(place) if place else ""), f"the query {text}")
+        elif word.dot is None:
+            wanted = [doc for doc in sorted(table) if word.matches(word.query, table[doc])]
+            must(list(reader.hits(text)), wanted, f"the query {text}")
+            must(reader.count(text), len(wanted), f"the count of {text}")
+        else:
+            found = [(doc, word.score(table[doc])) for doc in sorted(table)]
+            scores = [(it.document, it.score) for it in reader.scores(text)]
+            must(scores, [(doc, score) for doc, score in found if score is not None], f"the dot product {text}")
+
+    def items(self, reader, document, table):
+        """The items of a document in each attribute."""
+        for number in range(len(self.fields)):
+            found = reader.items(document, number)
+            wanted = table[document][number] if document in table else None
+            must(found, wanted, f"the items of document {document} in attribute {number}")
+
+    def save(self, reader, table, operations):
+        must(reader.save(), model.save_of(table, self.fields[0], operations), "the bytes of a save")
+
+    def look(self, reader, table, operations):
+        """Queries, items and a save of a reader."""
+        for _ in range(self.maker.dice.randrange(3)):
+            text = self.maker.asked()
+            if "\0" not in text:
+                self.ask(reader, text, table)
+        for _ in range(2):
+            self.items(reader, self.maker.dice.randrange(1, self.maker.documents + 2), table)
+        if self.maker.odd(0.3):
+            self.save(reader, table, operations)
+
+    def run(self):
+        """Makes the case with two readers. Returns its kind."""
+        reader, older = self.engine.reader(), self.engine.reader()
+        try:
+            return self.course(reader, older)
+        finally:
+            reader.close()
+            older.close()
+
+    def course(self, reader, older):
+        """Feeds all lines in pieces, and looks at the table after each."""
+        guard, held = None, None
+        lines = self.maker.feed().split(b"\n")
+        while lines:
+            size = self.maker.dice.choice([1, 1, 3, 10])
+            if not self.feed(lines[:size]) or self.maker.odd(0.6) and not self.commit():
+                # (a full store: the last commit stands)
+                self.look(reader, self.committed, self.saved_operations)
+                return "full"
+            lines = lines[size:]
+            if self.maker.odd(0.5):
+                self.compact()
+            self.look(reader, self.committed, self.saved_operations)
+            if held is None and self.maker.odd(0.2):
+                guard = older.hold()
+                must(guard.operations, self.saved_operations, "a guard")
+                held = (self.committed, self.saved_operations)
+            elif held is not None:
+                self.look(older, *held)
+                if self.maker.odd(0.2):
+                    guard.release()
+                    held = None
+        return "done"
+
+
+def case(library, seed, number):
+    """Makes a case. Returns what is wrong, or None, and its kind."""
+    attr = load_engine(library)
+    made = None
+    try:
+        made = Case(attr, cases.Maker(f"library {seed}:{number}"))
+        return None, made.run()
+    except Wrong as wrong:
+        return f"library case {number} of seed {seed}: {wrong}", "wrong"
+    finally:
+        if made is not None:
+            made.engine.close()
+
+
+def batch(job):
+    """Makes the cases of a range. Returns the faults, and how many cases of each kind there were."""
+    library, seed, first, last = job
+    faults, kinds = [], {}
+    for number in range(first, last):
+        found, kind = case(library, seed, number)
+        kinds[kind] = kinds.get(kind, 0) + 1
+        if found:
+            faults.append(found)
+    return faults, kinds
