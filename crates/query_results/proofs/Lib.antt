@@ -1,0 +1,3 @@
+pub mod WalkLemmas
+pub mod AttributeLemmas
+pub mod ListLemmas
