@@ -28,7 +28,7 @@ use Rattle.attr_loader.specs.declared.loaded.NoRoom.{NoRoom}
 use Rattle.attr_engine.specs.Steps.{KeepsWriter, IsReader, IsNewWriter, LoadsInto}
 
 pub keeps_on : (a b c : WriterView) → KeepsWriter a b → KeepsWriter b c → KeepsWriter a c
-keeps_on a b c first second = second ∙ ap (λ (x : WriterView). record x { saw = c.saw; made = c.made }) first
+keeps_on a b c first second = second ∙ ap (λ (x : WriterView). record x { saw = c.saw; taken = c.taken; made = c.made }) first
 
 pub reader_on : (a b : WriterView) (home z : TableId) (r : ReaderView) (table : TableId) → KeepsWriter a b → z ≡ home → IsReader b z r table → IsReader a home r table
 reader_on a b home z r table keeps same is = record {
@@ -99,7 +99,7 @@ module _ {S : Type 0} (ledger : S → Ledger TableId) (fields : List Field) (bat
 
 pub new_on : (fields : List Field) (home z : TableId) (w v : WriterView) → KeepsWriter w v → z ≡ home → IsNewWriter fields home w → IsNewWriter fields z v
 new_on fields home z w v keeps same is =
-    subst (IsNewWriter fields z) (sym keeps) (subst (λ (h : TableId). IsNewWriter fields h (record w { saw = v.saw; made = v.made })) (sym same) (record {
+    subst (IsNewWriter fields z) (sym keeps) (subst (λ (h : TableId). IsNewWriter fields h (record w { saw = v.saw; taken = v.taken; made = v.made })) (sym same) (record {
       some = is.some;
       few = is.few;
       shape_is = is.shape_is;

@@ -35,9 +35,9 @@ abbrev pub parts : Bool → ℕ → ℕ × ℕ
 parts true readers = (0, readers)
 parts false readers = (readers, 0)
 
--- the writer has the same commits, work and buffers
+-- the writer has the same commits, work and buffers; it may have made readers and taken some in
 abbrev pub KeepsWriter : WriterView → WriterView → Type 0
-KeepsWriter w w' = w' ≡ record w { saw = w'.saw; made = w'.made }
+KeepsWriter w w' = w' ≡ record w { saw = w'.saw; taken = w'.taken; made = w'.made }
 
 -- a writer that has committed nothing, of images of these attributes
 pub record IsNewWriter (fields : List Field) (home : TableId) (w : WriterView) : Type 0 where
