@@ -6,6 +6,8 @@ use Rattle.std.proofs.lemmas.Option.{slice_get_within}
 use Rattle.entry_ref.specs.declared.images.Image.{Image}
 use Rattle.entry_ref.specs.Images.{no_image, words_at}
 use Rattle.entry_ref.specs.Records.{Records}
+use Rattle.atomic_table.specs.declared.badge.Badge.{Badge}
+use Rattle.word_arena.specs.declared.rule.Watched.{Watched}
 use Rattle.gen_core.specs.declared.views.WriterView.{WriterView}
 use Rattle.gen_core.specs.Views.{last_number}
 use Rattle.image_format.specs.Images.{table_of}
@@ -27,6 +29,7 @@ use Rattle.attr_report.specs.Run.{Run, table_after}
 use Rattle.attr_report.specs.History.{IsLoaded}
 use Rattle.attr_loader.specs.Runs.{IsOwed, IsQuiet, IsSmall}
 use Rattle.attr_engine.specs.FullStore.{load_in, readers_of, IsJustified}
+use Rattle.attr_engine.specs.FullWriter.{IsFullAtEnd}
 use Rattle.attr_engine.specs.Run.{full_of}
 use Rattle.attr_engine.specs.Rounds.{IsRoundAt, AreRoundsAt, IsRunResult, IsSaveOf, seen_before}
 use Rattle.attr_engine.specs.declared.run_result.Save.{Save}
@@ -126,12 +129,12 @@ module _ (run : Run) (ops : List Op) (w v : WriterView) (loaded : Loaded) (loads
       subst (Answers (table_after run ops loaded.operations)) (sym is.is)
       (last_at run ops loads.last v.commits loads.commits loads.count v.sizes.shape (loads.shape_is ∙ shape) Answers loaded.operations loads.point is.round is.of_commit final)
 
-  pub run_result_of : (first later : List (Vec (Round Told) Global)) (rounds : Vec (Vec (Round Told) Global) Global) (last : Told) (saved : Option Save)
+  pub run_result_of : (first later : List (Vec (Round Told) Global)) (rounds : Vec (Vec (Round Told) Global) Global) (last : Told) (saved : Option Save) (writer : Badge Watched)
       → rounds.items ≡ (if run.after then later else first)
       → AllOf (TakenAt (last_number w.commits)) (parts run.after run.readers).0 first → AllOf (TakenAt (last_number v.commits)) (parts run.after run.readers).1 later
       → IsLastAnswer operations_of (tells_of counted run.asks) v last → is_some saved ≡ run.save → IfSome saved (IsSaveOf run ops loaded.operations)
-      → IsRunResult run ops (record { loaded = loaded; rounds = rounds; last = last; saved = saved })
-  run_result_of first later rounds last saved is one two told asked saves =
+      → IfSome loaded.full (IsFullAtEnd run ops loaded.operations writer) → IsRunResult run ops (record { loaded = loaded; rounds = rounds; last = last; saved = saved; writer = writer })
+  run_result_of first later rounds last saved writer is one two told asked saves full =
       let count = loads.count in
       let zero : last_number w.commits ≡ 0 = ap last_number none in
       let final : last_number v.commits ≡ loads.last = omega (arith, count) in
@@ -151,6 +154,7 @@ module _ (run : Run) (ops : List Op) (w v : WriterView) (loaded : Loaded) (loads
             (λ quiet. loads.unheld (made ∙ alone run quiet))
             (λ one many is. loads.small one (subst (λ n. 8 ≤ n) (sym buffers) many)
             (subst (λ n. IsSmall (load_of n w.sizes.words run.fields run.batch ops)) (sym buffers) (subst (λ n. IsSmall (load_of run.buffers n run.fields run.batch ops)) (sym words) is)));
+        full = full;
         readers = all.count;
         rounds = all.each;
         tells = answers_last (TellsTable counted run.asks) last told;

@@ -1,9 +1,10 @@
 -- What stays of a writer, and what a loading makes of it.
 use Rattle.std.proofs.Common.{◌≡◌, ◌<◌, ◌≤◌, ◌+◌, ℕ, zero, suc, List, [], ◌∷◌, length, None, Some, refl, sym, ap, subst, ◌∙◌, arith, false}
-use Rattle.std.specs.Prelude.{slice_get, All, Bool, IfSome, ◌^◌}
+use Rattle.std.specs.Prelude.{slice_get, min, All, Bool, IfSome, Option, ◌^◌}
 use Rattle.std.specs.List.{AllByRecursion}
 use Rattle.std.proofs.lemmas.Option.{slice_get_within, IfSome_then}
 use Rattle.atomic_table.specs.Seated.{TableId}
+use Rattle.atomic_table.specs.declared.badge.Badge.{Badge}
 use Rattle.entry_ref.specs.declared.images.Image.{Image}
 use Rattle.entry_ref.specs.Images.{no_image, words_at}
 use Rattle.entry_ref.specs.Records.{Records}
@@ -13,18 +14,23 @@ use Rattle.gen_core.specs.declared.views.ReaderView.{ReaderView}
 use Rattle.gen_core.specs.Views.{last_number}
 use Rattle.store_api.specs.Ledgers.{Ledger, active_count, held_count}
 use Rattle.word_arena.specs.Knows.{view_of}
+use Rattle.word_arena.specs.Ruled.{writer_of}
+use Rattle.word_arena.specs.declared.rule.Watched.{Watched}
 use Rattle.image_format.specs.Images.{table_of, operations_at}
 use Rattle.attr_loader.specs.Runs.{IsOwed, IsSmall}
 use Rattle.image_format.specs.Shapes.{shape_of, types_of}
 use Rattle.attr_types.specs.Lawful.{OpFits}
-use Rattle.attr_types.specs.Table.{skipped}
+use Rattle.attr_types.specs.Table.{Table, after, skipped}
 use Rattle.attr_types.specs.declared.field.Field.{Field}
 use Rattle.attr_types.specs.declared.op.Op.{Op}
 use Rattle.attr_loader.specs.Attributes.{AttributeView, HasCommit}
-use Rattle.attr_loader.specs.Loading.{CanLoad, IsAtStart, Loads, AreCommits, EndsAt}
+use Rattle.attr_loader.specs.Loading.{CanLoad, IsAtStart, IsFullAt, Loads, AreCommits, EndsAt}
+use Rattle.attr_loader.specs.Refusals.{IsRefusedCall}
 use Rattle.attr_loader.specs.Room.{load_of, HasMadeNothing}
 use Rattle.attr_loader.specs.declared.loaded.Loaded.{Loaded}
 use Rattle.attr_loader.specs.declared.loaded.NoRoom.{NoRoom}
+use Rattle.attr_report.specs.Run.{Run}
+use Rattle.attr_engine.specs.FullWriter.{IsFullAtEnd, IsFullWriter}
 use Rattle.attr_engine.specs.Steps.{KeepsWriter, IsReader, IsNewWriter, LoadsInto}
 
 pub keeps_on : (a b c : WriterView) → KeepsWriter a b → KeepsWriter b c → KeepsWriter a c
@@ -75,6 +81,24 @@ module _ {S : Type 0} (ledger : S → Ledger TableId) (fields : List Field) (bat
       let generations : (ledger a.store).work.sizes.generations ≡ 281474976710655 = ap (λ (x : WorkView TableId). x.sizes.generations) from ∙ new.generations in
       loads.unheld (ap (λ (x : WorkView TableId). x.made) from ∙ sym made_stays ∙ none) (omega (arith, last, generations, few))
 
+  full_into : (dense : Bool) → a.dense ≡ dense → (room : NoRoom) → IsFullAt ledger batch ops a b loaded.operations room → IsFullWriter fields dense batch ops loaded.operations v room
+  full_into dense dense_is room at =
+      let here = subst (λ (x : WorkView TableId). CountsFull x room) (sym to) (at.free, at.active_is, at.held_is) in
+      let last = min (loaded.operations + batch) (length ops) in
+      let store = ledger b.store in
+      record {
+        free = here.0;
+        active_is = here.1;
+        held_is = here.2;
+        home = z;
+        store = store;
+        knows = sym to ∙ ap (λ n. record (view_of z v) { made = n }) (ap (λ (x : WorkView TableId). x.made) to);
+        applied = b.operations;
+        refused = subst (λ (fs : List Field). IsRefusedCall fs dense (after fields ops b.operations) ops b.operations last store room) (loads.stays.fields ∙ fields_are)
+            (subst (λ d. IsRefusedCall b.fields d (after fields ops b.operations) ops b.operations last store room) (loads.stays.dense ∙ dense_is)
+            (subst (λ (t : Table). IsRefusedCall b.fields b.dense t ops b.operations last store room) (at.table ∙ ap (λ fs. after fs ops b.operations) fields_are) at.refused));
+      }
+
   pub loads_into : v.sizes.shape ≡ shape_of (types_of b.fields) → IsNewWriter fields home w → length ops < 2 ^ 32 → slice_get v.commits 0 ≡ Some no_image → HasMadeNothing (ledger a.store)
       → (dense : Bool) → a.dense ≡ dense → a.plan ≡ None → LoadsInto fields dense batch ops w v loaded
   loads_into shape_now new few first nothing dense dense_is plan =
@@ -89,9 +113,7 @@ module _ {S : Type 0} (ledger : S → Ledger TableId) (fields : List Field) (bat
         point = loads.point;
         skips = loads.skips ∙ ap (λ fs. skipped fs ops loaded.operations) fields_are;
         ends = subst (λ n. EndsAt batch (length ops) n loaded.operations loaded.full) buffers_stay loads.ends;
-        full = IfSome_then loaded.full loads.full (λ room at.
-            let here = subst (λ (x : WorkView TableId). CountsFull x room) (sym to) (at.free, at.active_is, at.held_is) in
-            record { free = here.0; active_is = here.1; held_is = here.2 });
+        full = IfSome_then loaded.full loads.full (λ room at. full_into dense dense_is room at);
         owed = λ off. owed_into nothing (dense_is ∙ off);
         small = small_into nothing plan;
         unheld = unheld_into new few;
@@ -128,6 +150,20 @@ loads_from fields dense batch ops w v x loaded keeps is =
       unheld = moved.unheld;
     }
 
+-- a full writer stays full where only readers are made and taken in
+kept_full : (fields : List Field) (dense : Bool) (batch : ℕ) (ops : List Op) (loaded : ℕ) (v x : WriterView) (room : NoRoom) → IsFullWriter fields dense batch ops loaded v room
+    → IsFullWriter fields dense batch ops loaded (record v { saw = x.saw; taken = x.taken; made = x.made }) room
+kept_full fields dense batch ops loaded v x room at =
+    record { free = at.free; active_is = at.active_is; held_is = at.held_is; home = at.home; store = at.store; knows = at.knows; applied = at.applied; refused = at.refused }
+
+pub full_at_end : (run : Run) (ops : List Op) (loaded : ℕ) (v : WriterView) (seat : Badge Watched) (knew : Watched) (full : Option NoRoom) → seat.views ≡ knew ∷ [] → KeepsWriter v (writer_of knew)
+    → IfSome full (IsFullWriter run.fields run.dense run.batch ops loaded v) → IfSome full (IsFullAtEnd run ops loaded seat)
+full_at_end run ops loaded v seat knew full is keeps at = IfSome_then full at (λ room there. record {
+  knew = knew;
+  is = is;
+  full = subst (λ (y : WriterView). IsFullWriter run.fields run.dense run.batch ops loaded y room) (sym keeps) (kept_full run.fields run.dense run.batch ops loaded v (writer_of knew) room there);
+})
+
 -- and one into a writer that then took readers in
 pub loads_kept : (fields : List Field) (dense : Bool) (batch : ℕ) (ops : List Op) (w v x : WriterView) (loaded : Loaded) → KeepsWriter v x → x.made ≡ v.made
     → LoadsInto fields dense batch ops w v loaded → LoadsInto fields dense batch ops w x loaded
@@ -141,7 +177,7 @@ loads_kept fields dense batch ops w v x loaded keeps made is =
       point = is.point;
       skips = is.skips;
       ends = is.ends;
-      full = IfSome_then loaded.full is.full (λ room at. record { free = at.free; active_is = at.active_is; held_is = at.held_is });
+      full = IfSome_then loaded.full is.full (λ room at. kept_full fields dense batch ops loaded.operations v x room at);
       owed = is.owed;
       small = is.small;
       unheld = λ none. is.unheld (sym made ∙ none);

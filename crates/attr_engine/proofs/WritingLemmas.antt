@@ -15,6 +15,9 @@ use Rattle.attr_report.specs.Report.{done_line, report, made_line, documents_lin
 use Rattle.attr_report.specs.declared.request.Make.{Make}
 use Rattle.attr_engine.specs.declared.run_result.RunResult.{RunResult}
 use Rattle.attr_engine.specs.declared.run_result.Save.{Save}
+use Rattle.atomic_table.specs.declared.badge.Badge.{Badge}
+use Rattle.word_arena.specs.declared.rule.Watched.{Watched}
+use Rattle.attr_engine.specs.FullWriter.{IsFullAtEnd}
 use Rattle.attr_engine.specs.Run.{full_of, progress_of, IsRunOf}
 use Rattle.attr_engine.specs.declared.written.Written.{Written}
 use Rattle.attr_engine.proofs.ReaderLemmas.{all_first, all_rest}
@@ -119,6 +122,13 @@ pub written-told : (run : Run) (ops : List Op) (run_result : RunResult) → IsRu
 unfolding written
 written-told run ops run_result is = told-by run ops run_result run.make is refl
 
+end_on : (run : Run) (ops : List Op) (run_result : RunResult) (w : Written) → IsRunResult run ops run_result → w.loaded ≡ run_result.loaded.operations → w.full ≡ run_result.loaded.full
+    → w.writer ≡ run_result.writer → IfSome w.full (IsFullAtEnd run ops w.loaded w.writer)
+end_on run ops run_result w is loaded full writer =
+    subst (λ (seat : Badge Watched). IfSome w.full (IsFullAtEnd run ops w.loaded seat)) (sym writer)
+    (subst (λ k. IfSome w.full (IsFullAtEnd run ops k run_result.writer)) (sym loaded)
+    (subst (λ (f : Option NoRoom). IfSome f (IsFullAtEnd run ops run_result.loaded.operations run_result.writer)) (sym full) is.full))
+
 -- and so it is a run, where none was to be saved
 pub run_of : (run : Run) (ops : List Op) (run_result : RunResult) (w : Written) → IsRunResult run ops run_result → run.save ≡ false → IsWrittenOf run.make run_result w → IsRunOf run ops w
 run_of run ops run_result w is unsaved wrote =
@@ -133,6 +143,7 @@ run_of run ops run_result w is unsaved wrote =
       room = subst (λ (f : Option NoRoom). IfSome f (λ r. r.active + r.held ≡ run.buffers)) (sym wrote.full) is.room;
       justified = subst (λ k. IfSome w.full (IsJustified run ops k)) (sym wrote.loaded)
           (subst (λ (f : Option NoRoom). IfSome f (IsJustified run ops run_result.loaded.operations)) (sym wrote.full) is.justified);
+      full_at_end = end_on run ops run_result w is wrote.loaded wrote.full wrote.writer;
     }
 
 saved-written : (run : Run) (ops : List Op) (run_result : RunResult) (n : ℕ) (full : Option ℕ)
@@ -158,4 +169,5 @@ saved_run_of run ops run_result save w is saves wrote =
       room = subst (λ (f : Option NoRoom). IfSome f (λ r. r.active + r.held ≡ run.buffers)) (sym wrote.full) is.room;
       justified = subst (λ k. IfSome w.full (IsJustified run ops k)) (sym wrote.loaded)
           (subst (λ (f : Option NoRoom). IfSome f (IsJustified run ops run_result.loaded.operations)) (sym wrote.full) is.justified);
+      full_at_end = end_on run ops run_result w is wrote.loaded wrote.full wrote.writer;
     }

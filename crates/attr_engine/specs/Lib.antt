@@ -5,4 +5,5 @@ pub mod Steps
 pub mod Laws
 pub mod Writing
 pub mod FullStore
+pub mod FullWriter
 pub mod Saver

@@ -18,6 +18,7 @@ use Rattle.attr_report.specs.Report.{saved_text}
 use Rattle.attr_engine.specs.declared.run_result.RunResult.{RunResult}
 use Rattle.attr_engine.specs.declared.run_result.Save.{Save}
 use Rattle.attr_engine.specs.FullStore.{IsJustified}
+use Rattle.attr_engine.specs.FullWriter.{IsFullAtEnd}
 use Rattle.attr_engine.specs.Run.{full_of}
 
 -- a round is at a commit up to the last, with the answers of the table after the operations of that commit
@@ -70,6 +71,7 @@ pub record IsRunResult (run : Run) (ops : List Op) (run_result : RunResult) : Ty
   pub skips : run_result.loaded.skipped ≡ skipped_at run ops run_result.loaded.operations
   pub room : IfSome run_result.loaded.full (λ r. r.active + r.held ≡ run.buffers)
   pub justified : IfSome run_result.loaded.full (IsJustified run ops run_result.loaded.operations)
+  pub full : IfSome run_result.loaded.full (IsFullAtEnd run ops run_result.loaded.operations run_result.writer)
   pub readers : length run_result.rounds.items ≡ run.readers
   pub rounds : AllByRecursion (λ rounds. AreRoundsAt run ops (seen_before run.after last) last rounds.items) run_result.rounds.items
   pub tells : TellsTable (is_some run.make) run.asks (table_after run ops run_result.loaded.operations) run_result.last

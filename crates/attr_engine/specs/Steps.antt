@@ -1,17 +1,15 @@
 -- How the steps of a run change the writer, and the results of its readers' tasks.
-use Rattle.std.specs.Prelude.{◌≡◌, ℕ, ◌+◌, ◌<◌, ◌≤◌, ◌^◌, Bool, true, false, ◌∷◌, List, [], length, slice_get, is_some, IfSome, All, None}
+use Rattle.std.specs.Prelude.{◌≡◌, ℕ, ◌+◌, ◌<◌, ◌≤◌, ◌^◌, Bool, true, false, ◌∷◌, List, [], length, is_some, IfSome, All, None}
 use Rattle.std.specs.List.Sorted.{IsNonDecreasing}
 use Rattle.atomic_table.specs.Seated.{TableId}
 use Rattle.entry_ref.specs.declared.images.Image.{Image}
 use Rattle.entry_ref.specs.Images.{no_image}
 use Rattle.entry_ref.specs.Records.{Records}
 use Rattle.arena_api.specs.Calls.{IsFresh}
-use Rattle.arena_api.specs.Works.{free_count, Buffer as ApiBuffer}
-use Rattle.store_api.specs.Ledgers.{active_count, held_count}
 use Rattle.gen_core.specs.declared.views.ReaderView.{ReaderView}
 use Rattle.gen_core.specs.declared.views.WriterView.{WriterView}
 use Rattle.gen_core.specs.Views.{last_number}
-use Rattle.word_arena.specs.Knows.{view_of, api_buffer}
+use Rattle.word_arena.specs.Knows.{view_of}
 use Rattle.image_format.specs.Images.{IsLawfulImage}
 use Rattle.image_format.specs.Shapes.{shape_of, types_of}
 use Rattle.attr_types.specs.Scores.{AskTree}
@@ -23,11 +21,11 @@ use Rattle.attr_loader.specs.Loading.{AreCommits, EndsAt, commit_point}
 use Rattle.attr_loader.specs.Room.{load_of}
 use Rattle.attr_loader.specs.Runs.{IsOwed, IsSmall}
 use Rattle.attr_loader.specs.declared.loaded.Loaded.{Loaded}
-use Rattle.attr_loader.specs.declared.loaded.NoRoom.{NoRoom}
 use Rattle.attr_rounds.specs.Rounds.{AreSeen, IsOfCommit, MakesRounds}
 use Rattle.attr_rounds.specs.declared.rounds.Round.{Round}
 use Rattle.attr_rounds.specs.declared.asked.Told.{Told}
 use Rattle.attr_report.specs.Run.{Run}
+use Rattle.attr_engine.specs.FullWriter.{IsFullWriter}
 use Rattle.attr_engine.specs.Rounds.{operations_of, tells_of, commits_of, AreGuarded}
 
 -- how many readers run beside the loading, and how many after it
@@ -49,18 +47,8 @@ pub record IsNewWriter (fields : List Field) (home : TableId) (w : WriterView) :
   pub limit : w.sizes.commit_limit ≡ 4294967295
   pub generations : w.sizes.generation_limit ≡ 281474976710655
 
--- the buffers of a writer
-abbrev pub buffers_of : WriterView → ℕ → ApiBuffer
-buffers_of w b = api_buffer (slice_get w.buffers b)
-
--- no buffer is free: this many are in use, and the others are held for readers
-pub record IsFullWriter (w : WriterView) (room : NoRoom) : Type 0 where
-  pub free : free_count (buffers_of w) w.sizes.buffers ≡ 0
-  pub active_is : room.active ≡ active_count (buffers_of w) w.sizes.buffers
-  pub held_is : room.held ≡ held_count (buffers_of w) w.sizes.buffers
-
--- how a loading changes a writer: its commits are those of the operations; if one ran out of space, the buffers are
--- counted
+-- how a loading changes a writer: its commits are those of the operations; if one ran out of space, it was refused, and the
+-- buffers are counted
 pub record LoadsInto (fields : List Field) (dense : Bool) (batch : ℕ) (ops : List Op) (old new : WriterView) (loaded : Loaded)
     : Type 0 where
   pub shape_is : new.sizes.shape ≡ old.sizes.shape
@@ -70,7 +58,7 @@ pub record LoadsInto (fields : List Field) (dense : Bool) (batch : ℕ) (ops : L
   pub point : loaded.operations ≡ commit_point batch (length ops) last
   pub skips : loaded.skipped ≡ skipped fields ops loaded.operations
   pub ends : EndsAt batch (length ops) old.sizes.buffers loaded.operations loaded.full
-  pub full : IfSome loaded.full (IsFullWriter new)
+  pub full : IfSome loaded.full (IsFullWriter fields dense batch ops loaded.operations new)
   -- with one attribute, a full store is owed to what was made if bit vectors are not wanted, and the operations are not a
   -- small run; and without readers nothing is held
   pub owed : dense ≡ false → length fields ≡ 1

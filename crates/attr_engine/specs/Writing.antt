@@ -53,6 +53,7 @@ pub record IsWrittenOf (make : Option Make) (run_result : RunResult) (w : Writte
   pub rounds : w.rounds ≡ map (λ r. operations_of_rounds r.items) run_result.rounds.items
   pub saved : w.saved ≡ None
   pub text : w.text.items ≡ text_of make run_result
+  pub writer : w.writer ≡ run_result.writer
 
 -- what is written of a run that saves the table: the save
 pub record IsSavedOf (run_result : RunResult) (save : Save) (w : Written) : Type 0 where
@@ -61,3 +62,4 @@ pub record IsSavedOf (run_result : RunResult) (save : Save) (w : Written) : Type
   pub rounds : w.rounds ≡ map (λ r. operations_of_rounds r.items) run_result.rounds.items
   pub saved : w.saved ≡ Some save.operations
   pub text : w.text ≡ save.bytes
+  pub writer : w.writer ≡ run_result.writer

@@ -61,5 +61,5 @@ fn written_in(
     if run_result.saved.is_some() {
         return saved_run(alloc, request, ops, run_result);
     }
-    written_of(alloc, request.make, &run_result)
+    written_of(alloc, request.make, run_result)
 }

@@ -19,4 +19,5 @@ pub use error::EngineError;
 pub use laws::run_result_law;
 pub use run::run_threads;
 pub use run_result::{RunResult, Save};
+pub use word_arena::Watched;
 pub use written::Written;

@@ -236,6 +236,7 @@ pub fn last_saved<const OFFSET_BITS: u32, G: Gate>(
     ensures count { IfOk result (λ saved. IfSome saved (λ s. s.operations ≡ operations)) }
     ensures last { IfOk result (λ saved. IfSome saved (λ s. IsLastAnswer operations_of (saves_of saving.now.field.now)
         (writer_of writer.old.place.me.0) s.bytes)) }
+    ensures keeps { KeepsWriter (writer_of writer.old.place.me.0) (writer_of writer.new.place.me.0) }
 {
     if !save {
         return Ok(None);

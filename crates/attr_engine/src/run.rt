@@ -189,6 +189,7 @@ fn run_over<'a, const OFFSET_BITS: u32, R: Threads + Sync, G: Gate + Sync + 'sta
         rounds,
         last,
         saved,
+        writer: writer.into_seat(),
     })
 }
 

@@ -1,7 +1,9 @@
 //! What a run comes to: what was loaded, the rounds of each reader, and the saves.
 
+use atomic_table::Badge;
 use attr_loader::Loaded;
 use attr_rounds::{Round, Told};
+use word_arena::Watched;
 
 /// A save of the table after a number of operations.
 #[derive(Drop)]
@@ -18,4 +20,6 @@ pub struct RunResult {
     pub last: Told,
     /// The save, where the table is saved.
     pub saved: Option<Save>,
+    /// What the writer's seat knew at the end. It has no bytes.
+    pub writer: Badge<Watched>,
 }

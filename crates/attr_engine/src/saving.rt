@@ -27,6 +27,7 @@ pub fn saved_run(
         rounds,
         last: _last,
         saved,
+        writer,
     } = run_result;
     let Some(save) = saved else { unreachable!() };
     let rounds = all_counts(alloc, rounds.as_slice())?;
@@ -36,5 +37,6 @@ pub fn saved_run(
         rounds,
         saved: Some(save.operations),
         text: save.bytes,
+        writer,
     })
 }

@@ -145,11 +145,11 @@ pub fn all_counts(alloc: Global, rounds: &[Vec<Round<Told>>]) -> Result<RoundLis
 pub fn written_of(
     alloc: Global,
     make: Option<Make>,
-    run_result: &RunResult,
+    run_result: RunResult,
 ) -> Result<Written, AllocError>
-    ensures { IfOk result (IsWrittenOf make run_result.now) }
+    ensures { IfOk result (IsWrittenOf make run_result) }
 {
-    let text = text_of(alloc, make, run_result)?;
+    let text = text_of(alloc, make, &run_result)?;
     let rounds = all_counts(alloc, run_result.rounds.as_slice())?;
     Ok(Written {
         loaded: run_result.loaded.operations,
@@ -157,5 +157,6 @@ pub fn written_of(
         rounds,
         saved: None,
         text: text.into_bytes(),
+        writer: run_result.writer,
     })
 }

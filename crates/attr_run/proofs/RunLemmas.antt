@@ -1,6 +1,9 @@
 -- A run of the engine is what its answer says.
 use Rattle.std.proofs.Common.{◌≡◌, ◌+◌, ◌*◌, ◌≤◌, ◌<◌, refl, sym, subst, ℕ, List, length, Option, Some, None, true, false, IfSome, Ok, arith}
 use Rattle.std.proofs.lemmas.Bool.Decides.{nat_tests}
+use Rattle.std.proofs.Common.{◌∙◌}
+use Rattle.atomic_table.specs.declared.badge.Badge.{Badge}
+use Rattle.word_arena.specs.declared.rule.Watched.{Watched}
 use Rattle.std.proofs.Math.Nat.{mul-le-mul}
 use Rattle.clap.specs.Walk.{Text}
 use Rattle.attr_io.specs.Bytes.{OfBytes}
@@ -11,12 +14,15 @@ use Rattle.attr_report.specs.Run.{Run, Progress}
 use Rattle.attr_report.specs.Report.{written}
 use Rattle.attr_report.specs.History.{IsLoaded}
 use Rattle.attr_report.proofs.HistoryLemmas.{histories_are_legal}
+use Rattle.attr_engine.specs.FullWriter.{IsFullAtEnd}
 use Rattle.attr_engine.specs.Run.{IsRunOf, full_of, progress_of}
 use Rattle.attr_engine.specs.declared.written.Written.{Written}
-use Rattle.attr_run.specs.Answers.{IsRunUntil, IsFullRun, IsDue, IsProper}
+use Rattle.attr_run.specs.Answers.{IsRunUntil, IsFullRun, IsFullRunOf, IsDue, IsProper}
 use Rattle.attr_run.specs.Run.{asked, fed}
 use Rattle.attr_run.specs.Steps.{ended_status}
+use Rattle.attr_run.specs.declared.outcome.Outcome.{Outcome}
 use Rattle.attr_run.specs.declared.outcome.Status.{Status}
+use Rattle.attr_run.specs.declared.outcome.Status.TheVariants.{Done, Full}
 use Rattle.attr_run.proofs.TaskLemmas.{of-run}
 
 -- ---- how far it came
@@ -66,6 +72,26 @@ answered words left before now run ops w status loaded rounds saved text st l r 
     subst (λ (x : Status). IsDue words left before now x (so_far loaded rounds saved) text) (sym st)
     (subst (λ (p : Progress). IsDue words left before now (ended_status w.full) p text) same
     (subst (λ (x : List ℕ). IsDue words left before now (ended_status w.full) (progress_of w) x) (sym t) (due-of words left before now run ops w many asks feeds is)))
+
+-- it ran out of space only where it was refused
+refused-by : (run : Run) (ops : List Op) (loaded operation active held : ℕ) (seat : Badge Watched) (full : Option NoRoom) → ended_status full ≡ Full operation active held
+    → IfSome full (IsFullAtEnd run ops loaded seat) → IsFullAtEnd run ops loaded seat (record { operation = operation; active = active; held = held })
+refused-by run ops loaded operation active held seat None is at = absurd (let e : Done ≡ Full operation active held = is in cc)
+refused-by run ops loaded operation active held seat (Some room) is at =
+    let e : Full room.operation room.active room.held ≡ Full operation active held = is in
+    let a : room.operation ≡ operation = cc e in
+    let b : room.active ≡ active = cc e in
+    let d : room.held ≡ held = cc e in
+    subst (IsFullAtEnd run ops loaded seat) (λ i. record { operation = a i; active = b i; held = d i }) at
+
+pub refused-of : (words : List Text) (left : Option (List ℕ)) (run : Run) (ops : List Op) (w : Written) (outcome : Outcome)
+    → outcome.status ≡ ended_status w.full → outcome.loaded ≡ w.loaded → outcome.writer ≡ w.writer
+    → asked words ≡ Ok run → OfBytes left (λ bytes. fed run bytes ≡ Ok ops) → IsRunOf run ops w → IsFullRunOf words left outcome
+refused-of words left run ops w outcome status loaded writer asks feeds is = λ operation active held is_full.
+    of-run words left run ops (λ r o. IsFullAtEnd r o outcome.loaded outcome.writer (record { operation = operation; active = active; held = held })) asks feeds
+    (subst (λ k. IsFullAtEnd run ops k outcome.writer (record { operation = operation; active = active; held = held })) (sym loaded)
+    (subst (λ (seat : Badge Watched). IsFullAtEnd run ops w.loaded seat (record { operation = operation; active = active; held = held })) (sym writer)
+    (refused-by run ops w.loaded operation active held w.writer w.full (sym status ∙ is_full) is.full_at_end)))
 
 proper-by : (full : Option NoRoom) → IsProper (ended_status full)
 proper-by None = tt

@@ -20,7 +20,8 @@ use Rattle.attr_report.specs.declared.request.Make.{Make}
 use Rattle.attr_run.specs.Run.{Task, asked, ReadsFeed, refusal_number, ops_or_refused, ops_in, fed_by, fed}
 use Rattle.attr_run.specs.Run.{task_of}
 use Rattle.attr_run.specs.Texts.{answer_text}
-use Rattle.attr_run.specs.Answers.{EndsRun, OfRun, HasCause, HasNoRun, IsDue, IsProper}
+use Rattle.attr_run.specs.Answers.{EndsRun, OfRun, HasCause, HasNoRun, IsDue, IsFullRunOf, IsProper, progress_of}
+use Rattle.attr_run.specs.declared.outcome.Outcome.{Outcome}
 use Rattle.attr_run.specs.Steps.{Says, IsStopped, IsWordsStop, IsProperStop, IsEarly, IsFeedStop, IsUnfed, feed_stop}
 use Rattle.attr_run.specs.declared.outcome.Status.{Status}
 use Rattle.attr_run.specs.declared.outcome.Status.TheVariants.{Done, Help, Usage, BadFeed}
@@ -288,3 +289,18 @@ pub unended-early : {A : Type 0} (words : List Text) (left : Option (List ℕ)) 
     → IsStopped words left before now stop → IsEarly stop status progress text → EndsRun status full → A
 unended-early words left before now stop status progress text full cause early ends = unended words left before now
     status full (subst (IsStopped words left before now) early.answers cause) ends
+
+-- and ran out of space at no operation
+pub unfull-early : (words : List Text) (left : Option (List ℕ)) (before now : ℕ) (stop : Stop) (outcome : Outcome) (text : List ℕ)
+    → IsStopped words left before now stop → IsEarly stop outcome.status (progress_of outcome) text → IsFullRunOf words left outcome
+unfull-early words left before now stop outcome text cause early = λ operation active held is.
+    let why = subst (IsStopped words left before now) early.answers cause in
+    absurd (subst (HasCause words left before now) is why)
+
+pub unfull-memory : (words : List Text) (left : Option (List ℕ)) (outcome : Outcome) → outcome.status ≡ Memory → IsFullRunOf words left outcome
+unfull-memory words left outcome status = λ operation active held is.
+    absurd (let e : Memory ≡ Full operation active held = sym status ∙ is in cc)
+
+pub unfull-write : (words : List Text) (left : Option (List ℕ)) (outcome : Outcome) → outcome.status ≡ WriteFault → IsFullRunOf words left outcome
+unfull-write words left outcome status = λ operation active held is.
+    absurd (let e : WriteFault ≡ Full operation active held = sym status ∙ is in cc)

@@ -8,6 +8,7 @@ use Rattle.attr_io.specs.Faults.{Rose}
 use Rattle.attr_types.specs.declared.op.Op.{Op}
 use Rattle.attr_types.specs.declared.error.QueryError.TheVariants as refusal
 use Rattle.attr_engine.specs.FullStore.{load_in, readers_of, IsOwed, IsQuiet, IsSmall}
+use Rattle.attr_engine.specs.FullWriter.{IsFullAtEnd}
 use Rattle.attr_report.specs.Run.{Run, Progress}
 use Rattle.attr_report.specs.Report.{written}
 use Rattle.attr_report.specs.History.{IsLoaded, IsRounds, IsAfterwards, IsSaved, IsLegalHistory, history}
@@ -142,3 +143,10 @@ pub record WritesFront (words : List Text) (left : Option (List ℕ)) (before no
   pub proper : IsProper status
   pub due : IsDue words left before now status progress text
   pub front : AppendsFront old new text
+
+-- if a run ran out of space at an operation, the attributes refused that operation, or the commit of the batch of which it is the
+-- last, in the memory that the run's writer had: no buffer of it is free, and exactly so many are in use and held
+abbrev pub IsFullRunOf : List Text → Option (List ℕ) → Outcome → Type 0
+IsFullRunOf words left outcome = (operation active held : ℕ) → outcome.status ≡ Full operation active held
+    → OfRun words left (λ run ops. IsFullAtEnd run ops outcome.loaded outcome.writer
+    (record { operation = operation; active = active; held = held }))

@@ -6,6 +6,8 @@ ghost use Rattle.attr_run.specs.Answers.{progress_of, HasNoRun};
 ghost use Rattle.attr_run.specs.Texts.{exit_code};
 ghost use Rattle.attr_run.specs.declared.outcome.Status.TheVariants.{Memory};
 
+use atomic_table::Badge;
+use attr_engine::Watched;
 use attr_types::{QueryError, RoundList};
 use std::alloc::Global;
 use std::process::ExitCode;
@@ -85,12 +87,14 @@ impl Status {
 
 /// The result of a run: its status, the number of operations that it loaded, the rounds of its readers, and at how
 /// many operations the table was saved, if it was.
-#[derive(Debug, Drop)]
+#[derive(Drop)]
 pub struct Outcome {
     pub status: Status,
     pub loaded: u32,
     pub rounds: RoundList,
     pub saved: Option<u32>,
+    /// What the writer's seat knew at the end of the run, if there was a run. It has no bytes.
+    pub writer: Badge<Watched>,
 }
 
 impl Outcome {
@@ -104,6 +108,7 @@ impl Outcome {
             loaded: 0,
             rounds: RoundList::new(alloc),
             saved: None,
+            writer: Badge::blank(),
         }
     }
 }

@@ -18,7 +18,7 @@ ghost use Rattle.attr_run.specs.Refusals.{IsRefusedFor};
 ghost use Rattle.attr_run.specs.Texts.{answer_text};
 ghost use Rattle.attr_run.specs.Answers.{progress_of, EndsRun, IsEnd, OfRun, ComesExactly};
 ghost use Rattle.attr_run.specs.Answers.{ComesExactlyOfFeed, IsRefusedFeed, IsBeforeRun, IsProper, HasNoRun};
-ghost use Rattle.attr_run.specs.Answers.{ReadsAsAsked, IsDue, IsSmallRun, WritesFront};
+ghost use Rattle.attr_run.specs.Answers.{ReadsAsAsked, IsDue, IsFullRunOf, IsSmallRun, WritesFront};
 ghost use Rattle.attr_run.specs.Steps.{IsStopped, IsProperStop, IsEarly, IsAnswer, HasEnded, ended_status};
 ghost use Rattle.attr_run.specs.Steps.{TellsFault, IsRuled, IsRuledStop};
 ghost use Rattle.attr_run.specs.declared.outcome.Status.TheVariants.{ReadFault};
@@ -38,6 +38,7 @@ use crate::request::request_in;
 use crate::stop::Stop;
 use crate::texts::text_in;
 use crate::words::Words;
+use atomic_table::Badge;
 use attr_engine::{EngineError, NoRoom, Written, run_and_write};
 use attr_io::{Gate, Sink, Source, write_all};
 use attr_report::Request;
@@ -46,7 +47,7 @@ use std::alloc::{AllocError, Global};
 use std::thread::Threads;
 
 /// The outcome, and the text to write.
-#[derive(Debug, Drop)]
+#[derive(Drop)]
 struct Answer {
     outcome: Outcome,
     text: Vec<u8>,
@@ -109,6 +110,7 @@ fn answer_of(written: Written) -> Answer
     ensures rounds { result.outcome.rounds ≡ written.rounds }
     ensures saved { result.outcome.saved ≡ written.saved }
     ensures text { result.text.items ≡ written.text.items }
+    ensures writer { result.outcome.writer ≡ written.writer }
 {
     let Written {
         loaded,
@@ -116,12 +118,14 @@ fn answer_of(written: Written) -> Answer
         rounds,
         saved,
         text,
+        writer,
     } = written;
     let outcome = Outcome {
         status: status_of(full),
         loaded,
         rounds,
         saved,
+        writer,
     };
     Answer { outcome, text }
 }
@@ -138,6 +142,7 @@ fn reported<R: Threads + Sync, S: Source, G: Gate + Sync + 'static>(
     ensures due { IfOk result (λ a. IsDue words.now
         (S.left source.old) (S.faults source.old) (S.faults source.new)
         a.outcome.status (progress_of a.outcome) a.text.items) }
+    ensures full { IfOk result (λ a. IsFullRunOf words.now (S.left source.old) a.outcome) }
     ensures ended { IfOk result (λ _. HasEnded words.now (S.left source.old) (S.left source.new)) }
     ensures stopped { IfErr result (IsStopped words.now (S.left source.old)
         (S.faults source.old) (S.faults source.new)) }
@@ -169,6 +174,7 @@ fn stopped(alloc: Global, stop: Stop) -> Result<Answer, AllocError>
                 loaded: 0,
                 rounds: RoundList::new(alloc),
                 saved: None,
+                writer: Badge::blank(),
             };
             let text = text.into_bytes();
             Ok(Answer { outcome, text })
@@ -187,6 +193,7 @@ fn answer_to<R: Threads + Sync, S: Source, G: Gate + Sync + 'static>(
     ensures due { IfOk result (λ a. IsDue words.now
         (S.left source.old) (S.faults source.old) (S.faults source.new)
         a.outcome.status (progress_of a.outcome) a.text.items) }
+    ensures full { IfOk result (λ a. IsFullRunOf words.now (S.left source.old) a.outcome) }
     ensures proper { IfOk result (λ a. IsProper a.outcome.status) }
     ensures answered { IfOk result (λ a. TellsFault (S.faults source.old) (S.faults source.new) a.outcome.status) }
     ensures ended { IfOk result (λ a. (full : Option ℕ) → EndsRun a.outcome.status full
@@ -216,6 +223,7 @@ fn whole_run<R: Threads + Sync, S: Source, K: Sink, G: Gate + Sync + 'static>(
         (S.left source.old) (S.faults source.old) (S.faults source.new)
         (K.taken sink.old) (K.taken sink.new) (K.faults sink.old) (K.faults sink.new)
         result.status (progress_of result) }
+    ensures full { IsFullRunOf words.now (S.left source.old) result }
     ensures proper { IsProper result.status }
     ensures read_answered { (S.faults source.new ≡ S.faults source.old) ⊎ ((result.status ≡ Status.ReadFault)
         ⊎ ((result.status ≡ Status.WriteFault) ⊎ (result.status ≡ Status.Memory))) }
@@ -237,6 +245,7 @@ fn whole_run<R: Threads + Sync, S: Source, K: Sink, G: Gate + Sync + 'static>(
                 loaded: answer.outcome.loaded,
                 rounds: answer.outcome.rounds,
                 saved: answer.outcome.saved,
+                writer: answer.outcome.writer,
             },
         },
     }
@@ -282,7 +291,10 @@ pub fn attr_main<R: Threads + Sync, S: Source, K: Sink, G: Gate + Sync + 'static
     ensures history { (full : Option ℕ) → EndsRun result.status full
         → OfRun words.now (S.left source.old) (λ run ops. IsLegalHistory run ops
         (progress_of result) (history run ops (progress_of result))) }
-    // If an operation ran out of space, each buffer is in use, or held for readers.
+    // An operation ran out of space only where the attributes refused it, or refused the commit of the batch of which it is
+    // the last: then no buffer of the writer's memory is free, and exactly so many are in use and held.
+    ensures full { IsFullRunOf words.now (S.left source.old) result }
+    // Each buffer is in use, or held for readers.
     ensures room { (operation active held : ℕ) → result.status ≡ Status.Full operation active held
         → OfRun words.now (S.left source.old) (λ run ops. active + held ≡ run.buffers) }
     // With one attribute, the run is not small; and without `--dense`, the entries made up to that operation can fill all

@@ -13,7 +13,7 @@ use Rattle.attr_engine.proofs.RunLemmas.{asked_as, last_as, last_on, run_result_
 use Rattle.attr_engine.proofs.SaverLemmas.{chosen_asked, chosen_is, if_both, save_after, save_beside}
 use Rattle.attr_engine.specs.Rounds.{IsSaveOf}
 use Rattle.attr_rounds.specs.Saves.{saves_of}
-use Rattle.attr_engine.proofs.WriterLemmas.{keeps_on}
+use Rattle.attr_engine.proofs.WriterLemmas.{full_at_end, keeps_on}
 use Rattle.attr_engine.proofs.run.run_over.Goals as goal
 
 pub returns : goal.returns
@@ -51,8 +51,11 @@ returns g c =
     (has.asked ∙ ap (λ (p : Bool × Bool). p.0) c.save_parts-save.ensures) (c.in_ok-saved.ensures.asked ∙ ap (λ (p : Bool × Bool). p.1) c.save_parts-save.ensures) in
     let saves = chosen_is (IsSaveOf run c.args.ops.now c.in_ok-loading.loading.loaded.operations) run.after run.after c.in_ok-loading.loading.saved c.in_ok-saved.saved c.chosen_save-saved.result refl
     c.chosen_save-saved.ensures beside behind in
+    let end = c.last_saved.new.writer.place.me.0 in
+    let full = full_at_end run c.args.ops.now loaded v c.into_seat.result end c.in_ok-loading.loading.loaded.full c.into_seat.ensures.view
+    (keeps_on v y (writer_of end) keeps c.in_ok-saved.ensures.keeps) loads.full in
     run_result_of run c.args.ops.now w v c.in_ok-loading.loading.loaded loads c.requires.buffers c.requires.words
     made c.requires.new.shape_is c.requires.new.commits
-    c.in_ok-loading.loading.first.items c.in_ok-later.later.items c.chosen-rounds.result c.in_ok-last.last c.chosen_save-saved.result c.chosen-rounds.ensures
+    c.in_ok-loading.loading.first.items c.in_ok-later.later.items c.chosen-rounds.result c.in_ok-last.last c.chosen_save-saved.result c.into_seat.result c.chosen-rounds.ensures
     (record { each = first; count = has.count ∙ ap (λ (p : ℕ × ℕ). p.0) c.parts-beside.ensures })
-    (record { each = later; count = c.in_ok-later.ensures.count ∙ ap (λ (p : ℕ × ℕ). p.1) c.parts-beside.ensures }) told asked saves
+    (record { each = later; count = c.in_ok-later.ensures.count ∙ ap (λ (p : ℕ × ℕ). p.1) c.parts-beside.ensures }) told asked saves full

@@ -13,4 +13,5 @@ returns c = saved_run_of (run_in c.args._request.now) c.args._ops.now c.args.run
   rounds = c.in_ok-rounds.ensures ∙ ap (λ (all_rounds : List (Vec (Round Told) Global)). map (λ r. operations_of_rounds r.items) all_rounds) c.as_slice.ensures.value;
   saved = refl;
   text = refl;
+  writer = refl;
 })
