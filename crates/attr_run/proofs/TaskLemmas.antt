@@ -300,7 +300,3 @@ unfull-early words left before now stop outcome text cause early = λ operation 
 pub unfull-memory : (words : List Text) (left : Option (List ℕ)) (outcome : Outcome) → outcome.status ≡ Memory → IsFullRunOf words left outcome
 unfull-memory words left outcome status = λ operation active held is.
     absurd (let e : Memory ≡ Full operation active held = sym status ∙ is in cc)
-
-pub unfull-write : (words : List Text) (left : Option (List ℕ)) (outcome : Outcome) → outcome.status ≡ WriteFault → IsFullRunOf words left outcome
-unfull-write words left outcome status = λ operation active held is.
-    absurd (let e : WriteFault ≡ Full operation active held = sym status ∙ is in cc)

@@ -4,3 +4,8 @@ use Rattle.attr_run.proofs.run.answer_to.Goals as goal
 
 pub returns-in-Ok-clause-full : goal.returns-in-Ok-clause-full
 returns-in-Ok-clause-full g c = c.in-Ok.ensures.full
+
+pub returns-in-Err-clause-full : goal.returns-in-Err-clause-full
+returns-in-Err-clause-full g c =
+    IfOk-weaker c.stopped.result _ _
+    (λ a early. unfull-early c.args.words.now (g.S.Source.left c.args.source.now) _ _ c.in-Err.stop a.outcome a.text.items c.in-Err.ensures.stopped early) c.stopped.ensures
