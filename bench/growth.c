@@ -1,4 +1,4 @@
-/* Calls of libattr on an engine of given sizes, each between two marks for callgrind: bench/growth runs it under valgrind and reads how
+/* Calls of libvattr on an engine of given sizes, each between two marks for callgrind: bench/growth runs it under valgrind and reads how
  * many instructions each took. The documents have one attribute, and each of its values has so many of them. */
 #include "attr.h"
 #include <stdio.h>
