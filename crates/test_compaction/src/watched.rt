@@ -142,7 +142,7 @@ impl Work<22> for Watched {
             ≡ record (⟦<Watched as Work<22>>⟧.knows self.old) {
               stored = (⟦<Watched as Work<22>>⟧.knows self.new).stored;
             } }
-        ensures apart { (q i : ℕ) → q ≢ entry.entry
+        ensures apart { (q i : ℕ) → q ≢ entry
             → (⟦<Watched as Work<22>>⟧.knows self.new).stored q i
             ≡ (⟦<Watched as Work<22>>⟧.knows self.old).stored q i }
         ensures shape { ⟦<Watched as Frozen<22>>⟧.shape self.new
