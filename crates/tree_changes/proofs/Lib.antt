@@ -1,0 +1,5 @@
+pub mod MergeLemmas
+pub mod LayerLemmas
+pub mod TurnLemmas
+pub mod MergeLeafLemmas
+pub mod FinishLemmas

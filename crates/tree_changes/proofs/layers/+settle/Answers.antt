@@ -1,0 +1,44 @@
+use Rattle.std.proofs.Common.{◌≡◌, ◌<◌, ◌+◌, ◌∷◌, suc, arith, subst, List}
+use Rattle.store_api.proofs.May.{may_do-then}
+use Rattle.store_api.specs.Units.{MayDo}
+use Rattle.tree_read.specs.Trees.{Keeps}
+use Rattle.tree_changes.specs.Layers.{OpensRows, RaisesRow}
+use Rattle.tree_changes.specs.declared.rows.Row.{Row}
+use Rattle.tree_changes.proofs.LayerLemmas.{on_ok, turns-raised, settled-more}
+use Rattle.tree_changes.proofs.layers.+settle.Goals as goal
+
+pub returns-clause-turns : goal.returns-clause-turns
+returns-clause-turns g t c =
+    let ledger = g.S.Store.ledger in
+    let records = g.S.Frozen.records in
+    let s = c.args.store.now in
+    let mid = c.raise.new.store in
+    let last = c.settle.new.store in
+    let row = c.in-Some.row.now in
+    let above = c.in-Some.above.now in
+    let row2 = c.raise.new.row in
+    let above2 = c.raise.new.above in
+    let before = c.args.replaced.now.items in
+    let between = c.lengthen.new.replaced.items in
+    let opens : OpensRows (records s) c.args.level c.args.rows.now (row ∷ above) before between =
+    subst (λ (rows : List Row). OpensRows (records s) c.args.level c.args.rows.now rows before between) c.in-Some.ensures.cases.0 c.in_ok-lengthen.ensures.opens in
+    let raises : RaisesRow (ledger s) (ledger mid) (records s) (records mid) c.args.level row.keys.items row.nodes.items above above2 =
+    subst (λ (st : g.row.S.Denot). RaisesRow (ledger st) (ledger mid) (records st) (records mid) c.args.level row.keys.items row.nodes.items above above2) c.lengthen.ensures.same c.in_ok-raise.ensures.raises in
+    let keeps : Keeps (records s) (records mid) = subst (λ (st : g.row.S.Denot). Keeps (records st) (records mid)) c.lengthen.ensures.same c.raise.ensures.makes.keeps in
+    let next : c.args.level + 1 ≡ suc c.args.level = omega arith in
+    on_ok c.settle.result
+    (turns-raised (ledger s) (ledger mid) (ledger last) (records s) (records mid) (records last) c.args.level (c.args.level + 1) next row row2 c.args.rows.now above above2 c.settle.new.rows
+    before between c.settle.new.replaced.items opens raises c.in_ok-raise.ensures.keys c.in_ok-raise.ensures.nodes keeps)
+    c.settle.ensures.turns
+
+pub returns-clause-settled : goal.returns-clause-settled
+returns-clause-settled g t c =
+    let some : 0 < c.args.count = (let no = c.if-count-eq0.false in omega arith) in
+    settled-more c.settle.result c.args.count c.raise.new.row c.settle.new.rows some c.in_ok-raise.ensures.keys c.settle.ensures.settled
+
+pub returns-clause-may : goal.returns-clause-may
+returns-clause-may g t c =
+    let ledger = g.S.Store.ledger in
+    let first : MayDo (ledger c.args.store.now) (ledger c.raise.new.store) =
+    subst (λ (st : g.row.S.Denot). MayDo (ledger st) (ledger c.raise.new.store)) c.lengthen.ensures.same c.raise.ensures.makes.may in
+    may_do-then (ledger c.args.store.now) (ledger c.raise.new.store) (ledger c.settle.new.store) first c.settle.ensures.may
