@@ -3,13 +3,12 @@ use crate::worked::{Worked, told_of};
 use std::alloc::{AllocError, Global};
 use test_kit::{fields_in, number_at, push_number};
 
-/// The attributes and the number of buffers; the operations and commits, one in each line; the queries, one in each
-/// line; and whether only the forms of the lists are wanted.
+/// The attributes and the number of buffers; the operations and commits, one in each line; and whether the forms of
+/// the lists are wanted.
 #[derive(Drop)]
 pub struct Lines {
     row: String,
     turns: String,
-    queries: String,
     forms: bool,
 }
 
@@ -34,7 +33,6 @@ impl Lines {
         Ok(Lines {
             row: String::from_str(alloc, row)?,
             turns: String::new(alloc),
-            queries: String::new(alloc),
             forms,
         })
     }
@@ -84,9 +82,6 @@ impl Lines {
         if line == "commit" || line.starts_with('{') {
             return push_line(&mut self.turns, line);
         }
-        if let Some(query) = line.strip_prefix("ask ") {
-            return push_line(&mut self.queries, query);
-        }
         self.take_many(line)
     }
 
@@ -95,7 +90,6 @@ impl Lines {
             buffers: number_at(&self.row, 1),
             dense: number_at(&self.row, 2) != 0,
             lines: self.turns.as_str(),
-            queries: self.queries.as_str(),
             forms: self.forms,
         }
     }

@@ -1,8 +1,8 @@
 //! Rows of standard input: `run FIELDS SEED EPISODES OPERATIONS DOCUMENTS VALUES ITEMS PERIOD COMMITS BUFFERS QUERIES
 //! CHECKS DENSE`; then `said LINE`, how much it must have done, and `met WORDS`, what must have occurred often enough.
 //! FIELDS are `KIND:TYPE`, separated by commas. Or `on FIELDS BUFFERS`; then an operation of a feed or `commit` in
-//! each line, `ask QUERY` for each query, and `answers LINE`, the expected result. Or `forms FIELDS BUFFERS DENSE`, with
-//! such lines, and `answers LINE`, the forms of lists. Other lines are comments.
+//! each line, and `answers LINE`, what each answers. Or `forms FIELDS BUFFERS DENSE`, with such lines, and
+//! `answers LINE`, the forms of lists. Other lines are comments.
 use crate::counts::Told;
 use crate::lines::Lines;
 use crate::make::Sizes;

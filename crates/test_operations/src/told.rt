@@ -1,8 +1,7 @@
 //! The result of a worked row, as text.
 use crate::turn::{Answer, Committed};
-use attr_types::{Applied, Doc, FieldItems, Item, Items};
+use attr_types::Applied;
 use std::alloc::AllocError;
-use test_kit::{push_item, push_number};
 
 /// Writes a word with two numbers.
 fn push_pair(told: &mut String, word: &str, first: u32, second: u32) -> Result<(), AllocError> {
@@ -41,58 +40,4 @@ pub fn push_commit(told: &mut String, committed: Committed) -> Result<(), AllocE
         Committed::Full { active, held } => push_pair(told, "full", active, held),
         Committed::Odd => told.push_str(" odd"),
     }
-}
-
-fn are_equal(items: &[Item], first: &Item) -> bool {
-    for item in items {
-        if item.value != first.value || item.weight != first.weight {
-            return false;
-        }
-    }
-    true
-}
-
-fn push_each(told: &mut String, items: &[Item]) -> Result<(), AllocError> {
-    for item in items {
-        push_item(told, item)?;
-    }
-    Ok(())
-}
-
-/// Writes each item, or the number of equal ones.
-fn push_items(told: &mut String, items: &Items) -> Result<(), AllocError> {
-    match items.as_slice() {
-        [first, rest @ ..] if rest.len() > 8 && are_equal(rest, first) => {
-            write!(told, " {} times", items.len())?;
-            push_item(told, first)
-        }
-        all => push_each(told, all),
-    }
-}
-
-fn push_document(told: &mut String, document: &FieldItems) -> Result<(), AllocError> {
-    for items in document.as_slice() {
-        push_items(told, items)?;
-    }
-    Ok(())
-}
-
-/// Writes each document with its items.
-pub fn push_table(told: &mut String, table: &[(u64, FieldItems)]) -> Result<(), AllocError> {
-    for row in table {
-        write!(told, "; doc {}:", row.0)?;
-        push_document(told, &row.1)?;
-    }
-    Ok(())
-}
-
-/// Writes the documents of a query.
-pub fn push_documents(told: &mut String, query: &str, documents: &[Doc]) -> Result<(), AllocError> {
-    told.push_str("; ")?;
-    told.push_str(query)?;
-    told.push_str(":")?;
-    for doc in documents {
-        push_number(told, " ", i64::from(doc.number()))?;
-    }
-    Ok(())
 }

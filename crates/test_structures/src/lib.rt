@@ -5,8 +5,6 @@
 #[cfg(test)]
 mod cases;
 #[cfg(test)]
-mod held;
-#[cfg(test)]
 mod made;
 #[cfg(test)]
 mod maps;
@@ -30,8 +28,6 @@ mod of_hold_lists;
 mod of_holds;
 #[cfg(test)]
 mod of_memory;
-#[cfg(test)]
-mod of_queries;
 #[cfg(test)]
 mod of_references;
 #[cfg(test)]
