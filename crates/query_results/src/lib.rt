@@ -1,5 +1,5 @@
-//! What a service asks of an image besides hits, from its records: documents in the order of their values, totals, the best
-//! of some scores, and values in bulk.
+//! What a service asks of an image besides hits, from its records: documents in the order of their values, totals, the
+//! best of some scores, and values in bulk.
 #![tactic(auto)]
 
 mod attribute;
