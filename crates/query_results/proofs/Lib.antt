@@ -1,3 +1,6 @@
 pub mod WalkLemmas
 pub mod AttributeLemmas
 pub mod ListLemmas
+pub mod OrderLemmas
+pub mod RankLemmas
+pub mod ScoreLemmas

@@ -20,6 +20,28 @@ use attr_types::{Doc, Items, Kind, Value, ValueType};
 use entry_ref::EntryRef;
 use std::alloc::{AllocError, Global};
 
+/// Returns the reference of a document's items, at the next step of a walk. It is 0 if the document has none or does not
+/// exist.
+fn next_reference<const OFFSET_BITS: u32, F: Frozen<OFFSET_BITS>>(
+    frozen: &mut F,
+    attribute: &Attribute<OFFSET_BITS>,
+    walk: &mut Walk<OFFSET_BITS>,
+    doc: Doc,
+) -> EntryRef<OFFSET_BITS>
+    requires documents { HasDocuments OFFSET_BITS (F.records frozen.old) attribute.now }
+    requires walk { IsWalk (F.records frozen.old) attribute.now.documents walk.old }
+    ensures records { AreItemRecords attribute.now.kind attribute.now.value_type (F.records frozen.old) result }
+    ensures items { items_at attribute.now.kind attribute.now.value_type (F.records frozen.old) result
+        ≡ items_of (column_in OFFSET_BITS (F.records frozen.old) attribute.now) doc }
+    ensures walk { IsWalk (F.records frozen.old) attribute.now.documents walk.new }
+    ensures same { frozen.new ≡ frozen.old }
+{
+    match find(frozen, attribute.documents, walk, doc) {
+        Some(reference) => reference,
+        None => EntryRef::from_raw(0),
+    }
+}
+
 /// Returns the items of a document, at the next step of a walk.
 pub fn next_items<const OFFSET_BITS: u32, F: Frozen<OFFSET_BITS>>(
     alloc: Global,
@@ -34,16 +56,14 @@ pub fn next_items<const OFFSET_BITS: u32, F: Frozen<OFFSET_BITS>>(
     ensures walk { IsWalk (F.records frozen.old) attribute.now.documents walk.new }
     ensures same { frozen.new ≡ frozen.old }
 {
-    match find(frozen, attribute.documents, walk, doc) {
-        Some(reference) => read_items(
-            alloc,
-            frozen,
-            attribute.kind,
-            attribute.value_type,
-            reference,
-        ),
-        None => Ok(Items::new(alloc)),
-    }
+    let reference = next_reference(frozen, attribute, walk, doc);
+    read_items(
+        alloc,
+        frozen,
+        attribute.kind,
+        attribute.value_type,
+        reference,
+    )
 }
 
 /// Returns the value of the item of a word of a document's record.
@@ -126,14 +146,12 @@ pub fn next_value<const OFFSET_BITS: u32, F: Frozen<OFFSET_BITS>>(
     ensures walk { IsWalk (F.records frozen.old) attribute.now.documents walk.new }
     ensures same { frozen.new ≡ frozen.old }
 {
-    match find(frozen, attribute.documents, walk, doc) {
-        Some(reference) => first_at(
-            alloc,
-            frozen,
-            attribute.kind,
-            attribute.value_type,
-            reference,
-        ),
-        None => Ok(None),
-    }
+    let reference = next_reference(frozen, attribute, walk, doc);
+    first_at(
+        alloc,
+        frozen,
+        attribute.kind,
+        attribute.value_type,
+        reference,
+    )
 }
