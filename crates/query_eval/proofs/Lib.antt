@@ -15,3 +15,4 @@ pub mod TreeLemmas
 pub mod BitLemmas
 pub mod ListLemmas
 pub mod JoinLemmas
+pub mod PartListLemmas

@@ -6,3 +6,4 @@ pub mod ProofsForTakers
 pub mod Weights
 pub mod Lists
 pub mod Vectors
+pub mod PartLists

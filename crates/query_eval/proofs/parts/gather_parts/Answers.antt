@@ -1,34 +1,39 @@
-use Rattle.std.proofs.Common.{◌≡◌, ◌<◌, ◌||◌, ◌+◌, Bool, true, false, List, length, drop, arith, sym, ap, ◌∙◌}
-use Rattle.std.proofs.lemmas.List.{at_drop_more}
-use Rattle.std.specs.Map.{keys_of}
-use Rattle.image_format.specs.Postings.{index_of}
-use Rattle.index_model.specs.Index.{list_of}
-use Rattle.attr_types.specs.declared.part.Part.{Part}
+use Rattle.std.proofs.Common.{slice_index_or, refl, pos, ◌<◌, ◌+◌, ◌||◌, List, Some, length, drop, arith, sym, ap, subst, ◌∙◌}
+use Rattle.list_lemmas.proofs.Places.{drop-read}
 use Rattle.index_model.specs.Gathers.{is_gathered}
-use Rattle.index_model.specs.Sets.{has}
-use Rattle.query_eval.specs.Weights.{is_found}
+use Rattle.query_eval.specs.Lists.{list_has}
+use Rattle.query_eval.specs.PartLists.{some_part_has, AreListParts}
+use Rattle.query_eval.specs.Weights.{IsListWord}
+use Rattle.query_eval.specs.declared.parts.ListPart.{ListPart}
+use Rattle.query_eval.proofs.PartListLemmas.{one_more}
 use Rattle.query_eval.proofs.parts.gather_parts.Goals as goal
 
-joined : (a b c d more whole : Bool) → more ≡ (a || b) → c ≡ (b || d) → (a || c) ≡ whole → (more || d) ≡ whole
-joined true b c d more whole is one all = ap (λ x. x || d) is ∙ all
-joined false b c d more whole is one all = ap (λ x. x || d) is ∙ sym one ∙ all
+abbrev none : ListPart
+none = record { list = 0; weight = pos 0 }
+
+pub gather_part-requires : goal.gather_part-requires
+gather_part-requires g c =
+    let lists = c.args.lists.now in
+    let part = slice_index_or lists c.loop-part.part-index none in
+    let below : c.loop-part.part-index < length lists = omega (arith, c.loop-part-test.true) in
+    let left = subst (AreListParts (g.F.Frozen.records c.args.frozen.now)) (drop-read lists c.loop-part.part-index part none below refl) c.loop-part.invariant.left in
+    subst (λ (f : g.row.F.Denot). IsListWord (g.F.Frozen.records f) (Some part.list)) (sym c.loop-part.invariant.same) left.0
 
 pub loop-part-preserved : goal.loop-part-preserved
 loop-part-preserved g c =
     let m = g.F.Frozen.records c.args.frozen.now in
-    let parts = c.args.parts.now in
+    let lists = c.args.lists.now in
     let k = c.loop-part.part-index in
-    let part = c.part-item.result in
-    let index = index_of c.args.value_type m c.args.root in
+    let part = slice_index_or lists c.loop-part.part-index none in
     let before = c.loop-part.invariant in
-    let below : k < length parts = omega (arith, c.loop-part-test.true) in
+    let below : k < length lists = omega (arith, c.loop-part-test.true) in
+    let first = drop-read lists k part none below refl in
     record {
-      same = c.with_value.ensures.same ∙ before.same;
-      whole = λ doc. joined (is_gathered c.loop-part.all doc) (has (keys_of (list_of part.value index)) doc) (is_found (drop k parts) index doc)
-          (is_found (drop (k + 1) parts) index doc) (is_gathered c.in_ok-all.all doc) (is_found parts index doc)
-          (c.in_ok-all.ensures.docs doc
-          ∙ ap (λ (f : g.row.F.Denot). is_gathered c.loop-part.all doc || has (keys_of (list_of part.value (index_of c.args.value_type (g.F.Frozen.records f) c.args.root))) doc) before.same)
-          (at_drop_more (λ (ps : List Part). is_found ps index doc) parts k part below
-          ∙ ap (λ (p : Part). has (keys_of (list_of p.value index)) doc || is_found (drop (k + 1) parts) index doc) (sym c.part-item.is))
+      same = c.gather_part.ensures.same ∙ before.same;
+      left = (subst (AreListParts m) first before.left).1;
+      whole = λ doc. one_more (is_gathered c.loop-part.all doc) (list_has m part.list doc) (some_part_has m (drop k lists) doc)
+          (some_part_has m (drop (k + 1) lists) doc) (is_gathered c.in_ok-all.all doc) (some_part_has m lists doc)
+          (c.in_ok-all.ensures.docs doc ∙ ap (λ (f : g.row.F.Denot). is_gathered c.loop-part.all doc || list_has (g.F.Frozen.records f) part.list doc) before.same)
+          (ap (λ (ps : List ListPart). some_part_has m ps doc) first)
           (before.whole doc);
     }

@@ -1,8 +1,5 @@
-use Rattle.std.proofs.Common.{◌≡◌, ◌++◌, ℕ, List, map, drop}
-use Rattle.image_format.specs.Postings.{index_of}
-use Rattle.index_model.specs.Changes.{HasItems}
-use Rattle.attr_types.specs.Scores.{score_of}
-use Rattle.attr_types.specs.declared.items.Item.{Item}
+use Rattle.std.proofs.Common.{◌≡◌, ◌++◌, map, drop}
+use Rattle.query_eval.specs.PartLists.{score_in_lists}
 use Rattle.query_eval.proofs.parts.scores_of.Given as goal
 
 -- the scores so far, and those of the documents that are left
@@ -11,7 +8,6 @@ invariant-loop-doc g l =
     let m = g.F.Frozen.records l.fn.frozen in
     record {
       same : l.frozen ≡ l.fn.frozen;
-      whole : (items : ℕ → List Item) → ((doc : ℕ) → HasItems (index_of l.value_type m l.root) doc (items doc))
-          → l.list ++ map (λ doc. record { doc = doc; score = score_of l.parts (items doc) }) (drop l.doc-index l.docs)
-          ≡ map (λ doc. record { doc = doc; score = score_of l.parts (items doc) }) l.docs;
+      whole : l.list ++ map (λ doc. record { doc = doc; score = score_in_lists m l.lists doc }) (drop l.doc-index l.docs)
+          ≡ map (λ doc. record { doc = doc; score = score_in_lists m l.lists doc }) l.docs;
     }
