@@ -4,7 +4,7 @@ ghost use Rattle.std.specs.Prelude.{◌≡◌, All};
 ghost use Rattle.gen_core.specs.Events.{joined};
 ghost use Rattle.word_arena.specs.Ruled.{reader_of, writer_of};
 ghost use Rattle.word_arena.specs.Released.{IsWholeRun};
-ghost use Rattle.word_arena.specs.Runs.{LoadsRootOnce, TookReads};
+ghost use Rattle.word_arena.specs.Runs.{LoadsRootOnce, TookReads, KnowsCommits};
 ghost use Rattle.attr_rounds.specs.Rounds.{AreSeen, IsOfCommit};
 
 use crate::question::Question;
@@ -29,6 +29,7 @@ pub fn take_in<const OFFSET_BITS: u32, L: Layout, Q: Question<OFFSET_BITS, L>>(
     ensures run { IsWholeRun L.reaches L.lawful (writer_of writer.old.place.me.0).sizes writer.new.place.me.0.seen }
     ensures meets { LoadsRootOnce writer.old.place.me.0 writer.new.place.me.0 }
     ensures reads { TookReads writer.new.place.me.0 }
+    ensures knows { KnowsCommits L.reaches L.lawful (writer_of writer.old.place.me.0).sizes writer.new.place.me.0 }
 {
     let Reading { reader, rounds } = reading;
     writer.take_in(reader);
