@@ -1,5 +1,5 @@
 -- The tasks of readers, what they give, and these taken in.
-use Rattle.std.proofs.Common.{◌≡◌, ◌∙◌, slice_index_or, ℕ, List, length, map, sym, subst}
+use Rattle.std.proofs.Common.{◌≡◌, ◌∙◌, slice_index_or, ℕ, List, length, map, sym, ap, subst}
 use Rattle.std.specs.Prelude.{All, Result, Ok, Err, IfOk, IsOkAnd, Vec}
 use Rattle.std.specs.Global.{Global}
 use Rattle.std.specs.List.{AllByRecursion, AllZip}
@@ -9,6 +9,8 @@ use Rattle.atomic_table.specs.Seated.{TableId}
 use Rattle.gen_core.specs.declared.views.Sizes.{Sizes}
 use Rattle.gen_core.specs.declared.views.WriterView.{WriterView}
 use Rattle.gen_core.specs.Views.{last_number}
+use Rattle.gen_core.specs.declared.views.Event.{Event}
+use Rattle.gen_core.specs.Reads.{reads_of}
 use Rattle.word_arena.specs.Ruled.{reader_of}
 use Rattle.image_format.specs.Images.{IsLawfulImage}
 use Rattle.image_format.specs.declared.layout.AttrLayout.{AttrLayout}
@@ -20,8 +22,9 @@ use Rattle.attr_rounds.specs.declared.rounds.Round.{Round}
 use Rattle.attr_rounds.specs.Lines.{CanAsk}
 use Rattle.attr_rounds.specs.declared.asked.Asked.{Asked}
 use Rattle.attr_rounds.specs.declared.asked.Told.{Told}
-use Rattle.attr_engine.specs.Steps.{KeepsWriter, IsReader, HasRead, IsReading, IsTakenFrom, AreRoundsOf}
-use Rattle.attr_engine.specs.Rounds.{operations_of, tells_of}
+use Rattle.attr_engine.specs.Steps.{AllFrom, KeepsWriter, IsReader, HasRead, IsReading, IsTakenFrom, AreRoundsOf}
+use Rattle.attr_engine.specs.Rounds.{operations_of, tells_of, commits_of}
+use Rattle.attr_engine.proofs.MemoryLemmas.{from_zip}
 use Rattle.attr_engine.proofs.ReaderLemmas.{AllOf, zip_all, zip_length, zip_each, reading_of, taken_of}
 
 module _ (bits : ℕ) (G : Type 0) (w : WriterView) (home : TableId) (count : ℕ) (asked : Asked) where
@@ -39,6 +42,12 @@ module _ (bits : ℕ) (G : Type 0) (w : WriterView) (home : TableId) (count : �
   abbrev pub Has : Made → Type 0
   Has made = IfOk made (λ r. HasRead asked.counted (map ask_tree asked.asks.now) w home count (reader_of r.reader.place.me.0) r.reader.place.table_id r.rounds.items)
 
+  abbrev pub IsNumbered : ℕ → Made → Type 0
+  IsNumbered k made = IfOk made (λ r. (reader_of r.reader.place.me.0).number ≡ k)
+
+  abbrev pub IsReadBy : List Event → Made → Vec (Round Told) Global → Type 0
+  IsReadBy events made taken = IsOkAnd made (λ r. commits_of taken.items ≡ reads_of (reader_of r.reader.place.me.0).number events)
+
   given : (job : Job bits AttrLayout Asked G) (made : Made) → IsJob job → Gives job made → Has made
   given job (Err e) is gives = tt
   given job (Ok r) is gives = record {
@@ -53,6 +62,24 @@ module _ (bits : ℕ) (G : Type 0) (w : WriterView) (home : TableId) (count : �
 
   pub all_given : (jobs : List (Job bits AttrLayout Asked G)) (readings : List Made) → All IsJob jobs → AllZip Gives jobs readings → AllOf Has (length jobs) readings
   all_given jobs readings are zip = record { each = zip_all IsJob Gives Has given jobs readings are zip; count = zip_length Gives jobs readings zip }
+
+  -- the readings have the numbers of their readers
+  pub all_numbered : (n : ℕ) (jobs : List (Job bits AttrLayout Asked G)) (readings : List Made) → AllFrom (λ k job. (reader_of job.reader.place.me.0).number ≡ k) n jobs
+      → AllZip Gives jobs readings → AllFrom IsNumbered n readings
+  all_numbered n jobs readings are zip = from_zip (λ k job. (reader_of job.reader.place.me.0).number ≡ k) Gives IsNumbered numbered n jobs readings are zip
+    where
+      numbered : (k : ℕ) (job : Job bits AttrLayout Asked G) (made : Made) → (reader_of job.reader.place.me.0).number ≡ k → Gives job made → IsNumbered k made
+      numbered k job (Err e) is gives = tt
+      numbered k job (Ok r) is gives = gives.0.same_number ∙ is
+
+  -- and so the rounds that are taken in are the reads of these numbers
+  pub all_read_by : (events : List Event) (n : ℕ) (readings : List Made) (rounds : List (Vec (Round Told) Global)) → AllFrom IsNumbered n readings
+      → AllZip (IsReadBy events) readings rounds → AllFrom (λ k r. commits_of r.items ≡ reads_of k events) n rounds
+  all_read_by events n readings rounds are zip = from_zip IsNumbered (IsReadBy events) (λ k r. commits_of r.items ≡ reads_of k events) step n readings rounds are zip
+    where
+      step : (k : ℕ) (made : Made) (r : Vec (Round Told) Global) → IsNumbered k made → IsReadBy events made r → commits_of r.items ≡ reads_of k events
+      step k (Err e) r is by = absurd by
+      step k (Ok x) r is by = by ∙ ap (λ j. reads_of j events) is
 
   pub can_ask : (jobs : List (Job bits AttrLayout Asked G)) → CanAsk asked.fields.now (length asked.asks.now) w.sizes.shape → All IsJob jobs
       → All (λ job. CanAsk job.question.now.fields.now (length job.question.now.asks.now) (reader_of job.reader.place.me.0).sizes.shape) jobs

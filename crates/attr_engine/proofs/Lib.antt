@@ -1,8 +1,10 @@
 pub mod WriterLemmas
 pub mod ReaderLemmas
+pub mod MemoryLemmas
 pub mod JobLemmas
 pub mod RunLemmas
 pub mod HistoryLemmas
 pub mod WritingLemmas
-pub mod HappenLemmas
+pub mod OrderLemmas
+pub mod TellingLemmas
 pub mod SaverLemmas

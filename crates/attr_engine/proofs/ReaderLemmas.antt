@@ -20,6 +20,7 @@ use Rattle.attr_rounds.specs.declared.asked.Told.{Told}
 use Rattle.attr_engine.specs.Rounds.{commits_of}
 use Rattle.attr_engine.specs.Steps.{KeepsWriter, IsReader, HasRead, IsReading, IsTakenFrom, AreRoundsOf, IsLastAnswer}
 use Rattle.attr_engine.specs.Rounds.{operations_of, tells_of}
+use Rattle.attr_engine.proofs.MemoryLemmas.{rounds_seen}
 
 pub all_first : {X : Type 0} (P : X → Type 0) (x : X) (xs : List X) → All P (x ∷ xs) → P x
 all_first P x xs all = all 0 x (omega arith)
@@ -68,6 +69,7 @@ module _ (counted : Bool) (asks : List AskTree) (w : WriterView) (home : TableId
   reading_of v here shape same = record {
     shape_is = ap (λ (x : Sizes). x.shape) (has.makes.same_sizes ∙ has.is.same_sizes) ∙ sym shape;
     are_seen = has.makes.are_seen;
+    all_seen = rounds_seen operations_of (tells_of counted asks) IsLawfulImage has.start r rounds has.is.nothing has.makes;
     at_home = has.same ∙ has.is.at_home ∙ sym same;
   }
 

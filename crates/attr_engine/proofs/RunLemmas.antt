@@ -1,5 +1,5 @@
 -- Rounds of commits are rounds of the plain table, and the rounds of a run are what its report tells.
-use Rattle.std.proofs.Common.{◌≡◌, ◌≤◌, ◌+◌, ℕ, List, [], ◌∷◌, length, Some, inl, inr, refl, sym, ap, ap₂, subst, ◌∙◌, arith}
+use Rattle.std.proofs.Common.{◌≡◌, ◌≤◌, ◌+◌, ℕ, List, [], ◌∷◌, length, map, Some, inl, inr, refl, sym, ap, ap₂, subst, ◌∙◌, arith}
 use Rattle.std.specs.Prelude.{Bool, true, false, if◌then◌else◌, is_some, Option, None, IfSome, Vec}
 use Rattle.std.specs.Global.{Global}
 use Rattle.std.proofs.lemmas.Option.{slice_get_within}
@@ -30,8 +30,9 @@ use Rattle.attr_report.specs.History.{IsLoaded}
 use Rattle.attr_loader.specs.Runs.{IsOwed, IsQuiet, IsSmall}
 use Rattle.attr_engine.specs.FullStore.{load_in, readers_of, IsJustified}
 use Rattle.attr_engine.specs.FullWriter.{IsFullAtEnd}
+use Rattle.attr_engine.specs.Memory.{IsOfMemory}
 use Rattle.attr_engine.specs.Run.{full_of}
-use Rattle.attr_engine.specs.Rounds.{IsRoundAt, AreRoundsAt, IsRunResult, IsSaveOf, seen_before}
+use Rattle.attr_engine.specs.Rounds.{IsRoundAt, AreRoundsAt, commits_of, IsRunResult, IsSaveOf, seen_before}
 use Rattle.attr_engine.specs.declared.run_result.Save.{Save}
 use Rattle.attr_engine.specs.Saver.{one_if, save_parts}
 use Rattle.attr_engine.specs.Steps.{KeepsWriter, parts, AreRoundsOf, IsLastAnswer, LoadsInto}
@@ -133,8 +134,9 @@ module _ (run : Run) (ops : List Op) (w v : WriterView) (loaded : Loaded) (loads
       → rounds.items ≡ (if run.after then later else first)
       → AllOf (TakenAt (last_number w.commits)) (parts run.after run.readers).0 first → AllOf (TakenAt (last_number v.commits)) (parts run.after run.readers).1 later
       → IsLastAnswer operations_of (tells_of counted run.asks) v last → is_some saved ≡ run.save → IfSome saved (IsSaveOf run ops loaded.operations)
-      → IfSome loaded.full (IsFullAtEnd run ops loaded.operations writer) → IsRunResult run ops (record { loaded = loaded; rounds = rounds; last = last; saved = saved; writer = writer })
-  run_result_of first later rounds last saved writer is one two told asked saves full =
+      → IfSome loaded.full (IsFullAtEnd run ops loaded.operations writer)
+      → (length rounds.items ≡ run.readers → IsOfMemory run ops loads.last writer (map (λ r. commits_of r.items) rounds.items)) → IsRunResult run ops (record { loaded = loaded; rounds = rounds; last = last; saved = saved; writer = writer })
+  run_result_of first later rounds last saved writer is one two told asked saves full memory =
       let count = loads.count in
       let zero : last_number w.commits ≡ 0 = ap last_number none in
       let final : last_number v.commits ≡ loads.last = omega (arith, count) in
@@ -157,6 +159,7 @@ module _ (run : Run) (ops : List Op) (w v : WriterView) (loaded : Loaded) (loads
         full = full;
         readers = all.count;
         rounds = all.each;
+        memory = memory all.count;
         tells = answers_last (TellsTable counted run.asks) last told;
         asked = asked;
         saved = saves;

@@ -113,7 +113,7 @@ module _ (bits : ℕ) (G : Type 0) (field : Field) (w : WriterView) (home : Tabl
 pub reader_kept : (w v : WriterView) (home here : TableId) (r : ReaderView) (table : TableId) → KeepsWriter w v → here ≡ home → IsReader v here r table → IsReader w home r table
 reader_kept w v home here r table keeps same is =
     let moved = subst (λ (x : WriterView). IsReader x here r table) keeps is in
-    record { same_sizes = moved.same_sizes; seen_last = moved.seen_last; at_home = moved.at_home ∙ same }
+    record { same_sizes = moved.same_sizes; seen_last = moved.seen_last; nothing = moved.nothing; at_home = moved.at_home ∙ same }
 
 -- the round of a saver, taken in, is of a commit that the writer has
 pub save_in : (field : Field) (w v : WriterView) (r : ReaderView) (rounds taken : Rounds) (round : Round (Vec ℕ Global)) (save : Save) → v ≡ joined w r → r.sizes.shape ≡ w.sizes.shape

@@ -40,6 +40,7 @@ pub reader_on : (a b : WriterView) (home z : TableId) (r : ReaderView) (table : 
 reader_on a b home z r table keeps same is = record {
   same_sizes = is.same_sizes ∙ ap (λ (x : WriterView). x.sizes) keeps;
   seen_last = is.seen_last ∙ ap (λ (x : WriterView). last_number x.commits) keeps;
+  nothing = is.nothing;
   at_home = is.at_home ∙ same;
 }
 

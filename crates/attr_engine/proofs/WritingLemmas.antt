@@ -20,6 +20,7 @@ use Rattle.word_arena.specs.declared.rule.Watched.{Watched}
 use Rattle.attr_engine.specs.FullWriter.{IsFullAtEnd}
 use Rattle.attr_engine.specs.Run.{full_of, progress_of, IsRunOf}
 use Rattle.attr_engine.specs.declared.written.Written.{Written}
+use Rattle.attr_engine.proofs.MemoryLemmas.{are_of_memory}
 use Rattle.attr_engine.proofs.ReaderLemmas.{all_first, all_rest}
 use Rattle.attr_engine.proofs.HistoryLemmas.{in_rounds, afterwards}
 use Rattle.attr_loader.specs.declared.loaded.NoRoom.{NoRoom}
@@ -144,6 +145,7 @@ run_of run ops run_result w is unsaved wrote =
       justified = subst (λ k. IfSome w.full (IsJustified run ops k)) (sym wrote.loaded)
           (subst (λ (f : Option NoRoom). IfSome f (IsJustified run ops run_result.loaded.operations)) (sym wrote.full) is.justified);
       full_at_end = end_on run ops run_result w is wrote.loaded wrote.full wrote.writer;
+      of_memory = are_of_memory run ops (seen_before run.after is.last) is.last run_result.loaded.operations w.loaded run_result.writer w.writer run_result.rounds.items w.rounds is.rounds is.memory wrote.writer is.point wrote.loaded wrote.rounds;
     }
 
 saved-written : (run : Run) (ops : List Op) (run_result : RunResult) (n : ℕ) (full : Option ℕ)
@@ -170,4 +172,5 @@ saved_run_of run ops run_result save w is saves wrote =
       justified = subst (λ k. IfSome w.full (IsJustified run ops k)) (sym wrote.loaded)
           (subst (λ (f : Option NoRoom). IfSome f (IsJustified run ops run_result.loaded.operations)) (sym wrote.full) is.justified);
       full_at_end = end_on run ops run_result w is wrote.loaded wrote.full wrote.writer;
+      of_memory = are_of_memory run ops (seen_before run.after is.last) is.last run_result.loaded.operations w.loaded run_result.writer w.writer run_result.rounds.items w.rounds is.rounds is.memory wrote.writer is.point wrote.loaded wrote.rounds;
     }

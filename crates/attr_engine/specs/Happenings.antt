@@ -1,7 +1,11 @@
 -- What happened in a run: its commits, and the rounds of its readers with their answers.
-use Rattle.std.specs.Prelude.{◌≡◌, ℕ, ◌+◌, ◌≤◌, ◌==◌, if◌then◌else◌, List, [], ◌∷◌, map, length, is_some, Option, Some, None, Vec}
+use Rattle.std.specs.Prelude.{◌≡◌, ℕ, ◌+◌, ◌≤◌, ◌==◌, nat_le, if◌then◌else◌, ◌++◌, List, [], ◌∷◌, map, length, is_some, Option, Some, None, Vec}
 use Rattle.std.specs.Global.{Global}
-use Rattle.std.specs.List.{filter_map}
+use Rattle.std.specs.List.{AllByRecursion, filter_map}
+use Rattle.atomic_table.specs.declared.badge.Badge.{Badge}
+use Rattle.gen_core.specs.declared.views.Event.{Event}
+use Rattle.gen_core.specs.declared.views.Event.TheVariants.{Publish, LoadRoot}
+use Rattle.word_arena.specs.declared.rule.Watched.{Watched}
 use Rattle.attr_types.specs.declared.op.Op.{Op}
 use Rattle.attr_loader.specs.Loading.{commit_point}
 use Rattle.attr_rounds.specs.declared.rounds.Round.{Round}
@@ -53,7 +57,28 @@ AreAtCommits run ops readers last (Answered reader number round ∷ events) =
     × TellsTable (is_some run.make) run.asks (table_after run ops round.operations) round.answer
     × AreAtCommits run ops readers last events
 
--- a history of what a run came to: its commits up to the last, in order, and each round of each reader in its place
+-- whose step a happening is: the writer's, or that of this reader
+abbrev pub kind_of : Happening → Option ℕ
+kind_of (Committed commit operations) = None
+kind_of (Answered reader number round) = Some reader
+
+-- the same of an event, if it is a publish or a load of the root by one of so many readers, which are counted from 1 here
+abbrev pub told_step : ℕ → Event → Option (Option ℕ)
+told_step readers (Publish root) = Some None
+told_step readers (LoadRoot j) = if nat_le readers j then None else Some (Some (j + 1))
+told_step readers e = None
+
+-- after the empty commit, these are the publishes and the loads of the root in the one run of the memory, in its order, up to
+-- the last commit of the run; after that come only publishes
+pub record IsInRunOrder (readers : ℕ) (seat : Badge Watched) (events : List Happening) : Type 0 where
+  pub knew : Watched
+  pub is : seat.views ≡ knew ∷ []
+  pub beyond : List (Option ℕ)
+  pub only : AllByRecursion (λ kind. kind ≡ None) beyond
+  pub order : map kind_of events ++ beyond ≡ None ∷ filter_map (told_step readers) knew.seen
+
+-- a history of what a run came to: its commits up to the last, in order, and each round of each reader in its place, as they
+-- happened in its memory
 pub record HasHistory (run : Run) (ops : List Op) (run_result : RunResult) : Type 0 where
   pub last : ℕ
   pub loaded : run_result.loaded.operations ≡ commit_point run.batch (length ops) last
@@ -61,3 +86,4 @@ pub record HasHistory (run : Run) (ops : List Op) (run_result : RunResult) : Typ
   pub commits : filter_map commit_of events ≡ commits_to run ops last
   pub in_order : AreInOrder events 1 run_result.rounds.items
   pub in_place : AreAtCommits run ops (length run_result.rounds.items) None events
+  pub order : IsInRunOrder (length run_result.rounds.items) run_result.writer events

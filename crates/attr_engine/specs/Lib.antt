@@ -7,3 +7,4 @@ pub mod Writing
 pub mod FullStore
 pub mod FullWriter
 pub mod Saver
+pub mod Memory

@@ -19,6 +19,7 @@ use Rattle.attr_engine.specs.declared.run_result.RunResult.{RunResult}
 use Rattle.attr_engine.specs.declared.run_result.Save.{Save}
 use Rattle.attr_engine.specs.FullStore.{IsJustified}
 use Rattle.attr_engine.specs.FullWriter.{IsFullAtEnd}
+use Rattle.attr_engine.specs.Memory.{IsOfMemory}
 use Rattle.attr_engine.specs.Run.{full_of}
 
 -- a round is at a commit up to the last, with the answers of the table after the operations of that commit
@@ -74,6 +75,7 @@ pub record IsRunResult (run : Run) (ops : List Op) (run_result : RunResult) : Ty
   pub full : IfSome run_result.loaded.full (IsFullAtEnd run ops run_result.loaded.operations run_result.writer)
   pub readers : length run_result.rounds.items ≡ run.readers
   pub rounds : AllByRecursion (λ rounds. AreRoundsAt run ops (seen_before run.after last) last rounds.items) run_result.rounds.items
+  pub memory : IsOfMemory run ops last run_result.writer (map (λ rounds. commits_of rounds.items) run_result.rounds.items)
   pub tells : TellsTable (is_some run.make) run.asks (table_after run ops run_result.loaded.operations) run_result.last
   pub asked : is_some run_result.saved ≡ run.save
   pub saved : IfSome run_result.saved (IsSaveOf run ops run_result.loaded.operations)

@@ -7,6 +7,7 @@ use Rattle.attr_report.specs.Report.{written}
 use Rattle.attr_report.specs.History.{IsLoaded, IsRounds, IsAfterwards, IsSaved}
 use Rattle.attr_engine.specs.FullStore.{IsJustified}
 use Rattle.attr_engine.specs.FullWriter.{IsFullAtEnd}
+use Rattle.attr_engine.specs.Memory.{AreOfMemory}
 use Rattle.attr_engine.specs.declared.error.EngineError.{EngineError}
 use Rattle.attr_engine.specs.declared.error.EngineError.TheVariants.{Memory, TooManyReaders}
 use Rattle.attr_engine.specs.declared.written.Written.{Written}
@@ -30,6 +31,7 @@ pub record IsRunOf (run : Run) (ops : List Op) (w : Written) : Type 0 where
   pub room : IfSome w.full (λ r. r.active + r.held ≡ run.buffers)
   pub justified : IfSome w.full (IsJustified run ops w.loaded)
   pub full_at_end : IfSome w.full (IsFullAtEnd run ops w.loaded w.writer)
+  pub of_memory : AreOfMemory run ops w.loaded w.writer w.rounds
 
 -- why a run was not made: memory was exhausted, or there are more readers than seats, two of which the last answers
 -- take

@@ -1,5 +1,6 @@
 -- How the steps of a run change the writer, and the results of its readers' tasks.
-use Rattle.std.specs.Prelude.{◌≡◌, ℕ, ◌+◌, ◌<◌, ◌≤◌, ◌^◌, Bool, true, false, ◌∷◌, List, [], length, is_some, IfSome, All, None}
+use Rattle.std.specs.Prelude.{◌≡◌, ℕ, ◌+◌, ◌<◌, ◌≤◌, ◌^◌, Bool, true, false, ◌∷◌, List, [], length, is_some, IfSome, All, None, Vec}
+use Rattle.std.specs.Global.{Global}
 use Rattle.std.specs.List.Sorted.{IsNonDecreasing}
 use Rattle.atomic_table.specs.Seated.{TableId}
 use Rattle.entry_ref.specs.declared.images.Image.{Image}
@@ -9,8 +10,14 @@ use Rattle.arena_api.specs.Calls.{IsFresh}
 use Rattle.gen_core.specs.declared.views.ReaderView.{ReaderView}
 use Rattle.gen_core.specs.declared.views.WriterView.{WriterView}
 use Rattle.gen_core.specs.Views.{last_number}
+use Rattle.gen_core.specs.declared.views.Event.{Event}
+use Rattle.gen_core.specs.Reads.{reads_of, commits_seen}
 use Rattle.word_arena.specs.Knows.{view_of}
-use Rattle.image_format.specs.Images.{IsLawfulImage}
+use Rattle.word_arena.specs.Released.{IsWholeRun}
+use Rattle.word_arena.specs.Ruled.{writer_of}
+use Rattle.word_arena.specs.Runs.{KnowsCommits, TookReads}
+use Rattle.word_arena.specs.declared.rule.Watched.{Watched}
+use Rattle.image_format.specs.Images.{attr_reaches, IsLawfulImage}
 use Rattle.image_format.specs.Shapes.{shape_of, types_of}
 use Rattle.attr_types.specs.Scores.{AskTree}
 use Rattle.attr_types.specs.Table.{skipped}
@@ -67,10 +74,35 @@ pub record LoadsInto (fields : List Field) (dense : Bool) (batch : ℕ) (ops : L
       → loaded.full ≡ None
   pub unheld : new.made ≡ 0 → IfSome loaded.full (λ full. full.held ≡ 0)
 
+-- this holds of each, with its number, counted on from this one
+abbrev pub AllFrom : {A : Type 0} → (ℕ → A → Type 0) → ℕ → List A → Type 0
+AllFrom P number [] = Unit {0}
+AllFrom P number (x ∷ xs) = P number x × AllFrom P (number + 1) xs
+
+-- each reader that this writer took in saw the commits that it read in these events
+abbrev pub AllRead : List Event → WriterView → Type 0
+AllRead events w = All (λ r. commits_seen r ≡ reads_of r.number events) w.taken
+
+-- a writer still has the readers that it took in
+abbrev pub KeepsTaken : WriterView → WriterView → Type 0
+KeepsTaken w w' = (events : List Event) → AllRead events w' → AllRead events w
+
+-- the rounds of the readers from this number on, of a writer that took them in, are of the commits that each of them read
+abbrev pub AreReadFrom : WriterView → ℕ → List (Vec (Round Told) Global) → Type 0
+AreReadFrom w number rounds = (events : List Event) → AllRead events w → AllFrom (λ k r. commits_of r.items ≡ reads_of k events) number rounds
+
+-- what a writer has seen is one run of the whole memory: it has the writer's commits by their numbers, and the reads of the
+-- readers that the writer took in
+pub record KnowsRun (x : Watched) : Type 0 where
+  pub whole : IsWholeRun attr_reaches IsLawfulImage (writer_of x).sizes x.seen
+  pub named : KnowsCommits attr_reaches IsLawfulImage (writer_of x).sizes x
+  pub reads : TookReads x
+
 -- a reader made by the writer, before any round
 pub record IsReader (w : WriterView) (home : TableId) (r : ReaderView) (table : TableId) : Type 0 where
   pub same_sizes : r.sizes ≡ w.sizes
   pub seen_last : r.seen ≡ last_number w.commits
+  pub nothing : r.saw ≡ []
   pub at_home : table ≡ home
 
 -- a reader made by this writer, after this many rounds
@@ -88,6 +120,7 @@ pub record IsReading (counted : Bool) (asks : List AskTree) (shape : ℕ) (home 
     (rounds : List (Round Told)) : Type 0 where
   pub shape_is : r.sizes.shape ≡ shape
   pub are_seen : AreSeen operations_of (tells_of counted asks) IsLawfulImage r rounds
+  pub all_seen : commits_of rounds ≡ commits_seen r
   pub at_home : table ≡ home
 
 -- its rounds, after the reader is joined

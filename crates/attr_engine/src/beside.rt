@@ -10,7 +10,7 @@ ghost use Rattle.attr_types.specs.Lawful.{OpFits};
 ghost use Rattle.attr_loader.specs.Loading.{CanLoad, IsAtStart, Loads};
 ghost use Rattle.attr_loader.specs.Room.{HasMadeNothing};
 ghost use Rattle.attr_saver.specs.Images.{IsFirst};
-ghost use Rattle.attr_engine.specs.Steps.{HasRead, IsNewWriter, LoadsInto};
+ghost use Rattle.attr_engine.specs.Steps.{AllFrom, HasRead, IsNewWriter, LoadsInto};
 ghost use Rattle.attr_engine.specs.Saver.{one_if, GivesAside, HasSaved};
 
 use crate::aside::run_with;
@@ -192,6 +192,8 @@ pub fn load_beside<'a, const OFFSET_BITS: u32, R: Threads + Sync, G: Gate + Sync
         HasRead question.now.counted (map ask_tree question.now.asks.now)
         (writer_of writer.entry.place.me.0) writer.entry.place.table_id rounds
         (reader_of x.reader.place.me.0) x.reader.place.table_id x.rounds.items)) r.readings.items) }
+    ensures numbers { IfOk result (λ r. AllFrom (λ number reading. IfOk reading (λ x. (reader_of x.reader.place.me.0).number ≡ number))
+        (writer_of writer.entry.place.me.0).made r.readings.items) }
     ensures asked { IfOk result (λ r. is_some r.saving ≡ save) }
     ensures saving { IfOk result (λ r. IfSome r.saving (λ given. IfOk given (λ x.
         HasSaved saving.now.field.now (writer_of writer.entry.place.me.0) writer.entry.place.table_id

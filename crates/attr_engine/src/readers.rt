@@ -1,17 +1,17 @@
 //! The readers of a run: their tasks, and joining them with their rounds.
-ghost use Rattle.std.specs.Prelude.{◌≡◌, ◌<◌, ◌≤◌, ◌+◌, length, map, is_some, IfOk, IfSome, IsOkAnd, All};
+ghost use Rattle.std.specs.Prelude.{◌≡◌, ◌<◌, ◌≤◌, ◌+◌, List, length, map, is_some, IfOk, IfSome, IsOkAnd, All};
 ghost use Rattle.std.specs.List.{AllByRecursion, AllZip};
 ghost use Rattle.gen_core.specs.Views.{last_number};
 ghost use Rattle.word_arena.specs.Ruled.{reader_of, writer_of};
-ghost use Rattle.word_arena.specs.Released.{IsWholeRun};
-ghost use Rattle.image_format.specs.Images.{attr_reaches, IsLawfulImage};
 ghost use Rattle.attr_rounds.specs.Lines.{CanAsk};
 ghost use Rattle.attr_saver.specs.Images.{IsFirst};
 ghost use Rattle.attr_types.specs.Scores.{ask_tree};
 ghost use Rattle.attr_rounds.specs.Saves.{saves_of};
 ghost use Rattle.attr_engine.specs.Steps.{KeepsWriter, IsReader, IsReading, IsTakenFrom, AreRoundsOf};
-ghost use Rattle.attr_engine.specs.Rounds.{operations_of};
-ghost use Rattle.attr_engine.specs.Steps.{IsLastAnswer};
+ghost use Rattle.gen_core.specs.declared.views.Event.{Event};
+ghost use Rattle.gen_core.specs.Reads.{reads_of};
+ghost use Rattle.attr_engine.specs.Rounds.{operations_of, commits_of};
+ghost use Rattle.attr_engine.specs.Steps.{AllFrom, AllRead, AreReadFrom, IsLastAnswer, KeepsTaken, KnowsRun};
 ghost use Rattle.attr_engine.specs.Saver.{one_if, IsSaverDone, IsSaveIn};
 
 use crate::run_result::Save;
@@ -29,6 +29,8 @@ fn reader_in<const OFFSET_BITS: u32>(
     requires { (writer_of writer.old.place.me.0).made < 64 }
     ensures reader { IsReader (writer_of writer.old.place.me.0) writer.old.place.table_id
         (reader_of result.place.me.0) result.place.table_id }
+    ensures number { (reader_of result.place.me.0).number ≡ (writer_of writer.old.place.me.0).made }
+    ensures taken { (writer_of writer.new.place.me.0).taken ≡ (writer_of writer.old.place.me.0).taken }
     ensures made { (writer_of writer.new.place.me.0).made ≡ (writer_of writer.old.place.me.0).made + 1 }
     ensures keeps { KeepsWriter (writer_of writer.old.place.me.0) (writer_of writer.new.place.me.0) }
     ensures table { writer.new.place.table_id ≡ writer.old.place.table_id }
@@ -54,6 +56,9 @@ pub fn jobs_of<'a, const OFFSET_BITS: u32, G: Gate>(
     ensures jobs { IfOk result (λ jobs. All (λ job.
         IsReader (writer_of writer.old.place.me.0) writer.old.place.table_id (reader_of job.reader.place.me.0) job.reader.place.table_id
         × (job.count ≡ rounds) × (job.question.now ≡ question.now)) jobs.items) }
+    ensures numbers { IfOk result (λ jobs. AllFrom (λ number job. (reader_of job.reader.place.me.0).number ≡ number)
+        (writer_of writer.old.place.me.0).made jobs.items) }
+    ensures taken { (writer_of writer.new.place.me.0).taken ≡ (writer_of writer.old.place.me.0).taken }
     ensures keeps { KeepsWriter (writer_of writer.old.place.me.0) (writer_of writer.new.place.me.0) }
     ensures table { writer.new.place.table_id ≡ writer.old.place.table_id }
 {
@@ -87,6 +92,10 @@ pub fn take_all<const OFFSET_BITS: u32>(
         IsTakenFrom question.now.counted (map ask_tree question.now.asks.now) (writer_of writer.old.place.me.0).sizes.shape
         (writer_of writer.old.place.me.0).commits
         r.rounds.items taken.items)) readings.entry.items rounds.items) }
+    ensures reads { IfOk result (λ rounds. (events : List Event) → AllRead events (writer_of writer.new.place.me.0)
+        → AllZip (λ reading taken. IsOkAnd reading (λ r. commits_of taken.items ≡ reads_of (reader_of r.reader.place.me.0).number events))
+        readings.entry.items rounds.items) }
+    ensures taken { KeepsTaken (writer_of writer.old.place.me.0) (writer_of writer.new.place.me.0) }
     ensures made { (writer_of writer.new.place.me.0).made ≡ (writer_of writer.old.place.me.0).made }
     ensures keeps { KeepsWriter (writer_of writer.old.place.me.0) (writer_of writer.new.place.me.0) }
     ensures table { writer.new.place.table_id ≡ writer.old.place.table_id }
@@ -118,6 +127,8 @@ pub fn read_after<'a, const OFFSET_BITS: u32, R: Threads + Sync, G: Gate + Sync 
         AreRoundsOf question.now.counted (map ask_tree question.now.asks.now) (writer_of writer.old.place.me.0).sizes.shape
         (last_number (writer_of writer.old.place.me.0).commits) count
         (writer_of writer.old.place.me.0).commits r.items) rounds.items) }
+    ensures reads { IfOk result (λ rounds. AreReadFrom (writer_of writer.new.place.me.0) (writer_of writer.old.place.me.0).made rounds.items) }
+    ensures taken { KeepsTaken (writer_of writer.old.place.me.0) (writer_of writer.new.place.me.0) }
     ensures keeps { KeepsWriter (writer_of writer.old.place.me.0) (writer_of writer.new.place.me.0) }
     ensures table { writer.new.place.table_id ≡ writer.old.place.table_id }
 {
@@ -137,8 +148,8 @@ pub fn last_answer<const OFFSET_BITS: u32, Q: Question<OFFSET_BITS, AttrLayout>>
     requires seat { (writer_of writer.old.place.me.0).made < 64 }
     ensures made { (writer_of writer.new.place.me.0).made ≡ (writer_of writer.old.place.me.0).made + 1 }
     ensures last { IfOk result (IsLastAnswer Q.operations (Q.answers question.now) (writer_of writer.old.place.me.0)) }
-    ensures run { IfOk result (λ answer. IsWholeRun attr_reaches IsLawfulImage (writer_of writer.old.place.me.0).sizes
-        writer.new.place.me.0.seen) }
+    ensures run { IfOk result (λ answer. KnowsRun writer.new.place.me.0) }
+    ensures taken { KeepsTaken (writer_of writer.old.place.me.0) (writer_of writer.new.place.me.0) }
     ensures keeps { KeepsWriter (writer_of writer.old.place.me.0) (writer_of writer.new.place.me.0) }
 {
     let reader = reader_in(writer);
@@ -185,6 +196,7 @@ fn take_save<const OFFSET_BITS: u32, G: Gate>(
     requires { IsSaverDone saving.now.field.now (writer_of writer.old.place.me.0).sizes.shape writer.old.place.table_id
         (reader_of reading.reader.place.me.0) reading.reader.place.table_id reading.rounds.items }
     ensures save { IsSaveIn saving.now.field.now (writer_of writer.old.place.me.0) result }
+    ensures taken { KeepsTaken (writer_of writer.old.place.me.0) (writer_of writer.new.place.me.0) }
     ensures made { (writer_of writer.new.place.me.0).made ≡ (writer_of writer.old.place.me.0).made }
     ensures keeps { KeepsWriter (writer_of writer.old.place.me.0) (writer_of writer.new.place.me.0) }
     ensures table { writer.new.place.table_id ≡ writer.old.place.table_id }
@@ -209,6 +221,7 @@ pub fn take_saved<const OFFSET_BITS: u32, G: Gate>(
         writer.old.place.table_id (reader_of r.reader.place.me.0) r.reader.place.table_id r.rounds.items)) }
     ensures asked { IfOk result (λ saved. is_some saved ≡ is_some given.entry) }
     ensures save { IfOk result (λ saved. IfSome saved (IsSaveIn saving.now.field.now (writer_of writer.old.place.me.0))) }
+    ensures taken { KeepsTaken (writer_of writer.old.place.me.0) (writer_of writer.new.place.me.0) }
     ensures made { (writer_of writer.new.place.me.0).made ≡ (writer_of writer.old.place.me.0).made }
     ensures keeps { KeepsWriter (writer_of writer.old.place.me.0) (writer_of writer.new.place.me.0) }
     ensures table { writer.new.place.table_id ≡ writer.old.place.table_id }
@@ -236,6 +249,8 @@ pub fn last_saved<const OFFSET_BITS: u32, G: Gate>(
     ensures count { IfOk result (λ saved. IfSome saved (λ s. s.operations ≡ operations)) }
     ensures last { IfOk result (λ saved. IfSome saved (λ s. IsLastAnswer operations_of (saves_of saving.now.field.now)
         (writer_of writer.old.place.me.0) s.bytes)) }
+    ensures run { IfOk result (λ saved. KnowsRun writer.old.place.me.0 → KnowsRun writer.new.place.me.0) }
+    ensures taken { KeepsTaken (writer_of writer.old.place.me.0) (writer_of writer.new.place.me.0) }
     ensures keeps { KeepsWriter (writer_of writer.old.place.me.0) (writer_of writer.new.place.me.0) }
 {
     if !save {

@@ -14,7 +14,7 @@ ghost use Rattle.attr_engine.specs.Happenings.{HasHistory};
 ghost use Rattle.attr_engine.specs.Run.{IsGivenUp};
 ghost use Rattle.attr_saver.specs.Images.{IsFirst};
 ghost use Rattle.attr_engine.specs.Saver.{one_if, save_parts, IsSaveIn};
-ghost use Rattle.attr_engine.specs.Steps.{parts, IsNewWriter, IsQuestionOf, LoadsInto, AreRoundsOf};
+ghost use Rattle.attr_engine.specs.Steps.{parts, IsNewWriter, IsQuestionOf, LoadsInto, AreReadFrom, AreRoundsOf};
 ghost use Rattle.attr_rounds.specs.Lines.{CanAsk};
 ghost use Rattle.gen_core.specs.Views.{last_number};
 
@@ -101,6 +101,7 @@ fn load_first<'a, const OFFSET_BITS: u32, R: Threads + Sync, G: Gate + Sync + 's
     ensures rounds { IfOk result (λ r. AllByRecursion
         (λ x. AreRoundsOf question.now.counted (map ask_tree question.now.asks.now) (writer_of r.writer.place.me.0).sizes.shape
         (last_number (writer_of writer.entry.place.me.0).commits) rounds (writer_of r.writer.place.me.0).commits x.items) r.first.items) }
+    ensures reads { IfOk result (λ r. AreReadFrom (writer_of r.writer.place.me.0) (writer_of writer.entry.place.me.0).made r.first.items) }
     ensures asked { IfOk result (λ r. is_some r.saved ≡ save) }
     ensures saved { IfOk result (λ r. IfSome r.saved (IsSaveIn saving.now.field.now (writer_of r.writer.place.me.0))) }
 {

@@ -2,7 +2,7 @@ use contract.BorrowLft.{⊑_static}
 use Rattle.std.proofs.Common.{◌∙◌, ap}
 use Rattle.std.proofs.lemmas.Option.{IfSome_then}
 use Rattle.word_arena.specs.Ruled.{writer_of}
-use Rattle.attr_engine.proofs.JobLemmas.{all_given}
+use Rattle.attr_engine.proofs.JobLemmas.{all_given, all_numbered}
 use Rattle.attr_engine.proofs.SaverLemmas.{aside_some, aside_each, reader_kept, saved_by, GivesSave, IsSaver, SavedBy}
 use Rattle.word_arena.specs.Ruled.{reader_of}
 use Rattle.attr_engine.proofs.beside.load_beside.Goals as goal
@@ -16,6 +16,12 @@ pub returns-clause-readings : goal.returns-clause-readings
 returns-clause-readings g c =
     (all_given g.row.OFFSET_BITS g.row.G.Denot (writer_of c.args.writer.place.me.0) c.args.writer.place.table_id c.args.rounds c.args.question.now
     c.in_ok-jobs.jobs.items c.in_ok-writer.readings.items c.in_ok-jobs.ensures.jobs c.in_ok-writer.ensures.others).each
+
+pub returns-clause-numbers : goal.returns-clause-numbers
+returns-clause-numbers g c =
+    let w = writer_of c.args.writer.place.me.0 in
+    all_numbered g.row.OFFSET_BITS g.row.G.Denot w c.args.writer.place.table_id c.args.rounds c.args.question.now w.made
+    c.in_ok-jobs.jobs.items c.in_ok-writer.readings.items c.in_ok-jobs.ensures.numbers c.in_ok-writer.ensures.others
 
 pub load_at-requires-lives-T-Task-2 : goal.load_at-requires-lives-T-Task-2
 load_at-requires-lives-T-Task-2 g c κs within = λ a member. ⊑_static _ a (c.type_bounds.static-G a member)

@@ -1,10 +1,12 @@
-use Rattle.std.proofs.Common.{◌∙◌, length, ap, subst}
+use Rattle.std.proofs.Common.{◌≡◌, ◌∙◌, length, ap, sym, subst}
 use Rattle.gen_core.specs.declared.views.Sizes.{Sizes}
 use Rattle.gen_core.specs.declared.views.WriterView.{WriterView}
 use Rattle.word_arena.specs.Ruled.{reader_of, writer_of}
 use Rattle.word_arena.specs.Released.{IsWholeRun}
+use Rattle.word_arena.specs.Runs.{KnowsCommits}
 use Rattle.image_format.specs.Images.{attr_reaches, IsLawfulImage}
 use Rattle.attr_engine.proofs.ReaderLemmas.{last_of, keeps_joined, one_of}
+use Rattle.attr_engine.proofs.MemoryLemmas.{taken_by_join, taken_same}
 use Rattle.attr_engine.proofs.WriterLemmas.{keeps_on}
 use Rattle.attr_engine.proofs.readers.last_answer.Goals as goal
 
@@ -22,7 +24,22 @@ returns-clause-last g c =
 
 pub returns-clause-run : goal.returns-clause-run
 returns-clause-run g c =
-    subst (λ (z : Sizes). IsWholeRun attr_reaches IsLawfulImage z c.take_in-rounds.new.writer.place.me.0.seen) (ap (λ (x : WriterView). x.sizes) c.reader_in-reader.ensures.keeps) c.take_in-rounds.ensures.run
+    let v = writer_of c.reader_in-reader.new.writer.place.me.0 in
+    let x = c.take_in-rounds.new.writer.place.me.0 in
+    let sizes : (writer_of x).sizes ≡ v.sizes = ap (λ (y : WriterView). y.sizes) c.take_in-rounds.ensures.view in
+    record {
+      whole = subst (λ (z : Sizes). IsWholeRun attr_reaches IsLawfulImage z x.seen) (sym sizes) c.take_in-rounds.ensures.run;
+      named = subst (λ (z : Sizes). KnowsCommits attr_reaches IsLawfulImage z x) (sym sizes) c.take_in-rounds.ensures.knows;
+      reads = c.take_in-rounds.ensures.reads;
+    }
+
+pub returns-clause-taken : goal.returns-clause-taken
+returns-clause-taken g c =
+    let w = writer_of c.args.writer.now.place.me.0 in
+    let v = writer_of c.reader_in-reader.new.writer.place.me.0 in
+    let v' = writer_of c.take_in-rounds.new.writer.place.me.0 in
+    λ events read.
+    taken_same w v c.reader_in-reader.ensures.taken events (taken_by_join v v' (reader_of c.in_ok-reading.reading.reader.place.me.0) c.take_in-rounds.ensures.view events read)
 
 pub returns-clause-keeps : goal.returns-clause-keeps
 returns-clause-keeps g c =

@@ -5,7 +5,7 @@ use Rattle.gen_core.specs.declared.views.WriterView.{WriterView}
 use Rattle.word_arena.specs.Ruled.{writer_of}
 use Rattle.attr_types.specs.Scores.{ask_tree}
 use Rattle.attr_engine.specs.Steps.{AreRoundsOf}
-use Rattle.attr_engine.proofs.JobLemmas.{all_read, all_taken}
+use Rattle.attr_engine.proofs.JobLemmas.{all_read, all_read_by, all_taken}
 use Rattle.attr_engine.proofs.WriterLemmas.{keeps_on, loads_kept}
 use Rattle.attr_engine.proofs.SaverLemmas.{done_by, save_moved}
 use Rattle.std.proofs.lemmas.Option.{IfSome_then}
@@ -47,6 +47,13 @@ returns-clause-rounds g c =
     (all_taken g.row.OFFSET_BITS g.row.G.Denot w c.args.writer.place.table_id c.args.rounds c.args.question.now
     (writer_of c.in_ok-beside.beside.writer.place.me.0) c.in_ok-beside.beside.writer.place.table_id has.loads.shape_is has.table c.in_ok-beside.beside.readings.items c.in_ok-first.first.items
     has.readings c.in_ok-first.ensures.rounds).each
+
+pub returns-clause-reads : goal.returns-clause-reads
+returns-clause-reads g c = λ events read.
+    let w = writer_of c.args.writer.place.me.0 in
+    all_read_by g.row.OFFSET_BITS g.row.G.Denot w c.args.writer.place.table_id c.args.rounds c.args.question.now events w.made
+    c.in_ok-beside.beside.readings.items c.in_ok-first.first.items c.in_ok-beside.ensures.numbers
+    (c.in_ok-first.ensures.reads events (c.in_ok-saved.ensures.taken events read))
 
 pub take_saved-requires : goal.take_saved-requires
 take_saved-requires g c =

@@ -7,13 +7,14 @@ use Rattle.attr_types.specs.Scores.{ask_tree}
 use Rattle.attr_types.specs.declared.field.Field.{Field}
 use Rattle.attr_report.specs.Run.{run_in}
 use Rattle.attr_engine.specs.Saver.{one_if, save_parts}
-use Rattle.attr_engine.specs.Steps.{parts, LoadsInto}
+use Rattle.attr_engine.specs.Steps.{parts, AllFrom, LoadsInto}
 use Rattle.attr_engine.specs.Rounds.{operations_of, tells_of}
 use Rattle.attr_engine.proofs.RunLemmas.{asked_as, last_as, last_on, run_result_of}
 use Rattle.attr_engine.proofs.SaverLemmas.{chosen_asked, chosen_is, if_both, save_after, save_beside}
 use Rattle.attr_engine.specs.Rounds.{IsSaveOf}
 use Rattle.attr_rounds.specs.Saves.{saves_of}
 use Rattle.attr_engine.proofs.WriterLemmas.{full_at_end, keeps_on}
+use Rattle.attr_engine.proofs.MemoryLemmas.{chosen_from, of_memory, ReadsIn}
 use Rattle.attr_engine.proofs.run.run_over.Goals as goal
 
 pub returns : goal.returns
@@ -54,8 +55,17 @@ returns g c =
     let end = c.last_saved.new.writer.place.me.0 in
     let full = full_at_end run c.args.ops.now loaded v c.into_seat.result end c.in_ok-loading.loading.loaded.full c.into_seat.ensures.view
     (keeps_on v y (writer_of end) keeps c.in_ok-saved.ensures.keeps) loads.full in
+    let knows = c.in_ok-saved.ensures.run c.in_ok-last.ensures.run in
+    let behind_reads = c.in_ok-last.ensures.taken end.seen (c.in_ok-saved.ensures.taken end.seen knows.reads) in
+    let one_reads : AllFrom (ReadsIn end.seen) 0 c.in_ok-loading.loading.first.items =
+    subst (λ n. AllFrom (ReadsIn end.seen) n c.in_ok-loading.loading.first.items) none (has.reads end.seen (c.in_ok-later.ensures.taken end.seen behind_reads)) in
+    let two_reads : AllFrom (ReadsIn end.seen) v.made c.in_ok-later.later.items = c.in_ok-later.ensures.reads end.seen behind_reads in
+    let reads = chosen_from (ReadsIn end.seen) run.after run.save run.readers v.made c.in_ok-loading.loading.first.items c.in_ok-later.later.items c.chosen-rounds.result.items
+    c.chosen-rounds.ensures made one_reads two_reads in
     run_result_of run c.args.ops.now w v c.in_ok-loading.loading.loaded loads c.requires.buffers c.requires.words
     made c.requires.new.shape_is c.requires.new.commits
     c.in_ok-loading.loading.first.items c.in_ok-later.later.items c.chosen-rounds.result c.in_ok-last.last c.chosen_save-saved.result c.into_seat.result c.chosen-rounds.ensures
     (record { each = first; count = has.count ∙ ap (λ (p : ℕ × ℕ). p.0) c.parts-beside.ensures })
     (record { each = later; count = c.in_ok-later.ensures.count ∙ ap (λ (p : ℕ × ℕ). p.1) c.parts-beside.ensures }) told asked saves full
+    (λ many. of_memory run c.args.ops.now v c.into_seat.result end loads.last loads.commits loads.count c.into_seat.ensures.view (keeps_on v y (writer_of end) keeps c.in_ok-saved.ensures.keeps) knows
+    c.chosen-rounds.result.items many reads)

@@ -1,5 +1,5 @@
 use Rattle.attr_report.specs.Run.{run_in}
-use Rattle.attr_engine.proofs.HappenLemmas.{has_history}
+use Rattle.attr_engine.proofs.TellingLemmas.{has_history}
 use Rattle.attr_engine.proofs.run.run_threads.Goals as goal
 
 pub returns-clause-history : goal.returns-clause-history
