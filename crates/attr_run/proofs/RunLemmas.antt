@@ -15,9 +15,10 @@ use Rattle.attr_report.specs.Report.{written}
 use Rattle.attr_report.specs.History.{IsLoaded}
 use Rattle.attr_report.proofs.HistoryLemmas.{histories_are_legal}
 use Rattle.attr_engine.specs.FullWriter.{IsFullAtEnd}
+use Rattle.attr_engine.specs.Memory.{AreOfMemory}
 use Rattle.attr_engine.specs.Run.{IsRunOf, full_of, progress_of}
 use Rattle.attr_engine.specs.declared.written.Written.{Written}
-use Rattle.attr_run.specs.Answers.{IsRunUntil, IsFullRun, IsFullRunOf, IsDue, IsProper}
+use Rattle.attr_run.specs.Answers.{EndsRun, IsRunUntil, IsFullRun, IsFullRunOf, IsRunOfMemory, IsDue, IsProper}
 use Rattle.attr_run.specs.Run.{asked, fed}
 use Rattle.attr_run.specs.Steps.{ended_status}
 use Rattle.attr_run.specs.declared.outcome.Outcome.{Outcome}
@@ -92,6 +93,15 @@ refused-of words left run ops w outcome status loaded writer asks feeds is = λ 
     (subst (λ k. IsFullAtEnd run ops k outcome.writer (record { operation = operation; active = active; held = held })) (sym loaded)
     (subst (λ (seat : Badge Watched). IsFullAtEnd run ops w.loaded seat (record { operation = operation; active = active; held = held })) (sym writer)
     (refused-by run ops w.loaded operation active held w.writer w.full (sym status ∙ is_full) is.full_at_end)))
+
+-- its rounds are those of its memory
+pub memory-of : (words : List Text) (left : Option (List ℕ)) (run : Run) (ops : List Op) (w : Written) (outcome : Outcome) → outcome.loaded ≡ w.loaded → outcome.rounds ≡ w.rounds → outcome.writer ≡ w.writer
+    → asked words ≡ Ok run → OfBytes left (λ bytes. fed run bytes ≡ Ok ops) → IsRunOf run ops w → IsRunOfMemory words left outcome
+memory-of words left run ops w outcome loaded rounds writer asks feeds is = λ full ends.
+    of-run words left run ops (λ r o. AreOfMemory r o outcome.loaded outcome.writer outcome.rounds) asks feeds
+    (subst (λ k. AreOfMemory run ops k outcome.writer outcome.rounds) (sym loaded)
+    (subst (λ (list : List (List ℕ)). AreOfMemory run ops w.loaded outcome.writer list) (sym rounds)
+    (subst (λ (seat : Badge Watched). AreOfMemory run ops w.loaded seat w.rounds) (sym writer) is.of_memory)))
 
 proper-by : (full : Option NoRoom) → IsProper (ended_status full)
 proper-by None = tt

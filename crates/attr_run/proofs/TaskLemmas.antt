@@ -20,7 +20,7 @@ use Rattle.attr_report.specs.declared.request.Make.{Make}
 use Rattle.attr_run.specs.Run.{Task, asked, ReadsFeed, refusal_number, ops_or_refused, ops_in, fed_by, fed}
 use Rattle.attr_run.specs.Run.{task_of}
 use Rattle.attr_run.specs.Texts.{answer_text}
-use Rattle.attr_run.specs.Answers.{EndsRun, OfRun, HasCause, HasNoRun, IsDue, IsFullRunOf, IsProper, progress_of}
+use Rattle.attr_run.specs.Answers.{EndsRun, OfRun, HasCause, HasNoRun, IsDue, IsFullRunOf, IsRunOfMemory, IsProper, progress_of}
 use Rattle.attr_run.specs.declared.outcome.Outcome.{Outcome}
 use Rattle.attr_run.specs.Steps.{Says, IsStopped, IsWordsStop, IsProperStop, IsEarly, IsFeedStop, IsUnfed, feed_stop}
 use Rattle.attr_run.specs.declared.outcome.Status.{Status}
@@ -300,3 +300,13 @@ unfull-early words left before now stop outcome text cause early = λ operation 
 pub unfull-memory : (words : List Text) (left : Option (List ℕ)) (outcome : Outcome) → outcome.status ≡ Memory → IsFullRunOf words left outcome
 unfull-memory words left outcome status = λ operation active held is.
     absurd (let e : Memory ≡ Full operation active held = sym status ∙ is in cc)
+
+-- a call that ended no run claims nothing of rounds
+pub unmade-early : (words : List Text) (left : Option (List ℕ)) (before now : ℕ) (stop : Stop) (outcome : Outcome) (text : List ℕ)
+    → IsStopped words left before now stop → IsEarly stop outcome.status (progress_of outcome) text → IsRunOfMemory words left outcome
+unmade-early words left before now stop outcome text cause early = λ full ends.
+    unended-early words left before now stop outcome.status (progress_of outcome) text full cause early ends
+
+pub unmade-by : (words : List Text) (left : Option (List ℕ)) (outcome : Outcome) (status : Status) → outcome.status ≡ status → ((full : Option ℕ) → EndsRun status full → ⊥)
+    → IsRunOfMemory words left outcome
+unmade-by words left outcome status is never = λ full ends. absurd (never full (subst (λ (s : Status). EndsRun s full) is ends))

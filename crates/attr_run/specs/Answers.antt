@@ -9,6 +9,7 @@ use Rattle.attr_types.specs.declared.op.Op.{Op}
 use Rattle.attr_types.specs.declared.error.QueryError.TheVariants as refusal
 use Rattle.attr_engine.specs.FullStore.{load_in, readers_of, IsOwed, IsQuiet, IsSmall}
 use Rattle.attr_engine.specs.FullWriter.{IsFullAtEnd}
+use Rattle.attr_engine.specs.Memory.{AreOfMemory}
 use Rattle.attr_report.specs.Run.{Run, Progress}
 use Rattle.attr_report.specs.Report.{written}
 use Rattle.attr_report.specs.History.{IsLoaded, IsRounds, IsAfterwards, IsSaved, IsLegalHistory, history}
@@ -150,3 +151,9 @@ abbrev pub IsFullRunOf : List Text → Option (List ℕ) → Outcome → Type 0
 IsFullRunOf words left outcome = (operation active held : ℕ) → outcome.status ≡ Full operation active held
     → OfRun words left (λ run ops. IsFullAtEnd run ops outcome.loaded outcome.writer
     (record { operation = operation; active = active; held = held }))
+
+-- if a run ended, the rounds of each of its readers are at the commits that this reader read in the one run of the memory, in
+-- the order of its reads
+abbrev pub IsRunOfMemory : List Text → Option (List ℕ) → Outcome → Type 0
+IsRunOfMemory words left outcome = (full : Option ℕ) → EndsRun outcome.status full
+    → OfRun words left (λ run ops. AreOfMemory run ops outcome.loaded outcome.writer outcome.rounds)

@@ -18,7 +18,7 @@ ghost use Rattle.attr_run.specs.Refusals.{IsRefusedFor};
 ghost use Rattle.attr_run.specs.Texts.{answer_text};
 ghost use Rattle.attr_run.specs.Answers.{progress_of, EndsRun, IsEnd, OfRun, ComesExactly};
 ghost use Rattle.attr_run.specs.Answers.{ComesExactlyOfFeed, IsRefusedFeed, IsBeforeRun, IsProper, HasNoRun};
-ghost use Rattle.attr_run.specs.Answers.{ReadsAsAsked, IsDue, IsFullRunOf, IsSmallRun, WritesFront};
+ghost use Rattle.attr_run.specs.Answers.{ReadsAsAsked, IsDue, IsFullRunOf, IsRunOfMemory, IsSmallRun, WritesFront};
 ghost use Rattle.attr_run.specs.Steps.{IsStopped, IsProperStop, IsEarly, IsAnswer, HasEnded, ended_status};
 ghost use Rattle.attr_run.specs.Steps.{TellsFault, IsRuled, IsRuledStop};
 ghost use Rattle.attr_run.specs.declared.outcome.Status.TheVariants.{ReadFault};
@@ -143,6 +143,7 @@ fn reported<R: Threads + Sync, S: Source, G: Gate + Sync + 'static>(
         (S.left source.old) (S.faults source.old) (S.faults source.new)
         a.outcome.status (progress_of a.outcome) a.text.items) }
     ensures full { IfOk result (λ a. IsFullRunOf words.now (S.left source.old) a.outcome) }
+    ensures of_memory { IfOk result (λ a. IsRunOfMemory words.now (S.left source.old) a.outcome) }
     ensures ended { IfOk result (λ _. HasEnded words.now (S.left source.old) (S.left source.new)) }
     ensures stopped { IfErr result (IsStopped words.now (S.left source.old)
         (S.faults source.old) (S.faults source.new)) }
@@ -194,6 +195,7 @@ fn answer_to<R: Threads + Sync, S: Source, G: Gate + Sync + 'static>(
         (S.left source.old) (S.faults source.old) (S.faults source.new)
         a.outcome.status (progress_of a.outcome) a.text.items) }
     ensures full { IfOk result (λ a. IsFullRunOf words.now (S.left source.old) a.outcome) }
+    ensures of_memory { IfOk result (λ a. IsRunOfMemory words.now (S.left source.old) a.outcome) }
     ensures proper { IfOk result (λ a. IsProper a.outcome.status) }
     ensures answered { IfOk result (λ a. TellsFault (S.faults source.old) (S.faults source.new) a.outcome.status) }
     ensures ended { IfOk result (λ a. (full : Option ℕ) → EndsRun a.outcome.status full
@@ -224,6 +226,7 @@ fn whole_run<R: Threads + Sync, S: Source, K: Sink, G: Gate + Sync + 'static>(
         (K.taken sink.old) (K.taken sink.new) (K.faults sink.old) (K.faults sink.new)
         result.status (progress_of result) }
     ensures full { IsFullRunOf words.now (S.left source.old) result }
+    ensures of_memory { IsRunOfMemory words.now (S.left source.old) result }
     ensures proper { IsProper result.status }
     ensures read_answered { (S.faults source.new ≡ S.faults source.old) ⊎ ((result.status ≡ Status.ReadFault)
         ⊎ ((result.status ≡ Status.WriteFault) ⊎ (result.status ≡ Status.Memory))) }
@@ -291,6 +294,9 @@ pub fn attr_main<R: Threads + Sync, S: Source, K: Sink, G: Gate + Sync + 'static
     ensures history { (full : Option ℕ) → EndsRun result.status full
         → OfRun words.now (S.left source.old) (λ run ops. IsLegalHistory run ops
         (progress_of result) (history run ops (progress_of result))) }
+    // The rounds of each reader are what this reader read in the one run of the memory, whose commits have the tables of the
+    // operations: reader 1 is the first that was made.
+    ensures of_memory { IsRunOfMemory words.now (S.left source.old) result }
     // An operation ran out of space only where the attributes refused it, or refused the commit of the batch of which it is
     // the last: then no buffer of the writer's memory is free, and exactly so many are in use and held.
     ensures full { IsFullRunOf words.now (S.left source.old) result }

@@ -61,3 +61,10 @@ loop-reading-preserved g c =
       keeps = keeps_on w v v' i.keeps (keeps_joined v v' r c.take_in-taken.ensures.view);
       table = c.take_in-taken.ensures.table ∙ i.table;
     }
+
+pub returns-in_err-push-clause-taken : goal.returns-in_err-push-clause-taken
+returns-in_err-push-clause-taken g c =
+    let v = writer_of c.loop-reading.writer.place.me.0 in
+    let v' = writer_of c.take_in-taken.new.writer.place.me.0 in
+    let r = reader_of c.in_ok-reading.reading.reader.place.me.0 in
+    λ events read. c.loop-reading.invariant.taken events (took_in v v' r events c.take_in-taken.ensures.view read).1

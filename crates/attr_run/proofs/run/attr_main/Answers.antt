@@ -52,6 +52,9 @@ returns-clause-history g c = ended-run (met g c) _ _ _ (λ full text run ops unt
 pub returns-clause-full : goal.returns-clause-full
 returns-clause-full g c = c.whole_run.ensures.full
 
+pub returns-clause-of_memory : goal.returns-clause-of_memory
+returns-clause-of_memory g c = c.whole_run.ensures.of_memory
+
 pub returns-clause-room : goal.returns-clause-room
 returns-clause-room g c = λ operation active held.
     full-run (met g c) _ _ c.whole_run.ensures.answer operation active held _ (λ text run ops full. full.room)

@@ -9,7 +9,7 @@ use Rattle.std.proofs.Common.{List}
 use Rattle.attr_io.proofs.ReadLemmas.{reads_none}
 use Rattle.attr_types.specs.declared.op.Op.{Op}
 use Rattle.attr_engine.specs.Run.{IsRunOf}
-use Rattle.attr_run.proofs.RunLemmas.{answered, proper-of, refused-of}
+use Rattle.attr_run.proofs.RunLemmas.{answered, memory-of, proper-of, refused-of}
 use Rattle.attr_run.proofs.TaskLemmas.{of-run, unfed-stopped, unread-run}
 use Rattle.attr_run.proofs.RuleLemmas.{ruled-unfed}
 use Rattle.attr_run.proofs.run.reported.Goals as goal
@@ -43,6 +43,14 @@ returns-clause-full g c =
     let is = subst (λ (ops : List Op). IsRunOf run ops c.in_ok-written.written) c.as_slice.ensures c.in_ok-written.ensures in
     refused-of c.args.words.now (g.S.Source.left c.args.source.now) run c.in_ok-ops.ops c.in_ok-written.written c.answer_of.result.outcome
     a.status a.loaded a.writer c.in_ok-request.ensures.asked c.in_ok-ops.ensures.fed is
+
+pub returns-clause-of_memory : goal.returns-clause-of_memory
+returns-clause-of_memory g c =
+    let run = run_in c.in_ok-request.request in
+    let a = c.answer_of.ensures in
+    let is = subst (λ (ops : List Op). IsRunOf run ops c.in_ok-written.written) c.as_slice.ensures c.in_ok-written.ensures in
+    memory-of c.args.words.now (g.S.Source.left c.args.source.now) run c.in_ok-ops.ops c.in_ok-written.written c.answer_of.result.outcome
+    a.loaded a.rounds a.writer c.in_ok-request.ensures.asked c.in_ok-ops.ensures.fed is
 
 pub returns-clause-whole : goal.returns-clause-whole
 returns-clause-whole g c = proper-of _ c.in_ok-written.written.full c.answer_of.ensures.status
