@@ -1,5 +1,5 @@
 -- Rows of slots: one that became nodes, and one whose last node was opened.
-use Rattle.std.proofs.Common.{set, get_or, ◌≡◌, ℕ, zero, suc, ◌+◌, ◌-◌, ◌<◌, ◌≤◌, ◌^◌, List, [], ◌∷◌, ◌++◌, length, refl, sym, ap, subst, ◌∙◌, arith, length-append, append_assoc, OnOk, IfOk, Result, Ok, Err, Bool, true, take}
+use Rattle.std.proofs.Common.{set, get_or, ◌≡◌, ℕ, zero, suc, ◌-◌, ◌<◌, ◌≤◌, ◌^◌, List, [], ◌∷◌, ◌++◌, length, refl, sym, ap, subst, ◌∙◌, arith, length-append, append_assoc, OnOk, IfOk, Result, Ok, Err, Bool, true, take}
 use Rattle.std.specs.List.{zip}
 use Rattle.list_lemmas.proofs.Pairs.{zip-append}
 use Rattle.list_lemmas.proofs.Each.{AllByRecursion-append}

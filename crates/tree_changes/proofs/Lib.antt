@@ -3,3 +3,5 @@ pub mod LayerLemmas
 pub mod TurnLemmas
 pub mod MergeLeafLemmas
 pub mod FinishLemmas
+pub mod ChangeBelowLemmas
+pub mod EndLemmas

@@ -1,12 +1,12 @@
 -- The slots of a new tree that are not yet in nodes: a row for each level, the lowest first. The pairs of a row come
 -- behind those of the rows above it.
-use Rattle.std.specs.Prelude.{◌≡◌, ℕ, suc, ◌+◌, ◌<◌, ◌≤◌, List, [], ◌∷◌, ◌++◌, length, Option, map}
+use Rattle.std.specs.Prelude.{◌≡◌, ℕ, suc, ◌+◌, ◌<◌, ◌≤◌, List, [], ◌∷◌, ◌++◌, length, Option, None, Some, map}
 use Rattle.std.specs.declared.cmp.Ordering.{Ordering}
 use Rattle.std.specs.List.{AllByRecursion}
 use Rattle.entry_ref.specs.Records.{Records}
 use Rattle.store_api.specs.Ledgers.{Ledger}
 use Rattle.store_api.specs.Parts.{times, uses}
-use Rattle.tree_read.specs.Keys.{seen_by}
+use Rattle.tree_read.specs.Keys.{seen_by, Ascends, AllReadable, NoneReadsNodes, IsKeyWord}
 use Rattle.tree_read.specs.Slots.{slot_pairs, slot_nodes, IsInHand}
 use Rattle.tree_read.specs.Trees.{tree_pairs, tree_nodes, IsRootNode}
 use Rattle.tree_read.specs.declared.node_format.TheConstants.{LEAST_SLOTS, MOST_SLOTS, NODE_WORDS}
@@ -21,6 +21,19 @@ seen_change read order sought pair m change = record { compare = seen_by read or
 abbrev pub seen_changes : {V C : Type 0} → (Records → ℕ → V) → (V → V → Ordering) → (C → V) → (C → Option (ℕ × ℕ)) → Records → List C
     → List Change
 seen_changes read order sought pair m changes = map (seen_change read order sought pair m) changes
+
+-- the pair of a change has a word that reads as the sought key, and not from nodes
+abbrev pub IsPairOf : {V : Type 0} → (V → V → Ordering) → (Records → ℕ → V) → (Records → ℕ → Type 0) → (Records → ℕ → List ℕ) → V → Records
+    → Option (ℕ × ℕ) → Type 0
+IsPairOf order read can_read reads_from sought m None = Unit {0}
+IsPairOf order read can_read reads_from sought m (Some pair) = IsKeyWord order read can_read reads_from sought m pair.0
+
+-- pairs whose keys ascend, can be read, and are read from no node
+pub record AreKeyed {V : Type 0} (order : V → V → Ordering) (read : Records → ℕ → V) (can_read : Records → ℕ → Type 0)
+    (reads_from : Records → ℕ → List ℕ) (m : Records) (ps : List (ℕ × ℕ)) : Type 0 where
+  pub ascends : Ascends order read m ps
+  pub readable : AllReadable can_read m ps
+  pub apart : NoneReadsNodes reads_from m ps
 
 -- the pairs below the slots of rows, the first of a level
 abbrev pub rows_pairs : Records → ℕ → List Row → List (ℕ × ℕ)
@@ -118,3 +131,11 @@ pub record FinishesRows {H : Type 0} (old new : Ledger H) (m n : Records) (level
   pub pairs_are : tree_pairs n root ≡ rows_pairs m level rows
   pub balance : (r : ℕ) → times r (tree_nodes n root) + times r after + uses old r ≡ uses new r + times r before + times r (rows_nodes m level rows)
   pub replaced : AreNodes m before → AreNodes n after
+
+-- a tree with these pairs was made in place of another, whose nodes that it lacks are among the replaced. Nothing says
+-- that all replaced nodes are of the old tree: a drop needs only that they are nodes, and in use
+pub record RebuildsTree {H : Type 0} (old new : Ledger H) (m n : Records) (root next : ℕ) (gone : List ℕ) (pairs : List (ℕ × ℕ)) : Type 0 where
+  pub node : 0 < next → IsRootNode n next
+  pub pairs_are : tree_pairs n next ≡ pairs
+  pub balance : (r : ℕ) → times r (tree_nodes m root) + uses new r ≡ uses old r + times r gone + times r (tree_nodes n next)
+  pub gone_nodes : AreNodes n gone

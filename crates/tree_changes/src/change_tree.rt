@@ -1,24 +1,31 @@
-//! Rows without slots, and the tree of all rows.
-ghost use Rattle.std.specs.Prelude.{ℕ, false, ◌≡◌, ◌<◌, ◌≤◌, ◌+◌, ◌^◌, [], true, length, IfOk, IfErr};
+//! A sorted list of changes of a tree.
+ghost use Rattle.std.specs.Prelude.{ℕ, false, ◌≡◌, ◌<◌, ◌≤◌, ◌+◌, ◌*◌, ◌^◌, ◌∷◌, [], true, length, map, IfOk, IfErr, OnErr, OnOk};
 ghost use Rattle.std.specs.List.{AllByRecursion};
-ghost use Rattle.tree_read.specs.Trees.{Keeps};
+ghost use Rattle.std.specs.List.Sorted.{IsStrictlySortedBy};
+ghost use Rattle.tree_read.specs.Trees.{tree_pairs, tree_nodes, Keeps};
+ghost use Rattle.tree_read.specs.Keys.{KeepsOthers, IsKeyedTree};
 ghost use Rattle.tree_read.specs.declared.node_format.TheConstants.{NODE_WORDS};
 ghost use Rattle.store_api.specs.Calls.{Refuses};
+ghost use Rattle.store_api.specs.Ledgers.{Ledger};
 ghost use Rattle.store_api.specs.declared.store.StoreError.TheVariants.{Memory};
-ghost use Rattle.store_api.specs.Parts.{times, uses};
+ghost use Rattle.store_api.specs.Parts.{times, uses, Owns, Turns};
 ghost use Rattle.store_api.specs.Units.{MayDo};
 ghost use Rattle.frozen_btree.specs.Changes.{tree};
-ghost use Rattle.tree_changes.specs.Layers.{rows_pairs, rows_nodes, AreEmpty, AreInHand, FinishesRows};
+ghost use Rattle.tree_changes.specs.Merges.{merged};
+ghost use Rattle.tree_changes.specs.Layers.{rows_pairs, rows_nodes, seen_changes, AreEmpty, AreInHand, IsPairOf, FinishesRows, RebuildsTree, TurnsRows};
 
+use crate::change_below::{Change, change_below, change_leaf};
 use crate::layers::{lengthen, raise};
 use crate::levels::build_over;
 use crate::rows::Row;
 use entry_ref::EntryRef;
+use frozen_btree::drop_nodes;
 use std::alloc::Global;
 use store_api::{Store, StoreError};
+use tree_read::{KeyOrder, read_head};
 
 /// Returns eight rows without slots.
-pub fn empty_rows(alloc: Global) -> Result<Vec<Row>, StoreError>
+fn empty_rows(alloc: Global) -> Result<Vec<Row>, StoreError>
     ensures empty { IfOk result (λ rows. AreEmpty rows.items) }
     ensures none { IfOk result (λ rows. AllByRecursion (λ row. row.nodes.items ≡ []) rows.items) }
     ensures size { IfOk result (λ rows. length rows.items ≡ 8) }
@@ -50,8 +57,8 @@ fn are_empty(rows: &[Row]) -> bool
     true
 }
 
-/// Makes the tree of all rows. Adds the nodes that it opens to the replaced ones.
-pub fn finish<const OFFSET_BITS: u32, S: Store<OFFSET_BITS>>(
+/// Makes the tree of all rows.
+fn finish<const OFFSET_BITS: u32, S: Store<OFFSET_BITS>>(
     alloc: Global,
     store: &mut S,
     level: u64,
@@ -81,4 +88,98 @@ pub fn finish<const OFFSET_BITS: u32, S: Store<OFFSET_BITS>>(
     }
     raise(alloc, store, level, row, above)?;
     finish(alloc, store, level + 1, above, replaced)
+}
+
+/// Appends the pairs of a tree after the changes to rows without slots. Adds the nodes that the new tree lacks to the
+/// replaced ones.
+fn fill_rows<const OFFSET_BITS: u32, S: Store<OFFSET_BITS>, K: KeyOrder<OFFSET_BITS>>(
+    alloc: Global,
+    store: &mut S,
+    root: EntryRef<OFFSET_BITS>,
+    changes: &[Change<K>],
+    rows: &mut [Row],
+    replaced: &mut Vec<u32>,
+) -> Result<(), StoreError>
+    requires unit { (S.ledger store.old).unit ≡ true }
+    requires keyed { IsKeyedTree K.order K.read K.can_read K.reads_from (S.records store.old) root }
+    requires sorted { IsStrictlySortedBy K.order (map (λ change. K.sought change.key) changes.now) }
+    requires few { length changes.now < 2 ^ 31 }
+    requires rows { length rows.old ≡ 8 }
+    requires empty { AreEmpty rows.old }
+    requires hand { AreInHand (S.records store.old) 0 rows.old }
+    ensures turns { OnOk result (TurnsRows (S.ledger store.old) (S.ledger store.new) (S.records store.old) (S.records store.new)
+        0 rows.old rows.new (merged (seen_changes K.read K.order (λ change. K.sought change.key) (λ change. change.pair) (S.records store.old) changes.now) (tree_pairs (S.records store.old) root.entry))
+        (tree_nodes (S.records store.old) root.entry) replaced.old.items replaced.new.items) }
+    ensures keeps { Keeps (S.records store.old) (S.records store.new) }
+    ensures stays { (r : ℕ) → uses (S.ledger store.old) r ≤ uses (S.ledger store.new) r }
+    ensures may { MayDo (S.ledger store.old) (S.ledger store.new) }
+    ensures refuses { IfErr result (Refuses (S.ledger store.old) (S.ledger store.new) NODE_WORDS) }
+{
+    if !root.valid() {
+        return change_leaf(store, &[], &[], changes, &mut rows[0]);
+    }
+    let level = read_head(store, root).level;
+    change_below(alloc, store, root, level, changes, rows, replaced)
+}
+
+/// Makes the tree after the changes, and adds the nodes of the old tree that the new one lacks to the replaced ones.
+fn rebuild<const OFFSET_BITS: u32, S: Store<OFFSET_BITS>, K: KeyOrder<OFFSET_BITS>>(
+    alloc: Global,
+    store: &mut S,
+    root: EntryRef<OFFSET_BITS>,
+    changes: &[Change<K>],
+    replaced: &mut Vec<u32>,
+) -> Result<EntryRef<OFFSET_BITS>, StoreError>
+    requires unit { (S.ledger store.old).unit ≡ true }
+    requires keyed { IsKeyedTree K.order K.read K.can_read K.reads_from (S.records store.old) root }
+    requires sorted { IsStrictlySortedBy K.order (map (λ change. K.sought change.key) changes.now) }
+    requires few { length changes.now < 2 ^ 31 }
+    requires owns { Owns (S.ledger store.old) (S.records store.old) (tree root ∷ []) }
+    requires replaced { replaced.old.items ≡ [] }
+    ensures rebuilds { IfOk result (λ r. RebuildsTree (S.ledger store.old) (S.ledger store.new) (S.records store.old) (S.records store.new)
+        root.entry r replaced.new.items
+        (merged (seen_changes K.read K.order (λ change. K.sought change.key) (λ change. change.pair) (S.records store.old) changes.now)
+        (tree_pairs (S.records store.old) root.entry))) }
+    ensures keeps { Keeps (S.records store.old) (S.records store.new) }
+    ensures stays { (r : ℕ) → uses (S.ledger store.old) r ≤ uses (S.ledger store.new) r }
+    ensures may { MayDo (S.ledger store.old) (S.ledger store.new) }
+    ensures refuses { IfErr result (Refuses (S.ledger store.old) (S.ledger store.new) NODE_WORDS) }
+{
+    let mut rows = empty_rows(alloc)?;
+    fill_rows(alloc, store, root, changes, &mut rows, replaced)?;
+    finish(alloc, store, 0, &mut rows, replaced)
+}
+
+/// Makes changes of a tree, whose keys ascend. Returns the new root, or 0 if no pair is left, and drops the nodes of
+/// the old tree that are not in the new one. Each node of the new tree is made once.
+pub fn change_all<const OFFSET_BITS: u32, S: Store<OFFSET_BITS>, K: KeyOrder<OFFSET_BITS>>(
+    alloc: Global,
+    store: &mut S,
+    root: EntryRef<OFFSET_BITS>,
+    changes: &[Change<K>],
+) -> Result<EntryRef<OFFSET_BITS>, StoreError>
+    requires unit { (S.ledger store.old).unit ≡ true }
+    requires keyed { IsKeyedTree K.order K.read K.can_read K.reads_from (S.records store.old) root }
+    requires sorted { IsStrictlySortedBy K.order (map (λ change. K.sought change.key) changes.now) }
+    requires words { AllByRecursion (λ change. IsPairOf K.order K.read K.can_read K.reads_from (K.sought change.key) (S.records store.old)
+        change.pair) changes.now }
+    requires few { length changes.now < 2 ^ 31 }
+    requires owns { Owns (S.ledger store.old) (S.records store.old) (tree root ∷ []) }
+    ensures keyed { IfOk result (IsKeyedTree K.order K.read K.can_read K.reads_from (S.records store.new)) }
+    ensures owns { IfOk result (λ r. Owns (S.ledger store.new) (S.records store.new) (tree r ∷ [])) }
+    // `merge_law` says that these are the pairs after the changes one by one
+    ensures pairs { IfOk result (λ r. tree_pairs (S.records store.new) r
+        ≡ merged (seen_changes K.read K.order (λ change. K.sought change.key) (λ change. change.pair) (S.records store.old) changes.now)
+        (tree_pairs (S.records store.old) root.entry)) }
+    ensures turns { IfOk result (λ r. Turns (S.ledger store.old) (S.ledger store.new) (S.records store.old) (S.records store.new)
+        (tree root.entry ∷ []) (tree r ∷ [])) }
+    ensures others { KeepsOthers (S.records store.old) (S.records store.new) }
+    ensures left { OnErr result (Keeps (S.records store.old) (S.records store.new)) }
+    ensures refuses { IfErr result (Refuses (S.ledger store.old) (S.ledger store.new) NODE_WORDS) }
+    ensures may { MayDo (S.ledger store.old) (S.ledger store.new) }
+{
+    let mut replaced = Vec::new(alloc);
+    let next = rebuild(alloc, store, root, changes, &mut replaced)?;
+    drop_nodes(store, &replaced);
+    Ok(next)
 }
