@@ -4,3 +4,5 @@ pub mod ListLemmas
 pub mod OrderLemmas
 pub mod RankLemmas
 pub mod ScoreLemmas
+pub mod GroupLemmas
+pub mod GroupKeyLemmas

@@ -1,5 +1,5 @@
 -- Keys in order.
-use Rattle.std.proofs.Common.{◌≡◌, Bool, true, false, ◌||◌, List, [], ◌∷◌, map, refl, sym, ap, subst, ◌∙◌, Ordering, Less, Equal, Greater}
+use Rattle.std.proofs.Common.{◌≡◌, Bool, true, false, ◌||◌, List, [], ◌∷◌, map, refl, sym, ap, subst, ◌∙◌, true≢false, Ordering, Less, Equal, Greater}
 use Rattle.std.proofs.lemmas.List.Kept.{Contains-dedup, Contains-from_dedup, IsStrictlySortedBy-dedup}
 use Rattle.std.proofs.lemmas.List.Sorted.{list_any-IsPermutation}
 use Rattle.std.proofs.lemmas.Map.Lookups.{btree_set_from_contains}
@@ -8,7 +8,7 @@ use Rattle.std.specs.BTreeSet.{insert_key}
 use Rattle.std.specs.Cmp.{both_ways, eq_by_cmp_equiv, IsEquivalence, IsTotalOrder}
 use Rattle.std.specs.List.{dedup, list_any, AllByRecursion}
 use Rattle.std.specs.List.Sorted.{IsPermutation, IsSorted, IsStrictlySortedBy}
-use Rattle.std.specs.Ordering.{eq_by_cmp, is_eq, match_ordering, ordering_reverse}
+use Rattle.std.specs.Ordering.{eq_by_cmp, is_eq, match_ordering, ordering_reverse, ordering_then}
 use Rattle.result_model.specs.Orders.{in_order, with_keys}
 
 -- ---- a key put in its place
@@ -134,3 +134,10 @@ module _ {K J : Type 0} (R : K → K → Ordering) (S : J → J → Ordering) (f
 
   pub in_order_mapped : (ks : List K) → in_order S (map f ks) ≡ map f (in_order R ks)
   in_order_mapped ks = with_mapped [] ks
+
+-- ---- an order by two parts
+
+pub both_equal : (p c : Ordering) → ordering_then p c ≡ Equal → (p ≡ Equal) × (c ≡ Equal)
+both_equal Less c is = absurd (true≢false (sym (ap is_eq is)))
+both_equal Equal c is = (refl, is)
+both_equal Greater c is = absurd (true≢false (sym (ap is_eq is)))

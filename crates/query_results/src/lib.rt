@@ -4,14 +4,18 @@
 
 mod attribute;
 mod bulk;
+mod facets;
+mod group_keys;
 mod items;
 mod numbers;
 mod orders;
 mod ranks;
+mod runs;
 mod score_keys;
 mod walks;
 
 pub use bulk::values;
+pub use facets::{groups, largest_groups};
 pub use numbers::totals;
 pub use ranks::sorted;
 pub use score_keys::best;
