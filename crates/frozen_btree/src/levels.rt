@@ -19,8 +19,8 @@ use std::alloc::Global;
 use store_api::{Store, StoreError};
 use tree_read::{KeyOrder, MOST_SLOTS, NODE_WORDS};
 
-/// Makes the tree over slots of a level, level by level.
-fn build_over<const OFFSET_BITS: u32, S: Store<OFFSET_BITS>>(
+/// Makes the tree over slots of a level, level by level. An error leaves the nodes that were made.
+pub fn build_over<const OFFSET_BITS: u32, S: Store<OFFSET_BITS>>(
     alloc: Global,
     store: &mut S,
     level: u64,

@@ -38,8 +38,8 @@ pub fn slots_of(level: u64, keys: &[u64], values: &[u64]) -> Slots
     slots
 }
 
-/// Appends a word.
-fn push_word(words: &mut Vec<u64>, word: u64) -> Result<(), StoreError>
+/// Appends a word. Without memory it answers `Memory`.
+pub fn push_word(words: &mut Vec<u64>, word: u64) -> Result<(), StoreError>
     ensures items { OnOk result (words.new.items ≡ words.old.items ++ word ∷ []) }
     ensures memory { IfErr result (λ error. error ≡ Memory) }
 {
@@ -50,7 +50,7 @@ fn push_word(words: &mut Vec<u64>, word: u64) -> Result<(), StoreError>
 }
 
 /// Makes a node of slots, and adds it to a row.
-fn add_group<const OFFSET_BITS: u32, S: Store<OFFSET_BITS>>(
+pub fn add_group<const OFFSET_BITS: u32, S: Store<OFFSET_BITS>>(
     store: &mut S,
     level: u64,
     keys: &[u64],

@@ -23,7 +23,7 @@ use Rattle.tree_read.proofs.ReadLemmas.{hand-read, node-size}
 use Rattle.tree_read.proofs.SlotLemmas.{hand-leaf, child_nodes, pairs-cut, pairs-slots, nodes-slots, slot_pairs-append, slot_pairs-leaf, slot_nodes-leaf, slot_pairs-one, slot_nodes-one, slot_nodes-kept}
 use Rattle.tree_changes.specs.Merges.{Change, before, behind, pair_of, merged, AreInOrder, AllBelowFirst}
 use Rattle.tree_changes.specs.Layers.{rows_pairs, rows_nodes, seen_change, seen_changes, AreInHand, AreKeyed, TurnsRows}
-use Rattle.tree_changes.specs.declared.rows.Row.{Row}
+use Rattle.frozen_btree.specs.declared.rows.Row.{Row}
 use Rattle.tree_changes.proofs.LayerLemmas.{empty-pairs, empty-nodes, none_at_end}
 use Rattle.tree_changes.proofs.MergeLemmas.{behind-all, in-parts}
 use Rattle.tree_changes.proofs.MergeLeafLemmas.{in-order}

@@ -28,7 +28,7 @@ use Rattle.frozen_btree.specs.Changes.{DropsEntries, tree}
 use Rattle.frozen_btree.proofs.TopLemmas.{root-pairs, root-nodes}
 use Rattle.tree_changes.specs.Merges.{Change, before, behind, pair_of, merged, changed, changed_by, IsOwn, HasOwnKey}
 use Rattle.tree_changes.specs.Layers.{rows_pairs, rows_nodes, seen_changes, AreEmpty, AreInHand, AreKeyed, FinishesRows, IsPairOf, RebuildsTree, TurnsRows}
-use Rattle.tree_changes.specs.declared.rows.Row.{Row}
+use Rattle.frozen_btree.specs.declared.rows.Row.{Row}
 use Rattle.tree_changes.proofs.FinishLemmas.{rows-empty-pairs, rows-empty-nodes}
 use Rattle.tree_changes.proofs.MergeLemmas.{behind-all, one-by-one}
 use Rattle.tree_changes.proofs.MergeLeafLemmas.{in-order}

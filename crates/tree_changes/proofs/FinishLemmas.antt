@@ -17,7 +17,7 @@ use Rattle.tree_read.proofs.CountLemmas.{leaf_count}
 use Rattle.tree_read.proofs.SlotLemmas.{child_nodes, slot_pairs-inner, slot_nodes-inner}
 use Rattle.frozen_btree.specs.Builds.{BuildsTree}
 use Rattle.tree_changes.specs.Layers.{rows_pairs, rows_nodes, AreInHand, AreEmpty, OpensRows, RaisesRow, FinishesRows}
-use Rattle.tree_changes.specs.declared.rows.Row.{Row}
+use Rattle.frozen_btree.specs.declared.rows.Row.{Row}
 use Rattle.tree_changes.proofs.LayerLemmas.{empty-pairs, empty-nodes, no_items, nodes-stay}
 
 -- references that stand once are distinct

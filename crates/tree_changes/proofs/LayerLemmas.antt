@@ -17,7 +17,7 @@ use Rattle.tree_read.proofs.ReadLemmas.{node-size, node-room, node-even, hand-re
 use Rattle.tree_read.proofs.SlotLemmas.{hand-none, slot_pairs-append, slot_nodes-append, hand-append, hand-left, hand-right, hand-kept, slot_pairs-kept, slot_nodes-kept, slot_pairs-inner, slot_nodes-inner, slot_pairs-leaf, slot_nodes-leaf, child_nodes, slot_pairs-one, slot_nodes-one, pairs-slots, nodes-slots}
 use Rattle.frozen_btree.specs.Builds.{groups, AddsPart}
 use Rattle.tree_changes.specs.Layers.{rows_pairs, rows_nodes, AreInHand, AreNodes, ClosesRow, OpensLast, OpensRows, RaisesRow, HasFirst, TurnsRows, AreEmpty}
-use Rattle.tree_changes.specs.declared.rows.Row.{Row}
+use Rattle.frozen_btree.specs.declared.rows.Row.{Row}
 use Rattle.frozen_btree.proofs.RowLemmas.{row-none, row-more}
 
 -- what follows from an answer that is none of a refusal

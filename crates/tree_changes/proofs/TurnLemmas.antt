@@ -12,7 +12,7 @@ use Rattle.tree_read.proofs.ReadLemmas.{node-size, hand-read}
 use Rattle.tree_read.specs.Slots.{slot_pairs, slot_nodes, IsInHand}
 use Rattle.tree_read.proofs.SlotLemmas.{slot_pairs-append, slot_nodes-append, hand-append, hand-right, hand-take, even-take, hand-kept, slot_pairs-kept, slot_nodes-kept, few-take, child_nodes, slot_pairs-one, slot_nodes-one, pairs-slots, nodes-slots}
 use Rattle.tree_changes.specs.Layers.{rows_pairs, rows_nodes, AreInHand, TurnsRows, AreEmpty}
-use Rattle.tree_changes.specs.declared.rows.Row.{Row}
+use Rattle.frozen_btree.specs.declared.rows.Row.{Row}
 use Rattle.tree_changes.proofs.LayerLemmas.{empty-pairs, empty-nodes, none_at_end, no_items}
 
 pub turns-then : {H : Type 0} (old mid new : Ledger H) (m n o : Records) (level : ℕ) (rows rows2 rows3 : List Row) (p1 p2 : List (ℕ × ℕ)) (n1 n2 before between after : List ℕ)

@@ -12,7 +12,7 @@ use Rattle.tree_read.specs.Trees.{tree_pairs, tree_nodes, IsRootNode}
 use Rattle.tree_read.specs.declared.node_format.TheConstants.{LEAST_SLOTS, MOST_SLOTS, NODE_WORDS}
 use Rattle.frozen_btree.specs.Builds.{groups, MakesRow}
 use Rattle.tree_changes.specs.Merges.{Change}
-use Rattle.tree_changes.specs.declared.rows.Row.{Row}
+use Rattle.frozen_btree.specs.declared.rows.Row.{Row}
 
 -- a change as a merge sees it: by how stored keys compare with its key
 abbrev pub seen_change : {V C : Type 0} → (Records → ℕ → V) → (V → V → Ordering) → (C → V) → (C → Option (ℕ × ℕ)) → Records → C → Change

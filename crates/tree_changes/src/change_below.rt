@@ -16,9 +16,9 @@ ghost use Rattle.tree_changes.specs.Merges.{merged, pair_of};
 ghost use Rattle.tree_changes.specs.Layers.{rows_pairs, AreInHand, AreKeyed, TurnsRows, seen_changes};
 
 use crate::layers::{push_node, push_slot, put_behind};
-use crate::rows::Row;
 use arena_api::Frozen;
 use entry_ref::EntryRef;
+use frozen_btree::Row;
 use std::alloc::Global;
 use std::cmp::Ordering;
 use store_api::{Store, StoreError};

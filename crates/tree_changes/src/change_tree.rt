@@ -16,10 +16,8 @@ ghost use Rattle.tree_changes.specs.Layers.{rows_pairs, rows_nodes, seen_changes
 
 use crate::change_below::{Change, change_below, change_leaf};
 use crate::layers::{lengthen, raise};
-use crate::levels::build_over;
-use crate::rows::Row;
 use entry_ref::EntryRef;
-use frozen_btree::drop_nodes;
+use frozen_btree::{Row, build_over, drop_nodes};
 use std::alloc::Global;
 use store_api::{Store, StoreError};
 use tree_read::{KeyOrder, read_head};

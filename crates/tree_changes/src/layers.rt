@@ -14,9 +14,9 @@ ghost use Rattle.frozen_nodes.specs.Makes.{MakesNodes};
 ghost use Rattle.frozen_btree.specs.Builds.{groups};
 ghost use Rattle.tree_changes.specs.Layers.{rows_pairs, AreInHand, AreEmpty, ClosesRow, HasFirst, IsReady, Lengthens, OpensLast, OpensRows, RaisesRow, TurnsRows};
 
-use crate::rows::{Row, add_group, make_row, push_word};
 use arena_api::Frozen;
 use entry_ref::EntryRef;
+use frozen_btree::{Row, add_group, make_row, push_word};
 use std::alloc::Global;
 use store_api::{Store, StoreError};
 use tree_read::{LEAST_SLOTS, MOST_SLOTS, NODE_WORDS, Slots, read_node};

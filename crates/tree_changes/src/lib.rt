@@ -8,8 +8,6 @@ mod change_below;
 mod change_tree;
 mod laws;
 mod layers;
-mod levels;
-mod rows;
 
 pub use change_below::Change;
 pub use change_tree::change_all;

@@ -6,7 +6,7 @@ use Rattle.tree_read.specs.Trees.{Keeps}
 use Rattle.tree_read.specs.Slots.{slot_pairs, IsInHand}
 use Rattle.frozen_btree.specs.Builds.{BuildsTree}
 use Rattle.tree_changes.specs.Layers.{OpensRows, RaisesRow}
-use Rattle.tree_changes.specs.declared.rows.Row.{Row}
+use Rattle.frozen_btree.specs.declared.rows.Row.{Row}
 use Rattle.tree_changes.proofs.FinishLemmas.{last-some, last-few, finish-built, finish-raised, next-hand, next-pairs, next-owned, next-slots, above-some}
 use Rattle.tree_changes.proofs.change_tree.+finish.Goals as goal
 

@@ -8,7 +8,7 @@ use Rattle.frozen_nodes.proofs.MakesLemmas.{keeps-then}
 use Rattle.tree_changes.specs.Merges.{merged}
 use Rattle.tree_changes.specs.Layers.{seen_changes, AreEmpty, TurnsRows}
 use Rattle.tree_changes.specs.declared.change_below.Change as given
-use Rattle.tree_changes.specs.declared.rows.Row.{Row}
+use Rattle.frozen_btree.specs.declared.rows.Row.{Row}
 use Rattle.tree_changes.proofs.LayerLemmas.{none_at_end}
 use Rattle.tree_changes.proofs.ChangeBelowLemmas.{seen-size}
 use Rattle.tree_changes.proofs.EndLemmas.{rows-hand, tree-few, filled-few, filled-owned, filled-rebuilds}

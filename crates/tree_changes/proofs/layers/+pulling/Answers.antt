@@ -1,6 +1,6 @@
 use Rattle.std.proofs.Common.{◌≡◌, ◌+◌, ◌∷◌, suc, arith, sym, subst, refl, get_or, set, List}
 use Rattle.tree_changes.specs.Layers.{OpensRows, OpensLast, HasFirst}
-use Rattle.tree_changes.specs.declared.rows.Row.{Row}
+use Rattle.frozen_btree.specs.declared.rows.Row.{Row}
 use Rattle.tree_changes.proofs.LayerLemmas.{pulled}
 use Rattle.tree_changes.proofs.layers.+pulling.Goals as goal
 

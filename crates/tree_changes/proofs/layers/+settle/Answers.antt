@@ -3,7 +3,7 @@ use Rattle.store_api.proofs.May.{may_do-then}
 use Rattle.store_api.specs.Units.{MayDo}
 use Rattle.tree_read.specs.Trees.{Keeps}
 use Rattle.tree_changes.specs.Layers.{OpensRows, RaisesRow}
-use Rattle.tree_changes.specs.declared.rows.Row.{Row}
+use Rattle.frozen_btree.specs.declared.rows.Row.{Row}
 use Rattle.tree_changes.proofs.LayerLemmas.{on_ok, turns-raised, settled-more}
 use Rattle.tree_changes.proofs.layers.+settle.Goals as goal
 
