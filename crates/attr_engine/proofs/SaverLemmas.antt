@@ -34,7 +34,7 @@ use Rattle.attr_rounds.specs.declared.saving.Saver.{Saver}
 use Rattle.attr_report.specs.Report.{saved_text}
 use Rattle.attr_report.specs.Run.{Run, table_after}
 use Rattle.attr_engine.specs.Rounds.{IsSaveOf}
-use Rattle.attr_engine.specs.Saver.{one_if, save_parts, GivesAside, HasSaved, IsSaverDone, IsSaveIn}
+use Rattle.attr_engine.specs.Saver.{one_if, save_parts, GivesIfAny, HasSaved, IsSaverDone, IsSaveIn}
 use Rattle.attr_engine.specs.Steps.{KeepsWriter, IsReader, IsLastAnswer}
 use Rattle.attr_engine.specs.declared.run_result.Save.{Save}
 use Rattle.attr_engine.proofs.HistoryLemmas.{is_point, points_rise}
@@ -46,20 +46,20 @@ pub first_is : (fields : List Field) (field : Field) (shape : ℕ) → length fi
     → IsFirst field.kind field.value shape
 first_is fields field shape few is at = subst (λ s. IsFirst field.kind field.value s) (sym is) (first_of_shape fields field few at)
 
--- ---- a task aside
+-- ---- a task, if there is one
 
-pub aside_some : {T B : Type 0} (gives : T → B → Type 0) (aside : Option T) (given : Option B) → GivesAside gives aside given → is_some given ≡ is_some aside
-aside_some gives (Some task) (Some x) is = refl
-aside_some gives None None is = refl
-aside_some gives (Some task) None is = absurd is
-aside_some gives None (Some x) is = absurd is
+pub any_some : {T B : Type 0} (gives : T → B → Type 0) (saver : Option T) (given : Option B) → GivesIfAny gives saver given → is_some given ≡ is_some saver
+any_some gives (Some task) (Some x) is = refl
+any_some gives None None is = refl
+any_some gives (Some task) None is = absurd is
+any_some gives None (Some x) is = absurd is
 
-pub aside_each : {T B : Type 0} (gives : T → B → Type 0) (P : T → Type 0) (Q : B → Type 0) → ((task : T) (x : B) → P task → gives task x → Q x)
-    → (aside : Option T) (given : Option B) → GivesAside gives aside given → IfSome aside P → IfSome given Q
-aside_each gives P Q step (Some task) (Some x) is holds = step task x holds is
-aside_each gives P Q step None None is holds = tt
-aside_each gives P Q step (Some task) None is holds = absurd is
-aside_each gives P Q step None (Some x) is holds = absurd is
+pub any_each : {T B : Type 0} (gives : T → B → Type 0) (P : T → Type 0) (Q : B → Type 0) → ((task : T) (x : B) → P task → gives task x → Q x)
+    → (saver : Option T) (given : Option B) → GivesIfAny gives saver given → IfSome saver P → IfSome given Q
+any_each gives P Q step (Some task) (Some x) is holds = step task x holds is
+any_each gives P Q step None None is holds = tt
+any_each gives P Q step (Some task) None is holds = absurd is
+any_each gives P Q step None (Some x) is holds = absurd is
 
 -- ---- the saver's round
 

@@ -22,12 +22,12 @@ abbrev pub one_if : Bool → ℕ
 one_if true = 1
 one_if false = 0
 
--- a task aside gives what it gives, and nothing is given where there is none
-abbrev pub GivesAside : {T B : Type 0} → (T → B → Type 0) → Option T → Option B → Type 0
-GivesAside gives (Some task) (Some given) = gives task given
-GivesAside gives None None = Unit {0}
-GivesAside gives (Some task) None = ⊥
-GivesAside gives None (Some given) = ⊥
+-- a task, if there is one, gives what it gives, and nothing is given where there is none
+abbrev pub GivesIfAny : {T B : Type 0} → (T → B → Type 0) → Option T → Option B → Type 0
+GivesIfAny gives (Some task) (Some given) = gives task given
+GivesIfAny gives None None = Unit {0}
+GivesIfAny gives (Some task) None = ⊥
+GivesIfAny gives None (Some given) = ⊥
 
 -- a saver after its round, that was made of this writer
 pub record HasSaved (field : Field) (w : WriterView) (home : TableId) (r : ReaderView) (table : TableId)

@@ -11,9 +11,9 @@ ghost use Rattle.attr_loader.specs.Loading.{CanLoad, IsAtStart, Loads};
 ghost use Rattle.attr_loader.specs.Room.{HasMadeNothing};
 ghost use Rattle.attr_saver.specs.Images.{IsFirst};
 ghost use Rattle.attr_engine.specs.Steps.{AllFrom, HasRead, IsNewWriter, LoadsInto};
-ghost use Rattle.attr_engine.specs.Saver.{one_if, GivesAside, HasSaved};
+ghost use Rattle.attr_engine.specs.Saver.{one_if, GivesIfAny, HasSaved};
 
-use crate::aside::run_with;
+use crate::with_saver::run_with_saver;
 use crate::readers::{jobs_of, saver_of};
 use attr_io::{Gate, Task};
 use attr_loader::{Attribute, LoadError, Loaded, Loading};
@@ -93,18 +93,18 @@ fn run_loading<
     alloc: Global,
     loading: Loading<'a, OFFSET_BITS, S, G>,
     others: Vec<T>,
-    aside: Option<U>,
+    saver: Option<U>,
 ) -> Result<(Attribute<OFFSET_BITS, S>, Loaded, Vec<B>, Option<C>), AllocError>
     requires load { CanLoad S.ledger loading.batch loading.ops.now loading.attribute }
     requires others { All T.can_run others.items }
-    requires aside { IfSome aside U.can_run }
+    requires saver { IfSome saver U.can_run }
     requires left { (S.ledger loading.attribute.store).work.commits.last + length loading.ops.now
         ≤ (S.ledger loading.attribute.store).work.sizes.commits }
     ensures loads { IfOk result (λ r. Loads S.ledger loading.entry.batch loading.entry.ops.now loading.entry.attribute r.0 r.1) }
     ensures others { IfOk result (λ r. AllZip T.run_gives others.items r.2.items) }
-    ensures aside { IfOk result (λ r. GivesAside U.run_gives aside r.3) }
+    ensures saver { IfOk result (λ r. GivesIfAny U.run_gives saver r.3) }
 {
-    let (given, gives, side) = run_with(rt, alloc, loading, others, aside)?;
+    let (given, gives, side) = run_with_saver(rt, alloc, loading, others, saver)?;
     match given {
         Ok((attribute, loaded)) => Ok((attribute, loaded, gives, side)),
         Err(LoadError::Memory) => Err(AllocError),
@@ -132,20 +132,20 @@ fn load_at<
     batch: u32,
     gate: &'a G,
     others: Vec<T>,
-    aside: Option<U>,
+    saver: Option<U>,
 ) -> Result<(Writer<OFFSET_BITS, AttrLayout>, Loaded, Vec<B>, Option<C>), AllocError>
     requires new { IsNewWriter fields.now writer.place.table_id (writer_of writer.place.me.0) }
     requires some { 0 < batch }
     requires few { length ops.now < 2 ^ 32 }
     requires fit { AllByRecursion (OpFits fields.now) ops.now }
     requires others { All T.can_run others.items }
-    requires aside { IfSome aside U.can_run }
+    requires saver { IfSome saver U.can_run }
     ensures table { IfOk result (λ r. r.0.place.table_id ≡ writer.entry.place.table_id) }
     ensures loads { IfOk result (λ r. LoadsInto fields.now dense batch ops.now (writer_of writer.entry.place.me.0)
         (writer_of r.0.place.me.0) r.1) }
     ensures made { IfOk result (λ r. (writer_of r.0.place.me.0).made ≡ (writer_of writer.entry.place.me.0).made) }
     ensures others { IfOk result (λ r. AllZip T.run_gives others.items r.2.items) }
-    ensures aside { IfOk result (λ r. GivesAside U.run_gives aside r.3) }
+    ensures saver { IfOk result (λ r. GivesIfAny U.run_gives saver r.3) }
 {
     let attribute = opened(alloc, writer, fields, dense)?;
     let loading = Loading {
@@ -155,13 +155,13 @@ fn load_at<
         batch,
         gate,
     };
-    let (attribute, loaded, gives, side) = run_loading(rt, alloc, loading, others, aside)?;
+    let (attribute, loaded, gives, side) = run_loading(rt, alloc, loading, others, saver)?;
     let writer = closed(attribute);
     Ok((writer, loaded, gives, side))
 }
 
 /// Loads operations into attributes over a writer, beside readers, and beside a saver where the table is saved.
-pub fn load_beside<'a, const OFFSET_BITS: u32, R: Threads + Sync, G: Gate + Sync + 'static>(
+pub fn load_beside_readers<'a, const OFFSET_BITS: u32, R: Threads + Sync, G: Gate + Sync + 'static>(
     rt: &R,
     alloc: Global,
     writer: Writer<OFFSET_BITS, AttrLayout>,

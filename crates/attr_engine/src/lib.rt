@@ -1,7 +1,6 @@
 //! A run over the running memory: operations are loaded and committed while readers answer.
 #![tactic(auto)]
 
-mod aside;
 mod beside;
 mod engine;
 mod error;
@@ -10,6 +9,7 @@ mod readers;
 mod run;
 mod run_result;
 mod saving;
+mod with_saver;
 mod writing;
 mod written;
 

@@ -18,7 +18,7 @@ ghost use Rattle.attr_engine.specs.Steps.{parts, IsNewWriter, IsQuestionOf, Load
 ghost use Rattle.attr_rounds.specs.Lines.{CanAsk};
 ghost use Rattle.gen_core.specs.Views.{last_number};
 
-use crate::beside::load_beside;
+use crate::beside::load_beside_readers;
 use crate::error::EngineError;
 use crate::readers::{last_answer, last_saved, read_after, take_all, take_saved};
 use crate::run_result::{RunResult, Save};
@@ -105,7 +105,7 @@ fn load_first<'a, const OFFSET_BITS: u32, R: Threads + Sync, G: Gate + Sync + 's
     ensures asked { IfOk result (λ r. is_some r.saved ≡ save) }
     ensures saved { IfOk result (λ r. IfSome r.saved (IsSaveIn saving.now.field.now (writer_of r.writer.place.me.0))) }
 {
-    let beside = load_beside(
+    let beside = load_beside_readers(
         rt, alloc, writer, ops, dense, batch, readers, rounds, question, saving, save, gate,
     )?;
     let mut writer = beside.writer;

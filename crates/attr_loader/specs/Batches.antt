@@ -78,17 +78,17 @@ module _ {S H : Type 0} (ledger : S → Ledger H) where
 
   -- there was no space for one of the operations, after those applied before it; or for their commit, and then the last is
   -- named
-  pub record FindsNoRoom (old new : AttributeView S) (ops : List Op) (before active held : ℕ) : Type 0 where
+  pub record FindsNoRoom (old new : AttributeView S) (ops : List Op) (number active held : ℕ) : Type 0 where
     pub keeps : KeepsCommit old new
-    pub some : 1 ≤ before
-    pub most : before ≤ length ops
+    pub some : 1 ≤ number
+    pub most : number ≤ length ops
     pub full : IsFullStore new active held
     pub applied : ℕ
     pub table : new.table ≡ after_ops old.fields old.table (take applied ops)
     pub operations : new.operations ≡ old.operations + applied
     pub fits : applied ≤ length ops
     pub refused : IsRefusedCall new.fields new.dense new.table ops applied (length ops) (ledger new.store)
-        (record { operation = before; active = active; held = held })
+        (record { operation = number; active = active; held = held })
 
   -- there was no space for the root record of a commit, and the attributes are as they were
   pub record CannotCommit (old new : AttributeView S) (active held : ℕ) : Type 0 where
@@ -106,12 +106,12 @@ module _ {S H : Type 0} (ledger : S → Ledger H) where
 
   abbrev pub AppliesBatch : AttributeView S → AttributeView S → List Op → Batch → Type 0
   AppliesBatch old new ops (Done skipped) = AppliesAll old new ops skipped
-  AppliesBatch old new ops (Full before active held) = FindsNoRoom old new ops before active held
+  AppliesBatch old new ops (Full number active held) = FindsNoRoom old new ops number active held
 
   -- a commit of this many operations, with this many skipped
   abbrev pub CommitsBatch : AttributeView S → AttributeView S → ℕ → ℕ → Batch → Type 0
   CommitsBatch old new count skipped (Done more) = (more ≡ skipped) × MakesCommit old new
-  CommitsBatch old new count skipped (Full before active held) = (before ≡ count) × CannotCommit old new active held
+  CommitsBatch old new count skipped (Full number active held) = (number ≡ count) × CannotCommit old new active held
 
   -- the store of one attribute has made at most these steps more, after any steps before
   abbrev pub AddsSteps : AttributeView S → AttributeView S → (Steps → Steps) → Type 0
@@ -137,24 +137,24 @@ module _ {S H : Type 0} (ledger : S → Ledger H) where
   abbrev pub AppliesRoom : AttributeView S → AttributeView S → List Op → Batch → Type 0
   AppliesRoom old new ops (Done skipped) =
       (new.plan ≡ old.plan) × AddsSteps old new (λ steps. after_values steps (values_of old.fields old.table ops))
-  AppliesRoom old new ops (Full before active held) =
-      RefusesSteps old new (λ steps. after_values steps (values_of old.fields old.table (take before ops)))
+  AppliesRoom old new ops (Full number active held) =
+      RefusesSteps old new (λ steps. after_values steps (values_of old.fields old.table (take number ops)))
 
   abbrev pub CommitsRoot : AttributeView S → AttributeView S → Batch → Type 0
   CommitsRoot old new (Done skipped) = (new.plan ≡ old.plan) × AddsSteps old new after_root
-  CommitsRoot old new (Full before active held) = RefusesSteps old new after_root
+  CommitsRoot old new (Full number active held) = RefusesSteps old new after_root
 
   abbrev pub CommitsRoom : AttributeView S → AttributeView S → Batch → Type 0
   CommitsRoom old new (Done skipped) =
       AddsSteps old new (λ steps. after_keys (after_root steps) step_keys) × AddsQuietly old new after_root
-  CommitsRoom old new (Full before active held) = RefusesSteps old new after_root
+  CommitsRoom old new (Full number active held) = RefusesSteps old new after_root
 
   abbrev pub LoadsRoom : AttributeView S → AttributeView S → List Op → Batch → Type 0
   LoadsRoom old new ops (Done skipped) =
       AddsSteps old new (λ steps. after_keys (after_root (after_values steps (values_of old.fields old.table ops))) step_keys)
       × AddsQuietly old new (λ steps. after_root (after_values steps (values_of old.fields old.table ops)))
-  LoadsRoom old new ops (Full before active held) =
-      RefusesSteps old new (λ steps. after_root (after_values steps (values_of old.fields old.table (take before ops))))
+  LoadsRoom old new ops (Full number active held) =
+      RefusesSteps old new (λ steps. after_root (after_values steps (values_of old.fields old.table (take number ops))))
 
   -- all operations were applied and committed
   pub record LoadsAll (old new : AttributeView S) (ops : List Op) (skipped : ℕ) : Type 0 where
@@ -164,4 +164,4 @@ module _ {S H : Type 0} (ledger : S → Ledger H) where
 
   abbrev pub LoadsBatch : AttributeView S → AttributeView S → List Op → Batch → Type 0
   LoadsBatch old new ops (Done skipped) = LoadsAll old new ops skipped
-  LoadsBatch old new ops (Full before active held) = FindsNoRoom old new ops before active held
+  LoadsBatch old new ops (Full number active held) = FindsNoRoom old new ops number active held

@@ -16,12 +16,12 @@ use image_format::AttrLayout;
 use std::alloc::{AllocError, Global};
 use store_api::Store;
 
-/// The result of a batch: how many of its operations were skipped; or the operation, counted from 1, for which there
-/// was no space, either for itself or for the commit after it.
+/// The result of a batch: how many of its operations were skipped; or the number of the operation in the batch, counted
+/// from 1, for which there was no space, either for itself or for the commit after it.
 #[derive(Clone, Copy, Drop)]
 pub enum Batch {
     Done { skipped: u32 },
-    Full { before: u32, active: u32, held: u32 },
+    Full { refused: u32, active: u32, held: u32 },
 }
 
 fn skips_of(applied: Applied) -> u32
@@ -50,9 +50,9 @@ fn apply_all<const OFFSET_BITS: u32, S: Store<OFFSET_BITS, Layout = AttrLayout>>
         let applied = match attribute.apply(alloc, op) {
             Ok(applied) => applied,
             Err(AttrError::Full { active, held, .. }) => {
-                let before = done + 1;
+                let refused = done + 1;
                 return Ok(Batch::Full {
-                    before,
+                    refused,
                     active,
                     held,
                 });
@@ -107,7 +107,7 @@ fn commit_table<const OFFSET_BITS: u32, S: Store<OFFSET_BITS, Layout = AttrLayou
             Ok(Batch::Done { skipped })
         }
         Err(AttrError::Full { active, held, .. }) => Ok(Batch::Full {
-            before: count,
+            refused: count,
             active,
             held,
         }),
@@ -134,11 +134,11 @@ fn commit_all<const OFFSET_BITS: u32, S: Store<OFFSET_BITS, Layout = AttrLayout>
             Ok(Batch::Done { skipped: more })
         }
         Batch::Full {
-            before,
+            refused,
             active,
             held,
         } => Ok(Batch::Full {
-            before,
+            refused,
             active,
             held,
         }),
@@ -162,11 +162,11 @@ pub fn load_batch<const OFFSET_BITS: u32, S: Store<OFFSET_BITS, Layout = AttrLay
     match apply_all(alloc, attribute, ops)? {
         Batch::Done { skipped } => commit_all(alloc, attribute, ops.len() as u32, skipped, gate),
         Batch::Full {
-            before,
+            refused,
             active,
             held,
         } => Ok(Batch::Full {
-            before,
+            refused,
             active,
             held,
         }),

@@ -39,12 +39,12 @@ pub fn load<const OFFSET_BITS: u32, S: Store<OFFSET_BITS, Layout = AttrLayout>, 
                 rest = next;
             }
             Batch::Full {
-                before,
+                refused,
                 active,
                 held,
             } => {
                 let full = Some(NoRoom {
-                    operation: operations + before,
+                    operation: operations + refused,
                     active,
                     held,
                 });

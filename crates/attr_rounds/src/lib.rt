@@ -7,7 +7,7 @@
 #![tactic(auto)]
 
 mod asked;
-mod climbing;
+mod counting;
 mod first;
 mod job;
 mod lines;

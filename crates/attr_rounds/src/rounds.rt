@@ -6,7 +6,7 @@ ghost use Rattle.word_arena.specs.Ruled.{reader_of, IsLater};
 ghost use Rattle.attr_rounds.specs.Rounds.{MakesRounds, SeesSame};
 ghost use Rattle.attr_rounds.specs.Posts.{view_at, table_at};
 
-use crate::climbing::{Climb, climbed};
+use crate::counting::{CountedSteps, run_with_count};
 use crate::question::Question;
 use attr_io::{Gate, Point};
 use entry_ref::Layout;
@@ -43,16 +43,24 @@ enum Post<const OFFSET_BITS: u32, L: Layout> {
     Under(Guarded<OFFSET_BITS, L>),
 }
 
-/// Returns a guard, after as many tries as it takes.
-impl<const OFFSET_BITS: u32, L: Layout> Climb for Reader<OFFSET_BITS, L> {
+/// A guard takes as many tries as it takes. They are counted for the proof alone.
+impl<const OFFSET_BITS: u32, L: Layout> CountedSteps for Reader<OFFSET_BITS, L> {
     type Output = Guarded<OFFSET_BITS, L>;
 
-    ghost climbs_to = { λ reader guard. IsLater L.reaches L.lawful (reader_of reader.place.me.0) (reader_of guard.place.me.0)
+    ghost gives = { λ reader guard. IsLater L.reaches L.lawful (reader_of reader.place.me.0) (reader_of guard.place.me.0)
         × (guard.place.table_id ≡ reader.place.table_id) };
 
-    fn climb<C: Ledger>(self, steps: &mut Steps<C>) -> Guarded<OFFSET_BITS, L> {
+    fn run_counted<C: Ledger>(self, steps: &mut Steps<C>) -> Guarded<OFFSET_BITS, L> {
         self.guard(steps)
     }
+}
+
+/// Returns a guard of the last commit. The blank is for the count of the tries.
+fn guard_of<const OFFSET_BITS: u32, L: Layout>(reader: Reader<OFFSET_BITS, L>) -> Guarded<OFFSET_BITS, L>
+    ensures later { IsLater L.reaches L.lawful (reader_of reader.place.me.0) (reader_of result.place.me.0) }
+    ensures table { result.place.table_id ≡ reader.place.table_id }
+{
+    run_with_count::<Reader<OFFSET_BITS, L>, Brand>(reader, Blank::new(1))
 }
 
 /// Returns the guard of the next round: a new one, or one of the last commit under the hold of the round before.
@@ -63,7 +71,7 @@ fn next_guard<const OFFSET_BITS: u32, L: Layout>(
     ensures table { result.place.table_id ≡ table_at post }
 {
     match post {
-        Post::Idle(reader) => climbed::<Reader<OFFSET_BITS, L>, Brand>(reader, Blank::new(1)),
+        Post::Idle(reader) => guard_of(reader),
         Post::Under(guard) => guard.again(),
     }
 }
@@ -104,7 +112,7 @@ fn ends_hold(round: u32, last: u32) -> bool {
 fn one_round<const OFFSET_BITS: u32, L: Layout, Q: Question<OFFSET_BITS, L>, G: Gate>(
     alloc: Global,
     post: Post<OFFSET_BITS, L>,
-    number: u32,
+    reader_number: u32,
     last: u32,
     question: &Q,
     gate: &G,
@@ -120,7 +128,7 @@ fn one_round<const OFFSET_BITS: u32, L: Layout, Q: Question<OFFSET_BITS, L>, G: 
 {
     let round = rounds.len() as u32 + 1;
     gate.pass(Point::RoundStart {
-        reader: number,
+        reader: reader_number,
         round,
     });
     let mut guard = next_guard(post);
@@ -131,7 +139,7 @@ fn one_round<const OFFSET_BITS: u32, L: Layout, Q: Question<OFFSET_BITS, L>, G: 
     let ends = answer.is_err() || ends_hold(round, last);
     let post = post_after(guard, ends);
     gate.pass(Point::RoundEnd {
-        reader: number,
+        reader: reader_number,
         round,
         operations,
     });
@@ -155,7 +163,7 @@ fn one_round<const OFFSET_BITS: u32, L: Layout, Q: Question<OFFSET_BITS, L>, G: 
 pub fn go_round<const OFFSET_BITS: u32, L: Layout, Q: Question<OFFSET_BITS, L>, G: Gate>(
     alloc: Global,
     reader: Reader<OFFSET_BITS, L>,
-    number: u32,
+    reader_number: u32,
     count: u32,
     question: &Q,
     gate: &G,
@@ -169,7 +177,7 @@ pub fn go_round<const OFFSET_BITS: u32, L: Layout, Q: Question<OFFSET_BITS, L>, 
     let mut post = Post::Idle(reader);
     let mut rounds = Vec::new(alloc);
     for _ in 0..count {
-        post = one_round(alloc, post, number, count, question, gate, &mut rounds)?;
+        post = one_round(alloc, post, reader_number, count, question, gate, &mut rounds)?;
     }
     let reader = let_go(post);
     Ok(Reading { reader, rounds })

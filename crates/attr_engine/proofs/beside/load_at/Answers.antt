@@ -13,7 +13,7 @@ run_loading-requires-after_bounds g c κs within = (
       (
         c.requires.others,
         (
-          c.requires.aside,
+          c.requires.saver,
           commits_left _ c.args.fields.now c.args.writer.place.table_id (writer_of c.args.writer.place.me.0) c.in_ok-attribute.attribute c.args.ops.now
               c.in_ok-attribute.ensures.start c.requires.new c.in_ok-attribute.ensures.work c.requires.few,
         ),
@@ -45,5 +45,5 @@ returns-clause-made g c =
 pub returns-clause-others : goal.returns-clause-others
 returns-clause-others g c = c.in_ok-attribute-2.ensures.others
 
-pub returns-clause-aside : goal.returns-clause-aside
-returns-clause-aside g c = c.in_ok-attribute-2.ensures.aside
+pub returns-clause-saver : goal.returns-clause-saver
+returns-clause-saver g c = c.in_ok-attribute-2.ensures.saver

@@ -10,5 +10,5 @@ returns-in-Ok-clause-loads g c =
 pub returns-in-Ok-clause-others : goal.returns-in-Ok-clause-others
 returns-in-Ok-clause-others g c = c.in_ok-given.ensures.others
 
-pub returns-in-Ok-clause-aside : goal.returns-in-Ok-clause-aside
-returns-in-Ok-clause-aside g c = c.in_ok-given.ensures.aside
+pub returns-in-Ok-clause-saver : goal.returns-in-Ok-clause-saver
+returns-in-Ok-clause-saver g c = c.in_ok-given.ensures.saver

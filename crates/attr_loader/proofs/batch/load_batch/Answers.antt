@@ -26,5 +26,5 @@ returns-in-Full-clause-loads g c =
 pub returns-in-Full-clause-room : goal.returns-in-Full-clause-room
 returns-in-Full-clause-room g c =
     let ledger = g.S.Store.ledger in
-    room_full ledger c.args.attribute.now c.apply_all.new.attribute c.args.ops.now c.in-Full.before c.in-Full.active c.in-Full.held
+    room_full ledger c.args.attribute.now c.apply_all.new.attribute c.args.ops.now c.in-Full.refused c.in-Full.active c.in-Full.held
     (subst (AppliesRoom ledger c.args.attribute.now c.apply_all.new.attribute c.args.ops.now) c.in-Full.is c.in_ok-skipped.ensures.room)

@@ -83,10 +83,10 @@ returns-in-Full-clause-loads g c =
     let below : c.loop-rest.operations < length c.args.ops.now = omega (arith, some, long) in
     let new = c.load_batch.new.attribute in
     let owed = λ (off : c.args.attribute.now.dense ≡ false) (one : length c.args.attribute.now.fields ≡ 1) (nothing : HasMadeNothing (ledger c.args.attribute.now.store)).
-    owed_at ledger c.args.batch c.args.ops.now c.args.attribute.now c.loop-rest.attribute new c.loop-rest.operations (i.room one nothing) part c.in-Full.before c.in-Full.active c.in-Full.held
+    owed_at ledger c.args.batch c.args.ops.now c.args.attribute.now c.loop-rest.attribute new c.loop-rest.operations (i.room one nothing) part c.in-Full.refused c.in-Full.active c.in-Full.held
     i.stands.stays.fields i.stands.table
     (front_of ledger c.args.batch c.args.ops.now c.args.attribute.now c.loop-rest.attribute c.loop-rest.operations c.loop-rest.skipped i.stands c.loop-rest.rest.now part i.rest part_is below
-    c.in-Full.before full.most)
+    c.in-Full.refused full.most)
     (subst (LoadsRoom ledger c.loop-rest.attribute new part) c.in-Full.is c.in_ok-more.ensures.room) c.requires.some below
     (full.keeps.stays.fields ∙ i.stands.stays.fields) (full.keeps.stays.dense ∙ i.stands.stays.dense ∙ off) (full.keeps.stays.sizes ∙ i.stands.stays.sizes) full.full.free
     (g.met.S.Store.limits new.store).some_words (g.met.S.Store.counted new.store) (g.met.S.Store.few_buffers new.store) in
@@ -96,16 +96,16 @@ returns-in-Full-clause-loads g c =
     let first = full.some in
     let most = full.most in
     let size = part-long ledger c.args.batch c.args.ops.now c.args.attribute.now c.loop-rest.attribute c.loop-rest.operations c.loop-rest.skipped i.stands c.loop-rest.rest.now part i.rest part_is below in
-    let fits = length-take c.in-Full.before part in
-    never_full ledger c.args.batch c.args.ops.now c.args.attribute.now c.loop-rest.attribute c.loop-rest.operations (i.small one nothing plan is below) part c.in-Full.before
+    let fits = length-take c.in-Full.refused part in
+    never_full ledger c.args.batch c.args.ops.now c.args.attribute.now c.loop-rest.attribute c.loop-rest.operations (i.small one nothing plan is below) part c.in-Full.refused
     (omega (arith, fits, most)) (omega (arith, first)) (omega (arith, size, most, below)) i.stands.stays.fields i.stands.table
     (front_of ledger c.args.batch c.args.ops.now c.args.attribute.now c.loop-rest.attribute c.loop-rest.operations c.loop-rest.skipped i.stands c.loop-rest.rest.now part i.rest part_is below
-    c.in-Full.before full.most)
+    c.in-Full.refused full.most)
     new (subst (LoadsRoom ledger c.loop-rest.attribute new part) c.in-Full.is c.in_ok-more.ensures.room)
     (full.keeps.stays.fields ∙ i.stands.stays.fields) (full.keeps.stays.sizes ∙ i.stands.stays.sizes) (g.met.S.Store.limits new.store).some_words full.full.free
     (g.met.S.Store.counted new.store) (g.met.S.Store.few_buffers new.store) many is in
     finds_no_room ledger c.args.batch c.args.ops.now c.args.attribute.now c.loop-rest.attribute c.loop-rest.operations c.loop-rest.skipped i.stands
-    c.loop-rest.rest.now part i.rest part_is below new c.in-Full.before c.in-Full.active c.in-Full.held c.requires.some full owed small (g.met.S.Store.timely new.store)
+    c.loop-rest.rest.now part i.rest part_is below new c.in-Full.refused c.in-Full.active c.in-Full.held c.requires.some full owed small (g.met.S.Store.timely new.store)
 
 pub returns-clause-loads : goal.returns-clause-loads
 returns-clause-loads g c =

@@ -6,22 +6,22 @@ use std::sync::ledger::{Blank, Ledger};
 use word_arena::Steps;
 
 /// A result that takes counted steps.
-pub(crate) trait Climb {
+pub(crate) trait CountedSteps {
     type Output;
 
-    ghost climbs_to: { Self → Self.Output → Type 0 };
+    ghost gives: { Self → Self.Output → Type 0 };
 
-    fn climb<C: Ledger>(self, steps: &mut Steps<C>) -> Self::Output
-        ensures { climbs_to self result };
+    fn run_counted<C: Ledger>(self, steps: &mut Steps<C>) -> Self::Output
+        ensures { gives self result };
 }
 
 /// Returns the result, with a count that begins at 0.
-pub(crate) fn climbed<T: Climb, C: Ledger>(it: T, blank: Blank) -> T::Output
+pub(crate) fn run_with_count<T: CountedSteps, C: Ledger>(it: T, blank: Blank) -> T::Output
     requires name { blank.name ≡ C.name }
     requires parts { blank.parts ≡ C.parts }
     requires some { 0 < C.parts }
-    ensures { T.climbs_to it result }
+    ensures { T.gives it result }
 {
     let mut steps = Steps::<C>::new(blank);
-    it.climb(&mut steps)
+    it.run_counted(&mut steps)
 }

@@ -1,7 +1,7 @@
-//! A task with others of one kind beside it, and one of another kind.
+//! A task with others of one kind beside it, and one of another kind: the loading with readers and a saver.
 ghost use Rattle.std.specs.Prelude.{IfOk, IfSome, All};
 ghost use Rattle.std.specs.List.{AllZip};
-ghost use Rattle.attr_engine.specs.Saver.{GivesAside};
+ghost use Rattle.attr_engine.specs.Saver.{GivesIfAny};
 ghost use denote.Param.Send.{IsSync, IsSend};
 
 use attr_io::{Task, run_beside};
@@ -9,7 +9,7 @@ use std::alloc::{AllocError, Global};
 use std::thread::{Threads, join};
 
 /// A task on the caller's own thread, beside others of one kind and one of another kind, each in a thread.
-fn run_aside<
+fn run_beside_saver<
     R: Threads + Sync,
     S: Task<Output = A> + Drop,
     T: Task<Output = B> + Send + Drop,
@@ -17,20 +17,20 @@ fn run_aside<
     A: Drop,
     B: Send + Drop,
     C: Send + Drop,
->(rt: &R, alloc: Global, first: S, others: Vec<T>, aside: U) -> (C, Result<(A, Vec<B>), AllocError>)
+>(rt: &R, alloc: Global, first: S, others: Vec<T>, saver: U) -> (C, Result<(A, Vec<B>), AllocError>)
     requires first { S.can_run first }
     requires others { All T.can_run others.items }
-    requires aside { U.can_run aside }
+    requires saver { U.can_run saver }
     ensures first { IfOk result.1 (λ r. S.run_gives first r.0) }
     ensures others { IfOk result.1 (λ r. AllZip T.run_gives others.items r.1.items) }
-    ensures aside { U.run_gives aside result.0 }
+    ensures saver { U.run_gives saver result.0 }
 {
     join(
         rt,
         move || -> C
-            requires { U.can_run aside }
-            ensures { U.run_gives aside result }
-        { aside.run() },
+            requires { U.can_run saver }
+            ensures { U.run_gives saver result }
+        { saver.run() },
         move || -> Result<(A, Vec<B>), AllocError>
             requires { IsSync R.row × IsSend T.row × IsSend B.row × S.can_run first × All T.can_run others.items }
             ensures { IfOk result (λ r. S.run_gives first r.0 × AllZip T.run_gives others.items r.1.items) }
@@ -39,7 +39,7 @@ fn run_aside<
 }
 
 /// A task on the caller's own thread, beside others of one kind, and one of another kind where there is one.
-pub fn run_with<
+pub fn run_with_saver<
     R: Threads + Sync,
     S: Task<Output = A> + Drop,
     T: Task<Output = B> + Send + Drop,
@@ -52,18 +52,18 @@ pub fn run_with<
     alloc: Global,
     first: S,
     others: Vec<T>,
-    aside: Option<U>,
+    saver: Option<U>,
 ) -> Result<(A, Vec<B>, Option<C>), AllocError>
     requires first { S.can_run first }
     requires others { All T.can_run others.items }
-    requires aside { IfSome aside U.can_run }
+    requires saver { IfSome saver U.can_run }
     ensures first { IfOk result (λ r. S.run_gives first r.0) }
     ensures others { IfOk result (λ r. AllZip T.run_gives others.items r.1.items) }
-    ensures aside { IfOk result (λ r. GivesAside U.run_gives aside r.2) }
+    ensures saver { IfOk result (λ r. GivesIfAny U.run_gives saver r.2) }
 {
-    match aside {
+    match saver {
         Some(task) => {
-            let (side, came) = run_aside(rt, alloc, first, others, task);
+            let (side, came) = run_beside_saver(rt, alloc, first, others, task);
             let (given, gives) = came?;
             Ok((given, gives, Some(side)))
         }

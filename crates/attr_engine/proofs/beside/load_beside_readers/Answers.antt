@@ -3,9 +3,9 @@ use Rattle.std.proofs.Common.{◌∙◌, ap}
 use Rattle.std.proofs.lemmas.Option.{IfSome_then}
 use Rattle.word_arena.specs.Ruled.{writer_of}
 use Rattle.attr_engine.proofs.JobLemmas.{all_given, all_numbered}
-use Rattle.attr_engine.proofs.SaverLemmas.{aside_some, aside_each, reader_kept, saved_by, GivesSave, IsSaver, SavedBy}
+use Rattle.attr_engine.proofs.SaverLemmas.{any_some, any_each, reader_kept, saved_by, GivesSave, IsSaver, SavedBy}
 use Rattle.word_arena.specs.Ruled.{reader_of}
-use Rattle.attr_engine.proofs.beside.load_beside.Goals as goal
+use Rattle.attr_engine.proofs.beside.load_beside_readers.Goals as goal
 
 pub returns-clause-count : goal.returns-clause-count
 returns-clause-count g c =
@@ -36,7 +36,7 @@ pub load_at-requires-lives-U-Destruct : goal.load_at-requires-lives-U-Destruct
 load_at-requires-lives-U-Destruct g c κs within = λ a member. ⊑_static _ a (c.type_bounds.static-G a member)
 
 pub returns-clause-asked : goal.returns-clause-asked
-returns-clause-asked g c = aside_some _ c.saver_of-saver.result c.in_ok-writer.saving c.in_ok-writer.ensures.aside ∙ c.saver_of-saver.ensures.asked
+returns-clause-asked g c = any_some _ c.saver_of-saver.result c.in_ok-writer.saving c.in_ok-writer.ensures.saver ∙ c.saver_of-saver.ensures.asked
 
 pub returns-clause-saving : goal.returns-clause-saving
 returns-clause-saving g c =
@@ -46,8 +46,8 @@ returns-clause-saving g c =
     let field = c.args.saving.now.field.now in
     let bits = g.row.OFFSET_BITS in
     let G = g.row.G.Denot in
-    aside_each (GivesSave bits G field w home) (IsSaver bits G field w home) (SavedBy bits G field w home) (saved_by bits G field w home)
-    c.saver_of-saver.result c.in_ok-writer.saving c.in_ok-writer.ensures.aside
+    any_each (GivesSave bits G field w home) (IsSaver bits G field w home) (SavedBy bits G field w home) (saved_by bits G field w home)
+    c.saver_of-saver.result c.in_ok-writer.saving c.in_ok-writer.ensures.saver
     (IfSome_then c.saver_of-saver.result c.saver_of-saver.ensures.saver
     (λ saver is. (
       reader_kept w v home c.jobs_of.new.writer.place.table_id (reader_of saver.reader.place.me.0) saver.reader.place.table_id c.in_ok-jobs.ensures.keeps c.in_ok-jobs.ensures.table is.0,
