@@ -1,5 +1,5 @@
 -- How a change of a list changes a store.
-use Rattle.std.specs.Prelude.{◌≡◌, ◌⊎◌, ℕ, ℤ, ◌+◌, ◌*◌, ◌<◌, Bool, true, false, nat_eq, nat_le, if◌then◌else◌, List, [], ◌∷◌, length}
+use Rattle.std.specs.Prelude.{◌≡◌, ◌⊎◌, ◌||◌, ℕ, ℤ, ◌+◌, ◌*◌, ◌<◌, Bool, true, false, nat_eq, nat_le, if◌then◌else◌, List, [], ◌∷◌, length}
 use Rattle.std.specs.Map.{keys_of}
 use Rattle.entry_ref.specs.Records.{Records}
 use Rattle.store_api.specs.Ledgers.{Ledger}
@@ -13,7 +13,7 @@ use Rattle.image_format.specs.Words.{class_of}
 use Rattle.bit_vector.specs.Changes.{vector_most, IsVectorWidth}
 use Rattle.bit_vector.specs.Vectors.{count_blocks}
 use Rattle.posting_store.specs.Keeps.{FlowsList}
-use Rattle.posting_store.specs.Lists.{list_at, list_reach, is_vector, IsList}
+use Rattle.posting_store.specs.Lists.{list_at, list_levels, list_reach, is_vector, IsList}
 use Rattle.posting_store.specs.ProofsForLists.{list_reach-same}
 
 -- a list as a part: it owns its records
@@ -55,6 +55,14 @@ list_change_most true false levels docs width =
     if nat_le (length docs) MOST_SHORT then list_most levels (length docs) width
     else vector_most 1 (2 * levels + 1 + nodes_of (length docs)) width
 
+-- for a list that then has these documents and keeps its form
+abbrev pub same_form_most : Records → ℕ → List (ℕ × ℤ) → ℕ → ℕ
+same_form_most m word docs = list_change_most (is_vector word) (is_vector word) (list_levels m word) docs
+
+-- for a list that then has these documents and the form of the rule
+abbrev pub rule_most : Records → ℕ → Bool → ℕ → List (ℕ × ℤ) → ℕ → ℕ
+rule_most m word dense documents docs = list_change_most (is_vector word) (is_dense dense (length docs) documents) (list_levels m word) docs
+
 -- for a list with these documents whose form alone changes
 abbrev pub form_most : Bool → Bool → List (ℕ × ℤ) → ℕ → ℕ
 form_most false true docs width = vector_most (count_blocks (keys_of docs)) (nodes_of (count_blocks (keys_of docs))) width
@@ -90,3 +98,10 @@ IsFormWidth true true width = ⊥
 abbrev pub IsListChangeWidth : Bool → ℕ → ℕ → Type 0
 IsListChangeWidth false count width = IsListWidth count width
 IsListChangeWidth true count width = IsListWidth count width ⊎ IsLongWidth count width
+
+-- the same of a list that keeps its form, and of one that gets the form of the rule
+abbrev pub IsSameFormWidth : ℕ → List (ℕ × ℤ) → ℕ → Type 0
+IsSameFormWidth word docs = IsListChangeWidth (is_vector word) (length docs)
+
+abbrev pub IsRuleWidth : ℕ → Bool → ℕ → List (ℕ × ℤ) → ℕ → Type 0
+IsRuleWidth word dense documents docs = IsListChangeWidth (is_vector word || is_dense dense (length docs) documents) (length docs)

@@ -1,8 +1,9 @@
 -- A list of documents with weights, by the word that a dictionary stores for it: 0 is the empty list.
 use Rattle.std.specs.Prelude.{◌≡◌, ℕ, zero, suc, ℤ, pos, ◌<◌, Bool, nat_le, List, []}
+use Rattle.std.specs.BTreeMap.{insert_entry, is_at}
 use Rattle.std.specs.List.{AllByRecursion}
 use Rattle.std.specs.List.Sorted.{IsStrictlySortedBy}
-use Rattle.std.specs.Map.{keys_of}
+use Rattle.std.specs.Map.{keys_of, remove_entry}
 use Rattle.std.specs.Ordering.{nat_cmp}
 use Rattle.entry_ref.specs.Records.{Records}
 use Rattle.frozen_btree.specs.Changes.{levels}
@@ -14,6 +15,14 @@ use Rattle.image_format.specs.Postings.{ListForm, short, tree, vector, list_form
 abbrev pub list_at : Records → ℕ → List (ℕ × ℤ)
 list_at m zero = []
 list_at m (suc word) = postings_at m (list_form (suc word))
+
+-- the documents of a list with one more, or with another weight for it
+abbrev pub with_document : Records → ℕ → ℕ → ℤ → List (ℕ × ℤ)
+with_document m word doc weight = insert_entry nat_cmp (list_at m word) doc weight
+
+-- the documents of a list but one
+abbrev pub without_document : Records → ℕ → ℕ → List (ℕ × ℤ)
+without_document m word doc = remove_entry (is_at (nat_cmp doc)) (list_at m word)
 
 -- the references of its records
 abbrev pub list_reach : Records → ℕ → List ℕ

@@ -1,15 +1,12 @@
 //! Adds a document to a posting list.
 
-ghost use Rattle.std.specs.Prelude.{◌≡◌, ◌%◌, ◌∷◌, [], ◌||◌, pos, true, false, length, IfOk, IfErr};
-ghost use Rattle.std.specs.BTreeMap.{insert_entry};
-ghost use Rattle.std.specs.Ordering.{nat_cmp};
+ghost use Rattle.std.specs.Prelude.{◌≡◌, ◌%◌, ◌∷◌, [], pos, true, false, length, IfOk, IfErr};
 ghost use Rattle.store_api.specs.Calls.{RefusesOf};
 ghost use Rattle.store_api.specs.Parts.{Owns};
 ghost use Rattle.store_api.specs.Units.{MayDo, MakesWithin};
-ghost use Rattle.image_format.specs.Postings.{is_dense};
-ghost use Rattle.posting_store.specs.Lists.{list_at, list_levels, is_vector, AreOnes, IsList, IsPlain};
-ghost use Rattle.posting_store.specs.Changes.{list_part, list_most, list_change_most, IsListWidth, IsListChangeWidth};
-ghost use Rattle.posting_store.specs.Changes.{MakesByRule, MakesList};
+ghost use Rattle.posting_store.specs.Lists.{list_at, list_levels, is_vector, with_document, AreOnes, IsList, IsPlain};
+ghost use Rattle.posting_store.specs.Changes.{list_part, list_most, list_change_most, rule_most, same_form_most};
+ghost use Rattle.posting_store.specs.Changes.{IsListChangeWidth, IsListWidth, IsRuleWidth, IsSameFormWidth, MakesByRule, MakesList};
 
 use crate::forming::by_rule;
 use crate::items::{items_of, number_law, put_item};
@@ -34,11 +31,11 @@ fn add_to_tree<const OFFSET_BITS: u32, S: Store<OFFSET_BITS>>(
     requires tree { list % 2 ≡ 1 }
     requires owns { Owns (S.ledger store.old) (S.records store.old) (list_part list ∷ []) }
     ensures makes { IfOk result (MakesList (S.ledger store.old) (S.ledger store.new) (S.records store.old) (S.records store.new)
-        list (insert_entry nat_cmp (list_at (S.records store.old) list) doc weight) false) }
+        list (with_document (S.records store.old) list doc weight) false) }
     ensures counts { MakesWithin (S.ledger store.old) (S.ledger store.new) (list_most (list_levels (S.records store.old) list)
-        (length (insert_entry nat_cmp (list_at (S.records store.old) list) doc weight))) }
+        (length (with_document (S.records store.old) list doc weight))) }
     ensures refuses { IfErr result (RefusesOf
-        (IsListWidth (length (insert_entry nat_cmp (list_at (S.records store.old) list) doc weight)))
+        (IsListWidth (length (with_document (S.records store.old) list doc weight)))
         (S.ledger store.old) (S.ledger store.new)) }
     ensures may { MayDo (S.ledger store.old) (S.ledger store.new) }
 {
@@ -61,11 +58,11 @@ fn add_to_short<const OFFSET_BITS: u32, S: Store<OFFSET_BITS>>(
     requires short { list % 2 ≡ 0 }
     requires owns { Owns (S.ledger store.old) (S.records store.old) (list_part list ∷ []) }
     ensures makes { IfOk result (MakesList (S.ledger store.old) (S.ledger store.new) (S.records store.old) (S.records store.new)
-        list (insert_entry nat_cmp (list_at (S.records store.old) list) doc weight) false) }
+        list (with_document (S.records store.old) list doc weight) false) }
     ensures counts { MakesWithin (S.ledger store.old) (S.ledger store.new) (list_most (list_levels (S.records store.old) list)
-        (length (insert_entry nat_cmp (list_at (S.records store.old) list) doc weight))) }
+        (length (with_document (S.records store.old) list doc weight))) }
     ensures refuses { IfErr result (RefusesOf
-        (IsListWidth (length (insert_entry nat_cmp (list_at (S.records store.old) list) doc weight)))
+        (IsListWidth (length (with_document (S.records store.old) list doc weight)))
         (S.ledger store.old) (S.ledger store.new)) }
     ensures may { MayDo (S.ledger store.old) (S.ledger store.new) }
 {
@@ -87,11 +84,11 @@ fn add_to_plain<const OFFSET_BITS: u32, S: Store<OFFSET_BITS>>(
     requires plain { IsPlain list }
     requires owns { Owns (S.ledger store.old) (S.records store.old) (list_part list ∷ []) }
     ensures makes { IfOk result (MakesList (S.ledger store.old) (S.ledger store.new) (S.records store.old) (S.records store.new)
-        list (insert_entry nat_cmp (list_at (S.records store.old) list) doc weight) false) }
+        list (with_document (S.records store.old) list doc weight) false) }
     ensures counts { MakesWithin (S.ledger store.old) (S.ledger store.new) (list_most (list_levels (S.records store.old) list)
-        (length (insert_entry nat_cmp (list_at (S.records store.old) list) doc weight))) }
+        (length (with_document (S.records store.old) list doc weight))) }
     ensures refuses { IfErr result (RefusesOf
-        (IsListWidth (length (insert_entry nat_cmp (list_at (S.records store.old) list) doc weight)))
+        (IsListWidth (length (with_document (S.records store.old) list doc weight)))
         (S.ledger store.old) (S.ledger store.new)) }
     ensures may { MayDo (S.ledger store.old) (S.ledger store.new) }
 {
@@ -113,12 +110,12 @@ fn add_to_vector<const OFFSET_BITS: u32, S: Store<OFFSET_BITS>>(
     requires vector { is_vector list ≡ true }
     requires owns { Owns (S.ledger store.old) (S.records store.old) (list_part list ∷ []) }
     ensures makes { IfOk result (MakesList (S.ledger store.old) (S.ledger store.new) (S.records store.old) (S.records store.new)
-        list (insert_entry nat_cmp (list_at (S.records store.old) list) doc (pos 1)) true) }
+        list (with_document (S.records store.old) list doc (pos 1)) true) }
     ensures counts { MakesWithin (S.ledger store.old) (S.ledger store.new)
         (list_change_most true true (list_levels (S.records store.old) list)
-        (insert_entry nat_cmp (list_at (S.records store.old) list) doc (pos 1))) }
+        (with_document (S.records store.old) list doc (pos 1))) }
     ensures refuses { IfErr result (RefusesOf
-        (IsListChangeWidth true (length (insert_entry nat_cmp (list_at (S.records store.old) list) doc (pos 1))))
+        (IsListChangeWidth true (length (with_document (S.records store.old) list doc (pos 1))))
         (S.ledger store.old) (S.ledger store.new)) }
     ensures may { MayDo (S.ledger store.old) (S.ledger store.new) }
 {
@@ -141,12 +138,11 @@ fn add_in_form<const OFFSET_BITS: u32, S: Store<OFFSET_BITS>>(
     requires one { is_vector list ≡ true → weight ≡ pos 1 }
     requires owns { Owns (S.ledger store.old) (S.records store.old) (list_part list ∷ []) }
     ensures makes { IfOk result (MakesList (S.ledger store.old) (S.ledger store.new) (S.records store.old) (S.records store.new)
-        list (insert_entry nat_cmp (list_at (S.records store.old) list) doc weight) (is_vector list)) }
+        list (with_document (S.records store.old) list doc weight) (is_vector list)) }
     ensures counts { MakesWithin (S.ledger store.old) (S.ledger store.new)
-        (list_change_most (is_vector list) (is_vector list) (list_levels (S.records store.old) list)
-        (insert_entry nat_cmp (list_at (S.records store.old) list) doc weight)) }
+        (same_form_most (S.records store.old) list (with_document (S.records store.old) list doc weight)) }
     ensures refuses { IfErr result (RefusesOf
-        (IsListChangeWidth (is_vector list) (length (insert_entry nat_cmp (list_at (S.records store.old) list) doc weight)))
+        (IsSameFormWidth list (with_document (S.records store.old) list doc weight))
         (S.ledger store.old) (S.ledger store.new)) }
     ensures may { MayDo (S.ledger store.old) (S.ledger store.new) }
 {
@@ -174,13 +170,11 @@ pub fn add<const OFFSET_BITS: u32, S: Store<OFFSET_BITS>>(
     requires ones { dense ≡ true → AreOnes (list_at (S.records store.old) list) × (weight ≡ pos 1) }
     requires owns { Owns (S.ledger store.old) (S.records store.old) (list_part list ∷ []) }
     ensures makes { IfOk result (MakesByRule dense documents (S.ledger store.old) (S.ledger store.new) (S.records store.old)
-        (S.records store.new) list (insert_entry nat_cmp (list_at (S.records store.old) list) doc weight)) }
-    ensures counts { MakesWithin (S.ledger store.old) (S.ledger store.new) (list_change_most (is_vector list)
-        (is_dense dense (length (insert_entry nat_cmp (list_at (S.records store.old) list) doc weight)) documents)
-        (list_levels (S.records store.old) list) (insert_entry nat_cmp (list_at (S.records store.old) list) doc weight)) }
-    ensures refuses { IfErr result (RefusesOf (IsListChangeWidth (is_vector list
-        || is_dense dense (length (insert_entry nat_cmp (list_at (S.records store.old) list) doc weight)) documents)
-        (length (insert_entry nat_cmp (list_at (S.records store.old) list) doc weight))) (S.ledger store.old) (S.ledger store.new)) }
+        (S.records store.new) list (with_document (S.records store.old) list doc weight)) }
+    ensures counts { MakesWithin (S.ledger store.old) (S.ledger store.new)
+        (rule_most (S.records store.old) list dense documents (with_document (S.records store.old) list doc weight)) }
+    ensures refuses { IfErr result (RefusesOf (IsRuleWidth list dense documents (with_document (S.records store.old) list doc weight))
+        (S.ledger store.old) (S.ledger store.new)) }
     ensures may { MayDo (S.ledger store.old) (S.ledger store.new) }
 {
     let next = add_in_form(store, list, doc, weight)?;

@@ -1,16 +1,15 @@
 //! Removes a document from a posting list.
 
-ghost use Rattle.std.specs.Prelude.{◌≡◌, ◌<◌, ◌≤◌, ◌∷◌, [], ◌||◌, true, false, length, IsSome, IfOk, IfErr};
+ghost use Rattle.std.specs.Prelude.{◌≡◌, ◌<◌, ◌≤◌, ◌∷◌, [], true, false, length, IsSome, IfOk, IfErr};
 ghost use Rattle.std.specs.BTreeMap.{is_at};
-ghost use Rattle.std.specs.Map.{lookup, remove_entry};
+ghost use Rattle.std.specs.Map.{lookup};
 ghost use Rattle.std.specs.Ordering.{nat_cmp};
 ghost use Rattle.store_api.specs.Calls.{RefusesOf};
 ghost use Rattle.store_api.specs.Parts.{Owns};
 ghost use Rattle.store_api.specs.Units.{MayDo, MakesWithin};
-ghost use Rattle.image_format.specs.Postings.{is_dense};
-ghost use Rattle.posting_store.specs.Lists.{list_at, list_levels, is_vector, AreOnes, IsList, IsPlain};
-ghost use Rattle.posting_store.specs.Changes.{list_part, list_most, list_change_most, IsListWidth, IsListChangeWidth};
-ghost use Rattle.posting_store.specs.Changes.{MakesByRule, MakesList};
+ghost use Rattle.posting_store.specs.Lists.{list_at, list_levels, is_vector, without_document, AreOnes, IsList, IsPlain};
+ghost use Rattle.posting_store.specs.Changes.{list_part, list_most, list_change_most, rule_most, same_form_most};
+ghost use Rattle.posting_store.specs.Changes.{IsListChangeWidth, IsListWidth, IsRuleWidth, IsSameFormWidth, MakesByRule, MakesList};
 
 use crate::cursor::has_at_least;
 use crate::forming::by_rule;
@@ -36,11 +35,11 @@ fn remove_from_tree<const OFFSET_BITS: u32, S: Store<OFFSET_BITS>>(
     requires there { IsSome (lookup (is_at (nat_cmp doc)) (list_at (S.records store.old) list)) }
     requires owns { Owns (S.ledger store.old) (S.records store.old) (list_part list ∷ []) }
     ensures makes { IfOk result (MakesList (S.ledger store.old) (S.ledger store.new) (S.records store.old) (S.records store.new)
-        list (remove_entry (is_at (nat_cmp doc)) (list_at (S.records store.old) list)) false) }
+        list (without_document (S.records store.old) list doc) false) }
     ensures counts { MakesWithin (S.ledger store.old) (S.ledger store.new) (list_most (list_levels (S.records store.old) list)
-        (length (remove_entry (is_at (nat_cmp doc)) (list_at (S.records store.old) list)))) }
+        (length (without_document (S.records store.old) list doc))) }
     ensures refuses { IfErr result (RefusesOf
-        (IsListWidth (length (remove_entry (is_at (nat_cmp doc)) (list_at (S.records store.old) list))))
+        (IsListWidth (length (without_document (S.records store.old) list doc)))
         (S.ledger store.old) (S.ledger store.new)) }
     ensures may { MayDo (S.ledger store.old) (S.ledger store.new) }
 {
@@ -61,12 +60,12 @@ fn remove_from_vector<const OFFSET_BITS: u32, S: Store<OFFSET_BITS>>(
     requires there { IsSome (lookup (is_at (nat_cmp doc)) (list_at (S.records store.old) list)) }
     requires owns { Owns (S.ledger store.old) (S.records store.old) (list_part list ∷ []) }
     ensures makes { IfOk result (MakesList (S.ledger store.old) (S.ledger store.new) (S.records store.old) (S.records store.new)
-        list (remove_entry (is_at (nat_cmp doc)) (list_at (S.records store.old) list)) true) }
+        list (without_document (S.records store.old) list doc) true) }
     ensures counts { MakesWithin (S.ledger store.old) (S.ledger store.new)
         (list_change_most true true (list_levels (S.records store.old) list)
-        (remove_entry (is_at (nat_cmp doc)) (list_at (S.records store.old) list))) }
+        (without_document (S.records store.old) list doc)) }
     ensures refuses { IfErr result (RefusesOf
-        (IsListChangeWidth true (length (remove_entry (is_at (nat_cmp doc)) (list_at (S.records store.old) list))))
+        (IsListChangeWidth true (length (without_document (S.records store.old) list doc)))
         (S.ledger store.old) (S.ledger store.new)) }
     ensures may { MayDo (S.ledger store.old) (S.ledger store.new) }
 {
@@ -87,12 +86,11 @@ fn remove_in_form<const OFFSET_BITS: u32, S: Store<OFFSET_BITS>>(
     requires there { IsSome (lookup (is_at (nat_cmp doc)) (list_at (S.records store.old) list)) }
     requires owns { Owns (S.ledger store.old) (S.records store.old) (list_part list ∷ []) }
     ensures makes { IfOk result (MakesList (S.ledger store.old) (S.ledger store.new) (S.records store.old) (S.records store.new)
-        list (remove_entry (is_at (nat_cmp doc)) (list_at (S.records store.old) list)) (is_vector list)) }
+        list (without_document (S.records store.old) list doc) (is_vector list)) }
     ensures counts { MakesWithin (S.ledger store.old) (S.ledger store.new)
-        (list_change_most (is_vector list) (is_vector list) (list_levels (S.records store.old) list)
-        (remove_entry (is_at (nat_cmp doc)) (list_at (S.records store.old) list))) }
+        (same_form_most (S.records store.old) list (without_document (S.records store.old) list doc)) }
     ensures refuses { IfErr result (RefusesOf
-        (IsListChangeWidth (is_vector list) (length (remove_entry (is_at (nat_cmp doc)) (list_at (S.records store.old) list))))
+        (IsSameFormWidth list (without_document (S.records store.old) list doc))
         (S.ledger store.old) (S.ledger store.new)) }
     ensures may { MayDo (S.ledger store.old) (S.ledger store.new) }
 {
@@ -120,13 +118,11 @@ fn remove_from_long<const OFFSET_BITS: u32, S: Store<OFFSET_BITS>>(
     requires there { IsSome (lookup (is_at (nat_cmp doc)) (list_at (S.records store.old) list)) }
     requires owns { Owns (S.ledger store.old) (S.records store.old) (list_part list ∷ []) }
     ensures makes { IfOk result (MakesByRule dense documents (S.ledger store.old) (S.ledger store.new) (S.records store.old)
-        (S.records store.new) list (remove_entry (is_at (nat_cmp doc)) (list_at (S.records store.old) list))) }
-    ensures counts { MakesWithin (S.ledger store.old) (S.ledger store.new) (list_change_most (is_vector list)
-        (is_dense dense (length (remove_entry (is_at (nat_cmp doc)) (list_at (S.records store.old) list))) documents)
-        (list_levels (S.records store.old) list) (remove_entry (is_at (nat_cmp doc)) (list_at (S.records store.old) list))) }
-    ensures refuses { IfErr result (RefusesOf (IsListChangeWidth (is_vector list
-        || is_dense dense (length (remove_entry (is_at (nat_cmp doc)) (list_at (S.records store.old) list))) documents)
-        (length (remove_entry (is_at (nat_cmp doc)) (list_at (S.records store.old) list)))) (S.ledger store.old) (S.ledger store.new)) }
+        (S.records store.new) list (without_document (S.records store.old) list doc)) }
+    ensures counts { MakesWithin (S.ledger store.old) (S.ledger store.new)
+        (rule_most (S.records store.old) list dense documents (without_document (S.records store.old) list doc)) }
+    ensures refuses { IfErr result (RefusesOf (IsRuleWidth list dense documents (without_document (S.records store.old) list doc))
+        (S.ledger store.old) (S.ledger store.new)) }
     ensures may { MayDo (S.ledger store.old) (S.ledger store.new) }
 {
     let next = remove_in_form(store, list, doc)?;
@@ -144,11 +140,11 @@ fn remove_from_short<const OFFSET_BITS: u32, S: Store<OFFSET_BITS>>(
     requires few { length (list_at (S.records store.old) list) ≤ 9 }
     requires owns { Owns (S.ledger store.old) (S.records store.old) (list_part list ∷ []) }
     ensures makes { IfOk result (MakesList (S.ledger store.old) (S.ledger store.new) (S.records store.old) (S.records store.new)
-        list (remove_entry (is_at (nat_cmp doc)) (list_at (S.records store.old) list)) false) }
+        list (without_document (S.records store.old) list doc) false) }
     ensures counts { MakesWithin (S.ledger store.old) (S.ledger store.new) (list_most (list_levels (S.records store.old) list)
-        (length (remove_entry (is_at (nat_cmp doc)) (list_at (S.records store.old) list)))) }
+        (length (without_document (S.records store.old) list doc))) }
     ensures refuses { IfErr result (RefusesOf
-        (IsListWidth (length (remove_entry (is_at (nat_cmp doc)) (list_at (S.records store.old) list))))
+        (IsListWidth (length (without_document (S.records store.old) list doc)))
         (S.ledger store.old) (S.ledger store.new)) }
     ensures may { MayDo (S.ledger store.old) (S.ledger store.new) }
 {
@@ -174,13 +170,11 @@ pub fn remove<const OFFSET_BITS: u32, S: Store<OFFSET_BITS>>(
     requires there { IsSome (lookup (is_at (nat_cmp doc)) (list_at (S.records store.old) list)) }
     requires owns { Owns (S.ledger store.old) (S.records store.old) (list_part list ∷ []) }
     ensures makes { IfOk result (MakesByRule dense documents (S.ledger store.old) (S.ledger store.new) (S.records store.old)
-        (S.records store.new) list (remove_entry (is_at (nat_cmp doc)) (list_at (S.records store.old) list))) }
-    ensures counts { MakesWithin (S.ledger store.old) (S.ledger store.new) (list_change_most (is_vector list)
-        (is_dense dense (length (remove_entry (is_at (nat_cmp doc)) (list_at (S.records store.old) list))) documents)
-        (list_levels (S.records store.old) list) (remove_entry (is_at (nat_cmp doc)) (list_at (S.records store.old) list))) }
-    ensures refuses { IfErr result (RefusesOf (IsListChangeWidth (is_vector list
-        || is_dense dense (length (remove_entry (is_at (nat_cmp doc)) (list_at (S.records store.old) list))) documents)
-        (length (remove_entry (is_at (nat_cmp doc)) (list_at (S.records store.old) list)))) (S.ledger store.old) (S.ledger store.new)) }
+        (S.records store.new) list (without_document (S.records store.old) list doc)) }
+    ensures counts { MakesWithin (S.ledger store.old) (S.ledger store.new)
+        (rule_most (S.records store.old) list dense documents (without_document (S.records store.old) list doc)) }
+    ensures refuses { IfErr result (RefusesOf (IsRuleWidth list dense documents (without_document (S.records store.old) list doc))
+        (S.ledger store.old) (S.ledger store.new)) }
     ensures may { MayDo (S.ledger store.old) (S.ledger store.new) }
 {
     if has_at_least(store, list, 10) {
