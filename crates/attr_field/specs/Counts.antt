@@ -10,7 +10,8 @@ use Rattle.attr_types.specs.Value.{value_cmp}
 use Rattle.attr_types.specs.declared.items.Item.{Item}
 use Rattle.attr_types.specs.declared.kind.Kind.{Kind}
 use Rattle.attr_types.specs.declared.value.Value.{Value}
-use Rattle.value_index.specs.Counts.{added_count, added_forms, added_records, gone_count, gone_forms, gone_records, value_nodes}
+use Rattle.value_index.specs.Counts.{added_count, added_forms, added_records, besides, by_width, gone_count, gone_forms, gone_records}
+use Rattle.value_index.specs.Counts.{value_nodes}
 
 -- the weight of a value among entries
 abbrev pub entry_weight : List (Value × ℤ) → Value → Option ℤ
@@ -60,3 +61,14 @@ pub record StaysLow (levels : ℕ) (column : Column) (new : List (Value × ℤ))
 -- a bound on the nodes that a change makes in such trees
 abbrev pub low_nodes : ℕ → List (Value × ℤ) → List (Value × ℤ) → ℕ
 low_nodes levels old new = value_nodes levels * new_values old new + (2 * levels + 1) + value_nodes levels * lost_values old new
+
+-- what a change of a document's items makes at most, by width; and in trees that stay low
+abbrev pub change_most : Bool → Kind → Column → ℕ → List Item → List Item → ℕ → ℕ
+change_most dense kind column doc before after =
+    besides (by_width (field_nodes (first_weights [] before) (first_weights [] after)) (change_records kind column doc before after))
+    (change_forms dense column doc before after)
+
+abbrev pub low_change_most : ℕ → Bool → Kind → Column → ℕ → List Item → List Item → ℕ → ℕ
+low_change_most levels dense kind column doc before after =
+    besides (by_width (low_nodes levels (first_weights [] before) (first_weights [] after)) (change_records kind column doc before after))
+    (change_forms dense column doc before after)

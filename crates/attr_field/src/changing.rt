@@ -8,7 +8,7 @@ ghost use Rattle.store_api.specs.Calls.{RefusesOf};
 ghost use Rattle.store_api.specs.Parts.{Owns};
 ghost use Rattle.store_api.specs.Units.{MayDo, MakesWithin};
 ghost use Rattle.attr_field.specs.Changes.{MakesField};
-ghost use Rattle.attr_field.specs.Counts.{change_forms, change_records, field_forms, field_nodes, field_records, low_nodes, StaysLow};
+ghost use Rattle.attr_field.specs.Counts.{change_most, low_change_most, StaysLow};
 ghost use Rattle.attr_field.specs.Fields.{field_part, IsField, RefersBeside};
 ghost use Rattle.attr_field.specs.Forms.{wants};
 ghost use Rattle.attr_field.specs.Steps.{IsMadeBy};
@@ -17,7 +17,6 @@ ghost use Rattle.image_format.specs.Documents.{column_at};
 ghost use Rattle.index_model.specs.Changes.{first_weights};
 ghost use Rattle.index_model.specs.Columns.{items_of, with_change};
 ghost use Rattle.attr_types.specs.Lawful.{ItemsFit};
-ghost use Rattle.value_index.specs.Counts.{besides, by_width};
 ghost use Rattle.value_index.specs.Forms.{IsOfForm, WeighOnes};
 
 use crate::comparing::has_already;
@@ -61,20 +60,12 @@ fn put_changed<const OFFSET_BITS: u32, S: Store<OFFSET_BITS>>(
         (with_change (column_at kind value_type (S.records store.old) roots.entry.documents) doc (Some new.now))
         next.documents next.dictionary) }
     ensures form { IfOk result (λ next. IsOfForm dense value_type (S.records store.new) next.dictionary) }
-    ensures counts { MakesWithin (S.ledger store.old) (S.ledger store.new) (besides
-        (by_width (field_nodes (first_weights [] old.now) (first_weights [] new.now))
-        (field_records kind (column_at kind value_type (S.records store.old) roots.entry.documents) doc (length new.now)
-        (first_weights [] old.now) (first_weights [] new.now)))
-        (field_forms dense (column_at kind value_type (S.records store.old) roots.entry.documents) doc
-        (first_weights [] old.now) (first_weights [] new.now))) }
+    ensures counts { MakesWithin (S.ledger store.old) (S.ledger store.new)
+        (change_most dense kind (column_at kind value_type (S.records store.old) roots.entry.documents) doc old.now new.now) }
     ensures low { (levels : ℕ) → StaysLow levels (column_at kind value_type (S.records store.old) roots.entry.documents)
         (first_weights [] new.now)
-        → MakesWithin (S.ledger store.old) (S.ledger store.new) (besides
-        (by_width (low_nodes levels (first_weights [] old.now) (first_weights [] new.now))
-        (field_records kind (column_at kind value_type (S.records store.old) roots.entry.documents) doc (length new.now)
-        (first_weights [] old.now) (first_weights [] new.now)))
-        (field_forms dense (column_at kind value_type (S.records store.old) roots.entry.documents) doc
-        (first_weights [] old.now) (first_weights [] new.now))) }
+        → MakesWithin (S.ledger store.old) (S.ledger store.new)
+        (low_change_most levels dense kind (column_at kind value_type (S.records store.old) roots.entry.documents) doc old.now new.now) }
     ensures refuses { IfErr result (RefusesOf (IsFieldWidth dense kind
         (with_change (column_at kind value_type (S.records store.old) roots.entry.documents) doc (Some new.now))
         (items_of (column_at kind value_type (S.records store.old) roots.entry.documents) doc) new.now)
@@ -159,18 +150,12 @@ pub fn put<const OFFSET_BITS: u32, S: Store<OFFSET_BITS>>(
     ensures form { IfOk result (λ next. IsOfForm (wants dense kind) value_type (S.records store.new) next.dictionary) }
     ensures same { lookup (is_at (nat_cmp doc)) (column_at kind value_type (S.records store.old) roots.entry.documents) ≡ Some new.now
         → store.new ≡ store.old }
-    ensures counts { MakesWithin (S.ledger store.old) (S.ledger store.new) (besides
-        (by_width (field_nodes (first_weights [] old.now) (first_weights [] new.now))
-        (change_records kind (column_at kind value_type (S.records store.old) roots.entry.documents) doc old.now new.now))
-        (change_forms (wants dense kind) (column_at kind value_type (S.records store.old) roots.entry.documents) doc
-        old.now new.now)) }
+    ensures counts { MakesWithin (S.ledger store.old) (S.ledger store.new)
+        (change_most (wants dense kind) kind (column_at kind value_type (S.records store.old) roots.entry.documents) doc old.now new.now) }
     ensures low { (levels : ℕ) → StaysLow levels (column_at kind value_type (S.records store.old) roots.entry.documents)
         (first_weights [] new.now)
-        → MakesWithin (S.ledger store.old) (S.ledger store.new) (besides
-        (by_width (low_nodes levels (first_weights [] old.now) (first_weights [] new.now))
-        (change_records kind (column_at kind value_type (S.records store.old) roots.entry.documents) doc old.now new.now))
-        (change_forms (wants dense kind) (column_at kind value_type (S.records store.old) roots.entry.documents) doc
-        old.now new.now)) }
+        → MakesWithin (S.ledger store.old) (S.ledger store.new)
+        (low_change_most levels (wants dense kind) kind (column_at kind value_type (S.records store.old) roots.entry.documents) doc old.now new.now) }
     ensures refuses { IfErr result (RefusesOf (IsFieldWidth (wants dense kind) kind
         (with_change (column_at kind value_type (S.records store.old) roots.entry.documents) doc (Some new.now)) old.now new.now)
         (S.ledger store.old) (S.ledger store.new)) }
@@ -229,13 +214,11 @@ fn remove_changed<const OFFSET_BITS: u32, S: Store<OFFSET_BITS>>(
         (with_change (column_at kind value_type (S.records store.old) roots.entry.documents) doc None)
         next.documents next.dictionary) }
     ensures form { IfOk result (λ next. IsOfForm dense value_type (S.records store.new) next.dictionary) }
-    ensures counts { MakesWithin (S.ledger store.old) (S.ledger store.new) (besides (by_width (field_nodes (first_weights [] old.now) [])
-        (field_records kind (column_at kind value_type (S.records store.old) roots.entry.documents) doc 0 (first_weights [] old.now) []))
-        (field_forms dense (column_at kind value_type (S.records store.old) roots.entry.documents) doc (first_weights [] old.now) [])) }
+    ensures counts { MakesWithin (S.ledger store.old) (S.ledger store.new)
+        (change_most dense kind (column_at kind value_type (S.records store.old) roots.entry.documents) doc old.now []) }
     ensures low { (levels : ℕ) → StaysLow levels (column_at kind value_type (S.records store.old) roots.entry.documents) []
-        → MakesWithin (S.ledger store.old) (S.ledger store.new) (besides (by_width (low_nodes levels (first_weights [] old.now) [])
-        (field_records kind (column_at kind value_type (S.records store.old) roots.entry.documents) doc 0 (first_weights [] old.now) []))
-        (field_forms dense (column_at kind value_type (S.records store.old) roots.entry.documents) doc (first_weights [] old.now) [])) }
+        → MakesWithin (S.ledger store.old) (S.ledger store.new)
+        (low_change_most levels dense kind (column_at kind value_type (S.records store.old) roots.entry.documents) doc old.now []) }
     ensures refuses { IfErr result (RefusesOf (IsFieldWidth dense kind
         (with_change (column_at kind value_type (S.records store.old) roots.entry.documents) doc None)
         (items_of (column_at kind value_type (S.records store.old) roots.entry.documents) doc) [])
@@ -299,15 +282,11 @@ pub fn remove<const OFFSET_BITS: u32, S: Store<OFFSET_BITS>>(
         (with_change (column_at kind value_type (S.records store.old) roots.entry.documents) doc None)
         next.documents next.dictionary) }
     ensures form { IfOk result (λ next. IsOfForm (wants dense kind) value_type (S.records store.new) next.dictionary) }
-    ensures counts { MakesWithin (S.ledger store.old) (S.ledger store.new) (besides
-        (by_width (field_nodes (first_weights [] old.now) [])
-        (change_records kind (column_at kind value_type (S.records store.old) roots.entry.documents) doc old.now []))
-        (change_forms (wants dense kind) (column_at kind value_type (S.records store.old) roots.entry.documents) doc old.now [])) }
+    ensures counts { MakesWithin (S.ledger store.old) (S.ledger store.new)
+        (change_most (wants dense kind) kind (column_at kind value_type (S.records store.old) roots.entry.documents) doc old.now []) }
     ensures low { (levels : ℕ) → StaysLow levels (column_at kind value_type (S.records store.old) roots.entry.documents) []
-        → MakesWithin (S.ledger store.old) (S.ledger store.new) (besides
-        (by_width (low_nodes levels (first_weights [] old.now) [])
-        (change_records kind (column_at kind value_type (S.records store.old) roots.entry.documents) doc old.now []))
-        (change_forms (wants dense kind) (column_at kind value_type (S.records store.old) roots.entry.documents) doc old.now [])) }
+        → MakesWithin (S.ledger store.old) (S.ledger store.new)
+        (low_change_most levels (wants dense kind) kind (column_at kind value_type (S.records store.old) roots.entry.documents) doc old.now []) }
     ensures refuses { IfErr result (RefusesOf (IsFieldWidth (wants dense kind) kind
         (with_change (column_at kind value_type (S.records store.old) roots.entry.documents) doc None) old.now [])
         (S.ledger store.old) (S.ledger store.new)) }

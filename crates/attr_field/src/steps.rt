@@ -18,8 +18,7 @@ ghost use Rattle.index_model.specs.Index.{Index, IsIndexOf, list_of};
 ghost use Rattle.attr_types.specs.Lawful.{ItemsFit};
 ghost use Rattle.attr_types.specs.Value.{values_of, AreOfType};
 ghost use Rattle.attr_types.specs.declared.value.Value.{Value as OneValue};
-ghost use Rattle.value_index.specs.Counts.{added_count, added_forms, added_records, besides, by_width, value_nodes};
-ghost use Rattle.value_index.specs.Counts.{gone_count, gone_forms, gone_records, AddsLow, RemovesLow};
+ghost use Rattle.value_index.specs.Counts.{added_most, by_width, gone_most, value_nodes, AddsLow, RemovesLow};
 ghost use Rattle.value_index.specs.Forms.{IsOfForm, KeepsForm, WeighOnes};
 ghost use Rattle.value_index.specs.Widths.{IsWalkWidth};
 
@@ -66,19 +65,13 @@ pub fn add_values<const OFFSET_BITS: u32, S: Store<OFFSET_BITS>>(
     ensures between { IfOk result (λ added. IsBetween (index_of value_type (S.records store.old) dictionary.entry) doc
         (item_weights new.now) (λ value. None) (index_of value_type (S.records store.new) added.root)) }
     ensures found { IfOk result (λ added. FindsBy value_type (S.records store.new) added.root new.now added.key weights.now) }
-    ensures counts { MakesWithin (S.ledger store.old) (S.ledger store.new) (besides
-        (by_width (34 * added_count (item_weights old.now) (first_weights [] new.now))
-        (added_records (λ value. list_of value (index_of value_type (S.records store.old) dictionary.entry)) doc (item_weights old.now)
-        (first_weights [] new.now)))
-        (added_forms dense (λ value. list_of value (index_of value_type (S.records store.old) dictionary.entry)) doc (item_weights old.now)
-        (first_weights [] new.now))) }
+    ensures counts { MakesWithin (S.ledger store.old) (S.ledger store.new)
+        (added_most dense (index_of value_type (S.records store.old) dictionary.entry) doc (item_weights old.now)
+        (first_weights [] new.now) 34) }
     ensures low { (levels : ℕ) → AddsLow levels (index_of value_type (S.records store.old) dictionary.entry) doc (first_weights [] new.now)
-        → MakesWithin (S.ledger store.old) (S.ledger store.new) (besides
-        (by_width (value_nodes levels * added_count (item_weights old.now) (first_weights [] new.now))
-        (added_records (λ value. list_of value (index_of value_type (S.records store.old) dictionary.entry)) doc (item_weights old.now)
-        (first_weights [] new.now)))
-        (added_forms dense (λ value. list_of value (index_of value_type (S.records store.old) dictionary.entry)) doc (item_weights old.now)
-        (first_weights [] new.now))) }
+        → MakesWithin (S.ledger store.old) (S.ledger store.new)
+        (added_most dense (index_of value_type (S.records store.old) dictionary.entry) doc (item_weights old.now)
+        (first_weights [] new.now) (value_nodes levels)) }
     ensures refuses { IfErr result (RefusesOf
         (IsWalkWidth dense (index_of value_type (S.records store.old) dictionary.entry) doc (item_weights new.now) (λ value. None))
         (S.ledger store.old) (S.ledger store.new)) }
@@ -229,21 +222,15 @@ pub fn remove_values<const OFFSET_BITS: u32, S: Store<OFFSET_BITS>>(
     ensures form { IfOk result (IsOfForm dense value_type (S.records store.new)) }
     ensures index { IfOk result (λ next. IsIndexOf (column_at kind value_type (S.records store.old) documents.entry)
         (index_of value_type (S.records store.new) next)) }
-    ensures counts { MakesWithin (S.ledger store.old) (S.ledger store.new) (besides
-        (by_width (34 * gone_count (item_weights new.now) (first_weights [] old.now))
-        (gone_records (λ value. list_of value (index_of value_type (S.records store.old) dictionary.entry)) doc (item_weights new.now)
-        (first_weights [] old.now)))
-        (gone_forms dense (λ value. list_of value (index_of value_type (S.records store.old) dictionary.entry)) doc (item_weights new.now)
-        (first_weights [] old.now))) }
+    ensures counts { MakesWithin (S.ledger store.old) (S.ledger store.new)
+        (gone_most dense (index_of value_type (S.records store.old) dictionary.entry) doc (item_weights new.now)
+        (first_weights [] old.now) 34) }
     ensures low { (levels : ℕ)
         → RemovesLow levels (index_of value_type (S.records store.old) dictionary.entry) doc (item_weights new.now)
         (first_weights [] old.now)
-        → MakesWithin (S.ledger store.old) (S.ledger store.new) (besides
-        (by_width (value_nodes levels * gone_count (item_weights new.now) (first_weights [] old.now))
-        (gone_records (λ value. list_of value (index_of value_type (S.records store.old) dictionary.entry)) doc (item_weights new.now)
-        (first_weights [] old.now)))
-        (gone_forms dense (λ value. list_of value (index_of value_type (S.records store.old) dictionary.entry)) doc (item_weights new.now)
-        (first_weights [] old.now))) }
+        → MakesWithin (S.ledger store.old) (S.ledger store.new)
+        (gone_most dense (index_of value_type (S.records store.old) dictionary.entry) doc (item_weights new.now)
+        (first_weights [] old.now) (value_nodes levels)) }
     ensures refuses { IfErr result (RefusesOf
         (IsWalkWidth dense (index_of value_type (S.records store.old) dictionary.entry) doc (item_weights new.now) (item_weights old.now))
         (S.ledger store.old) (S.ledger store.new)) }

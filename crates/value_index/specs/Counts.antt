@@ -88,6 +88,18 @@ gone_forms dense lists doc new entries = walk_records (is_gone new) (taken_forms
 abbrev pub besides : (ℕ → ℕ) → (ℕ → ℕ) → ℕ → ℕ
 besides most more width = most width + more width
 
+-- what a walk makes at most that adds these values, given the weights before: so many nodes for each, and the other records
+abbrev pub added_most : Bool → Index → ℕ → (Value → Option ℤ) → List (Value × ℤ) → ℕ → ℕ → ℕ
+added_most dense index doc old entries nodes =
+    besides (by_width (nodes * added_count old entries) (added_records (λ value. list_of value index) doc old entries))
+    (added_forms dense (λ value. list_of value index) doc old entries)
+
+-- what a walk makes at most that removes these values, unless the weights after have them
+abbrev pub gone_most : Bool → Index → ℕ → (Value → Option ℤ) → List (Value × ℤ) → ℕ → ℕ → ℕ
+gone_most dense index doc new entries nodes =
+    besides (by_width (nodes * gone_count new entries) (gone_records (λ value. list_of value index) doc new entries))
+    (gone_forms dense (λ value. list_of value index) doc new entries)
+
 -- ---- by their sum, for a change that makes a record of some width
 -- the sum over all widths but that of nodes
 abbrev pub record_sum : (ℕ → ℕ) → ℕ

@@ -1,6 +1,6 @@
 //! Adds a document to the lists of all its new values.
 
-ghost use Rattle.std.specs.Prelude.{◌≡◌, ℕ, ◌*◌, ◌∷◌, [], true, None, IfOk, IfErr};
+ghost use Rattle.std.specs.Prelude.{◌≡◌, ℕ, ◌∷◌, [], true, None, IfOk, IfErr};
 ghost use Rattle.std.specs.BTreeMap.{get, is_at};
 ghost use Rattle.std.specs.Map.{keys_of, lookup};
 ghost use Rattle.std.specs.Ordering.{nat_cmp};
@@ -14,7 +14,7 @@ ghost use Rattle.attr_types.specs.Value.{value_cmp, AreOfType};
 ghost use Rattle.attr_types.specs.declared.value.Value.{Value as OneValue};
 ghost use Rattle.value_index.specs.Forms.{IsOfForm, WeighOnes};
 ghost use Rattle.value_index.specs.Indexes.{index_part, IsIndex};
-ghost use Rattle.value_index.specs.Counts.{added_count, added_forms, added_records, besides, by_width, value_nodes, AddsLow};
+ghost use Rattle.value_index.specs.Counts.{added_most, value_nodes, AddsLow};
 ghost use Rattle.value_index.specs.Walks.{WalksIndex};
 ghost use Rattle.value_index.specs.Widths.{IsWalkWidth};
 
@@ -61,19 +61,11 @@ pub fn add_all<const OFFSET_BITS: u32, S: Store<OFFSET_BITS>>(
     ensures makes { IfOk result (WalksIndex value_type (S.ledger store.old) (S.ledger store.new) (S.records store.old) (S.records store.new)
         root.entry doc (get value_cmp new.now) (λ value. None)) }
     ensures form { IfOk result (IsOfForm dense value_type (S.records store.new)) }
-    ensures counts { MakesWithin (S.ledger store.old) (S.ledger store.new) (besides
-        (by_width (34 * added_count (get value_cmp old.now) new.now.entries)
-        (added_records (λ value. list_of value (index_of value_type (S.records store.old) root.entry)) doc (get value_cmp old.now)
-        new.now.entries))
-        (added_forms dense (λ value. list_of value (index_of value_type (S.records store.old) root.entry)) doc (get value_cmp old.now)
-        new.now.entries)) }
+    ensures counts { MakesWithin (S.ledger store.old) (S.ledger store.new)
+        (added_most dense (index_of value_type (S.records store.old) root.entry) doc (get value_cmp old.now) new.now.entries 34) }
     ensures low { (levels : ℕ) → AddsLow levels (index_of value_type (S.records store.old) root.entry) doc new.now.entries
-        → MakesWithin (S.ledger store.old) (S.ledger store.new) (besides
-        (by_width (value_nodes levels * added_count (get value_cmp old.now) new.now.entries)
-        (added_records (λ value. list_of value (index_of value_type (S.records store.old) root.entry)) doc (get value_cmp old.now)
-        new.now.entries))
-        (added_forms dense (λ value. list_of value (index_of value_type (S.records store.old) root.entry)) doc (get value_cmp old.now)
-        new.now.entries)) }
+        → MakesWithin (S.ledger store.old) (S.ledger store.new)
+        (added_most dense (index_of value_type (S.records store.old) root.entry) doc (get value_cmp old.now) new.now.entries (value_nodes levels)) }
     ensures refuses { IfErr result (RefusesOf
         (IsWalkWidth dense (index_of value_type (S.records store.old) root.entry) doc (get value_cmp new.now) (λ value. None))
         (S.ledger store.old) (S.ledger store.new)) }

@@ -1,6 +1,6 @@
 //! Removes a document from the lists of all its old values.
 
-ghost use Rattle.std.specs.Prelude.{◌≡◌, ℕ, ◌*◌, ◌∷◌, [], true, IfOk, IfErr};
+ghost use Rattle.std.specs.Prelude.{◌≡◌, ℕ, ◌∷◌, [], true, IfOk, IfErr};
 ghost use Rattle.std.specs.BTreeMap.{get, is_at};
 ghost use Rattle.std.specs.Map.{keys_of, lookup};
 ghost use Rattle.std.specs.Ordering.{nat_cmp};
@@ -14,7 +14,7 @@ ghost use Rattle.attr_types.specs.Value.{value_cmp, AreOfType};
 ghost use Rattle.attr_types.specs.declared.value.Value.{Value as OneValue};
 ghost use Rattle.value_index.specs.Forms.{IsOfForm};
 ghost use Rattle.value_index.specs.Indexes.{index_part, IsIndex};
-ghost use Rattle.value_index.specs.Counts.{besides, by_width, gone_count, gone_forms, gone_records, value_nodes, RemovesLow};
+ghost use Rattle.value_index.specs.Counts.{gone_most, value_nodes, RemovesLow};
 ghost use Rattle.value_index.specs.Walks.{WalksIndex};
 ghost use Rattle.value_index.specs.Widths.{IsWalkWidth};
 
@@ -49,20 +49,12 @@ pub fn remove_all<const OFFSET_BITS: u32, S: Store<OFFSET_BITS>>(
     ensures makes { IfOk result (WalksIndex value_type (S.ledger store.old) (S.ledger store.new) (S.records store.old) (S.records store.new)
         root.entry doc (get value_cmp new.now) (get value_cmp old.now)) }
     ensures form { IfOk result (IsOfForm dense value_type (S.records store.new)) }
-    ensures counts { MakesWithin (S.ledger store.old) (S.ledger store.new) (besides
-        (by_width (34 * gone_count (get value_cmp new.now) old.now.entries)
-        (gone_records (λ value. list_of value (index_of value_type (S.records store.old) root.entry)) doc (get value_cmp new.now)
-        old.now.entries))
-        (gone_forms dense (λ value. list_of value (index_of value_type (S.records store.old) root.entry)) doc (get value_cmp new.now)
-        old.now.entries)) }
+    ensures counts { MakesWithin (S.ledger store.old) (S.ledger store.new)
+        (gone_most dense (index_of value_type (S.records store.old) root.entry) doc (get value_cmp new.now) old.now.entries 34) }
     ensures low { (levels : ℕ)
         → RemovesLow levels (index_of value_type (S.records store.old) root.entry) doc (get value_cmp new.now) old.now.entries
-        → MakesWithin (S.ledger store.old) (S.ledger store.new) (besides
-        (by_width (value_nodes levels * gone_count (get value_cmp new.now) old.now.entries)
-        (gone_records (λ value. list_of value (index_of value_type (S.records store.old) root.entry)) doc (get value_cmp new.now)
-        old.now.entries))
-        (gone_forms dense (λ value. list_of value (index_of value_type (S.records store.old) root.entry)) doc (get value_cmp new.now)
-        old.now.entries)) }
+        → MakesWithin (S.ledger store.old) (S.ledger store.new)
+        (gone_most dense (index_of value_type (S.records store.old) root.entry) doc (get value_cmp new.now) old.now.entries (value_nodes levels)) }
     ensures refuses { IfErr result (RefusesOf
         (IsWalkWidth dense (index_of value_type (S.records store.old) root.entry) doc (get value_cmp new.now) (get value_cmp old.now))
         (S.ledger store.old) (S.ledger store.new)) }
