@@ -1,5 +1,5 @@
 -- A compaction of attributes in progress, and the effect of one turn.
-use Rattle.std.specs.Prelude.{◌≡◌, ℕ, ◌<◌, Bool, true, List, length, slice_get, Option, None, Some, unwrap_or}
+use Rattle.std.specs.Prelude.{◌≡◌, ℕ, ◌<◌, Bool, true, ◌||◌, List, length, slice_get, Option, None, Some, unwrap_or}
 use Rattle.std.specs.List.{AllByRecursion, AllZip}
 use Rattle.std.specs.Option.{IfSome, option_and_then}
 use Rattle.std.specs.declared.cmp.Ordering.TheVariants.{Less}
@@ -88,9 +88,14 @@ pub record CompactsTo {H : Type 0} (bits : ℕ) (new : Ledger H) (m n : Records)
   pub table : table_at n next ≡ table_at m trees
   pub keys : KeepKeys m n trees next
 
--- the plan after a key of the place's phase is visited
-abbrev pub plan_at : PlanView → PlanKey → PlanView
-plan_at plan key = record { victim = plan.victim; fields = plan.fields; place = record { stage = plan.place.stage; key = key } }
+-- the plan after a key of the place's phase is visited, whose old record may be in use still
+abbrev pub plan_at : PlanView → Bool → PlanKey → PlanView
+plan_at plan copies key = record {
+  victim = plan.victim;
+  fields = plan.fields;
+  place = record { stage = plan.place.stage; key = key };
+  copied = copies || plan.copied;
+}
 
 -- a store that was full for a width has fewer spare entries of it than this
 abbrev pub SparesBelow : {H : Type 0} → Ledger H → ℕ → StoreError → Type 0

@@ -1,6 +1,6 @@
 //! Visits one key of the plan, in a unit of its own.
 
-ghost use Rattle.std.specs.Prelude.{◌≡◌, ◌<◌, set, slice_get, Some, IfOk, IfErr, OnErr};
+ghost use Rattle.std.specs.Prelude.{◌≡◌, ◌<◌, Bool, set, slice_get, Some, IfOk, IfErr, OnErr};
 ghost use Rattle.attr_compaction.specs.declared.plan.TheConstants.{PHASES};
 ghost use Rattle.attr_operations.specs.Calls.{KeepsStore, LeavesEntries, RefusesUnit};
 ghost use Rattle.attr_operations.specs.Fields.{HoldsAttributes, IsFieldAt, trees_of, trees_of_field};
@@ -66,9 +66,10 @@ pub fn move_unit<const OFFSET_BITS: u32, S: Store<OFFSET_BITS>>(
     requires at { slice_get (trees_of fields.now roots.now) plan.now.place.stage.field ≡ Some (trees_of_field field.now own) }
     requires next { key_past plan.now.place.key (keys_at (S.records store.old) (trees_of_field field.now own) plan.now.place.stage.phase)
         ≡ Some key.now }
-    ensures moves { IfOk result (λ next. CompactsTo OFFSET_BITS (S.ledger store.new) (S.records store.old) (S.records store.new) fields.now
-        (trees_of fields.now roots.now) (set (trees_of fields.now roots.now) plan.now.place.stage.field (trees_of_field field.now next))
-        root.entry (plan_at plan.now key.now)) }
+    ensures moves { IfOk result (λ next. (copies : Bool) → CompactsTo OFFSET_BITS (S.ledger store.new) (S.records store.old)
+        (S.records store.new) fields.now (trees_of fields.now roots.now)
+        (set (trees_of fields.now roots.now) plan.now.place.stage.field (trees_of_field field.now next))
+        root.entry (plan_at plan.now copies key.now)) }
     ensures left { OnErr result (LeavesEntries (S.ledger store.old) (S.ledger store.new) (S.records store.old) (S.records store.new)) }
     ensures refused { IfErr result (RefusesUnit (S.ledger store.old) (S.ledger store.new)) }
     ensures spares { IfErr result (SparesBelow (S.ledger store.new) 34) }

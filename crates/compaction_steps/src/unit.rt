@@ -70,10 +70,12 @@ pub fn compact_one<const OFFSET_BITS: u32, S: Store<OFFSET_BITS>>(
         return Err(StoreError::Memory);
     };
     let Some(key) = next else {
-        plan.next(PlanKey::Start);
+        plan.next(PlanKey::Start, false);
         return Ok(Turn::PhaseOver);
     };
     roots[i] = move_unit(alloc, store, fields, roots, root, field, own, plan, &key)?;
-    plan.next(key);
+    // Whether the old record of this key is still in use is not looked up. Every moved key counts as one that left a
+    // copy, so the buffer of such a plan is never given up.
+    plan.next(key, true);
     Ok(Turn::Moved)
 }

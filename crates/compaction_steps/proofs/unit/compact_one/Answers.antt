@@ -1,4 +1,4 @@
-use Rattle.std.proofs.Common.{◌≡◌, ℕ, refl, sym, ap, subst, ◌∙◌, arith, None, Some, inl, rules}
+use Rattle.std.proofs.Common.{◌≡◌, ℕ, true, refl, sym, ap, subst, ◌∙◌, arith, None, Some, inl, rules}
 use Rattle.std.proofs.lemmas.Result.{err_from_is_err_and}
 use Rattle.std.specs.Prelude.{set, slice_get}
 use Rattle.attr_compaction.specs.PhaseKeys.{key_past}
@@ -346,13 +346,13 @@ returns-clause-holds g c =
     c.requires.holds c.requires.under_way c.requires.sized c.field-i.ensures.field c.field-i.ensures.below c.index-fields-i.result c.index-roots-i.result c.index-fields-i.is c.index-roots-i.is in
     let some = sym c.in-Some.is ∙ c.in-Ok.ensures.next in
     let all = moved_way _ (ledger c.move_unit.new.store) m (records c.move_unit.new.store) fields trees
-    (trees_of fields (set roots c.field-i.result c.in_ok-roots.field-0)) c.args.root plan c.next-2.new.self c.in-Some.key
+    (trees_of fields (set roots c.field-i.result c.in_ok-roots.field-0)) c.args.root plan c.next-2.new.self true c.in-Some.key
     (moved_roots (ledger c.move_unit.new.store) m (records c.move_unit.new.store) fields roots trees c.args.root
-    (plan_at plan c.in-Some.key) c.field-i.result plan.place.stage.field c.index-fields-i.result c.in_ok-roots.field-0
+    (plan_at plan true c.in-Some.key) c.field-i.result plan.place.stage.field c.index-fields-i.result c.in_ok-roots.field-0
     c.field-i.ensures.field here.at_field
     (subst (λ s. CompactsTo _ (ledger c.move_unit.new.store) (records s) (records c.move_unit.new.store) fields trees
-    (set trees plan.place.stage.field (trees_of_field c.index-fields-i.result c.in_ok-roots.field-0)) c.args.root (plan_at plan c.in-Some.key)) same c.in_ok-roots.ensures.moves))
-    (next_fits m a plan.place c.in-Some.key c.requires.phase (sym some)).1 c.next-2.ensures.victim c.next-2.ensures.fields c.next-2.ensures.place in
+    (set trees plan.place.stage.field (trees_of_field c.index-fields-i.result c.in_ok-roots.field-0)) c.args.root (plan_at plan true c.in-Some.key)) same (c.in_ok-roots.ensures.moves true)))
+    (next_fits m a plan.place c.in-Some.key c.requires.phase (sym some)).1 c.next-2.ensures.victim c.next-2.ensures.fields c.next-2.ensures.place c.next-2.ensures.copied in
     all.holds
 
 pub returns-clause-under_way : goal.returns-clause-under_way
@@ -370,13 +370,13 @@ returns-clause-under_way g c =
     c.requires.holds c.requires.under_way c.requires.sized c.field-i.ensures.field c.field-i.ensures.below c.index-fields-i.result c.index-roots-i.result c.index-fields-i.is c.index-roots-i.is in
     let some = sym c.in-Some.is ∙ c.in-Ok.ensures.next in
     let all = moved_way _ (ledger c.move_unit.new.store) m (records c.move_unit.new.store) fields trees
-    (trees_of fields (set roots c.field-i.result c.in_ok-roots.field-0)) c.args.root plan c.next-2.new.self c.in-Some.key
+    (trees_of fields (set roots c.field-i.result c.in_ok-roots.field-0)) c.args.root plan c.next-2.new.self true c.in-Some.key
     (moved_roots (ledger c.move_unit.new.store) m (records c.move_unit.new.store) fields roots trees c.args.root
-    (plan_at plan c.in-Some.key) c.field-i.result plan.place.stage.field c.index-fields-i.result c.in_ok-roots.field-0
+    (plan_at plan true c.in-Some.key) c.field-i.result plan.place.stage.field c.index-fields-i.result c.in_ok-roots.field-0
     c.field-i.ensures.field here.at_field
     (subst (λ s. CompactsTo _ (ledger c.move_unit.new.store) (records s) (records c.move_unit.new.store) fields trees
-    (set trees plan.place.stage.field (trees_of_field c.index-fields-i.result c.in_ok-roots.field-0)) c.args.root (plan_at plan c.in-Some.key)) same c.in_ok-roots.ensures.moves))
-    (next_fits m a plan.place c.in-Some.key c.requires.phase (sym some)).1 c.next-2.ensures.victim c.next-2.ensures.fields c.next-2.ensures.place in
+    (set trees plan.place.stage.field (trees_of_field c.index-fields-i.result c.in_ok-roots.field-0)) c.args.root (plan_at plan true c.in-Some.key)) same (c.in_ok-roots.ensures.moves true)))
+    (next_fits m a plan.place c.in-Some.key c.requires.phase (sym some)).1 c.next-2.ensures.victim c.next-2.ensures.fields c.next-2.ensures.place c.next-2.ensures.copied in
     all.under_way
 
 pub returns-clause-table : goal.returns-clause-table
@@ -394,13 +394,13 @@ returns-clause-table g c =
     c.requires.holds c.requires.under_way c.requires.sized c.field-i.ensures.field c.field-i.ensures.below c.index-fields-i.result c.index-roots-i.result c.index-fields-i.is c.index-roots-i.is in
     let some = sym c.in-Some.is ∙ c.in-Ok.ensures.next in
     let all = moved_way _ (ledger c.move_unit.new.store) m (records c.move_unit.new.store) fields trees
-    (trees_of fields (set roots c.field-i.result c.in_ok-roots.field-0)) c.args.root plan c.next-2.new.self c.in-Some.key
+    (trees_of fields (set roots c.field-i.result c.in_ok-roots.field-0)) c.args.root plan c.next-2.new.self true c.in-Some.key
     (moved_roots (ledger c.move_unit.new.store) m (records c.move_unit.new.store) fields roots trees c.args.root
-    (plan_at plan c.in-Some.key) c.field-i.result plan.place.stage.field c.index-fields-i.result c.in_ok-roots.field-0
+    (plan_at plan true c.in-Some.key) c.field-i.result plan.place.stage.field c.index-fields-i.result c.in_ok-roots.field-0
     c.field-i.ensures.field here.at_field
     (subst (λ s. CompactsTo _ (ledger c.move_unit.new.store) (records s) (records c.move_unit.new.store) fields trees
-    (set trees plan.place.stage.field (trees_of_field c.index-fields-i.result c.in_ok-roots.field-0)) c.args.root (plan_at plan c.in-Some.key)) same c.in_ok-roots.ensures.moves))
-    (next_fits m a plan.place c.in-Some.key c.requires.phase (sym some)).1 c.next-2.ensures.victim c.next-2.ensures.fields c.next-2.ensures.place in
+    (set trees plan.place.stage.field (trees_of_field c.index-fields-i.result c.in_ok-roots.field-0)) c.args.root (plan_at plan true c.in-Some.key)) same (c.in_ok-roots.ensures.moves true)))
+    (next_fits m a plan.place c.in-Some.key c.requires.phase (sym some)).1 c.next-2.ensures.victim c.next-2.ensures.fields c.next-2.ensures.place c.next-2.ensures.copied in
     all.table
 
 pub returns-clause-keys : goal.returns-clause-keys
@@ -418,13 +418,13 @@ returns-clause-keys g c =
     c.requires.holds c.requires.under_way c.requires.sized c.field-i.ensures.field c.field-i.ensures.below c.index-fields-i.result c.index-roots-i.result c.index-fields-i.is c.index-roots-i.is in
     let some = sym c.in-Some.is ∙ c.in-Ok.ensures.next in
     let all = moved_way _ (ledger c.move_unit.new.store) m (records c.move_unit.new.store) fields trees
-    (trees_of fields (set roots c.field-i.result c.in_ok-roots.field-0)) c.args.root plan c.next-2.new.self c.in-Some.key
+    (trees_of fields (set roots c.field-i.result c.in_ok-roots.field-0)) c.args.root plan c.next-2.new.self true c.in-Some.key
     (moved_roots (ledger c.move_unit.new.store) m (records c.move_unit.new.store) fields roots trees c.args.root
-    (plan_at plan c.in-Some.key) c.field-i.result plan.place.stage.field c.index-fields-i.result c.in_ok-roots.field-0
+    (plan_at plan true c.in-Some.key) c.field-i.result plan.place.stage.field c.index-fields-i.result c.in_ok-roots.field-0
     c.field-i.ensures.field here.at_field
     (subst (λ s. CompactsTo _ (ledger c.move_unit.new.store) (records s) (records c.move_unit.new.store) fields trees
-    (set trees plan.place.stage.field (trees_of_field c.index-fields-i.result c.in_ok-roots.field-0)) c.args.root (plan_at plan c.in-Some.key)) same c.in_ok-roots.ensures.moves))
-    (next_fits m a plan.place c.in-Some.key c.requires.phase (sym some)).1 c.next-2.ensures.victim c.next-2.ensures.fields c.next-2.ensures.place in
+    (set trees plan.place.stage.field (trees_of_field c.index-fields-i.result c.in_ok-roots.field-0)) c.args.root (plan_at plan true c.in-Some.key)) same (c.in_ok-roots.ensures.moves true)))
+    (next_fits m a plan.place c.in-Some.key c.requires.phase (sym some)).1 c.next-2.ensures.victim c.next-2.ensures.fields c.next-2.ensures.place c.next-2.ensures.copied in
     all.keys
 
 pub returns-clause-goes_on : goal.returns-clause-goes_on
