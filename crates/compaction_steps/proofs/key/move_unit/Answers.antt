@@ -53,8 +53,8 @@ returns-in-Ok-clause-moves g c =
     (laws_of c.field_law.ensures.stays c.field_law.ensures.lawful c.field_law.ensures.keys) c.same_law.ensures.one c.stage_law.ensures.others mid new (records c.move_one.new.store) (records c.accept.new.self)
     c.args.key.now b refl c.requires.phase c.requires.next
     (part_begun _ c.args.plan.now.victim old (ledger c.begin.new.self) mid (records c.args.store.now) (records c.begin.new.self) (records c.move_one.new.store) a b refl refl
-    c.begin.ensures.ledger c.begin.ensures.records meets.field c.in-Ok.ensures.moves)
-    c.in-Ok.ensures.cleared c.accept.ensures keeps (copies || c.args.plan.now.copied)
+    c.begin.ensures.ledger c.begin.ensures.records meets.field c.in-Ok.ensures.moved.moves)
+    c.in-Ok.ensures.moved.cleared c.accept.ensures keeps (copies || c.args.plan.now.copied)
 
 pub returns-in-Ok-clause-keeps : goal.returns-in-Ok-clause-keeps
 returns-in-Ok-clause-keeps g c =
