@@ -1,22 +1,27 @@
 //! Visits one key of the plan, in a unit of its own.
 
-ghost use Rattle.std.specs.Prelude.{◌≡◌, ◌<◌, Bool, set, slice_get, Some, IfOk, IfErr, OnErr};
+ghost use Rattle.std.specs.Prelude.{◌≡◌, ◌≢◌, ℕ, ◌<◌, Bool, false, set, slice_get, Some, IfOk, IfErr, OnErr};
 ghost use Rattle.attr_compaction.specs.declared.plan.TheConstants.{PHASES};
 ghost use Rattle.attr_operations.specs.Calls.{KeepsStore, LeavesEntries, RefusesUnit};
 ghost use Rattle.attr_operations.specs.Fields.{HoldsAttributes, IsFieldAt, trees_of, trees_of_field};
 ghost use Rattle.attr_compaction.specs.PhaseKeys.{key_past, HasType};
 ghost use Rattle.image_format.specs.Documents.{column_at};
+ghost use Rattle.attr_types.specs.Value.{type_of};
+ghost use Rattle.entry_ref.specs.References.{buffer_of};
+ghost use Rattle.value_index.specs.Indexes.{key_at, IsIndex};
 ghost use Rattle.compaction_moves.specs.Counts.{MakesKey};
+ghost use Rattle.compaction_moves.specs.Steps.{CopiesNone};
 ghost use Rattle.value_index.specs.Forms.{IsPlainIndex};
 ghost use Rattle.compaction_steps.specs.Units.{keys_at, plan_at, CompactsTo, HasActive, IsUnderWay, SparesBelow};
 
 use crate::{same_law, stage_law};
 use arena_api::Frozen;
-use attr_compaction::{Plan, PlanKey, next_key};
+use attr_compaction::{KEYS, Plan, PlanKey, next_key};
 use attr_field::{FieldRoots, field_law};
-use attr_types::Field;
+use attr_types::{Field, Value};
 use compaction_moves::move_one;
 use entry_ref::EntryRef;
+use enum_dictionary::find;
 use std::alloc::{AllocError, Global};
 use store_api::{Store, StoreError};
 
@@ -44,6 +49,52 @@ pub fn next_of<const OFFSET_BITS: u32, F: Frozen<OFFSET_BITS>>(
         plan.phase(),
         plan.key(),
     )
+}
+
+/// Returns whether the record of a value lies in the buffer.
+#[tactic(none)]
+fn value_lies<const OFFSET_BITS: u32, F: Frozen<OFFSET_BITS>>(
+    frozen: &mut F,
+    dictionary: EntryRef<OFFSET_BITS>,
+    value: &Value,
+    buffer: u32,
+) -> bool
+    requires index { IsIndex (type_of value.now) (F.records frozen.old) dictionary }
+    ensures apart { result ≡ false → (ref : ℕ) → key_at value.now (F.records frozen.old) dictionary.entry ≡ Some ref
+        → buffer_of OFFSET_BITS ref ≢ buffer }
+    ensures same { frozen.new ≡ frozen.old }
+{
+    match find(frozen, dictionary, value) {
+        Some(entry) => entry.key.buffer() == buffer,
+        None => false,
+    }
+}
+
+/// Returns whether the move of a key copies the record of a value, so that the old one may stay in use in the victim.
+#[tactic(none)]
+pub fn copies_record<const OFFSET_BITS: u32, F: Frozen<OFFSET_BITS>>(
+    frozen: &mut F,
+    field: &Field,
+    own: FieldRoots<OFFSET_BITS>,
+    plan: &Plan,
+    key: &PlanKey,
+) -> bool
+    requires field { IsFieldAt (F.records frozen.old) (trees_of_field field.now own) }
+    requires typed { HasType field.now.value key.now }
+    ensures none { result ≡ false
+        → CopiesNone OFFSET_BITS (F.records frozen.old) (trees_of_field field.now own.entry) plan.now key.now }
+    ensures same { frozen.new ≡ frozen.old }
+{
+    let _ = field;
+    if plan.phase() != KEYS {
+        return false;
+    }
+    match key {
+        PlanKey::Start => false,
+        PlanKey::Value(value) => value_lies(frozen, own.dictionary, value, plan.victim()),
+        PlanKey::Doc(_) => false,
+        PlanKey::Pair(_, _) => false,
+    }
 }
 
 /// Visits a key of the plan's attribute, in a unit of its own. Returns the attribute's new roots.

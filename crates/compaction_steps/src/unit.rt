@@ -8,7 +8,7 @@ ghost use Rattle.attr_operations.specs.Views.{table_at};
 ghost use Rattle.compaction_steps.specs.Counts.{MakesKeys};
 ghost use Rattle.compaction_steps.specs.Units.{next_at, ArePlain, GoesOn, HasActive, IsUnderWay, KeepKeys, LeavesAtEnd, SparesBelow};
 
-use crate::key::{move_unit, next_of};
+use crate::key::{copies_record, move_unit, next_of};
 use crate::stage_law;
 use attr_compaction::{Plan, PlanKey};
 use attr_field::FieldRoots;
@@ -73,9 +73,8 @@ pub fn compact_one<const OFFSET_BITS: u32, S: Store<OFFSET_BITS>>(
         plan.next(PlanKey::Start, false);
         return Ok(Turn::PhaseOver);
     };
+    let copies = copies_record(store, field, own, plan, &key);
     roots[i] = move_unit(alloc, store, fields, roots, root, field, own, plan, &key)?;
-    // Whether the old record of this key is still in use is not looked up. Every moved key counts as one that left a
-    // copy, so the buffer of such a plan is never given up.
-    plan.next(key, true);
+    plan.next(key, copies);
     Ok(Turn::Moved)
 }
