@@ -1,6 +1,6 @@
 //! Visits one key of the plan, in a unit of its own.
 
-ghost use Rattle.std.specs.Prelude.{◌≡◌, ◌≢◌, ℕ, ◌<◌, Bool, false, set, slice_get, Some, IfOk, IfErr, OnErr};
+ghost use Rattle.std.specs.Prelude.{◌≡◌, ◌≢◌, ℕ, ◌<◌, Bool, true, false, set, slice_get, Some, IfOk, IfErr, OnErr};
 ghost use Rattle.attr_compaction.specs.declared.plan.TheConstants.{PHASES};
 ghost use Rattle.attr_operations.specs.Calls.{KeepsStore, LeavesEntries, RefusesUnit};
 ghost use Rattle.attr_operations.specs.Fields.{HoldsAttributes, IsFieldAt, trees_of, trees_of_field};
@@ -12,7 +12,7 @@ ghost use Rattle.value_index.specs.Indexes.{key_at, IsIndex};
 ghost use Rattle.compaction_moves.specs.Counts.{MakesKey};
 ghost use Rattle.compaction_moves.specs.Steps.{CopiesNone};
 ghost use Rattle.value_index.specs.Forms.{IsPlainIndex};
-ghost use Rattle.compaction_steps.specs.Units.{keys_at, plan_at, CompactsTo, HasActive, IsUnderWay, SparesBelow};
+ghost use Rattle.compaction_steps.specs.Units.{keys_at, plan_at, CompactsTo, CopiesOne, HasActive, HasRecordIn, IsUnderWay, SparesBelow};
 
 use crate::{same_law, stage_law};
 use arena_api::Frozen;
@@ -62,6 +62,7 @@ fn value_lies<const OFFSET_BITS: u32, F: Frozen<OFFSET_BITS>>(
     requires index { IsIndex (type_of value.now) (F.records frozen.old) dictionary }
     ensures apart { result ≡ false → (ref : ℕ) → key_at value.now (F.records frozen.old) dictionary.entry ≡ Some ref
         → buffer_of OFFSET_BITS ref ≢ buffer }
+    ensures lies { result ≡ true → HasRecordIn OFFSET_BITS buffer value.now (F.records frozen.old) dictionary.entry }
     ensures same { frozen.new ≡ frozen.old }
 {
     match find(frozen, dictionary, value) {
@@ -83,6 +84,8 @@ pub fn copies_record<const OFFSET_BITS: u32, F: Frozen<OFFSET_BITS>>(
     requires typed { HasType field.now.value key.now }
     ensures none { result ≡ false
         → CopiesNone OFFSET_BITS (F.records frozen.old) (trees_of_field field.now own.entry) plan.now key.now }
+    ensures one { result ≡ true
+        → CopiesOne OFFSET_BITS (F.records frozen.old) (trees_of_field field.now own.entry) plan.now key.now }
     ensures same { frozen.new ≡ frozen.old }
 {
     let _ = field;
