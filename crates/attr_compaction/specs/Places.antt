@@ -52,11 +52,12 @@ pub record PlanPlace : Type 0 where
   pub stage : Stage
   pub key : PlanKey
 
--- a compaction of a buffer, over this many attributes
+-- a compaction of a buffer, over this many attributes, and whether old copies of visited keys may be left in the buffer
 pub record PlanView : Type 0 where
   pub victim : ℕ
   pub fields : ℕ
   pub place : PlanPlace
+  pub copied : Bool
 
 abbrev pub stage_cmp : Stage → Stage → Ordering
 stage_cmp = then_cmp (on (λ (s : Stage). s.field) nat_cmp) (on (λ (s : Stage). s.phase) nat_cmp)

@@ -1,6 +1,6 @@
-//! The plan of a compaction: its victim, and the key that it visited last.
+//! The plan of a compaction: its victim, the key that it visited last, and whether old copies may be in the victim.
 
-ghost use Rattle.std.specs.Prelude.{◌≡◌, ◌⊎◌, ◌<◌, ◌≤◌, false, if◌then◌else◌};
+ghost use Rattle.std.specs.Prelude.{◌≡◌, ◌⊎◌, ◌<◌, ◌≤◌, ◌||◌, false, if◌then◌else◌};
 ghost use Rattle.std.specs.declared.cmp.Ordering.TheVariants.{Less};
 ghost use Rattle.attr_compaction.specs.Places.{first_place, is_start, next_stage, place_after, place_cmp, HasKey, IsPast};
 ghost use Rattle.attr_compaction.specs.declared.plan.PlanKey.TheVariants as keys;
@@ -42,12 +42,15 @@ struct Stage {
 }
 
 /// The place of a compaction that empties one buffer. All keys up to it were visited. It only moves forward.
+///
+/// It also keeps whether a key was visited whose old record may be in use in the buffer and belong to no attribute.
 #[derive(Drop)]
 pub struct Plan {
     victim: u32,
     fields: u32,
     stage: Stage,
     next_key: PlanKey,
+    copied: bool,
 }
 
 impl Model for Plan {
@@ -55,7 +58,12 @@ impl Model for Plan {
 
     ghost Value = { PlanView };
 
-    ghost view = { λ p. record { victim = p.victim; fields = p.fields; place = record { stage = p.stage; key = p.next_key } } };
+    ghost view = { λ p. record {
+      victim = p.victim;
+      fields = p.fields;
+      place = record { stage = p.stage; key = p.next_key };
+      copied = p.copied;
+    } };
 
     ghost invariant = { λ p. IsPlanPlace p.fields (record { stage = p.stage; key = p.next_key }) };
 }
@@ -67,6 +75,7 @@ impl Plan {
         ensures victim { result.victim ≡ victim }
         ensures fields { result.fields ≡ fields }
         ensures place { result.place ≡ first_place }
+        ensures copied { result.copied ≡ false }
     {
         Plan {
             victim,
@@ -76,6 +85,7 @@ impl Plan {
                 phase: KEYS,
             },
             next_key: PlanKey::Start,
+            copied: false,
         }
     }
 
@@ -110,20 +120,29 @@ impl Plan {
         &self.next_key
     }
 
+    /// Returns whether an old copy of a visited key may be left in the buffer: `next` was told so of one key at least.
+    pub fn has_copied(&self) -> bool
+        ensures { result ≡ self.now.copied }
+    {
+        self.copied
+    }
+
     /// Moves the place to `done`, a visited key after it. If `done` is `Start`, the phase has no further key, and the
     /// place moves before the first key of the next phase, or of the next attribute after the last phase. After the
-    /// last attribute it is past all keys.
-    pub fn next(&mut self, done: PlanKey)
+    /// last attribute it is past all keys. `copies` says whether the old record of `done` may be in use still.
+    pub fn next(&mut self, done: PlanKey, copies: bool)
         requires phase { self.old.place.stage.phase < PHASES }
         requires done { (done ≡ keys.Start) ⊎ IsPast self.old.place done }
         ensures victim { self.new.victim ≡ self.old.victim }
         ensures fields { self.new.fields ≡ self.old.fields }
         ensures place { self.new.place ≡ place_after self.old.fields self.old.place done }
         ensures rises { place_cmp self.old.place self.new.place ≡ Less }
+        ensures copied { self.new.copied ≡ (copies || self.old.copied) }
     {
         let stage = stage_after(self.fields, self.stage, is_start(&done));
         self.stage = stage;
         self.next_key = done;
+        self.copied = copies | self.copied;
     }
 }
 

@@ -51,7 +51,7 @@ module _ {H : Type 0} (bits buffer : ℕ) (kind : Kind) (type : ValueType) (a b 
       (index_is : IsIndex type n next) (reads_as : index_of type n next ≡ index_of type m dictionary)
       (keys : (r : ℕ) → IsKey m dictionary r → IsKey n next r ⊎ Among r left) (stay : (r : ℕ) → IsKey m dictionary r → n r ≡ m r)
       (turns : Turns a b m n (index_part dictionary ∷ []) (index_part next ∷ entries left ∷ [])) where
-    index_after : After a b m n (documents_part kind documents ∷ index_part dictionary ∷ []) (documents_part kind documents ∷ index_part next ∷ entries left ∷ [])
+    pub index_after : After a b m n (documents_part kind documents ∷ index_part dictionary ∷ []) (documents_part kind documents ∷ index_part next ∷ entries left ∷ [])
         (documents_part kind documents ∷ [])
     index_after = after a b m n (index_part dictionary ∷ []) (index_part next ∷ entries left ∷ []) (documents_part kind documents ∷ [])
         (documents_part kind documents ∷ index_part dictionary ∷ []) (documents_part kind documents ∷ index_part next ∷ entries left ∷ []) both_owned turns
@@ -66,14 +66,14 @@ module _ {H : Type 0} (bits buffer : ℕ) (kind : Kind) (type : ValueType) (a b 
       | inr free ↦ turns.kept r (let e = field_count kind documents dictionary m r in omega arith)
     ])
 
-    documents_are : IsDocuments kind type n documents × (column_at kind type n documents ≡ column_at kind type m documents)
+    pub documents_are : IsDocuments kind type n documents × (column_at kind type n documents ≡ column_at kind type m documents)
         × (documents_refer kind n documents ≡ documents_refer kind m documents)
     documents_are = documents_stay kind type m n documents documents_same refer_same field.documents_are
 
     pub column_same : column_at kind type n documents ≡ column_at kind type m documents
     column_same = documents_are.1
 
-    pub index_moved : ((phase : ℕ) → phase_keys type n documents next phase ≡ phase_keys type m documents dictionary phase)
+    unfoldable pub index_moved : ((phase : ℕ) → phase_keys type n documents next phase ≡ phase_keys type m documents dictionary phase)
         → (IsPlainIndex m dictionary → IsPlainIndex n next) → MovesField bits buffer kind type a b m n documents dictionary documents next
     index_moved keys_are plain = record {
       left = left;
@@ -105,7 +105,7 @@ module _ {H : Type 0} (bits buffer : ℕ) (kind : Kind) (type : ValueType) (a b 
   module _ (index_stays : IndexStays) (next : ℕ) (next_are : IsDocuments kind type n next) (column_is : column_at kind type n next ≡ column_at kind type m documents)
       (come : (r : ℕ) → Among r (documents_refer kind n next) → Among r (documents_refer kind m documents) ⊎ IsKey m dictionary r)
       (turns : Turns a b m n (documents_part kind documents ∷ []) (documents_part kind next ∷ [])) where
-    documents_after : After a b m n (documents_part kind documents ∷ index_part dictionary ∷ []) (documents_part kind next ∷ index_part dictionary ∷ [])
+    pub documents_after : After a b m n (documents_part kind documents ∷ index_part dictionary ∷ []) (documents_part kind next ∷ index_part dictionary ∷ [])
         (index_part dictionary ∷ [])
     documents_after = after a b m n (documents_part kind documents ∷ []) (documents_part kind next ∷ []) (index_part dictionary ∷ [])
         (documents_part kind documents ∷ index_part dictionary ∷ []) (documents_part kind next ∷ index_part dictionary ∷ []) both_owned turns
@@ -117,7 +117,7 @@ module _ {H : Type 0} (bits buffer : ℕ) (kind : Kind) (type : ValueType) (a b 
     pub index_is : IsIndex type n dictionary × (index_of type n dictionary ≡ index_of type m dictionary) × ((ref : ℕ) → IsKey m dictionary ref → IsKey n dictionary ref)
     index_is = index_stays type m n dictionary index_same field.index_is
 
-    pub documents_moved : ((phase : ℕ) → phase_keys type n next dictionary phase ≡ phase_keys type m documents dictionary phase)
+    unfoldable pub documents_moved : ((phase : ℕ) → phase_keys type n next dictionary phase ≡ phase_keys type m documents dictionary phase)
         → MovesField bits buffer kind type a b m n documents dictionary next dictionary
     documents_moved keys_are = record {
       left = [];

@@ -40,6 +40,7 @@ pub key_unmoved : {H : Type 0} (bits buffer : ℕ) (value : Value) (a : Ledger H
 key_unmoved bits buffer value a m root is owns apart = record {
   left = [];
   left_in = tt;
+  left_none = λ far. refl;
   keys = λ ref among. inl among;
   index_is = is;
   reads_as = refl;
@@ -122,6 +123,7 @@ module _ {H : Type 0} (bits buffer : ℕ) (value : Value) (a b : Ledger H) (m n 
         record {
           left = key ∷ [];
           left_in = (record { is_key = found_among (beside_value value m) (key, word) (tree_pairs m root) found; lies = lies }, tt);
+          left_none = λ far. absurd (far key (key_of value m root (Some (key, word)) found) lies);
           keys = λ ref among. kept ref (opened.was ref among);
           index_is = set_is value b m n root key word copy word (entry key ∷ []) start found opened.reads key_ready c o next makes;
           reads_as = set_index value b m n root key word copy word (entry key ∷ []) start found opened.reads key_ready c o next makes;

@@ -120,6 +120,7 @@ module _ {H : Type 0} (bits : ℕ) (plan : PlanView) (a : AttributeTrees) (old :
     module _ (stay : DocumentsStay) (same : KeysAreSame) where
       pub key_done : KeyMoveClears H → (value : AnyValue) → CanMove bits old m a plan 0 (Value value)
           → MovesKey bits plan.victim value old new m n a.dictionary next → Moved bits plan (Value value) old new m n a with_index
+      unfolding index_moved
       key_done clears value can moves =
           let typed = typed_value 0 value (omega arith) can in
           let index : IsIndex a.type n next = subst (λ t. IsIndex t n next) typed moves.index_is in
@@ -132,10 +133,12 @@ module _ {H : Type 0} (bits : ℕ) (plan : PlanView) (a : AttributeTrees) (old :
                 stay next moves.left moves.left_in index reads moves.keys stays moves.turns
                 (λ phase. same a.kind a.type m n a.documents a.dictionary a.documents next phase reads moves.docs column) moves.plain;
             cleared = clears bits plan.victim plan.place.stage.field next plan.place value old new m n a typed (turn 0 (Value value) can) moves can.cleared;
+            left_none = λ copies. moves.left_none (λ ref here. copies.apart value ref can.phase_is refl here);
           }
 
       pub list_done : ListMoveClears H → LeavesBuffer bits plan.victim old new m n → (value : AnyValue) (doc : ℕ) → CanMove bits old m a plan 2 (Pair value doc)
           → MovesList bits plan.victim doc value old new m n a.dictionary next → Moved bits plan (Pair value doc) old new m n a with_index
+      unfolding index_moved
       list_done clears leaves value doc can moves =
           let typed = typed_pair 2 value doc (omega arith) can in
           let index : IsIndex a.type n next = subst (λ t. IsIndex t n next) typed moves.index_is in
@@ -153,10 +156,12 @@ module _ {H : Type 0} (bits : ℕ) (plan : PlanView) (a : AttributeTrees) (old :
                 leaves (owned_index 2 (Pair value doc) can)
                 (documents_same bits plan.victim a.kind a.type old new m n a.documents a.dictionary can.field can.owns can.refers stay next [] tt index reads kept stays turns)
                 can.cleared;
+            left_none = λ copies. refl;
           }
 
       pub value_nodes_done : NodeMoveClears H → LeavesBuffer bits plan.victim old new m n → (value : AnyValue) → CanMove bits old m a plan 3 (Value value)
           → MovesNodes bits plan.victim value old new m n a.dictionary next → Moved bits plan (Value value) old new m n a with_index
+      unfolding index_moved
       value_nodes_done clears leaves value can moves =
           let typed = typed_value 3 value (omega arith) can in
           let index : IsIndex a.type n next = subst (λ t. IsIndex t n next) typed moves.index_is in
@@ -172,6 +177,7 @@ module _ {H : Type 0} (bits : ℕ) (plan : PlanView) (a : AttributeTrees) (old :
                 leaves (owned_index 3 (Value value) can)
                 (documents_same bits plan.victim a.kind a.type old new m n a.documents a.dictionary can.field can.owns can.refers stay next [] tt index reads kept stays turns)
                 can.cleared;
+            left_none = λ copies. refl;
           }
 
     -- ---- the documents are others
@@ -181,6 +187,7 @@ module _ {H : Type 0} (bits : ℕ) (plan : PlanView) (a : AttributeTrees) (old :
     module _ (stay : IndexStays) (same : KeysAreSame) where
       pub items_done : ItemsAreCleared H → (doc : ℕ) → CanMove bits old m a plan 1 (Doc doc)
           → MovesItems bits plan.victim doc a.kind a.type old new m n a.documents a.dictionary next → Moved bits plan (Doc doc) old new m n a with_documents
+      unfolding documents_moved
       items_done clears doc can moves =
           let index = index_is bits plan.victim a.kind a.type old new m n a.documents a.dictionary can.field can.owns can.refers
           stay next moves.documents_are moves.column_is moves.refers moves.turns in
@@ -192,11 +199,13 @@ module _ {H : Type 0} (bits : ℕ) (plan : PlanView) (a : AttributeTrees) (old :
                 (λ phase. same a.kind a.type m n a.documents a.dictionary next a.dictionary phase index.1 (dictionary_docs m n a.dictionary words) moves.column_is);
             cleared = clears bits plan.victim plan.place.stage.field doc next plan.place a old new m n refl can.phase_is (is_next 1 (Doc doc) can) (trees 1 (Doc doc) can)
                 words moves can.cleared;
+            left_none = λ copies. refl;
           }
 
       pub map_done : MapIsCleared H → LeavesBuffer bits plan.victim old new m n → (doc : ℕ) → CanMove bits old m a plan 3 (Doc doc)
           → Owns old m (documents_part a.kind a.documents ∷ [])
           → MovesDocumentNodes bits plan.victim doc a.kind a.type old new m n a.documents next → Moved bits plan (Doc doc) old new m n a with_documents
+      unfolding documents_moved
       map_done clears leaves doc can owned moves =
           let refers : (r : ℕ) → Among r (documents_refer a.kind n next) → Among r (documents_refer a.kind m a.documents) ⊎ IsKey m a.dictionary r =
           λ r among. inl (subst (Among r) (refer_as old new m n a.documents next moves.pairs moves.turns a.kind moves.stay) among) in
@@ -211,4 +220,5 @@ module _ {H : Type 0} (bits : ℕ) (plan : PlanView) (a : AttributeTrees) (old :
                 (λ phase. same a.kind a.type m n a.documents a.dictionary next a.dictionary phase index.1 (dictionary_docs m n a.dictionary words) moves.column_is);
             cleared = clears bits plan.victim plan.place.stage.field doc next plan.place a old new m n refl can.phase_is (is_next 3 (Doc doc) can) (trees 3 (Doc doc) can)
                 words owned leaves.unmade leaves.words moves can.cleared;
+            left_none = λ copies. refl;
           }

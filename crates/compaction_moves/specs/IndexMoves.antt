@@ -33,10 +33,12 @@ pub record IsKeyIn (bits buffer : ℕ) (m : Records) (root ref : ℕ) : Type 0 w
 
 -- the key of a value no longer lies in the buffer. The pairs of all other values are unchanged, and so is the value's
 -- list. If the value has another key now, its old key is still in use and belongs to no index; every other key is
--- still a key. The records of the old keys and lists are unchanged
+-- still a key. No old key is left if the value's key did not lie in the buffer. The records of the old keys and lists
+-- are unchanged
 pub record MovesKey {H : Type 0} (bits buffer : ℕ) (value : Value) (old new : Ledger H) (m n : Records) (root next : ℕ) : Type 0 where
   pub left : List ℕ
   pub left_in : AllByRecursion (IsKeyIn bits buffer m root) left
+  pub left_none : ((key : ℕ) → key_at value m root ≡ Some key → buffer_of bits key ≢ buffer) → left ≡ []
   pub keys : (ref : ℕ) → IsKey m root ref → IsKey n next ref ⊎ Among ref left
   pub index_is : IsIndex (type_of value) n next
   pub reads_as : index_of (type_of value) n next ≡ index_of (type_of value) m root

@@ -11,7 +11,7 @@ ghost use Rattle.attr_field.specs.Fields.{field_part, IsField, RefersBeside};
 ghost use Rattle.image_format.specs.Documents.{column_at};
 ghost use Rattle.compaction_moves.specs.Counts.{MakesKey};
 ghost use Rattle.value_index.specs.Forms.{IsPlainIndex};
-ghost use Rattle.compaction_moves.specs.FieldMoves.{HasBegun, MovesField};
+ghost use Rattle.compaction_moves.specs.FieldMoves.{HasBegun};
 ghost use Rattle.compaction_moves.specs.Steps.{CanMove, Moved};
 ghost use Rattle.attr_compaction.specs.PhaseKeys.{key_past, phase_keys};
 
@@ -98,13 +98,9 @@ pub fn move_one<const OFFSET_BITS: u32, S: Store<OFFSET_BITS>>(
         plan.now.place.stage.phase) ≡ Some key.now }
     requires cleared { IsClearedField OFFSET_BITS plan.now.victim plan.now.place plan.now.place.stage.field (S.records store.old)
         (trees_of_roots field.now roots) }
-    ensures moves { IfOk result (λ next. MovesField OFFSET_BITS plan.now.victim field.now.kind field.now.value
-        (S.ledger store.old) (S.ledger store.new) (S.records store.old) (S.records store.new)
-        roots.entry.documents roots.entry.dictionary next.documents next.dictionary) }
     // The key is visited, and everything visited before is still outside the victim.
-    ensures cleared { IfOk result (λ next. IsClearedField OFFSET_BITS plan.now.victim
-        (record { stage = plan.now.place.stage; key = key.now }) plan.now.place.stage.field (S.records store.new)
-        (trees_of_roots field.now next)) }
+    ensures moved { IfOk result (λ next. Moved OFFSET_BITS plan.now key.now (S.ledger store.old) (S.ledger store.new)
+        (S.records store.old) (S.records store.new) (trees_of_roots field.now roots.entry) (trees_of_roots field.now next)) }
     ensures counts { MakesKey (IsPlainIndex (S.records store.old) roots.entry.dictionary) field.now.kind field.now.value
         (column_at field.now.kind field.now.value (S.records store.old) roots.entry.documents) (S.ledger store.old) (S.ledger store.new) }
     ensures refuses { IfErr result (RefusesOf (IsUsedWidth (S.ledger store.old) (S.records store.old)) (S.ledger store.old)

@@ -1,5 +1,6 @@
 pub mod KeyCounts
 pub mod KeyLemmas
+pub mod CopyLemmas
 pub mod PlainLemmas
 pub mod Moving
 pub mod UnitSteps

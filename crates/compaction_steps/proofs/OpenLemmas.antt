@@ -105,7 +105,7 @@ module _ {H : Type 0} (bits root : ℕ) (old : Ledger H) (m : Records) (fields :
 
   module _ (first : FirstIsCleared) (mid : Ledger H) (victim count : ℕ) (seals : Seals old mid victim) (is : IsVictim bits old victim) (unfinished : old.finished ≡ None) (count_is : count ≡ length fields) where
     abbrev begun : PlanView
-    begun = record { victim = victim; fields = count; place = first_place }
+    begun = record { victim = victim; fields = count; place = first_place; copied = false }
 
     own : (b : ℕ) → nat_eq b b ≡ true
     own b = by (nat_eq b b) refl
@@ -136,9 +136,9 @@ module _ {H : Type 0} (bits root : ℕ) (old : Ledger H) (m : Records) (fields :
       last = record { last = λ over. absurd (omega arith) };
     }
 
-    pub opens_begun : (n : Records) (plan : PlanView) → n ≡ m → plan.victim ≡ victim → plan.fields ≡ count → plan.place ≡ first_place → OpensPlan bits root old mid m n fields trees None plan
-    opens_begun n plan same v f p =
-        subst (λ (x : PlanView). OpensPlan bits root old mid m n fields trees None x) (λ i. record { victim = sym v i; fields = sym f i; place = sym p i })
+    pub opens_begun : (n : Records) (plan : PlanView) → n ≡ m → plan.victim ≡ victim → plan.fields ≡ count → plan.place ≡ first_place → plan.copied ≡ false → OpensPlan bits root old mid m n fields trees None plan
+    opens_begun n plan same v f p c =
+        subst (λ (x : PlanView). OpensPlan bits root old mid m n fields trees None x) (λ i. record { victim = sym v i; fields = sym f i; place = sym p i; copied = sym c i })
         (subst (λ (k : Records). OpensPlan bits root old mid m k fields trees None begun) (sym same)
         (subst (λ (l : Ledger H). OpensPlan bits root old l m m fields trees None begun) (sym seals.same) opens_here))
 

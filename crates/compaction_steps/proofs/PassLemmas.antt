@@ -55,7 +55,7 @@ pub passed_way : OthersStayCleared → {H : Type 0} (bits : ℕ) (ledger : Ledge
     → new.victim ≡ plan.victim → new.fields ≡ plan.fields → new.place ≡ place_after plan.fields plan.place key → IsUnderWay bits ledger m trees new
 passed_way others bits ledger m trees plan new a key way each at fits cleared victim fields place =
     subst (λ (p : PlanView). IsUnderWay bits ledger m trees p)
-    (plan_is new plan.victim plan.fields (at_key plan.place key) victim fields (place ∙ place_is plan.fields plan.place key fits.1)) (record {
+    (plan_is new plan.victim plan.fields (at_key plan.place key) new.copied victim fields (place ∙ place_is plan.fields plan.place key fits.1) refl) (record {
       sealed = way.sealed;
       unfinished = way.unfinished;
       all = way.all;

@@ -1,5 +1,5 @@
 -- The ends of a turn: nothing was done, a phase is over, a key was refused or moved.
-use Rattle.std.proofs.Common.{◌≡◌, ℕ, ◌<◌, Bool, cond, List, length, set, get_or, Option, None, Some, Less, refl, sym, ap, subst, ◌∙◌, arith, inr, ◌⊎◌}
+use Rattle.std.proofs.Common.{◌≡◌, ℕ, ◌<◌, Bool, ◌||◌, cond, List, length, set, get_or, Option, None, Some, Less, refl, sym, ap, subst, ◌∙◌, arith, inr, ◌⊎◌}
 use Rattle.std.proofs.lemmas.Option.{slice_get_read}
 use Rattle.std.specs.Prelude.{slice_get, unwrap_or}
 use Rattle.std.specs.List.{AllByRecursion}
@@ -41,12 +41,13 @@ goes_on m trees old new next is victim fields place rises = record {
   rises = rises;
 }
 
-pub plan_is : (new : PlanView) (victim fields : ℕ) (place : PlanPlace) → new.victim ≡ victim → new.fields ≡ fields → new.place ≡ place
-    → record { victim = victim; fields = fields; place = place } ≡ new
-plan_is new victim fields place v f p =
-    ap (λ (x : ℕ). record { victim = x; fields = fields; place = place }) (sym v)
-    ∙ ap (λ (x : ℕ). record { victim = new.victim; fields = x; place = place }) (sym f)
-    ∙ ap (λ (x : PlanPlace). record { victim = new.victim; fields = new.fields; place = x }) (sym p)
+pub plan_is : (new : PlanView) (victim fields : ℕ) (place : PlanPlace) (copied : Bool) → new.victim ≡ victim → new.fields ≡ fields → new.place ≡ place → new.copied ≡ copied
+    → record { victim = victim; fields = fields; place = place; copied = copied } ≡ new
+plan_is new victim fields place copied v f p c =
+    ap (λ (x : ℕ). record { victim = x; fields = fields; place = place; copied = copied }) (sym v)
+    ∙ ap (λ (x : ℕ). record { victim = new.victim; fields = x; place = place; copied = copied }) (sym f)
+    ∙ ap (λ (x : PlanPlace). record { victim = new.victim; fields = new.fields; place = x; copied = copied }) (sym p)
+    ∙ ap (λ (x : Bool). record { victim = new.victim; fields = new.fields; place = new.place; copied = x }) (sym c)
 
 pub place_is : (fields : ℕ) (at : PlanPlace) (key : PlanKey) → IsPast at key → place_after fields at key ≡ record { stage = at.stage; key = key }
 place_is fields at key past =
@@ -62,7 +63,7 @@ pub over_way : PhaseEndLeavesCleared → {H : Type 0} (bits : ℕ) (ledger : Led
     → None ≡ key_past plan.place.key (keys_at m a plan.place.stage.phase)
     → new.victim ≡ plan.victim → new.fields ≡ plan.fields → new.place ≡ place_after plan.fields plan.place Start → IsUnderWay bits ledger m trees new
 over_way ends bits ledger m trees plan new a way each few at none victim fields place =
-    subst (λ (p : PlanView). IsUnderWay bits ledger m trees p) (plan_is new plan.victim plan.fields (place_after plan.fields plan.place Start) victim fields place) (record {
+    subst (λ (p : PlanView). IsUnderWay bits ledger m trees p) (plan_is new plan.victim plan.fields (place_after plan.fields plan.place Start) new.copied victim fields place refl) (record {
       sealed = way.sealed;
       unfinished = way.unfinished;
       all = way.all;
@@ -92,12 +93,12 @@ left_all bits old new m o fields trees root plan holds way left keeps = record {
 }
 
 -- ---- a key was moved
-pub moved_way : {H : Type 0} (bits : ℕ) (ledger : Ledger H) (m o : Records) (fields : List Field) (trees next : List AttributeTrees) (root : ℕ) (plan new : PlanView) (key : PlanKey)
-    → CompactsTo bits ledger m o fields trees next root (plan_at plan key) → IsPast plan.place key → new.victim ≡ plan.victim → new.fields ≡ plan.fields
-    → new.place ≡ place_after plan.fields plan.place key → CompactsTo bits ledger m o fields trees next root new
-moved_way bits ledger m o fields trees next root plan new key all past victim fields_are place =
+pub moved_way : {H : Type 0} (bits : ℕ) (ledger : Ledger H) (m o : Records) (fields : List Field) (trees next : List AttributeTrees) (root : ℕ) (plan new : PlanView) (copies : Bool) (key : PlanKey)
+    → CompactsTo bits ledger m o fields trees next root (plan_at plan copies key) → IsPast plan.place key → new.victim ≡ plan.victim → new.fields ≡ plan.fields
+    → new.place ≡ place_after plan.fields plan.place key → new.copied ≡ (copies || plan.copied) → CompactsTo bits ledger m o fields trees next root new
+moved_way bits ledger m o fields trees next root plan new copies key all past victim fields_are place copied =
     subst (λ (p : PlanView). CompactsTo bits ledger m o fields trees next root p)
-    (plan_is new plan.victim plan.fields (record { stage = plan.place.stage; key = key }) victim fields_are (place ∙ place_is plan.fields plan.place key past)) all
+    (plan_is new plan.victim plan.fields (record { stage = plan.place.stage; key = key }) (copies || plan.copied) victim fields_are (place ∙ place_is plan.fields plan.place key past) copied) all
 
 pub past_next : (m : Records) (a : AttributeTrees) (at : PlanPlace) (key : PlanKey) → at.stage.phase < PHASES → Some key ≡ key_past at.key (keys_at m a at.stage.phase) → (key ≡ Start) ⊎ IsPast at key
 past_next m a at key few next = inr (next_fits m a at key few (sym next)).1

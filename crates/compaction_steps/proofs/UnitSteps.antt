@@ -157,8 +157,8 @@ module _ {H : Type 0} (bits : ℕ) (old : Ledger H) (m : Records) (fields : List
     typed = subst (λ o. IfSome o (λ (c : AttributeTrees). HasType c.type key)) (sym (get_set-same trees i a b at))
         (subst (λ (t : ValueType). HasType t key) (sym type) (next_fits m a plan.place key few next).0)
 
-    pub unit_compacts : CompactsTo bits new m o fields trees after root (record { victim = plan.victim; fields = plan.fields; place = place })
-    unit_compacts = record {
+    pub unit_compacts : (copied : Bool) → CompactsTo bits new m o fields trees after root (record { victim = plan.victim; fields = plan.fields; place = place; copied = copied })
+    unit_compacts copied = record {
       holds = new_holds laws bits plan.victim (record old { unit = true }) mid m n fields trees root i a b at holds.are_fields begun_owns begun_refer part new o accepts old way.sealed
           (λ r. refl) holds.owns keeps.sealed (keeps.unit ∙ holds.unit) (keeps.finished ∙ way.unfinished);
       under_way = record {

@@ -1,8 +1,9 @@
 -- A compaction of attributes in progress, and the effect of one turn.
-use Rattle.std.specs.Prelude.{◌≡◌, ℕ, ◌<◌, Bool, true, List, length, slice_get, Option, None, Some, unwrap_or}
+use Rattle.std.specs.Prelude.{◌≡◌, ℕ, ◌<◌, Bool, true, ◌||◌, List, length, slice_get, Option, None, Some, unwrap_or}
 use Rattle.std.specs.List.{AllByRecursion, AllZip}
 use Rattle.std.specs.Option.{IfSome, option_and_then}
 use Rattle.std.specs.declared.cmp.Ordering.TheVariants.{Less}
+use Rattle.entry_ref.specs.References.{buffer_of}
 use Rattle.entry_ref.specs.Records.{Records}
 use Rattle.arena_api.specs.Works.{active_width}
 use Rattle.store_api.specs.Ledgers.{Ledger}
@@ -11,11 +12,14 @@ use Rattle.store_api.specs.declared.store.StoreError.TheVariants as errors
 use Rattle.compaction_moves.specs.Cleared.{IsCleared}
 use Rattle.attr_compaction.specs.Places.{place_after, place_cmp, PlanPlace, PlanView}
 use Rattle.attr_compaction.specs.declared.plan.PlanKey.{PlanKey}
-use Rattle.attr_compaction.specs.declared.plan.PlanKey.TheVariants.{Start}
+use Rattle.attr_compaction.specs.declared.plan.PlanKey.TheVariants.{Start, Value}
+use Rattle.attr_compaction.specs.declared.plan.TheConstants.{KEYS}
+use Rattle.attr_types.specs.declared.value.Value.{Value as AnyValue}
 use Rattle.image_format.specs.Tables.{AttributeTrees}
 use Rattle.attr_types.specs.declared.field.Field.{Field}
 use Rattle.attr_compaction.specs.PhaseKeys.{key_past, phase_keys, HasType}
 use Rattle.value_index.specs.Forms.{IsPlainIndex}
+use Rattle.value_index.specs.Indexes.{key_at}
 use Rattle.compaction_steps.specs.Passes.{GoesThrough}
 use Rattle.attr_operations.specs.Fields.{HoldsAttributes, IsOfFormAt}
 use Rattle.attr_operations.specs.Views.{table_at}
@@ -88,9 +92,27 @@ pub record CompactsTo {H : Type 0} (bits : ℕ) (new : Ledger H) (m n : Records)
   pub table : table_at n next ≡ table_at m trees
   pub keys : KeepKeys m n trees next
 
--- the plan after a key of the place's phase is visited
-abbrev pub plan_at : PlanView → PlanKey → PlanView
-plan_at plan key = record { victim = plan.victim; fields = plan.fields; place = record { stage = plan.place.stage; key = key } }
+-- the plan after a key of the place's phase is visited, whose old record may be in use still
+abbrev pub plan_at : PlanView → Bool → PlanKey → PlanView
+plan_at plan copies key = record {
+  victim = plan.victim;
+  fields = plan.fields;
+  place = record { stage = plan.place.stage; key = key };
+  copied = copies || plan.copied;
+}
+
+-- a value has a record, and it lies in the buffer
+pub record HasRecordIn (bits buffer : ℕ) (value : AnyValue) (m : Records) (root : ℕ) : Type 0 where
+  pub ref : ℕ
+  pub at : key_at value m root ≡ Some ref
+  pub lies : buffer_of bits ref ≡ buffer
+
+-- the move of this key copies the record of a value: in the phase of the keys, the record lies in the victim
+pub record CopiesOne (bits : ℕ) (m : Records) (a : AttributeTrees) (plan : PlanView) (key : PlanKey) : Type 0 where
+  pub phase_is : plan.place.stage.phase ≡ KEYS
+  pub value : AnyValue
+  pub key_is : key ≡ Value value
+  pub record_in : HasRecordIn bits plan.victim value m a.dictionary
 
 -- a store that was full for a width has fewer spare entries of it than this
 abbrev pub SparesBelow : {H : Type 0} → Ledger H → ℕ → StoreError → Type 0

@@ -43,7 +43,7 @@ pub fn pass_keys<const OFFSET_BITS: u32, S: Store<OFFSET_BITS>>(
     match pass_clear(alloc, store, field, own, plan, most) {
         Some(passed) => {
             let Passed { keys, last } = passed;
-            plan.next(last);
+            plan.next(last, false);
             keys
         }
         None => 0,

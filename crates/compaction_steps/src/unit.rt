@@ -8,7 +8,7 @@ ghost use Rattle.attr_operations.specs.Views.{table_at};
 ghost use Rattle.compaction_steps.specs.Counts.{MakesKeys};
 ghost use Rattle.compaction_steps.specs.Units.{next_at, ArePlain, GoesOn, HasActive, IsUnderWay, KeepKeys, LeavesAtEnd, SparesBelow};
 
-use crate::key::{move_unit, next_of};
+use crate::key::{copies_record, move_unit, next_of};
 use crate::stage_law;
 use attr_compaction::{Plan, PlanKey};
 use attr_field::FieldRoots;
@@ -70,10 +70,11 @@ pub fn compact_one<const OFFSET_BITS: u32, S: Store<OFFSET_BITS>>(
         return Err(StoreError::Memory);
     };
     let Some(key) = next else {
-        plan.next(PlanKey::Start);
+        plan.next(PlanKey::Start, false);
         return Ok(Turn::PhaseOver);
     };
+    let copies = copies_record(store, field, own, plan, &key);
     roots[i] = move_unit(alloc, store, fields, roots, root, field, own, plan, &key)?;
-    plan.next(key);
+    plan.next(key, copies);
     Ok(Turn::Moved)
 }

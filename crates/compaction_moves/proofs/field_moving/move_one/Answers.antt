@@ -1,10 +1,8 @@
 use Rattle.std.proofs.Common.{sym, subst, arith}
 use Rattle.std.specs.Prelude.{IfOk}
-use Rattle.compaction_moves.specs.Cleared.{trees_of_roots, IsClearedField}
+use Rattle.compaction_moves.specs.Cleared.{trees_of_roots}
 use Rattle.attr_compaction.specs.declared.plan.PlanKey.{PlanKey}
 use Rattle.attr_compaction.specs.declared.plan.PlanKey.TheVariants.{Start, Value, Doc, Pair}
-use Rattle.attr_field.proofs.RefLemmas.{if_ok}
-use Rattle.compaction_moves.specs.FieldMoves.{MovesField}
 use Rattle.compaction_moves.specs.Steps.{Moved}
 use Rattle.compaction_moves.proofs.MoveLemmas.{as_given, not_start, pair_lists}
 use Rattle.compaction_moves.proofs.field_moving.move_one.Goals as goal
@@ -57,8 +55,8 @@ move_value_list-requires g c =
     c.requires.cleared (Pair c.in-Pair.value c.in-Pair.doc) c.in-Pair.is in
     (omega arith, pair_lists bits plan a old m phase c.in-Pair.value c.in-Pair.doc c.requires.phase can)
 
-pub returns-in-Value-clause-moves : goal.returns-in-Value-clause-moves
-returns-in-Value-clause-moves g c =
+pub returns-in-Value-clause-moved : goal.returns-in-Value-clause-moved
+returns-in-Value-clause-moved g c =
     let bits = g.row.OFFSET_BITS in
     let plan = c.args.plan.now in
     let a = trees_of_roots c.args.field.now c.args.roots in
@@ -66,24 +64,8 @@ returns-in-Value-clause-moves g c =
     let new = g.S.Store.ledger c.move_by_value.new.store in
     let m = g.S.Frozen.records c.args.store.now in
     let n = g.S.Frozen.records c.move_by_value.new.store in
-    if_ok (λ next. Moved bits plan (Value c.in-Value.value) old new m n a (trees_of_roots c.args.field.now next))
-    (λ next. MovesField bits plan.victim a.kind a.type old new m n a.documents a.dictionary next.documents next.dictionary) c.move_by_value.result c.move_by_value.ensures.moved
-    (λ next moved. moved.moves)
-
-pub returns-in-Value-clause-cleared : goal.returns-in-Value-clause-cleared
-returns-in-Value-clause-cleared g c =
-    let bits = g.row.OFFSET_BITS in
-    let plan = c.args.plan.now in
-    let a = trees_of_roots c.args.field.now c.args.roots in
-    let old = g.S.Store.ledger c.args.store.now in
-    let new = g.S.Store.ledger c.move_by_value.new.store in
-    let m = g.S.Frozen.records c.args.store.now in
-    let n = g.S.Frozen.records c.move_by_value.new.store in
-    subst (λ (key : PlanKey). IfOk c.move_by_value.result (λ next. IsClearedField bits plan.victim (record { stage = plan.place.stage; key = key }) plan.place.stage.field n
-    (trees_of_roots c.args.field.now next))) (sym c.in-Value.is)
-    (if_ok (λ next. Moved bits plan (Value c.in-Value.value) old new m n a (trees_of_roots c.args.field.now next))
-    (λ next. IsClearedField bits plan.victim (record { stage = plan.place.stage; key = (Value c.in-Value.value) }) plan.place.stage.field n (trees_of_roots c.args.field.now next)) c.move_by_value.result
-    c.move_by_value.ensures.moved (λ next moved. moved.cleared))
+    subst (λ (key : PlanKey). IfOk c.move_by_value.result (λ next. Moved bits plan key old new m n a (trees_of_roots c.args.field.now next))) (sym c.in-Value.is)
+    c.move_by_value.ensures.moved
 
 pub returns-in-Value-clause-counts : goal.returns-in-Value-clause-counts
 returns-in-Value-clause-counts g c = c.move_by_value.ensures.counts
@@ -94,8 +76,8 @@ returns-in-Value-clause-refuses g c = c.move_by_value.ensures.refuses
 pub returns-in-Value-clause-may : goal.returns-in-Value-clause-may
 returns-in-Value-clause-may g c = c.move_by_value.ensures.may
 
-pub returns-in-Doc-clause-moves : goal.returns-in-Doc-clause-moves
-returns-in-Doc-clause-moves g c =
+pub returns-in-Doc-clause-moved : goal.returns-in-Doc-clause-moved
+returns-in-Doc-clause-moved g c =
     let bits = g.row.OFFSET_BITS in
     let plan = c.args.plan.now in
     let a = trees_of_roots c.args.field.now c.args.roots in
@@ -103,24 +85,8 @@ returns-in-Doc-clause-moves g c =
     let new = g.S.Store.ledger c.move_by_document.new.store in
     let m = g.S.Frozen.records c.args.store.now in
     let n = g.S.Frozen.records c.move_by_document.new.store in
-    if_ok (λ next. Moved bits plan (Doc c.in-Doc.number) old new m n a (trees_of_roots c.args.field.now next))
-    (λ next. MovesField bits plan.victim a.kind a.type old new m n a.documents a.dictionary next.documents next.dictionary) c.move_by_document.result c.move_by_document.ensures.moved
-    (λ next moved. moved.moves)
-
-pub returns-in-Doc-clause-cleared : goal.returns-in-Doc-clause-cleared
-returns-in-Doc-clause-cleared g c =
-    let bits = g.row.OFFSET_BITS in
-    let plan = c.args.plan.now in
-    let a = trees_of_roots c.args.field.now c.args.roots in
-    let old = g.S.Store.ledger c.args.store.now in
-    let new = g.S.Store.ledger c.move_by_document.new.store in
-    let m = g.S.Frozen.records c.args.store.now in
-    let n = g.S.Frozen.records c.move_by_document.new.store in
-    subst (λ (key : PlanKey). IfOk c.move_by_document.result (λ next. IsClearedField bits plan.victim (record { stage = plan.place.stage; key = key }) plan.place.stage.field n
-    (trees_of_roots c.args.field.now next))) (sym c.in-Doc.is)
-    (if_ok (λ next. Moved bits plan (Doc c.in-Doc.number) old new m n a (trees_of_roots c.args.field.now next))
-    (λ next. IsClearedField bits plan.victim (record { stage = plan.place.stage; key = (Doc c.in-Doc.number) }) plan.place.stage.field n (trees_of_roots c.args.field.now next)) c.move_by_document.result
-    c.move_by_document.ensures.moved (λ next moved. moved.cleared))
+    subst (λ (key : PlanKey). IfOk c.move_by_document.result (λ next. Moved bits plan key old new m n a (trees_of_roots c.args.field.now next))) (sym c.in-Doc.is)
+    c.move_by_document.ensures.moved
 
 pub returns-in-Doc-clause-counts : goal.returns-in-Doc-clause-counts
 returns-in-Doc-clause-counts g c = c.move_by_document.ensures.counts
@@ -131,8 +97,8 @@ returns-in-Doc-clause-refuses g c = c.move_by_document.ensures.refuses
 pub returns-in-Doc-clause-may : goal.returns-in-Doc-clause-may
 returns-in-Doc-clause-may g c = c.move_by_document.ensures.may
 
-pub returns-in-Pair-clause-moves : goal.returns-in-Pair-clause-moves
-returns-in-Pair-clause-moves g c =
+pub returns-in-Pair-clause-moved : goal.returns-in-Pair-clause-moved
+returns-in-Pair-clause-moved g c =
     let bits = g.row.OFFSET_BITS in
     let plan = c.args.plan.now in
     let a = trees_of_roots c.args.field.now c.args.roots in
@@ -140,24 +106,8 @@ returns-in-Pair-clause-moves g c =
     let new = g.S.Store.ledger c.move_value_list.new.store in
     let m = g.S.Frozen.records c.args.store.now in
     let n = g.S.Frozen.records c.move_value_list.new.store in
-    if_ok (λ next. Moved bits plan (Pair c.in-Pair.value c.in-Pair.doc) old new m n a (trees_of_roots c.args.field.now next))
-    (λ next. MovesField bits plan.victim a.kind a.type old new m n a.documents a.dictionary next.documents next.dictionary) c.move_value_list.result c.move_value_list.ensures.moved
-    (λ next moved. moved.moves)
-
-pub returns-in-Pair-clause-cleared : goal.returns-in-Pair-clause-cleared
-returns-in-Pair-clause-cleared g c =
-    let bits = g.row.OFFSET_BITS in
-    let plan = c.args.plan.now in
-    let a = trees_of_roots c.args.field.now c.args.roots in
-    let old = g.S.Store.ledger c.args.store.now in
-    let new = g.S.Store.ledger c.move_value_list.new.store in
-    let m = g.S.Frozen.records c.args.store.now in
-    let n = g.S.Frozen.records c.move_value_list.new.store in
-    subst (λ (key : PlanKey). IfOk c.move_value_list.result (λ next. IsClearedField bits plan.victim (record { stage = plan.place.stage; key = key }) plan.place.stage.field n
-    (trees_of_roots c.args.field.now next))) (sym c.in-Pair.is)
-    (if_ok (λ next. Moved bits plan (Pair c.in-Pair.value c.in-Pair.doc) old new m n a (trees_of_roots c.args.field.now next))
-    (λ next. IsClearedField bits plan.victim (record { stage = plan.place.stage; key = (Pair c.in-Pair.value c.in-Pair.doc) }) plan.place.stage.field n (trees_of_roots c.args.field.now next)) c.move_value_list.result
-    c.move_value_list.ensures.moved (λ next moved. moved.cleared))
+    subst (λ (key : PlanKey). IfOk c.move_value_list.result (λ next. Moved bits plan key old new m n a (trees_of_roots c.args.field.now next))) (sym c.in-Pair.is)
+    c.move_value_list.ensures.moved
 
 pub returns-in-Pair-clause-counts : goal.returns-in-Pair-clause-counts
 returns-in-Pair-clause-counts g c = c.move_value_list.ensures.counts

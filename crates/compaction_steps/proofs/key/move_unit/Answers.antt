@@ -1,4 +1,4 @@
-use Rattle.std.proofs.Common.{◌≡◌, refl, Some, sym, ap, subst, ◌∙◌, arith}
+use Rattle.std.proofs.Common.{◌≡◌, ◌||◌, refl, Some, sym, ap, subst, ◌∙◌, arith}
 use Rattle.entry_ref.specs.Records.{Records}
 use Rattle.store_api.specs.Calls.{IsUsedWidth, RefusesOf}
 use Rattle.store_api.specs.Units.{MayDo}
@@ -48,13 +48,13 @@ returns-in-Ok-clause-moves g c =
     (ledger c.begin.new.self) (records c.begin.new.self) c.begin.ensures.ledger c.begin.ensures.records in
     let keeps = keeps_unit old mid new c.requires.holds.unit (subst (λ l. MayDo l mid) c.begin.ensures.ledger c.move_one.ensures.may)
     c.accept.ensures.unit c.accept.ensures.work c.accept.ensures.shape c.accept.ensures.sealed c.accept.ensures.finished in
-    unit_compacts _ old (records c.args.store.now) c.args.fields.now (trees_of c.args.fields.now c.args.roots.now) c.args.root c.args.plan.now a
+    λ copies. unit_compacts _ old (records c.args.store.now) c.args.fields.now (trees_of c.args.fields.now c.args.roots.now) c.args.root c.args.plan.now a
     c.requires.holds c.requires.under_way c.requires.at
     (laws_of c.field_law.ensures.stays c.field_law.ensures.lawful c.field_law.ensures.keys) c.same_law.ensures.one c.stage_law.ensures.others mid new (records c.move_one.new.store) (records c.accept.new.self)
     c.args.key.now b refl c.requires.phase c.requires.next
     (part_begun _ c.args.plan.now.victim old (ledger c.begin.new.self) mid (records c.args.store.now) (records c.begin.new.self) (records c.move_one.new.store) a b refl refl
-    c.begin.ensures.ledger c.begin.ensures.records meets.field c.in-Ok.ensures.moves)
-    c.in-Ok.ensures.cleared c.accept.ensures keeps
+    c.begin.ensures.ledger c.begin.ensures.records meets.field c.in-Ok.ensures.moved.moves)
+    c.in-Ok.ensures.moved.cleared c.accept.ensures keeps (copies || c.args.plan.now.copied)
 
 pub returns-in-Ok-clause-keeps : goal.returns-in-Ok-clause-keeps
 returns-in-Ok-clause-keeps g c =

@@ -3,7 +3,7 @@ use Rattle.std.proofs.lemmas.Result.{err_from_is_err_and}
 use Rattle.std.specs.Prelude.{set, slice_get}
 use Rattle.attr_compaction.specs.PhaseKeys.{key_past}
 use Rattle.attr_operations.specs.Calls.{KeepsStore, LeavesEntries, RefusesUnit}
-use Rattle.attr_operations.specs.Fields.{HoldsAttributes, trees_of, trees_of_field}
+use Rattle.attr_operations.specs.Fields.{HoldsAttributes, IsFieldAt, trees_of, trees_of_field}
 use Rattle.attr_operations.specs.Views.{table_at}
 use Rattle.attr_operations.proofs.StepLemmas.{keeps_same, leaves_same}
 use Rattle.attr_operations.proofs.TreeLists.{set_length}
@@ -171,6 +171,18 @@ returns-in_default-next-clause-goes_on g c =
 pub returns-in_default-next-clause-over : goal.returns-in_default-next-clause-over
 returns-in_default-next-clause-over g c = (c.next_of.ensures.same, refl)
 
+pub copies_record-copies-requires : goal.copies_record-copies-requires
+copies_record-copies-requires g c =
+    let records = g.S.Frozen.records in
+    let m = records c.args.store.now in
+    let a = trees_of_field c.index-fields-i.result c.index-roots-i.result in
+    let plan = c.args.plan.now in
+    let same = c.next_of.ensures.same in
+    let here = at_place (g.S.Store.ledger c.args.store.now) m c.args.fields.now c.args.roots.now c.args.root plan c.field-i.result
+    c.requires.holds c.requires.under_way c.requires.sized c.field-i.ensures.field c.field-i.ensures.below c.index-fields-i.result c.index-roots-i.result c.index-fields-i.is c.index-roots-i.is in
+    let some = sym c.in-Some.is ∙ c.in-Ok.ensures.next in
+    (omega arith, (subst (λ s. IsFieldAt (records s) a) (sym same) here.is_field, (next_fits m a plan.place c.in-Some.key c.requires.phase (sym some)).0))
+
 pub move_unit-requires : goal.move_unit-requires
 move_unit-requires g c =
     let ledger = g.S.Store.ledger in
@@ -179,7 +191,7 @@ move_unit-requires g c =
     let trees = trees_of c.args.fields.now c.args.roots.now in
     let plan = c.args.plan.now in
     let a = trees_of_field c.index-fields-i.result c.index-roots-i.result in
-    let same = c.next_of.ensures.same in
+    let same = c.copies_record-copies.ensures.same ∙ c.next_of.ensures.same in
     let here = at_place (g.S.Store.ledger c.args.store.now) (g.S.Frozen.records c.args.store.now) c.args.fields.now c.args.roots.now c.args.root c.args.plan.now c.field-i.result
     c.requires.holds c.requires.under_way c.requires.sized c.field-i.ensures.field c.field-i.ensures.below c.index-fields-i.result c.index-roots-i.result c.index-fields-i.is c.index-roots-i.is in
     let some = sym c.in-Some.is ∙ c.in-Ok.ensures.next in (
@@ -208,7 +220,7 @@ returns-in_err-roots-clause-holds g c =
     let fields = c.args.fields.now in
     let trees = trees_of c.args.fields.now c.args.roots.now in
     let plan = c.args.plan.now in
-    let same = c.next_of.ensures.same in
+    let same = c.copies_record-copies.ensures.same ∙ c.next_of.ensures.same in
     let left = left_all _ (ledger old) (ledger c.move_unit.new.store) m (records c.move_unit.new.store) fields trees c.args.root plan c.requires.holds c.requires.under_way
     (subst (λ s. LeavesEntries (ledger s) (ledger c.move_unit.new.store) (records s) (records c.move_unit.new.store)) same c.in_err-roots.ensures.left)
     (subst (λ s. KeepsStore (ledger s) (ledger c.move_unit.new.store)) same c.move_unit.ensures.keeps) in
@@ -223,7 +235,7 @@ returns-in_err-roots-clause-under_way g c =
     let fields = c.args.fields.now in
     let trees = trees_of c.args.fields.now c.args.roots.now in
     let plan = c.args.plan.now in
-    let same = c.next_of.ensures.same in
+    let same = c.copies_record-copies.ensures.same ∙ c.next_of.ensures.same in
     let left = left_all _ (ledger old) (ledger c.move_unit.new.store) m (records c.move_unit.new.store) fields trees c.args.root plan c.requires.holds c.requires.under_way
     (subst (λ s. LeavesEntries (ledger s) (ledger c.move_unit.new.store) (records s) (records c.move_unit.new.store)) same c.in_err-roots.ensures.left)
     (subst (λ s. KeepsStore (ledger s) (ledger c.move_unit.new.store)) same c.move_unit.ensures.keeps) in
@@ -238,7 +250,7 @@ returns-in_err-roots-clause-table g c =
     let fields = c.args.fields.now in
     let trees = trees_of c.args.fields.now c.args.roots.now in
     let plan = c.args.plan.now in
-    let same = c.next_of.ensures.same in
+    let same = c.copies_record-copies.ensures.same ∙ c.next_of.ensures.same in
     let left = left_all _ (ledger old) (ledger c.move_unit.new.store) m (records c.move_unit.new.store) fields trees c.args.root plan c.requires.holds c.requires.under_way
     (subst (λ s. LeavesEntries (ledger s) (ledger c.move_unit.new.store) (records s) (records c.move_unit.new.store)) same c.in_err-roots.ensures.left)
     (subst (λ s. KeepsStore (ledger s) (ledger c.move_unit.new.store)) same c.move_unit.ensures.keeps) in
@@ -253,7 +265,7 @@ returns-in_err-roots-clause-keys g c =
     let fields = c.args.fields.now in
     let trees = trees_of c.args.fields.now c.args.roots.now in
     let plan = c.args.plan.now in
-    let same = c.next_of.ensures.same in
+    let same = c.copies_record-copies.ensures.same ∙ c.next_of.ensures.same in
     let left = left_all _ (ledger old) (ledger c.move_unit.new.store) m (records c.move_unit.new.store) fields trees c.args.root plan c.requires.holds c.requires.under_way
     (subst (λ s. LeavesEntries (ledger s) (ledger c.move_unit.new.store) (records s) (records c.move_unit.new.store)) same c.in_err-roots.ensures.left)
     (subst (λ s. KeepsStore (ledger s) (ledger c.move_unit.new.store)) same c.move_unit.ensures.keeps) in
@@ -283,14 +295,14 @@ pub returns-in_err-roots-clause-left : goal.returns-in_err-roots-clause-left
 returns-in_err-roots-clause-left g c =
     let ledger = g.S.Store.ledger in
     let records = g.S.Frozen.records in
-    let same = c.next_of.ensures.same in
+    let same = c.copies_record-copies.ensures.same ∙ c.next_of.ensures.same in
     let p = err_from_is_err_and c.from_residual.result c.from_residual.ensures.1 in
     rw p.1 (subst (λ s. LeavesEntries (ledger s) (ledger c.move_unit.new.store) (records s) (records c.move_unit.new.store)) same c.in_err-roots.ensures.left)
 
 pub returns-in_err-roots-clause-refused : goal.returns-in_err-roots-clause-refused
 returns-in_err-roots-clause-refused g c =
     let ledger = g.S.Store.ledger in
-    let same = c.next_of.ensures.same in
+    let same = c.copies_record-copies.ensures.same ∙ c.next_of.ensures.same in
     let p = err_from_is_err_and c.from_residual.result c.from_residual.ensures.1 in
     rw (p.1, p.2) (subst (λ s. RefusesUnit (ledger s) (ledger c.move_unit.new.store) c.in_err-roots.field-0.0) same c.in_err-roots.ensures.refused)
 
@@ -307,7 +319,7 @@ returns-in_err-roots-clause-active g c =
 pub returns-in_err-roots-clause-keeps : goal.returns-in_err-roots-clause-keeps
 returns-in_err-roots-clause-keeps g c =
     let ledger = g.S.Store.ledger in
-    let same = c.next_of.ensures.same in
+    let same = c.copies_record-copies.ensures.same ∙ c.next_of.ensures.same in
     subst (λ s. KeepsStore (ledger s) (ledger c.move_unit.new.store)) same c.move_unit.ensures.keeps
 
 pub offset_bounds-roots-i-2 : goal.offset_bounds-roots-i-2
@@ -341,18 +353,18 @@ returns-clause-holds g c =
     let trees = trees_of c.args.fields.now c.args.roots.now in
     let plan = c.args.plan.now in
     let a = trees_of_field c.index-fields-i.result c.index-roots-i.result in
-    let same = c.next_of.ensures.same in
+    let same = c.copies_record-copies.ensures.same ∙ c.next_of.ensures.same in
     let here = at_place (g.S.Store.ledger c.args.store.now) (g.S.Frozen.records c.args.store.now) c.args.fields.now c.args.roots.now c.args.root c.args.plan.now c.field-i.result
     c.requires.holds c.requires.under_way c.requires.sized c.field-i.ensures.field c.field-i.ensures.below c.index-fields-i.result c.index-roots-i.result c.index-fields-i.is c.index-roots-i.is in
     let some = sym c.in-Some.is ∙ c.in-Ok.ensures.next in
     let all = moved_way _ (ledger c.move_unit.new.store) m (records c.move_unit.new.store) fields trees
-    (trees_of fields (set roots c.field-i.result c.in_ok-roots.field-0)) c.args.root plan c.next-2.new.self c.in-Some.key
+    (trees_of fields (set roots c.field-i.result c.in_ok-roots.field-0)) c.args.root plan c.next-2.new.self c.copies_record-copies.result c.in-Some.key
     (moved_roots (ledger c.move_unit.new.store) m (records c.move_unit.new.store) fields roots trees c.args.root
-    (plan_at plan c.in-Some.key) c.field-i.result plan.place.stage.field c.index-fields-i.result c.in_ok-roots.field-0
+    (plan_at plan c.copies_record-copies.result c.in-Some.key) c.field-i.result plan.place.stage.field c.index-fields-i.result c.in_ok-roots.field-0
     c.field-i.ensures.field here.at_field
     (subst (λ s. CompactsTo _ (ledger c.move_unit.new.store) (records s) (records c.move_unit.new.store) fields trees
-    (set trees plan.place.stage.field (trees_of_field c.index-fields-i.result c.in_ok-roots.field-0)) c.args.root (plan_at plan c.in-Some.key)) same c.in_ok-roots.ensures.moves))
-    (next_fits m a plan.place c.in-Some.key c.requires.phase (sym some)).1 c.next-2.ensures.victim c.next-2.ensures.fields c.next-2.ensures.place in
+    (set trees plan.place.stage.field (trees_of_field c.index-fields-i.result c.in_ok-roots.field-0)) c.args.root (plan_at plan c.copies_record-copies.result c.in-Some.key)) same (c.in_ok-roots.ensures.moves c.copies_record-copies.result)))
+    (next_fits m a plan.place c.in-Some.key c.requires.phase (sym some)).1 c.next-2.ensures.victim c.next-2.ensures.fields c.next-2.ensures.place c.next-2.ensures.copied in
     all.holds
 
 pub returns-clause-under_way : goal.returns-clause-under_way
@@ -365,18 +377,18 @@ returns-clause-under_way g c =
     let trees = trees_of c.args.fields.now c.args.roots.now in
     let plan = c.args.plan.now in
     let a = trees_of_field c.index-fields-i.result c.index-roots-i.result in
-    let same = c.next_of.ensures.same in
+    let same = c.copies_record-copies.ensures.same ∙ c.next_of.ensures.same in
     let here = at_place (g.S.Store.ledger c.args.store.now) (g.S.Frozen.records c.args.store.now) c.args.fields.now c.args.roots.now c.args.root c.args.plan.now c.field-i.result
     c.requires.holds c.requires.under_way c.requires.sized c.field-i.ensures.field c.field-i.ensures.below c.index-fields-i.result c.index-roots-i.result c.index-fields-i.is c.index-roots-i.is in
     let some = sym c.in-Some.is ∙ c.in-Ok.ensures.next in
     let all = moved_way _ (ledger c.move_unit.new.store) m (records c.move_unit.new.store) fields trees
-    (trees_of fields (set roots c.field-i.result c.in_ok-roots.field-0)) c.args.root plan c.next-2.new.self c.in-Some.key
+    (trees_of fields (set roots c.field-i.result c.in_ok-roots.field-0)) c.args.root plan c.next-2.new.self c.copies_record-copies.result c.in-Some.key
     (moved_roots (ledger c.move_unit.new.store) m (records c.move_unit.new.store) fields roots trees c.args.root
-    (plan_at plan c.in-Some.key) c.field-i.result plan.place.stage.field c.index-fields-i.result c.in_ok-roots.field-0
+    (plan_at plan c.copies_record-copies.result c.in-Some.key) c.field-i.result plan.place.stage.field c.index-fields-i.result c.in_ok-roots.field-0
     c.field-i.ensures.field here.at_field
     (subst (λ s. CompactsTo _ (ledger c.move_unit.new.store) (records s) (records c.move_unit.new.store) fields trees
-    (set trees plan.place.stage.field (trees_of_field c.index-fields-i.result c.in_ok-roots.field-0)) c.args.root (plan_at plan c.in-Some.key)) same c.in_ok-roots.ensures.moves))
-    (next_fits m a plan.place c.in-Some.key c.requires.phase (sym some)).1 c.next-2.ensures.victim c.next-2.ensures.fields c.next-2.ensures.place in
+    (set trees plan.place.stage.field (trees_of_field c.index-fields-i.result c.in_ok-roots.field-0)) c.args.root (plan_at plan c.copies_record-copies.result c.in-Some.key)) same (c.in_ok-roots.ensures.moves c.copies_record-copies.result)))
+    (next_fits m a plan.place c.in-Some.key c.requires.phase (sym some)).1 c.next-2.ensures.victim c.next-2.ensures.fields c.next-2.ensures.place c.next-2.ensures.copied in
     all.under_way
 
 pub returns-clause-table : goal.returns-clause-table
@@ -389,18 +401,18 @@ returns-clause-table g c =
     let trees = trees_of c.args.fields.now c.args.roots.now in
     let plan = c.args.plan.now in
     let a = trees_of_field c.index-fields-i.result c.index-roots-i.result in
-    let same = c.next_of.ensures.same in
+    let same = c.copies_record-copies.ensures.same ∙ c.next_of.ensures.same in
     let here = at_place (g.S.Store.ledger c.args.store.now) (g.S.Frozen.records c.args.store.now) c.args.fields.now c.args.roots.now c.args.root c.args.plan.now c.field-i.result
     c.requires.holds c.requires.under_way c.requires.sized c.field-i.ensures.field c.field-i.ensures.below c.index-fields-i.result c.index-roots-i.result c.index-fields-i.is c.index-roots-i.is in
     let some = sym c.in-Some.is ∙ c.in-Ok.ensures.next in
     let all = moved_way _ (ledger c.move_unit.new.store) m (records c.move_unit.new.store) fields trees
-    (trees_of fields (set roots c.field-i.result c.in_ok-roots.field-0)) c.args.root plan c.next-2.new.self c.in-Some.key
+    (trees_of fields (set roots c.field-i.result c.in_ok-roots.field-0)) c.args.root plan c.next-2.new.self c.copies_record-copies.result c.in-Some.key
     (moved_roots (ledger c.move_unit.new.store) m (records c.move_unit.new.store) fields roots trees c.args.root
-    (plan_at plan c.in-Some.key) c.field-i.result plan.place.stage.field c.index-fields-i.result c.in_ok-roots.field-0
+    (plan_at plan c.copies_record-copies.result c.in-Some.key) c.field-i.result plan.place.stage.field c.index-fields-i.result c.in_ok-roots.field-0
     c.field-i.ensures.field here.at_field
     (subst (λ s. CompactsTo _ (ledger c.move_unit.new.store) (records s) (records c.move_unit.new.store) fields trees
-    (set trees plan.place.stage.field (trees_of_field c.index-fields-i.result c.in_ok-roots.field-0)) c.args.root (plan_at plan c.in-Some.key)) same c.in_ok-roots.ensures.moves))
-    (next_fits m a plan.place c.in-Some.key c.requires.phase (sym some)).1 c.next-2.ensures.victim c.next-2.ensures.fields c.next-2.ensures.place in
+    (set trees plan.place.stage.field (trees_of_field c.index-fields-i.result c.in_ok-roots.field-0)) c.args.root (plan_at plan c.copies_record-copies.result c.in-Some.key)) same (c.in_ok-roots.ensures.moves c.copies_record-copies.result)))
+    (next_fits m a plan.place c.in-Some.key c.requires.phase (sym some)).1 c.next-2.ensures.victim c.next-2.ensures.fields c.next-2.ensures.place c.next-2.ensures.copied in
     all.table
 
 pub returns-clause-keys : goal.returns-clause-keys
@@ -413,18 +425,18 @@ returns-clause-keys g c =
     let trees = trees_of c.args.fields.now c.args.roots.now in
     let plan = c.args.plan.now in
     let a = trees_of_field c.index-fields-i.result c.index-roots-i.result in
-    let same = c.next_of.ensures.same in
+    let same = c.copies_record-copies.ensures.same ∙ c.next_of.ensures.same in
     let here = at_place (g.S.Store.ledger c.args.store.now) (g.S.Frozen.records c.args.store.now) c.args.fields.now c.args.roots.now c.args.root c.args.plan.now c.field-i.result
     c.requires.holds c.requires.under_way c.requires.sized c.field-i.ensures.field c.field-i.ensures.below c.index-fields-i.result c.index-roots-i.result c.index-fields-i.is c.index-roots-i.is in
     let some = sym c.in-Some.is ∙ c.in-Ok.ensures.next in
     let all = moved_way _ (ledger c.move_unit.new.store) m (records c.move_unit.new.store) fields trees
-    (trees_of fields (set roots c.field-i.result c.in_ok-roots.field-0)) c.args.root plan c.next-2.new.self c.in-Some.key
+    (trees_of fields (set roots c.field-i.result c.in_ok-roots.field-0)) c.args.root plan c.next-2.new.self c.copies_record-copies.result c.in-Some.key
     (moved_roots (ledger c.move_unit.new.store) m (records c.move_unit.new.store) fields roots trees c.args.root
-    (plan_at plan c.in-Some.key) c.field-i.result plan.place.stage.field c.index-fields-i.result c.in_ok-roots.field-0
+    (plan_at plan c.copies_record-copies.result c.in-Some.key) c.field-i.result plan.place.stage.field c.index-fields-i.result c.in_ok-roots.field-0
     c.field-i.ensures.field here.at_field
     (subst (λ s. CompactsTo _ (ledger c.move_unit.new.store) (records s) (records c.move_unit.new.store) fields trees
-    (set trees plan.place.stage.field (trees_of_field c.index-fields-i.result c.in_ok-roots.field-0)) c.args.root (plan_at plan c.in-Some.key)) same c.in_ok-roots.ensures.moves))
-    (next_fits m a plan.place c.in-Some.key c.requires.phase (sym some)).1 c.next-2.ensures.victim c.next-2.ensures.fields c.next-2.ensures.place in
+    (set trees plan.place.stage.field (trees_of_field c.index-fields-i.result c.in_ok-roots.field-0)) c.args.root (plan_at plan c.copies_record-copies.result c.in-Some.key)) same (c.in_ok-roots.ensures.moves c.copies_record-copies.result)))
+    (next_fits m a plan.place c.in-Some.key c.requires.phase (sym some)).1 c.next-2.ensures.victim c.next-2.ensures.fields c.next-2.ensures.place c.next-2.ensures.copied in
     all.keys
 
 pub returns-clause-goes_on : goal.returns-clause-goes_on
@@ -442,7 +454,7 @@ returns-clause-goes_on g c =
 pub returns-clause-keeps : goal.returns-clause-keeps
 returns-clause-keeps g c =
     let ledger = g.S.Store.ledger in
-    let same = c.next_of.ensures.same in
+    let same = c.copies_record-copies.ensures.same ∙ c.next_of.ensures.same in
     subst (λ s. KeepsStore (ledger s) (ledger c.move_unit.new.store)) same c.move_unit.ensures.keeps
 
 pub returns-in_default-clause-counts : goal.returns-in_default-clause-counts
@@ -482,7 +494,7 @@ returns-in_err-roots-clause-counts g c =
     (key_among fields (table_at m trees) c.field-i.result field (column_at field.kind field.value m a.documents) (ledger c.args.store.now) (ledger c.move_unit.new.store)
     here.at_field below reads
     (subst (λ s. MakesKey (IsPlainIndex (records s) a.dictionary) field.kind field.value (column_at field.kind field.value (records s) a.documents) (ledger s) (ledger c.move_unit.new.store))
-    c.next_of.ensures.same c.move_unit.ensures.counts))
+    (c.copies_record-copies.ensures.same ∙ c.next_of.ensures.same) c.move_unit.ensures.counts))
 
 pub returns-clause-counts : goal.returns-clause-counts
 returns-clause-counts g c =
@@ -505,4 +517,4 @@ returns-clause-counts g c =
     (key_among fields (table_at m trees) c.field-i.result field (column_at field.kind field.value m a.documents) (ledger c.args.store.now) (ledger c.move_unit.new.store)
     here.at_field below reads
     (subst (λ s. MakesKey (IsPlainIndex (records s) a.dictionary) field.kind field.value (column_at field.kind field.value (records s) a.documents) (ledger s) (ledger c.move_unit.new.store))
-    c.next_of.ensures.same c.move_unit.ensures.counts))
+    (c.copies_record-copies.ensures.same ∙ c.next_of.ensures.same) c.move_unit.ensures.counts))

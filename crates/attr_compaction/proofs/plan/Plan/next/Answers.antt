@@ -1,4 +1,4 @@
-use Rattle.std.proofs.Common.{◌≡◌, Bool, cond, Less, sym, ap, subst, ◌∙◌}
+use Rattle.std.proofs.Common.{◌≡◌, Bool, ◌||◌, cond, Less, sym, ap, subst, ◌∙◌}
 use Rattle.attr_compaction.specs.Places.{is_start, next_stage, place_after, place_cmp, PlanPlace, PlanView}
 use Rattle.attr_compaction.specs.declared.plan.Stage.{Stage}
 use Rattle.attr_compaction.proofs.PlaceLemmas.{next_above}
@@ -33,3 +33,6 @@ returns-clause-rises c =
     let is = ap {B = PlanPlace} (λ (s : Stage). record { stage = s; key = done }) stage_is
     ∙ ap (λ (v : PlanView). place_after v.fields v.place done) c.self.view_is in
     subst (λ (p : PlanPlace). place_cmp old p ≡ Less) (sym is) (next_above c.args.self.now.fields old done c.requires.phase c.requires.done)
+
+pub returns-clause-copied : goal.returns-clause-copied
+returns-clause-copied c = ap (λ (v : PlanView). c.args.copies || v.copied) c.self.view_is
