@@ -77,7 +77,8 @@ map_reverse {A = A} {B = B} f (x ∷ xs) =
     ∙ ap (λ (ys : List B). ys ++ f x ∷ []) (map_reverse f xs) ∙ sym (reverse-append (f x ∷ []) (map f xs))
 
 -- a reader that had seen nothing saw its rounds' commits, and no other
-pub rounds_seen : {A : Type 0} (operations : ℕ → Records → ℕ → ℕ) (answers : ℕ → Records → ℕ → A → Type 0) (lawful : ℕ → Records → ℕ → Type 0) (start r : ReaderView) (rounds : List (Round A))
+pub rounds_seen : {A : Type 0} (operations : ℕ → Records → ℕ → ℕ) (answers : ℕ → Records → ℕ → A → Type 0) (lawful : ℕ → Records → ℕ → Type 0)
+    (start r : ReaderView) (rounds : List (Round A))
     → start.saw ≡ [] → MakesRounds operations answers lawful start r rounds → map (λ (x : Round A). x.commit) rounds ≡ commits_seen r
 rounds_seen {A = A} operations answers lawful start r rounds nothing makes =
     let n = length rounds in
@@ -118,7 +119,8 @@ all_points run ops seen last (r ∷ rounds) all =
 
 -- ---- a whole run
 
-pub of_memory : (run : Run) (ops : List Op) (v : WriterView) (seat : Badge Watched) (knew : Watched) (last : ℕ) → AreCommits run.fields run.batch ops last v.commits → length v.commits ≡ last + 1 → seat.views ≡ knew ∷ []
+pub of_memory : (run : Run) (ops : List Op) (v : WriterView) (seat : Badge Watched) (knew : Watched) (last : ℕ)
+    → AreCommits run.fields run.batch ops last v.commits → length v.commits ≡ last + 1 → seat.views ≡ knew ∷ []
     → KeepsWriter v (writer_of knew) → KnowsRun knew → (rounds : List (Vec (Round Told) Global)) → length rounds ≡ run.readers → AllFrom (ReadsIn knew.seen) 0 rounds
     → IsOfMemory run ops last seat (map (λ r. commits_of r.items) rounds)
 of_memory run ops v seat knew last are count is keeps knows rounds many reads = record {

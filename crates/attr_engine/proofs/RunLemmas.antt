@@ -107,7 +107,8 @@ justified_by run ops loaded None owed quiet small = tt
 justified_by run ops loaded (Some full) owed quiet small = record { owed = owed; large = λ one many is. absurd (let e : Some full ≡ None = small one many is in cc); quiet = quiet }
 
 -- what a run came to, by the writer before and after the loading
-module _ (run : Run) (ops : List Op) (w v : WriterView) (loaded : Loaded) (loads : LoadsInto run.fields run.dense run.batch ops w v loaded) (buffers : w.sizes.buffers ≡ run.buffers) (words : w.sizes.words ≡ run.words)
+module _ (run : Run) (ops : List Op) (w v : WriterView) (loaded : Loaded) (loads : LoadsInto run.fields run.dense run.batch ops w v loaded)
+    (buffers : w.sizes.buffers ≡ run.buffers) (words : w.sizes.words ≡ run.words)
     (made : v.made ≡ (parts run.after run.readers).0 + one_if (save_parts run.after run.save).0) (shape : w.sizes.shape ≡ shape_of (types_of run.fields)) (none : w.commits ≡ no_image ∷ []) where
   abbrev counted : Bool
   counted = is_some run.make
@@ -135,7 +136,8 @@ module _ (run : Run) (ops : List Op) (w v : WriterView) (loaded : Loaded) (loads
       → AllOf (TakenAt (last_number w.commits)) (parts run.after run.readers).0 first → AllOf (TakenAt (last_number v.commits)) (parts run.after run.readers).1 later
       → IsLastAnswer operations_of (tells_of counted run.asks) v last → is_some saved ≡ run.save → IfSome saved (IsSaveOf run ops loaded.operations)
       → IfSome loaded.full (IsFullAtEnd run ops loaded.operations writer)
-      → (length rounds.items ≡ run.readers → IsOfMemory run ops loads.last writer (map (λ r. commits_of r.items) rounds.items)) → IsRunResult run ops (record { loaded = loaded; rounds = rounds; last = last; saved = saved; writer = writer })
+      → (length rounds.items ≡ run.readers → IsOfMemory run ops loads.last writer (map (λ r. commits_of r.items) rounds.items))
+          → IsRunResult run ops (record { loaded = loaded; rounds = rounds; last = last; saved = saved; writer = writer })
   run_result_of first later rounds last saved writer is one two told asked saves full memory =
       let count = loads.count in
       let zero : last_number w.commits ≡ 0 = ap last_number none in

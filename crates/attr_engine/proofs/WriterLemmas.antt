@@ -64,10 +64,12 @@ module _ {S : Type 0} (ledger : S → Ledger TableId) (fields : List Field) (bat
   pub made_stays : v.made ≡ w.made
   made_stays = ap (λ (x : WorkView TableId). x.made) to ∙ loads.stays.readers ∙ ap (λ (x : WorkView TableId). x.made) from
 
-  owed_into : HasMadeNothing (ledger a.store) → a.dense ≡ false → length fields ≡ 1 → IfSome loaded.full (λ full. IsOwed (load_of w.sizes.buffers w.sizes.words fields batch ops) full.operation loaded.operations)
+  owed_into : HasMadeNothing (ledger a.store) → a.dense ≡ false → length fields ≡ 1
+      → IfSome loaded.full (λ full. IsOwed (load_of w.sizes.buffers w.sizes.words fields batch ops) full.operation loaded.operations)
   owed_into nothing off one =
       subst (λ (x : WorkView TableId). IfSome loaded.full (λ (full : NoRoom). IsOwed (load_of x.sizes.buffers x.sizes.words fields batch ops) full.operation loaded.operations)) from
-      (subst (λ (fs : List Field). IfSome loaded.full (λ (full : NoRoom). IsOwed (load_of (ledger a.store).work.sizes.buffers (ledger a.store).work.sizes.words fs batch ops) full.operation loaded.operations)) fields_are
+      (subst (λ (fs : List Field). IfSome loaded.full (λ (full : NoRoom). IsOwed (load_of (ledger a.store).work.sizes.buffers (ledger a.store).work.sizes.words fs batch ops)
+          full.operation loaded.operations)) fields_are
       (loads.owed off (ap length fields_are ∙ one) nothing))
 
   small_into : HasMadeNothing (ledger a.store) → a.plan ≡ None → length fields ≡ 1 → 8 ≤ w.sizes.buffers → IsSmall (load_of w.sizes.buffers w.sizes.words fields batch ops) → loaded.full ≡ None

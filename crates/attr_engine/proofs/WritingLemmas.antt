@@ -119,7 +119,8 @@ told-by run ops run_result None is none = report-told run ops run_result is none
 told-by run ops run_result (Some make) is some = summary-told run ops run_result make is some
 
 -- what is written of a run that saves no table
-pub written-told : (run : Run) (ops : List Op) (run_result : RunResult) → IsRunResult run ops run_result → text_of run.make run_result ≡ written run ops (progress_at run_result None) (full_of run_result.loaded.full)
+pub written-told : (run : Run) (ops : List Op) (run_result : RunResult) → IsRunResult run ops run_result
+    → text_of run.make run_result ≡ written run ops (progress_at run_result None) (full_of run_result.loaded.full)
 unfolding written
 written-told run ops run_result is = told-by run ops run_result run.make is refl
 
@@ -145,7 +146,8 @@ run_of run ops run_result w is unsaved wrote =
       justified = subst (λ k. IfSome w.full (IsJustified run ops k)) (sym wrote.loaded)
           (subst (λ (f : Option NoRoom). IfSome f (IsJustified run ops run_result.loaded.operations)) (sym wrote.full) is.justified);
       full_at_end = end_on run ops run_result w is wrote.loaded wrote.full wrote.writer;
-      of_memory = are_of_memory run ops (seen_before run.after is.last) is.last run_result.loaded.operations w.loaded run_result.writer w.writer run_result.rounds.items w.rounds is.rounds is.memory wrote.writer is.point wrote.loaded wrote.rounds;
+      of_memory = are_of_memory run ops (seen_before run.after is.last) is.last run_result.loaded.operations
+          w.loaded run_result.writer w.writer run_result.rounds.items w.rounds is.rounds is.memory wrote.writer is.point wrote.loaded wrote.rounds;
     }
 
 saved-written : (run : Run) (ops : List Op) (run_result : RunResult) (n : ℕ) (full : Option ℕ)
@@ -154,7 +156,8 @@ unfolding written
 saved-written run ops run_result n full = refl
 
 -- the same, where the table was saved
-pub saved_run_of : (run : Run) (ops : List Op) (run_result : RunResult) (save : Save) (w : Written) → IsRunResult run ops run_result → run_result.saved ≡ Some save → IsSavedOf run_result save w → IsRunOf run ops w
+pub saved_run_of : (run : Run) (ops : List Op) (run_result : RunResult) (save : Save) (w : Written)
+    → IsRunResult run ops run_result → run_result.saved ≡ Some save → IsSavedOf run_result save w → IsRunOf run ops w
 saved_run_of run ops run_result save w is saves wrote =
     let n = save.operations in
     let at : Option ℕ = Some n in
@@ -172,5 +175,6 @@ saved_run_of run ops run_result save w is saves wrote =
       justified = subst (λ k. IfSome w.full (IsJustified run ops k)) (sym wrote.loaded)
           (subst (λ (f : Option NoRoom). IfSome f (IsJustified run ops run_result.loaded.operations)) (sym wrote.full) is.justified);
       full_at_end = end_on run ops run_result w is wrote.loaded wrote.full wrote.writer;
-      of_memory = are_of_memory run ops (seen_before run.after is.last) is.last run_result.loaded.operations w.loaded run_result.writer w.writer run_result.rounds.items w.rounds is.rounds is.memory wrote.writer is.point wrote.loaded wrote.rounds;
+      of_memory = are_of_memory run ops (seen_before run.after is.last) is.last run_result.loaded.operations
+          w.loaded run_result.writer w.writer run_result.rounds.items w.rounds is.rounds is.memory wrote.writer is.point wrote.loaded wrote.rounds;
     }

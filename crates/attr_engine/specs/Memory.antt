@@ -12,7 +12,7 @@ use Rattle.attr_types.specs.declared.op.Op.{Op}
 use Rattle.attr_loader.specs.Loading.{AreCommits, commit_point}
 use Rattle.attr_report.specs.Run.{Run}
 
--- the commits that so many readers read in these events, each in order, from the reader with this number on
+-- the commits that `count` readers read in these events, each in order, from the reader with this number on
 abbrev pub reads_by : List Event → ℕ → ℕ → List (List ℕ)
 reads_by events number zero = []
 reads_by events number (suc count) = reads_of number events ∷ reads_by events (number + 1) count

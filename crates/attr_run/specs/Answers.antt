@@ -146,7 +146,7 @@ pub record WritesFront (words : List Text) (left : Option (List ℕ)) (before no
   pub front : AppendsFront old new text
 
 -- if a run ran out of space at an operation, the attributes refused that operation, or the commit of the batch of which it is the
--- last, in the memory that the run's writer had: no buffer of it is free, and exactly so many are in use and held
+-- last, in the memory that the run's writer had: no buffer of it is free, and the report tells how many are in use and held
 abbrev pub IsFullRunOf : List Text → Option (List ℕ) → Outcome → Type 0
 IsFullRunOf words left outcome = (operation active held : ℕ) → outcome.status ≡ Full operation active held
     → OfRun words left (λ run ops. IsFullAtEnd run ops outcome.loaded outcome.writer
