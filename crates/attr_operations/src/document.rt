@@ -11,14 +11,13 @@ ghost use Rattle.attr_field.specs.Changes.{MakesField};
 ghost use Rattle.attr_field.specs.Fields.{field_part, IsField, RefersBeside};
 ghost use Rattle.attr_field.specs.Widths.{IsFieldWidth};
 ghost use Rattle.image_format.specs.Documents.{column_at};
-ghost use Rattle.attr_field.specs.Counts.{change_forms, change_records, field_nodes, low_nodes, StaysLow};
+ghost use Rattle.attr_field.specs.Counts.{change_most, low_change_most, StaysLow};
 ghost use Rattle.attr_field.specs.Forms.{wants};
 ghost use Rattle.index_model.specs.Changes.{first_weights};
 ghost use Rattle.index_model.specs.Columns.{items_of as items_had, with_change};
 ghost use Rattle.attr_types.specs.Lawful.{IsDocNumber, ItemsFit};
 ghost use Rattle.attr_types.specs.Query.{items_in};
 ghost use Rattle.attr_types.specs.Table.{document_at};
-ghost use Rattle.value_index.specs.Counts.{besides, by_width};
 ghost use Rattle.value_index.specs.Forms.{IsOfForm};
 ghost use Rattle.attr_operations.specs.Counts.{MakesDocument};
 ghost use Rattle.attr_operations.specs.Fields.{AreFields, ChangesFields, FitsFields, HaveForms, OwnsFields, table_with, trees_of};
@@ -136,23 +135,15 @@ fn change_field<const OFFSET_BITS: u32, S: Store<OFFSET_BITS>>(
         next.documents next.dictionary) }
     ensures form { IfOk result (λ next.
         IsOfForm (wants dense field.now.kind) field.now.value (S.records store.new) next.dictionary) }
-    ensures counts { MakesWithin (S.ledger store.old) (S.ledger store.new) (besides
-        (by_width (field_nodes (first_weights [] old.now) (first_weights [] (unwrap_or (option_copied new.entry) [])))
-        (change_records field.now.kind (column_at field.now.kind field.now.value (S.records store.old) roots.entry.documents) doc old.now
-        (unwrap_or (option_copied new.entry) [])))
-        (change_forms (wants dense field.now.kind)
-        (column_at field.now.kind field.now.value (S.records store.old) roots.entry.documents) doc old.now
-        (unwrap_or (option_copied new.entry) []))) }
+    ensures counts { MakesWithin (S.ledger store.old) (S.ledger store.new)
+        (change_most (wants dense field.now.kind) field.now.kind
+        (column_at field.now.kind field.now.value (S.records store.old) roots.entry.documents) doc old.now (unwrap_or (option_copied new.entry) [])) }
     ensures low { (levels : ℕ)
         → StaysLow levels (column_at field.now.kind field.now.value (S.records store.old) roots.entry.documents)
         (first_weights [] (unwrap_or (option_copied new.entry) []))
-        → MakesWithin (S.ledger store.old) (S.ledger store.new) (besides
-        (by_width (low_nodes levels (first_weights [] old.now) (first_weights [] (unwrap_or (option_copied new.entry) [])))
-        (change_records field.now.kind (column_at field.now.kind field.now.value (S.records store.old) roots.entry.documents) doc old.now
-        (unwrap_or (option_copied new.entry) [])))
-        (change_forms (wants dense field.now.kind)
-        (column_at field.now.kind field.now.value (S.records store.old) roots.entry.documents) doc old.now
-        (unwrap_or (option_copied new.entry) []))) }
+        → MakesWithin (S.ledger store.old) (S.ledger store.new)
+        (low_change_most levels (wants dense field.now.kind) field.now.kind
+        (column_at field.now.kind field.now.value (S.records store.old) roots.entry.documents) doc old.now (unwrap_or (option_copied new.entry) [])) }
     ensures refuses { IfErr result (RefusesOf (IsFieldWidth (wants dense field.now.kind) field.now.kind
         (with_change (column_at field.now.kind field.now.value (S.records store.old) roots.entry.documents) doc (option_copied new.entry))
         old.now (unwrap_or (option_copied new.entry) [])) (S.ledger store.old) (S.ledger store.new)) }
