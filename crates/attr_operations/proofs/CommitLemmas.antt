@@ -1,5 +1,6 @@
 -- What a commit of attributes asks for, and what it makes of them.
-use Rattle.std.proofs.Common.{◌≡◌, ℕ, ◌+◌, ◌<◌, ◌≤◌, ◌^◌, Bool, List, [], ◌∷◌, length, true, false, Option, None, Some, true≢false, refl, sym, ap, subst, ◌∙◌, arith, inl, inr}
+use Rattle.std.proofs.Common.{◌≡◌, ◌⊎◌, ℕ, ◌+◌, ◌<◌, ◌≤◌, ◌^◌, Bool, cond, nat_lt, List, [], ◌∷◌, length, true, false, Option, None, Some, true≢false, refl, sym, ap, subst, ◌∙◌, arith, inl, inr}
+use Rattle.std.proofs.lemmas.Bool.{cases_Bool}
 use Rattle.std.specs.List.{AllByRecursion}
 use Rattle.entry_ref.proofs.Among.{SameAt-then}
 use Rattle.entry_ref.specs.References.{buffer_of}
@@ -7,14 +8,16 @@ use Rattle.entry_ref.specs.Images.{image_of, words_at}
 use Rattle.entry_ref.specs.Records.{Records, Among, SameAt}
 use Rattle.entry_ref.specs.declared.images.Image.{Image}
 use Rattle.arena_api.specs.Calls.{AddsCommit, next_image, published, told_after}
-use Rattle.arena_api.specs.Works.{WorkView, last_image}
-use Rattle.store_api.specs.Calls.{IsWhole, StoresCommit, with_hold}
-use Rattle.store_api.specs.Ledgers.{Ledger, is_this}
-use Rattle.store_api.specs.Parts.{After, AllStay, Owns, Part, count_in, entries, times, uses}
+use Rattle.arena_api.specs.Generations.{tag_now}
+use Rattle.arena_api.specs.Works.{Tag, WorkView, last_image, oldest_of}
+use Rattle.store_api.specs.Calls.{IsWhole, StoresCommit, committed_status, with_hold}
+use Rattle.store_api.specs.Ledgers.{Ledger, is_in, is_this}
+use Rattle.store_api.specs.Parts.{After, AllStay, Owns, Part, Turns, count_in, entries, times, uses}
+use Rattle.store_api.specs.Statuses.{Status, after_commit, free_below, in_use, is_dead, is_held_status, is_taken}
 use Rattle.store_api.specs.declared.store.Stored.{Stored}
 use Rattle.store_api.proofs.PartLemmas.{after, count-stays}
 use Rattle.store_api.proofs.Times.{times-same, times-among}
-use Rattle.store_api.proofs.Uses.{uses-few}
+use Rattle.store_api.proofs.Uses.{below_uses, commit_unused, uses-few, uses-in, uses-out}
 use Rattle.attr_field.specs.Laws.{FieldReaches}
 use Rattle.attr_field.specs.declared.roots.FieldRoots.{FieldRoots}
 use Rattle.image_format.specs.Attributes.{IsLawfulAttribute}
@@ -29,7 +32,7 @@ use Rattle.array_store.proofs.RootLemmas.{entries_some}
 use Rattle.attr_types.specs.declared.field.Field.{Field}
 use Rattle.attr_types.specs.declared.field.TheConstants.{MOST_FIELDS}
 use Rattle.attr_operations.specs.Calls.{KeepsStore}
-use Rattle.attr_operations.specs.Commits.{CommitsAttributes, roots_listed}
+use Rattle.attr_operations.specs.Commits.{CommitsAttributes, TurnsRoot, roots_listed}
 use Rattle.attr_operations.specs.Fields.{AllReferBeside, AreFields, HoldsAttributes, IsFieldAt, OwnsOutside, parts_of, trees_of}
 use Rattle.attr_operations.specs.Views.{table_at}
 use Rattle.attr_operations.proofs.Columns.{FieldLaws}
@@ -56,6 +59,70 @@ told_committed bits old new image answer stores =
     ap (λ (w : WorkView _). w.told) stores.work
     ∙ ap (λ (w : WorkView _). w.told) stores.next_is
     ∙ hold_told (published old.work stores.commits image) old.finished
+
+-- ---- what a commit leaves out, and that it brings nothing into use
+gone_unused : (gone has : Bool) (tag : Tag) (status : Status) → in_use status ≡ false → in_use (cond gone Status.unmade (after_commit tag has status)) ≡ false
+gone_unused true has tag status unused = refl
+gone_unused false has tag status unused = commit_unused tag has status unused
+
+freed_left : (test : Bool) (tag : Tag) → cond test Status.free (Status.held tag) ≡ Status.left → ⊥
+freed_left true tag is = true≢false (ap is_dead is)
+freed_left false tag is = true≢false (ap is_dead is)
+
+below_left : (generation : ℕ) (status : Status) → free_below generation status ≡ Status.left → status ≡ Status.left
+below_left generation Status.unmade is = is
+below_left generation Status.free is = is
+below_left generation Status.pending is = is
+below_left generation Status.live is = is
+below_left generation Status.dropped is = is
+below_left generation Status.let_go is = is
+below_left generation (Status.held tag) is = absurd (freed_left (nat_lt tag.generation generation) tag is)
+below_left generation Status.left is = is
+
+commit_left : (tag : Tag) (has : Bool) (status : Status) → after_commit tag has status ≡ Status.left → (status ≡ Status.left) ⊎ (in_use status ≡ true)
+commit_left tag has Status.unmade is = inl is
+commit_left tag has Status.free is = inl is
+commit_left tag has Status.pending is = inr refl
+commit_left tag has Status.live is = inr refl
+commit_left tag has Status.dropped is = absurd (true≢false (ap is_held_status is))
+commit_left tag has Status.let_go is = inl is
+commit_left tag has (Status.held t) is = inl is
+commit_left tag has Status.left is = inl is
+
+gone_left : (gone has : Bool) (tag : Tag) (status : Status) → cond gone Status.unmade (after_commit tag has status) ≡ Status.left → (status ≡ Status.left) ⊎ (in_use status ≡ true)
+gone_left true has tag status is = absurd (true≢false (sym (ap is_taken is)))
+gone_left false has tag status is = commit_left tag has status is
+
+module _ {H : Type 0} (bits : ℕ) (old new : Ledger H) (image : Image) (answer : Stored) (stores : StoresCommit bits old new image answer) where
+  abbrev tag_of : Tag
+  tag_of = tag_now (published old.work stores.commits image)
+
+  stored_left : (r : ℕ) → new.status r ≡ Status.left → (old.status r ≡ Status.left) ⊎ (in_use (old.status r) ≡ true)
+  stored_left r is = gone_left (is_this old.finished (buffer_of bits r)) (is_in image r) tag_of (old.status r)
+      (below_left (oldest_of new.work.queue).generation (committed_status bits old tag_of image r) (sym (stores.status r) ∙ is))
+
+  stored_unused : (r : ℕ) → in_use (old.status r) ≡ false → in_use (new.status r) ≡ false
+  stored_unused r unused =
+      ap in_use (stores.status r)
+      ∙ below_uses (oldest_of new.work.queue).generation (committed_status bits old tag_of image r)
+      ∙ gone_unused (is_this old.finished (buffer_of bits r)) (is_in image r) tag_of (old.status r) unused
+
+  stored_uses : (r : ℕ) → uses new r ≤ uses old r
+  stored_uses r = elim (cases_Bool (in_use (old.status r))) [
+    | inl e ↦ (let one = uses-in old r e in let few = uses-few new r in omega arith)
+    | inr e ↦ (let none = uses-out new r (stored_unused r e) in omega arith)
+  ]
+
+-- a root record is made in place of the previous one, and then the store commits
+pub turns_root : {H : Type 0} (bits : ℕ) (old mid new : Ledger H) (m k : Records) (image : Image) (answer : Stored) (before root : ℕ) → KeepsStore old mid
+    → Turns old mid m k (entries (root_entries before) ∷ []) (entries (root_entries root) ∷ []) → StoresCommit bits mid new image answer → TurnsRoot old new before root
+turns_root bits old mid new m k image answer before root keeps turns stores = record {
+  used = λ r. let less = stored_uses bits mid new image answer stores r in let t = turns.balance r in omega arith;
+  left = λ r is. elim (stored_left bits mid new image answer stores r is) [
+    | inl was ↦ inl (keeps.left r was)
+    | inr used ↦ inr (let one = uses-in mid r used in let t = turns.balance r in omega arith)
+  ];
+}
 
 lawful_each : (laws : FieldLaws) (m : Records) (trees : List AttributeTrees) → AllByRecursion (IsFieldAt m) trees
     → AllByRecursion (λ a. IsLawfulAttribute a.kind a.type m a.documents a.dictionary) trees

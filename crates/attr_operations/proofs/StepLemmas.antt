@@ -88,6 +88,7 @@ keeps_same ledger = record {
   alone = λ none. refl;
   sealed = refl;
   finished = refl;
+  left = λ r is. is;
 }
 
 pub leaves_same : {H : Type 0} (ledger : Ledger H) (m : Records) → LeavesEntries ledger ledger m m

@@ -1,5 +1,5 @@
 -- A unit from before its begin to its end.
-use Rattle.std.proofs.Common.{◌≡◌, Bool, ℕ, ◌*◌, ◌<◌, ◌≤◌, List, [], ◌∷◌, true, false, Option, refl, sym, ap, ap₂, subst, ◌∙◌, arith}
+use Rattle.std.proofs.Common.{◌≡◌, ◌↔◌, Bool, ℕ, ◌*◌, ◌<◌, ◌≤◌, List, [], ◌∷◌, true, false, Option, inl, inr, true≢false, refl, sym, ap, ap₂, subst, ◌∙◌, arith}
 use Rattle.std.specs.List.{AllByRecursion, AllZip}
 use Rattle.entry_ref.specs.References.{buffer_of}
 use Rattle.entry_ref.specs.Records.{Records}
@@ -7,7 +7,7 @@ use Rattle.arena_api.specs.Works.{WorkView}
 use Rattle.store_api.specs.Calls.{Accepts, EndsOf, Undoes, IsFull, RefusesOf}
 use Rattle.store_api.specs.Ledgers.{Ledger, IsSettled, capacity}
 use Rattle.store_api.specs.Parts.{Part, After, AllStay, count_in, entries, uses}
-use Rattle.store_api.specs.Statuses.{Status, in_use}
+use Rattle.store_api.specs.Statuses.{Status, after_accept, in_use, is_free_status}
 use Rattle.store_api.specs.Units.{MayDo, KeepsCommits, IsSameBack}
 use Rattle.store_api.specs.declared.store.StoreError.{StoreError}
 use Rattle.store_api.specs.declared.store.StoreError.TheVariants.{Full, Memory}
@@ -49,8 +49,8 @@ module _ (m n : Records) where
 
 -- ---- the store after a unit, however it ended
 pub keeps_unit : {H : Type 0} (old mid new : Ledger H) → old.unit ≡ false → MayDo (record old { unit = true }) mid → new.unit ≡ false → new.work ≡ mid.work
-    → new.shape ≡ mid.shape → new.sealed ≡ mid.sealed → new.finished ≡ mid.finished → KeepsStore old new
-keeps_unit old mid new none may unit work shape sealed finished = record {
+    → new.shape ≡ mid.shape → new.sealed ≡ mid.sealed → new.finished ≡ mid.finished → ((r : ℕ) → new.status r ≡ Status.left → old.status r ≡ Status.left) → KeepsStore old new
+keeps_unit old mid new none may unit work shape sealed finished left = record {
   unit = unit ∙ sym none;
   home = ap (λ w. w.home) work ∙ may.home;
   shape = shape ∙ may.shape;
@@ -62,7 +62,36 @@ keeps_unit old mid new none may unit work shape sealed finished = record {
   alone = λ made. ap (λ w. w.stops) work ∙ may.alone made;
   sealed = sealed ∙ may.sealed;
   finished = finished ∙ may.finished;
+  left = left;
 }
+
+-- it leaves nothing out
+free_left : Status.free ≡ Status.left → ⊥
+free_left is = true≢false (ap is_free_status is)
+
+accept_left : (status : Status) → after_accept status ≡ Status.left → status ≡ Status.left
+accept_left Status.unmade is = is
+accept_left Status.free is = is
+accept_left Status.pending is = is
+accept_left Status.live is = is
+accept_left Status.dropped is = is
+accept_left Status.let_go is = absurd (free_left is)
+accept_left (Status.held tag) is = is
+accept_left Status.left is = is
+
+back_left : (old new : Status) → IsSameBack old new → new ≡ Status.left → old ≡ Status.left
+back_left old new (inl same) is = sym same ∙ is
+back_left old new (inr freed) is = absurd (free_left (sym freed.1 ∙ is))
+
+module _ {H : Type 0} (old mid new : Ledger H) (m n o : Records) (settled : IsSettled old m) (may : MayDo (record old { unit = true }) mid) where
+  was_left : (r : ℕ) → mid.back r ≡ Status.left → old.status r ≡ Status.left
+  was_left r is = ap (λ (f : ℕ → Status). f r) (sym settled.back) ∙ back_left (old.back r) (mid.back r) (may.back r) is
+
+  pub none_left_accepted : ((r : ℕ) → (mid.status r ≡ Status.left) ↔ (mid.back r ≡ Status.left)) → Accepts mid new n o → (r : ℕ) → new.status r ≡ Status.left → old.status r ≡ Status.left
+  none_left_accepted stays accepts r is = was_left r ((stays r).0 (accept_left (mid.status r) (sym (accepts.status r) ∙ is)))
+
+  pub none_left_undone : Undoes mid new o → (r : ℕ) → new.status r ≡ Status.left → old.status r ≡ Status.left
+  none_left_undone undoes r is = was_left r (ap (λ (f : ℕ → Status). f r) (sym undoes.status) ∙ is)
 
 out_of_room : {H : Type 0} (old mid : Ledger H) (width active held : ℕ) (oldest : _) (work : WorkView H) → work ≡ mid.work
     → Rattle.store_api.specs.Ledgers.is_width width ≡ true → IsFull (record old { unit = true }) mid width active held oldest

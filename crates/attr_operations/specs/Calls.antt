@@ -5,11 +5,13 @@ use Rattle.arena_api.specs.Generations.{current}
 use Rattle.arena_api.specs.Works.{free_count, oldest_of}
 use Rattle.arena_api.specs.declared.answers.Oldest.{Oldest}
 use Rattle.store_api.specs.Ledgers.{Ledger, active_count, capacity, held_count, is_width}
+use Rattle.store_api.specs.Statuses.{Status}
 use Rattle.store_api.specs.Units.{IsSameBack, KeepsCommits}
 use Rattle.store_api.specs.declared.store.StoreError.{StoreError}
 use Rattle.store_api.specs.declared.store.StoreError.TheVariants as errors
 
--- the store after units: its work has the same commits and readers, and no buffer was sealed or finished
+-- the store after units: its work has the same commits and readers, no buffer was sealed or finished, and no entry was
+-- left out
 pub record KeepsStore {H : Type 0} (old new : Ledger H) : Type 0 where
   pub unit : new.unit ≡ old.unit
   pub home : new.work.home ≡ old.work.home
@@ -22,6 +24,7 @@ pub record KeepsStore {H : Type 0} (old new : Ledger H) : Type 0 where
   pub alone : old.work.made ≡ 0 → new.work.stops ≡ old.work.stops
   pub sealed : new.sealed ≡ old.sealed
   pub finished : new.finished ≡ old.finished
+  pub left : (r : ℕ) → new.status r ≡ Status.left → old.status r ≡ Status.left
 
 -- each entry has the same status as before, except that one taken or given back since then is free; and each record
 -- is the same

@@ -1,14 +1,16 @@
 -- How a commit changes attributes: a root record is made in a unit of its own, and then the store commits what it
 -- reaches.
-use Rattle.std.specs.Prelude.{◌≡◌, ℕ, ◌+◌, List, [], ◌∷◌}
+use Rattle.std.specs.Prelude.{◌≡◌, ◌⊎◌, ℕ, ◌+◌, ◌<◌, ◌≤◌, List, [], ◌∷◌}
 use Rattle.std.specs.List.{flat_map}
 use Rattle.entry_ref.specs.Images.{words_at}
 use Rattle.entry_ref.specs.Records.{Records}
+use Rattle.array_store.specs.Roots.{root_entries}
 use Rattle.arena_api.specs.Calls.{told_after}
 use Rattle.arena_api.specs.Works.{free_count, last_image}
 use Rattle.store_api.specs.Calls.{StoresCommit}
 use Rattle.store_api.specs.Ledgers.{Ledger}
-use Rattle.store_api.specs.Parts.{AllStay}
+use Rattle.store_api.specs.Parts.{AllStay, times, uses}
+use Rattle.store_api.specs.Statuses.{Status}
 use Rattle.store_api.specs.declared.store.Stored.{Stored}
 use Rattle.store_api.specs.declared.store.StoreError.{StoreError}
 use Rattle.store_api.specs.declared.store.StoreError.TheVariants as errors
@@ -53,3 +55,10 @@ pub record CommitsAttributes {H : Type 0} (bits : ℕ) (fields : List Field) (tr
   pub number : answer.commit ≡ old.work.commits.last + 1
   pub last : new.work.commits.last ≡ old.work.commits.last + 1
   pub told : new.work.told ≡ told_after old.work.told (last_image new.work.commits)
+
+-- a commit with a root record in place of the previous one: nothing but this record comes into use, and what it leaves out
+-- was left out before, or was in use and is not the previous root record
+pub record TurnsRoot {H : Type 0} (old new : Ledger H) (before root : ℕ) : Type 0 where
+  pub used : (r : ℕ) → uses new r + times r (root_entries before) ≤ uses old r + times r (root_entries root)
+  pub left : (r : ℕ) → new.status r ≡ Status.left
+      → (old.status r ≡ Status.left) ⊎ (times r (root_entries before) < uses old r + times r (root_entries root))

@@ -5,7 +5,7 @@ ghost use Rattle.image_format.specs.Shapes.{shape_of, types_of};
 ghost use Rattle.image_format.specs.Words.{class_of};
 ghost use Rattle.attr_types.specs.declared.field.TheConstants.{MOST_FIELDS};
 ghost use Rattle.attr_operations.specs.Calls.{KeepsStore, LeavesEntries};
-ghost use Rattle.attr_operations.specs.Commits.{CommitsAttributes, IsForWidth, RefusesRoot};
+ghost use Rattle.attr_operations.specs.Commits.{CommitsAttributes, IsForWidth, RefusesRoot, TurnsRoot};
 ghost use Rattle.attr_operations.specs.Fields.{HoldsAttributes, trees_of};
 
 use crate::root::root_unit;
@@ -32,6 +32,7 @@ pub fn commit_attributes<const OFFSET_BITS: u32, S: Store<OFFSET_BITS, Layout = 
     requires room { (S.ledger store.old).work.commits.last < (S.ledger store.old).work.sizes.commits }
     ensures commits { IfOk result (λ made. CommitsAttributes OFFSET_BITS fields.now (trees_of fields.now roots.now) operations
         (S.ledger store.old) (S.ledger store.new) (S.records store.old) (S.records store.new) made.0 made.1) }
+    ensures turns { IfOk result (λ made. TurnsRoot (S.ledger store.old) (S.ledger store.new) before.entry made.0) }
     ensures left { OnErr result (LeavesEntries (S.ledger store.old) (S.ledger store.new) (S.records store.old) (S.records store.new)) }
     ensures refused { IfErr result (RefusesRoot (S.ledger store.old) (S.ledger store.new)) }
     ensures width { IfErr result (IsForWidth (class_of (1 + 2 * length fields.now))) }

@@ -58,6 +58,7 @@ module _ {H : Type 0} (bits : ℕ) (old : Ledger H) (m : Records) (fields : List
     alone = λ none. refl;
     sealed = refl;
     finished = refl;
+    left = λ r is. is;
   }
 
 pub but_then : {H : Type 0} (a b c : Ledger H) → KeepsStoreBut a b → KeepsStore (record b { sealed = a.sealed; finished = a.finished }) (record c { sealed = a.sealed; finished = a.finished })
@@ -77,6 +78,7 @@ but_kept a b c keeps = record {
   alone = keeps.alone;
   sealed = refl;
   finished = refl;
+  left = keeps.left;
 }
 
 pub leaves_then : {H : Type 0} (a b c : Ledger H) (m k n : Records) → LeavesEntries a b m k → LeavesEntries b c k n → LeavesEntries a c m n

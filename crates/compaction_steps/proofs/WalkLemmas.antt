@@ -51,6 +51,7 @@ keeps_then a b c one two = record {
   alone = λ none. two.alone (one.readers ∙ none) ∙ one.alone none;
   sealed = two.sealed ∙ one.sealed;
   finished = two.finished ∙ one.finished;
+  left = λ r is. one.left r (two.left r is);
 }
 
 pub refused_since : {H : Type 0} (old mid new : Ledger H) (error : StoreError) → old.work.stops ≤ mid.work.stops → RefusesUnit mid new error → RefusesUnit old new error

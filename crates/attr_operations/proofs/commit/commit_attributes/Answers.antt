@@ -1,7 +1,7 @@
 use Rattle.std.proofs.Common.{◌+◌, ◌*◌, length, ◌∙◌, sym, ap, arith}
 use Rattle.std.proofs.lemmas.Result.{err_from_is_err_and}
 use Rattle.attr_operations.specs.Fields.{trees_of}
-use Rattle.attr_operations.proofs.CommitLemmas.{before_owns, commits_attributes, mid_lawful, mid_unit, mid_whole}
+use Rattle.attr_operations.proofs.CommitLemmas.{before_owns, commits_attributes, mid_lawful, mid_unit, mid_whole, turns_root}
 use Rattle.attr_operations.proofs.FieldSteps.{laws_of}
 use Rattle.image_format.specs.Words.{class_of}
 use Rattle.attr_operations.proofs.CountLemmas.{one_committed}
@@ -74,6 +74,16 @@ returns-clause-commits g c =
 
 pub returns-in_err-root-clause-commits : goal.returns-in_err-root-clause-commits
 returns-in_err-root-clause-commits g c = let p = err_from_is_err_and c.from_residual.result c.from_residual.ensures.1 in rw p.1 tt
+
+pub returns-clause-turns : goal.returns-clause-turns
+returns-clause-turns g c =
+    let ledger = g.S.Store.ledger in
+    let records = g.S.Frozen.records in
+    turns_root g.row.OFFSET_BITS (ledger c.args.store.now) (ledger c.root_unit.new.store) (ledger c.commit-stored.new.self) (records c.args.store.now) (records c.root_unit.new.store) _ c.commit-stored.result
+    c.args.before c.in_ok-root.root c.root_unit.ensures.keeps c.in_ok-root.ensures.makes.turns c.commit-stored.ensures.stores
+
+pub returns-in_err-root-clause-turns : goal.returns-in_err-root-clause-turns
+returns-in_err-root-clause-turns g c = let p = err_from_is_err_and c.from_residual.result c.from_residual.ensures.1 in rw p.1 tt
 
 pub returns-in_err-root-clause-left : goal.returns-in_err-root-clause-left
 returns-in_err-root-clause-left g c = let p = err_from_is_err_and c.from_residual.result c.from_residual.ensures.1 in rw p.1 c.in_err-root.ensures.left

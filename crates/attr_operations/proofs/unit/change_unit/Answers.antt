@@ -11,7 +11,7 @@ use Rattle.attr_operations.specs.Widths.{IsChangedWidth, IsFullAmong}
 use Rattle.attr_operations.proofs.FieldSteps.{laws_of}
 use Rattle.value_index.specs.Counts.{besides, by_width}
 use Rattle.attr_operations.proofs.CountLemmas.{document_unit, spares_among}
-use Rattle.attr_operations.proofs.Units.{begun_owns, unit_changes, unit_forms, left_unit, refused_among, full_among, keeps_unit}
+use Rattle.attr_operations.proofs.Units.{begun_owns, unit_changes, unit_forms, left_unit, refused_among, full_among, keeps_unit, none_left_accepted, none_left_undone}
 use Rattle.attr_operations.proofs.unit.change_unit.Goals as goal
 
 pub begin-requires : goal.begin-requires
@@ -86,9 +86,14 @@ returns-in-Ok-clause-counts g c =
 pub returns-in-Ok-clause-keeps : goal.returns-in-Ok-clause-keeps
 returns-in-Ok-clause-keeps g c =
     let ledger = g.S.Store.ledger in
+    let records = g.S.Frozen.records in
+    let old = ledger c.args.store.now in
     let mid = ledger c.change_document.new.store in
-    keeps_unit (ledger c.args.store.now) mid (ledger c.accept.new.self) c.requires.unit (subst (λ l. MayDo l mid) c.begin.ensures.ledger c.change_document.ensures.may)
-    c.accept.ensures.unit c.accept.ensures.work c.accept.ensures.shape c.accept.ensures.sealed c.accept.ensures.finished
+    let new = ledger c.accept.new.self in
+    let may = subst (λ l. MayDo l mid) c.begin.ensures.ledger c.change_document.ensures.may in
+    let left = none_left_accepted old mid new (records c.args.store.now) (records c.change_document.new.store) (records c.accept.new.self)
+    (g.met.S.Store.settled c.args.store.now c.requires.unit) may (g.met.S.Store.left_stays c.change_document.new.store) c.accept.ensures in
+    keeps_unit old mid new c.requires.unit may c.accept.ensures.unit c.accept.ensures.work c.accept.ensures.shape c.accept.ensures.sealed c.accept.ensures.finished left
 
 pub returns-in-Err-clause-left : goal.returns-in-Err-clause-left
 returns-in-Err-clause-left g c =
@@ -140,9 +145,14 @@ returns-in-Err-clause-spares g c =
 pub returns-in-Err-clause-keeps : goal.returns-in-Err-clause-keeps
 returns-in-Err-clause-keeps g c =
     let ledger = g.S.Store.ledger in
+    let records = g.S.Frozen.records in
+    let old = ledger c.args.store.now in
     let mid = ledger c.change_document.new.store in
-    keeps_unit (ledger c.args.store.now) mid (ledger c.undo.new.self) c.requires.unit (subst (λ l. MayDo l mid) c.begin.ensures.ledger c.change_document.ensures.may)
-    c.undo.ensures.unit c.undo.ensures.work c.undo.ensures.shape c.undo.ensures.sealed c.undo.ensures.finished
+    let new = ledger c.undo.new.self in
+    let may = subst (λ l. MayDo l mid) c.begin.ensures.ledger c.change_document.ensures.may in
+    let left = none_left_undone old mid new (records c.args.store.now) (records c.change_document.new.store) (records c.undo.new.self)
+    (g.met.S.Store.settled c.args.store.now c.requires.unit) may c.undo.ensures in
+    keeps_unit old mid new c.requires.unit may c.undo.ensures.unit c.undo.ensures.work c.undo.ensures.shape c.undo.ensures.sealed c.undo.ensures.finished left
 
 pub returns-in-Err-clause-widths : goal.returns-in-Err-clause-widths
 returns-in-Err-clause-widths g c =

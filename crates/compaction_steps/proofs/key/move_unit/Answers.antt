@@ -5,7 +5,7 @@ use Rattle.store_api.specs.Units.{MayDo}
 use Rattle.attr_compaction.specs.PhaseKeys.{key_past}
 use Rattle.attr_operations.specs.Fields.{trees_of, trees_of_field}
 use Rattle.attr_operations.proofs.FieldSteps.{laws_of}
-use Rattle.attr_operations.proofs.Units.{left_unit, refused_among, keeps_unit}
+use Rattle.attr_operations.proofs.Units.{left_unit, refused_among, keeps_unit, none_left_accepted, none_left_undone}
 use Rattle.image_format.specs.Documents.{column_at}
 use Rattle.compaction_moves.specs.Counts.{MakesKey}
 use Rattle.value_index.specs.Forms.{IsPlainIndex}
@@ -46,8 +46,10 @@ returns-in-Ok-clause-moves g c =
     let meets = meets_begun _ old (records c.args.store.now) c.args.fields.now (trees_of c.args.fields.now c.args.roots.now) c.args.root c.args.plan.now a
     c.requires.holds c.requires.under_way c.requires.at (g.met.S.Store.settled c.args.store.now c.requires.holds.unit)
     (ledger c.begin.new.self) (records c.begin.new.self) c.begin.ensures.ledger c.begin.ensures.records in
-    let keeps = keeps_unit old mid new c.requires.holds.unit (subst (λ l. MayDo l mid) c.begin.ensures.ledger c.move_one.ensures.may)
-    c.accept.ensures.unit c.accept.ensures.work c.accept.ensures.shape c.accept.ensures.sealed c.accept.ensures.finished in
+    let may = subst (λ l. MayDo l mid) c.begin.ensures.ledger c.move_one.ensures.may in
+    let left = none_left_accepted old mid new (records c.args.store.now) (records c.move_one.new.store) (records c.accept.new.self)
+    (g.met.S.Store.settled c.args.store.now c.requires.holds.unit) may (g.met.S.Store.left_stays c.move_one.new.store) c.accept.ensures in
+    let keeps = keeps_unit old mid new c.requires.holds.unit may c.accept.ensures.unit c.accept.ensures.work c.accept.ensures.shape c.accept.ensures.sealed c.accept.ensures.finished left in
     λ copies. unit_compacts _ old (records c.args.store.now) c.args.fields.now (trees_of c.args.fields.now c.args.roots.now) c.args.root c.args.plan.now a
     c.requires.holds c.requires.under_way c.requires.at
     (laws_of c.field_law.ensures.stays c.field_law.ensures.lawful c.field_law.ensures.keys) c.same_law.ensures.one c.stage_law.ensures.others mid new (records c.move_one.new.store) (records c.accept.new.self)
@@ -59,9 +61,14 @@ returns-in-Ok-clause-moves g c =
 pub returns-in-Ok-clause-keeps : goal.returns-in-Ok-clause-keeps
 returns-in-Ok-clause-keeps g c =
     let ledger = g.S.Store.ledger in
+    let records = g.S.Frozen.records in
+    let old = ledger c.args.store.now in
     let mid = ledger c.move_one.new.store in
-    keeps_unit (ledger c.args.store.now) mid (ledger c.accept.new.self) c.requires.holds.unit (subst (λ l. MayDo l mid) c.begin.ensures.ledger c.move_one.ensures.may)
-    c.accept.ensures.unit c.accept.ensures.work c.accept.ensures.shape c.accept.ensures.sealed c.accept.ensures.finished
+    let new = ledger c.accept.new.self in
+    let may = subst (λ l. MayDo l mid) c.begin.ensures.ledger c.move_one.ensures.may in
+    let left = none_left_accepted old mid new (records c.args.store.now) (records c.move_one.new.store) (records c.accept.new.self)
+    (g.met.S.Store.settled c.args.store.now c.requires.holds.unit) may (g.met.S.Store.left_stays c.move_one.new.store) c.accept.ensures in
+    keeps_unit old mid new c.requires.holds.unit may c.accept.ensures.unit c.accept.ensures.work c.accept.ensures.shape c.accept.ensures.sealed c.accept.ensures.finished left
 
 pub returns-in-Err-clause-left : goal.returns-in-Err-clause-left
 returns-in-Err-clause-left g c =
@@ -103,9 +110,14 @@ returns-in-Err-clause-active g c =
 pub returns-in-Err-clause-keeps : goal.returns-in-Err-clause-keeps
 returns-in-Err-clause-keeps g c =
     let ledger = g.S.Store.ledger in
+    let records = g.S.Frozen.records in
+    let old = ledger c.args.store.now in
     let mid = ledger c.move_one.new.store in
-    keeps_unit (ledger c.args.store.now) mid (ledger c.undo.new.self) c.requires.holds.unit (subst (λ l. MayDo l mid) c.begin.ensures.ledger c.move_one.ensures.may)
-    c.undo.ensures.unit c.undo.ensures.work c.undo.ensures.shape c.undo.ensures.sealed c.undo.ensures.finished
+    let new = ledger c.undo.new.self in
+    let may = subst (λ l. MayDo l mid) c.begin.ensures.ledger c.move_one.ensures.may in
+    let left = none_left_undone old mid new (records c.args.store.now) (records c.move_one.new.store) (records c.undo.new.self)
+    (g.met.S.Store.settled c.args.store.now c.requires.holds.unit) may c.undo.ensures in
+    keeps_unit old mid new c.requires.holds.unit may c.undo.ensures.unit c.undo.ensures.work c.undo.ensures.shape c.undo.ensures.sealed c.undo.ensures.finished left
 
 pub returns-in-Ok-clause-counts : goal.returns-in-Ok-clause-counts
 returns-in-Ok-clause-counts g c =
