@@ -137,7 +137,7 @@ module _ (run : Run) (ops : List Op) (w v : WriterView) (loaded : Loaded) (loads
       → IsLastAnswer operations_of (tells_of counted run.asks) v last → is_some saved ≡ run.save → IfSome saved (IsSaveOf run ops loaded.operations)
       → IfSome loaded.full (IsFullAtEnd run ops loaded.operations writer)
       → (length rounds.items ≡ run.readers → IsOfMemory run ops loads.last writer (map (λ r. commits_of r.items) rounds.items))
-          → IsRunResult run ops (record { loaded = loaded; rounds = rounds; last = last; saved = saved; writer = writer })
+      → IsRunResult run ops (record { loaded = loaded; rounds = rounds; last = last; saved = saved; writer = writer })
   run_result_of first later rounds last saved writer is one two told asked saves full memory =
       let count = loads.count in
       let zero : last_number w.commits ≡ 0 = ap last_number none in

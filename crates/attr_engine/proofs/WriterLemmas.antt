@@ -69,7 +69,7 @@ module _ {S : Type 0} (ledger : S → Ledger TableId) (fields : List Field) (bat
   owed_into nothing off one =
       subst (λ (x : WorkView TableId). IfSome loaded.full (λ (full : NoRoom). IsOwed (load_of x.sizes.buffers x.sizes.words fields batch ops) full.operation loaded.operations)) from
       (subst (λ (fs : List Field). IfSome loaded.full (λ (full : NoRoom). IsOwed (load_of (ledger a.store).work.sizes.buffers (ledger a.store).work.sizes.words fs batch ops)
-          full.operation loaded.operations)) fields_are
+      full.operation loaded.operations)) fields_are
       (loads.owed off (ap length fields_are ∙ one) nothing))
 
   small_into : HasMadeNothing (ledger a.store) → a.plan ≡ None → length fields ≡ 1 → 8 ≤ w.sizes.buffers → IsSmall (load_of w.sizes.buffers w.sizes.words fields batch ops) → loaded.full ≡ None

@@ -13,8 +13,8 @@ ghost use Rattle.attr_saver.specs.Images.{IsFirst};
 ghost use Rattle.attr_engine.specs.Steps.{AllFrom, HasRead, IsNewWriter, LoadsInto};
 ghost use Rattle.attr_engine.specs.Saver.{one_if, GivesIfAny, HasSaved};
 
-use crate::with_saver::run_with_saver;
 use crate::readers::{jobs_of, saver_of};
+use crate::with_saver::run_with_saver;
 use attr_io::{Gate, Task};
 use attr_loader::{Attribute, LoadError, Loaded, Loading};
 use attr_rounds::{Asked, Reading, Saving, Told};

@@ -20,8 +20,14 @@ use store_api::Store;
 /// from 1, for which there was no space, either for itself or for the commit after it.
 #[derive(Clone, Copy, Drop)]
 pub enum Batch {
-    Done { skipped: u32 },
-    Full { refused: u32, active: u32, held: u32 },
+    Done {
+        skipped: u32,
+    },
+    Full {
+        refused: u32,
+        active: u32,
+        held: u32,
+    },
 }
 
 fn skips_of(applied: Applied) -> u32

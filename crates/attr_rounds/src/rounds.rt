@@ -56,7 +56,9 @@ impl<const OFFSET_BITS: u32, L: Layout> CountedSteps for Reader<OFFSET_BITS, L> 
 }
 
 /// Returns a guard of the last commit. The blank is for the count of the tries.
-fn guard_of<const OFFSET_BITS: u32, L: Layout>(reader: Reader<OFFSET_BITS, L>) -> Guarded<OFFSET_BITS, L>
+fn guard_of<const OFFSET_BITS: u32, L: Layout>(
+    reader: Reader<OFFSET_BITS, L>,
+) -> Guarded<OFFSET_BITS, L>
     ensures later { IsLater L.reaches L.lawful (reader_of reader.place.me.0) (reader_of result.place.me.0) }
     ensures table { result.place.table_id ≡ reader.place.table_id }
 {
@@ -177,7 +179,15 @@ pub fn go_round<const OFFSET_BITS: u32, L: Layout, Q: Question<OFFSET_BITS, L>, 
     let mut post = Post::Idle(reader);
     let mut rounds = Vec::new(alloc);
     for _ in 0..count {
-        post = one_round(alloc, post, reader_number, count, question, gate, &mut rounds)?;
+        post = one_round(
+            alloc,
+            post,
+            reader_number,
+            count,
+            question,
+            gate,
+            &mut rounds,
+        )?;
     }
     let reader = let_go(post);
     Ok(Reading { reader, rounds })
