@@ -28,11 +28,11 @@ use Rattle.index_model.proofs.OfLemmas.{all_both, all_found, any-index, any-valu
 use Rattle.index_model.specs.Columns.{column_of, items_of as items_in_column}
 use Rattle.index_model.specs.Index.{Index, list_of, IsIndexOf}
 use Rattle.index_model.specs.Leaves.{meeting}
-use Rattle.index_model.specs.Sets.{has, IsAscending}
+use Rattle.index_model.specs.Sets.{has, in_words, IsAscending}
 use Rattle.result_model.specs.Groups.{all_groups, count_with, terms, has as has_in}
 use Rattle.result_model.specs.Values.{items_of}
 use Rattle.result_model.specs.declared.group.Group.{Group}
-use Rattle.query_results.specs.Dictionaries.{some_documents, term_of, terms_of}
+use Rattle.query_results.specs.Dictionaries.{groups_in, some_documents, term_of, terms_of, IsSetOf}
 use Rattle.query_results.proofs.AttributeLemmas.{column_found}
 use Rattle.query_results.proofs.GroupLemmas.{any_item}
 use Rattle.query_results.proofs.OrderLemmas.{is_in_order}
@@ -211,6 +211,13 @@ module _ (field : ℕ) (table : Table) (index : Index) (ascends : IsStrictlySort
         (sorted_map-filter value_cmp (λ (g : Group). g.value) some_documents (map (counted c) index)
         (subst (IsStrictlySortedBy value_cmp) (sym (values_counted c index)) is.formed.ascends))
         (λ q. any_counted q index all ∙ known q ∙ sym (any_value q docs)))
+
+  -- the groups of documents that ascend, by their bit vector
+  pub groups_are_in : (words docs : List ℕ) → IsSetOf words docs → groups_in (in_words words) index ≡ all_groups field docs table
+  groups_are_in words docs set =
+      groups_counted docs (λ e. length (filter (in_words words) (keys_of e.1)))
+      (counts (in_words words) docs set.ascends
+      (λ v doc. and_swap (has_in field table v doc) (in_words words doc) ∙ ap (λ b. b && has_in field table v doc) (set.exact doc)))
 
   -- ---- terms
 

@@ -1,5 +1,5 @@
 -- Lists whose items are taken one by one until enough are there.
-use Rattle.std.proofs.Common.{◌≡◌, ◌≢◌, ◌≤◌, ◌<◌, ◌+◌, ◌++◌, ℕ, zero, suc, true, false, List, [], ◌∷◌, length, take, drop, cond, nat_le, filter, refl, sym, ap, ◌∙◌, arith, Less, Equal, Greater}
+use Rattle.std.proofs.Common.{Bool, ◌≡◌, ◌≢◌, ◌≤◌, ◌<◌, ◌+◌, ◌++◌, ℕ, zero, suc, true, false, List, [], ◌∷◌, length, take, drop, cond, nat_le, filter, refl, sym, ap, ◌∙◌, arith, Less, Equal, Greater}
 use Rattle.std.proofs.lemmas.Bool.{le-leb, lt-leb}
 use Rattle.std.proofs.lemmas.List.{append-nil, append_assoc}
 use Rattle.std.specs.Cmp.{ranks}
@@ -16,7 +16,8 @@ use Rattle.image_format.specs.Values.{stored_value}
 use Rattle.index_model.specs.Leaves.{run, stands_beyond}
 use Rattle.index_model.specs.Sets.{IsAscending}
 use Rattle.query_eval.specs.Parts.{index_of_pairs}
-use Rattle.query_results.specs.Dictionaries.{term_of, terms_of}
+use Rattle.result_model.specs.declared.group.Group.{Group}
+use Rattle.query_results.specs.Dictionaries.{group_in, groups_in, some_documents, term_of, terms_of}
 
 pub one_taken : {A : Type 0} (list new rest more whole : List A) (x : A) (left next : ℕ) → left ≡ suc next → new ≡ list ++ x ∷ [] → rest ≡ x ∷ more
     → list ++ take left rest ≡ whole → new ++ take next more ≡ whole
@@ -90,3 +91,22 @@ module _ (type : ValueType) (m : Records) (leaf : Leaf) where
 
   pub no_pairs : (ps : List (ℕ × ℕ)) → ps ≡ [] → terms_of (run leaf (index_of_pairs type m ps)) ≡ []
   no_pairs ps none = ap (λ (qs : List (ℕ × ℕ)). terms_of (run leaf (index_of_pairs type m qs))) none
+
+one_or_none : (b : Bool) (group : Group) (rest : List Group) → cond b (group ∷ rest) rest ≡ cond b (group ∷ []) [] ++ rest
+one_or_none true group rest = refl
+one_or_none false group rest = refl
+
+module _ (type : ValueType) (m : Records) (test : ℕ → Bool) where
+  -- the groups of the first of some pairs, and of the others
+  pub first_group : (ps : List (ℕ × ℕ)) → ps ≢ []
+      → groups_in test (index_of_pairs type m ps)
+      ≡ filter some_documents (group_in test (stored_value type m (first_key ps), postings_at m (list_form (first_value ps))) ∷ [])
+      ++ groups_in test (index_of_pairs type m (drop 1 ps))
+  first_group [] some = absurd (some refl)
+  first_group (p ∷ ps) some =
+      let own = group_in test (stored_value type m p.0, postings_at m (list_form p.1)) in
+      one_or_none (some_documents own) own (groups_in test (index_of_pairs type m ps))
+
+pub parts_joined : {A : Type 0} (list new part rest more whole : List A) → new ≡ list ++ part → rest ≡ part ++ more → list ++ rest ≡ whole → new ++ more ≡ whole
+parts_joined {A} list new part rest more whole appended is before =
+    ap (λ (xs : List A). xs ++ more) appended ∙ append_assoc list part more ∙ ap (λ (xs : List A). list ++ xs) (sym is) ∙ before

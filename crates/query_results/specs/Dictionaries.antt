@@ -1,5 +1,5 @@
 -- A dictionary as the index of an attribute.
-use Rattle.std.specs.Prelude.{ℕ, ℤ, Bool, List, length, map, nat_lt}
+use Rattle.std.specs.Prelude.{◌≡◌, ℕ, ℤ, Bool, List, length, filter, map, nat_lt}
 use Rattle.std.specs.List.{AllByRecursion}
 use Rattle.std.specs.List.Sorted.{IsStrictlySortedBy}
 use Rattle.std.specs.Map.{keys_of}
@@ -11,6 +11,7 @@ use Rattle.attr_types.specs.declared.value.Value.{Value}
 use Rattle.image_format.specs.Postings.{index_of}
 use Rattle.index_model.specs.Columns.{column_of}
 use Rattle.index_model.specs.Index.{Index, IsIndexOf}
+use Rattle.index_model.specs.Sets.{has, in_words, IsAscending}
 use Rattle.query_eval.specs.Parts.{IsIndexed}
 use Rattle.result_model.specs.declared.group.Group.{Group}
 use Rattle.query_results.specs.declared.dictionary.Dictionary.{Dictionary}
@@ -36,3 +37,15 @@ terms_of index = map term_of index
 -- a group that has documents
 abbrev pub some_documents : Group → Bool
 some_documents group = nat_lt 0 group.count
+
+-- a value of an index with how many of its documents pass a test
+abbrev pub group_in : (ℕ → Bool) → Value × List (ℕ × ℤ) → Group
+group_in test entry = record { value = entry.0; count = length (filter test (keys_of entry.1)) }
+
+abbrev pub groups_in : (ℕ → Bool) → Index → List Group
+groups_in test index = filter some_documents (map (group_in test) index)
+
+-- a bit vector of documents that ascend
+pub record IsSetOf (words docs : List ℕ) : Type 0 where
+  pub ascends : IsAscending docs
+  pub exact : (doc : ℕ) → in_words words doc ≡ has docs doc

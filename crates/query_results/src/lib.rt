@@ -5,9 +5,11 @@
 mod attribute;
 mod bulk;
 mod dictionary;
+mod dictionary_groups;
 mod document_list;
 mod facets;
 mod group_keys;
+mod hit_set;
 mod items;
 mod leaf_terms;
 mod lists;
