@@ -37,15 +37,15 @@ use Rattle.query_results.proofs.AttributeLemmas.{column_found}
 use Rattle.query_results.proofs.GroupLemmas.{any_item}
 use Rattle.query_results.proofs.OrderLemmas.{is_in_order}
 
-abbrev same : Value → Value → Bool
+abbrev pub same : Value → Value → Bool
 same = eq_by_cmp value_cmp
 
-abbrev Entry : Type 0
+abbrev pub Entry : Type 0
 Entry = Value × List (ℕ × ℤ)
 
 -- ---- lists
 
-same_number : (a b : ℕ) → nat_eq a b ≡ is_eq (nat_cmp a b)
+pub same_number : (a b : ℕ) → nat_eq a b ≡ is_eq (nat_cmp a b)
 same_number a b = by_cases (nat_eq a b)
     (λ yes. yes ∙ sym (ap (λ n. is_eq (nat_cmp a n)) (sym (eqb-true a b yes)) ∙ ap is_eq (tied_itself nat_cmp_total a)))
     (λ no. no ∙ sym (nat_cmp_apart a b (eqb-false a b no)))
@@ -74,7 +74,7 @@ some_kept p [] = refl
 some_kept p (x ∷ xs) =
     elim (p x) as (λ b. nat_lt 0 (length (cond b (x ∷ filter p xs) (filter p xs))) ≡ (b || list_any p xs)) [ true ↦ lt-ltb 0 (suc (length (filter p xs))) (omega arith) | false ↦ some_kept p xs ]
 
-none_of : {X : Type 0} (p : X → Bool) → ((x : X) → p x ≡ false) → (xs : List X) → list_any p xs ≡ false
+pub none_of : {X : Type 0} (p : X → Bool) → ((x : X) → p x ≡ false) → (xs : List X) → list_any p xs ≡ false
 none_of p none [] = refl
 none_of p none (x ∷ xs) = ap₂ (λ (a b : Bool). a || b) (none x) (none_of p none xs)
 
@@ -86,7 +86,7 @@ all_true : {X : Type 0} (xs : List X) → filter (λ x. true) xs ≡ xs
 all_true [] = refl
 all_true {X} (x ∷ xs) = ap (λ (ys : List X). x ∷ ys) (all_true xs)
 
-and_off : (b : Bool) → (b && false) ≡ false
+pub and_off : (b : Bool) → (b && false) ≡ false
 and_off true = refl
 and_off false = refl
 
@@ -122,11 +122,17 @@ module _ (field : ℕ) (table : Table) (index : Index) (ascends : IsStrictlySort
       ∙ any_item v (items_in_column (column_of field table) doc)
       ∙ ap (list_any (has_value v)) (column_found field table doc)
 
-  entry_has : AllByRecursion (λ e. (doc : ℕ) → has (keys_of e.1) doc ≡ has_in field table e.0 doc) index
+  pub entry_has : AllByRecursion (λ e. (doc : ℕ) → has (keys_of e.1) doc ≡ has_in field table e.0 doc) index
   entry_has =
       AllByRecursion-weaker (λ e. lookup (is_at (value_cmp e.0)) index ≡ Some e.1) (λ e. (doc : ℕ) → has (keys_of e.1) doc ≡ has_in field table e.0 doc)
       (λ e found doc. ap (λ (o : Option (List (ℕ × ℤ))). has (keys_of (unwrap_or o [])) doc) (sym found) ∙ list_has e.0 doc)
       index (all_found value_cmp_total index is.formed.ascends)
+
+  -- no document has a value that is not in the index
+  pub not_known : (v : Value) → list_any (same v) (keys_of index) ≡ false → (doc : ℕ) → has_in field table v doc ≡ false
+  not_known v lacks doc =
+      sym (list_has v doc)
+      ∙ ap (λ (es : List (ℕ × ℤ)). has (keys_of es) doc) (nothing_there (list_of v index) (sym (any-index v index is.formed.filled) ∙ lacks))
 
   -- only documents of the table have values
   in_table : (v : Value) (doc : ℕ) → (has (keys_of table) doc && has_in field table v doc) ≡ has_in field table v doc
@@ -177,10 +183,7 @@ module _ (field : ℕ) (table : Table) (index : Index) (ascends : IsStrictlySort
     known : (q : Value) → (list_any (same q) (keys_of index) && wanted q) ≡ wanted q
     known q = by_cases (list_any (same q) (keys_of index))
         (λ yes. ap (λ b. b && wanted q) yes)
-        (λ no. ap (λ b. b && wanted q) no ∙ sym (none_of (has_in field table q)
-        (λ doc. sym (list_has q doc) ∙ ap (λ (es : List (ℕ × ℤ)). has (keys_of es) doc)
-        (nothing_there (list_of q index) (sym (any-index q index is.formed.filled) ∙ no)))
-        docs))
+        (λ no. ap (λ b. b && wanted q) no ∙ sym (none_of (has_in field table q) (not_known q no) docs))
 
     any_value : (q : Value) (ds : List ℕ) → list_any (same q) (flat_map (λ doc. values_of (items_of field table doc)) ds) ≡ list_any (has_in field table q) ds
     any_value q [] = refl

@@ -10,3 +10,4 @@ pub mod DictionaryLemmas
 pub mod IndexLemmas
 pub mod TakeLemmas
 pub mod ListFormLemmas
+pub mod DictionaryOrderLemmas

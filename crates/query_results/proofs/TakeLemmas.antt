@@ -1,7 +1,9 @@
 -- Lists whose items are taken one by one until enough are there.
-use Rattle.std.proofs.Common.{Bool, ◌≡◌, ◌≢◌, ◌≤◌, ◌<◌, ◌+◌, ◌++◌, ℕ, zero, suc, true, false, List, [], ◌∷◌, length, take, drop, cond, nat_le, filter, refl, sym, ap, ◌∙◌, arith, Less, Equal, Greater}
+use Rattle.std.proofs.Common.{Option, Some, None, Bool, ◌≡◌, ◌≢◌, ◌≤◌, ◌<◌, ◌+◌, ◌++◌, ℕ, zero, suc, true, false, List, [], ◌∷◌, length, take, drop, cond, nat_le, filter, refl, sym, ap, ◌∙◌, arith, Less, Equal, Greater}
 use Rattle.std.proofs.lemmas.Bool.{le-leb, lt-leb}
 use Rattle.std.proofs.lemmas.List.{append-nil, append_assoc}
+use Rattle.std.proofs.lemmas.List.Elements.{filter-append}
+use Rattle.std.specs.Prelude.{IfSome}
 use Rattle.std.specs.Cmp.{ranks}
 use Rattle.std.specs.List.{AllByRecursion}
 use Rattle.std.specs.Map.{keys_of}
@@ -13,7 +15,7 @@ use Rattle.attr_types.specs.declared.kind.ValueType.{ValueType}
 use Rattle.attr_types.specs.declared.query.Leaf.{Leaf}
 use Rattle.image_format.specs.Postings.{list_form, postings_at}
 use Rattle.image_format.specs.Values.{stored_value}
-use Rattle.index_model.specs.Leaves.{run, stands_beyond}
+use Rattle.index_model.specs.Leaves.{listed, run, stands_beyond}
 use Rattle.index_model.specs.Sets.{IsAscending}
 use Rattle.query_eval.specs.Parts.{index_of_pairs}
 use Rattle.result_model.specs.declared.group.Group.{Group}
@@ -97,6 +99,13 @@ one_or_none true group rest = refl
 one_or_none false group rest = refl
 
 module _ (type : ValueType) (m : Records) (test : ℕ → Bool) where
+  -- the documents of the first of some pairs that pass a test, and those of the others
+  pub first_kept : (ps : List (ℕ × ℕ)) → ps ≢ []
+      → filter test (listed (index_of_pairs type m ps))
+      ≡ filter test (keys_of (postings_at m (list_form (first_value ps)))) ++ filter test (listed (index_of_pairs type m (drop 1 ps)))
+  first_kept [] some = absurd (some refl)
+  first_kept (p ∷ ps) some = filter-append test (keys_of (postings_at m (list_form p.1))) (listed (index_of_pairs type m ps))
+
   -- the groups of the first of some pairs, and of the others
   pub first_group : (ps : List (ℕ × ℕ)) → ps ≢ []
       → groups_in test (index_of_pairs type m ps)
@@ -110,3 +119,7 @@ module _ (type : ValueType) (m : Records) (test : ℕ → Bool) where
 pub parts_joined : {A : Type 0} (list new part rest more whole : List A) → new ≡ list ++ part → rest ≡ part ++ more → list ++ rest ≡ whole → new ++ more ≡ whole
 parts_joined {A} list new part rest more whole appended is before =
     ap (λ (xs : List A). xs ++ more) appended ∙ append_assoc list part more ∙ ap (λ (xs : List A). list ++ xs) (sym is) ∙ before
+
+pub if_some : {A : Type 0} (P Q : A → Type 0) (o : Option A) → ((x : A) → P x → Q x) → IfSome o P → IfSome o Q
+if_some P Q None then' is = tt
+if_some P Q (Some x) then' is = then' x is

@@ -1,5 +1,5 @@
 //! Given documents as a set.
-ghost use Rattle.std.specs.Prelude.{◌≡◌, true, length, filter, IfOk, IfSome};
+ghost use Rattle.std.specs.Prelude.{◌≡◌, ◌++◌, true, length, filter, IfOk, IfSome, OnOk};
 ghost use Rattle.index_model.specs.Sets.{in_words, IsAscending};
 ghost use Rattle.query_results.specs.Dictionaries.{IsSetOf};
 
@@ -41,4 +41,16 @@ pub fn count_in(set: &DocSet, docs: &[Doc]) -> u64
         }
     }
     count
+}
+
+/// Adds those of these documents that are in a set, in their order.
+pub fn push_kept(kept: &mut Vec<Doc>, docs: &[Doc], set: &DocSet) -> Result<(), AllocError>
+    ensures { OnOk result (kept.new.items ≡ kept.old.items ++ filter (in_words set.now) docs.now) }
+{
+    for doc in docs {
+        if set.contains(*doc) {
+            kept.push(*doc)?;
+        }
+    }
+    Ok(())
 }

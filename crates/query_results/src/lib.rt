@@ -6,6 +6,7 @@ mod attribute;
 mod bulk;
 mod dictionary;
 mod dictionary_groups;
+mod dictionary_order;
 mod document_list;
 mod facets;
 mod group_keys;
