@@ -29,7 +29,8 @@ fn doc_of(word: u64) -> Doc
     Doc::new((word >> 32) as u32)
 }
 
-fn push_words(docs: &mut Vec<Doc>, words: &[u64]) -> Result<(), AllocError>
+/// Adds the documents in the words of a short list, in their order.
+pub fn push_words(docs: &mut Vec<Doc>, words: &[u64]) -> Result<(), AllocError>
     requires { HaveDocNumbers (map unpacked words.now) }
     ensures { OnOk result (docs.new.items ≡ docs.old.items ++ keys_of (map unpacked words.now)) }
 {

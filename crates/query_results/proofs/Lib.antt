@@ -6,3 +6,8 @@ pub mod RankLemmas
 pub mod ScoreLemmas
 pub mod GroupLemmas
 pub mod GroupKeyLemmas
+pub mod DictionaryLemmas
+pub mod IndexLemmas
+pub mod TakeLemmas
+pub mod ListFormLemmas
+pub mod DictionaryOrderLemmas

@@ -1,5 +1,5 @@
 -- Documents in the order of their keys.
-use Rattle.std.proofs.Common.{◌≡◌, ℕ, List, [], ◌∷◌, map, take, drop, Option, Some, None, Less, Equal, Greater, Ordering, true≢false, refl, sym, ap, ap₂, ◌∙◌}
+use Rattle.std.proofs.Common.{◌≡◌, ℕ, List, [], ◌∷◌, map, take, drop, Option, Some, None, Equal, Ordering, true≢false, refl, sym, ap, ap₂, ◌∙◌}
 use Rattle.std.proofs.lemmas.List.{take-map, drop-map}
 use Rattle.std.proofs.lemmas.Map.Lookups.{exact_unsigned}
 use Rattle.std.specs.Ordering.{is_eq, nat_cmp, ordering_then}
@@ -14,7 +14,7 @@ use Rattle.query_results.specs.contracts.ranks.RankedOrd.TheImpl as ranked_ord
 use Rattle.query_results.specs.declared.ranks.Place.{Place}
 use Rattle.query_results.specs.declared.ranks.Place.TheVariants as places
 use Rattle.query_results.specs.declared.ranks.Ranked.{Ranked}
-use Rattle.query_results.proofs.OrderLemmas.{in_order_mapped}
+use Rattle.query_results.proofs.OrderLemmas.{both_equal, in_order_mapped}
 
 abbrev pub ranked_cmp : Ranked → Ranked → Ordering
 ranked_cmp = (ranked_ord.ghosts).cmp
@@ -34,11 +34,6 @@ keeps Descending (Some x, m) (Some y, n) = ap (λ o. ordering_then o (nat_cmp m 
 keeps Descending (Some x, m) (None, n) = refl
 keeps Descending (None, m) (Some y, n) = refl
 keeps Descending (None, m) (None, n) = refl
-
-pub both_equal : (p c : Ordering) → ordering_then p c ≡ Equal → (p ≡ Equal) × (c ≡ Equal)
-both_equal Less c is = absurd (true≢false (sym (ap is_eq is)))
-both_equal Equal c is = (refl, is)
-both_equal Greater c is = absurd (true≢false (sym (ap is_eq is)))
 
 same_place : (p q : Place) → place_cmp p q ≡ Equal → p ≡ q
 same_place (places.Up a) (places.Up b) is = ap places.Up (value_cmp_exact a b is)

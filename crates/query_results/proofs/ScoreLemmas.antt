@@ -8,8 +8,7 @@ use Rattle.result_model.specs.Orders.{by_score, in_order}
 use Rattle.query_results.specs.Ranks.{as_key, as_score}
 use Rattle.query_results.specs.contracts.score_keys.ScoreKeyOrd.TheImpl as key_ord
 use Rattle.query_results.specs.declared.score_keys.ScoreKey.{ScoreKey}
-use Rattle.query_results.proofs.OrderLemmas.{in_order_mapped}
-use Rattle.query_results.proofs.RankLemmas.{both_equal}
+use Rattle.query_results.proofs.OrderLemmas.{both_equal, in_order_mapped}
 
 abbrev key_cmp : ScoreKey → ScoreKey → Ordering
 key_cmp = (key_ord.ghosts).cmp

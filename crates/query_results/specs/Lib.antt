@@ -2,3 +2,5 @@ pub mod Walks
 pub mod Attributes
 pub mod Ranks
 pub mod Runs
+pub mod Dictionaries
+pub mod ProofsForLists

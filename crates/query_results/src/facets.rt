@@ -12,6 +12,7 @@ ghost use Rattle.query_results.specs.Attributes.{column_in, HasDocuments};
 ghost use Rattle.query_results.specs.Walks.{IsWalk};
 
 use crate::attribute::{Attribute, attribute_of};
+use crate::dictionary_groups::groups_by_dictionary;
 use crate::group_keys::largest_of;
 use crate::items::next_items;
 use crate::runs::{distinct_in, groups_in};
@@ -19,8 +20,12 @@ use crate::walks::{Walk, walk_of};
 use arena_api::Frozen;
 use attr_types::{Doc, DocList, Fields, Value};
 use entry_ref::EntryRef;
+use query_eval::documents;
 use result_model::Groups;
 use std::alloc::{AllocError, Global};
+
+/// About how many postings are counted while one document is read.
+const POSTINGS_PER_DOCUMENT: usize = 8;
 
 /// Returns the distinct values of a document, at the next step of a walk.
 fn next_distinct<const OFFSET_BITS: u32, F: Frozen<OFFSET_BITS>>(
@@ -63,8 +68,8 @@ fn distinct_along<const OFFSET_BITS: u32, F: Frozen<OFFSET_BITS>>(
 }
 
 /// Returns each distinct value of these documents in the attribute with this number, with how many of the documents
-/// have it, by value.
-fn all_groups<const OFFSET_BITS: u32, F: Frozen<OFFSET_BITS>>(
+/// have it, by value: each document is read.
+fn groups_along<const OFFSET_BITS: u32, F: Frozen<OFFSET_BITS>>(
     alloc: Global,
     frozen: &mut F,
     root: EntryRef<OFFSET_BITS>,
@@ -82,6 +87,44 @@ fn all_groups<const OFFSET_BITS: u32, F: Frozen<OFFSET_BITS>>(
     let attribute = attribute_of(frozen, root, fields.as_slice(), field);
     let values = distinct_along(alloc, frozen, &attribute, docs.as_slice())?;
     groups_in(alloc, values)
+}
+
+/// Returns whether so many documents are grouped faster by the dictionary than by reading each.
+fn are_many<const OFFSET_BITS: u32, F: Frozen<OFFSET_BITS>>(
+    frozen: &mut F,
+    root: EntryRef<OFFSET_BITS>,
+    count: usize,
+) -> bool
+    requires { IsLawfulImage (F.shape frozen.old) (F.records frozen.old) root }
+    ensures same { frozen.new ≡ frozen.old }
+{
+    count >= documents(frozen, root) as usize / POSTINGS_PER_DOCUMENT
+}
+
+/// Returns each distinct value of these documents in the attribute with this number, with how many of the documents
+/// have it, by value.
+fn all_groups<const OFFSET_BITS: u32, F: Frozen<OFFSET_BITS>>(
+    alloc: Global,
+    frozen: &mut F,
+    root: EntryRef<OFFSET_BITS>,
+    fields: &Fields,
+    field: u32,
+    docs: &DocList,
+) -> Result<Groups, AllocError>
+    requires few { length fields.now ≤ MOST_FIELDS }
+    requires shape { F.shape frozen.old ≡ shape_of (types_of fields.now) }
+    requires image { IsLawfulImage (F.shape frozen.old) (F.records frozen.old) root }
+    ensures groups { IfOk result (λ list. list
+        ≡ model.all_groups field docs.now (table_of (F.shape frozen.old) (F.records frozen.old) root.entry)) }
+    ensures same { frozen.new ≡ frozen.old }
+{
+    if !are_many(frozen, root, docs.as_slice().len()) {
+        return groups_along(alloc, frozen, root, fields, field, docs);
+    }
+    match groups_by_dictionary(alloc, frozen, root, fields, field, docs)? {
+        Some(groups) => Ok(groups),
+        None => groups_along(alloc, frozen, root, fields, field, docs),
+    }
 }
 
 /// Returns the first groups.

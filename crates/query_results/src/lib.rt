@@ -4,9 +4,16 @@
 
 mod attribute;
 mod bulk;
+mod dictionary;
+mod dictionary_groups;
+mod dictionary_order;
+mod document_list;
 mod facets;
 mod group_keys;
+mod hit_set;
 mod items;
+mod leaf_terms;
+mod lists;
 mod numbers;
 mod orders;
 mod ranks;
@@ -15,7 +22,9 @@ mod score_keys;
 mod walks;
 
 pub use bulk::values;
+pub use document_list::documents_from;
 pub use facets::{groups, largest_groups};
+pub use leaf_terms::terms;
 pub use numbers::totals;
 pub use ranks::sorted;
 pub use score_keys::best;

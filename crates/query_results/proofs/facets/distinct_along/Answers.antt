@@ -20,7 +20,8 @@ loop-doc-preserved g c =
     record {
       same = c.next_distinct.ensures.same ∙ before.same;
       walk = subst (λ (f : g.row.F.Denot). IsWalk (records f) a.documents c.next_distinct.new.walk) before.same c.next_distinct.ensures.walk;
-      whole = some_more (λ (n : ℕ). in_order value_cmp (values_of (items_of (column_in g.row.OFFSET_BITS m a) n))) docs k doc c.loop-doc.list.items c.append.new.self.items _ c.in_ok-values.values.items below c.doc-item.is
+      whole = some_more (λ (n : ℕ). in_order value_cmp (values_of (items_of (column_in g.row.OFFSET_BITS m a) n))) docs k doc
+          c.loop-doc.list.items c.append.new.self.items _ c.in_ok-values.values.items below c.doc-item.is
           c.in_ok-append.ensures.items
           (c.in_ok-values.ensures.values ∙ ap (λ (f : g.row.F.Denot). in_order value_cmp (values_of (items_of (column_in g.row.OFFSET_BITS (records f) a) doc))) before.same)
           before.whole;

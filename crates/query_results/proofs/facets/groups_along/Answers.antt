@@ -9,7 +9,7 @@ use Rattle.query_results.specs.Attributes.{column_in}
 use Rattle.query_results.specs.Runs.{groups_of}
 use Rattle.query_results.proofs.GroupLemmas.{groups_are}
 use Rattle.query_results.proofs.ListLemmas.{same_flat_map}
-use Rattle.query_results.proofs.facets.all_groups.Goals as goal
+use Rattle.query_results.proofs.facets.groups_along.Goals as goal
 
 pub returns-clause-groups : goal.returns-clause-groups
 returns-clause-groups g c =

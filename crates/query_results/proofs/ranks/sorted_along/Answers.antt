@@ -6,7 +6,7 @@ use Rattle.result_model.specs.Values.{first_value, value_of}
 use Rattle.query_results.specs.Attributes.{value_in}
 use Rattle.query_results.specs.Ranks.{ranked}
 use Rattle.query_results.proofs.RankLemmas.{same_ranks}
-use Rattle.query_results.proofs.ranks.sorted.Goals as goal
+use Rattle.query_results.proofs.ranks.sorted_along.Goals as goal
 
 pub returns-clause-sorted : goal.returns-clause-sorted
 returns-clause-sorted g c =
