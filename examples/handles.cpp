@@ -102,6 +102,7 @@ void calls() {
     auto items = reader.items(7, 0);
     expect(items && *items == std::vector<attr::item>{{std::string(), -1}, {std::string("a \"quoted\" \\ name"), 3}}, "items");
     expect(reader.number(7, 1, 0) == 1969 && reader.number(8, 1, -3) == -3 && !reader.items(8, 1), "numbers");
+    expect(reader.number(7, 0, -3) == -3, "a string is no number");
     expect(refusal([&] { reader.hits("or(1"); }, ATTR_SYNTAX).find("at its end") != std::string::npos, "a syntax error at the end");
     expect(refusal([&] { reader.hits("year:x"); }, ATTR_SYNTAX).find("at byte") != std::string::npos, "a syntax error with its place");
     expect(refusal([&] { reader.items(7, 9); }, ATTR_BOUNDS) != "no such refusal", "items out of bounds");

@@ -218,13 +218,14 @@ public:
         for (std::uint64_t number = 0; number < *count; number++) found.push_back(kept_item(number));
         return found;
     }
-    // The first number that a document has in an attribute; `other` where it has none.
+    // The first number that a document has in an attribute; `other` where it has none, as in an attribute of strings.
     std::int64_t number(std::uint32_t document, std::uint32_t field, std::int64_t other) {
         std::optional<std::uint64_t> count = read_items(document, field);
         if (!count || *count == 0) return other;
         attr_item_told told{};
-        attr_item(open(), 0, &told);
-        return told.number;
+        std::int32_t code = attr_item(open(), 0, &told);
+        if (code != ATTR_OK) throw error(code, message(code));
+        return told.is_text ? other : told.number;
     }
 
     // Saves the first attribute, as docs/FORMATS.md says.
