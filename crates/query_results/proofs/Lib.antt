@@ -6,3 +6,4 @@ pub mod RankLemmas
 pub mod ScoreLemmas
 pub mod GroupLemmas
 pub mod GroupKeyLemmas
+pub mod LongLemmas

@@ -7,6 +7,7 @@ mod bulk;
 mod facets;
 mod group_keys;
 mod items;
+mod longs;
 mod numbers;
 mod orders;
 mod ranks;
@@ -16,6 +17,7 @@ mod walks;
 
 pub use bulk::values;
 pub use facets::{groups, largest_groups};
+pub use longs::write_longs;
 pub use numbers::totals;
 pub use ranks::sorted;
 pub use score_keys::best;
