@@ -251,6 +251,46 @@ int32_t attr_save(attr_reader *reader, struct attr_answer *answer);
 /* Copies bytes of that save, from number `first` on, and returns how many. */
 size_t attr_saved(attr_reader *reader, size_t first, uint8_t *into, size_t room);
 
+/* ---- sorting, grouping and values in bulk ---- */
+
+/* These calls are about the documents of the answer that the reader keeps (the last attr_ask that was ATTR_OK), or about given
+ * documents, by their values at the guard's commit, else at the last one. With attr_hold before the attr_ask all of them are of one
+ * commit. They keep the answer. Where another commit is read than the one that answered, a document that is no longer there has no
+ * values. `field` is the number of an attribute, from 0, in the order of attr_open. `answer` tells the commit and its operations as in
+ * the other calls. ATTR_BOUNDS: there is no such attribute, a flag is not 0 or 1, or lengths differ; nothing is told, and nothing is
+ * written. Other errors of all are ATTR_LOST and ATTR_MEMORY. */
+
+/* Sorts the documents of the answer by their values in an attribute, ascending or (descending 1) descending: equal values by document,
+ * ascending, and documents without a value last. Of an array or a weighted set the first item counts. Copies them from number `first` on
+ * (counted from 0), at most `room`; answer->count is how many were copied. */
+int32_t attr_sort(attr_reader *reader, uint32_t field, uint32_t descending, size_t first, uint32_t *into, size_t room,
+                  struct attr_answer *answer);
+
+/* Adds up the numbers that the documents of the answer have in an attribute of longs; of an array or a weighted set the first item
+ * counts, and strings are no numbers. Without a number, and with another code than ATTR_OK, all of *totals is 0. answer->count is
+ * totals->count. */
+struct attr_totals_told {
+    uint64_t count;         /* how many numbers there are */
+    uint64_t low;           /* their sum is high * 2^64 + low */
+    int64_t high;
+    int64_t least;
+    int64_t greatest;
+};
+int32_t attr_totals(attr_reader *reader, uint32_t field, struct attr_totals_told *totals, struct attr_answer *answer);
+
+/* Answers a dot product, as docs/QUERIES.md says, with its `room` best scores alone: the greatest first, equal ones by document.
+ * answer->count is how many were copied. A text that is a query has no scores: ATTR_OK, and count is 0. The codes of a text are those of
+ * attr_ask. The reader keeps the answer that it had. */
+int32_t attr_best(attr_reader *reader, const uint8_t *text, size_t length, struct attr_score *into, size_t room,
+                  struct attr_answer *answer);
+
+/* Writes for each of `count` given documents the number that it has in an attribute of longs (of an array or a weighted set its first
+ * item), and whether it has one: present[i] is 1 and numbers[i] the number, or both are 0. Documents may be in any order and may repeat;
+ * it is fastest where they ascend. A document that does not exist has none. numbers_room and present_room are `count`, else ATTR_BOUNDS.
+ * answer->count is how many documents have a number. It takes no memory. */
+int32_t attr_longs(attr_reader *reader, uint32_t field, const uint32_t *documents, size_t count, int64_t *numbers, size_t numbers_room,
+                   uint8_t *present, size_t present_room, struct attr_answer *answer);
+
 #ifdef __cplusplus
 }
 #endif

@@ -16,7 +16,7 @@ use crate::seat::{Seat, SeatState, kept_of, left, reader_of};
 use crate::told::{Answered, ItemTold, Scored};
 use std::alloc::Global;
 
-fn no_answer() -> Answered
+pub fn no_answer() -> Answered
     ensures { result ≡ no_answer }
 {
     Answered {

@@ -68,6 +68,19 @@ pub struct Scored {
     pub exact: u32,
 }
 
+/// The totals of numbers.
+#[repr(C)]
+#[derive(Clone, Copy, Drop)]
+pub struct TotalsTold {
+    /// The number of numbers.
+    pub count: u64,
+    /// Their sum is `high` * 2^64 + `low`.
+    pub low: u64,
+    pub high: i64,
+    pub least: i64,
+    pub greatest: i64,
+}
+
 /// An item of a document.
 #[repr(C)]
 #[derive(Clone, Copy, Drop)]
