@@ -251,6 +251,33 @@ int32_t attr_save(attr_reader *reader, struct attr_answer *answer);
 /* Copies bytes of that save, from number `first` on, and returns how many. */
 size_t attr_saved(attr_reader *reader, size_t first, uint8_t *into, size_t room);
 
+/* ---- sorting, grouping and values in bulk ---- */
+
+/* These calls are about the documents of the answer that the reader keeps (the last attr_ask that was ATTR_OK), or about given
+ * documents, by their values at the guard's commit, else at the last one. With attr_hold before the attr_ask all of them are of one
+ * commit. They keep the answer. Where another commit is read than the one that answered, a document that is no longer there has no
+ * values. `field` is the number of an attribute, from 0, in the order of attr_open. `answer` tells the commit and its operations as in
+ * the other calls. ATTR_BOUNDS: there is no such attribute, a flag is not 0 or 1, or lengths differ; nothing is told, and nothing is
+ * written. Other errors of all are ATTR_LOST and ATTR_MEMORY. */
+
+/* Groups the documents of the answer by their values in an attribute: each distinct value with how many of the documents have it (a
+ * document counts once for a value). By value ascending or (by_count 1) by count, the greatest first, equal counts by value. Keeps at
+ * most `most` groups, the first ones, until the next attr_group or attr_terms that is ATTR_OK. answer->count is how many. */
+int32_t attr_group(attr_reader *reader, uint32_t field, uint32_t by_count, size_t most, struct attr_answer *answer);
+
+/* One of the kept groups, by its number from 0. ATTR_BOUNDS: there are fewer, and all that is told is 0. */
+struct attr_group_told {
+    int64_t number;         /* a long, else 0 */
+    uint64_t length;        /* how many bytes a string has, else 0 */
+    uint64_t documents;     /* how many documents have the value */
+    uint32_t is_text;       /* 1 for a string */
+    uint32_t zero;          /* always 0 */
+};
+int32_t attr_group_at(attr_reader *reader, size_t number, struct attr_group_told *group);
+
+/* Copies the string of one of them, UTF-8 without a final 0. Returns how many bytes were copied, at most 1,024 and `room`. */
+size_t attr_group_text(attr_reader *reader, size_t number, uint8_t *into, size_t room);
+
 #ifdef __cplusplus
 }
 #endif

@@ -57,7 +57,7 @@ fn ask_in(alloc: Global, text: &str, fields: &Fields, told: &mut Answered) -> Re
 }
 
 /// Writes which commit answers.
-fn tell_commit<const OFFSET_BITS: u32>(kept: &mut Kept<OFFSET_BITS>, told: &mut Answered)
+pub fn tell_commit<const OFFSET_BITS: u32>(kept: &mut Kept<OFFSET_BITS>, told: &mut Answered)
     ensures tells { TellsCommit kept.old told.new }
     ensures only { told.new ≡ with_commit told.new told.old }
     ensures same { kept.new ≡ kept.old }

@@ -4,15 +4,19 @@ ghost use Rattle.gen_core.specs.Events.{released};
 ghost use Rattle.word_arena.specs.Ruled.{reader_of, seen_number};
 ghost use Rattle.attr_types.specs.Scores.{ask_tree, answer_on};
 ghost use Rattle.attr_types.specs.declared.field.TheConstants.{MOST_FIELDS};
+ghost use Rattle.attr_c.specs.Copies.{documents_of};
+ghost use Rattle.attr_c.specs.Grouping.{groups_by};
 ghost use Rattle.attr_c.specs.Said.{said, items_of, save_of_table};
 ghost use Rattle.attr_c.specs.Kept.{operations_of, table_in, IsGuardOf};
 
 use crate::answer::Answer;
+use crate::grouping::answer_groups;
 use crate::guarding::guarded;
 use crate::reading::{answer_at, field_items, operations_in, saved_at};
 use crate::state::Waiting;
 use attr_types::{Ask, Doc, Fields, Items};
 use image_format::AttrLayout;
+use result_model::Groups;
 use std::alloc::{AllocError, Global};
 use std::marker::Model;
 use word_arena::Guarded;
@@ -88,6 +92,32 @@ impl<const OFFSET_BITS: u32> Kept<OFFSET_BITS> {
     {
         let root = self.guard.root();
         answer_at(alloc, &mut self.guard, root, &self.fields, ask)
+    }
+
+    /// Returns the groups of the documents of an answer by their values at the commit, in the attribute with this number: the first
+    /// `most`, by value or by count.
+    pub fn groups(
+        &mut self,
+        alloc: Global,
+        answer: &Answer,
+        field: u32,
+        by_count: bool,
+        most: usize,
+    ) -> Result<Groups, AllocError>
+        ensures groups { IfOk result (λ list. list ≡ groups_by by_count field (documents_of answer.now) most (table_in self.old)) }
+        ensures same { self.new ≡ self.old }
+    {
+        let root = self.guard.root();
+        answer_groups(
+            alloc,
+            &mut self.guard,
+            root,
+            &self.fields,
+            answer,
+            field,
+            by_count,
+            most,
+        )
     }
 
     /// Returns the items of a document at the commit, in the attribute with this number, or `None` if the document

@@ -80,6 +80,21 @@ pub struct ItemTold {
     pub is_text: u32,
 }
 
+/// A group of documents with the same value.
+#[repr(C)]
+#[derive(Clone, Copy, Drop)]
+pub struct GroupTold {
+    /// The value, if it is a number.
+    pub number: i64,
+    /// The number of bytes of the value, if it is a text.
+    pub length: u64,
+    /// The number of documents.
+    pub documents: u64,
+    pub is_text: u32,
+    /// Always 0.
+    pub zero: u32,
+}
+
 /// Numbers for a monitor.
 #[repr(C)]
 #[derive(Clone, Copy, Drop)]
