@@ -1,4 +1,4 @@
-use Rattle.std.proofs.Common.{◌<◌, ◌∙◌, ℕ, List, length, arith, ap, subst}
+use Rattle.std.proofs.Common.{◌<◌, ◌∙◌, length, arith, ap, subst}
 use Rattle.index_model.specs.Columns.{items_of}
 use Rattle.query_results.specs.Attributes.{column_in}
 use Rattle.query_results.specs.Walks.{IsWalk}
