@@ -196,7 +196,7 @@ void attr_reader_close(attr_reader reader);
 struct attr_answer {
     uint32_t commit;        /* the commit that answered, 0 before the first */
     uint32_t operations;    /* how many operations it has */
-    uint64_t count;         /* how many documents, items or bytes the answer has */
+    uint64_t count;         /* how many documents, items, groups or bytes the answer has */
     uint64_t place;         /* ATTR_SYNTAX, ATTR_NO_FIELD: the offset at which the text breaks off */
 };
 
@@ -265,6 +265,11 @@ size_t attr_saved(attr_reader *reader, size_t first, uint8_t *into, size_t room)
  * most `most` groups, the first ones, until the next attr_group or attr_terms that is ATTR_OK. answer->count is how many. */
 int32_t attr_group(attr_reader *reader, uint32_t field, uint32_t by_count, size_t most, struct attr_answer *answer);
 
+/* Finds the values of an attribute that meet a query of one comparison (docs/QUERIES.md: equality, a range or a prefix), ascending, each
+ * with how many documents of the commit have it; at most `most`, the first ones. They are kept in the place of groups. answer->count is
+ * how many. The codes of a text are those of attr_ask; ATTR_SYNTAX with place 0 where the text asks for more than one comparison. */
+int32_t attr_terms(attr_reader *reader, const uint8_t *text, size_t length, size_t most, struct attr_answer *answer);
+
 /* One of the kept groups, by its number from 0. ATTR_BOUNDS: there are fewer, and all that is told is 0. */
 struct attr_group_told {
     int64_t number;         /* a long, else 0 */
@@ -277,6 +282,9 @@ int32_t attr_group_at(attr_reader *reader, size_t number, struct attr_group_told
 
 /* Copies the string of one of them, UTF-8 without a final 0. Returns how many bytes were copied, at most 1,024 and `room`. */
 size_t attr_group_text(attr_reader *reader, size_t number, uint8_t *into, size_t room);
+
+/* Copies the documents of the commit that are not below `first`, ascending, at most `room`; answer->count is how many were copied. */
+int32_t attr_documents(attr_reader *reader, uint32_t first, uint32_t *into, size_t room, struct attr_answer *answer);
 
 #ifdef __cplusplus
 }

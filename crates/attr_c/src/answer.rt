@@ -35,7 +35,7 @@ impl Answer {
     }
 }
 
-fn copy_docs(docs: &[Doc], into: &mut [u32]) -> usize
+pub fn copy_docs(docs: &[Doc], into: &mut [u32]) -> usize
     ensures { Copies docs.now 0 into.old into.new result }
 {
     let count = into.len().min(docs.len());

@@ -1,18 +1,21 @@
 //! What C calls for groups, with a reader's handle.
 ghost use Rattle.std.specs.Prelude.{◌≡◌, ◌≢◌, pos, Some, None, option_map, slice_get};
+ghost use Rattle.std.specs.Str.{IsUtf8};
 ghost use Rattle.attr_c.specs.Copies.{documents_of, Copies};
 ghost use Rattle.attr_c.specs.Grouping.{group_text, group_told, no_group, GroupsDocuments, IsGrouping, RefusesGroups};
 ghost use Rattle.attr_c.specs.Seats.{ByGuardOf};
 ghost use Rattle.attr_c.specs.Telling.{no_answer, AnswersBy};
-ghost use Rattle.attr_c.specs.declared.codes.TheConstants.{BOUNDS, LOST, OK};
+ghost use Rattle.attr_c.specs.Terms.{RefusesTerms, TermsText};
+ghost use Rattle.attr_c.specs.declared.codes.TheConstants.{BOUNDS, LOST, NO_TEXT, OK};
 
-use crate::codes::{LOST, OK};
+use crate::codes::{LOST, NO_TEXT, OK};
 use crate::copying::copy_bytes;
 use crate::group_copying::{group_at, group_text_at};
 use crate::grouping::groups_any;
 use crate::handles::HeldSeat;
 use crate::read_exports::no_answer;
 use crate::seat::{kept_of, left};
+use crate::terms::terms_any;
 use crate::told::{Answered, GroupTold};
 use std::alloc::Global;
 
@@ -49,6 +52,49 @@ pub extern "C" fn attr_group(
     match groups {
         Ok(groups) => {
             seat.groups = groups;
+            OK
+        }
+        Err(code) => code,
+    }
+}
+
+/// Finds the values of an attribute that meet the one comparison of a text: the first `most`, ascending. The reader keeps them in the
+/// place of groups.
+#[unsafe(no_mangle)]
+pub extern "C" fn attr_terms(
+    alloc: Global,
+    at: &mut HeldSeat,
+    text: &[u8],
+    most: usize,
+    told: &mut Answered,
+) -> i32
+    ensures makes { result ≡ OK → ByGuardOf at.old.value.place at.new.value.place
+        (λ guard. TermsText guard text.now most told.new at.new.value.groups) }
+    ensures text { result ≢ NO_TEXT → IsUtf8 text.now }
+    ensures no_text { result ≡ NO_TEXT → IsUtf8 text.now → ⊥ }
+    ensures by { AnswersBy no_answer told.new result }
+    ensures lost { result ≡ LOST → at.old.value.place ≡ None }
+    ensures refused { result ≢ OK → result ≢ NO_TEXT → result ≢ LOST → ByGuardOf at.old.value.place at.new.value.place
+        (λ guard. RefusesTerms guard.fields text.now told.new result) }
+    ensures left_no_text { result ≡ NO_TEXT → at.new.value ≡ at.old.value }
+    ensures left_lost { result ≡ LOST → at.new.value ≡ at.old.value }
+    ensures rest { at.new.value ≡ record at.old.value { place = at.new.value.place; groups = at.new.value.groups } }
+    ensures groups { result ≢ OK → at.new.value.groups ≡ at.old.value.groups }
+{
+    *told = no_answer();
+    let Ok(text) = str::from_utf8(text) else {
+        return NO_TEXT;
+    };
+    let seat = at.get_mut();
+    let Some(place) = seat.place.take() else {
+        return LOST;
+    };
+    let (mut kept, stays) = kept_of(place);
+    let terms = terms_any(alloc, &mut kept, text, most, told);
+    seat.place = Some(left(kept, stays));
+    match terms {
+        Ok(terms) => {
+            seat.groups = terms;
             OK
         }
         Err(code) => code,

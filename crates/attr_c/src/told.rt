@@ -51,7 +51,7 @@ pub struct Answered {
     pub commit: u32,
     /// The number of operations in the commit.
     pub operations: u32,
-    /// The number of documents, items or bytes of the answer.
+    /// The number of documents, items, groups or bytes of the answer.
     pub count: u64,
     /// The place from which on a text asks for nothing.
     pub place: u64,
