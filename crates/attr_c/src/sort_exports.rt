@@ -41,6 +41,7 @@ pub extern "C" fn attr_sort(
     ensures answer { at.new.value.answer ≡ at.old.value.answer }
     ensures items { at.new.value.items ≡ at.old.value.items }
     ensures saved { at.new.value.saved ≡ at.old.value.saved }
+    ensures groups { at.new.value.groups ≡ at.old.value.groups }
 {
     *told = no_answer();
     let seat = at.get_mut();
@@ -76,6 +77,7 @@ pub extern "C" fn attr_totals(
     ensures answer { at.new.value.answer ≡ at.old.value.answer }
     ensures items { at.new.value.items ≡ at.old.value.items }
     ensures saved { at.new.value.saved ≡ at.old.value.saved }
+    ensures groups { at.new.value.groups ≡ at.old.value.groups }
 {
     *told = no_answer();
     *totals = no_totals();
@@ -112,6 +114,7 @@ pub extern "C" fn attr_best(
     ensures answer { at.new.value.answer ≡ at.old.value.answer }
     ensures items { at.new.value.items ≡ at.old.value.items }
     ensures saved { at.new.value.saved ≡ at.old.value.saved }
+    ensures groups { at.new.value.groups ≡ at.old.value.groups }
 {
     *told = no_answer();
     let seat = at.get_mut();
@@ -151,6 +154,7 @@ pub extern "C" fn attr_longs(
     ensures answer { at.new.value.answer ≡ at.old.value.answer }
     ensures items { at.new.value.items ≡ at.old.value.items }
     ensures saved { at.new.value.saved ≡ at.old.value.saved }
+    ensures groups { at.new.value.groups ≡ at.old.value.groups }
 {
     *told = no_answer();
     let seat = at.get_mut();

@@ -28,3 +28,5 @@ mod words;
 pub use answers::{hits, scores};
 pub use bit_vector::{block_and, block_or};
 pub use image::{documents, root_at};
+pub use values::value_at;
+pub use walks::first_of_leaf;

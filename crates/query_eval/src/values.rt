@@ -22,7 +22,7 @@ pub fn is_of_type(value: &Value, value_type: ValueType) -> bool
 }
 
 /// Returns the value whose record is a key.
-fn value_at<const OFFSET_BITS: u32, F: Frozen<OFFSET_BITS>>(
+pub fn value_at<const OFFSET_BITS: u32, F: Frozen<OFFSET_BITS>>(
     alloc: Global,
     frozen: &mut F,
     key: u64,

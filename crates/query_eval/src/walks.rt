@@ -70,6 +70,26 @@ fn gather_from<const OFFSET_BITS: u32, F: Frozen<OFFSET_BITS>>(
     Ok(all)
 }
 
+/// Returns a cursor before the first value that meets a leaf, or before a value after those that meet it.
+pub fn first_of_leaf<const OFFSET_BITS: u32, F: Frozen<OFFSET_BITS>>(
+    alloc: Global,
+    frozen: &mut F,
+    root: EntryRef<OFFSET_BITS>,
+    value_type: ValueType,
+    leaf: &Leaf,
+) -> Result<Cursor<OFFSET_BITS>, AllocError>
+    requires { IsIndexed value_type (F.records frozen.old) root }
+    ensures at { IfOk result (λ cursor. IsAt (F.records frozen.old) cursor) }
+    ensures pairs { IfOk result (λ cursor. AreIndexPairs value_type (F.records frozen.old) (pairs_from (F.records frozen.old) cursor)) }
+    ensures part { IfOk result (λ cursor. run leaf.now (index_of_pairs value_type (F.records frozen.old) (pairs_from (F.records frozen.old) cursor))
+        ≡ meeting leaf.now (index_of value_type (F.records frozen.old) root.entry)) }
+    ensures same { frozen.new ≡ frozen.old }
+{
+    let mut cursor = start_of(frozen, root, value_type, leaf)?;
+    skip_before(alloc, frozen, &mut cursor, value_type, leaf)?;
+    Ok(cursor)
+}
+
 /// Adds the documents of the values that meet a leaf to those gathered.
 pub fn gather_leaf<const OFFSET_BITS: u32, F: Frozen<OFFSET_BITS>>(
     alloc: Global,
@@ -84,8 +104,7 @@ pub fn gather_leaf<const OFFSET_BITS: u32, F: Frozen<OFFSET_BITS>>(
         || has (listed (meeting leaf.now (index_of value_type (F.records frozen.old) root.entry))) doc)) }
     ensures same { frozen.new ≡ frozen.old }
 {
-    let mut cursor = start_of(frozen, root, value_type, leaf)?;
-    skip_before(alloc, frozen, &mut cursor, value_type, leaf)?;
+    let mut cursor = first_of_leaf(alloc, frozen, root, value_type, leaf)?;
     gather_from(alloc, frozen, &mut cursor, value_type, leaf, gathered)
 }
 

@@ -65,7 +65,7 @@ module _ (kind : Kind) (type : ValueType) (m : Records) (references : (r : ℕ) 
 -- ---- the items of a document
 
 -- of a table's column
-column_found : (i : ℕ) (table : Table) (doc : ℕ) → items_of (column_of i table) doc ≡ items_in_table i table doc
+pub column_found : (i : ℕ) (table : Table) (doc : ℕ) → items_of (column_of i table) doc ≡ items_in_table i table doc
 column_found i [] doc = refl
 column_found i (e ∷ table) doc =
     elim (is_eq (nat_cmp doc e.0)) as (λ b.
@@ -73,7 +73,7 @@ column_found i (e ∷ table) doc =
     ≡ items_in (unwrap_or (cond b (Some e.1) (lookup (is_at (nat_cmp doc)) table)) []) i)
     [ true ↦ refl | false ↦ column_found i table doc ]
 
-none_at : (fields : List Field) (document : Document) → AllZip (λ field items. IsLawfulItems field.kind items) fields document
+pub none_at : (fields : List Field) (document : Document) → AllZip (λ field items. IsLawfulItems field.kind items) fields document
     → (i : ℕ) → length fields ≤ i → slice_get document i ≡ None
 none_at [] [] all i le = refl
 none_at [] (items ∷ document) all i le = absurd all

@@ -169,16 +169,16 @@ runs_are values (first ∷ rest) moved ascend =
 
 -- ---- the values of documents
 
+pub any_item : (v : Value) (items : List Item) → list_any (same v) (values_of items) ≡ list_any (has_value v) items
+any_item v [] = refl
+any_item v (item ∷ items) = ap (λ b. has_value v item || b) (any_item v items)
+
 module _ (field : ℕ) (table : Table) where
   abbrev values_at : ℕ → List Value
   values_at doc = values_of (items_of field table doc)
 
   abbrev distinct_at : ℕ → List Value
   distinct_at doc = in_order value_cmp (values_at doc)
-
-  any_item : (v : Value) (items : List Item) → list_any (same v) (values_of items) ≡ list_any (has_value v) items
-  any_item v [] = refl
-  any_item v (item ∷ items) = ap (λ b. has_value v item || b) (any_item v items)
 
   length_one : (b : Bool) (doc : ℕ) (docs : List ℕ) → one b + length docs ≡ length (cond b (doc ∷ docs) docs)
   length_one true doc docs = omega arith

@@ -7,3 +7,7 @@ pub mod ScoreLemmas
 pub mod GroupLemmas
 pub mod GroupKeyLemmas
 pub mod LongLemmas
+pub mod DictionaryLemmas
+pub mod IndexLemmas
+pub mod TakeLemmas
+pub mod ListFormLemmas

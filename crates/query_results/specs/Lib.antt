@@ -3,3 +3,4 @@ pub mod Attributes
 pub mod Ranks
 pub mod Runs
 pub mod Longs
+pub mod Dictionaries

@@ -4,9 +4,13 @@
 
 mod attribute;
 mod bulk;
+mod dictionary;
+mod document_list;
 mod facets;
 mod group_keys;
 mod items;
+mod leaf_terms;
+mod lists;
 mod longs;
 mod numbers;
 mod orders;
@@ -16,7 +20,9 @@ mod score_keys;
 mod walks;
 
 pub use bulk::values;
+pub use document_list::documents_from;
 pub use facets::{groups, largest_groups};
+pub use leaf_terms::terms;
 pub use longs::write_longs;
 pub use numbers::totals;
 pub use ranks::sorted;

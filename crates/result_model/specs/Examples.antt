@@ -9,7 +9,7 @@ use Rattle.attr_types.specs.declared.value.Value.TheVariants as values
 use Rattle.result_model.specs.Groups.{groups, largest_groups, terms}
 use Rattle.result_model.specs.Orders.{best, sorted}
 use Rattle.result_model.specs.Totals.{no_totals, totals}
-use Rattle.result_model.specs.Values.{values as values_in}
+use Rattle.result_model.specs.Values.{documents_from, values as values_in}
 use Rattle.result_model.specs.declared.direction.Direction.TheVariants.{Ascending, Descending}
 
 abbrev price : ℤ → Item
@@ -76,3 +76,7 @@ PricesInBulk = values_in 0 (9 ∷ 3 ∷ 1 ∷ []) catalogue ≡ (price (negsuc 1
 abbrev pub BestOfThree : Type 0
 BestOfThree = best 2 (record { value = letter 120; weight = pos 2 } ∷ []) 2 catalogue
     ≡ record { doc = 2; score = pos 18 } ∷ record { doc = 6; score = pos 18 } ∷ []
+
+-- there is no document 3
+abbrev pub TwoFromThree : Type 0
+TwoFromThree = documents_from 3 2 catalogue ≡ 4 ∷ 6 ∷ []

@@ -1,5 +1,6 @@
--- The items and values of given documents.
-use Rattle.std.specs.Prelude.{ℕ, List, [], map, Option, slice_get, option_map, unwrap_or}
+-- The items and values of given documents, and the documents themselves.
+use Rattle.std.specs.Prelude.{ℕ, List, [], map, filter, take, nat_le, Option, slice_get, option_map, unwrap_or}
+use Rattle.std.specs.Map.{keys_of}
 use Rattle.attr_types.specs.Query.{items_in}
 use Rattle.attr_types.specs.Table.{Table, document_at}
 use Rattle.attr_types.specs.declared.items.Item.{Item}
@@ -20,3 +21,7 @@ first_value items = option_map (λ item. item.value) (slice_get items 0)
 -- the value of a document in a single attribute, if it has one; in another attribute, the value of its first item
 abbrev pub value_of : ℕ → Table → ℕ → Option Value
 value_of field table doc = first_value (items_of field table doc)
+
+-- the first `count` documents of a table that are not below `first`
+abbrev pub documents_from : ℕ → ℕ → Table → List ℕ
+documents_from first count table = take count (filter (nat_le first) (keys_of table))

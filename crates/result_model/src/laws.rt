@@ -1,6 +1,6 @@
 //! Rows worked by hand, as laws. Each function does nothing; its contract is the law.
 ghost use Rattle.result_model.specs.Examples.{BestOfThree, Cheapest, Dearest, SecondAndThird};
-ghost use Rattle.result_model.specs.Examples.{GroupedByCount, GroupedByTag, PricesInBulk, TagsFromB, TotalOfNone, TotalOfPrices};
+ghost use Rattle.result_model.specs.Examples.{GroupedByCount, GroupedByTag, PricesInBulk, TagsFromB, TotalOfNone, TotalOfPrices, TwoFromThree};
 
 /// Sorted documents and best scores: ties ascend by document, and documents without a value are last.
 pub fn orders_law()
@@ -17,9 +17,10 @@ pub fn groups_law()
     ensures terms { TagsFromB }
 {}
 
-/// Totals and values of given documents.
+/// Totals and values of given documents, and documents from a number on.
 pub fn totals_law()
     ensures prices { TotalOfPrices }
     ensures none { TotalOfNone }
     ensures values { PricesInBulk }
+    ensures documents { TwoFromThree }
 {}
