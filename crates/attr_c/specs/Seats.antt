@@ -35,11 +35,12 @@ abbrev pub is_kept : SeatState → Bool
 is_kept (Free r) = false
 is_kept (Kept k) = true
 
--- no answer, no items and no save are kept
+-- no answer, no items, no save and no groups are kept
 pub record KeepsNothing (seat : Seat) : Type 0 where
   pub no_answer : seat.answer ≡ Hits []
   pub no_items : seat.items ≡ []
   pub no_save : seat.saved.items ≡ []
+  pub no_groups : seat.groups ≡ []
 
 -- a seat without a reader, which keeps nothing
 pub record IsEmptySeat (seat : Seat) : Type 0 where

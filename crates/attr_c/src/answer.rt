@@ -35,7 +35,7 @@ impl Answer {
     }
 }
 
-fn copy_docs(docs: &[Doc], into: &mut [u32]) -> usize
+pub fn copy_docs(docs: &[Doc], into: &mut [u32]) -> usize
     ensures { Copies docs.now 0 into.old into.new result }
 {
     let count = into.len().min(docs.len());
@@ -102,7 +102,7 @@ fn told_score(score: &Score) -> Scored
     }
 }
 
-fn copy_scored(scores: &[Score], into: &mut [Scored]) -> usize
+pub fn copy_scored(scores: &[Score], into: &mut [Scored]) -> usize
     ensures { Copies (map score_told scores.now) 0 into.old into.new result }
 {
     let count = into.len().min(scores.len());

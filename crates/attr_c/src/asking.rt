@@ -43,7 +43,7 @@ fn code_of(error: QueryError, told: &mut Answered) -> i32
 }
 
 /// Returns what a text asks for.
-fn ask_in(alloc: Global, text: &str, fields: &Fields, told: &mut Answered) -> Result<Ask, i32>
+pub fn ask_in(alloc: Global, text: &str, fields: &Fields, told: &mut Answered) -> Result<Ask, i32>
     requires { length fields.now < 2 ^ 32 }
     ensures asks { IfOk result (λ ask. AsksAs (Ok ask) (ask_of fields.now text.now)) }
     ensures refused { IfErr result (RefusesText fields.now text.now told.new) }
@@ -57,7 +57,7 @@ fn ask_in(alloc: Global, text: &str, fields: &Fields, told: &mut Answered) -> Re
 }
 
 /// Writes which commit answers.
-fn tell_commit<const OFFSET_BITS: u32>(kept: &mut Kept<OFFSET_BITS>, told: &mut Answered)
+pub fn tell_commit<const OFFSET_BITS: u32>(kept: &mut Kept<OFFSET_BITS>, told: &mut Answered)
     ensures tells { TellsCommit kept.old told.new }
     ensures only { told.new ≡ with_commit told.new told.old }
     ensures same { kept.new ≡ kept.old }

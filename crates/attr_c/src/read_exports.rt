@@ -16,7 +16,7 @@ use crate::seat::{Seat, SeatState, kept_of, left, reader_of};
 use crate::told::{Answered, ItemTold, Scored};
 use std::alloc::Global;
 
-fn no_answer() -> Answered
+pub fn no_answer() -> Answered
     ensures { result ≡ no_answer }
 {
     Answered {
@@ -36,9 +36,7 @@ pub extern "C" fn attr_hold(at: &mut HeldSeat, told: &mut Answered) -> i32
     ensures lost { result ≢ OK → result ≡ LOST }
     ensures none { result ≢ OK → at.old.value.place ≡ None }
     ensures left { result ≢ OK → at.new.value ≡ at.old.value }
-    ensures answer { at.new.value.answer ≡ at.old.value.answer }
-    ensures items { at.new.value.items ≡ at.old.value.items }
-    ensures saved { at.new.value.saved ≡ at.old.value.saved }
+    ensures rest { at.new.value ≡ record at.old.value { place = at.new.value.place } }
 {
     *told = no_answer();
     let seat = at.get_mut();
@@ -58,9 +56,7 @@ pub extern "C" fn attr_release(at: &mut HeldSeat) -> i32
     ensures lost { result ≢ OK → result ≡ LOST }
     ensures none { result ≢ OK → at.old.value.place ≡ None }
     ensures left { result ≢ OK → at.new.value ≡ at.old.value }
-    ensures answer { at.new.value.answer ≡ at.old.value.answer }
-    ensures items { at.new.value.items ≡ at.old.value.items }
-    ensures saved { at.new.value.saved ≡ at.old.value.saved }
+    ensures rest { at.new.value ≡ record at.old.value { place = at.new.value.place } }
 {
     let seat = at.get_mut();
     let Some(place) = seat.place.take() else {
@@ -80,9 +76,7 @@ fn answer_in(
     ensures answers { IfOk result (λ answer. ByGuardOf seat.old.place seat.new.place
         (λ guard. AnswersText guard text.now told.new answer)) }
     ensures by { AnswersBy told.old told.new (code_in result) }
-    ensures keeps { seat.new.answer ≡ seat.old.answer }
-    ensures items { seat.new.items ≡ seat.old.items }
-    ensures saved { seat.new.saved ≡ seat.old.saved }
+    ensures rest { seat.new ≡ record seat.old { place = seat.new.place } }
     ensures not_ok { IfErr result (λ code. code ≢ OK) }
     ensures text { IfErr result (λ code. code ≢ NO_TEXT → IsUtf8 text.now) }
     ensures text_ok { IfOk result (λ answer. IsUtf8 text.now) }
@@ -123,9 +117,8 @@ pub extern "C" fn attr_ask(
         (λ guard. RefusesText guard.fields text.now told.new result) }
     ensures left_no_text { result ≡ NO_TEXT → at.new.value ≡ at.old.value }
     ensures left_lost { result ≡ LOST → at.new.value ≡ at.old.value }
+    ensures rest { at.new.value ≡ record at.old.value { place = at.new.value.place; answer = at.new.value.answer } }
     ensures answer { result ≢ OK → at.new.value.answer ≡ at.old.value.answer }
-    ensures items { at.new.value.items ≡ at.old.value.items }
-    ensures saved { at.new.value.saved ≡ at.old.value.saved }
 {
     *told = no_answer();
     let seat = at.get_mut();
@@ -155,9 +148,7 @@ pub extern "C" fn attr_count(
         (λ guard. RefusesText guard.fields text.now told.new result) }
     ensures left_no_text { result ≡ NO_TEXT → at.new.value ≡ at.old.value }
     ensures left_lost { result ≡ LOST → at.new.value ≡ at.old.value }
-    ensures answer { at.new.value.answer ≡ at.old.value.answer }
-    ensures items { at.new.value.items ≡ at.old.value.items }
-    ensures saved { at.new.value.saved ≡ at.old.value.saved }
+    ensures rest { at.new.value ≡ record at.old.value { place = at.new.value.place } }
 {
     *told = no_answer();
     match answer_in(alloc, at.get_mut(), text, told) {
@@ -201,9 +192,8 @@ pub extern "C" fn attr_items(
     ensures refused { result ≢ OK → result ≢ LOST → ByGuardOf at.old.value.place at.new.value.place
         (λ guard. RefusesItems guard doc field told.new result) }
     ensures left { result ≡ LOST → at.new.value ≡ at.old.value }
-    ensures answer { at.new.value.answer ≡ at.old.value.answer }
+    ensures rest { at.new.value ≡ record at.old.value { place = at.new.value.place; items = at.new.value.items } }
     ensures items { result ≢ OK → at.new.value.items ≡ at.old.value.items }
-    ensures saved { at.new.value.saved ≡ at.old.value.saved }
 {
     *told = no_answer();
     let seat = at.get_mut();
@@ -252,8 +242,7 @@ pub extern "C" fn attr_save(alloc: Global, at: &mut HeldSeat, told: &mut Answere
     ensures lost { result ≡ LOST → at.old.value.place ≡ None }
     ensures refused { result ≢ OK → result ≢ LOST → ByGuardOf at.old.value.place at.new.value.place (λ guard. result ≡ MEMORY) }
     ensures left { result ≡ LOST → at.new.value ≡ at.old.value }
-    ensures answer { at.new.value.answer ≡ at.old.value.answer }
-    ensures items { at.new.value.items ≡ at.old.value.items }
+    ensures rest { at.new.value ≡ record at.old.value { place = at.new.value.place; saved = at.new.value.saved } }
     ensures saved { result ≢ OK → at.new.value.saved ≡ at.old.value.saved }
 {
     *told = no_answer();

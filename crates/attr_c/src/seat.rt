@@ -6,6 +6,7 @@ use crate::answer::Answer;
 use crate::kept::Kept;
 use crate::state::AnyReader;
 use attr_types::Items;
+use result_model::Groups;
 use std::alloc::Global;
 
 /// A reader of either width under a guard.
@@ -30,6 +31,7 @@ pub struct Seat {
     pub answer: Answer,
     pub items: Items,
     pub saved: Vec<u8>,
+    pub groups: Groups,
 }
 
 impl Seat {
@@ -42,6 +44,7 @@ impl Seat {
             answer: Answer::new(alloc),
             items: Items::new(alloc),
             saved: Vec::new(alloc),
+            groups: Groups::new(alloc),
         }
     }
 }

@@ -51,7 +51,7 @@ pub struct Answered {
     pub commit: u32,
     /// The number of operations in the commit.
     pub operations: u32,
-    /// The number of documents, items or bytes of the answer.
+    /// The number of documents, items, groups or bytes of the answer.
     pub count: u64,
     /// The place from which on a text asks for nothing.
     pub place: u64,
@@ -68,6 +68,19 @@ pub struct Scored {
     pub exact: u32,
 }
 
+/// The totals of numbers.
+#[repr(C)]
+#[derive(Clone, Copy, Drop)]
+pub struct TotalsTold {
+    /// The number of numbers.
+    pub count: u64,
+    /// Their sum is `high` * 2^64 + `low`.
+    pub low: u64,
+    pub high: i64,
+    pub least: i64,
+    pub greatest: i64,
+}
+
 /// An item of a document.
 #[repr(C)]
 #[derive(Clone, Copy, Drop)]
@@ -78,6 +91,21 @@ pub struct ItemTold {
     pub length: u64,
     pub weight: i32,
     pub is_text: u32,
+}
+
+/// A group of documents with the same value.
+#[repr(C)]
+#[derive(Clone, Copy, Drop)]
+pub struct GroupTold {
+    /// The value, if it is a number.
+    pub number: i64,
+    /// The number of bytes of the value, if it is a text.
+    pub length: u64,
+    /// The number of documents.
+    pub documents: u64,
+    pub is_text: u32,
+    /// Always 0.
+    pub zero: u32,
 }
 
 /// Numbers for a monitor.

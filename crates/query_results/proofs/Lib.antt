@@ -6,6 +6,7 @@ pub mod RankLemmas
 pub mod ScoreLemmas
 pub mod GroupLemmas
 pub mod GroupKeyLemmas
+pub mod LongLemmas
 pub mod DictionaryLemmas
 pub mod IndexLemmas
 pub mod TakeLemmas

@@ -22,7 +22,7 @@ use std::alloc::{AllocError, Global};
 
 /// Returns the reference of a document's items, at the next step of a walk. It is 0 if the document has none or does not
 /// exist.
-fn next_reference<const OFFSET_BITS: u32, F: Frozen<OFFSET_BITS>>(
+pub fn next_reference<const OFFSET_BITS: u32, F: Frozen<OFFSET_BITS>>(
     frozen: &mut F,
     attribute: &Attribute<OFFSET_BITS>,
     walk: &mut Walk<OFFSET_BITS>,

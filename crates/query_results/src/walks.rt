@@ -94,6 +94,24 @@ fn pass_from<const OFFSET_BITS: u32, F: Frozen<OFFSET_BITS>>(
     pass_near(frozen, root, cursor, number)
 }
 
+/// Moves to the first document that is not below this one, by a search from the root. It is a function of its own so that
+/// a step that does not need it clears no cursor.
+#[inline(never)]
+fn search_root<const OFFSET_BITS: u32, F: Frozen<OFFSET_BITS>>(
+    frozen: &mut F,
+    root: EntryRef<OFFSET_BITS>,
+    cursor: &mut Cursor<OFFSET_BITS>,
+    doc: Doc,
+)
+    requires { IsDocumentMap (F.records frozen.old) root }
+    ensures before { IsBefore (F.records frozen.old) root.entry doc cursor.new }
+    ensures past { IsPast (F.records frozen.old) doc cursor.new }
+    ensures same { frozen.new ≡ frozen.old }
+{
+    let place = walk_from(frozen, root, doc);
+    *cursor = place;
+}
+
 /// Moves to the first document that is not below this one: step by step if it is near, or from the root.
 fn move_cursor<const OFFSET_BITS: u32, F: Frozen<OFFSET_BITS>>(
     frozen: &mut F,
@@ -111,8 +129,7 @@ fn move_cursor<const OFFSET_BITS: u32, F: Frozen<OFFSET_BITS>>(
     if pass_from(frozen, root, cursor, from, doc) {
         return;
     }
-    let place = walk_from(frozen, root, doc);
-    *cursor = place;
+    search_root(frozen, root, cursor, doc);
 }
 
 /// Moves to the first document that is not below this one.
