@@ -196,7 +196,7 @@ void attr_reader_close(attr_reader reader);
 struct attr_answer {
     uint32_t commit;        /* the commit that answered, 0 before the first */
     uint32_t operations;    /* how many operations it has */
-    uint64_t count;         /* how many documents, items or bytes the answer has */
+    uint64_t count;         /* how many documents, items, groups or bytes the answer has */
     uint64_t place;         /* ATTR_SYNTAX, ATTR_NO_FIELD: the offset at which the text breaks off */
 };
 
@@ -250,6 +250,72 @@ int32_t attr_save(attr_reader *reader, struct attr_answer *answer);
 
 /* Copies bytes of that save, from number `first` on, and returns how many. */
 size_t attr_saved(attr_reader *reader, size_t first, uint8_t *into, size_t room);
+
+/* ---- sorting, grouping and values in bulk ---- */
+
+/* These calls are about the documents of the answer that the reader keeps (the last attr_ask that was ATTR_OK), or about given
+ * documents, by their values at the guard's commit, else at the last one. With attr_hold before the attr_ask all of them are of one
+ * commit. They keep the answer. Where another commit is read than the one that answered, a document that is no longer there has no
+ * values. `field` is the number of an attribute, from 0, in the order of attr_open. `answer` tells the commit and its operations as in
+ * the other calls. ATTR_BOUNDS: there is no such attribute, a flag is not 0 or 1, or lengths differ; nothing is told, and nothing is
+ * written. Other errors of all are ATTR_LOST and ATTR_MEMORY. */
+
+/* Sorts the documents of the answer by their values in an attribute, ascending or (descending 1) descending: equal values by document,
+ * ascending, and documents without a value last. Of an array or a weighted set the first item counts. Copies them from number `first` on
+ * (counted from 0), at most `room`; answer->count is how many were copied. */
+int32_t attr_sort(attr_reader *reader, uint32_t field, uint32_t descending, size_t first, uint32_t *into, size_t room,
+                  struct attr_answer *answer);
+
+/* Adds up the numbers that the documents of the answer have in an attribute of longs; of an array or a weighted set the first item
+ * counts, and strings are no numbers. Without a number, and with another code than ATTR_OK, all of *totals is 0. answer->count is
+ * totals->count. */
+struct attr_totals_told {
+    uint64_t count;         /* how many numbers there are */
+    uint64_t low;           /* their sum is high * 2^64 + low */
+    int64_t high;
+    int64_t least;
+    int64_t greatest;
+};
+int32_t attr_totals(attr_reader *reader, uint32_t field, struct attr_totals_told *totals, struct attr_answer *answer);
+
+/* Answers a dot product, as docs/QUERIES.md says, with its `room` best scores alone: the greatest first, equal ones by document.
+ * answer->count is how many were copied. A text that is a query has no scores: ATTR_OK, and count is 0. The codes of a text are those of
+ * attr_ask. The reader keeps the answer that it had. */
+int32_t attr_best(attr_reader *reader, const uint8_t *text, size_t length, struct attr_score *into, size_t room,
+                  struct attr_answer *answer);
+
+/* Writes for each of `count` given documents the number that it has in an attribute of longs (of an array or a weighted set its first
+ * item), and whether it has one: present[i] is 1 and numbers[i] the number, or both are 0. Documents may be in any order and may repeat;
+ * it is fastest where they ascend. A document that does not exist has none. numbers_room and present_room are `count`, else ATTR_BOUNDS.
+ * answer->count is how many documents have a number. It takes no memory. */
+int32_t attr_longs(attr_reader *reader, uint32_t field, const uint32_t *documents, size_t count, int64_t *numbers, size_t numbers_room,
+                   uint8_t *present, size_t present_room, struct attr_answer *answer);
+
+/* Groups the documents of the answer by their values in an attribute: each distinct value with how many of the documents have it (a
+ * document counts once for a value). By value ascending or (by_count 1) by count, the greatest first, equal counts by value. Keeps at
+ * most `most` groups, the first ones, until the next attr_group or attr_terms that is ATTR_OK. answer->count is how many. */
+int32_t attr_group(attr_reader *reader, uint32_t field, uint32_t by_count, size_t most, struct attr_answer *answer);
+
+/* Finds the values of an attribute that meet a query of one comparison (docs/QUERIES.md: equality, a range or a prefix), ascending, each
+ * with how many documents of the commit have it; at most `most`, the first ones. They are kept in the place of groups. answer->count is
+ * how many. The codes of a text are those of attr_ask; ATTR_SYNTAX with place 0 where the text asks for more than one comparison. */
+int32_t attr_terms(attr_reader *reader, const uint8_t *text, size_t length, size_t most, struct attr_answer *answer);
+
+/* One of the kept groups, by its number from 0. ATTR_BOUNDS: there are fewer, and all that is told is 0. */
+struct attr_group_told {
+    int64_t number;         /* a long, else 0 */
+    uint64_t length;        /* how many bytes a string has, else 0 */
+    uint64_t documents;     /* how many documents have the value */
+    uint32_t is_text;       /* 1 for a string */
+    uint32_t zero;          /* always 0 */
+};
+int32_t attr_group_at(attr_reader *reader, size_t number, struct attr_group_told *group);
+
+/* Copies the string of one of them, UTF-8 without a final 0. Returns how many bytes were copied, at most 1,024 and `room`. */
+size_t attr_group_text(attr_reader *reader, size_t number, uint8_t *into, size_t room);
+
+/* Copies the documents of the commit that are not below `first`, ascending, at most `room`; answer->count is how many were copied. */
+int32_t attr_documents(attr_reader *reader, uint32_t first, uint32_t *into, size_t room, struct attr_answer *answer);
 
 #ifdef __cplusplus
 }
