@@ -7,6 +7,7 @@
 // A call that is refused throws attr::error, with the code and with the line and the place that the call told.
 #pragma once
 #include "attr.h"
+#include <algorithm>
 #include <atomic>
 #include <cstdint>
 #include <memory>
@@ -59,17 +60,54 @@ struct item {
 };
 inline bool operator==(const item &a, const item &b) { return a.value == b.value && a.weight == b.weight; }
 
+// Documents without a value are last in both orders; equal values stand by document, ascending.
+enum class order : std::uint32_t { ascending = 0, descending = 1 };
+
+// Groups ascend by value, or those with the most documents come first, and of equal counts the least value.
+enum class grouping : std::uint32_t { by_value = 0, by_count = 1 };
+
+// As many as there are.
+inline constexpr std::size_t all = SIZE_MAX;
+
+__extension__ typedef __int128 wide;
+
+// The numbers of some documents: how many, their sum, the least and the greatest. Without a number all are 0.
+struct totals {
+    std::uint64_t count = 0;
+    wide sum = 0;
+    std::int64_t least = 0, greatest = 0;
+};
+
+// A value, and how many documents have it.
+struct group {
+    std::variant<std::int64_t, std::string> value;
+    std::uint64_t documents;
+    bool is_text() const { return value.index() == 1; }
+};
+inline bool operator==(const group &a, const group &b) { return a.value == b.value && a.documents == b.documents; }
+
+// The numbers of given documents, in their order: present[i] is 1 and numbers[i] the number, or both are 0. `count` is how many have one.
+struct bulk {
+    std::vector<std::int64_t> numbers;
+    std::vector<std::uint8_t> present;
+    std::uint64_t count = 0;
+};
+
 namespace detail {
 
 inline const std::uint8_t *bytes_of(std::string_view text) {
     return reinterpret_cast<const std::uint8_t *>(text.empty() ? "" : text.data());
 }
 
+inline void must(std::int32_t code) {
+    if (code != ATTR_OK) throw error(code, message(code));
+}
+
 // The message of a refused text, with what it says from the place on where it breaks off.
-inline void must_ask(std::int32_t code, std::string_view text, const attr_answer &answer) {
+inline void must_ask(std::int32_t code, std::string_view text, const attr_answer &answer, const char *no = "no query and no dot product") {
     if (code == ATTR_OK) return;
     bool has_place = code == ATTR_SYNTAX || code == ATTR_NO_FIELD;
-    std::string said = code == ATTR_SYNTAX ? "the text is no query and no dot product: it breaks off" : message(code) + ":";
+    std::string said = code == ATTR_SYNTAX ? "the text is " + std::string(no) + ": it breaks off" : message(code) + ":";
     if (has_place && answer.place < text.size())
         said += " at byte " + std::to_string(answer.place) + ", before " + std::string(text.substr(answer.place, 40));
     else if (has_place) said += " at its end";
@@ -91,6 +129,7 @@ inline void must_write(std::int32_t code, const attr_told &told) {
 struct seat {
     attr_reader handle{nullptr};
     std::uint64_t engine = 0;  // the number of the engine that handed it out
+    std::uint64_t kept = 0;    // how many documents the answer has that the reader keeps
     unsigned guards = 0;
     seat() = default;
     seat(const seat &) = delete;
@@ -121,8 +160,7 @@ public:
     attr_answer at{};  // the commit, and how many operations it has
 
     explicit guard(std::shared_ptr<detail::seat> seat) {
-        std::int32_t code = attr_hold(seat->open(), &at);
-        if (code != ATTR_OK) throw error(code, message(code));
+        detail::must(attr_hold(seat->open(), &at));
         seat->guards++;
         seat_ = std::move(seat);
     }
@@ -179,6 +217,7 @@ public:
     attr_answer ask(std::string_view text) {
         attr_answer answer{};
         detail::must_ask(attr_ask(open(), detail::bytes_of(text), text.size(), &answer), text, answer);
+        seat_->kept = answer.count;
         return answer;
     }
     // How many documents answer; the answer that is kept stays.
@@ -223,16 +262,111 @@ public:
         std::optional<std::uint64_t> count = read_items(document, field);
         if (!count || *count == 0) return other;
         attr_item_told told{};
-        std::int32_t code = attr_item(open(), 0, &told);
-        if (code != ATTR_OK) throw error(code, message(code));
+        detail::must(attr_item(open(), 0, &told));
         return told.is_text ? other : told.number;
+    }
+
+    // Sorting, grouping and values in bulk are about the answer that is kept, or about given documents, by the values of the guard's commit, else
+    // of the last one. The answer stays.
+
+    // The documents of the answer by their values in an attribute, from number `first` on, into room of the caller's; returns how many there
+    // were.
+    std::size_t sort(std::uint32_t field, order by, std::size_t first, std::uint32_t *into, std::size_t room) {
+        attr_answer answer{};
+        std::uint32_t none;
+        detail::must(attr_sort(open(), field, static_cast<std::uint32_t>(by), first, room ? into : &none, room, &answer));
+        return answer.count;
+    }
+    // The same, at most `most` of them.
+    std::vector<std::uint32_t> sort(std::uint32_t field, order by = order::ascending, std::size_t first = 0, std::size_t most = all) {
+        open();
+        std::vector<std::uint32_t> page(std::min<std::uint64_t>(most, seat_->kept - std::min<std::uint64_t>(seat_->kept, first)));
+        page.resize(sort(field, by, first, page.data(), page.size()));
+        return page;
+    }
+
+    // The totals of the numbers that the documents of the answer have in an attribute.
+    attr::totals totals(std::uint32_t field) {
+        attr_answer answer{};
+        attr_totals_told told{};
+        detail::must(attr_totals(open(), field, &told, &answer));
+        return {told.count, static_cast<wide>(told.high) * (static_cast<wide>(1) << 64) + told.low, told.least, told.greatest};
+    }
+
+    // The best scores of a dot product, into room of the caller's; returns how many there were.
+    std::size_t best(std::string_view text, attr_score *into, std::size_t room) {
+        attr_answer answer{};
+        attr_score none;
+        detail::must_ask(attr_best(open(), detail::bytes_of(text), text.size(), room ? into : &none, room, &answer), text, answer);
+        return answer.count;
+    }
+    // The same, at most `most` of them.
+    std::vector<attr_score> best(std::string_view text, std::size_t most) {
+        // (how many there are is not known before: little room is tried first)
+        for (std::size_t room = std::min<std::size_t>(most, 4096);; room = std::min(most, room * 16)) {
+            std::vector<attr_score> scores(room);
+            scores.resize(best(text, scores.data(), room));
+            if (scores.size() < room || room == most) return scores;
+        }
+    }
+
+    // The groups of the documents of the answer by their values in an attribute, at most `most` of them.
+    std::vector<group> groups(std::uint32_t field, grouping by = grouping::by_value, std::size_t most = all) {
+        attr_answer answer{};
+        detail::must(attr_group(open(), field, static_cast<std::uint32_t>(by), most, &answer));
+        return kept_groups(answer.count);
+    }
+    // The values of an attribute that meet one comparison, ascending, each with how many documents of the commit have it.
+    std::vector<group> terms(std::string_view text, std::size_t most = all) {
+        attr_answer answer{};
+        std::int32_t code = attr_terms(open(), detail::bytes_of(text), text.size(), most, &answer);
+        detail::must_ask(code, text, answer, "not one comparison");
+        return kept_groups(answer.count);
+    }
+
+    // Writes for each document the number that it has in an attribute, and whether it has one, and returns how many have one. It is fastest
+    // where the documents ascend. numbers and present have room for `count`.
+    std::uint64_t longs(std::uint32_t field, const std::uint32_t *documents, std::size_t count, std::int64_t *numbers, std::uint8_t *present) {
+        attr_answer answer{};
+        std::uint32_t none = 0;
+        std::int64_t number;
+        std::uint8_t is;
+        detail::must(attr_longs(open(), field, count ? documents : &none, count, count ? numbers : &number, count, count ? present : &is, count, &answer));
+        return answer.count;
+    }
+    bulk longs(std::uint32_t field, const std::vector<std::uint32_t> &documents) {
+        std::size_t count = documents.size();
+        bulk found{std::vector<std::int64_t>(count), std::vector<std::uint8_t>(count)};
+        found.count = longs(field, documents.data(), count, found.numbers.data(), found.present.data());
+        return found;
+    }
+
+    // The documents of the commit from this one on, ascending, into room of the caller's; returns how many there were.
+    std::size_t documents(std::uint32_t first, std::uint32_t *into, std::size_t room) {
+        attr_answer answer{};
+        std::uint32_t none;
+        detail::must(attr_documents(open(), first, room ? into : &none, room, &answer));
+        return answer.count;
+    }
+    // The same, at most `most` of them, all of one commit.
+    std::vector<std::uint32_t> documents(std::uint32_t first = 1, std::size_t most = all) {
+        guard held = hold();
+        std::vector<std::uint32_t> found;
+        while (found.size() < most) {
+            std::size_t had = found.size(), room = std::min(most - had, std::max<std::size_t>(had, 1024));
+            found.resize(had + room);
+            std::size_t came = documents(first, found.data() + had, room);
+            found.resize(had + came);
+            if (came < room) break;
+            first = found.back() + 1;
+        }
+        return found;
     }
 
     // Saves the first attribute, as docs/FORMATS.md says.
     std::vector<std::uint8_t> save() {
         attr_answer answer{};
-        std::int32_t code = attr_save(open(), &answer);
-        if (code != ATTR_OK) throw error(code, message(code));
+        detail::must(attr_save(open(), &answer));
         std::vector<std::uint8_t> bytes(answer.count);
         bytes.resize(saved(0, bytes.data(), bytes.size()));
         return bytes;
@@ -244,17 +378,31 @@ public:
     }
 
 private:
+    std::vector<group> kept_groups(std::uint64_t count) {
+        std::vector<group> found;
+        found.reserve(count);
+        for (std::uint64_t number = 0; number < count; number++) found.push_back(kept_group(number));
+        return found;
+    }
+    group kept_group(std::uint64_t number) {
+        attr_group_told told{};
+        detail::must(attr_group_at(open(), number, &told));
+        if (!told.is_text) return group{told.number, told.documents};
+        std::uint8_t none;
+        std::string text(told.length, '\0');
+        text.resize(attr_group_text(open(), number, text.empty() ? &none : reinterpret_cast<std::uint8_t *>(&text[0]), text.size()));
+        return group{std::move(text), told.documents};
+    }
     std::optional<std::uint64_t> read_items(std::uint32_t document, std::uint32_t field) {
         attr_answer answer{};
         std::int32_t code = attr_items(open(), document, field, &answer);
         if (code == ATTR_NO_DOCUMENT) return std::nullopt;
-        if (code != ATTR_OK) throw error(code, message(code));
+        detail::must(code);
         return answer.count;
     }
     item kept_item(std::uint64_t number) {
         attr_item_told told{};
-        std::int32_t code = attr_item(open(), number, &told);
-        if (code != ATTR_OK) throw error(code, message(code));
+        detail::must(attr_item(open(), number, &told));
         if (!told.is_text) return item{told.number, told.weight};
         std::uint8_t none;
         std::string text(told.length, '\0');
@@ -352,8 +500,7 @@ public:
         if (r.seat_->engine != number_) throw misuse("attr: the reader is of another engine");
         std::shared_ptr<detail::seat> seat = std::move(r.seat_);
         r.seat_.reset();
-        std::int32_t code = attr_reader_return(engine, std::exchange(seat->handle, attr_reader{nullptr}));
-        if (code != ATTR_OK) throw error(code, message(code));
+        detail::must(attr_reader_return(engine, std::exchange(seat->handle, attr_reader{nullptr})));
     }
 };
 

@@ -1,7 +1,7 @@
 """Random calls of the library for C beside the plain model, by the Python package of python/.
 
 Feeds in pieces, lines that are refused, commits, compactions, queries, items and saves, at the last commit and under a guard of an older
-one.
+one; and over each answer, and over one of an older commit, documents by value, totals, groups, terms, best scores and numbers in bulk.
 """
 import importlib
 import os
@@ -43,6 +43,8 @@ class Case:
         self.engine = attr.Engine(text, buffers=dice.choice([12, 24, 64]), words=8192, readers=2, wide=maker.odd(0.2), dense=maker.odd(0.3))
         self.table, self.committed, self.operations, self.commits = {}, {}, 0, 0
         self.saved_operations = 0
+        # (the documents of the answer that each reader keeps)
+        self.kept = {}
 
     def feed(self, lines):
         """Feeds lines in one call, and again from behind each line that is refused. Returns whether there was room for all."""
@@ -111,10 +113,63 @@ class Case:
             wanted = [doc for doc in sorted(table) if word.matches(word.query, table[doc])]
             must(list(reader.hits(text)), wanted, f"the query {text}")
             must(reader.count(text), len(wanted), f"the count of {text}")
+            self.kept[reader] = wanted
         else:
             found = [(doc, word.score(table[doc])) for doc in sorted(table)]
             scores = [(it.document, it.score) for it in reader.scores(text)]
             must(scores, [(doc, score) for doc, score in found if score is not None], f"the dot product {text}")
+            self.kept[reader] = [doc for doc, score in found if score is not None]
+        if not code:
+            self.best(reader, text, word, table)
+            self.terms(reader, text, word, table)
+            must(list(reader.hits()), self.kept[reader], f"the answer that is kept after {text}")
+
+    def room(self):
+        """How many are asked for: none, some, as many as there are, or more."""
+        return self.maker.dice.choice([0, 1, 2, 5, 20, None, 2**63])
+
+    def best(self, reader, text, word, table):
+        most = self.room()
+        most = 2**63 if most is None else most
+        best = [(it.document, it.score, it.exact) for it in reader.best(text, most)]
+        must(best, model.best_scores(table, word, most), f"the {most} best scores of {text}")
+
+    def terms(self, reader, text, word, table):
+        most = self.room()
+        try:
+            found = reader.terms(text, most)
+        except self.attr.Refused as refused:
+            must((refused.code, refused.told.place), (QUERY_CODES["Syntax"], 0), f"the terms of {text}")
+            found = None
+        if word.dot is None and word.query[0] == "leaf":
+            groups = model.groups_of(table, table, word.field(word.query[1]))
+            wanted = [group for group in groups if model.meets(word.query[2], group[0])][:most]
+            must(found, wanted, f"the first {most} terms of {text}")
+        else:
+            must(found, None, f"the terms of {text}")
+
+    def over(self, reader, table):
+        """What is asked over the documents of the answer that a reader keeps, in an attribute."""
+        dice, documents = self.maker.dice, self.kept.get(reader, [])
+        field, flag, most = dice.randrange(len(self.fields)), self.maker.odd(0.5), self.room()
+        name = self.fields[field][0] if self.maker.odd(0.5) else field
+        first = dice.choice([0, 0, 1, 3, len(documents), len(documents) + 1, 2**63])
+        wanted = model.sorted_documents(table, documents, field, flag)[first:]
+        what = f"in attribute {field} of {self.fields} over {documents[:50]}"
+        must(list(reader.sort(name, flag, first, most)), wanted[:most], f"{most} documents by value from {first} on, {flag}, {what}")
+        must(reader.totals(name), model.totals_of(table, documents, field), f"the totals {what}")
+        must(reader.groups(name, flag, most), model.groups_of(table, documents, field, flag)[:most], f"{most} groups, {flag}, {what}")
+        must(list(reader.hits()), documents, "the answer that is kept")
+        asked = [dice.choice([0, 1, 2**20, 2**32 - 1, dice.randrange(1, self.maker.documents + 2)]) for _ in range(dice.randrange(12))]
+        asked += documents[:20] if self.maker.odd(0.7) else []
+        asked = sorted(asked) if self.maker.odd(0.5) else asked
+        values = [model.first_value(table, document, field) for document in asked]
+        values = [it if isinstance(it, int) else None for it in values]
+        numbers, present = reader.longs(name, asked)
+        must((list(numbers), list(present)), ([it or 0 for it in values], [int(it is not None) for it in values]), f"the numbers of {asked} {what}")
+        first = dice.choice([0, 1, 2, dice.randrange(self.maker.documents + 2), 2**20, 2**32 - 1])
+        found = list(reader.documents(first, most))
+        must(found, [document for document in sorted(table) if document >= first][:most], f"{most} documents from {first} on")
 
     def items(self, reader, document, table):
         """The items of a document in each attribute."""
@@ -126,11 +181,14 @@ class Case:
         must(reader.save(), model.save_of(table, self.fields[0], operations), "the bytes of a save")
 
     def look(self, reader, table, operations):
-        """Queries, items and a save of a reader."""
+        """Queries, items and a save of a reader; the first looks are over an answer of an older commit."""
+        self.over(reader, table)
         for _ in range(self.maker.dice.randrange(3)):
             text = self.maker.asked()
             if "\0" not in text:
                 self.ask(reader, text, table)
+                if self.maker.odd(0.5):
+                    self.over(reader, table)
         for _ in range(2):
             self.items(reader, self.maker.dice.randrange(1, self.maker.documents + 2), table)
         if self.maker.odd(0.3):

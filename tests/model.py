@@ -342,6 +342,48 @@ def meets(test, value):
     return {"is": value == test[1], "below": value < test[1], "above": value > test[1]}[test[0]]
 
 
+# What include/attr.h asks besides, of a table and some of its documents.
+
+def items_in(table, document, field):
+    """The items of a document in an attribute; none where it is not there."""
+    return table[document][field] if document in table else []
+
+
+def first_value(table, document, field):
+    """The value by which a document is sorted and counted: that of its first item; None where it has none."""
+    items = items_in(table, document, field)
+    return items[0][0] if items else None
+
+
+def sorted_documents(table, documents, field, descending):
+    """The documents by their values: equal values by document, and those without a value last."""
+    valued = [document for document in sorted(documents) if first_value(table, document, field) is not None]
+    others = [document for document in sorted(documents) if first_value(table, document, field) is None]
+    return sorted(valued, key=lambda document: first_value(table, document, field), reverse=descending) + others
+
+
+def totals_of(table, documents, field):
+    """The count, the sum, the least and the greatest of the numbers of the documents."""
+    numbers = [it for it in (first_value(table, document, field) for document in documents) if isinstance(it, int)]
+    return len(numbers), sum(numbers), min(numbers, default=None), max(numbers, default=None)
+
+
+def groups_of(table, documents, field, by_count=False):
+    """Each distinct value of the documents with how many of them have it."""
+    counts = {}
+    for document in documents:
+        for value in {value for value, _ in items_in(table, document, field)}:
+            counts[value] = counts.get(value, 0) + 1
+    return sorted(sorted(counts.items()), key=lambda group: -group[1] if by_count else 0)
+
+
+def best_scores(table, word, most):
+    """The best scores of a dot product, as they are told: the nearest number of 64 bits, and whether it is exact."""
+    found = [(document, word.score(lists)) for document, lists in table.items()] if word.dot else []
+    best = sorted((-score, document) for document, score in found if score is not None)[:most]
+    return [(document, min(max(-minus, -2**63), 2**63 - 1), int(fits(-minus, 64))) for minus, document in best]
+
+
 # The feed.
 
 def value_of(json, value_type):

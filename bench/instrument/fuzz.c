@@ -1,7 +1,8 @@
 /* Every call of attr.h that takes bytes, as libFuzzer wants it. An input is a byte that picks the attributes, and calls one after another:
    a byte that picks the call, two bytes of length, and the bytes. Beside what the sanitizer sees, each answer is held against others:
-   counts against copies, the order of documents, a save against the save of what was loaded from it (but for its operations), and each
-   code against those that the call may return. */
+   counts against copies, the order of documents, a save against the save of what was loaded from it (but for its operations), what is asked
+   over an answer (its documents by value, numbers, totals, groups, best scores, terms) against each other, and each code against those that
+   the call may return. */
 #include "attr.h"
 #include <stdio.h>
 #include <stdlib.h>
@@ -15,7 +16,10 @@ static const char *const names[8] = {"a:single:long", "a:single:string", "a:arra
 static const struct attr_sizes small = {5, 8192, 2, 0, 0}, dense = {5, 8192, 2, 0, 1}, wide = {6, 8192, 2, 1, 1};
 enum { MOST = 1 << 16 };
 static uint32_t hits[MOST];
-static struct attr_score scores[MOST];
+static struct attr_score scores[MOST], best[MOST];
+static uint32_t ranked[MOST], listed[MOST];
+static int64_t numbers[MOST];
+static uint8_t present[MOST];
 static uint8_t saved[1 << 20], again[1 << 20];
 
 static size_t save_of(attr_reader *reader, uint8_t *into) {
@@ -24,6 +28,66 @@ static size_t save_of(attr_reader *reader, uint8_t *into) {
     MUST(code == ATTR_OK || code == ATTR_MEMORY);
     MUST(answer.count <= sizeof saved && attr_saved(reader, 0, into, sizeof saved) == answer.count);
     return (size_t)answer.count;
+}
+
+/* Groups: by value they ascend; by count no one has more than the one before. Returns how many documents all of them have. */
+static uint64_t groups(attr_reader *reader, uint32_t field, uint32_t by_count, size_t count, size_t *found) {
+    struct attr_answer answer;
+    struct attr_group_told group, last = {0, 0, 0, 0, 0};
+    uint64_t all = 0;
+    uint8_t text[1024];
+    MUST(attr_group(reader, field, by_count, SIZE_MAX, &answer) == ATTR_OK);
+    for (size_t i = 0; i < answer.count; i++, last = group) {
+        MUST(attr_group_at(reader, i, &group) == ATTR_OK && group.documents > 0 && group.documents <= count && group.is_text <= 1 && !group.zero);
+        MUST(group.is_text ? !group.number : !group.length);
+        MUST(attr_group_text(reader, i, text, sizeof text) == group.length);
+        if (i && by_count) MUST(group.documents <= last.documents);
+        if (i && !by_count && !group.is_text) MUST(group.number > last.number);
+        all += group.documents;
+    }
+    MUST(attr_group_at(reader, answer.count, &group) == ATTR_BOUNDS && !group.documents);
+    *found = (size_t)answer.count;
+    return all;
+}
+
+/* What is asked over the documents of the answer, which stand in hits. */
+static void over(attr_reader *reader, uint32_t field, size_t count) {
+    struct attr_answer answer;
+    struct attr_totals_told totals;
+    uint64_t sum = 0, wanted = 0, low = 0, many = 0;
+    size_t by_value, by_count;
+    if (attr_sort(reader, field, 0, 0, ranked, MOST, &answer) == ATTR_BOUNDS) return;
+    MUST(answer.count == count);
+    for (size_t i = 0; i < count; i++) sum += ranked[i], wanted += hits[i];
+    MUST(sum == wanted);
+    MUST(attr_longs(reader, field, ranked, count, numbers, count, present, count, &answer) == ATTR_OK);
+    for (size_t i = 0; i < count; i++) {
+        low += (uint64_t)numbers[i];
+        many += present[i];
+        MUST(present[i] <= 1 && (present[i] || !numbers[i]));
+        if (i && present[i] && present[i - 1]) MUST(numbers[i - 1] < numbers[i] || (numbers[i - 1] == numbers[i] && ranked[i - 1] < ranked[i]));
+    }
+    MUST(answer.count == many);
+    MUST(attr_totals(reader, field, &totals, &answer) == ATTR_OK && totals.count == many && totals.low == low);
+    if (many) MUST(totals.least == numbers[0] && totals.greatest == numbers[many - 1]);
+    MUST(attr_sort(reader, field, 1, count / 2, listed, 3, &answer) == ATTR_OK && answer.count == (count - count / 2 < 3 ? count - count / 2 : 3));
+    MUST(groups(reader, field, 0, count, &by_value) == groups(reader, field, 1, count, &by_count) && by_value == by_count);
+}
+
+/* The best scores of a text against all of them, and the terms of a text. */
+static void best_of(attr_reader *reader, const uint8_t *text, size_t length, size_t scored) {
+    struct attr_answer answer;
+    MUST(attr_best(reader, text, length, best, MOST, &answer) == ATTR_OK && answer.count == scored);
+    uint64_t sum = 0;
+    for (size_t i = 0; i < scored; i++) {
+        sum += best[i].document - scores[i].document;
+        if (i) MUST(best[i - 1].score > best[i].score || (best[i - 1].score == best[i].score && (!best[i].exact || best[i - 1].document < best[i].document)));
+    }
+    MUST(sum == 0);
+    int32_t code = attr_terms(reader, text, length, 50, &answer);
+    MUST(code == ATTR_OK || (code == ATTR_SYNTAX && !answer.place));
+    struct attr_group_told group;
+    if (code == ATTR_OK) MUST(answer.count <= 50 && attr_group_at(reader, answer.count, &group) == ATTR_BOUNDS);
 }
 
 static void ask(attr_reader *reader, const uint8_t *text, size_t length) {
@@ -38,6 +102,11 @@ static void ask(attr_reader *reader, const uint8_t *text, size_t length) {
     size_t scored = attr_scores(reader, 0, scores, MOST);
     MUST(scored == 0 || scored == count);
     for (size_t i = 0; i < scored; i++) MUST(scores[i].document == hits[i] && scores[i].exact <= 1);
+    best_of(reader, text, length, scored);
+    for (uint32_t field = 0; field < 4; field++) over(reader, field, count);
+    MUST(attr_hits(reader, 0, listed, MOST) == count && !memcmp(listed, hits, count * sizeof *hits));
+    MUST(attr_documents(reader, 1 + (uint32_t)length % 50, listed, MOST, &answer) == ATTR_OK);
+    for (size_t i = 1; i < answer.count; i++) MUST(listed[i - 1] < listed[i]);
     if (count > 1) MUST(attr_hits(reader, 1, hits, 1) == 1 && hits[0] < hits[1] + 1);
     for (size_t i = 0; i < count && i < 2; i++) {
         struct attr_answer items;

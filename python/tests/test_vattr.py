@@ -13,7 +13,7 @@ import unittest
 
 sys.path.insert(0, os.environ.get("VATTR_PACKAGE", os.path.join(os.path.dirname(os.path.abspath(__file__)), "..")))
 import vattr  # noqa: E402
-from vattr import Code, Engine, Item, Misuse, Reader, Refused  # noqa: E402
+from vattr import Code, Engine, Group, Item, Misuse, Reader, Refused, Totals  # noqa: E402
 
 try:
     import numpy
@@ -143,6 +143,108 @@ class Answers(unittest.TestCase):
         del guard
         self.assertEqual(self.reader.count("[;]"), 12)
 
+    def test_sorting(self):
+        for document, year in ((11, 1963), (12, 1900)):
+            self.engine.feed(put(document, year=year))
+        self.engine.feed(put(13, tags='{"c":1}'))
+        self.engine.commit()
+        self.assertEqual(len(self.reader.sort("year")), 0, "nothing was asked so far")
+        self.assertEqual(self.reader.ask("or([;1963],tags:\"c\")").count, 6)
+        up, down = self.reader.sort("year"), self.reader.sort(0, descending=True)
+        self.assertEqual((up.typecode, list(up)), ("I", [12, 1, 2, 3, 11, 13]))
+        self.assertEqual(list(down), [3, 11, 2, 1, 12, 13])
+        self.assertEqual(list(self.reader.sort("year", True, 1, 2)), [11, 2])
+        self.assertEqual(list(self.reader.sort("tags")), [1, 2, 3, 13, 11, 12], "by the first item")
+        for first, most in ((0, 0), (6, 5), (2**63, None), (1, 0)):
+            self.assertEqual(len(self.reader.sort("year", first=first, most=most)), 0)
+        self.assertEqual(list(self.reader.hits()), [1, 2, 3, 11, 12, 13])
+        for call in (lambda: self.reader.sort(3), lambda: self.reader.sort("none"), lambda: self.reader.totals(9),
+                     lambda: self.reader.groups(3), lambda: self.reader.longs(3, [1])):
+            self.assertRaises(Refused, call)
+        for call in (lambda: self.reader.sort("year", first=-1), lambda: self.reader.groups(0, most=-1), lambda: self.reader.documents(-1),
+                     lambda: self.reader.documents(1 << 32), lambda: self.reader.best("1", -1)):
+            self.assertRaises(ValueError, call)
+
+    def test_totals(self):
+        ends = [2**63 - 1, 2**63 - 1, 2**63 - 1, -2**63, -2**63, -2**63, -2**63]
+        for document, year in enumerate(ends, 21):
+            self.engine.feed(put(document, year=year))
+        self.engine.commit()
+        self.reader.ask(f"[{2**63 - 1};]")
+        self.assertEqual(self.reader.totals("year"), Totals(3, 3 * (2**63 - 1), 2**63 - 1, 2**63 - 1))
+        self.reader.ask(f"[;{-2**63}]")
+        self.assertEqual(self.reader.totals("year"), Totals(4, -2**65, -2**63, -2**63))
+        self.reader.ask(f"or([{2**63 - 1};],[;{-2**63}])")
+        self.assertEqual(self.reader.totals("year"), Totals(7, sum(ends), -2**63, 2**63 - 1))
+        for text in ("1800", "tags:\"none\""):
+            self.reader.ask(text)
+            self.assertEqual(self.reader.totals("year"), Totals(0, 0, None, None))
+        self.reader.ask("[1961;1970]")
+        self.assertEqual(self.reader.totals("tags"), Totals(0, 0, None, None), "texts are no numbers")
+
+    def test_groups(self):
+        self.engine.feed(put(11, parts='["y","x"]', tags='{"":1}', year=1969))
+        self.engine.commit()
+        self.reader.ask("[1969;]")
+        self.assertEqual(self.reader.groups("parts"), [Group("", 2), Group("x", 3), Group("y", 1)], "a document counts once for a value")
+        self.assertEqual(self.reader.groups("tags", by_count=True), [("a", 2), ("b", 2), ("", 1)])
+        self.assertEqual(self.reader.groups("year", by_count=True, most=1), [(1969, 2)])
+        self.assertEqual(self.reader.groups("year", most=0), [])
+        self.assertEqual(self.reader.terms('parts:"x"*'), [("x", 11)], "terms are of all documents")
+        self.assertEqual(self.reader.terms("[1968;]", 2), [(1968, 1), (1969, 2)])
+        self.assertEqual(self.reader.terms('tags:>""'), [("a", 10), ("b", 10)])
+        self.reader.ask("1800")
+        self.assertEqual(self.reader.groups("year"), [])
+        for text, said in (("and(1,2)", "not one comparison: it breaks off at byte 0"), ("tags:dot(\"a\":1)", "not one comparison"),
+                           ("[1;", "it breaks off at its end")):
+            with self.assertRaises(Refused) as refused:
+                self.reader.terms(text)
+            self.assertEqual(refused.exception.code, Code.SYNTAX)
+            self.assertIn(said, str(refused.exception))
+
+    def test_best(self):
+        best = self.reader.best('tags:dot("a":2,"b":1)', 3)
+        self.assertEqual([(it.document, it.score, it.exact) for it in best], [(10, 19, 1), (9, 17, 1), (8, 15, 1)])
+        self.assertEqual([it.document for it in self.reader.best('tags:dot("b":1)', 2)], [1, 2], "equal scores by document")
+        self.assertEqual(len(self.reader.best('tags:dot("a":1)', 10**9)), 10)
+        self.assertEqual((len(self.reader.best("[;]", 3)), len(self.reader.best('tags:dot("a":1)', 0))), (0, 0))
+        self.engine.feed(put(11, tags=f'{{"a":{-2**31},"b":{-2**31}}}'))
+        self.engine.commit()
+        best = self.reader.best(f'tags:dot("a":{-2**31},"b":{-2**31})', 1)
+        self.assertEqual((best[0].document, best[0].score, best[0].exact), (11, 2**63 - 1, 0), "the nearest number")
+
+    def test_longs(self):
+        numbers, present = self.reader.longs("year", self.reader.hits("[;]"))
+        self.assertEqual((numbers.typecode, list(numbers)), ("q", [1960 + it for it in range(1, 11)]))
+        self.assertEqual((present.typecode, sum(present)), ("B", 10))
+        numbers, present = self.reader.longs(0, [10, 99, 0, 2**32 - 1, 10, 1])
+        self.assertEqual((list(numbers), list(present)), ([1970, 0, 0, 0, 1970, 1961], [1, 0, 0, 0, 1, 1]))
+        self.assertEqual([list(it) for it in self.reader.longs("year", [])], [[], []])
+        self.assertEqual(list(self.reader.longs("tags", [1, 2]).present), [0, 0])
+        for documents in ([-1], [1 << 32], ["1"], [1.5], 5):
+            self.assertRaises((TypeError, OverflowError), self.reader.longs, 0, documents)
+
+    def test_documents(self):
+        self.assertEqual(list(self.reader.documents()), list(range(1, 11)))
+        self.assertEqual(list(self.reader.documents(4, 3)), [4, 5, 6])
+        self.assertEqual([len(self.reader.documents(*it)) for it in ((11,), (0, 0), (2**32 - 1,), (0, 10**9))], [0, 0, 0, 10])
+        self.engine.feed("".join(put(it, year=it) for it in range(20, 9020)))
+        self.engine.commit()
+        self.assertEqual(list(self.reader.documents(15)), list(range(20, 9020)))
+        self.assertEqual(len(self.reader.best('tags:dot("a":1)', 10**6)), 10)
+
+    def test_of_one_commit(self):
+        with self.reader.hold() as held:
+            self.reader.ask("[1965;]")
+            self.engine.feed(put(5, year=2000) + '{"remove":"id:a:b::6"}\n' + put(11, year=1966))
+            self.engine.commit()
+            self.assertEqual((held.commit, list(self.reader.sort("year")), len(self.reader.documents())), (1, [5, 6, 7, 8, 9, 10], 10))
+            self.assertEqual(self.reader.groups("year", most=2), [(1965, 1), (1966, 1)])
+        self.assertEqual(list(self.reader.sort("year")), [7, 8, 9, 10, 5, 6], "the values of now, and a document that is gone is last")
+        self.assertEqual(self.reader.totals("year").count, 5)
+        self.assertEqual(list(self.reader.longs("year", [5, 6]).numbers), [2000, 0])
+        self.assertEqual(self.reader.terms("[1965;1967]"), [(1966, 1), (1967, 1)])
+
     def test_saves(self):
         with Engine("year:single:long", readers=1) as other:
             told = other.load(bytearray(self.reader.save()))
@@ -208,6 +310,12 @@ class Misuses(unittest.TestCase):
             for call in (gone.hits, gone.ask, gone.count, gone.scores):
                 self.refused("closed", call, "[;]")
             self.refused("closed", gone.items, 1)
+            for call in (gone.sort, gone.totals, gone.groups):
+                self.refused("closed", call, 0)
+            self.refused("closed", gone.terms, "1")
+            self.refused("closed", gone.best, "1", 1)
+            self.refused("closed", gone.longs, 0, [1])
+            self.refused("closed", gone.documents)
             self.refused("closed", self.engine.take_back, gone)
         self.engine.close()
         self.engine.close()
@@ -355,7 +463,8 @@ class Misuses(unittest.TestCase):
                 if reader:
                     asks = lambda: (sum(reader.hits(f"[{pick.randrange(50)};]")), reader.unbind())
                     calls += [lambda: engine.take_back(reader), reader.close, lambda: guards.append(reader.hold()), reader.unbind,
-                              reader.save, lambda: reader.items(pick.randrange(300)), *[asks] * 8]
+                              reader.save, lambda: reader.items(pick.randrange(300)), lambda: reader.sort(0, most=9),
+                              lambda: reader.groups(0), lambda: reader.terms("[;]", 9), lambda: reader.longs(0, range(99)), *[asks] * 8]
                 try:
                     pick.choice(calls)()
                     done.append(1)

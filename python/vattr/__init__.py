@@ -8,13 +8,14 @@
         engine.commit()
         with reader.hold() as held:            # several answers of one commit
             reader.hits("[1960;1969]")         # array('I', [1])
+            reader.sort("year", most=10)       # the first ten of them by year
 
 One thread writes; each reader is used by one thread. A call by another thread, with a closed handle or with the reader of another engine
 raises Misuse and calls nothing.
 """
 from ._handles import Engine, Guard, Reader
-from ._library import VERSION, Answer, Code, Counts, Item, Misuse, Refused, Score, Told, message, quoted
+from ._library import VERSION, Answer, Code, Counts, Group, Item, Longs, Misuse, Refused, Score, Told, Totals, message, quoted
 
-__all__ = ["Answer", "Code", "Counts", "Engine", "Guard", "Item", "Misuse", "Reader", "Refused", "Score", "Told", "VERSION", "message",
-           "quoted"]
+__all__ = ["Answer", "Code", "Counts", "Engine", "Group", "Guard", "Item", "Longs", "Misuse", "Reader", "Refused", "Score", "Told", "Totals",
+           "VERSION", "message", "quoted"]
 __version__ = f"{VERSION // 1000000}.{VERSION // 1000 % 1000}.{VERSION % 1000}"

@@ -10,11 +10,14 @@ import operator
 import os
 import threading
 import weakref
-from typing import Any, Callable, Deque, List, Optional, Union
+from typing import Any, Callable, Deque, Iterable, List, Optional, Union
 
-from ._library import Answer, AnswerTold, Code, Counts, Handle, Item, ItemTold, Misuse, Refused, Score, Sizes, Told, lib, message
+from ._library import (Answer, AnswerTold, Code, Counts, Group, GroupTold, Handle, Item, ItemTold, Longs, Misuse, Refused, Score, Sizes, Told,
+                       Totals, TotalsTold, lib, message)
 
 Bytes = Union[bytes, bytearray, memoryview]
+# The most documents that an engine can have.
+_MOST = 1048575
 
 
 # Stands for this process: a child of a fork has another one. The handles that it has are its parent's, and nothing may be called with them.
@@ -302,9 +305,9 @@ class Reader(_Owned):
             self._leave()
 
     @staticmethod
-    def _ask(call: Callable[..., int], at: Handle, text: bytes) -> AnswerTold:
+    def _ask(call: Callable[..., int], at: Handle, text: bytes, *words: Any, no: str = "no query and no dot product") -> AnswerTold:
         told = AnswerTold()
-        code = call(at, text, len(text), ctypes.byref(told))
+        code = call(at, text, len(text), *words, ctypes.byref(told))
         if code:
             place, more = 0, ""
             if code in (Code.SYNTAX, Code.NO_FIELD):
@@ -312,7 +315,7 @@ class Reader(_Owned):
                 rest = text[place:place + 40].decode(errors="replace")
                 more = f" at byte {place}, before {rest}" if rest else " at its end"
                 if code == Code.SYNTAX:
-                    raise Refused(code, "the text is no query and no dot product: it breaks off" + more, place=place, told=told)
+                    raise Refused(code, f"the text is {no}: it breaks off" + more, place=place, told=told)
                 more = ":" + more
             raise Refused(code, message(code) + more, place=place, told=told)
         return told
@@ -344,7 +347,7 @@ class Reader(_Owned):
         """The documents of a dot product with their scores: an array of ctypes, which numpy takes without a copy as records of score,
         document and exact (numpy.asarray(scores))."""
         found = self._answer(text, first, most, "B", 16, lib.attr_scores)
-        return (Score * (len(found) // 16)).from_buffer(found) if found else (Score * 0)()
+        return self._as_scores(found)
 
     def _answer(self, text: Optional[str], first: int, most: Optional[int], code: str, width: int,
                 call: Callable[..., int]) -> "array.array[int]":
@@ -356,24 +359,151 @@ class Reader(_Owned):
                 self._kept = self._ask(lib.attr_ask, at, data).count
             left = max(self._kept - first, 0)
             count = left if wanted is None else min(left, wanted)
-            into = array.array(code, bytes(count * width))
-            copied = 0
-            if count:
-                room = (ctypes.c_char * (count * width)).from_buffer(into)
-                copied = call(at, first, room, count)
-                del room
-            del into[copied * width // into.itemsize:]
-            return into
+            return self._copied(code, width, count, lambda room: call(at, first, room, count))
         finally:
             self._leave()
 
+    @staticmethod
+    def _copied(code: str, width: int, count: int, call: Callable[[Any], int]) -> "array.array[int]":
+        """An array of what a call copies, at most `count` elements of `width` bytes."""
+        into = array.array(code, bytes(max(count, 1) * width))
+        room = (ctypes.c_char * (max(count, 1) * width)).from_buffer(into)
+        copied = call(room)
+        del room
+        del into[copied * width // into.itemsize:]
+        return into
+
+    def _grown(self, code: str, width: int, most: int, call: Callable[[Any, int], int]) -> "array.array[int]":
+        """The same of a call that tells only what it copied: with little room, and with more until not all of it is taken."""
+        room = min(most, 4096)
+        while True:
+            found = self._copied(code, width, room, lambda into: call(into, room))
+            if room == most or len(found) * found.itemsize < room * width:
+                return found
+            room = min(most, room * 16)
+
+    @staticmethod
+    def _told(call: Callable[..., int], *words: Any) -> int:
+        """The count that a call tells."""
+        told = AnswerTold()
+        code = call(*words, ctypes.byref(told))
+        if code:
+            raise Refused(code)
+        return int(told.count)
+
+    @staticmethod
+    def _as_scores(found: "array.array[int]") -> "ctypes.Array[Score]":
+        return (Score * (len(found) // 16)).from_buffer(found) if found else (Score * 0)()
+
+    # What follows is about the answer that is kept, or about given documents, by the values at the guard's commit, else at the last one. The
+    # answer stays. An attribute is given by its number or its name.
+
+    def sort(self, field: Union[int, str], descending: bool = False, first: int = 0, most: Optional[int] = None) -> "array.array[int]":
+        """The documents of the kept answer by their values in an attribute, from number `first` on and at most `most`: an array('I'). Equal
+        values ascend by document; documents without a value are last. Of an array or a weighted set the first item counts."""
+        number, first = self._field(field), _number(first, "first", 2**63)
+        wanted = None if most is None else _number(most, "most", 2**63)
+        at = self._enter()
+        try:
+            left = max(self._kept - first, 0)
+            count = left if wanted is None else min(left, wanted)
+            return self._copied("I", 4, count, lambda room: self._told(lib.attr_sort, at, number, int(bool(descending)), first, room, count))
+        finally:
+            self._leave()
+
+    def totals(self, field: Union[int, str]) -> Totals:
+        """The count, the sum, the least and the greatest of the numbers that the documents of the kept answer have in an attribute."""
+        number, told, at = self._field(field), TotalsTold(), self._enter()
+        try:
+            self._told(lib.attr_totals, at, number, ctypes.byref(told))
+        finally:
+            self._leave()
+        bounds = (told.least, told.greatest) if told.count else (None, None)
+        return Totals(told.count, told.high * 2**64 + told.low, *bounds)
+
+    def best(self, text: str, most: int) -> "ctypes.Array[Score]":
+        """The `most` best scores of a dot product, the greatest first, equal ones by document: an array of ctypes, as of scores()."""
+        count = min(_number(most, "most", 2**63), _MOST)
+        data, at = _bytes(text), self._enter()
+        try:
+            return self._as_scores(self._grown("B", 16, count, lambda into, room: self._ask(lib.attr_best, at, data, into, room).count))
+        finally:
+            self._leave()
+
+    def groups(self, field: Union[int, str], by_count: bool = False, most: Optional[int] = None) -> List[Group]:
+        """The distinct values that the documents of the kept answer have in an attribute, each with how many of them have it; at most
+        `most`. They ascend by value, or (by_count) those with the most documents come first, equal counts by value."""
+        number, wanted = self._field(field), 2**63 if most is None else _number(most, "most", 2**63)
+        at = self._enter()
+        try:
+            return self._groups(at, self._told(lib.attr_group, at, number, int(bool(by_count)), wanted))
+        finally:
+            self._leave()
+
+    def terms(self, text: str, most: Optional[int] = None) -> List[Group]:
+        """The values that meet a query of one comparison, such as 'tags:"te"*', ascending, each with how many documents of the commit have
+        it; at most `most`."""
+        wanted = 2**63 if most is None else _number(most, "most", 2**63)
+        data, at = _bytes(text), self._enter()
+        try:
+            return self._groups(at, self._ask(lib.attr_terms, at, data, wanted, no="not one comparison").count)
+        finally:
+            self._leave()
+
+    @staticmethod
+    def _groups(at: Handle, count: int) -> List[Group]:
+        told, found, text = GroupTold(), [], ctypes.create_string_buffer(1024)
+        into = ctypes.byref(told)
+        for number in range(count):
+            code = lib.attr_group_at(at, number, into)
+            if code:
+                raise Refused(code)
+            if told.is_text:
+                length = lib.attr_group_text(at, number, text, 1024)
+                found.append(Group(text.raw[:length].decode(), told.documents))
+            else:
+                found.append(Group(told.number, told.documents))
+        return found
+
+    def longs(self, field: Union[int, str], documents: "Union[Iterable[int], array.array[int]]") -> Longs:
+        """The numbers that given documents have in an attribute, in their order: an array('q'), beside an array('B') of which have one. The
+        documents are an array('I'), as hits() and sort() give it, or any others; it is fastest where they ascend."""
+        number = self._field(field)
+        # (a copy, which nobody can change while the library reads it)
+        asked = array.array("I", documents)
+        count, at = len(asked), self._enter()
+        try:
+            numbers, present = array.array("q", bytes(8 * max(count, 1))), array.array("B", bytes(max(count, 1)))
+            asked.append(0)
+            into = (ctypes.c_char * len(asked) * 4).from_buffer(asked), (ctypes.c_int64 * len(numbers)).from_buffer(numbers), (
+                ctypes.c_uint8 * len(present)).from_buffer(present)
+            self._told(lib.attr_longs, at, number, into[0], count, into[1], count, into[2], count)
+            del into
+            del numbers[count:], present[count:]
+            return Longs(numbers, present)
+        finally:
+            self._leave()
+
+    def documents(self, first: int = 1, most: Optional[int] = None) -> "array.array[int]":
+        """The documents of the commit that are not below `first`, ascending and at most `most`: an array('I')."""
+        first, wanted = _number(first, "first"), _MOST if most is None else min(_number(most, "most", 2**63), _MOST)
+        at = self._enter()
+        try:
+            return self._grown("I", 4, wanted, lambda into, room: self._told(lib.attr_documents, at, first, into, room))
+        finally:
+            self._leave()
+
+    def _field(self, field: Union[int, str]) -> int:
+        """The number of an attribute that is given by its number or name."""
+        if not isinstance(field, str):
+            return _number(field, "field")
+        if field not in self._names:
+            raise Refused(Code.NO_FIELD)
+        return self._names.index(field)
+
     def items(self, document: int, field: Union[int, str] = 0) -> Optional[List[Item]]:
         """The items that a document has in an attribute, by its number or name; None where the document is not there."""
-        if isinstance(field, str):
-            if field not in self._names:
-                raise Refused(Code.NO_FIELD)
-            field = self._names.index(field)
-        document, field = _number(document, "document"), _number(field, "field")
+        document, field = _number(document, "document"), self._field(field)
         told, item, items, at = AnswerTold(), ItemTold(), [], self._enter()
         try:
             code = lib.attr_items(at, document, field, ctypes.byref(told))

@@ -1,8 +1,9 @@
 """The library by ctypes: its structs, codes and calls, as attr.h has them, and the errors that tell of a refusal."""
+import array
 import ctypes
 import enum
 import os
-from typing import NamedTuple, Union
+from typing import NamedTuple, Optional, Union
 
 # The versions of attr.h that this module is written for: 0.2.x.
 _SERIES = 2
@@ -110,6 +111,16 @@ class ItemTold(ctypes.Structure):
     _fields_ = [("number", ctypes.c_int64), ("length", ctypes.c_uint64), ("weight", ctypes.c_int32), ("is_text", ctypes.c_uint32)]
 
 
+class TotalsTold(ctypes.Structure):
+    _fields_ = [("count", ctypes.c_uint64), ("low", ctypes.c_uint64), ("high", ctypes.c_int64), ("least", ctypes.c_int64),
+                ("greatest", ctypes.c_int64)]
+
+
+class GroupTold(ctypes.Structure):
+    _fields_ = [("number", ctypes.c_int64), ("length", ctypes.c_uint64), ("documents", ctypes.c_uint64), ("is_text", ctypes.c_uint32),
+                ("zero", ctypes.c_uint32)]
+
+
 class Answer(NamedTuple):
     """The commit that answered, how many operations it has, and how many documents the answer has."""
     commit: int
@@ -121,6 +132,26 @@ class Item(NamedTuple):
     """A document's item: its value, and its weight, 1 but in a weighted set."""
     value: Union[int, str]
     weight: int
+
+
+class Totals(NamedTuple):
+    """The numbers of some documents: how many, their sum, the least and the greatest. Without a number these two are None."""
+    count: int  # type: ignore[assignment]
+    sum: int
+    least: Optional[int]
+    greatest: Optional[int]
+
+
+class Group(NamedTuple):
+    """A value, and how many documents have it."""
+    value: Union[int, str]
+    documents: int
+
+
+class Longs(NamedTuple):
+    """The numbers of given documents, in their order: present[i] is 1 and numbers[i] the number, or both are 0."""
+    numbers: "array.array[int]"
+    present: "array.array[int]"
 
 
 def _load() -> ctypes.CDLL:
@@ -156,9 +187,20 @@ CALLS = {
     "attr_item_text": (_size, [_handle, _size, _pointer, _size]),
     "attr_save": (_code, [_handle, _answer]),
     "attr_saved": (_size, [_handle, _size, _pointer, _size]),
+    "attr_sort": (_code, [_handle, _u32, _u32, _size, _pointer, _size, _answer]),
+    "attr_totals": (_code, [_handle, _u32, ctypes.POINTER(TotalsTold), _answer]),
+    "attr_best": (_code, [_handle, ctypes.c_char_p, _size, _pointer, _size, _answer]),
+    "attr_longs": (_code, [_handle, _u32, _pointer, _size, _pointer, _size, _pointer, _size, _answer]),
+    "attr_group": (_code, [_handle, _u32, _u32, _size, _answer]),
+    "attr_terms": (_code, [_handle, ctypes.c_char_p, _size, _size, _answer]),
+    "attr_group_at": (_code, [_handle, _size, ctypes.POINTER(GroupTold)]),
+    "attr_group_text": (_size, [_handle, _size, _pointer, _size]),
+    "attr_documents": (_code, [_handle, _u32, _pointer, _size, _answer]),
 }
 for _name, (_gives, _takes) in CALLS.items():
-    _call = getattr(lib, _name)
+    _call = getattr(lib, _name, None)
+    if _call is None:
+        raise ImportError(f"libvattr has no {_name}, so it is older than this package")
     _call.restype, _call.argtypes = _gives, _takes
 
 VERSION: int = lib.attr_version()

@@ -127,6 +127,28 @@ pub struct attr_item_told {
     pub is_text: u32,
 }
 
+/// The totals of the numbers of some documents.
+#[repr(C)]
+#[derive(Clone, Copy, Debug, Default, PartialEq, Eq)]
+pub struct attr_totals_told {
+    pub count: u64,
+    pub low: u64,
+    pub high: i64,
+    pub least: i64,
+    pub greatest: i64,
+}
+
+/// A value, and how many documents have it.
+#[repr(C)]
+#[derive(Clone, Copy, Debug, Default, PartialEq, Eq)]
+pub struct attr_group_told {
+    pub number: i64,
+    pub length: u64,
+    pub documents: u64,
+    pub is_text: u32,
+    pub zero: u32,
+}
+
 extern "C" {
     pub fn attr_message(code: i32, into: *mut u8, room: usize) -> usize;
     pub fn attr_version() -> u32;
@@ -151,4 +173,38 @@ extern "C" {
     pub fn attr_item_text(reader: *mut attr_reader, number: usize, into: *mut u8, room: usize) -> usize;
     pub fn attr_save(reader: *mut attr_reader, answer: *mut attr_answer) -> i32;
     pub fn attr_saved(reader: *mut attr_reader, first: usize, into: *mut u8, room: usize) -> usize;
+    pub fn attr_sort(
+        reader: *mut attr_reader,
+        field: u32,
+        descending: u32,
+        first: usize,
+        into: *mut u32,
+        room: usize,
+        answer: *mut attr_answer,
+    ) -> i32;
+    pub fn attr_totals(reader: *mut attr_reader, field: u32, totals: *mut attr_totals_told, answer: *mut attr_answer) -> i32;
+    pub fn attr_best(
+        reader: *mut attr_reader,
+        text: *const u8,
+        length: usize,
+        into: *mut attr_score,
+        room: usize,
+        answer: *mut attr_answer,
+    ) -> i32;
+    pub fn attr_longs(
+        reader: *mut attr_reader,
+        field: u32,
+        documents: *const u32,
+        count: usize,
+        numbers: *mut i64,
+        numbers_room: usize,
+        present: *mut u8,
+        present_room: usize,
+        answer: *mut attr_answer,
+    ) -> i32;
+    pub fn attr_group(reader: *mut attr_reader, field: u32, by_count: u32, most: usize, answer: *mut attr_answer) -> i32;
+    pub fn attr_terms(reader: *mut attr_reader, text: *const u8, length: usize, most: usize, answer: *mut attr_answer) -> i32;
+    pub fn attr_group_at(reader: *mut attr_reader, number: usize, group: *mut attr_group_told) -> i32;
+    pub fn attr_group_text(reader: *mut attr_reader, number: usize, into: *mut u8, room: usize) -> usize;
+    pub fn attr_documents(reader: *mut attr_reader, first: u32, into: *mut u32, room: usize, answer: *mut attr_answer) -> i32;
 }

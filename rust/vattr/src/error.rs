@@ -112,13 +112,13 @@ impl Error {
         error
     }
 
-    pub(crate) fn of_text(code: i32, text: &str, place: u64) -> Error {
+    pub(crate) fn of_text(code: i32, text: &str, place: u64, no: &str) -> Error {
         let mut error = Error::new(code);
         if matches!(code, sys::ATTR_SYNTAX | sys::ATTR_NO_FIELD) {
             error.place = place;
             let rest = text.get(place as usize..).unwrap_or("");
             error.message = match code {
-                sys::ATTR_SYNTAX => "the text is no query and no dot product: it breaks off".to_string(),
+                sys::ATTR_SYNTAX => format!("the text is {no}: it breaks off"),
                 _ => error.message + ":",
             };
             error.message += &match rest {

@@ -42,7 +42,7 @@ mod reader;
 
 pub use engine::{Counts, Engine, OtherEngine, Sizes, Told};
 pub use error::{Code, Error};
-pub use reader::{Answer, Guard, Item, Reader, Score, Value};
+pub use reader::{Answer, Group, Grouping, Guard, Item, Order, Reader, Score, Totals, Value};
 
 /// The `ATTR_VERSION` of the library that runs.
 pub fn version() -> u32 {

@@ -36,11 +36,61 @@ pub struct Item {
     pub weight: i32,
 }
 
+/// The numbers of some documents: how many, their sum, the least and the greatest; without a number these two are `None`.
+#[derive(Clone, Copy, Debug, Default, PartialEq, Eq)]
+#[allow(missing_docs)]
+pub struct Totals {
+    pub count: u64,
+    pub sum: i128,
+    pub least: Option<i64>,
+    pub greatest: Option<i64>,
+}
+
+/// A value, and how many documents have it.
+#[derive(Clone, Debug, PartialEq, Eq, Hash)]
+#[allow(missing_docs)]
+pub struct Group {
+    pub value: Value,
+    pub documents: u64,
+}
+
+/// Which way documents stand by their values: documents without a value are last in both, and equal values stand by document.
+#[derive(Clone, Copy, Debug, PartialEq, Eq, Hash)]
+#[allow(missing_docs)]
+pub enum Order {
+    Ascending,
+    Descending,
+}
+
+/// Which way groups stand.
+#[derive(Clone, Copy, Debug, PartialEq, Eq, Hash)]
+pub enum Grouping {
+    /// Ascending by value.
+    ByValue,
+    /// Those with the most documents first; equal counts by value.
+    ByCount,
+}
+
+/// What a call copies that tells only how much that was: with little room, and with more until not all of it is taken.
+fn grown<T: Clone + Default>(most: usize, mut call: impl FnMut(&mut [T]) -> Result<usize, Error>) -> Result<Vec<T>, Error> {
+    let mut room = most.min(4096);
+    loop {
+        let mut found = vec![T::default(); room];
+        let count = call(&mut found)?;
+        found.truncate(count);
+        if count < room || room == most {
+            return Ok(found);
+        }
+        room = most.min(room.saturating_mul(16));
+    }
+}
+
 /// A reader: it moves between threads, and one thread at a time has it (`Send`, and not `Sync`).
 pub struct Reader {
     handle: UnsafeCell<sys::attr_reader>,
     engine: u64,
     guards: Cell<u32>,
+    kept: Cell<u64>,
 }
 
 // SAFETY: the library binds a handle to no thread. The reader is not `Sync`, so one thread at a time calls, and what moves it to another
@@ -77,16 +127,24 @@ impl Drop for Guard<'_> {
     }
 }
 
+fn told(code: i32, answer: sys::attr_answer) -> Result<usize, Error> {
+    if code == sys::ATTR_OK {
+        Ok(answer.count as usize)
+    } else {
+        Err(Error::new(code))
+    }
+}
+
 fn answered(code: i32, text: &str, answer: sys::attr_answer) -> Result<Answer, Error> {
     if code != sys::ATTR_OK {
-        return Err(Error::of_text(code, text, answer.place));
+        return Err(Error::of_text(code, text, answer.place, "no query and no dot product"));
     }
     Ok(Answer { commit: answer.commit, operations: answer.operations, count: answer.count })
 }
 
 impl Reader {
     pub(crate) fn new(handle: sys::attr_reader, engine: u64) -> Reader {
-        Reader { handle: UnsafeCell::new(handle), engine, guards: Cell::new(0) }
+        Reader { handle: UnsafeCell::new(handle), engine, guards: Cell::new(0), kept: Cell::new(0) }
     }
 
     pub(crate) fn engine(&self) -> u64 {
@@ -115,7 +173,9 @@ impl Reader {
         let mut answer = sys::attr_answer::default();
         // SAFETY: the text has that length.
         let code = unsafe { sys::attr_ask(self.handle.get(), text.as_ptr(), text.len(), &mut answer) };
-        answered(code, text, answer)
+        let answer = answered(code, text, answer)?;
+        self.kept.set(answer.count);
+        Ok(answer)
     }
 
     /// How many documents answer; the answer that is kept stays.
@@ -181,6 +241,117 @@ impl Reader {
         text.truncate(length);
         let text = String::from_utf8(text).expect("a string of the engine is UTF-8");
         Ok(Item { value: Value::Text(text), weight: told.weight })
+    }
+
+    /// Copies documents of the kept answer by their values in an attribute, from number `first` on, and returns how many. Values are
+    /// those at the guard's commit, else at the last one.
+    pub fn sort_into(&self, field: u32, order: Order, first: usize, into: &mut [u32]) -> Result<usize, Error> {
+        let mut answer = sys::attr_answer::default();
+        let descending = u32::from(order == Order::Descending);
+        // SAFETY: the slice has that length.
+        let code = unsafe { sys::attr_sort(self.handle.get(), field, descending, first, into.as_mut_ptr(), into.len(), &mut answer) };
+        told(code, answer)
+    }
+
+    /// The same, at most `most` of them.
+    pub fn sort(&self, field: u32, order: Order, first: usize, most: usize) -> Result<Vec<u32>, Error> {
+        let mut page = vec![0; most.min((self.kept.get() as usize).saturating_sub(first))];
+        let count = self.sort_into(field, order, first, &mut page)?;
+        page.truncate(count);
+        Ok(page)
+    }
+
+    /// The totals of the numbers that the documents of the kept answer have in an attribute.
+    pub fn totals(&self, field: u32) -> Result<Totals, Error> {
+        let (mut answer, mut totals) = (sys::attr_answer::default(), sys::attr_totals_told::default());
+        // SAFETY: as in `hold`.
+        let code = unsafe { sys::attr_totals(self.handle.get(), field, &mut totals, &mut answer) };
+        told(code, answer)?;
+        let is_some = totals.count > 0;
+        let sum = (i128::from(totals.high) << 64) + i128::from(totals.low);
+        Ok(Totals { count: totals.count, sum, least: is_some.then_some(totals.least), greatest: is_some.then_some(totals.greatest) })
+    }
+
+    /// Copies the best scores of a dot product, the greatest first, equal ones by document, and returns how many. The kept answer stays.
+    pub fn best_into(&self, text: &str, into: &mut [Score]) -> Result<usize, Error> {
+        let mut answer = sys::attr_answer::default();
+        // SAFETY: the text and the slice have that length.
+        let code = unsafe { sys::attr_best(self.handle.get(), text.as_ptr(), text.len(), into.as_mut_ptr(), into.len(), &mut answer) };
+        answered(code, text, answer).map(|it| it.count as usize)
+    }
+
+    /// The same, at most `most` of them.
+    pub fn best(&self, text: &str, most: usize) -> Result<Vec<Score>, Error> {
+        grown(most, |into| self.best_into(text, into))
+    }
+
+    /// Writes for each document the number that it has in an attribute and whether it has one (1 or 0), and returns how many have one. It
+    /// is fastest where the documents ascend. An error of `Bounds` where the slices differ in length.
+    pub fn longs_into(&self, field: u32, documents: &[u32], numbers: &mut [i64], present: &mut [u8]) -> Result<usize, Error> {
+        let mut answer = sys::attr_answer::default();
+        let (into, is) = ((numbers.as_mut_ptr(), numbers.len()), (present.as_mut_ptr(), present.len()));
+        // SAFETY: the slices have these lengths.
+        let code = unsafe {
+            sys::attr_longs(self.handle.get(), field, documents.as_ptr(), documents.len(), into.0, into.1, is.0, is.1, &mut answer)
+        };
+        told(code, answer)
+    }
+
+    /// The number that each document has in an attribute.
+    pub fn longs(&self, field: u32, documents: &[u32]) -> Result<Vec<Option<i64>>, Error> {
+        let (mut numbers, mut present) = (vec![0; documents.len()], vec![0; documents.len()]);
+        self.longs_into(field, documents, &mut numbers, &mut present)?;
+        Ok(numbers.into_iter().zip(present).map(|(number, is)| (is != 0).then_some(number)).collect())
+    }
+
+    /// The distinct values that the documents of the kept answer have in an attribute, each with how many of them have it; at most `most`.
+    pub fn groups(&self, field: u32, grouping: Grouping, most: usize) -> Result<Vec<Group>, Error> {
+        let mut answer = sys::attr_answer::default();
+        // SAFETY: as in `hold`.
+        let code = unsafe { sys::attr_group(self.handle.get(), field, u32::from(grouping == Grouping::ByCount), most, &mut answer) };
+        (0..told(code, answer)?).map(|number| self.group(number)).collect()
+    }
+
+    /// The values that meet a query of one comparison, ascending, each with how many documents of the commit have it; at most `most`.
+    pub fn terms(&self, text: &str, most: usize) -> Result<Vec<Group>, Error> {
+        let mut answer = sys::attr_answer::default();
+        // SAFETY: the text has that length.
+        let code = unsafe { sys::attr_terms(self.handle.get(), text.as_ptr(), text.len(), most, &mut answer) };
+        if code != sys::ATTR_OK {
+            return Err(Error::of_text(code, text, answer.place, "not one comparison"));
+        }
+        (0..answer.count as usize).map(|number| self.group(number)).collect()
+    }
+
+    fn group(&self, number: usize) -> Result<Group, Error> {
+        let mut told = sys::attr_group_told::default();
+        // SAFETY: as in `hold`.
+        let code = unsafe { sys::attr_group_at(self.handle.get(), number, &mut told) };
+        if code != sys::ATTR_OK {
+            return Err(Error::new(code));
+        }
+        if told.is_text == 0 {
+            return Ok(Group { value: Value::Long(told.number), documents: told.documents });
+        }
+        let mut text = vec![0; told.length as usize];
+        // SAFETY: the vector has that length.
+        let length = unsafe { sys::attr_group_text(self.handle.get(), number, text.as_mut_ptr(), text.len()) };
+        text.truncate(length);
+        let text = String::from_utf8(text).expect("a string of the engine is UTF-8");
+        Ok(Group { value: Value::Text(text), documents: told.documents })
+    }
+
+    /// Copies the documents of the commit that are not below `first`, ascending, and returns how many.
+    pub fn documents_into(&self, first: u32, into: &mut [u32]) -> Result<usize, Error> {
+        let mut answer = sys::attr_answer::default();
+        // SAFETY: the slice has that length.
+        let code = unsafe { sys::attr_documents(self.handle.get(), first, into.as_mut_ptr(), into.len(), &mut answer) };
+        told(code, answer)
+    }
+
+    /// The same, at most `most` of them.
+    pub fn documents(&self, first: u32, most: usize) -> Result<Vec<u32>, Error> {
+        grown(most, |into| self.documents_into(first, into))
     }
 
     /// A save of the first attribute, as docs/FORMATS.md says.

@@ -1,7 +1,7 @@
 //! What the crate promises: right answers beside a writer, guards that nest, and errors that name their place.
 use std::collections::BTreeMap;
 use std::thread;
-use vattr::{quoted, Code, Engine, Error, Item, Reader, Sizes, Value};
+use vattr::{quoted, Code, Engine, Error, Group, Grouping, Item, Order, Reader, Sizes, Totals, Value};
 
 fn put(document: u32, year: i64) -> String {
     format!("{{\"put\":\"id:a:b::{document}\",\"fields\":{{\"year\":{year}}}}}\n")
@@ -109,6 +109,37 @@ fn texts_scores_and_saves() {
     loaded.commit().unwrap();
     assert_eq!(loaded.reader().unwrap().save().unwrap(), save);
     assert_eq!(loaded.load(&save[1..]).unwrap_err().code, Code::BadSave);
+}
+
+#[test]
+fn sorting_grouping_and_values_in_bulk() {
+    let mut engine = Engine::open("price:single:long,tags:array:string,liked:weightedset:string", sizes(1)).unwrap();
+    for (document, price, tags, liked) in
+        [(1, "7", "[\"b\"]", 3), (2, "5", "[\"a\",\"a\"]", 9), (4, "null", "[\"c\",\"b\"]", 1), (6, "5", "[]", 9)]
+    {
+        let fields = format!("{{\"price\":{price},\"tags\":{tags},\"liked\":{{\"x\":{liked}}}}}");
+        engine.feed(format!("{{\"put\":\"id:a:b::{document}\",\"fields\":{fields}}}\n")).unwrap();
+    }
+    engine.commit().unwrap();
+    let reader = engine.reader().unwrap();
+    assert_eq!(reader.ask("or([;],tags:[;])").unwrap().count, 4);
+    assert_eq!(reader.sort(0, Order::Ascending, 0, 10).unwrap(), [2, 6, 1, 4]);
+    assert_eq!(reader.sort(0, Order::Descending, 1, 2).unwrap(), [2, 6]);
+    assert!(reader.sort(0, Order::Ascending, 9, 2).unwrap().is_empty());
+    assert_eq!(reader.totals(0).unwrap(), Totals { count: 3, sum: 17, least: Some(5), greatest: Some(7) });
+    assert_eq!(reader.totals(1).unwrap(), Totals::default());
+    let group = |text: &str, documents| Group { value: Value::Text(text.to_string()), documents };
+    assert_eq!(reader.groups(1, Grouping::ByValue, 9).unwrap(), [group("a", 1), group("b", 2), group("c", 1)]);
+    assert_eq!(reader.groups(1, Grouping::ByCount, 2).unwrap(), [group("b", 2), group("a", 1)]);
+    assert_eq!(reader.groups(0, Grouping::ByValue, 1).unwrap(), [Group { value: Value::Long(5), documents: 2 }]);
+    assert_eq!(reader.terms("tags:[\"b\";]", 9).unwrap(), [group("b", 2), group("c", 1)]);
+    assert_eq!(reader.terms("and(5,7)", 9).unwrap_err().code, Code::Syntax);
+    let best: Vec<_> = reader.best("liked:dot(\"x\":2)", 3).unwrap().iter().map(|it| (it.document, it.score)).collect();
+    assert_eq!(best, [(2, 18), (6, 18), (1, 6)]);
+    assert_eq!(reader.longs(0, &[6, 4, 1, 99]).unwrap(), [Some(5), None, Some(7), None]);
+    assert_eq!(reader.longs_into(0, &[6, 4], &mut [0; 2], &mut [0; 1]).unwrap_err().code, Code::Bounds);
+    assert_eq!(reader.documents(2, 2).unwrap(), [2, 4]);
+    assert_eq!(reader.sort(3, Order::Ascending, 0, 1).unwrap_err().code, Code::Bounds);
 }
 
 #[test]
