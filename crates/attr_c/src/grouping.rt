@@ -1,5 +1,5 @@
 //! The documents of an answer, grouped by their values.
-ghost use Rattle.std.specs.Prelude.{◌≡◌, ◌==◌, ◌≤◌, length, map, IfErr, IfOk};
+ghost use Rattle.std.specs.Prelude.{◌≡◌, ◌==◌, ◌≤◌, length, IfErr, IfOk};
 ghost use Rattle.image_format.specs.Images.{table_of, IsLawfulImage};
 ghost use Rattle.image_format.specs.Shapes.{shape_of, types_of};
 ghost use Rattle.attr_types.specs.declared.field.TheConstants.{MOST_FIELDS};
@@ -13,24 +13,14 @@ use crate::asking::tell_commit;
 use crate::codes::{BOUNDS, MEMORY};
 use crate::kept::Kept;
 use crate::seat::AnyKept;
+use crate::sorting::docs_of;
 use crate::told::Answered;
 use arena_api::Frozen;
-use attr_types::{DocList, Fields, ScoreList};
+use attr_types::{DocList, Fields};
 use entry_ref::EntryRef;
 use query_results::{groups, largest_groups};
 use result_model::Groups;
 use std::alloc::{AllocError, Global};
-
-/// Returns the documents of scores.
-fn scored_documents(alloc: Global, scores: &ScoreList) -> Result<DocList, AllocError>
-    ensures { IfOk result (λ docs. docs ≡ map (λ s. s.doc) scores.now) }
-{
-    let mut docs = DocList::new(alloc);
-    for score in scores.as_slice() {
-        docs.push(score.doc)?;
-    }
-    Ok(docs)
-}
 
 /// Returns the groups of documents by their values in the attribute with this number: the first `most`, by value or by count.
 fn document_groups<const OFFSET_BITS: u32, F: Frozen<OFFSET_BITS>>(
@@ -81,7 +71,7 @@ pub fn answer_groups<const OFFSET_BITS: u32, F: Frozen<OFFSET_BITS>>(
             document_groups(alloc, frozen, root, fields, docs, field, by_count, most)
         }
         Answer::Scores(scores) => {
-            let docs = scored_documents(alloc, scores)?;
+            let docs = docs_of(alloc, scores.as_slice())?;
             document_groups(alloc, frozen, root, fields, &docs, field, by_count, most)
         }
     }
