@@ -1,7 +1,8 @@
 /*
- * bulk OPERATIONS: one thread feeds and commits, four others sort, group and read numbers in bulk. Each reader keeps a plain table in C of its
+ * bulk OPERATIONS [dense]: one thread feeds and commits, four others sort, group and read numbers in bulk. Each reader keeps a plain table in C of its
  * own, takes it to the commit that it holds, and compares every answer with it. Now and then it gives its guard back between the query and
- * the call: then the answer is of one commit, and the values are of another.
+ * the call: then the answer is of one commit, and the values are of another. With dense the years are few, so that each has many documents,
+ * and frequent years are bit vectors.
  */
 #include "attr.h"
 #include "table.h"
@@ -11,6 +12,15 @@
 enum { READERS = 4, BATCH = 100, LINE = 256, YEAR = 0, TAGS = 1 };
 
 static uint64_t total;
+static int dense;
+
+/* Operation i; with dense, of few years. */
+static struct operation next(uint64_t i) {
+    struct operation op = operation(i);
+    if (dense && op.kind == PUT) op.year = 1900 + op.year % 4;
+    if (dense && op.kind == MOVE) op.year = 1;
+    return op;
+}
 
 static void must(const char *what, int32_t code) {
     uint8_t text[80];
@@ -62,7 +72,7 @@ static int by_year_down(const void *a, const void *b) {
 static void ask(struct seat *seat) {
     char text[64];
     struct attr_answer answer;
-    int64_t low = 1890 + dice(seat, 220), high = low + dice(seat, dice(seat, 2) ? 8 : 150);
+    int64_t low = 1890 + dice(seat, dense ? 20 : 220), high = low + dice(seat, dice(seat, 2) ? 8 : 150);
     int is_dot = dice(seat, 4) == 0;
     if (is_dot) sprintf(text, "tags:dot(\"rock\":2,\"jazz\":-1)");
     else sprintf(text, "[%lld;%lld]", (long long)low, (long long)high);
@@ -232,7 +242,7 @@ static void hold(struct seat *seat) {
     must("hold", attr_hold(&seat->reader, &held));
     seat->commit = held.commit;
     while (seat->done < held.operations) {
-        struct operation op = operation(++seat->done);
+        struct operation op = next(++seat->done);
         apply(&seat->table, &op);
     }
 }
@@ -269,7 +279,7 @@ static void write_batch(attr_engine *engine, uint64_t first, uint64_t last) {
     struct attr_told told, step;
     size_t length = 0, from = 0;
     for (uint64_t i = first; i <= last; i++) {
-        struct operation op = operation(i);
+        struct operation op = next(i);
         length += write_line(lines + length, &op);
     }
     for (;;) {
@@ -288,8 +298,9 @@ static void write_batch(attr_engine *engine, uint64_t first, uint64_t last) {
 
 int main(int count, char **words) {
     total = count > 1 ? strtoull(words[1], NULL, 10) : 10000;
+    dense = count > 2 && !strcmp(words[2], "dense");
     const char *attributes = "year:single:long,tags:weightedset:string";
-    const struct attr_sizes sizes = {.buffers = 512, .words = 8192, .readers = READERS};
+    const struct attr_sizes sizes = {.buffers = 512, .words = 8192, .readers = READERS, .dense = (uint32_t)dense};
     attr_engine engine;
     uint64_t place, answers = 0;
     pthread_t threads[READERS];
