@@ -14,20 +14,21 @@ abbrev pub slots_in : List Row → ℕ
 slots_in [] = 0
 slots_in (row ∷ rows) = slots_of row + slots_in rows
 
--- slots that came into a row: `gain` were appended, and a row of few was filled with those of a node, of which there
--- is none if the rows above are empty
+-- slots that came into a row: at most `gain` were appended, and a row of fewer than `full` may have been filled up to
+-- that with those of a node before it, of which there is none if the rows above are empty
 pub record Fills (full slots above after gain : ℕ) : Type 0 where
   pub most : after ≤ slots + (full - slots) + gain
   pub alone : after ≤ slots + full * above + gain
 
--- rows from which nodes were opened: a row that was empty may have the slots of a node but one
+-- rows from which nodes were opened: a row that was empty may have the slots of a node but one, 15
 abbrev pub Sinks : List Row → List Row → Type 0
 Sinks [] [] = Unit {0}
 Sinks [] (next ∷ more) = ⊥
 Sinks (row ∷ rows) [] = ⊥
 Sinks (row ∷ rows) (next ∷ more) = Fills 15 (slots_of row) (slots_in rows) (slots_of next) 0 × Sinks rows more
 
--- the same, but for slots that were appended to the first row: so many that with what was spent they are the gain
+-- the same, but for slots that were appended to the first row: with what may yet come from the row below (`spent`) at
+-- most `gain`
 abbrev pub Grows : ℕ → ℕ → List Row → List Row → Type 0
 Grows spent gain [] [] = Unit {0}
 Grows spent gain [] (next ∷ more) = ⊥
@@ -52,7 +53,7 @@ Pulls [] (next ∷ more) = ⊥
 Pulls (row ∷ rows) [] = ⊥
 Pulls (row ∷ rows) (next ∷ more) = Pulled (slots_of row) (slots_in rows) (slots_of next) × Sinks rows more
 
--- the same if a row had slots, but fewer than a node
+-- the same for a row that had slots, but fewer than a node: 7 and 16 are 23. Any other row is as it was
 pub record Lengthened (slots above after : ℕ) : Type 0 where
   pub most : after ≤ slots + (23 - slots)
   pub none : after ≤ 17 * slots
@@ -138,7 +139,7 @@ pub record Settles {H : Type 0} (old new : Ledger H) (budgets : List ℕ) (rows 
   pub room : settled ≡ false → HasRoom 0 spends.left rows_after
   pub none : settled ≡ false → slots_in (drop (length budgets) rows_after) ≡ 0
 
--- the slots that the changes of a child add to its node's row: itself if there are none, or else its budget's nodes
+-- how many slots a child brings to the row of its node: itself if it has no changes, or else two nodes for each
 abbrev pub gain_of : ℕ → ℕ
 gain_of zero = 1
 gain_of (suc changes) = 2 * suc changes

@@ -268,7 +268,8 @@ fn change_child<const OFFSET_BITS: u32, S: Store<OFFSET_BITS>, K: KeyOrder<OFFSE
         (slot_pairs (S.records store.old) level (key ∷ []) (value ∷ [])))
         (slot_nodes (S.records store.old) level (value ∷ [])) replaced.old.items replaced.new.items) }
     ensures spends { OnOk result ((budgets : List ℕ) → length budgets ≡ level → FitBudgets 0 budgets rows.old
-        → SpendsRows (S.ledger store.old) (S.ledger store.new) (gain_of (length changes.now)) (length changes.now) budgets rows.old rows.new) }
+        → SpendsRows (S.ledger store.old) (S.ledger store.new) (gain_of (length changes.now)) (length changes.now)
+        budgets rows.old rows.new) }
     ensures counts { (budgets : List ℕ) → length budgets ≡ level → FitBudgets 0 budgets rows.old
         → CountsNodes (S.ledger store.old) (S.ledger store.new) (2 * all_of budgets + 2 * (length budgets * length changes.now)) }
     ensures keeps { Keeps (S.records store.old) (S.records store.new) }
@@ -312,8 +313,10 @@ fn change_slots<const OFFSET_BITS: u32, S: Store<OFFSET_BITS>, K: KeyOrder<OFFSE
         (merged (seen_changes K.read K.order (λ change. K.sought change.key) (λ change. change.pair) (S.records store.old) changes.now)
         (slot_pairs (S.records store.old) level slots.now.keys.items slots.now.values.items))
         (slot_nodes (S.records store.old) level slots.now.values.items) replaced.old.items replaced.new.items) }
-    ensures spends { OnOk result (length slots.now.keys.items ≤ MOST_SLOTS → 0 < length changes.now → (budgets : List ℕ) → length budgets ≡ suc level
-        → FitBudgets 0 budgets rows.old → SpendsBelow (S.ledger store.old) (S.ledger store.new) (length changes.now) budgets rows.old rows.new) }
+    ensures spends { OnOk result (length slots.now.keys.items ≤ MOST_SLOTS → 0 < length changes.now
+        → (budgets : List ℕ) → length budgets ≡ suc level
+        → FitBudgets 0 budgets rows.old
+        → SpendsBelow (S.ledger store.old) (S.ledger store.new) (length changes.now) budgets rows.old rows.new) }
     ensures counts { (budgets : List ℕ) → length budgets ≡ suc level → FitBudgets 0 budgets rows.old
         → CountsNodes (S.ledger store.old) (S.ledger store.new) (2 * all_of budgets + 2 * (length budgets * length changes.now)) }
     ensures keeps { Keeps (S.records store.old) (S.records store.new) }
@@ -367,7 +370,8 @@ pub fn change_below<const OFFSET_BITS: u32, S: Store<OFFSET_BITS>, K: KeyOrder<O
         (pairs_below (S.records store.old) level node.entry))
         (nodes_below (S.records store.old) level node.entry) replaced.old.items replaced.new.items) }
     ensures spends { OnOk result (0 < length changes.now → (budgets : List ℕ) → length budgets ≡ suc level
-        → FitBudgets 0 budgets rows.old → SpendsBelow (S.ledger store.old) (S.ledger store.new) (length changes.now) budgets rows.old rows.new) }
+        → FitBudgets 0 budgets rows.old
+        → SpendsBelow (S.ledger store.old) (S.ledger store.new) (length changes.now) budgets rows.old rows.new) }
     ensures counts { (budgets : List ℕ) → length budgets ≡ suc level → FitBudgets 0 budgets rows.old
         → CountsNodes (S.ledger store.old) (S.ledger store.new) (2 * all_of budgets + 2 * (length budgets * length changes.now)) }
     ensures keeps { Keeps (S.records store.old) (S.records store.new) }

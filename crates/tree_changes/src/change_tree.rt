@@ -77,7 +77,8 @@ fn finish<const OFFSET_BITS: u32, S: Store<OFFSET_BITS>>(
         level rows.old replaced.old.items replaced.new.items) }
     ensures counts { (budgets : List ℕ) → FitBudgets 0 budgets rows.old → slots_in (drop (length budgets) rows.old) ≡ 0
         → 0 < last_of 0 budgets → CountsNodes (S.ledger store.old) (S.ledger store.new) (2 * all_of budgets + last_of 0 budgets) }
-    ensures alone { slots_in (drop 1 rows.old) ≡ 0 → CountsNodes (S.ledger store.old) (S.ledger store.new) (first_slots rows.old + (1 - first_slots rows.old)) }
+    ensures alone { slots_in (drop 1 rows.old) ≡ 0
+        → CountsNodes (S.ledger store.old) (S.ledger store.new) (first_slots rows.old + (1 - first_slots rows.old)) }
     ensures keeps { Keeps (S.records store.old) (S.records store.new) }
     ensures stays { (r : ℕ) → uses (S.ledger store.old) r ≤ uses (S.ledger store.new) r }
     ensures may { MayDo (S.ledger store.old) (S.ledger store.new) }
@@ -116,10 +117,12 @@ fn fill_rows<const OFFSET_BITS: u32, S: Store<OFFSET_BITS>, K: KeyOrder<OFFSET_B
         (merged (seen_changes K.read K.order (λ change. K.sought change.key) (λ change. change.pair) (S.records store.old) changes.now)
         (tree_pairs (S.records store.old) root.entry))
         (tree_nodes (S.records store.old) root.entry) replaced.old.items replaced.new.items) }
-    ensures spends { OnOk result (0 < root.entry → 0 < length changes.now → SpendsBelow (S.ledger store.old) (S.ledger store.new) (length changes.now)
+    ensures spends { OnOk result (0 < root.entry → 0 < length changes.now
+        → SpendsBelow (S.ledger store.old) (S.ledger store.new) (length changes.now)
         (no_budgets (levels (S.records store.old) root.entry)) rows.old rows.new) }
     ensures alone { OnOk result (root.entry ≡ 0 → (first_slots rows.new ≤ length changes.now) × (slots_in (drop 1 rows.new) ≡ 0)) }
-    ensures counts { CountsNodes (S.ledger store.old) (S.ledger store.new) (2 * (levels (S.records store.old) root.entry * length changes.now)) }
+    ensures counts { CountsNodes (S.ledger store.old) (S.ledger store.new)
+        (2 * (levels (S.records store.old) root.entry * length changes.now)) }
     ensures keeps { Keeps (S.records store.old) (S.records store.new) }
     ensures stays { (r : ℕ) → uses (S.ledger store.old) r ≤ uses (S.ledger store.new) r }
     ensures may { MayDo (S.ledger store.old) (S.ledger store.new) }
@@ -186,7 +189,8 @@ pub fn change_all<const OFFSET_BITS: u32, S: Store<OFFSET_BITS>, K: KeyOrder<OFF
     ensures turns { IfOk result (λ r. Turns (S.ledger store.old) (S.ledger store.new) (S.records store.old) (S.records store.new)
         (tree root.entry ∷ []) (tree r ∷ [])) }
     ensures others { KeepsOthers (S.records store.old) (S.records store.new) }
-    ensures counts { CountsNodes (S.ledger store.old) (S.ledger store.new) ((2 * levels (S.records store.old) root.entry + 1) * length changes.now) }
+    ensures counts { CountsNodes (S.ledger store.old) (S.ledger store.new)
+        ((2 * levels (S.records store.old) root.entry + 1) * length changes.now) }
     ensures none { length changes.now ≡ 0 → IfOk result (λ r. r ≡ root.entry) × IfErr result (λ error. ⊥) }
     ensures same { length changes.now ≡ 0 → store.new ≡ store.old }
     ensures left { OnErr result (Keeps (S.records store.old) (S.records store.new)) }

@@ -13,11 +13,10 @@ use Rattle.tree_read.proofs.ReadLemmas.{node-room, node-size, node-keys-all, nod
 use Rattle.tree_read.proofs.TreeLemmas.{IsNode-form}
 use Rattle.tree_read.proofs.SlotLemmas.{hand-kept, slot_pairs-kept}
 use Rattle.tree_read.specs.Slots.{slot_pairs, slot_nodes, IsInHand}
-use Rattle.frozen_nodes.proofs.MakesLemmas.{keeps-then}
+use Rattle.frozen_nodes.proofs.MakesLemmas.{keeps-then, counts-none}
 use Rattle.frozen_nodes.specs.Makes.{CountsNodes}
 use Rattle.tree_changes.specs.Counts.{SpendsRows, SpendsBelow, SpendsSlots, all_of, gain_of}
 use Rattle.tree_changes.proofs.SpendLemmas.{counts-more, spends-closed, spends-leaf, slots-counts, slots-more, slots-none, below-rows, zip-size, slice-length, leaf-slots}
-use Rattle.frozen_nodes.proofs.MakesLemmas.{counts-none}
 use Rattle.tree_changes.proofs.CountLemmas.{front_of, front-size, fit-front}
 use Rattle.tree_changes.specs.Merges.{Change, merged}
 use Rattle.tree_changes.specs.Layers.{rows_pairs, AreInHand, AreKeyed, TurnsRows, seen_change, seen_changes}

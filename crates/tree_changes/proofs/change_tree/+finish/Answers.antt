@@ -1,16 +1,14 @@
-use Rattle.std.proofs.Common.{rules, ℕ, ◌≡◌, ◌<◌, ◌≤◌, ◌+◌, ◌∷◌, ◌^◌, suc, length, arith, sym, subst, ◌∙◌, List, true}
+use Rattle.std.proofs.Common.{rules, ℕ, ◌≡◌, ◌<◌, ◌≤◌, ◌+◌, ◌∷◌, ◌^◌, suc, length, arith, sym, subst, ◌∙◌, List, true, ◌*◌, ◌-◌}
 use Rattle.std.proofs.lemmas.Result.{IfOk-weaker}
 use Rattle.store_api.proofs.May.{may_do-then}
 use Rattle.store_api.specs.Units.{MayDo}
 use Rattle.tree_read.specs.Trees.{Keeps}
 use Rattle.tree_read.specs.Slots.{slot_pairs, IsInHand}
-use Rattle.frozen_btree.specs.Builds.{BuildsTree}
+use Rattle.frozen_btree.specs.Builds.{BuildsTree, groups, nodes_above}
 use Rattle.tree_changes.specs.Layers.{OpensRows, RaisesRow}
 use Rattle.frozen_btree.specs.declared.rows.Row.{Row}
 use Rattle.tree_changes.proofs.FinishLemmas.{last-some, last-few, finish-built, finish-raised, next-hand, next-pairs, next-owned, next-slots, above-some}
-use Rattle.std.proofs.Common.{◌*◌, ◌-◌}
 use Rattle.frozen_nodes.specs.Makes.{CountsNodes}
-use Rattle.frozen_btree.specs.Builds.{groups, nodes_above}
 use Rattle.tree_changes.specs.Counts.{LengthensFirst, all_of, last_of, first_slots}
 use Rattle.tree_changes.proofs.SpendLemmas.{counts-more, first-counts}
 use Rattle.tree_changes.proofs.RootCountLemmas.{raised-counts, alone-empty, built-alone, built-counts, some-budget}

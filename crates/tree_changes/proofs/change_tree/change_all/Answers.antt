@@ -1,21 +1,17 @@
-use Rattle.std.proofs.Common.{ℕ, [], ◌∷◌, sym, subst}
+use Rattle.std.proofs.Common.{ℕ, [], ◌∷◌, sym, subst, ◌+◌, ◌*◌, length, arith}
 use Rattle.tree_read.specs.Trees.{tree_pairs}
 use Rattle.tree_read.specs.Keys.{ReadsNoNode}
 use Rattle.tree_read.proofs.OrderKeyLemmas.{others_kept}
 use Rattle.store_api.specs.Parts.{Owns, entries}
-use Rattle.frozen_btree.specs.Changes.{DropsEntries}
+use Rattle.frozen_btree.specs.Changes.{DropsEntries, tree, levels}
 use Rattle.frozen_nodes.proofs.Results.{on_err}
-use Rattle.tree_changes.specs.Merges.{merged}
-use Rattle.tree_changes.specs.Layers.{seen_changes}
+use Rattle.tree_changes.specs.Merges.{merged, Change}
+use Rattle.tree_changes.specs.Layers.{seen_changes, seen_change}
 use Rattle.tree_changes.specs.declared.change_below.Change as given
 use Rattle.tree_changes.proofs.EndLemmas.{gone-owned, end-turns, end-owns, end-pairs, end-others, end-may, end-keyed, merged-all, merged-ascends}
-use Rattle.std.proofs.Common.{◌+◌, ◌*◌, length, arith}
 use Rattle.list_lemmas.proofs.Tests.{zero_from_test, above_zero_from_test}
 use Rattle.store_api.proofs.PartLemmas.{turns-same}
 use Rattle.frozen_nodes.proofs.MakesLemmas.{counts-then, counts-none}
-use Rattle.frozen_btree.specs.Changes.{tree, levels}
-use Rattle.tree_changes.specs.Merges.{Change}
-use Rattle.tree_changes.specs.Layers.{seen_change}
 use Rattle.tree_changes.proofs.ChangeBelowLemmas.{merged-none}
 use Rattle.tree_changes.proofs.change_tree.change_all.Goals as goal
 

@@ -1,4 +1,4 @@
-use Rattle.std.proofs.Common.{set, ◌≡◌, ◌<◌, ◌≤◌, ◌+◌, ◌^◌, List, length, true, refl, sym, ap, subst, ◌∙◌, arith}
+use Rattle.std.proofs.Common.{set, ◌≡◌, ◌<◌, ◌≤◌, ◌+◌, ◌^◌, List, length, true, refl, sym, ap, subst, ◌∙◌, arith, ◌*◌, [], get_or}
 use Rattle.store_api.specs.Parts.{uses}
 use Rattle.store_api.specs.Units.{MayDo}
 use Rattle.store_api.proofs.May.{may_do-same}
@@ -10,12 +10,10 @@ use Rattle.tree_changes.specs.Layers.{rows_pairs, seen_changes, AreInHand, AreKe
 use Rattle.tree_changes.specs.declared.change_below.Change as given
 use Rattle.tree_changes.proofs.LayerLemmas.{on_ok, on_ok_both}
 use Rattle.tree_changes.proofs.FinishLemmas.{rows-empty-pairs}
-use Rattle.tree_changes.proofs.ChangeBelowLemmas.{first-even}
+use Rattle.tree_changes.proofs.ChangeBelowLemmas.{first-even, merged-size, seen-size}
 use Rattle.tree_changes.proofs.EndLemmas.{fill-none, top-keyed, fill-below, tree-few}
-use Rattle.std.proofs.Common.{◌*◌, [], get_or}
 use Rattle.frozen_nodes.specs.Makes.{CountsNodes}
 use Rattle.frozen_nodes.proofs.MakesLemmas.{counts-none}
-use Rattle.tree_changes.proofs.ChangeBelowLemmas.{merged-size, seen-size}
 use Rattle.tree_changes.specs.Counts.{SpendsBelow, all_of, no_budgets}
 use Rattle.tree_changes.proofs.SpendLemmas.{leaf-slots}
 use Rattle.frozen_btree.specs.Changes.{levels}

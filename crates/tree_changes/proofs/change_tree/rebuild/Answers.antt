@@ -1,4 +1,4 @@
-use Rattle.std.proofs.Common.{◌≡◌, ◌<◌, ◌++◌, ◌^◌, List, [], length, take, sym, ap, subst, ◌∙◌, arith}
+use Rattle.std.proofs.Common.{◌≡◌, ◌<◌, ◌++◌, ◌^◌, List, [], length, take, sym, ap, subst, ◌∙◌, arith, ◌≤◌, drop}
 use Rattle.std.specs.List.{AllByRecursion}
 use Rattle.std.proofs.lemmas.List.{take_all, drop_all}
 use Rattle.std.proofs.lemmas.Result.{IfOk-weaker}
@@ -12,7 +12,6 @@ use Rattle.frozen_btree.specs.declared.rows.Row.{Row}
 use Rattle.tree_changes.proofs.LayerLemmas.{none_at_end}
 use Rattle.tree_changes.proofs.ChangeBelowLemmas.{seen-size}
 use Rattle.tree_changes.proofs.EndLemmas.{rows-hand, tree-few, filled-few, filled-owned, filled-rebuilds}
-use Rattle.std.proofs.Common.{◌≤◌, drop}
 use Rattle.frozen_btree.specs.Changes.{levels}
 use Rattle.tree_changes.specs.Counts.{SpendsBelow, no_budgets, first_slots, slots_in}
 use Rattle.tree_changes.proofs.SpendLemmas.{counts-more}

@@ -1,11 +1,10 @@
-use Rattle.std.proofs.Common.{◌≡◌, ◌<◌, ◌+◌, ◌∷◌, suc, arith, subst, List}
+use Rattle.std.proofs.Common.{◌≡◌, ◌<◌, ◌+◌, ◌∷◌, suc, arith, subst, List, ◌*◌, false, length, sym}
 use Rattle.store_api.proofs.May.{may_do-then}
 use Rattle.store_api.specs.Units.{MayDo}
 use Rattle.tree_read.specs.Trees.{Keeps}
 use Rattle.tree_changes.specs.Layers.{OpensRows, RaisesRow}
 use Rattle.frozen_btree.specs.declared.rows.Row.{Row}
 use Rattle.tree_changes.proofs.LayerLemmas.{on_ok, turns-raised, settled-more}
-use Rattle.std.proofs.Common.{◌*◌, false, length, sym}
 use Rattle.std.proofs.lemmas.Result.{IfOk-weaker}
 use Rattle.frozen_nodes.specs.Makes.{CountsNodes}
 use Rattle.frozen_btree.specs.Builds.{groups}
