@@ -35,7 +35,7 @@ fills-twice n (suc above) m above2 o x y none =
     let a = x.most in let d = y.most in
     record { most = omega arith; alone = omega arith }
 
-pub sinks-then : (a b c : List Row) → Sinks a b → Sinks b c → Sinks a c
+sinks-then : (a b c : List Row) → Sinks a b → Sinks b c → Sinks a c
 sinks-then [] [] [] x y = tt
 sinks-then [] [] (r ∷ c) x y = absurd y
 sinks-then [] (q ∷ b) c x y = absurd x
@@ -85,7 +85,7 @@ grows-above spent gain k a b x =
     subst (λ l. Sinks l (drop (suc k) b)) (drop-next k a) (subst (λ l. Sinks (drop 1 (drop k a)) l) (drop-next k b) (grows-rest spent gain (drop k a) (drop k b) x))
 
 -- a row that stays within its budget
-pub fit-sunk : (below : ℕ) (budgets : List ℕ) (a b : List Row) → 0 < below → FitBudgets below budgets a → Sinks a b → FitBudgets below budgets b
+fit-sunk : (below : ℕ) (budgets : List ℕ) (a b : List Row) → 0 < below → FitBudgets below budgets a → Sinks a b → FitBudgets below budgets b
 fit-sunk below [] a b some fit x = tt
 fit-sunk below (budget ∷ budgets) [] b some fit x = absurd fit
 fit-sunk below (budget ∷ budgets) (p ∷ a) [] some fit x = absurd x

@@ -71,7 +71,7 @@ grows-none [] (q ∷ b) x none = absurd x
 grows-none (p ∷ a) [] x none = absurd x
 grows-none (p ∷ a) (q ∷ b) x none = let rest = sinks-none a b x.1 (omega arith) in let one = x.0.alone in omega arith
 
-pub slots-empty : (rows : List Row) → slots_in rows ≡ 0 → AreEmpty rows
+slots-empty : (rows : List Row) → slots_in rows ≡ 0 → AreEmpty rows
 slots-empty [] none = tt
 slots-empty (row ∷ rows) none = (no-slots row.keys.items (omega arith), slots-empty rows (omega arith))
   where
@@ -140,7 +140,7 @@ pub no_budgets-all : (levels : ℕ) → all_of (no_budgets levels) ≡ 0
 no_budgets-all zero = refl
 no_budgets-all (suc levels) = let rest = no_budgets-all levels in omega arith
 
-pub no_budgets-last : (levels : ℕ) → last_of 0 (no_budgets levels) ≡ 0
+no_budgets-last : (levels : ℕ) → last_of 0 (no_budgets levels) ≡ 0
 no_budgets-last zero = refl
 no_budgets-last (suc levels) = no_budgets-last levels
 
@@ -161,7 +161,7 @@ slots-drop (suc k) [] empty = refl
 slots-drop (suc k) (row ∷ rows) empty = slots-drop k rows empty.1
 
 -- the rows after the changes of a tree, as a tree
-pub tree-counts : {H : Type 0} (old mid new : Ledger H) (levels changes : ℕ) (rows rows2 : List Row) → AreEmpty rows → MayDo old mid → SpendsBelow old mid changes (no_budgets levels) rows rows2
+tree-counts : {H : Type 0} (old mid new : Ledger H) (levels changes : ℕ) (rows rows2 : List Row) → AreEmpty rows → MayDo old mid → SpendsBelow old mid changes (no_budgets levels) rows rows2
     → ((bs : List ℕ) → FitBudgets 0 bs rows2 → slots_in (drop (length bs) rows2) ≡ 0 → 0 < last_of 0 bs → CountsNodes mid new (2 * all_of bs + last_of 0 bs))
     → CountsNodes old new ((2 * levels + 1) * changes)
 tree-counts old mid new levels changes rows rows2 empty may x rest =

@@ -96,7 +96,7 @@ fits-closed below below2 budget changes gain (p ∷ a) (q ∷ b) fit few some lo
     let rises = fit.rises in let paid = fit.paid in let room = fit.most in let most = x.0.most in
     record { rises = omega arith; paid = omega arith; most = omega arith }
 
-pub gain-some : (changes : ℕ) → 0 < changes → gain_of changes ≡ 2 * changes
+gain-some : (changes : ℕ) → 0 < changes → gain_of changes ≡ 2 * changes
 gain-some zero some = absurd (omega arith)
 gain-some (suc changes) some = refl
 
@@ -339,7 +339,7 @@ module _ {H : Type 0} where
       counts-then old mid new x.made (2 * all_of low) _ (omega arith) may x.spends.counts y
 
   -- what was spent so far, and what the rest makes at most
-  pub spent-counts : (old mid new : Ledger H) (gain changes more : ℕ) (budgets : List ℕ) (a b : List Row) → MayDo old mid → (x : SpendsRows old mid gain changes budgets a b)
+  spent-counts : (old mid new : Ledger H) (gain changes more : ℕ) (budgets : List ℕ) (a b : List Row) → MayDo old mid → (x : SpendsRows old mid gain changes budgets a b)
       → CountsNodes mid new (2 * all_of x.left + 2 * (length x.left * more)) → CountsNodes old new (2 * all_of budgets + 2 * (length budgets * (changes + more)))
   spent-counts old mid new gain changes more budgets a b may x y =
       let within = x.spends.within in
