@@ -5,3 +5,6 @@ pub mod MergeLeafLemmas
 pub mod FinishLemmas
 pub mod ChangeBelowLemmas
 pub mod EndLemmas
+pub mod CountLemmas
+pub mod SpendLemmas
+pub mod RootCountLemmas

@@ -1,5 +1,5 @@
 //! A sorted list of changes below a node.
-ghost use Rattle.std.specs.Prelude.{map, ◌^◌, ◌≡◌, ◌≢◌, Some, ◌≤◌, ◌<◌, ◌+◌, ◌++◌, ◌∷◌, [], ℕ, List, true, false, length, suc, drop, slice_index, OnOk, OnErr, IfOk, IfErr};
+ghost use Rattle.std.specs.Prelude.{map, ◌^◌, ◌≡◌, ◌≢◌, Some, ◌≤◌, ◌<◌, ◌+◌, ◌*◌, ◌++◌, ◌∷◌, [], ℕ, List, true, false, length, suc, drop, slice_index, OnOk, OnErr, IfOk, IfErr};
 ghost use Rattle.std.specs.List.{zip, flat_map, slice_get, AllByRecursion};
 ghost use Rattle.std.specs.List.Sorted.{IsStrictlySortedBy};
 ghost use Rattle.std.specs.declared.cmp.Ordering.TheVariants.{Less, Equal, Greater};
@@ -13,6 +13,9 @@ ghost use Rattle.tree_read.specs.Slots.{slot_pairs, slot_nodes, IsInHand};
 ghost use Rattle.tree_read.specs.Trees.{pairs_below, nodes_below, IsNode, Keeps};
 ghost use Rattle.tree_read.specs.declared.node_format.TheConstants.{NODE_WORDS};
 ghost use Rattle.tree_changes.specs.Merges.{merged, pair_of};
+ghost use Rattle.frozen_nodes.specs.Makes.{CountsNodes};
+ghost use Rattle.tree_read.specs.declared.node_format.TheConstants.{MOST_SLOTS};
+ghost use Rattle.tree_changes.specs.Counts.{FitBudgets, SpendsBelow, SpendsRows, all_of, gain_of};
 ghost use Rattle.tree_changes.specs.Layers.{rows_pairs, AreInHand, AreKeyed, TurnsRows, seen_changes};
 
 use crate::layers::{push_node, push_slot, put_behind};
@@ -35,7 +38,8 @@ pub struct Change<K> {
 fn push_pair(row: &mut Row, pair: Option<(u64, u64)>) -> Result<(), StoreError>
     requires even { length row.old.keys.items ≡ length row.old.nodes.items }
     ensures even { OnOk result (length row.new.keys.items ≡ length row.new.nodes.items) }
-    ensures pairs { OnOk result (zip row.new.keys.items row.new.nodes.items ≡ zip row.old.keys.items row.old.nodes.items ++ pair_of pair) }
+    ensures pairs { OnOk result (zip row.new.keys.items row.new.nodes.items
+        ≡ zip row.old.keys.items row.old.nodes.items ++ pair_of pair) }
     ensures memory { IfErr result (λ error. error ≡ Memory) }
 {
     match pair {
@@ -59,10 +63,12 @@ fn push_below<const OFFSET_BITS: u32, F: Frozen<OFFSET_BITS>, K: KeyOrder<OFFSET
     ensures within { IfOk result (λ at. at ≤ length changes.now) }
     // what was done, and what is left to do with this pair and any others, is the whole
     ensures done { IfOk result (λ at. (value : ℕ) (ps : List (ℕ × ℕ)) → zip row.new.keys.items row.new.nodes.items
-        ++ merged (drop at (seen_changes K.read K.order (λ change. K.sought change.key) (λ change. change.pair) (F.records frozen.old) changes.now))
+        ++ merged (drop at
+        (seen_changes K.read K.order (λ change. K.sought change.key) (λ change. change.pair) (F.records frozen.old) changes.now))
         ((stored, value) ∷ ps)
         ≡ zip row.old.keys.items row.old.nodes.items
-        ++ merged (drop first (seen_changes K.read K.order (λ change. K.sought change.key) (λ change. change.pair) (F.records frozen.old) changes.now))
+        ++ merged (drop first
+        (seen_changes K.read K.order (λ change. K.sought change.key) (λ change. change.pair) (F.records frozen.old) changes.now))
         ((stored, value) ∷ ps)) }
     ensures past { IfOk result (λ at. (change : _) → slice_get changes.now at ≡ Some change
         → seen_by K.read K.order (K.sought change.key) (F.records frozen.old) stored ≢ Greater) }
@@ -122,9 +128,11 @@ fn change_slot<const OFFSET_BITS: u32, F: Frozen<OFFSET_BITS>, K: KeyOrder<OFFSE
     ensures row { OnOk result (length row.new.keys.items ≡ length row.new.nodes.items) }
     ensures within { IfOk result (λ at. at ≤ length changes.now) }
     ensures done { IfOk result (λ at. (ps : List (ℕ × ℕ)) → zip row.new.keys.items row.new.nodes.items
-        ++ merged (drop at (seen_changes K.read K.order (λ change. K.sought change.key) (λ change. change.pair) (F.records frozen.old) changes.now)) ps
+        ++ merged (drop at
+        (seen_changes K.read K.order (λ change. K.sought change.key) (λ change. change.pair) (F.records frozen.old) changes.now)) ps
         ≡ zip row.old.keys.items row.old.nodes.items
-        ++ merged (drop first (seen_changes K.read K.order (λ change. K.sought change.key) (λ change. change.pair) (F.records frozen.old) changes.now))
+        ++ merged (drop first
+        (seen_changes K.read K.order (λ change. K.sought change.key) (λ change. change.pair) (F.records frozen.old) changes.now))
         ((stored, value) ∷ ps)) }
     ensures memory { IfErr result (λ error. error ≡ Memory) }
     ensures same { frozen.new ≡ frozen.old }
@@ -218,7 +226,8 @@ fn end_below<const OFFSET_BITS: u32, F: Frozen<OFFSET_BITS>, K: KeyOrder<OFFSET_
     ensures within { result ≤ length changes.now }
     ensures from { first ≤ result }
     ensures last { suc slot ≡ length slots.now.keys.items → result ≡ length changes.now }
-    ensures below { suc slot < length slots.now.keys.items → (i : ℕ) → first ≤ i → i < result → (change : _) → slice_get changes.now i ≡ Some change
+    ensures below { suc slot < length slots.now.keys.items → (i : ℕ) → first ≤ i → i < result
+        → (change : _) → slice_get changes.now i ≡ Some change
         → seen_by K.read K.order (K.sought change.key) (F.records frozen.old) (slice_index slots.now.keys.items slot) ≢ Less }
     ensures at { suc slot < length slots.now.keys.items → (change : _) → slice_get changes.now result ≡ Some change
         → seen_by K.read K.order (K.sought change.key) (F.records frozen.old) (slice_index slots.now.keys.items slot) ≡ Less }
@@ -248,7 +257,8 @@ fn change_child<const OFFSET_BITS: u32, S: Store<OFFSET_BITS>, K: KeyOrder<OFFSE
     requires rows { length rows.old ≡ 8 }
     requires hand { AreInHand (S.records store.old) 0 rows.old }
     requires slot { IsInHand (S.records store.old) level (key ∷ []) (value ∷ []) }
-    requires keyed { AreKeyed K.order K.read K.can_read K.reads_from (S.records store.old) (slot_pairs (S.records store.old) level (key ∷ []) (value ∷ [])) }
+    requires keyed { AreKeyed K.order K.read K.can_read K.reads_from (S.records store.old)
+        (slot_pairs (S.records store.old) level (key ∷ []) (value ∷ [])) }
     requires sorted { IsStrictlySortedBy K.order (map (λ change. K.sought change.key) changes.now) }
     requires few { length (rows_pairs (S.records store.old) 0 rows.old)
         + length (slot_pairs (S.records store.old) level (key ∷ []) (value ∷ [])) + length changes.now < 2 ^ 32 }
@@ -257,6 +267,11 @@ fn change_child<const OFFSET_BITS: u32, S: Store<OFFSET_BITS>, K: KeyOrder<OFFSE
         (merged (seen_changes K.read K.order (λ change. K.sought change.key) (λ change. change.pair) (S.records store.old) changes.now)
         (slot_pairs (S.records store.old) level (key ∷ []) (value ∷ [])))
         (slot_nodes (S.records store.old) level (value ∷ [])) replaced.old.items replaced.new.items) }
+    ensures spends { OnOk result ((budgets : List ℕ) → length budgets ≡ level → FitBudgets 0 budgets rows.old
+        → SpendsRows (S.ledger store.old) (S.ledger store.new) (gain_of (length changes.now)) (length changes.now)
+        budgets rows.old rows.new) }
+    ensures counts { (budgets : List ℕ) → length budgets ≡ level → FitBudgets 0 budgets rows.old
+        → CountsNodes (S.ledger store.old) (S.ledger store.new) (2 * all_of budgets + 2 * (length budgets * length changes.now)) }
     ensures keeps { Keeps (S.records store.old) (S.records store.new) }
     ensures stays { (r : ℕ) → uses (S.ledger store.old) r ≤ uses (S.ledger store.new) r }
     ensures may { MayDo (S.ledger store.old) (S.ledger store.new) }
@@ -288,7 +303,8 @@ fn change_slots<const OFFSET_BITS: u32, S: Store<OFFSET_BITS>, K: KeyOrder<OFFSE
     requires hand { AreInHand (S.records store.old) 0 rows.old }
     requires slots { IsInHand (S.records store.old) level slots.now.keys.items slots.now.values.items }
     requires some { 0 < length slots.now.keys.items }
-    requires keyed { AreKeyed K.order K.read K.can_read K.reads_from (S.records store.old) (slot_pairs (S.records store.old) level slots.now.keys.items slots.now.values.items) }
+    requires keyed { AreKeyed K.order K.read K.can_read K.reads_from (S.records store.old)
+        (slot_pairs (S.records store.old) level slots.now.keys.items slots.now.values.items) }
     requires sorted { IsStrictlySortedBy K.order (map (λ change. K.sought change.key) changes.now) }
     requires few { length (rows_pairs (S.records store.old) 0 rows.old)
         + length (slot_pairs (S.records store.old) level slots.now.keys.items slots.now.values.items) + length changes.now < 2 ^ 32 }
@@ -297,6 +313,12 @@ fn change_slots<const OFFSET_BITS: u32, S: Store<OFFSET_BITS>, K: KeyOrder<OFFSE
         (merged (seen_changes K.read K.order (λ change. K.sought change.key) (λ change. change.pair) (S.records store.old) changes.now)
         (slot_pairs (S.records store.old) level slots.now.keys.items slots.now.values.items))
         (slot_nodes (S.records store.old) level slots.now.values.items) replaced.old.items replaced.new.items) }
+    ensures spends { OnOk result (length slots.now.keys.items ≤ MOST_SLOTS → 0 < length changes.now
+        → (budgets : List ℕ) → length budgets ≡ suc level
+        → FitBudgets 0 budgets rows.old
+        → SpendsBelow (S.ledger store.old) (S.ledger store.new) (length changes.now) budgets rows.old rows.new) }
+    ensures counts { (budgets : List ℕ) → length budgets ≡ suc level → FitBudgets 0 budgets rows.old
+        → CountsNodes (S.ledger store.old) (S.ledger store.new) (2 * all_of budgets + 2 * (length budgets * length changes.now)) }
     ensures keeps { Keeps (S.records store.old) (S.records store.new) }
     ensures stays { (r : ℕ) → uses (S.ledger store.old) r ≤ uses (S.ledger store.new) r }
     ensures may { MayDo (S.ledger store.old) (S.ledger store.new) }
@@ -347,6 +369,11 @@ pub fn change_below<const OFFSET_BITS: u32, S: Store<OFFSET_BITS>, K: KeyOrder<O
         (merged (seen_changes K.read K.order (λ change. K.sought change.key) (λ change. change.pair) (S.records store.old) changes.now)
         (pairs_below (S.records store.old) level node.entry))
         (nodes_below (S.records store.old) level node.entry) replaced.old.items replaced.new.items) }
+    ensures spends { OnOk result (0 < length changes.now → (budgets : List ℕ) → length budgets ≡ suc level
+        → FitBudgets 0 budgets rows.old
+        → SpendsBelow (S.ledger store.old) (S.ledger store.new) (length changes.now) budgets rows.old rows.new) }
+    ensures counts { (budgets : List ℕ) → length budgets ≡ suc level → FitBudgets 0 budgets rows.old
+        → CountsNodes (S.ledger store.old) (S.ledger store.new) (2 * all_of budgets + 2 * (length budgets * length changes.now)) }
     ensures keeps { Keeps (S.records store.old) (S.records store.new) }
     ensures stays { (r : ℕ) → uses (S.ledger store.old) r ≤ uses (S.ledger store.new) r }
     ensures may { MayDo (S.ledger store.old) (S.ledger store.new) }

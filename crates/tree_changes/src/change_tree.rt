@@ -1,5 +1,5 @@
 //! A sorted list of changes of a tree.
-ghost use Rattle.std.specs.Prelude.{ℕ, false, ◌≡◌, ◌<◌, ◌≤◌, ◌+◌, ◌*◌, ◌^◌, ◌∷◌, [], true, length, map, IfOk, IfErr, OnErr, OnOk};
+ghost use Rattle.std.specs.Prelude.{ℕ, false, ◌≡◌, ◌<◌, ◌≤◌, ◌+◌, ◌-◌, ◌*◌, ◌^◌, ◌∷◌, [], List, true, length, drop, map, IfOk, IfErr, OnErr, OnOk};
 ghost use Rattle.std.specs.List.{AllByRecursion};
 ghost use Rattle.std.specs.List.Sorted.{IsStrictlySortedBy};
 ghost use Rattle.tree_read.specs.Trees.{tree_pairs, tree_nodes, Keeps};
@@ -10,7 +10,9 @@ ghost use Rattle.store_api.specs.Ledgers.{Ledger};
 ghost use Rattle.store_api.specs.declared.store.StoreError.TheVariants.{Memory};
 ghost use Rattle.store_api.specs.Parts.{times, uses, Owns, Turns};
 ghost use Rattle.store_api.specs.Units.{MayDo};
-ghost use Rattle.frozen_btree.specs.Changes.{tree};
+ghost use Rattle.frozen_btree.specs.Changes.{levels, tree};
+ghost use Rattle.frozen_nodes.specs.Makes.{CountsNodes};
+ghost use Rattle.tree_changes.specs.Counts.{FitBudgets, SpendsBelow, all_of, first_slots, last_of, no_budgets, slots_in};
 ghost use Rattle.tree_changes.specs.Merges.{merged};
 ghost use Rattle.tree_changes.specs.Layers.{rows_pairs, rows_nodes, seen_changes, AreEmpty, AreInHand, IsPairOf, FinishesRows, RebuildsTree, TurnsRows};
 
@@ -69,9 +71,14 @@ fn finish<const OFFSET_BITS: u32, S: Store<OFFSET_BITS>>(
     requires hand { AreInHand (S.records store.old) level rows.old }
     requires few { length (rows_pairs (S.records store.old) level rows.old) < 2 ^ 32 }
     requires slots { 0 < level → 0 < length (rows_pairs (S.records store.old) level rows.old) }
-    requires owned { (r : ℕ) → times r (rows_nodes (S.records store.old) level rows.old) + times r replaced.old.items ≤ uses (S.ledger store.old) r }
+    requires owned { (r : ℕ) → times r (rows_nodes (S.records store.old) level rows.old) + times r replaced.old.items
+        ≤ uses (S.ledger store.old) r }
     ensures finishes { IfOk result (FinishesRows (S.ledger store.old) (S.ledger store.new) (S.records store.old) (S.records store.new)
         level rows.old replaced.old.items replaced.new.items) }
+    ensures counts { (budgets : List ℕ) → FitBudgets 0 budgets rows.old → slots_in (drop (length budgets) rows.old) ≡ 0
+        → 0 < last_of 0 budgets → CountsNodes (S.ledger store.old) (S.ledger store.new) (2 * all_of budgets + last_of 0 budgets) }
+    ensures alone { slots_in (drop 1 rows.old) ≡ 0
+        → CountsNodes (S.ledger store.old) (S.ledger store.new) (first_slots rows.old + (1 - first_slots rows.old)) }
     ensures keeps { Keeps (S.records store.old) (S.records store.new) }
     ensures stays { (r : ℕ) → uses (S.ledger store.old) r ≤ uses (S.ledger store.new) r }
     ensures may { MayDo (S.ledger store.old) (S.ledger store.new) }
@@ -106,8 +113,16 @@ fn fill_rows<const OFFSET_BITS: u32, S: Store<OFFSET_BITS>, K: KeyOrder<OFFSET_B
     requires empty { AreEmpty rows.old }
     requires hand { AreInHand (S.records store.old) 0 rows.old }
     ensures turns { OnOk result (TurnsRows (S.ledger store.old) (S.ledger store.new) (S.records store.old) (S.records store.new)
-        0 rows.old rows.new (merged (seen_changes K.read K.order (λ change. K.sought change.key) (λ change. change.pair) (S.records store.old) changes.now) (tree_pairs (S.records store.old) root.entry))
+        0 rows.old rows.new
+        (merged (seen_changes K.read K.order (λ change. K.sought change.key) (λ change. change.pair) (S.records store.old) changes.now)
+        (tree_pairs (S.records store.old) root.entry))
         (tree_nodes (S.records store.old) root.entry) replaced.old.items replaced.new.items) }
+    ensures spends { OnOk result (0 < root.entry → 0 < length changes.now
+        → SpendsBelow (S.ledger store.old) (S.ledger store.new) (length changes.now)
+        (no_budgets (levels (S.records store.old) root.entry)) rows.old rows.new) }
+    ensures alone { OnOk result (root.entry ≡ 0 → (first_slots rows.new ≤ length changes.now) × (slots_in (drop 1 rows.new) ≡ 0)) }
+    ensures counts { CountsNodes (S.ledger store.old) (S.ledger store.new)
+        (2 * (levels (S.records store.old) root.entry * length changes.now)) }
     ensures keeps { Keeps (S.records store.old) (S.records store.new) }
     ensures stays { (r : ℕ) → uses (S.ledger store.old) r ≤ uses (S.ledger store.new) r }
     ensures may { MayDo (S.ledger store.old) (S.ledger store.new) }
@@ -138,6 +153,8 @@ fn rebuild<const OFFSET_BITS: u32, S: Store<OFFSET_BITS>, K: KeyOrder<OFFSET_BIT
         root.entry r replaced.new.items
         (merged (seen_changes K.read K.order (λ change. K.sought change.key) (λ change. change.pair) (S.records store.old) changes.now)
         (tree_pairs (S.records store.old) root.entry))) }
+    ensures counts { 0 < length changes.now
+        → CountsNodes (S.ledger store.old) (S.ledger store.new) ((2 * levels (S.records store.old) root.entry + 1) * length changes.now) }
     ensures keeps { Keeps (S.records store.old) (S.records store.new) }
     ensures stays { (r : ℕ) → uses (S.ledger store.old) r ≤ uses (S.ledger store.new) r }
     ensures may { MayDo (S.ledger store.old) (S.ledger store.new) }
@@ -149,7 +166,7 @@ fn rebuild<const OFFSET_BITS: u32, S: Store<OFFSET_BITS>, K: KeyOrder<OFFSET_BIT
 }
 
 /// Makes changes of a tree, whose keys ascend. Returns the new root, or 0 if no pair is left, and drops the nodes of
-/// the old tree that are not in the new one. Each node of the new tree is made once.
+/// the old tree that are not in the new one. Each node of the new tree is made once; without changes none is.
 pub fn change_all<const OFFSET_BITS: u32, S: Store<OFFSET_BITS>, K: KeyOrder<OFFSET_BITS>>(
     alloc: Global,
     store: &mut S,
@@ -172,10 +189,17 @@ pub fn change_all<const OFFSET_BITS: u32, S: Store<OFFSET_BITS>, K: KeyOrder<OFF
     ensures turns { IfOk result (λ r. Turns (S.ledger store.old) (S.ledger store.new) (S.records store.old) (S.records store.new)
         (tree root.entry ∷ []) (tree r ∷ [])) }
     ensures others { KeepsOthers (S.records store.old) (S.records store.new) }
+    ensures counts { CountsNodes (S.ledger store.old) (S.ledger store.new)
+        ((2 * levels (S.records store.old) root.entry + 1) * length changes.now) }
+    ensures none { length changes.now ≡ 0 → IfOk result (λ r. r ≡ root.entry) × IfErr result (λ error. ⊥) }
+    ensures same { length changes.now ≡ 0 → store.new ≡ store.old }
     ensures left { OnErr result (Keeps (S.records store.old) (S.records store.new)) }
     ensures refuses { IfErr result (Refuses (S.ledger store.old) (S.ledger store.new) NODE_WORDS) }
     ensures may { MayDo (S.ledger store.old) (S.ledger store.new) }
 {
+    if changes.is_empty() {
+        return Ok(root);
+    }
     let mut replaced = Vec::new(alloc);
     let next = rebuild(alloc, store, root, changes, &mut replaced)?;
     drop_nodes(store, &replaced);

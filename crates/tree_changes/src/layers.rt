@@ -3,15 +3,17 @@
 //!
 //! Pairs and whole subtrees are appended behind. A row becomes nodes, as slots of the row above, when something of a
 //! higher level is appended. A row that is then too short for a node takes the slots of the last node before it.
-ghost use Rattle.std.specs.Prelude.{◌≡◌, ◌<◌, ◌≤◌, ◌+◌, ◌-◌, ◌^◌, ◌++◌, ◌∷◌, [], ℕ, true, false, length, suc, take, drop, OnOk, IfOk, IfErr};
+ghost use Rattle.std.specs.Prelude.{◌≡◌, ◌<◌, ◌≤◌, ◌+◌, ◌-◌, ◌*◌, ◌^◌, ◌++◌, ◌∷◌, [], ℕ, List, true, false, length, suc, take, drop, OnOk, IfOk, IfErr};
+ghost use Rattle.store_api.specs.Ledgers.{Ledger};
 ghost use Rattle.store_api.specs.Calls.{Refuses};
 ghost use Rattle.store_api.specs.Parts.{uses};
 ghost use Rattle.store_api.specs.Units.{MayDo};
 ghost use Rattle.tree_read.specs.Trees.{Keeps};
 ghost use Rattle.store_api.specs.declared.store.StoreError.TheVariants.{Memory};
 ghost use Rattle.tree_read.specs.Slots.{slot_pairs, slot_nodes, IsInHand};
-ghost use Rattle.frozen_nodes.specs.Makes.{MakesNodes};
+ghost use Rattle.frozen_nodes.specs.Makes.{CountsNodes, MakesNodes};
 ghost use Rattle.frozen_btree.specs.Builds.{groups};
+ghost use Rattle.tree_changes.specs.Counts.{FitBudgets, Gains, IsShort, LengthensFirst, Pulls, Reaches, Settles, SpendsRows, all_of, first_slots};
 ghost use Rattle.tree_changes.specs.Layers.{rows_pairs, AreInHand, AreEmpty, ClosesRow, HasFirst, IsReady, Lengthens, OpensLast, OpensRows, RaisesRow, TurnsRows};
 
 use arena_api::Frozen;
@@ -188,6 +190,7 @@ fn pull<const OFFSET_BITS: u32, F: Frozen<OFFSET_BITS>>(
     ensures found { IfOk result (λ found. found ≡ true → Lengthens rows.old rows.new) }
     ensures none { IfOk result (λ found. found ≡ false → AreEmpty (drop 1 rows.old)) }
     ensures still { IfOk result (λ found. found ≡ false → rows.new ≡ rows.old) }
+    ensures pulls { OnOk result (Pulls rows.old rows.new) }
     ensures memory { IfErr result (λ error. error ≡ Memory) }
     ensures same { frozen.new ≡ frozen.old }
 {
@@ -217,6 +220,7 @@ fn reach<const OFFSET_BITS: u32, F: Frozen<OFFSET_BITS>>(
     ensures found { IfOk result (λ found. found ≡ true → HasFirst rows.new) }
     ensures none { IfOk result (λ found. found ≡ false → AreEmpty rows.old) }
     ensures still { IfOk result (λ found. found ≡ false → rows.new ≡ rows.old) }
+    ensures reaches { OnOk result (Reaches rows.old rows.new) }
     ensures memory { IfErr result (λ error. error ≡ Memory) }
     ensures same { frozen.new ≡ frozen.old }
 {
@@ -245,6 +249,9 @@ pub fn lengthen<const OFFSET_BITS: u32, F: Frozen<OFFSET_BITS>>(
     ensures ready { IfOk result (λ ready. ready ≡ true → IsReady rows.new) }
     ensures none { IfOk result (λ ready. ready ≡ false → AreEmpty (drop 1 rows.old)) }
     ensures still { IfOk result (λ ready. ready ≡ false → rows.new ≡ rows.old) }
+    ensures lengthens { OnOk result (LengthensFirst rows.old rows.new) }
+    ensures idle { OnOk result (first_slots rows.old ≡ 0 → rows.new ≡ rows.old) }
+    ensures short { IfOk result (λ ready. ready ≡ false → IsShort rows.old) }
     ensures memory { IfErr result (λ error. error ≡ Memory) }
     ensures same { frozen.new ≡ frozen.old }
 {
@@ -272,6 +279,7 @@ pub fn raise<const OFFSET_BITS: u32, S: Store<OFFSET_BITS>>(
     requires few { 0 < level → length (slot_pairs (S.records store.old) level row.old.keys.items row.old.nodes.items) < 2 ^ 32 }
     ensures raises { OnOk result (RaisesRow (S.ledger store.old) (S.ledger store.new) (S.records store.old) (S.records store.new)
         level row.old.keys.items row.old.nodes.items above.old above.new) }
+    ensures gains { OnOk result (Gains (groups (length row.old.keys.items)) above.old above.new) }
     ensures keys { OnOk result (row.new.keys.items ≡ []) }
     ensures nodes { OnOk result (row.new.nodes.items ≡ []) }
     ensures makes { MakesNodes (S.ledger store.old) (S.ledger store.new) (S.records store.old) (S.records store.new)
@@ -303,6 +311,10 @@ fn settle<const OFFSET_BITS: u32, S: Store<OFFSET_BITS>>(
         level rows.old rows.new [] [] replaced.old.items replaced.new.items) }
     ensures settled { IfOk result (λ settled. settled ≡ true → AreEmpty (take count rows.new)) }
     ensures none { count ≡ 0 → IfOk result (λ settled. settled ≡ true) }
+    ensures spends { IfOk result (λ settled. (budgets : List ℕ) → length budgets ≡ count → FitBudgets 0 budgets rows.old
+        → Settles (S.ledger store.old) (S.ledger store.new) budgets rows.old rows.new settled) }
+    ensures counts { (budgets : List ℕ) → length budgets ≡ count → FitBudgets 0 budgets rows.old
+        → CountsNodes (S.ledger store.old) (S.ledger store.new) (2 * all_of budgets) }
     ensures keeps { Keeps (S.records store.old) (S.records store.new) }
     ensures stays { (r : ℕ) → uses (S.ledger store.old) r ≤ uses (S.ledger store.new) r }
     ensures may { MayDo (S.ledger store.old) (S.ledger store.new) }
@@ -343,6 +355,10 @@ pub fn put_behind<const OFFSET_BITS: u32, S: Store<OFFSET_BITS>>(
     ensures turns { OnOk result (TurnsRows (S.ledger store.old) (S.ledger store.new) (S.records store.old) (S.records store.new)
         0 rows.old rows.new (slot_pairs (S.records store.old) level (key ∷ []) (value ∷ []))
         (slot_nodes (S.records store.old) level (value ∷ [])) replaced.old.items replaced.new.items) }
+    ensures spends { OnOk result ((budgets : List ℕ) → length budgets ≡ level → FitBudgets 0 budgets rows.old
+        → SpendsRows (S.ledger store.old) (S.ledger store.new) 1 0 budgets rows.old rows.new) }
+    ensures counts { (budgets : List ℕ) → length budgets ≡ level → FitBudgets 0 budgets rows.old
+        → CountsNodes (S.ledger store.old) (S.ledger store.new) (2 * all_of budgets) }
     ensures keeps { Keeps (S.records store.old) (S.records store.new) }
     ensures stays { (r : ℕ) → uses (S.ledger store.old) r ≤ uses (S.ledger store.new) r }
     ensures may { MayDo (S.ledger store.old) (S.ledger store.new) }
@@ -387,6 +403,10 @@ fn put_slots<const OFFSET_BITS: u32, S: Store<OFFSET_BITS>>(
     ensures turns { OnOk result (TurnsRows (S.ledger store.old) (S.ledger store.new) (S.records store.old) (S.records store.new)
         0 rows.old rows.new (slot_pairs (S.records store.old) level keys.now values.now)
         (slot_nodes (S.records store.old) level values.now) replaced.old.items replaced.new.items) }
+    ensures spends { OnOk result ((budgets : List ℕ) → length budgets ≡ level → FitBudgets 0 budgets rows.old
+        → SpendsRows (S.ledger store.old) (S.ledger store.new) (length keys.now) 0 budgets rows.old rows.new) }
+    ensures counts { (budgets : List ℕ) → length budgets ≡ level → FitBudgets 0 budgets rows.old
+        → CountsNodes (S.ledger store.old) (S.ledger store.new) (2 * all_of budgets) }
     ensures keeps { Keeps (S.records store.old) (S.records store.new) }
     ensures stays { (r : ℕ) → uses (S.ledger store.old) r ≤ uses (S.ledger store.new) r }
     ensures may { MayDo (S.ledger store.old) (S.ledger store.new) }

@@ -1,6 +1,6 @@
-use Rattle.std.proofs.Common.{rules, ℕ, ◌≡◌, ◌<◌, ◌≤◌, ◌+◌, ◌-◌, ◌^◌, ◌++◌, ◌∷◌, [], suc, length, arith, sym, ap, subst, ◌∙◌, List, get_or, set, take, drop, map, true, refl}
+use Rattle.std.proofs.Common.{rules, ◌*◌, ℕ, ◌≡◌, ◌<◌, ◌≤◌, ◌+◌, ◌-◌, ◌^◌, ◌++◌, ◌∷◌, [], suc, length, arith, sym, ap, subst, ◌∙◌, List, get_or, set, take, drop, map, true, refl}
 use Rattle.std.specs.List.{zip, AllByRecursion}
-use Rattle.list_lemmas.proofs.Tests.{zero_from_test}
+use Rattle.list_lemmas.proofs.Tests.{zero_from_test, above_zero_from_test}
 use Rattle.store_api.proofs.May.{may_do-then, may_do-same}
 use Rattle.store_api.specs.Parts.{uses}
 use Rattle.store_api.specs.Units.{MayDo}
@@ -13,13 +13,17 @@ use Rattle.tree_read.proofs.ReadLemmas.{node-room, node-size, node-keys-all, nod
 use Rattle.tree_read.proofs.TreeLemmas.{IsNode-form}
 use Rattle.tree_read.proofs.SlotLemmas.{hand-kept, slot_pairs-kept}
 use Rattle.tree_read.specs.Slots.{slot_pairs, slot_nodes, IsInHand}
-use Rattle.frozen_nodes.proofs.MakesLemmas.{keeps-then}
+use Rattle.frozen_nodes.proofs.MakesLemmas.{keeps-then, counts-none}
+use Rattle.frozen_nodes.specs.Makes.{CountsNodes}
+use Rattle.tree_changes.specs.Counts.{SpendsRows, SpendsBelow, SpendsSlots, all_of, gain_of}
+use Rattle.tree_changes.proofs.SpendLemmas.{counts-more, spends-closed, spends-leaf, slots-counts, slots-more, slots-none, below-rows, zip-size, slice-length, leaf-slots}
+use Rattle.tree_changes.proofs.CountLemmas.{front_of, front-size, fit-front}
 use Rattle.tree_changes.specs.Merges.{Change, merged}
 use Rattle.tree_changes.specs.Layers.{rows_pairs, AreInHand, AreKeyed, TurnsRows, seen_change, seen_changes}
 use Rattle.tree_changes.specs.declared.change_below.Change as given
 use Rattle.tree_changes.proofs.LayerLemmas.{on_ok, on_ok_both}
 use Rattle.tree_changes.proofs.TurnLemmas.{turns-are, one-size, slot-hand, slot-hand-kept}
-use Rattle.tree_changes.proofs.ChangeBelowLemmas.{GoesOn, goes-none, goes-more, goes-end, child-node, child-pairs, child-nodes, opened, opened-is, turns-inner, turns-leaf, first-even, merged-none, keyed-kept, slot-step, slot-keyed, slot-size, slices-size, sorted-slice, seen-size}
+use Rattle.tree_changes.proofs.ChangeBelowLemmas.{GoesOn, goes-none, goes-more, goes-end, child-node, child-pairs, child-nodes, opened, opened-is, turns-inner, turns-leaf, first-even, merged-none, keyed-kept, slot-step, slot-keyed, slot-size, slices-size, sorted-slice, seen-size, merged-size}
 use Rattle.tree_changes.proofs.change_below.+changing.Goals as goal
 
 pub change_child-put_behind-requires-clause-few : goal.change_child-put_behind-requires-clause-few
@@ -142,6 +146,7 @@ change_slots-loop-slot-init g t c =
       keeps = λ r some. refl;
       stays = λ r. omega arith;
       may = may_do-same ledger;
+      spends = λ budgets size fit. slots-none ledger budgets c.args.rows.now fit;
     }
 
 pub change_slots-end_below-end-requires-clause-readable : goal.change_slots-end_below-end-requires-clause-readable
@@ -218,6 +223,13 @@ change_slots-loop-slot-preserved g t c =
       stays = λ r. let a = c.loop-slot.invariant.stays r in
           let b : uses (ledger u) r ≤ uses (ledger w) r = subst (λ (st : g.row.S.Denot). uses (ledger st) r ≤ uses (ledger w) r) is.same (c.change_child.ensures.stays r) in omega arith;
       may = may_do-then (ledger s) (ledger u) (ledger w) c.loop-slot.invariant.may (subst (λ (st : g.row.S.Denot). MayDo (ledger st) (ledger w)) is.same c.change_child.ensures.may);
+      spends = λ budgets size fit.
+          let x = c.loop-slot.invariant.spends budgets size fit in
+          let child : SpendsRows (ledger u) (ledger w) (gain_of (length some)) (length some) x.spends.left c.loop-slot.rows c.change_child.new.rows =
+          subst (λ (st : g.row.S.Denot). SpendsRows (ledger st) (ledger w) (gain_of (length some)) (length some) x.spends.left c.loop-slot.rows c.change_child.new.rows) is.same
+          (c.in_ok-change_child.ensures.spends x.spends.left (x.spends.spends.size ∙ size) x.spends.spends.fits) in
+          slots-more (ledger s) (ledger u) (ledger w) slot (slot + 1) first (length some) end budgets c.args.rows.now c.loop-slot.rows c.change_child.new.rows refl
+          (let cut = slice-length list first end is.from is.within in omega arith) c.loop-slot.invariant.may x child;
     }
 
 pub change_slots-change_child-requires : goal.change_slots-change_child-requires
@@ -566,3 +578,155 @@ change_below-returns-clause-may g t c =
     let s = c.args.store.now in
     let w = c.change_slots.new.store in
     subst (λ (st : g.row.S.Denot). MayDo (ledger st) (ledger w)) c.read_node-slots.ensures.same c.change_slots.ensures.may
+
+pub change_child-returns-then-is_empty-clause-spends : goal.change_child-returns-then-is_empty-clause-spends
+change_child-returns-then-is_empty-clause-spends g t c =
+    let ledger = g.S.Store.ledger in
+    let none = zero_from_test (length c.args.changes.now) c.is_empty.result c.is_empty.ensures c.if-is_empty.true in
+    on_ok c.put_behind.result
+    (λ puts budgets size fit.
+    subst (λ k. SpendsRows (ledger c.args.store.now) (ledger c.put_behind.new.store) (gain_of k) k budgets c.args.rows.now c.put_behind.new.rows) (sym none) (puts budgets size fit))
+    c.put_behind.ensures.spends
+
+pub change_child-returns-then-is_empty-clause-counts : goal.change_child-returns-then-is_empty-clause-counts
+change_child-returns-then-is_empty-clause-counts g t c =
+    let ledger = g.S.Store.ledger in
+    λ budgets size fit.
+    counts-more (ledger c.args.store.now) (ledger c.put_behind.new.store) (2 * all_of budgets) _ (omega arith) (c.put_behind.ensures.counts budgets size fit)
+
+pub change_child-returns-clause-spends : goal.change_child-returns-clause-spends
+change_child-returns-clause-spends g t c =
+    let ledger = g.S.Store.ledger in
+    let above = c.requires.above in
+    let some : 0 < length c.args.changes.now = above_zero_from_test (length c.args.changes.now) c.is_empty.result c.is_empty.ensures c.if-is_empty.false in
+    on_ok c.change_below.result
+    (λ below budgets size fit.
+    below-rows (ledger c.args.store.now) (ledger c.change_below.new.store) (length c.args.changes.now) budgets c.args.rows.now c.change_below.new.rows some
+    (below some budgets (omega arith) fit))
+    c.change_below.ensures.spends
+
+pub change_child-returns-clause-counts : goal.change_child-returns-clause-counts
+change_child-returns-clause-counts g t c =
+    let above = c.requires.above in
+    λ budgets size fit. c.change_below.ensures.counts budgets (omega arith) fit
+
+pub change_slots-returns-clause-spends : goal.change_slots-returns-clause-spends
+change_slots-returns-clause-spends g t c =
+    let ledger = g.S.Store.ledger in
+    let s = c.args.store.now in
+    let u = c.loop-slot.store in
+    let ks = c.args.slots.now.keys.items in
+    let slot = c.loop-slot.slot in
+    let past : length ks ≤ slot = (let size = c.len-slot-end.ensures in let test = c.loop-slot-test.false in omega arith) in
+    let here : slot ≡ length ks = omega arith in
+    let all : c.loop-slot.first ≡ length c.args.changes.now = c.loop-slot.invariant.last here in
+    λ few some budgets size fit.
+    let front_size = front-size budgets (omega arith) in
+    let x = c.loop-slot.invariant.spends (front_of budgets) (omega arith) (fit-front 0 budgets c.args.rows.now fit) in
+    spends-closed (ledger s) (ledger u) slot (length c.args.changes.now) budgets c.args.rows.now c.loop-slot.rows (omega arith) (omega arith) some fit
+    (subst (λ k. SpendsSlots (ledger s) (ledger u) slot k (front_of budgets) c.args.rows.now c.loop-slot.rows) all x)
+
+pub change_slots-returns-clause-counts : goal.change_slots-returns-clause-counts
+change_slots-returns-clause-counts g t c =
+    let ledger = g.S.Store.ledger in
+    let s = c.args.store.now in
+    let u = c.loop-slot.store in
+    λ budgets size fit.
+    let front_size = front-size budgets (omega arith) in
+    let x = c.loop-slot.invariant.spends (front_of budgets) (omega arith) (fit-front 0 budgets c.args.rows.now fit) in
+    let within = c.loop-slot.invariant.within in
+    slots-counts (ledger s) (ledger u) (ledger u) c.loop-slot.slot c.loop-slot.first 0 (length c.args.changes.now) budgets c.args.rows.now c.loop-slot.rows (omega arith) (omega arith)
+    c.loop-slot.invariant.may x (counts-none (ledger u) _)
+
+pub change_slots-returns-in_err-change_child-clause-counts : goal.change_slots-returns-in_err-change_child-clause-counts
+change_slots-returns-in_err-change_child-clause-counts g t c =
+    let ledger = g.S.Store.ledger in
+    let s = c.args.store.now in
+    let u = c.loop-slot.store in
+    let w = c.change_child.new.store in
+    let list = c.args.changes.now in
+    let first = c.loop-slot.first in
+    let end = c.end_below-end.result in
+    let is = c.end_below-end.ensures in
+    let some = take (end - first) (drop first list) in
+    let cut = slice-length list first end is.from is.within in
+    let whole : first + length some ≤ length list = (let a = is.from in let b = is.within in omega arith) in
+    λ budgets size fit.
+    let front_size = front-size budgets (omega arith) in
+    let x = c.loop-slot.invariant.spends (front_of budgets) (omega arith) (fit-front 0 budgets c.args.rows.now fit) in
+    let left = x.spends.left in
+    slots-counts (ledger s) (ledger u) (ledger w) c.loop-slot.slot first (length some) (length list) budgets c.args.rows.now c.loop-slot.rows (omega arith) whole
+    c.loop-slot.invariant.may x
+    (subst (λ (st : g.row.S.Denot). CountsNodes (ledger st) (ledger w) (2 * all_of left + 2 * (length left * length some))) is.same
+    (c.change_child.ensures.counts left (let e = x.spends.spends.size in omega arith) x.spends.spends.fits))
+
+pub change_below-returns-then-level-eq0-clause-spends : goal.change_below-returns-then-level-eq0-clause-spends
+change_below-returns-then-level-eq0-clause-spends g t c =
+    let key = g.K.KeyOrder in
+    let ledger = g.S.Store.ledger in
+    let records = g.S.Frozen.records in
+    let s = c.args.store.now in
+    let v = c.read_node-slots.new.frozen in
+    let u = c.change_leaf.new.frozen in
+    let m = records s in
+    let node = c.args.node in
+    let rows = c.args.rows.now in
+    let ks = c.deref.result.now in
+    let vs = c.deref-then-level-eq0.result.now in
+    let row = c.change_leaf.new.row in
+    let d = c.index-rows-0.result in
+    let list = c.args.changes.now in
+    let bottom : c.args.level ≡ 0 = c.if-level-eq0.true in
+    let keys : ks ≡ node_keys (m node) = c.deref.ensures.0 ∙ c.read_node-slots.ensures.keys in
+    let values : vs ≡ node_values (m node) = c.deref-then-level-eq0.ensures.0 ∙ c.read_node-slots.ensures.values in
+    let even : length ks ≡ length vs = ap length keys ∙ node-even m 1 c.args.level node c.requires.node ∙ sym (ap length values) in
+    let room = node-room m 1 c.args.level node c.requires.node in
+    let used = keys-length m 1 c.args.level node c.requires.node in
+    let few : length ks ≤ 16 = (let e = ap length keys in omega arith) in
+    let old_even = first-even m rows d c.requires.hand (let size = c.requires.rows in omega arith) in
+    let seen : _ → List Change = λ r. seen_changes key.read key.order (λ (change : given.Change g.row.K.Denot). key.sought change.key) (λ (change : given.Change g.row.K.Denot). change.pair) r list in
+    let same : u ≡ s = c.change_leaf.ensures.same ∙ c.read_node-slots.ensures.same in
+    on_ok_both c.change_leaf.result
+    (λ row_even pairs some budgets size fit.
+    let n = records v in
+    let more = leaf-slots (get_or rows 0 d) row (merged (seen n) (zip ks vs)) old_even row_even pairs in
+    let most = merged-size (seen n) (zip ks vs) in
+    let width = zip-size ks vs even in
+    let count = seen-size key.read key.order (λ (change : given.Change g.row.K.Denot). key.sought change.key) (λ (change : given.Change g.row.K.Denot). change.pair) n list in
+    subst (λ (st : g.row.S.Denot). SpendsBelow (ledger s) (ledger st) (length list) budgets rows (set rows 0 row)) (sym same)
+    (spends-leaf (ledger s) (length list) budgets rows row d (omega arith) (let all = c.requires.rows in omega arith) some (omega arith) fit))
+    c.change_leaf.ensures.row c.change_leaf.ensures.pairs
+
+pub change_below-returns-then-level-eq0-clause-counts : goal.change_below-returns-then-level-eq0-clause-counts
+change_below-returns-then-level-eq0-clause-counts g t c =
+    let ledger = g.S.Store.ledger in
+    let s = c.args.store.now in
+    let same : c.change_leaf.new.frozen ≡ s = c.change_leaf.ensures.same ∙ c.read_node-slots.ensures.same in
+    λ budgets size fit. subst (λ (st : g.row.S.Denot). CountsNodes (ledger s) (ledger st) (2 * all_of budgets + 2 * (length budgets * length c.args.changes.now))) (sym same) (counts-none (ledger s) _)
+
+pub change_below-returns-clause-spends : goal.change_below-returns-clause-spends
+change_below-returns-clause-spends g t c =
+    let ledger = g.S.Store.ledger in
+    let records = g.S.Frozen.records in
+    let s = c.args.store.now in
+    let w = c.change_slots.new.store in
+    let m = records s in
+    let node = c.args.node in
+    let rows = c.args.rows.now in
+    let ks = c.read_node-slots.result.keys.items in
+    let keys : ks ≡ node_keys (m node) = c.read_node-slots.ensures.keys in
+    let room = node-room m 1 c.args.level node c.requires.node in
+    let used = keys-length m 1 c.args.level node c.requires.node in
+    let few : length ks ≤ 16 = (let e = ap length keys in omega arith) in
+    on_ok c.change_slots.result
+    (λ below some budgets size fit.
+    subst (λ (st : g.row.S.Denot). SpendsBelow (ledger st) (ledger w) (length c.args.changes.now) budgets rows c.change_slots.new.rows) c.read_node-slots.ensures.same (below few some budgets size fit))
+    c.change_slots.ensures.spends
+
+pub change_below-returns-clause-counts : goal.change_below-returns-clause-counts
+change_below-returns-clause-counts g t c =
+    let ledger = g.S.Store.ledger in
+    let w = c.change_slots.new.store in
+    λ budgets size fit.
+    subst (λ (st : g.row.S.Denot). CountsNodes (ledger st) (ledger w) (2 * all_of budgets + 2 * (length budgets * length c.args.changes.now))) c.read_node-slots.ensures.same
+    (c.change_slots.ensures.counts budgets size fit)

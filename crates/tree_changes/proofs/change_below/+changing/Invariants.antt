@@ -1,9 +1,10 @@
-use Rattle.std.proofs.Common.{◌≡◌, ℕ, ◌≤◌, ◌+◌, ◌*◌, length, take, drop}
+use Rattle.std.proofs.Common.{◌≡◌, ℕ, ◌≤◌, ◌+◌, ◌*◌, List, length, take, drop}
 use Rattle.store_api.specs.Parts.{uses}
 use Rattle.store_api.specs.Units.{MayDo}
 use Rattle.tree_read.specs.Trees.{Keeps}
 use Rattle.tree_read.specs.Slots.{slot_pairs, slot_nodes}
 use Rattle.tree_changes.specs.Layers.{seen_changes}
+use Rattle.tree_changes.specs.Counts.{FitBudgets, SpendsSlots}
 use Rattle.tree_changes.proofs.ChangeBelowLemmas.{GoesOn}
 use Rattle.tree_changes.proofs.change_below.+changing.Given as goal
 
@@ -35,4 +36,5 @@ invariant-change_slots-loop-slot g l =
       keeps : Keeps m (records l.store);
       stays : (r : ℕ) → uses (ledger l.fn.store) r ≤ uses (ledger l.store) r;
       may : MayDo (ledger l.fn.store) (ledger l.store);
+      spends : (budgets : List ℕ) → length budgets ≡ l.level → FitBudgets 0 budgets l.fn.rows → SpendsSlots (ledger l.fn.store) (ledger l.store) l.slot l.first budgets l.fn.rows l.rows;
     }

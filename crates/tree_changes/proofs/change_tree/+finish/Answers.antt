@@ -1,13 +1,17 @@
-use Rattle.std.proofs.Common.{rules, ℕ, ◌≡◌, ◌<◌, ◌≤◌, ◌+◌, ◌∷◌, ◌^◌, suc, length, arith, sym, subst, ◌∙◌, List, true}
+use Rattle.std.proofs.Common.{rules, ℕ, ◌≡◌, ◌<◌, ◌≤◌, ◌+◌, ◌∷◌, ◌^◌, suc, length, arith, sym, subst, ◌∙◌, List, true, ◌*◌, ◌-◌}
 use Rattle.std.proofs.lemmas.Result.{IfOk-weaker}
 use Rattle.store_api.proofs.May.{may_do-then}
 use Rattle.store_api.specs.Units.{MayDo}
 use Rattle.tree_read.specs.Trees.{Keeps}
 use Rattle.tree_read.specs.Slots.{slot_pairs, IsInHand}
-use Rattle.frozen_btree.specs.Builds.{BuildsTree}
+use Rattle.frozen_btree.specs.Builds.{BuildsTree, groups, nodes_above}
 use Rattle.tree_changes.specs.Layers.{OpensRows, RaisesRow}
 use Rattle.frozen_btree.specs.declared.rows.Row.{Row}
 use Rattle.tree_changes.proofs.FinishLemmas.{last-some, last-few, finish-built, finish-raised, next-hand, next-pairs, next-owned, next-slots, above-some}
+use Rattle.frozen_nodes.specs.Makes.{CountsNodes}
+use Rattle.tree_changes.specs.Counts.{LengthensFirst, all_of, last_of, first_slots}
+use Rattle.tree_changes.proofs.SpendLemmas.{counts-more, first-counts}
+use Rattle.tree_changes.proofs.RootCountLemmas.{raised-counts, alone-empty, built-alone, built-counts, some-budget}
 use Rattle.tree_changes.proofs.change_tree.+finish.Goals as goal
 
 pub build_over-requires : goal.build_over-requires
@@ -168,3 +172,75 @@ returns-clause-may g t c =
     let u = c.raise.new.store in
     may_do-then (ledger c.args.store.now) (ledger u) (ledger c.finish.new.store)
     (subst (λ (st : g.row.S.Denot). MayDo (ledger st) (ledger u)) c.lengthen.ensures.same c.raise.ensures.makes.may) c.finish.ensures.may
+
+pub returns-then-are_empty-clause-counts : goal.returns-then-are_empty-clause-counts
+returns-then-are_empty-clause-counts g t c =
+    let ledger = g.S.Store.ledger in
+    let s = c.args.store.now in
+    let u = c.build_over.new.store in
+    let row = c.in-Some.row.now in
+    let above = c.in-Some.above.now in
+    let levels = 7 - c.args.level in
+    let lengthens : LengthensFirst c.args.rows.now (row ∷ above) = subst (λ (l : List Row). LengthensFirst c.args.rows.now l) c.in-Some.ensures.cases.0 c.in_ok-lengthen.ensures.lengthens in
+    let counts : CountsNodes (ledger s) (ledger u) (nodes_above levels (length row.keys.items)) =
+    subst (λ (st : g.row.S.Denot). CountsNodes (ledger st) (ledger u) (nodes_above levels (length row.keys.items))) c.lengthen.ensures.same
+    (subst (λ (ks : List ℕ). CountsNodes (ledger c.lengthen.new.frozen) (ledger u) (nodes_above levels (length ks))) c.deref.ensures.value c.build_over.ensures.makes.counts) in
+    λ budgets fit none some. counts-more (ledger s) (ledger u) _ _ (built-counts levels budgets c.args.rows.now row above fit some lengthens) counts
+
+pub returns-then-are_empty-clause-alone : goal.returns-then-are_empty-clause-alone
+returns-then-are_empty-clause-alone g t c =
+    let ledger = g.S.Store.ledger in
+    let s = c.args.store.now in
+    let u = c.build_over.new.store in
+    let row = c.in-Some.row.now in
+    let above = c.in-Some.above.now in
+    let levels = 7 - c.args.level in
+    let lengthens : LengthensFirst c.args.rows.now (row ∷ above) = subst (λ (l : List Row). LengthensFirst c.args.rows.now l) c.in-Some.ensures.cases.0 c.in_ok-lengthen.ensures.lengthens in
+    let counts : CountsNodes (ledger s) (ledger u) (nodes_above levels (length row.keys.items)) =
+    subst (λ (st : g.row.S.Denot). CountsNodes (ledger st) (ledger u) (nodes_above levels (length row.keys.items))) c.lengthen.ensures.same
+    (subst (λ (ks : List ℕ). CountsNodes (ledger c.lengthen.new.frozen) (ledger u) (nodes_above levels (length ks))) c.deref.ensures.value c.build_over.ensures.makes.counts) in
+    λ none. counts-more (ledger s) (ledger u) _ _ (built-alone levels c.args.rows.now row above lengthens none) counts
+
+pub returns-clause-counts : goal.returns-clause-counts
+returns-clause-counts g t c =
+    let ledger = g.S.Store.ledger in
+    let s = c.args.store.now in
+    let u = c.raise.new.store in
+    let row = c.in-Some.row.now in
+    let above = c.in-Some.above.now in
+    let made = groups (length row.keys.items) in
+    let counts : CountsNodes (ledger s) (ledger u) made = subst (λ (st : g.row.S.Denot). CountsNodes (ledger st) (ledger u) made) c.lengthen.ensures.same c.raise.ensures.makes.counts in
+    let may : MayDo (ledger s) (ledger u) = subst (λ (st : g.row.S.Denot). MayDo (ledger st) (ledger u)) c.lengthen.ensures.same c.raise.ensures.makes.may in
+    let lengthens : LengthensFirst c.args.rows.now (row ∷ above) = subst (λ (l : List Row). LengthensFirst c.args.rows.now l) c.in-Some.ensures.cases.0 c.in_ok-lengthen.ensures.lengthens in
+    let idle : first_slots c.args.rows.now ≡ 0 → row ∷ above ≡ c.args.rows.now = λ none. subst (λ (l : List Row). l ≡ c.args.rows.now) c.in-Some.ensures.cases.0 (c.in_ok-lengthen.ensures.idle none) in
+    λ budgets fit none some.
+    raised-counts (ledger s) (ledger u) (ledger c.finish.new.store) budgets c.args.rows.now row above c.raise.new.above fit none some lengthens idle (c.are_empty.ensures.some c.if-are_empty.false)
+    c.in_ok-raise.ensures.gains counts may c.finish.ensures.counts
+
+pub returns-clause-alone : goal.returns-clause-alone
+returns-clause-alone g t c =
+    let row = c.in-Some.row.now in
+    let above = c.in-Some.above.now in
+    let lengthens : LengthensFirst c.args.rows.now (row ∷ above) = subst (λ (l : List Row). LengthensFirst c.args.rows.now l) c.in-Some.ensures.cases.0 c.in_ok-lengthen.ensures.lengthens in
+    λ none. absurd (c.are_empty.ensures.some c.if-are_empty.false (alone-empty c.args.rows.now row above lengthens none))
+
+pub returns-in_err-raise-clause-counts : goal.returns-in_err-raise-clause-counts
+returns-in_err-raise-clause-counts g t c =
+    let ledger = g.S.Store.ledger in
+    let s = c.args.store.now in
+    let u = c.raise.new.store in
+    let row = c.in-Some.row.now in
+    let above = c.in-Some.above.now in
+    let made = groups (length row.keys.items) in
+    let counts : CountsNodes (ledger s) (ledger u) made = subst (λ (st : g.row.S.Denot). CountsNodes (ledger st) (ledger u) made) c.lengthen.ensures.same c.raise.ensures.makes.counts in
+    let lengthens : LengthensFirst c.args.rows.now (row ∷ above) = subst (λ (l : List Row). LengthensFirst c.args.rows.now l) c.in-Some.ensures.cases.0 c.in_ok-lengthen.ensures.lengthens in
+    λ budgets fit none some.
+    let low = first-counts budgets c.args.rows.now row above (some-budget budgets some) fit lengthens in
+    counts-more (ledger s) (ledger u) made (2 * all_of budgets + last_of 0 budgets) (omega arith) counts
+
+pub returns-in_err-raise-clause-alone : goal.returns-in_err-raise-clause-alone
+returns-in_err-raise-clause-alone g t c =
+    let row = c.in-Some.row.now in
+    let above = c.in-Some.above.now in
+    let lengthens : LengthensFirst c.args.rows.now (row ∷ above) = subst (λ (l : List Row). LengthensFirst c.args.rows.now l) c.in-Some.ensures.cases.0 c.in_ok-lengthen.ensures.lengthens in
+    λ none. absurd (c.are_empty.ensures.some c.if-are_empty.false (alone-empty c.args.rows.now row above lengthens none))

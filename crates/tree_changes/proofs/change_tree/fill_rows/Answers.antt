@@ -1,4 +1,4 @@
-use Rattle.std.proofs.Common.{set, ◌≡◌, ◌<◌, ◌≤◌, ◌+◌, ◌^◌, List, length, true, refl, sym, ap, subst, ◌∙◌, arith}
+use Rattle.std.proofs.Common.{set, ◌≡◌, ◌<◌, ◌≤◌, ◌+◌, ◌^◌, List, length, true, refl, sym, ap, subst, ◌∙◌, arith, ◌*◌, [], get_or}
 use Rattle.store_api.specs.Parts.{uses}
 use Rattle.store_api.specs.Units.{MayDo}
 use Rattle.store_api.proofs.May.{may_do-same}
@@ -10,8 +10,14 @@ use Rattle.tree_changes.specs.Layers.{rows_pairs, seen_changes, AreInHand, AreKe
 use Rattle.tree_changes.specs.declared.change_below.Change as given
 use Rattle.tree_changes.proofs.LayerLemmas.{on_ok, on_ok_both}
 use Rattle.tree_changes.proofs.FinishLemmas.{rows-empty-pairs}
-use Rattle.tree_changes.proofs.ChangeBelowLemmas.{first-even}
+use Rattle.tree_changes.proofs.ChangeBelowLemmas.{first-even, merged-size, seen-size}
 use Rattle.tree_changes.proofs.EndLemmas.{fill-none, top-keyed, fill-below, tree-few}
+use Rattle.frozen_nodes.specs.Makes.{CountsNodes}
+use Rattle.frozen_nodes.proofs.MakesLemmas.{counts-none}
+use Rattle.tree_changes.specs.Counts.{SpendsBelow, all_of, no_budgets}
+use Rattle.tree_changes.proofs.SpendLemmas.{leaf-slots}
+use Rattle.frozen_btree.specs.Changes.{levels}
+use Rattle.tree_changes.proofs.RootCountLemmas.{levels-are, no_budgets-size, no_budgets-all, no_budgets-fit, leaf-alone}
 use Rattle.tree_changes.proofs.change_tree.fill_rows.Goals as goal
 
 pub change_leaf-requires-clause-row : goal.change_leaf-requires-clause-row
@@ -179,3 +185,81 @@ returns-clause-may g c =
     let m = records s in
     let w = c.change_below.new.store in
     subst (λ (st : g.row.S.Denot). MayDo (ledger st) (ledger w)) c.read_head-level.ensures.same c.change_below.ensures.may
+
+pub returns-then-not-valid-clause-spends : goal.returns-then-not-valid-clause-spends
+returns-then-not-valid-clause-spends g c =
+    let none : c.args.root ≡ 0 = not_valid c.valid.result c.args.root c.valid.ensures.1 c.if-not-valid.true in
+    on_ok c.change_leaf.result (λ even some changed. absurd (omega arith)) c.change_leaf.ensures.row
+
+pub returns-then-not-valid-clause-alone : goal.returns-then-not-valid-clause-alone
+returns-then-not-valid-clause-alone g c =
+    let key = g.K.KeyOrder in
+    let m = g.S.Frozen.records c.args.store.now in
+    let list = c.args.changes.now in
+    let rows = c.args.rows.now in
+    let d = c.index-rows-0.result in
+    let seen : List Change = seen_changes key.read key.order (λ (change : given.Change g.row.K.Denot). key.sought change.key) (λ (change : given.Change g.row.K.Denot). change.pair) m list in
+    let old_even = first-even m rows d c.requires.hand (let size = c.requires.rows in omega arith) in
+    let most = merged-size seen [] in
+    let count = seen-size key.read key.order (λ (change : given.Change g.row.K.Denot). key.sought change.key) (λ (change : given.Change g.row.K.Denot). change.pair) m list in
+    on_ok_both c.change_leaf.result
+    (λ even pairs none.
+    let more = leaf-slots (get_or rows 0 d) c.change_leaf.new.row (merged seen []) old_even even pairs in
+    leaf-alone rows c.change_leaf.new.row d (length list) c.requires.empty (let size = c.requires.rows in omega arith) (omega arith))
+    c.change_leaf.ensures.row c.change_leaf.ensures.pairs
+
+pub returns-then-not-valid-clause-counts : goal.returns-then-not-valid-clause-counts
+returns-then-not-valid-clause-counts g c =
+    let ledger = g.S.Store.ledger in
+    let s = c.args.store.now in
+    subst (λ (st : g.row.S.Denot). CountsNodes (ledger s) (ledger st) (2 * (levels (g.S.Frozen.records s) c.args.root * length c.args.changes.now))) (sym c.change_leaf.ensures.same) (counts-none (ledger s) _)
+
+pub returns-clause-spends : goal.returns-clause-spends
+returns-clause-spends g c =
+    let key = g.K.KeyOrder in
+    let ledger = g.S.Store.ledger in
+    let s = c.args.store.now in
+    let m = g.S.Frozen.records s in
+    let root = c.args.root in
+    let rows = c.args.rows.now in
+    let tree = c.requires.keyed.tree in
+    let some : 0 < root = is_valid c.valid.result root c.valid.ensures.0 c.if-not-valid.false in
+    let level = c.read_head-level.result.level in
+    let level_is : level ≡ root_level m root = c.read_head-level.ensures.level ∙ root-level key.order key.read m root tree some in
+    let low = root-low key.order key.read m root tree some level level_is in
+    let all = levels-are m root level some level_is in
+    let fit = no_budgets-fit (levels m root) rows (let size = c.requires.rows in omega arith) c.requires.empty in
+    let w = c.change_below.new.store in
+    on_ok c.change_below.result
+    (λ below rooted changed.
+    subst (λ (st : g.row.S.Denot). SpendsBelow (ledger st) (ledger w) (length c.args.changes.now) (no_budgets (levels m root)) rows c.change_below.new.rows) c.read_head-level.ensures.same
+    (below changed (no_budgets (levels m root)) (no_budgets-size (levels m root) ∙ all) fit))
+    c.change_below.ensures.spends
+
+pub returns-clause-alone : goal.returns-clause-alone
+returns-clause-alone g c =
+    let some : 0 < c.args.root = is_valid c.valid.result c.args.root c.valid.ensures.0 c.if-not-valid.false in
+    on_ok c.change_below.result (λ turns none. absurd (omega arith)) c.change_below.ensures.turns
+
+pub returns-clause-counts : goal.returns-clause-counts
+returns-clause-counts g c =
+    let key = g.K.KeyOrder in
+    let ledger = g.S.Store.ledger in
+    let s = c.args.store.now in
+    let m = g.S.Frozen.records s in
+    let root = c.args.root in
+    let rows = c.args.rows.now in
+    let tree = c.requires.keyed.tree in
+    let some : 0 < root = is_valid c.valid.result root c.valid.ensures.0 c.if-not-valid.false in
+    let level = c.read_head-level.result.level in
+    let level_is : level ≡ root_level m root = c.read_head-level.ensures.level ∙ root-level key.order key.read m root tree some in
+    let low = root-low key.order key.read m root tree some level level_is in
+    let all = levels-are m root level some level_is in
+    let fit = no_budgets-fit (levels m root) rows (let size = c.requires.rows in omega arith) c.requires.empty in
+    let budgets = no_budgets (levels m root) in
+    let whole : 2 * all_of budgets + 2 * (length budgets * length c.args.changes.now) ≡ 2 * (levels m root * length c.args.changes.now) =
+    (let a = no_budgets-all (levels m root) in let b : length budgets * length c.args.changes.now ≡ levels m root * length c.args.changes.now = ap (λ k. k * length c.args.changes.now) (no_budgets-size (levels m root)) in omega arith) in
+    let w = c.change_below.new.store in
+    subst (λ k. CountsNodes (ledger s) (ledger w) k) whole
+    (subst (λ (st : g.row.S.Denot). CountsNodes (ledger st) (ledger w) (2 * all_of budgets + 2 * (length budgets * length c.args.changes.now))) c.read_head-level.ensures.same
+    (c.change_below.ensures.counts budgets (no_budgets-size (levels m root) ∙ all) fit))

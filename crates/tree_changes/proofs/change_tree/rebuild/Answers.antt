@@ -1,4 +1,4 @@
-use Rattle.std.proofs.Common.{◌≡◌, ◌<◌, ◌++◌, ◌^◌, List, [], length, take, sym, ap, subst, ◌∙◌, arith}
+use Rattle.std.proofs.Common.{◌≡◌, ◌<◌, ◌++◌, ◌^◌, List, [], length, take, sym, ap, subst, ◌∙◌, arith, ◌≤◌, drop}
 use Rattle.std.specs.List.{AllByRecursion}
 use Rattle.std.proofs.lemmas.List.{take_all, drop_all}
 use Rattle.std.proofs.lemmas.Result.{IfOk-weaker}
@@ -12,6 +12,10 @@ use Rattle.frozen_btree.specs.declared.rows.Row.{Row}
 use Rattle.tree_changes.proofs.LayerLemmas.{none_at_end}
 use Rattle.tree_changes.proofs.ChangeBelowLemmas.{seen-size}
 use Rattle.tree_changes.proofs.EndLemmas.{rows-hand, tree-few, filled-few, filled-owned, filled-rebuilds}
+use Rattle.frozen_btree.specs.Changes.{levels}
+use Rattle.tree_changes.specs.Counts.{SpendsBelow, no_budgets, first_slots, slots_in}
+use Rattle.tree_changes.proofs.SpendLemmas.{counts-more}
+use Rattle.tree_changes.proofs.RootCountLemmas.{root-counts}
 use Rattle.tree_changes.proofs.change_tree.rebuild.Goals as goal
 
 pub fill_rows-requires : goal.fill_rows-requires
@@ -165,3 +169,33 @@ returns-clause-may g c =
     let t = c.fill_rows.new.store in
     let w = c.finish.new.store in
     may_do-then (ledger s) (ledger t) (ledger w) c.fill_rows.ensures.may c.finish.ensures.may
+
+pub returns-in_err-fill_rows-clause-counts : goal.returns-in_err-fill_rows-clause-counts
+returns-in_err-fill_rows-clause-counts g c =
+    let ledger = g.S.Store.ledger in
+    λ some. counts-more (ledger c.args.store.now) (ledger c.fill_rows.new.store) _ _ (omega arith) c.fill_rows.ensures.counts
+
+pub returns-clause-counts : goal.returns-clause-counts
+returns-clause-counts g c =
+    let ledger = g.S.Store.ledger in
+    let s = c.args.store.now in
+    let m = g.S.Frozen.records s in
+    let rows = c.deref_mut.result.now in
+    let empty : AreEmpty rows = subst (λ (rs : List Row). AreEmpty rs) (sym c.deref_mut.ensures.value) c.in_ok-rows.ensures.empty in
+    let size : length rows ≡ 8 = subst (λ (rs : List Row). length rs ≡ 8) (sym c.deref_mut.ensures.value) c.in_ok-rows.ensures.size in
+    let t = c.fill_rows.new.store in
+    let rows2 = c.deref_mut-2.result.now in
+    let filled : List Row = c.fill_rows.new.rows in
+    let filled_size : length filled ≡ length rows = c.in_ok-fill_rows.ensures.turns.size in
+    let rows_size = c.in_ok-rows.ensures.size in
+    let rows_len = c.in_ok-rows.rows.ok.0 in
+    let back : rows2 ≡ filled = c.deref_mut-2.ensures.value
+    ∙ ap (λ (rs : List Row). take c.in_ok-rows.rows.len (filled ++ rs)) (drop_all (length filled) c.in_ok-rows.rows.items (omega arith))
+    ∙ ap (λ (rs : List Row). take c.in_ok-rows.rows.len rs) (none_at_end filled) ∙ take_all c.in_ok-rows.rows.len filled (omega arith) in
+    let changes = length c.args.changes.now in
+    let root = c.args.root in
+    let spends = subst (λ (rs : List Row). 0 < root → 0 < changes → SpendsBelow (ledger s) (ledger t) changes (no_budgets (levels m root)) rows rs) (sym back) c.in_ok-fill_rows.ensures.spends in
+    let alone = subst (λ (rs : List Row). root ≡ 0 → (first_slots rs ≤ changes) × (slots_in (drop 1 rs) ≡ 0)) (sym back) c.in_ok-fill_rows.ensures.alone in
+    λ some.
+    root-counts (ledger s) (ledger t) (ledger c.finish.new.store) m root changes rows rows2 some empty c.fill_rows.ensures.may spends alone c.fill_rows.ensures.counts
+    c.finish.ensures.counts c.finish.ensures.alone

@@ -2,6 +2,7 @@ use Rattle.std.proofs.Common.{◌≡◌, ◌+◌, ◌∷◌, suc, arith, sym, su
 use Rattle.tree_changes.specs.Layers.{OpensRows, OpensLast, HasFirst}
 use Rattle.frozen_btree.specs.declared.rows.Row.{Row}
 use Rattle.tree_changes.proofs.LayerLemmas.{pulled}
+use Rattle.tree_changes.proofs.SpendLemmas.{reaches-same}
 use Rattle.tree_changes.proofs.layers.+pulling.Goals as goal
 
 pub pull-returns-clause-opens : goal.pull-returns-clause-opens
@@ -21,3 +22,6 @@ pull-returns-clause-opens g t c =
     subst (λ (rows : List Row). OpensRows m c.args.level rows (row2 ∷ set c.reach.new.rows 0 top2) c.args.replaced.now.items c.open_last.new.replaced.items) (sym all)
     (pulled m c.args.level (c.args.level + 1) next c.in-Some.row.now c.open_last.new.row (get_or c.reach.new.rows 0 c.index-above-0.result) c.open_last.new.above c.index-above-0.result
     c.in-Some.above.now c.reach.new.rows c.args.replaced.now.items c.reach.new.replaced.items c.open_last.new.replaced.items up some refl last)
+
+pub reach-returns-clause-reaches : goal.reach-returns-clause-reaches
+reach-returns-clause-reaches g t c = reaches-same c.args.rows.now

@@ -1,12 +1,16 @@
-use Rattle.std.proofs.Common.{rules, ℕ, ◌≡◌, ◌<◌, ◌≤◌, ◌+◌, ◌-◌, ◌^◌, ◌++◌, ◌∷◌, [], length, arith, sym, ap, subst, ◌∙◌, take, true, refl}
+use Rattle.std.proofs.Common.{rules, Bool, List, ◌*◌, ℕ, ◌≡◌, ◌<◌, ◌≤◌, ◌+◌, ◌-◌, ◌^◌, ◌++◌, ◌∷◌, [], length, arith, sym, ap, subst, ◌∙◌, take, true, refl}
 use Rattle.store_api.proofs.May.{may_do-then, may_do-same}
 use Rattle.store_api.specs.Units.{MayDo}
 use Rattle.tree_read.specs.Nodes.{used_of, node_keys, node_values}
 use Rattle.tree_read.proofs.ReadLemmas.{node-room}
+use Rattle.tree_read.proofs.ChildLemmas.{keys-length}
 use Rattle.tree_read.proofs.SlotLemmas.{hand-kept}
 use Rattle.tree_read.specs.Slots.{slot_pairs, slot_nodes, IsInHand}
 use Rattle.tree_changes.specs.Layers.{rows_pairs, AreInHand, TurnsRows}
 use Rattle.frozen_nodes.proofs.MakesLemmas.{keeps-then}
+use Rattle.frozen_nodes.specs.Makes.{CountsNodes}
+use Rattle.tree_changes.specs.Counts.{FitBudgets, SpendsRows, Settles, all_of}
+use Rattle.tree_changes.proofs.SpendLemmas.{spends-none, spends-then, spends-push, spends-opened, opened-counts, put-counts}
 use Rattle.tree_changes.proofs.LayerLemmas.{on_ok, on_ok_both}
 use Rattle.tree_changes.proofs.TurnLemmas.{put-settled, one-size, put-opened, opened-hand, opened-few, slot-hand-kept, slots-few, slots-more, some-level, one-node, slots-none}
 use Rattle.tree_changes.proofs.layers.+putting.Goals as goal
@@ -166,6 +170,7 @@ put_slots-loop-slot-init g t c =
       keeps = λ r some. refl;
       stays = λ r. omega arith;
       may = may_do-same ledger;
+      spends = λ budgets size fit. spends-none ledger budgets c.args.rows.now fit;
     }
 
 pub put_slots-returns-in_err-put_behind-clause-may : goal.put_slots-returns-in_err-put_behind-clause-may
@@ -190,4 +195,63 @@ put_slots-loop-slot-preserved g t c =
       keeps = keeps-then (records s) (records u) (records w) keeps c.put_behind.ensures.keeps;
       stays = λ r. let a = c.loop-slot.invariant.stays r in let b = c.put_behind.ensures.stays r in omega arith;
       may = may_do-then (ledger s) (ledger u) (ledger w) c.loop-slot.invariant.may c.put_behind.ensures.may;
+      spends = λ budgets size fit.
+          let x = c.loop-slot.invariant.spends budgets size fit in
+          spends-then (ledger s) (ledger u) (ledger w) slot 0 1 0 budgets c.args.rows.now c.loop-slot.rows c.put_behind.new.rows (omega arith) c.loop-slot.invariant.may x
+          (c.in_ok-put_behind.ensures.spends x.left (x.spends.size ∙ size) x.spends.fits);
     }
+
+pub put_slots-returns-in_err-put_behind-clause-counts : goal.put_slots-returns-in_err-put_behind-clause-counts
+put_slots-returns-in_err-put_behind-clause-counts g t c =
+    let ledger = g.S.Store.ledger in
+    λ budgets size fit.
+    let x = c.loop-slot.invariant.spends budgets size fit in
+    put-counts (ledger c.args.store.now) (ledger c.loop-slot.store) (ledger c.put_behind.new.store) c.loop-slot.slot budgets c.args.rows.now c.loop-slot.rows c.loop-slot.invariant.may x
+    (c.put_behind.ensures.counts x.left (x.spends.size ∙ size) x.spends.fits)
+
+pub put_behind-returns-then-settled-clause-spends : goal.put_behind-returns-then-settled-clause-spends
+put_behind-returns-then-settled-clause-spends g t c =
+    let ledger = g.S.Store.ledger in
+    let low : c.args.level < length c.settle.new.rows = (let size = c.in_ok-settled.ensures.turns.size in let all = c.requires.rows in let most = c.requires.low in omega arith) in
+    on_ok c.push_slot.result
+    (λ keys budgets size fit.
+    spends-push (ledger c.args.store.now) (ledger c.settle.new.store) budgets c.args.level c.args.rows.now c.settle.new.rows c.push_slot.new.row c.index-rows-level.result c.args.key size low keys
+    (c.in_ok-settled.ensures.spends budgets size fit).spends)
+    c.push_slot.ensures.keys
+
+pub put_behind-returns-clause-spends : goal.put_behind-returns-clause-spends
+put_behind-returns-clause-spends g t c =
+    let ledger = g.S.Store.ledger in
+    let s = c.args.store.now in
+    let u = c.settle.new.store in
+    let w = c.put_slots.new.store in
+    let n = g.S.Frozen.records u in
+    let rows = c.settle.new.rows in
+    let above = some-level c.args.level c.in_ok-settled.settled c.in_ok-settled.ensures.none c.if-settled.false in
+    let slot = hand-kept (g.S.Frozen.records s) n c.settle.ensures.keeps c.args.level (c.args.key ∷ []) (c.args.value ∷ []) c.requires.slot in
+    let node = one-node n c.args.level c.args.key c.args.value above slot in
+    let room = node-room n 8 (c.args.level - 1) c.args.value node in
+    let used = keys-length n 8 (c.args.level - 1) c.args.value node in
+    let keys : c.deref.result.now ≡ node_keys (n c.args.value) = c.deref.ensures.0 ∙ c.read_node-slots.ensures.keys ∙ ap (λ (q : ℕ). node_keys (n q)) c.from_raw-child.ensures in
+    let few : length c.deref.result.now ≤ 16 = (let size = ap length keys in omega arith) in
+    on_ok c.put_slots.result
+    (λ puts budgets size fit.
+    spends-opened (ledger s) (ledger u) (ledger w) budgets c.args.rows.now rows c.put_slots.new.rows (c.args.level - 1) (length c.deref.result.now) (omega arith) few c.settle.ensures.may
+    (subst (λ (b : Bool). Settles (ledger s) (ledger u) budgets c.args.rows.now rows b) c.if-settled.false (c.in_ok-settled.ensures.spends budgets size fit))
+    (subst (λ (st : g.row.S.Denot). (bs : List ℕ) → length bs ≡ c.args.level - 1 → FitBudgets 0 bs rows → SpendsRows (ledger st) (ledger w) (length c.deref.result.now) 0 bs rows c.put_slots.new.rows)
+    c.read_node-slots.ensures.same puts))
+    c.put_slots.ensures.spends
+
+pub put_behind-returns-clause-counts : goal.put_behind-returns-clause-counts
+put_behind-returns-clause-counts g t c =
+    let ledger = g.S.Store.ledger in
+    let s = c.args.store.now in
+    let u = c.settle.new.store in
+    let w = c.put_slots.new.store in
+    let rows = c.settle.new.rows in
+    let above = some-level c.args.level c.in_ok-settled.settled c.in_ok-settled.ensures.none c.if-settled.false in
+    λ budgets size fit.
+    opened-counts (ledger s) (ledger u) (ledger w) budgets c.args.rows.now rows (c.args.level - 1) (omega arith) c.settle.ensures.may
+    (subst (λ (b : Bool). Settles (ledger s) (ledger u) budgets c.args.rows.now rows b) c.if-settled.false (c.in_ok-settled.ensures.spends budgets size fit))
+    (subst (λ (st : g.row.S.Denot). (bs : List ℕ) → length bs ≡ c.args.level - 1 → FitBudgets 0 bs rows → CountsNodes (ledger st) (ledger w) (2 * all_of bs))
+    c.read_node-slots.ensures.same c.put_slots.ensures.counts)

@@ -1,9 +1,10 @@
-use Rattle.std.proofs.Common.{ℕ, ◌≤◌, ◌+◌, ◌*◌, take}
+use Rattle.std.proofs.Common.{ℕ, ◌≤◌, ◌+◌, ◌*◌, ◌≡◌, List, length, take}
 use Rattle.store_api.specs.Parts.{uses}
 use Rattle.store_api.specs.Units.{MayDo}
 use Rattle.tree_read.specs.Trees.{Keeps}
 use Rattle.tree_read.specs.Slots.{slot_pairs, slot_nodes}
 use Rattle.tree_changes.specs.Layers.{TurnsRows}
+use Rattle.tree_changes.specs.Counts.{FitBudgets, SpendsRows}
 use Rattle.tree_changes.proofs.layers.+putting.Given as goal
 
 abbrev pub decreases-put_behind : goal.decreases-put_behind
@@ -23,4 +24,5 @@ invariant-put_slots-loop-slot g l =
       keeps : Keeps (records l.fn.store) (records l.store);
       stays : (r : ℕ) → uses (ledger l.fn.store) r ≤ uses (ledger l.store) r;
       may : MayDo (ledger l.fn.store) (ledger l.store);
+      spends : (budgets : List ℕ) → length budgets ≡ l.level → FitBudgets 0 budgets l.fn.rows → SpendsRows (ledger l.fn.store) (ledger l.store) l.slot 0 budgets l.fn.rows l.rows;
     }
