@@ -38,10 +38,7 @@ pub extern "C" fn attr_sort(
         (λ guard. RefusesSort guard.fields field descending result) }
     ensures left { result ≡ LOST → at.new.value ≡ at.old.value }
     ensures into { result ≢ OK → into.new ≡ into.old }
-    ensures answer { at.new.value.answer ≡ at.old.value.answer }
-    ensures items { at.new.value.items ≡ at.old.value.items }
-    ensures saved { at.new.value.saved ≡ at.old.value.saved }
-    ensures groups { at.new.value.groups ≡ at.old.value.groups }
+    ensures rest { at.new.value ≡ record at.old.value { place = at.new.value.place } }
 {
     *told = no_answer();
     let seat = at.get_mut();
@@ -74,10 +71,7 @@ pub extern "C" fn attr_totals(
         (λ guard. RefusesField guard.fields field result) }
     ensures left { result ≡ LOST → at.new.value ≡ at.old.value }
     ensures zeros { result ≢ OK → totals.new ≡ no_totals_told }
-    ensures answer { at.new.value.answer ≡ at.old.value.answer }
-    ensures items { at.new.value.items ≡ at.old.value.items }
-    ensures saved { at.new.value.saved ≡ at.old.value.saved }
-    ensures groups { at.new.value.groups ≡ at.old.value.groups }
+    ensures rest { at.new.value ≡ record at.old.value { place = at.new.value.place } }
 {
     *told = no_answer();
     *totals = no_totals();
@@ -111,10 +105,7 @@ pub extern "C" fn attr_best(
     ensures left_no_text { result ≡ NO_TEXT → at.new.value ≡ at.old.value }
     ensures left_lost { result ≡ LOST → at.new.value ≡ at.old.value }
     ensures into { result ≢ OK → into.new ≡ into.old }
-    ensures answer { at.new.value.answer ≡ at.old.value.answer }
-    ensures items { at.new.value.items ≡ at.old.value.items }
-    ensures saved { at.new.value.saved ≡ at.old.value.saved }
-    ensures groups { at.new.value.groups ≡ at.old.value.groups }
+    ensures rest { at.new.value ≡ record at.old.value { place = at.new.value.place } }
 {
     *told = no_answer();
     let seat = at.get_mut();
@@ -151,10 +142,7 @@ pub extern "C" fn attr_longs(
     ensures left { result ≡ LOST → at.new.value ≡ at.old.value }
     ensures numbers { result ≢ OK → numbers.new ≡ numbers.old }
     ensures present { result ≢ OK → present.new ≡ present.old }
-    ensures answer { at.new.value.answer ≡ at.old.value.answer }
-    ensures items { at.new.value.items ≡ at.old.value.items }
-    ensures saved { at.new.value.saved ≡ at.old.value.saved }
-    ensures groups { at.new.value.groups ≡ at.old.value.groups }
+    ensures rest { at.new.value ≡ record at.old.value { place = at.new.value.place } }
 {
     *told = no_answer();
     let seat = at.get_mut();
