@@ -46,7 +46,7 @@ def read(path):
                 if line.startswith("<"):
                     rows[-1].steps.append((place, "<", line, None))
                 elif word in SAVES or word in CALLS:
-                    rows[-1].steps.append((place, word, call[len(word):].strip(), wanted))
+                    rows[-1].steps.append((place, word, call[len(word):].strip(), expanded(wanted)))
                 else:
                     raise BadRow(f"{place}: no such line: {line[:60]}")
     return rows
@@ -75,10 +75,10 @@ class Play:
             self.engine.close()
 
     def reader(self, text):
-        """The reader that a step names by `1 ` or `2 ` at its head, and the rest of it; else the first."""
+        """The reader that a step names by `@2` at its head, and the rest of it; else the first."""
         head, _, rest = text.partition(" ")
-        if head in ("1", "2"):
-            return self.readers[int(head) - 1], rest, int(head)
+        if head.startswith("@"):
+            return self.readers[int(head[1:]) - 1], rest, int(head[1:])
         return self.readers[0], text, 1
 
     def refusal(self, refused, place=False):
