@@ -9,7 +9,8 @@ import model
 from rows import BadRow, expanded, numbered, span
 
 # The calls of a row that are answered by a line behind ` = `.
-CALLS = ("open", "feed", "commit", "compact", "hold", "release", "ask", "count", "scores", "items", "save", "load", "counts", "guarded", "until")
+CALLS = ("open", "feed", "commit", "compact", "hold", "release", "ask", "count", "scores", "items", "save", "load", "counts", "guarded", "until",
+         "gathered")
 KINDS = ("single", "array", "weightedset")
 TYPES = ("long", "string")
 
@@ -198,6 +199,39 @@ class Play:
         after, refused = self.puts(under, puts, documents, batch, keys)
         library.must((after, refused), (puts, None), "the puts after the release")
         return str(under)
+
+    def gathered(self, text):
+        """`gathered READERS KEYS`: so many readers take a guard one after another, and each time a compaction empties one more buffer, which
+        stays held. Each sees at the end what it saw at first. After their releases and three commits no buffer is held. Answers how many
+        were held."""
+        many, keys = map(int, text.split())
+        seen = []
+        for reader in self.readers[:many]:
+            guard = reader.hold()
+            seen.append((reader, guard, self.sight(reader)))
+            self.empty_one(keys)
+        held = self.engine.counts().held
+        for reader, guard, sight in reversed(seen):
+            library.must(self.sight(reader), sight, f"what the guard of commit {guard.commit} sees")
+            guard.release()
+        for _ in range(3):
+            self.engine.commit()
+        library.must(self.engine.counts().held, 0, "buffers held after the releases")
+        return str(held)
+
+    @staticmethod
+    def sight(reader):
+        return list(reader.hits("[;]")), reader.save()
+
+    def empty_one(self, keys):
+        """Steps of a compaction until it has emptied a buffer, and a commit."""
+        for _ in range(100_000):
+            told = self.engine.compact(keys)
+            if told.finished:
+                self.engine.commit()
+                return
+            library.must(told.keys, keys, "the keys of a step")
+        raise library.Wrong("a compaction does not end")
 
     def puts(self, above, last, documents, batch, keys):
         """Makes puts until one or its commit is refused. How many were committed, and the refusal."""
