@@ -84,12 +84,7 @@ fn add_nodes(
 }
 
 /// Adds the nodes of a tree.
-fn add_tree(
-    census: &mut Census,
-    role: usize,
-    records: &BTreeMap<u32, Vec<u64>>,
-    root: u64,
-) {
+fn add_tree(census: &mut Census, role: usize, records: &BTreeMap<u32, Vec<u64>>, root: u64) {
     if root == 0 {
         return;
     }

@@ -95,11 +95,7 @@ pub fn work_of<const OFFSET_BITS: u32, W: Work<OFFSET_BITS>>(
 }
 
 /// Returns the result of a run that ended in this way, if it had enough memory.
-pub fn finish(
-    course: &Course,
-    ending: Ending,
-    watch: &Watch,
-) -> Result<Outcome, AllocError> {
+pub fn finish(course: &Course, ending: Ending, watch: &Watch) -> Result<Outcome, AllocError> {
     ending.played?;
     Ok(outcome_of(course, ending.commits, watch))
 }

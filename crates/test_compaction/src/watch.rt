@@ -22,10 +22,7 @@ pub struct Seen {
 
 /// Returns a commit whose image differs from the plain table, or was only read quickly.
 fn seen_quickly(same: bool) -> Seen {
-    Seen {
-        same,
-        census: None,
-    }
+    Seen { same, census: None }
 }
 
 /// A buffer that was handed out after this many commits.

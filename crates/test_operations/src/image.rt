@@ -54,4 +54,3 @@ pub fn check_notes<W: Noted>(
     }
     Ok(())
 }
-
