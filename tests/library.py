@@ -2,6 +2,7 @@
 
 Feeds in pieces, lines that are refused, commits, compactions, queries, items and saves, at the last commit and under a guard of an older
 one; and over each answer, and over one of an older commit, documents by value, totals, groups, terms, best scores and numbers in bulk.
+Each eighth case is of a store that is full again and again.
 """
 import importlib
 import os
@@ -229,12 +230,73 @@ class Case:
         return "done"
 
 
+class Full(Case):
+    """A case in so few buffers that operations are refused. A refused one changes nothing, and is made again after a commit; the case ends
+    where it is refused even then, or where a commit is."""
+
+    def __init__(self, attr, maker):
+        super().__init__(attr, maker)
+        self.engine.close()
+        dice = maker.dice
+        text = ",".join(":".join(field) for field in self.fields)
+        self.engine = attr.Engine(text, buffers=dice.choice([4, 5, 5, 6, 8]), words=8192, readers=2, dense=maker.odd(0.3))
+        self.documents, self.values = dice.choice([600, 1000, 2400]), dice.choice([4, 8, 200])
+
+    def item(self, kind, value):
+        """The value of a field in a put, of a few values."""
+        dice = self.maker.dice
+        drawn = [dice.randrange(self.values) for _ in range(1 if kind == "single" else dice.randrange(4))]
+        texts = [f'"{"x" * (number % 72)}{number}"' if value == "string" else str(number) for number in drawn]
+        if kind == "single":
+            return texts[0]
+        if kind == "array":
+            return f"[{','.join(texts)}]"
+        names = [text if text.startswith('"') else f'"{text}"' for text in dict.fromkeys(texts)]
+        return "{" + ",".join(f"{name}:{dice.randrange(-9, 10)}" for name in names) + "}"
+
+    def line(self, number):
+        """The operation of a number: in one period one of eight is a remove, in the next five of eight."""
+        dice = self.maker.dice
+        name = f'"id:n:t::{dice.randrange(1, self.documents + 1)}"'
+        if dice.randrange(8) < (5 if number // 1500 % 2 else 1):
+            return f'{{"remove":{name}}}'.encode()
+        fields = ",".join(f'"{field}":{self.item(kind, value)}' for field, kind, value in self.fields)
+        return f'{{"put":{name},"fields":{{{fields}}}}}'.encode()
+
+    def apply(self, line):
+        """Whether there was room for an operation, which then does what it does to the plain table."""
+        try:
+            told = self.engine.feed(line)
+        except self.attr.Refused as refused:
+            must((refused.code, refused.told.operations), (FULL, 0), "an operation in a full store")
+            return False
+        skipped = model.step(self.table, model.read_line(line, self.fields), self.fields)
+        must((told.operations, told.skipped), (1, skipped), f"the operation {line}")
+        self.operations += 1
+        return True
+
+    def course(self, reader, older):
+        refused = 0
+        for number in range(3000):
+            line = self.line(number)
+            if not self.apply(line):
+                refused += 1
+                self.look(reader, self.committed, self.saved_operations)
+                if not self.commit() or not self.apply(line):
+                    break
+            if number % 500 == 499 and not self.commit():
+                break
+        for _ in range(5):
+            self.look(reader, self.committed, self.saved_operations)
+        return "full again and again" if refused > 1 else "full" if refused else "nearly full"
+
+
 def case(library, seed, number):
     """Makes a case. Returns what is wrong, or None, and its kind."""
     attr = load_engine(library)
     made = None
     try:
-        made = Case(attr, cases.Maker(f"library {seed}:{number}"))
+        made = (Full if number % 8 == 7 else Case)(attr, cases.Maker(f"library {seed}:{number}"))
         return None, made.run()
     except Wrong as wrong:
         return f"library case {number} of seed {seed}: {wrong}", "wrong"

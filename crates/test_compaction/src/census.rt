@@ -25,11 +25,10 @@ const NODES: usize = 3;
 
 const BLOCKS: usize = 4;
 
-/// The number of records of each role in each buffer, and which records these are.
+/// The number of records of each role in each buffer.
 #[derive(Drop)]
 pub struct Census {
     counts: Vec<u32>,
-    reached: Vec<u64>,
 }
 
 /// Returns the index of the count of a role in a buffer.
@@ -40,21 +39,14 @@ fn place_of(role: usize, buffer: usize) -> usize {
 impl Census {
     fn new(alloc: Global) -> Result<Census, AllocError> {
         let counts = vec![in alloc; 0u32; ROLES * BUFFERS]?;
-        let reached = Vec::new(alloc);
-        Ok(Census { counts, reached })
+        Ok(Census { counts })
     }
 
-    fn note(&mut self, role: usize, reference: u64) -> Result<(), AllocError> {
+    fn note(&mut self, role: usize, reference: u64) {
         let buffer = (reference % 1024) as usize;
         if let Some(count) = self.counts.get_mut(place_of(role, buffer)) {
             *count = count.saturating_add(1);
         }
-        self.add(reference)
-    }
-
-    fn add(&mut self, reference: u64) -> Result<(), AllocError> {
-        self.reached.push(reference)?;
-        Ok(())
     }
 
     /// Returns the number of records of a role in a buffer.
@@ -63,22 +55,6 @@ impl Census {
             Some(count) => *count,
             None => 0,
         }
-    }
-
-    /// Returns the records of an image, as they are.
-    pub fn image_in(
-        &self,
-        alloc: Global,
-        records: &BTreeMap<u32, Vec<u64>>,
-    ) -> Result<BTreeMap<u32, Vec<u64>>, AllocError> {
-        let mut image = BTreeMap::new(alloc);
-        for reference in self.reached.as_slice() {
-            if let Ok(number) = u32::try_from(*reference) {
-                let words = words_at(records, *reference).to_vec(alloc)?;
-                image.insert(number, words)?;
-            }
-        }
-        Ok(image)
     }
 }
 
@@ -89,10 +65,10 @@ fn add_nodes(
     records: &BTreeMap<u32, Vec<u64>>,
     reference: u64,
     level: u32,
-) -> Result<(), AllocError> {
-    census.note(role, reference)?;
+) {
+    census.note(role, reference);
     if level == 0 {
-        return Ok(());
+        return;
     }
     let words = words_at(records, reference);
     let used = (word_in(words, 0) % 256) as usize;
@@ -103,23 +79,17 @@ fn add_nodes(
             records,
             word_in(words, FIRST_VALUE.saturating_add(i)),
             level - 1,
-        )?;
+        );
     }
-    Ok(())
 }
 
 /// Adds the nodes of a tree.
-fn add_tree(
-    census: &mut Census,
-    role: usize,
-    records: &BTreeMap<u32, Vec<u64>>,
-    root: u64,
-) -> Result<(), AllocError> {
+fn add_tree(census: &mut Census, role: usize, records: &BTreeMap<u32, Vec<u64>>, root: u64) {
     if root == 0 {
-        return Ok(());
+        return;
     }
     let level = word_in(words_at(records, root), 0) / 256 % 8;
-    add_nodes(census, role, records, root, level as u32)
+    add_nodes(census, role, records, root, level as u32);
 }
 
 /// Adds a document's record, and the values to which it refers.
@@ -128,22 +98,21 @@ fn add_document(
     kind: Kind,
     records: &BTreeMap<u32, Vec<u64>>,
     reference: u64,
-) -> Result<(), AllocError> {
+) {
     if reference == 0 {
-        return Ok(());
+        return;
     }
-    census.note(DOCUMENTS, reference)?;
+    census.note(DOCUMENTS, reference);
     let words = words_at(records, reference);
     let count = (word_in(words, 0) % 1024) as usize;
     let part = match kind {
-        Kind::Single => return Ok(()),
+        Kind::Single => return,
         Kind::Array => 1,
         Kind::WeightedSet => 4_294_967_296,
     };
     for i in 0..count {
-        census.note(DOCUMENTS, word_in(words, i.saturating_add(1)) / part)?;
+        census.note(DOCUMENTS, word_in(words, i.saturating_add(1)) / part);
     }
-    Ok(())
 }
 
 /// Adds the nodes and the blocks of a bit vector.
@@ -155,9 +124,9 @@ fn add_vector(
 ) -> Result<(), CheckFault> {
     let blocks = check_tree(alloc, Keys::Numbers, records, root)?;
     for pair in blocks.as_slice() {
-        census.note(BLOCKS, pair.1)?;
+        census.note(BLOCKS, pair.1);
     }
-    add_tree(census, LISTS, records, root)?;
+    add_tree(census, LISTS, records, root);
     Ok(())
 }
 
@@ -172,9 +141,9 @@ fn add_list(
         return add_vector(alloc, census, records, word - FIRST_VECTOR);
     }
     if word % 2 == 1 {
-        add_tree(census, LISTS, records, word / 2)?;
+        add_tree(census, LISTS, records, word / 2);
     } else {
-        census.note(LISTS, word / 2)?;
+        census.note(LISTS, word / 2);
     }
     Ok(())
 }
@@ -189,7 +158,7 @@ fn add_documents(
 ) -> Result<(), CheckFault> {
     let column = check_tree(alloc, Keys::Numbers, records, root)?;
     for pair in column.as_slice() {
-        add_document(census, kind, records, pair.1)?;
+        add_document(census, kind, records, pair.1);
     }
     Ok(())
 }
@@ -204,7 +173,7 @@ fn add_values(
 ) -> Result<(), CheckFault> {
     let values = check_tree(alloc, Keys::Values(value), records, root)?;
     for pair in values.as_slice() {
-        census.note(KEYS, pair.0)?;
+        census.note(KEYS, pair.0);
         add_list(alloc, census, records, pair.1)?;
     }
     Ok(())
@@ -220,8 +189,8 @@ fn add_field(
 ) -> Result<(), CheckFault> {
     add_documents(alloc, census, field.kind, records, documents)?;
     add_values(alloc, census, field.value, records, dictionary)?;
-    add_tree(census, NODES, records, documents)?;
-    add_tree(census, NODES, records, dictionary)?;
+    add_tree(census, NODES, records, documents);
+    add_tree(census, NODES, records, dictionary);
     Ok(())
 }
 
@@ -233,7 +202,6 @@ pub fn take(
     root: u64,
 ) -> Result<Census, CheckFault> {
     let mut census = Census::new(alloc)?;
-    census.add(root)?;
     let words = words_at(records, root);
     let mut place = 1usize;
     for field in fields {

@@ -28,8 +28,6 @@ pub struct Load {
     pub parts: u32,
     /// The last operations before the first compaction wait for their commit.
     pub waits: bool,
-    /// This many readers keep guards, each over a compaction and all later ones; 0 if the memory has no readers.
-    pub guards: u32,
     /// Frequent values have bit vectors.
     pub dense: bool,
 }
@@ -63,8 +61,6 @@ pub struct Told {
     pub begun: usize,
     pub quiet: bool,
     pub is_first: bool,
-    /// The first commit after the guards.
-    pub released: u32,
 }
 
 /// What follows a step.
@@ -103,7 +99,6 @@ impl Told {
             begun: 0,
             quiet: true,
             is_first: true,
-            released: 0,
         }
     }
 

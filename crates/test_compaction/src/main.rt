@@ -2,26 +2,20 @@
 //! printed.
 #![tactic(auto)]
 
-mod asking;
 mod census;
 mod course;
 mod ended;
-mod guards;
-mod heard;
 mod memory;
 mod outcome;
 mod rows;
 mod run;
 mod script;
-mod seats;
-mod sights;
 mod steps;
 mod table;
 mod turn;
 mod values;
 mod watch;
 mod watched;
-mod words;
 
 use std::io;
 

@@ -1,4 +1,4 @@
-//! The memory of a run: the one that has readers beside it.
+//! The memory of a run: the one that may have readers, without a reader.
 ghost use Rattle.std.specs.Prelude.{◌≡◌, ◌<◌, ◌≤◌, length};
 ghost use Rattle.arena_api.specs.Calls.{IsFresh};
 ghost use Rattle.image_format.specs.Shapes.{shape_of, types_of};
@@ -9,19 +9,17 @@ ghost use Rattle.word_arena.specs.Ruled.{writer_of};
 use crate::course::{Course, Load};
 use crate::outcome::Outcome;
 use crate::run::{finish, open, play_out, work_of};
-use crate::seats::Readers;
 use attr_types::Fields;
 use image_format::{AttrLayout, shape_of};
 use std::alloc::{AllocError, Global};
 use word_arena::{Arena, Config, Limits, Writer};
 
-/// Makes a run over a writer that has committed nothing, beside its readers.
-fn run_beside(
+/// Makes a run over a writer that has committed nothing.
+fn run_on(
     alloc: Global,
     writer: Writer<22, AttrLayout>,
     fields: &Fields,
     course: &mut Course,
-    readers: &mut Readers<22>,
 ) -> Result<Outcome, AllocError>
     requires some { 0 < length fields.now }
     requires few { length fields.now ≤ MOST_FIELDS }
@@ -29,27 +27,9 @@ fn run_beside(
     requires fresh { IsFresh (view_of writer.place.table_id (writer_of writer.place.me.0)) }
 {
     let attribute = open(alloc, writer, fields, course.load)?;
-    let (store, ending) = play_out(alloc, attribute, fields, course, readers);
+    let (store, ending) = play_out(alloc, attribute, fields, course);
     let watch = work_of(store).into_watch(ending.root);
-    finish(course, ending, &watch, readers.sights())
-}
-
-/// Makes a run over a writer that has committed nothing, with the readers that keep guards.
-fn run_seated(
-    alloc: Global,
-    writer: Writer<22, AttrLayout>,
-    fields: &Fields,
-    course: &mut Course,
-) -> Result<Outcome, AllocError>
-    requires some { 0 < length fields.now }
-    requires few { length fields.now ≤ MOST_FIELDS }
-    requires shape { (writer_of writer.place.me.0).sizes.shape ≡ shape_of (types_of fields.now) }
-    requires fresh { IsFresh (view_of writer.place.table_id (writer_of writer.place.me.0)) }
-{
-    let mut writer = writer;
-    let mut readers = Readers::new(alloc);
-    readers.add(&mut writer, course.load.guards, shape_of(fields))?;
-    run_beside(alloc, writer, fields, course, &mut readers)
+    finish(course, ending, &watch)
 }
 
 /// Makes a run over a memory of this many buffers of 8,192 words.
@@ -75,7 +55,7 @@ fn run_over(
     };
     let (arena, token) = Arena::<22, AttrLayout>::create(alloc, config)?;
     let writer = arena.writer(alloc, token)?;
-    run_seated(alloc, writer, fields, course)
+    run_on(alloc, writer, fields, course)
 }
 
 /// Makes a run, beginning with attributes without documents.

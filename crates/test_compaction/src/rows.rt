@@ -1,6 +1,6 @@
 //! Rows of standard input: `run FIELDS BUFFERS PUTS VALUES LAST KEEP COMMITS KEYS FINISHES CHECKS EACH REMOVES PARTS
-//! WAITS`, followed by GUARDS if readers keep guards, and by DENSE and DROPS; then `said LINE`, how much it must have
-//! done, and `met WORDS`, what must have occurred. `tell` prints all of it. FIELDS are `KIND:TYPE`, separated by commas.
+//! WAITS`, followed by DENSE and DROPS; then `said LINE`, how much it must have done, and `met WORDS`, what must have
+//! occurred. `tell` prints all of it. FIELDS are `KIND:TYPE`, separated by commas.
 //! Other lines are comments.
 use crate::course::Load;
 use crate::memory::run;
@@ -22,7 +22,7 @@ fn load_in(row: &str) -> Load {
             values: count_at(row, 3),
             last: count_at(row, 4),
             keep: count_at(row, 5),
-            drops: count_at(row, 16) != 0,
+            drops: count_at(row, 15) != 0,
         },
         commits: count_at(row, 6),
         keys: count_at(row, 7),
@@ -32,8 +32,7 @@ fn load_in(row: &str) -> Load {
         removes: count_at(row, 11) != 0,
         parts: count_at(row, 12),
         waits: count_at(row, 13) != 0,
-        guards: count_at(row, 14),
-        dense: count_at(row, 15) != 0,
+        dense: count_at(row, 14) != 0,
     }
 }
 
@@ -77,8 +76,6 @@ fn has_met(outcome: Outcome, word: &str) -> bool {
         "stopped" => told.stopped > 0,
         "went on" => told.resumed > 0,
         "idle" => told.idle,
-        "guards" => outcome.kept > 0 && outcome.kept == outcome.load.guards,
-        "came back" => outcome.back > 0 && outcome.back == outcome.load.guards,
         _ => false,
     }
 }
@@ -135,9 +132,8 @@ fn described(alloc: Global, outcome: Option<Outcome>) -> Result<String, AllocErr
         copied.nodes,
         copied.blocks,
     ];
-    let guards = [outcome.kept, outcome.back];
     format!(in alloc;
-        "{counts}; operations, commits, steps {done:?}; refused, stopped, short, cut, resumed {broken:?}; idle {idle} full {full}; copied {moved:?}; widths {widths:?}; guards, back {guards:?}"
+        "{counts}; operations, commits, steps {done:?}; refused, stopped, short, cut, resumed {broken:?}; idle {idle} full {full}; copied {moved:?}; widths {widths:?}"
     )
 }
 

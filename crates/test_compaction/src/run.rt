@@ -7,10 +7,7 @@ ghost use Rattle.word_arena.specs.Knows.{view_of};
 ghost use Rattle.word_arena.specs.Ruled.{writer_of};
 
 use crate::course::{Course, Load};
-use crate::guards::keep_guards;
 use crate::outcome::{Outcome, outcome_of};
-use crate::seats::Readers;
-use crate::sights::Sight;
 use crate::steps::{load_all, take_steps};
 use crate::watch::Watch;
 use crate::watched::Watched;
@@ -49,16 +46,12 @@ fn play<const OFFSET_BITS: u32, S: Store<OFFSET_BITS, Layout = AttrLayout>>(
     attribute: &mut Attribute<OFFSET_BITS, S>,
     fields: &Fields,
     course: &mut Course,
-    readers: &mut Readers<OFFSET_BITS>,
 ) -> Result<(), AllocError>
     requires few { length fields.now ≤ MOST_FIELDS }
     requires same { attribute.old.fields ≡ fields.now }
     ensures same { attribute.new.fields ≡ fields.now }
 {
     if !load_all(alloc, attribute, fields, course)? {
-        return Ok(());
-    }
-    if !keep_guards(alloc, attribute, fields, course, readers)? {
         return Ok(());
     }
     take_steps(alloc, attribute, fields, course, course.load.finishes)
@@ -79,13 +72,12 @@ pub fn play_out<const OFFSET_BITS: u32, S: Store<OFFSET_BITS, Layout = AttrLayou
     attribute: Attribute<OFFSET_BITS, S>,
     fields: &Fields,
     course: &mut Course,
-    readers: &mut Readers<OFFSET_BITS>,
 ) -> (S, Ending)
     requires few { length fields.now ≤ MOST_FIELDS }
     requires same { attribute.fields ≡ fields.now }
 {
     let mut attribute = attribute;
-    let played = play(alloc, &mut attribute, fields, course, readers);
+    let played = play(alloc, &mut attribute, fields, course);
     let (store, published) = attribute.into_store();
     let ending = Ending {
         played,
@@ -103,12 +95,7 @@ pub fn work_of<const OFFSET_BITS: u32, W: Work<OFFSET_BITS>>(
 }
 
 /// Returns the result of a run that ended in this way, if it had enough memory.
-pub fn finish(
-    course: &Course,
-    ending: Ending,
-    watch: &Watch,
-    sights: &[Sight],
-) -> Result<Outcome, AllocError> {
+pub fn finish(course: &Course, ending: Ending, watch: &Watch) -> Result<Outcome, AllocError> {
     ending.played?;
-    Ok(outcome_of(course, ending.commits, watch, sights))
+    Ok(outcome_of(course, ending.commits, watch))
 }

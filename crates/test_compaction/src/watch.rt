@@ -18,20 +18,11 @@ pub struct Seen {
     pub same: bool,
     /// What it reaches in each buffer, if that was counted.
     pub census: Option<Census>,
-    /// The records that it reaches, if they are kept.
-    pub image: Option<BTreeMap<u32, Vec<u64>>>,
-    /// The number of free buffers.
-    pub free: u32,
 }
 
 /// Returns a commit whose image differs from the plain table, or was only read quickly.
 fn seen_quickly(same: bool) -> Seen {
-    Seen {
-        same,
-        census: None,
-        image: None,
-        free: 0,
-    }
+    Seen { same, census: None }
 }
 
 /// A buffer that was handed out after this many commits.
@@ -49,8 +40,6 @@ pub struct Watch {
     script: Script,
     /// One commit in this many is read by the slow checker, and counted.
     checks: usize,
-    /// The records of such images are kept.
-    keeps: bool,
     plain: PlainTable,
     done: u32,
     seen: Vec<Seen>,
@@ -67,7 +56,6 @@ impl Watch {
             alloc,
             script: load.script,
             checks: load.checks as usize,
-            keeps: load.guards > 0,
             plain: PlainTable::new(alloc, own),
             done: 0,
             seen: Vec::new(alloc),
@@ -97,28 +85,14 @@ impl Watch {
         Ok(())
     }
 
-    fn image_of(
-        &self,
-        records: &BTreeMap<u32, Vec<u64>>,
-        census: &Census,
-    ) -> Result<Option<BTreeMap<u32, Vec<u64>>>, AllocError> {
-        if !self.keeps {
-            return Ok(None);
-        }
-        Ok(Some(census.image_in(self.alloc, records)?))
-    }
-
     /// Reads an image by the slow checker, and counts what it reaches.
     fn read_whole(&self, records: &BTreeMap<u32, Vec<u64>>, root: u64) -> Result<Seen, CheckFault> {
         let (alloc, fields) = (self.alloc, self.plain.fields());
         let same = is_lawful(alloc, fields, records, root, &self.plain)?;
         let census = take(alloc, fields.as_slice(), records, root)?;
-        let image = self.image_of(records, &census)?;
         Ok(Seen {
             same,
             census: Some(census),
-            image,
-            free: 0,
         })
     }
 
@@ -142,23 +116,22 @@ impl Watch {
         Ok(seen_quickly(same))
     }
 
-    fn add(&mut self, seen: Result<Seen, CheckFault>, free: u32) -> Result<(), AllocError> {
-        let mut one = match seen {
+    fn add(&mut self, seen: Result<Seen, CheckFault>) -> Result<(), AllocError> {
+        let one = match seen {
             Ok(seen) => seen,
             Err(CheckFault::Broken) => seen_quickly(false),
             Err(CheckFault::Memory) => return Err(AllocError),
         };
-        one.free = free;
         self.seen.push(one)?;
         Ok(())
     }
 
-    /// Notes a commit, with the number of free buffers.
-    pub fn published(&mut self, records: &BTreeMap<u32, Vec<u64>>, root: u64, free: u32) {
+    /// Notes a commit.
+    pub fn published(&mut self, records: &BTreeMap<u32, Vec<u64>>, root: u64) {
         let number = self.seen.len().saturating_add(1);
         let whole = number % self.checks.max(1) == 0;
         let seen = self.compare(records, root, whole);
-        if self.add(seen, free).is_err() {
+        if self.add(seen).is_err() {
             self.failed = true;
         }
     }
@@ -182,11 +155,8 @@ impl Watch {
     /// Reads the last commit once more, completely.
     pub fn look_again(&mut self, records: &BTreeMap<u32, Vec<u64>>, root: u64) {
         let seen = self.compare(records, root, true);
-        let free = match self.seen.pop() {
-            Some(last) => last.free,
-            None => 0,
-        };
-        if self.add(seen, free).is_err() {
+        let _last = self.seen.pop();
+        if self.add(seen).is_err() {
             self.failed = true;
         }
     }

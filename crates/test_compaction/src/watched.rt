@@ -11,18 +11,18 @@ ghost use Rattle.word_arena.specs.Knows.{view_of};
 ghost use Rattle.word_arena.specs.Ruled.{start_in, writer_of};
 
 use crate::watch::Watch;
-use crate::words::Words;
 use arena_api::{Advance, Frozen, Oldest, Work};
 use entry_ref::{EntryRef, Layout};
 use image_format::AttrLayout;
 use std::alloc::Global;
+use test_kit::Notes;
 use word_arena::{Home, Writer};
 
 /// A work whose commits are watched, with a copy of what is stored in it.
 #[derive(Drop)]
 pub struct Watched {
     work: Writer<22, AttrLayout>,
-    stored: Words,
+    stored: Notes,
     watch: Watch,
 }
 
@@ -35,7 +35,7 @@ impl Watched {
     {
         Watched {
             work,
-            stored: Words::new(alloc),
+            stored: Notes::new(alloc, true),
             watch,
         }
     }
@@ -47,7 +47,7 @@ impl Watched {
             stored,
             mut watch,
         } = self;
-        if let Some(records) = stored.sure() {
+        if let Some(records) = stored.records() {
             watch.look_again(records, root);
         }
         watch
@@ -181,10 +181,9 @@ impl Work<22> for Watched {
         ensures shape { ⟦<Watched as Frozen<22>>⟧.shape self.new
             ≡ ⟦<Watched as Frozen<22>>⟧.shape self.old }
     {
-        let free = self.work.free_buffers();
         let number = self.work.publish(root);
-        if let Some(records) = self.stored.sure() {
-            self.watch.published(records, u64::from(root.raw()), free);
+        if let Some(records) = self.stored.records() {
+            self.watch.published(records, u64::from(root.raw()));
         }
         number
     }

@@ -1,5 +1,3 @@
 pub mod OneNode
 pub mod ProofsForOneNode
 pub mod Turns
-pub mod Holds
-pub mod Printing

@@ -16,13 +16,6 @@ impl Random {
         }
     }
 
-    /// Creates the numbers of the benchmarks, which the compared programs draw too.
-    pub fn of_benchmarks() -> Random {
-        Random {
-            state: 88_172_645_463_325_252,
-        }
-    }
-
     fn step(&mut self) {
         self.state ^= self.state.wrapping_shl(13);
         self.state ^= self.state.wrapping_shr(7);

@@ -16,9 +16,6 @@ pub struct Told {
     pub twice: u32,
     /// Commits that were refused.
     pub full: u32,
-    pub queries: u32,
     /// The number of images that the slow checker read.
     pub images: u32,
-    pub hits: u64,
-    pub scores: u64,
 }

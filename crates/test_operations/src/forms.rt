@@ -78,6 +78,17 @@ fn push_tree(
     }
 }
 
+/// Writes the count of a short list and its documents with their weights, a word each.
+fn push_short(told: &mut String, words: &[u64]) -> Result<(), AllocError> {
+    match words {
+        [count, pairs @ ..] => {
+            write!(told, "short list of {count}:")?;
+            push_words(told, pairs, used_words(pairs))
+        }
+        [] => told.push_str("no list"),
+    }
+}
+
 /// Writes the form of the list that a word of the dictionary names.
 fn push_form(
     alloc: Global,
@@ -91,11 +102,7 @@ fn push_form(
     if word % 2 != 0 {
         return push_tree(alloc, records, word / 2, told);
     }
-    write!(
-        told,
-        "short list of {}",
-        word_in(words_at(records, word / 2), 0)
-    )
+    push_short(told, words_at(records, word / 2))
 }
 
 fn text_len(alloc: Global, words: &[u64]) -> Result<usize, AllocError> {

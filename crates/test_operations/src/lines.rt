@@ -1,15 +1,13 @@
-//! The lines of a worked row.
+//! The lines of a row of forms.
 use crate::worked::{Worked, told_of};
 use std::alloc::{AllocError, Global};
 use test_kit::{fields_in, number_at, push_number};
 
-/// The attributes and the number of buffers; the operations and commits, one in each line; and whether the forms of
-/// the lists are wanted.
+/// The attributes and the number of buffers, and the operations and commits, one in each line.
 #[derive(Drop)]
 pub struct Lines {
     row: String,
     turns: String,
-    forms: bool,
 }
 
 fn push_line(lines: &mut String, line: &str) -> Result<(), AllocError> {
@@ -29,22 +27,11 @@ fn push_put(turns: &mut String, value: Option<&str>) -> Result<(), AllocError> {
 
 impl Lines {
     /// Returns a row with its attributes and its number of buffers.
-    pub fn new(alloc: Global, row: &str, forms: bool) -> Result<Lines, AllocError> {
+    pub fn new(alloc: Global, row: &str) -> Result<Lines, AllocError> {
         Ok(Lines {
             row: String::from_str(alloc, row)?,
             turns: String::new(alloc),
-            forms,
         })
-    }
-
-    /// Takes a put of the value 5, repeated.
-    fn take_fives(&mut self, count: u32) -> Result<(), AllocError> {
-        self.turns
-            .push_str("{\"put\":\"id:n:t::1\",\"fields\":{\"f\":[5")?;
-        for _ in 1..count {
-            self.turns.push_str(",5")?;
-        }
-        self.turns.push_str("]}}\n")
     }
 
     /// Takes puts of a value to documents from one to another, or puts without a value.
@@ -70,7 +57,6 @@ impl Lines {
         let first = number_at(line, 1);
         let last = number_at(line, 2);
         match line.split(' ').next() {
-            Some("fives") => self.take_fives(first),
             Some("puts") => self.take_puts(first, last, line.split(' ').skip(3).next()),
             Some("removes") => self.take_removes(first, last),
             _ => Ok(()),
@@ -90,7 +76,6 @@ impl Lines {
             buffers: number_at(&self.row, 1),
             dense: number_at(&self.row, 2) != 0,
             lines: self.turns.as_str(),
-            forms: self.forms,
         }
     }
 

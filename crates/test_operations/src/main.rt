@@ -1,8 +1,7 @@
-//! Random operations on attributes in a store beside the plain table, and worked rows of operations, from standard
+//! Random operations on attributes in a store beside the plain table, and the forms of lists, by rows of standard
 //! input. A wrong row is printed.
 #![tactic(auto)]
 
-mod ask;
 mod counts;
 mod forms;
 mod image;
@@ -10,7 +9,6 @@ mod lines;
 mod make;
 mod rows;
 mod run;
-mod told;
 mod turn;
 mod values;
 mod worked;

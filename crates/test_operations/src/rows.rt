@@ -1,8 +1,7 @@
-//! Rows of standard input: `run FIELDS SEED EPISODES OPERATIONS DOCUMENTS VALUES ITEMS PERIOD COMMITS BUFFERS QUERIES
-//! CHECKS DENSE`; then `said LINE`, how much it must have done, and `met WORDS`, what must have occurred often enough.
-//! FIELDS are `KIND:TYPE`, separated by commas. Or `on FIELDS BUFFERS`; then an operation of a feed or `commit` in
-//! each line, and `answers LINE`, what each answers. Or `forms FIELDS BUFFERS DENSE`, with such lines, and
-//! `answers LINE`, the forms of lists. Other lines are comments.
+//! Rows of standard input: `run FIELDS SEED EPISODES OPERATIONS DOCUMENTS VALUES ITEMS PERIOD COMMITS BUFFERS CHECKS
+//! DENSE`; then `said LINE`, how much it must have done, and `met WORDS`, what must have occurred often enough. FIELDS
+//! are `KIND:TYPE`, separated by commas. Or `forms FIELDS BUFFERS DENSE`; then an operation of a feed or `commit` in
+//! each line, and `answers LINE`, the forms of lists. Other lines are comments.
 use crate::counts::Told;
 use crate::lines::Lines;
 use crate::make::Sizes;
@@ -24,9 +23,8 @@ fn load_in(row: &str) -> Load {
         },
         commits: number_at(row, 8),
         buffers: number_at(row, 9),
-        queries: number_at(row, 10),
-        checks: number_at(row, 11) != 0,
-        dense: number_at(row, 12) != 0,
+        checks: number_at(row, 10) != 0,
+        dense: number_at(row, 11) != 0,
     }
 }
 
@@ -41,20 +39,18 @@ fn push_counts(line: &mut String, told: Told) -> Result<(), AllocError> {
         let operations = u64::from(told.changed) + u64::from(told.skipped);
         write!(line, "{operations} operations, {} commits, ", told.commits)?;
     }
-    write!(line, "{} queries, {} images", told.queries, told.images)
+    write!(line, "{} images", told.images)
 }
 
 /// Returns what may be required to occur in a run, how often it did, and how often it must.
-fn counts_of(told: Told) -> [(&'static str, u64, u64); 8] {
+fn counts_of(told: Told) -> [(&'static str, u32, u32); 6] {
     [
-        ("changed", u64::from(told.changed), 1000),
-        ("skipped", u64::from(told.skipped), 100),
-        ("refused", u64::from(told.refused), 20),
-        ("accepted after a commit", u64::from(told.again), 10),
-        ("refused after it", u64::from(told.twice), 2),
-        ("commits refused", u64::from(told.full), 2),
-        ("hits", told.hits, 1000),
-        ("scores", told.scores, 1000),
+        ("changed", told.changed, 1000),
+        ("skipped", told.skipped, 100),
+        ("refused", told.refused, 20),
+        ("accepted after a commit", told.again, 10),
+        ("refused after it", told.twice, 2),
+        ("commits refused", told.full, 2),
     ]
 }
 
@@ -98,7 +94,7 @@ fn told(alloc: Global, row: &str) -> Result<Option<Told>, AllocError> {
 struct Rows {
     case: String,
     told: Option<Told>,
-    worked: Lines,
+    forms: Lines,
     tally: Tally,
 }
 
@@ -107,7 +103,7 @@ impl Rows {
         Ok(Rows {
             case: String::new(alloc),
             told: None,
-            worked: Lines::new(alloc, "", false)?,
+            forms: Lines::new(alloc, "")?,
             tally: Tally::default(),
         })
     }
@@ -118,15 +114,15 @@ impl Rows {
         Ok(())
     }
 
-    fn begin_worked(&mut self, alloc: Global, row: &str, forms: bool) -> Result<(), AllocError> {
+    fn begin_forms(&mut self, alloc: Global, row: &str) -> Result<(), AllocError> {
         self.told = None;
-        self.worked = Lines::new(alloc, row, forms)?;
+        self.forms = Lines::new(alloc, row)?;
         self.case = String::from_str(alloc, row)?;
         Ok(())
     }
 
-    fn compare_worked(&mut self, rt: &HostRuntime, wanted: &str) -> io::Result<()> {
-        let found = self.worked.answer(rt.alloc())?;
+    fn compare_forms(&mut self, rt: &HostRuntime, wanted: &str) -> io::Result<()> {
+        let found = self.forms.answer(rt.alloc())?;
         self.tally.note(rt, &self.case, &found, wanted)
     }
 
@@ -160,18 +156,15 @@ impl Rows {
         if let Some(row) = line.strip_prefix("run ") {
             return Ok(self.begin_run(rt.alloc(), row)?);
         }
-        if let Some(row) = line.strip_prefix("on ") {
-            return Ok(self.begin_worked(rt.alloc(), row, false)?);
-        }
         if let Some(row) = line.strip_prefix("forms ") {
-            return Ok(self.begin_worked(rt.alloc(), row, true)?);
+            return Ok(self.begin_forms(rt.alloc(), row)?);
         }
         if let Some(wanted) = line.strip_prefix("answers") {
-            return self.compare_worked(rt, wanted);
+            return self.compare_forms(rt, wanted);
         }
         match self.told {
             Some(told) => self.compare_run(rt, told, line),
-            None => Ok(self.worked.take(line)?),
+            None => Ok(self.forms.take(line)?),
         }
     }
 }

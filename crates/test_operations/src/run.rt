@@ -1,16 +1,13 @@
-//! Episodes of operations. Each begins without documents, and at its end the last commit is asked.
+//! Episodes of operations. Each begins without documents, and at its end the last commit is compared.
 ghost use Rattle.std.specs.Prelude.{◌≡◌, ◌<◌, ◌≤◌, length};
-ghost use Rattle.image_format.specs.Images.{IsLawfulImage};
-ghost use Rattle.image_format.specs.Shapes.{shape_of, types_of};
 ghost use Rattle.attr_types.specs.declared.field.TheConstants.{MOST_FIELDS};
 
 use crate::counts::Told;
-use crate::image::ask_image;
+use crate::image::check_notes;
 use crate::make::{Sizes, op_of};
 use crate::turn::{
     Answer, Committed, Noted, apply_one, apply_plain, close, commit_one, new_attribute, new_plain,
 };
-use arena_api::Work;
 use attr_types::{Applied, Fields, Op};
 use attribute_kinds::{Attribute, Published};
 use image_format::AttrLayout;
@@ -30,8 +27,6 @@ pub struct Load {
     /// The number of operations between commits.
     pub commits: u32,
     pub buffers: u32,
-    /// How many queries, and as many dot products, are asked at the end of each episode.
-    pub queries: u32,
     /// Whether the slow checker reads the image at the end of each episode.
     pub checks: bool,
     /// Whether frequent values have bit vectors.
@@ -49,10 +44,7 @@ fn commit_now<const OFFSET_BITS: u32, S: Store<OFFSET_BITS, Layout = AttrLayout>
     ensures same { attribute.new.fields ≡ fields.now }
 {
     match commit_one(attribute, fields)? {
-        Committed::At {
-            operations: count,
-            ..
-        } => {
+        Committed::At { operations: count } => {
             told.commits = told.commits.saturating_add(1);
             told.committed = operations;
             if count != operations {
@@ -60,7 +52,7 @@ fn commit_now<const OFFSET_BITS: u32, S: Store<OFFSET_BITS, Layout = AttrLayout>
             }
             Ok(count == operations)
         }
-        Committed::Full { .. } => {
+        Committed::Full => {
             told.full = told.full.saturating_add(1);
             Ok(false)
         }
@@ -87,7 +79,7 @@ fn apply_again<const OFFSET_BITS: u32, S: Store<OFFSET_BITS, Layout = AttrLayout
             told.again = told.again.saturating_add(1);
             Ok(Some(applied))
         }
-        Answer::Full { .. } => {
+        Answer::Full => {
             told.twice = told.twice.saturating_add(1);
             Ok(None)
         }
@@ -138,7 +130,7 @@ fn apply<const OFFSET_BITS: u32, S: Store<OFFSET_BITS, Layout = AttrLayout>>(
 {
     match apply_one(alloc, attribute, fields, op)? {
         Answer::Applied(applied) => Ok(Some(applied)),
-        Answer::Full { .. } => apply_refused(alloc, attribute, fields, op, operations, told),
+        Answer::Full => apply_refused(alloc, attribute, fields, op, operations, told),
         Answer::Odd => {
             told.differs = true;
             Ok(None)
@@ -277,33 +269,25 @@ fn play<const OFFSET_BITS: u32, S: Store<OFFSET_BITS, Layout = AttrLayout>>(
     take_turns(alloc, attribute, &mut plain, fields, load, random, told)
 }
 
-/// Compares the last commit with the plain table after its operations, if the turns were made.
-fn ask_last<const OFFSET_BITS: u32, W: Work<OFFSET_BITS> + Noted>(
+/// Compares the last commit with the plain table after its operations, by the slow checker if the records were noted.
+fn check_last<const OFFSET_BITS: u32, W: Noted>(
     alloc: Global,
-    work: &mut W,
+    work: &W,
     last: Published<OFFSET_BITS>,
     fields: &Fields,
     load: Load,
     start: Random,
-    random: &mut Random,
-    played: Result<(), AllocError>,
     told: &mut Told,
 ) -> Result<(), AllocError>
     requires few { length fields.now ≤ MOST_FIELDS }
-    requires shape { W.shape work.old ≡ shape_of (types_of fields.now) }
-    requires image { IsLawfulImage (W.shape work.old) (W.records work.old) last.root }
 {
-    played?;
     told.episodes = told.episodes.saturating_add(1);
     if last.operations != told.committed {
         told.differs = true;
     }
-    let root = last.root;
-    let (sizes, queries) = (load.sizes, load.queries);
-    let wanted = plain_after(alloc, fields, sizes, start, told.committed)?;
-    ask_image(
-        alloc, work, root, fields, &wanted, sizes, queries, random, told,
-    )
+    let root = u64::from(last.root.raw());
+    let wanted = plain_after(alloc, fields, load.sizes, start, told.committed)?;
+    check_notes(alloc, fields, work, root, &wanted, told)
 }
 
 /// Plays an episode. The attributes are closed also if a turn is not made, so that nothing drops them.
@@ -321,10 +305,9 @@ fn episode(
     let buffers = load.buffers.max(1).min(1000);
     let mut attribute = new_attribute(alloc, fields, buffers, load.checks, load.dense)?;
     let played = play(alloc, &mut attribute, fields, load, random, told);
-    let (mut work, last) = close(attribute, fields);
-    ask_last(
-        alloc, &mut work, last, fields, load, start, random, played, told,
-    )
+    let (work, last) = close(attribute, fields);
+    played?;
+    check_last(alloc, &work, last, fields, load, start, told)
 }
 
 /// Makes the episodes of a run, one after another, until something differs.

@@ -1,7 +1,6 @@
 //! One operation on attributes in a store and on the plain table.
 ghost use Rattle.std.specs.Prelude.{◌≡◌, ◌<◌, ◌≤◌, length, IfOk};
 ghost use Rattle.arena_api.specs.Calls.{IsFresh};
-ghost use Rattle.image_format.specs.Images.{IsLawfulImage};
 ghost use Rattle.image_format.specs.Shapes.{shape_of, types_of};
 ghost use Rattle.attr_types.specs.declared.field.TheConstants.{MOST_FIELDS};
 
@@ -39,8 +38,8 @@ impl<const OFFSET_BITS: u32, W: Work<OFFSET_BITS>> Noted for NotedWork<OFFSET_BI
 #[derive(Clone, Copy)]
 pub enum Answer {
     Applied(Applied),
-    /// Refused for lack of a buffer, with this many in use and held.
-    Full { active: u32, held: u32 },
+    /// Refused for lack of a buffer.
+    Full,
     /// Refused for a reason that cannot occur.
     Odd,
 }
@@ -48,10 +47,10 @@ pub enum Answer {
 /// The result of a commit.
 #[derive(Clone, Copy)]
 pub enum Committed {
-    /// Made with this number, and this many operations.
-    At { number: u32, operations: u32 },
-    /// Refused for lack of a buffer, with this many in use and held.
-    Full { active: u32, held: u32 },
+    /// Made with this many operations.
+    At { operations: u32 },
+    /// Refused for lack of a buffer.
+    Full,
     /// Refused for a reason that cannot occur.
     Odd,
 }
@@ -127,7 +126,7 @@ pub fn apply_one<const OFFSET_BITS: u32, S: Store<OFFSET_BITS, Layout = AttrLayo
     }
     match attribute.apply(alloc, op) {
         Ok(applied) => Ok(Answer::Applied(applied)),
-        Err(AttrError::Full { active, held, .. }) => Ok(Answer::Full { active, held }),
+        Err(AttrError::Full { .. }) => Ok(Answer::Full),
         Err(AttrError::CommitsSpent { .. }) => Ok(Answer::Odd),
         Err(AttrError::Memory) => Err(AllocError),
     }
@@ -159,10 +158,9 @@ pub fn commit_one<const OFFSET_BITS: u32, S: Store<OFFSET_BITS, Layout = AttrLay
 {
     match attribute.commit() {
         Ok(info) => Ok(Committed::At {
-            number: info.commit,
             operations: info.operations,
         }),
-        Err(AttrError::Full { active, held, .. }) => Ok(Committed::Full { active, held }),
+        Err(AttrError::Full { .. }) => Ok(Committed::Full),
         Err(AttrError::CommitsSpent { .. }) => Ok(Committed::Odd),
         Err(AttrError::Memory) => Err(AllocError),
     }
@@ -171,9 +169,6 @@ pub fn commit_one<const OFFSET_BITS: u32, S: Store<OFFSET_BITS, Layout = AttrLay
 /// Returns the memory of attributes, with all that was committed, and the last commit.
 pub fn close(attribute: Kinds, fields: &Fields) -> (Memory, Published<22>)
     requires same { attribute.fields ≡ fields.now }
-    ensures shape { ⟦<NotedWork<22, MemWork<22, AttrLayout>> as Frozen<22>>⟧.shape result.0 ≡ shape_of (types_of fields.now) }
-    ensures image { IsLawfulImage (⟦<NotedWork<22, MemWork<22, AttrLayout>> as Frozen<22>>⟧.shape result.0)
-        (⟦<NotedWork<22, MemWork<22, AttrLayout>> as Frozen<22>>⟧.records result.0) result.1.root }
 {
     let (store, published) = attribute.into_store();
     let work = committed_work(store, fields, published.root);

@@ -1,26 +1,23 @@
-//! Operations of a feed on attributes without documents, in the order of a row's lines, and what each of them answers.
+//! Operations of a feed on attributes without documents, in the order of a row's lines, and the forms of the lists then.
 ghost use Rattle.std.specs.Prelude.{◌≡◌, ◌<◌, ◌≤◌, length};
 ghost use Rattle.attr_types.specs.declared.field.TheConstants.{MOST_FIELDS};
 
 use crate::forms::push_forms;
-use crate::told::{count_changed, push_answer, push_commit};
-use crate::turn::{Noted, apply_one, close, commit_one, new_attribute};
+use crate::turn::{Answer, Noted, apply_one, close, commit_one, new_attribute};
 use attr_io::SliceSource;
-use attr_types::{Fields, Op, Ops};
+use attr_types::{Applied, Fields, Op, Ops};
 use attribute_kinds::{Attribute, Published};
 use feed_reader::{FeedError, read_feed};
 use image_format::AttrLayout;
 use std::alloc::{AllocError, Global};
 use store_api::Store;
 
-/// A worked row: its buffers, whether frequent values have bit vectors, and its operations and commits. Their answers
-/// are told, or the forms of the lists of the last commit.
+/// A row: its buffers, whether frequent values have bit vectors, and its operations and commits.
 #[derive(Clone, Copy)]
 pub struct Worked<'a> {
     pub buffers: u32,
     pub dense: bool,
     pub lines: &'a str,
-    pub forms: bool,
 }
 
 /// Reads a line. It has no contract, so that the proofs of its callers stay small.
@@ -34,15 +31,18 @@ fn apply_only<const OFFSET_BITS: u32, S: Store<OFFSET_BITS, Layout = AttrLayout>
     attribute: &mut Attribute<OFFSET_BITS, S>,
     fields: &Fields,
     ops: &[Op],
-    told: &mut String,
+    changed: &mut u32,
 ) -> Result<(), AllocError>
     requires same { attribute.old.fields ≡ fields.now }
     ensures same { attribute.new.fields ≡ fields.now }
 {
-    match ops {
-        [op] => push_answer(told, apply_one(alloc, attribute, fields, op)?),
-        _ => told.push_str(" no operation"),
+    if let [op] = ops {
+        let answer = apply_one(alloc, attribute, fields, op)?;
+        if matches!(answer, Answer::Applied(Applied::Changed)) {
+            *changed = changed.saturating_add(1);
+        }
     }
+    Ok(())
 }
 
 /// Applies the operation of a line.
@@ -51,14 +51,14 @@ fn apply_line<const OFFSET_BITS: u32, S: Store<OFFSET_BITS, Layout = AttrLayout>
     attribute: &mut Attribute<OFFSET_BITS, S>,
     fields: &Fields,
     line: &str,
-    told: &mut String,
+    changed: &mut u32,
 ) -> Result<(), AllocError>
     requires same { attribute.old.fields ≡ fields.now }
     ensures same { attribute.new.fields ≡ fields.now }
 {
     match read(alloc, line, fields) {
-        Ok(ops) => apply_only(alloc, attribute, fields, ops.as_slice(), told),
-        Err(e) => write!(told, " {e}"),
+        Ok(ops) => apply_only(alloc, attribute, fields, ops.as_slice(), changed),
+        Err(_) => Ok(()),
     }
 }
 
@@ -68,15 +68,16 @@ fn take_line<const OFFSET_BITS: u32, S: Store<OFFSET_BITS, Layout = AttrLayout>>
     attribute: &mut Attribute<OFFSET_BITS, S>,
     fields: &Fields,
     line: &str,
-    told: &mut String,
+    changed: &mut u32,
 ) -> Result<(), AllocError>
     requires same { attribute.old.fields ≡ fields.now }
     ensures same { attribute.new.fields ≡ fields.now }
 {
     if line == "commit" {
-        return push_commit(told, commit_one(attribute, fields)?);
+        let _ = commit_one(attribute, fields)?;
+        return Ok(());
     }
-    apply_line(alloc, attribute, fields, line, told)
+    apply_line(alloc, attribute, fields, line, changed)
 }
 
 fn take_lines<const OFFSET_BITS: u32, S: Store<OFFSET_BITS, Layout = AttrLayout>>(
@@ -84,33 +85,27 @@ fn take_lines<const OFFSET_BITS: u32, S: Store<OFFSET_BITS, Layout = AttrLayout>
     attribute: &mut Attribute<OFFSET_BITS, S>,
     fields: &Fields,
     lines: &str,
-    told: &mut String,
+    changed: &mut u32,
 ) -> Result<(), AllocError>
     requires same { attribute.old.fields ≡ fields.now }
     ensures same { attribute.new.fields ≡ fields.now }
 {
     for line in lines.lines() {
-        take_line(alloc, attribute, fields, line, told)?;
+        take_line(alloc, attribute, fields, line, changed)?;
     }
     Ok(())
 }
 
-/// Writes the last commit, if all lines were taken: its number and its operations; or how many operations changed
-/// something, in place of their answers, and the forms of its lists.
+/// Writes how many operations changed something, and the forms of the lists of the last commit, if all lines were taken.
 fn tell_last<const OFFSET_BITS: u32, W: Noted>(
     alloc: Global,
     work: &W,
     last: Published<OFFSET_BITS>,
     fields: &Fields,
-    forms: bool,
-    taken: Result<(), AllocError>,
+    changed: u32,
     told: &mut String,
 ) -> Result<(), AllocError> {
-    taken?;
-    if !forms {
-        return write!(told, "; at {}/{}", last.commit, last.operations);
-    }
-    count_changed(told)?;
+    write!(told, " {changed} changed")?;
     match work.notes() {
         Some(records) => push_forms(
             alloc,
@@ -135,9 +130,11 @@ fn tell_all(
 {
     let buffers = row.buffers.max(1).min(1000);
     let mut attribute = new_attribute(alloc, fields, buffers, true, row.dense)?;
-    let taken = take_lines(alloc, &mut attribute, fields, row.lines, told);
+    let mut changed = 0;
+    let taken = take_lines(alloc, &mut attribute, fields, row.lines, &mut changed);
     let (work, last) = close(attribute, fields);
-    tell_last(alloc, &work, last, fields, row.forms, taken, told)
+    taken?;
+    tell_last(alloc, &work, last, fields, changed, told)
 }
 
 /// Returns what is told of a row.

@@ -1,11 +1,11 @@
 //! Rows of standard input: `words LINE`, then `each FIRST LAST LINE` for lines of the feed, one for each number, which replaces `#`; and at
-//! last `room OPERATION ACTIVE HELD`: the operation that ran out of space, and how many buffers were in use and held.
+//! last `answers LINE`: what the run answers that the program does not write.
 //!
 //! - `torture RUNS COMMITS`: RUNS runs of COMMITS commits each, with a save beside the loading. Each save must be that of its operations. A
 //! third number above 0 asks how many of them were older than the last commit.
 //!
 //! Other lines are comments.
-use crate::run::room;
+use crate::run::answer;
 use crate::saver;
 use std::alloc::{AllocError, Global};
 use std::io;
@@ -43,14 +43,14 @@ fn push_each(alloc: Global, feed: &mut String, asked: &str) -> Result<(), AllocE
     Ok(())
 }
 
-fn compare_room<R: Threads + Sync>(
+fn compare_answer<R: Threads + Sync>(
     rt: &HostRuntime,
     threads: &R,
     tally: &mut Tally,
     row: &Row,
     wanted: &str,
 ) -> io::Result<()> {
-    let found = room(threads, rt.alloc(), &row.words, &row.feed)?;
+    let found = answer(threads, rt.alloc(), &row.words, &row.feed)?;
     tally.note(rt, &row.words, &found, wanted)
 }
 
@@ -71,7 +71,7 @@ fn take<R: Threads + Sync>(
     match kind {
         "words" => *row = Row::new(rt.alloc(), rest)?,
         "each" => push_each(rt.alloc(), &mut row.feed, rest)?,
-        "room" => return compare_room(rt, threads, tally, row, rest),
+        "answers" => return compare_answer(rt, threads, tally, row, rest),
         "torture" => return torture(rt, threads, rest),
         _ => {}
     }
@@ -84,5 +84,5 @@ pub fn compare<R: Threads + Sync>(rt: &HostRuntime, threads: &R) -> io::Result<(
     for line in rt.lines(rt.alloc()) {
         take(rt, threads, &mut tally, &mut row, line?.as_str())?;
     }
-    tally.print(rt, "runs without room")
+    tally.print(rt, "answers of runs")
 }

@@ -1,6 +1,6 @@
 //! Runs of `attr_main` with the words of a line, a feed and a sink in memory, and what they answer.
 use attr_io::{Gate, NoGate, Sink, SliceSource, Source, VecSink};
-use attr_run::{Outcome, Status, Words, attr_main};
+use attr_run::{Outcome, Status, UsageCause, Words, attr_main};
 use std::alloc::{AllocError, Global};
 use std::thread::Threads;
 
@@ -75,13 +75,17 @@ pub fn told<R: Threads + Sync, G: Gate + Sync + 'static>(
     line_of(alloc, outcome.status.exit_code(), sink.taken())
 }
 
-fn room_in(alloc: Global, status: &Status) -> Result<String, AllocError> {
+fn answer_of(alloc: Global, status: &Status) -> Result<String, AllocError> {
     match status {
         Status::Full {
             operation,
             active,
             held,
-        } => format!(in alloc; "{operation} {active} {held}"),
+        } => format!(in alloc; "full at {operation}, {active} in use, {held} held"),
+        Status::Usage(UsageCause::Size { buffers, words }) => {
+            format!(in alloc; "size {buffers} {words}")
+        }
+        Status::Usage(UsageCause::Also { place }) => format!(in alloc; "also at {place}"),
         status => {
             let code = status.exit_code();
             format!(in alloc; "exit {code}")
@@ -89,9 +93,9 @@ fn room_in(alloc: Global, status: &Status) -> Result<String, AllocError> {
     }
 }
 
-/// Returns the operation that ran out of space in a run, and how many buffers were then in use and held; otherwise
-/// its exit status.
-pub fn room<R: Threads + Sync>(
+/// Returns what a run answers that the program does not write: the operation that ran out of space with the buffers in
+/// use and held, a refused size, the place of a refused attribute; otherwise its exit status.
+pub fn answer<R: Threads + Sync>(
     rt: &R,
     alloc: Global,
     words: &str,
@@ -99,5 +103,5 @@ pub fn room<R: Threads + Sync>(
 ) -> Result<String, AllocError> {
     let mut sink = VecSink::create(alloc, 65_536)?;
     let outcome = run_line(rt, alloc, words, feed, &mut sink, &NoGate)?;
-    room_in(alloc, &outcome.status)
+    answer_of(alloc, &outcome.status)
 }

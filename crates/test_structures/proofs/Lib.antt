@@ -1,3 +1,1 @@
-pub mod StepLemmas
-pub mod HoldLemmas
 pub mod Roots

@@ -4,19 +4,15 @@ ghost use Rattle.std.specs.Prelude.{◌≡◌, ◌<◌, ◌≤◌, true};
 ghost use Rattle.entry_ref.specs.References.{buffer_limit, offset_limit};
 ghost use Rattle.store_api.specs.Ledgers.{is_width, IsNew};
 
-use crate::of_arrays::is_array;
 use crate::of_commits::{are_replaced, is_emptied, is_kept};
-use crate::of_documents::{Made, Seen, is_map};
-use crate::of_forms::{is_dense, is_listed, is_walked};
 use crate::of_store::{is_full, is_made_again};
-use crate::of_values::{Given, is_order, is_stored};
+use crate::of_values::{Given, is_stored};
 use crate::stores::new_store;
 use arena_api::Work;
 use array_store::class_of;
 use entry_store::EntryStore;
 use mem_work::OneRecord;
 use std::alloc::{AllocError, Global};
-use std::cmp::Ordering;
 use store_api::Store;
 
 /// A test of a new store.
@@ -32,22 +28,8 @@ pub enum Case<'a> {
     Emptied(bool, u32),
     /// Entries of the row's width are made until this many buffers are active and none is free: how many, and the last.
     Full(u32, u32, u32),
-    /// An array of the first odd numbers: how many; its count, its first item and its last.
-    Array(usize, (u32, u64, u64)),
     /// A value; the first word of its record, and the second one, if it is compared.
     Value(Given<'a>, u64, Option<u64>),
-    /// A stored value, and its order with another one.
-    Order(Given<'a>, Given<'a>, Ordering),
-    /// A list of the documents from one to another with a weight; if one more document was added and removed; whether
-    /// the list is a tree, and the first two words of its record or its root.
-    List((u32, u32), i32, bool, (bool, u64, u64)),
-    /// A walk of such a list: how many documents it has, and the first and the last one with their weights.
-    Walk((u32, u32), i32, usize, [Option<(u32, i32)>; 2]),
-    /// A list of the first documents where bit vectors are wanted: the last one, and how many documents there are; if
-    /// one more was added and removed; and whether the list is a bit vector.
-    Dense(u32, u32, bool, bool),
-    /// A map by document, and what is seen of it.
-    Map(Made<'a>, Seen<'a>),
 }
 
 /// A test, a width, and how many entries of that width are then made.
@@ -85,17 +67,7 @@ fn is_met<const OFFSET_BITS: u32, S: Store<OFFSET_BITS, Layout = OneRecord>>(
             width_of(row.1),
             (count, last),
         )),
-        Case::Array(many, ends) => Ok(is_array(store, many, ends)),
         Case::Value(given, first, second) => is_stored(alloc, store, given, first, second),
-        Case::Order(stored, given, wanted) => is_order(alloc, store, stored, given, wanted),
-        Case::List(docs, weight, again, wanted) => {
-            is_listed(alloc, store, docs, weight, again, wanted)
-        }
-        Case::Walk(docs, weight, many, ends) => is_walked(alloc, store, docs, weight, many, ends),
-        Case::Dense(last, documents, again, wanted) => {
-            is_dense(alloc, store, last, documents, again, wanted)
-        }
-        Case::Map(made, seen) => Ok(is_map(store, &made, &seen)),
     }
 }
 

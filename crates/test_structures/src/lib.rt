@@ -1,13 +1,11 @@
 //! Tests over public calls, from the lowest crates up: references, the memory, holds, buffers, entries and the store, for both
-//! widths of references; arrays, values, posting lists and maps by document in a store; trees and images made by hand.
+//! widths of references; classes; values in a store; trees and images made by hand.
 #![tactic(auto)]
 
 #[cfg(test)]
 mod cases;
 #[cfg(test)]
 mod made;
-#[cfg(test)]
-mod maps;
 #[cfg(test)]
 mod of_arrays;
 #[cfg(test)]
@@ -18,10 +16,6 @@ mod of_check_images;
 mod of_check_trees;
 #[cfg(test)]
 mod of_commits;
-#[cfg(test)]
-mod of_documents;
-#[cfg(test)]
-mod of_forms;
 #[cfg(test)]
 mod of_hold_lists;
 #[cfg(test)]
@@ -36,7 +30,5 @@ mod of_shelves;
 mod of_store;
 #[cfg(test)]
 mod of_values;
-#[cfg(test)]
-mod steps;
 #[cfg(test)]
 mod stores;

@@ -1,16 +1,15 @@
 //! Rows of stored values.
 
-ghost use Rattle.std.specs.Prelude.{◌≡◌, IsTrue};
+ghost use Rattle.std.specs.Prelude.{◌≡◌};
 ghost use Rattle.attr_types.specs.Value.{type_of};
 ghost use Rattle.store_api.specs.Ledgers.{IsNew};
 
 use crate::cases::{Case, Row, right_rows};
 use attr_types::{Text, Value, ValueType};
 use std::alloc::{AllocError, Global};
-use std::cmp::Ordering;
 use std::test::Fail;
 use store_api::Store;
-use unique_store::{add, compare, get};
+use unique_store::{add, get};
 
 /// A value of a row.
 #[derive(Clone, Copy)]
@@ -95,49 +94,8 @@ pub fn is_stored<const OFFSET_BITS: u32, S: Store<OFFSET_BITS>>(
     is_record(alloc, store, &value, value_type, (first, second))
 }
 
-fn have_one_type(value: &Value, other: &Value) -> bool
-    ensures { IsTrue result → type_of value.now ≡ type_of other.now }
-{
-    match (value, other) {
-        (Value::Long(_), Value::Long(_)) | (Value::Text(_), Value::Text(_)) => true,
-        (Value::Long(_), Value::Text(_)) | (Value::Text(_), Value::Long(_)) => false,
-    }
-}
-
-/// Returns whether a value that is added to a new store has this order with another value of its type.
-fn is_order_of<const OFFSET_BITS: u32, S: Store<OFFSET_BITS>>(
-    store: &mut S,
-    stored: &Value,
-    given: &Value,
-    wanted: Ordering,
-) -> bool
-    requires new { IsNew (S.ledger store.old) }
-    requires typed { type_of stored.now ≡ type_of given.now }
-{
-    store.begin();
-    match add(store, stored) {
-        Ok(stored) => compare(store, stored, given) == wanted,
-        Err(_) => false,
-    }
-}
-
-/// Returns whether a value in a new store has this order with another value of its type.
-pub fn is_order<const OFFSET_BITS: u32, S: Store<OFFSET_BITS>>(
-    alloc: Global,
-    store: &mut S,
-    stored: Given,
-    given: Given,
-    wanted: Ordering,
-) -> Result<bool, AllocError>
-    requires new { IsNew (S.ledger store.old) }
-{
-    let stored = value_of(alloc, stored)?;
-    let given = value_of(alloc, given)?;
-    Ok(have_one_type(&stored, &given) && is_order_of(store, &stored, &given, wanted))
-}
-
 /// Of what is added one record is made, of this class.
-const VALUES: [Row<'static>; 55] = [
+const VALUES: [Row<'static>; 37] = [
     // a long is eight and its bits, in one record
     (Case::Value(Given::Long(0), 8, Some(0)), 2, 1),
     (Case::Value(Given::Long(1), 8, Some(1)), 2, 1),
@@ -214,132 +172,10 @@ const VALUES: [Row<'static>; 55] = [
     (Case::Value(Given::Bytes(1017, 'b'), 1017, None), 256, 1),
     (Case::Value(Given::Bytes(1023, 'b'), 1023, None), 256, 1),
     (Case::Value(Given::Bytes(1024, 'b'), 1024, None), 256, 1),
-    // longs are in order by size
-    (
-        Case::Order(Given::Long(-5), Given::Long(-5), Ordering::Equal),
-        2,
-        1,
-    ),
-    (
-        Case::Order(Given::Long(-5), Given::Long(3), Ordering::Less),
-        2,
-        1,
-    ),
-    (
-        Case::Order(Given::Long(3), Given::Long(-5), Ordering::Greater),
-        2,
-        1,
-    ),
-    (
-        Case::Order(Given::Long(i64::MIN), Given::Long(i64::MAX), Ordering::Less),
-        2,
-        1,
-    ),
-    (
-        Case::Order(
-            Given::Long(i64::MAX),
-            Given::Long(i64::MIN),
-            Ordering::Greater,
-        ),
-        2,
-        1,
-    ),
-    (
-        Case::Order(Given::Long(256), Given::Long(255), Ordering::Greater),
-        2,
-        1,
-    ),
-    // texts are in order by their bytes
-    (
-        Case::Order(Given::Bytes(0, 'b'), Given::Bytes(0, 'b'), Ordering::Equal),
-        2,
-        1,
-    ),
-    (
-        Case::Order(Given::Bytes(0, 'b'), Given::Bytes(1, 'b'), Ordering::Less),
-        2,
-        1,
-    ),
-    (
-        Case::Order(Given::Bytes(8, 'b'), Given::Bytes(8, 'b'), Ordering::Equal),
-        2,
-        1,
-    ),
-    (
-        Case::Order(Given::Bytes(8, 'b'), Given::Bytes(8, 'c'), Ordering::Less),
-        2,
-        1,
-    ),
-    (
-        Case::Order(
-            Given::Bytes(9, 'c'),
-            Given::Bytes(9, 'b'),
-            Ordering::Greater,
-        ),
-        4,
-        1,
-    ),
-    (
-        Case::Order(
-            Given::Bytes(1024, 'b'),
-            Given::Bytes(1024, 'c'),
-            Ordering::Less,
-        ),
-        256,
-        1,
-    ),
-    (
-        Case::Order(
-            Given::Bytes(1024, 'c'),
-            Given::Bytes(1024, 'b'),
-            Ordering::Greater,
-        ),
-        256,
-        1,
-    ),
-    // a prefix is less than the whole, and a byte decides before the length
-    (
-        Case::Order(Given::Bytes(7, 'a'), Given::Bytes(8, 'a'), Ordering::Less),
-        2,
-        1,
-    ),
-    (
-        Case::Order(
-            Given::Bytes(17, 'a'),
-            Given::Bytes(16, 'a'),
-            Ordering::Greater,
-        ),
-        4,
-        1,
-    ),
-    (
-        Case::Order(
-            Given::Bytes(3, 'b'),
-            Given::Bytes(1000, 'a'),
-            Ordering::Greater,
-        ),
-        2,
-        1,
-    ),
-    // a zero byte after a text is greater than its end
-    (
-        Case::Order(
-            Given::Bytes(3, '\0'),
-            Given::Bytes(2, 'a'),
-            Ordering::Greater,
-        ),
-        2,
-        1,
-    ),
-    (
-        Case::Order(Given::Bytes(8, 'a'), Given::Bytes(9, '\0'), Ordering::Less),
-        2,
-        1,
-    ),
 ];
 
 #[test]
-fn values_read_back_and_are_in_order(rt: HostRuntime) -> Result<(), Fail> {
+fn values_read_back(rt: HostRuntime) -> Result<(), Fail> {
     let right = right_rows(rt.alloc(), &VALUES)?;
     assert!(rt; right == VALUES.len(), "row {right}");
     Ok(())

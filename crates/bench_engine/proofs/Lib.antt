@@ -1,3 +1,0 @@
-pub mod LengthLemmas
-pub mod MadeLemmas
-pub mod RootLemmas

@@ -1,7 +1,0 @@
-use Rattle.std.proofs.Common.{sym, subst, arith}
-use Rattle.arena_api.specs.Calls.{IsFresh}
-use Rattle.entry_store.proofs.Fresh.{opened-fresh}
-use Rattle.test_indexes.proofs.stores.new_store.Goals as goal
-
-pub create-requires-2 : goal.create-requires-2
-create-requires-2 c = (omega arith, subst IsFresh (sym c.in_ok-work.ensures.knows) (opened-fresh _ _ _))
