@@ -138,7 +138,7 @@ module _ {S H : Type 0} (bits : ℕ) (ledger : S → Ledger H) (records : S → 
     holds_told (Err error) made holds = made.goes.went.holds
 
     abbrev IsPlanned : Option PlanView → Type 0
-    IsPlanned o = IfSome o (IsUnderWay bits (ledger new) (records new) next) × IfSome o HasLastField
+    IsPlanned o = IfSome o (IsUnderWay bits root (ledger new) (records new) next) × IfSome o HasLastField
 
     planned_told : (r : Result Step StoreError) → Made r → (ledger old).finished ≡ None → IsPlanned after × (has_finished r ≡ is_some (ledger new).finished)
     planned_told (Ok steps.Idle) made unfinished = (

@@ -7,3 +7,4 @@ pub mod CommitViews
 pub mod Taking
 pub mod PlanLemmas
 pub mod CompactLemmas
+pub mod GivingUpLemmas

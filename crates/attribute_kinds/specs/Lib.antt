@@ -4,3 +4,4 @@ pub mod Calls
 pub mod Standing
 pub mod Refusals
 pub mod Compacting
+pub mod GivingUp

@@ -35,6 +35,6 @@ pub record IsAttribute {H : Type 0} {bits : ℕ} (dense : Bool) (ledger : Ledger
     (roots : List (FieldRoots bits)) (root commit operations : ℕ) (plan : Option PlanView) (waits : Bool) : Type 0 where
   pub stands : StandsAttribute ledger m fields roots root commit operations
   pub forms : HaveForms dense m (trees_of fields roots)
-  pub plan_is : IfSome plan (IsUnderWay bits ledger m (trees_of fields roots))
+  pub plan_is : IfSome plan (IsUnderWay bits root ledger m (trees_of fields roots))
   pub last_is : IfSome plan HasLastField
   pub waits_is : waits ≡ is_some ledger.finished

@@ -1,6 +1,6 @@
 //! The attributes of a collection in one store: operations, commits and steps of compaction.
 
-ghost use Rattle.std.specs.Prelude.{◌≡◌, ℕ, ◌<◌, ◌≤◌, ◌+◌, ◌-◌, ◌*◌, ◌^◌, [], None, false, length};
+ghost use Rattle.std.specs.Prelude.{◌≡◌, ℕ, ◌<◌, ◌≤◌, ◌+◌, ◌-◌, ◌*◌, ◌^◌, [], None, true, false, length};
 ghost use Rattle.std.specs.Prelude.{IfOk, IfErr, OnOk, OnErr, Ok, Err, replicate};
 ghost use Rattle.entry_ref.specs.Images.{words_at};
 ghost use Rattle.arena_api.specs.Calls.{IsFresh, told_after};
@@ -21,6 +21,7 @@ ghost use Rattle.attribute_kinds.specs.Calls.{applied_to, RefusesOperation};
 ghost use Rattle.attribute_kinds.specs.Calls.{RefusesCommit, CommitsImage, HasCommit, IsForRoot};
 ghost use Rattle.attr_operations.specs.Counts.{MakesOperation};
 ghost use Rattle.attribute_kinds.specs.Counts.{HasNoVectors, LacksBuffers, NamesWidth, SparesOf};
+ghost use Rattle.attribute_kinds.specs.GivingUp.{GivesUp, KeepsPlan};
 ghost use Rattle.attribute_kinds.specs.Compacting.{CompactsTo, IsIdle, RefusesStep};
 ghost use Rattle.compaction_steps.specs.Compactions.{KeepsStoreBut};
 ghost use Rattle.compaction_steps.specs.Counts.{MakesKeys};
@@ -32,7 +33,7 @@ use attr_compaction::Plan;
 use attr_field::{FieldRoots, field_law};
 use attr_operations::{commit_attributes, step};
 use attr_types::{Applied, Fields, Op};
-use compaction_steps::{compact, same_law, step_law};
+use compaction_steps::{compact, give_up, same_law, step_law};
 use entry_ref::EntryRef;
 use entry_store::{EntryStore, NoMemory};
 use image_format::AttrLayout;
@@ -326,6 +327,30 @@ impl<const OFFSET_BITS: u32, S: Store<OFFSET_BITS, Layout = AttrLayout>> Attribu
         self.plan = plan;
         self.waits = has_finished(&step);
         told(step)
+    }
+
+    /// Gives the compaction in progress up, if it has copied no value's record: its victim is used again. Returns whether
+    /// it was given up. If not, nothing changes.
+    #[tactic(none)]
+    pub fn give_up(&mut self) -> bool
+        ensures gives { result ≡ true → GivesUp S.ledger self.old self.new }
+        ensures keeps { result ≡ false → KeepsPlan S.ledger self.old self.new }
+        ensures records { S.records self.new.store ≡ S.records self.old.store }
+        ensures left { self.new ≡ record self.old { store = self.new.store; plan = self.new.plan } }
+    {
+        let Some(plan) = self.plan.take() else {
+            return false;
+        };
+        let after = give_up(
+            &mut self.store,
+            self.fields.as_slice(),
+            &self.roots,
+            self.last.root,
+            plan,
+        );
+        let gone = after.is_none();
+        self.plan = after;
+        gone
     }
 }
 

@@ -1,5 +1,5 @@
 -- What the move of a key copies.
-use Rattle.std.proofs.Common.{◌≡◌, ℕ, true, false, true≢false, Some, sym, ap, subst, ◌∙◌}
+use Rattle.std.proofs.Common.{◌≡◌, ℕ, false, true≢false, Some, sym, ap, subst, ◌∙◌}
 use Rattle.entry_ref.specs.References.{buffer_of}
 use Rattle.entry_ref.specs.Records.{Records}
 use Rattle.image_format.specs.Tables.{AttributeTrees}

@@ -10,6 +10,7 @@ use Rattle.entry_ref.specs.References.{buffer_of}
 use Rattle.entry_ref.specs.Records.{Records, Among, SameAt}
 use Rattle.store_api.specs.Calls.{Accepts}
 use Rattle.store_api.specs.Ledgers.{Ledger, is_this}
+use Rattle.store_api.specs.Statuses.{Status}
 use Rattle.store_api.specs.Parts.{After, AllStay, Owns, Part, Turns, count_in, entries, times, uses}
 use Rattle.store_api.proofs.PartLemmas.{after, count-stays}
 use Rattle.store_api.proofs.Times.{absent-times, among-times}
@@ -28,11 +29,12 @@ use Rattle.attr_operations.proofs.PartLists.{count_at, count_set, stay_at}
 use Rattle.attr_operations.proofs.Referring.{AreSame, IsSameAt, RefersAt, all_changed, all_moved, each_same, key_owned, stays_beside}
 use Rattle.attr_operations.proofs.TreeLists.{all_from, get_set-same, rest_at, set_length}
 use Rattle.attr_operations.proofs.Units.{fields_stay, table_stays}
-use Rattle.compaction_steps.specs.Units.{KeepsKeys}
+use Rattle.compaction_steps.specs.Units.{KeepsKeys, OwnsBuffer}
 
--- a key moved in one attribute's part: the old copies that it left lie in the victim
-pub record MovesPart {H : Type 0} (bits victim : ℕ) (old new : Ledger H) (m n : Records) (a b : AttributeTrees) : Type 0 where
+-- a key moved in one attribute's part: the old copies that it left lie in the victim, and a clean move left none
+pub record MovesPart {H : Type 0} (bits victim : ℕ) (clean : Type 0) (old new : Ledger H) (m n : Records) (a b : AttributeTrees) : Type 0 where
   pub left : List ℕ
+  pub left_none : clean → left ≡ []
   pub left_in : (r : ℕ) → Among r left → buffer_of bits r ≡ victim
   pub is_field : IsFieldAt n b
   pub column_is : column_in n b ≡ column_in m a
@@ -59,9 +61,9 @@ columns_set m n (c ∷ trees) (suc i) a b at here others =
     (columns_set m n trees i a b at here (λ j d apart there. others (suc j) d (λ e. apart (omega arith)) there))
 
 -- ---- in the unit
-module _ (laws : FieldLaws) {H : Type 0} (bits victim : ℕ) (begun mid : Ledger H) (m n : Records) (fields : List Field) (trees : List AttributeTrees) (root i : ℕ) (a b : AttributeTrees)
+module _ (laws : FieldLaws) {H : Type 0} {clean : Type 0} (bits victim : ℕ) (begun mid : Ledger H) (m n : Records) (fields : List Field) (trees : List AttributeTrees) (root i : ℕ) (a b : AttributeTrees)
     (at : slice_get trees i ≡ Some a) (are : AreFields m fields trees) (owns : Owns begun m (entries (root_entries root) ∷ parts_of trees))
-    (refer : AllReferBeside begun m trees (entries (root_entries root) ∷ parts_of trees)) (part : MovesPart bits victim begun mid m n a b) where
+    (refer : AllReferBeside begun m trees (entries (root_entries root) ∷ parts_of trees)) (part : MovesPart bits victim clean begun mid m n a b) where
   abbrev before : List Part
   before = entries (root_entries root) ∷ parts_of trees
 
@@ -163,6 +165,21 @@ module _ (laws : FieldLaws) {H : Type 0} (bits victim : ℕ) (begun mid : Ledger
             let stays = count-stays whole n o r closed.stay in
             let none = none_left r unsealed in
             omega arith;
+      }
+
+      -- after a clean move, what is in use in the victim is owned if it was owned before
+      pub new_owned : clean → ((r : ℕ) → new.status r ≡ Status.left → old.status r ≡ Status.left) → OwnsBuffer bits root old m trees victim
+          → OwnsBuffer bits root new o (set trees i b) victim
+      new_owned is left was = record {
+        owned = λ r lies.
+            let most = was.owned r lies in
+            let same = same_uses r in
+            let t = turned.turns.balance r in
+            let e = ended.balance r in
+            let stays = count-stays whole n o r closed.stay in
+            let none : times r part.left ≡ 0 = ap (times r) (part.left_none is) in
+            omega arith;
+        none_left = λ r gone. was.none_left r (left r gone);
       }
 
       pub new_holds : new.unit ≡ false → new.finished ≡ None → HoldsAttributes bits new o fields (set trees i b) root

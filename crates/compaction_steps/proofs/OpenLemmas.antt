@@ -1,12 +1,13 @@
 -- A compaction that is begun or goes on, and what a walk and its end make of it.
-use Rattle.std.proofs.Common.{◌≡◌, ◌≢◌, ℕ, Bool, true, false, cond, nat_eq, List, ◌∷◌, length, Option, None, Some, Greater, inl, true≢false, refl, sym, ap, ap₂, subst, ◌∙◌, arith}
+use Rattle.std.proofs.Common.{◌≡◌, ◌≢◌, ℕ, ◌≤◌, Bool, true, false, cond, nat_eq, List, ◌∷◌, length, Option, None, Some, Greater, inl, true≢false, refl, sym, ap, ap₂, subst, ◌∙◌, arith}
 use Rattle.std.proofs.lemmas.Bool.{eqb-true, eqb-false}
 use Rattle.std.specs.Prelude.{slice_get}
 use Rattle.std.specs.Option.{IfSome}
 use Rattle.store_api.proofs.May.{back-then}
 use Rattle.entry_ref.specs.References.{buffer_of}
 use Rattle.entry_ref.specs.Records.{Records, Among}
-use Rattle.store_api.specs.Calls.{Seals}
+use Rattle.store_api.specs.Calls.{CanUnseal, Seals, Unseals}
+use Rattle.store_api.specs.Statuses.{Status}
 use Rattle.store_api.specs.Ledgers.{Ledger, OfWidth, is_this}
 use Rattle.store_api.specs.Victims.{IsVictim}
 use Rattle.store_api.specs.declared.store.StoreError.{StoreError}
@@ -20,7 +21,7 @@ use Rattle.attr_operations.specs.Calls.{KeepsStore, LeavesEntries}
 use Rattle.array_store.specs.Roots.{root_entries}
 use Rattle.attr_operations.specs.Fields.{HoldsAttributes, parts_of}
 use Rattle.attr_operations.specs.Views.{table_at}
-use Rattle.store_api.specs.Parts.{entries}
+use Rattle.store_api.specs.Parts.{count_in, entries, uses}
 use Rattle.compaction_steps.specs.Units.{IsUnderWay}
 use Rattle.attr_compaction.specs.PhaseKeys.{HasType}
 use Rattle.attr_compaction.specs.Counts.{keys_between}
@@ -93,7 +94,7 @@ typed_first None = tt
 typed_first (Some a) = tt
 
 module _ {H : Type 0} (bits root : ℕ) (old : Ledger H) (m : Records) (fields : List Field) (trees : List AttributeTrees) (holds : HoldsAttributes bits old m fields trees root) where
-  pub opens_going : (plan : PlanView) → IsUnderWay bits old m trees plan → HasLastField plan → OpensPlan bits root old old m m fields trees (Some plan) plan
+  pub opens_going : (plan : PlanView) → IsUnderWay bits root old m trees plan → HasLastField plan → OpensPlan bits root old old m m fields trees (Some plan) plan
   opens_going plan under_way last = record {
     under = record { victim = refl; all = refl; sealed = refl };
     place = refl;
@@ -105,7 +106,8 @@ module _ {H : Type 0} (bits root : ℕ) (old : Ledger H) (m : Records) (fields :
     last = last;
   }
 
-  module _ (first : FirstIsCleared) (mid : Ledger H) (victim count : ℕ) (seals : Seals old mid victim) (is : IsVictim bits old victim) (unfinished : old.finished ≡ None) (count_is : count ≡ length fields) where
+  module _ (first : FirstIsCleared) (mid : Ledger H) (victim count : ℕ) (seals : Seals old mid victim) (is : IsVictim bits old victim) (unfinished : old.finished ≡ None) (count_is : count ≡ length fields)
+      (left_out : (r : ℕ) → old.status r ≡ Status.left → old.sealed (buffer_of bits r) ≡ true) where
     abbrev begun : PlanView
     begun = record { victim = victim; fields = count; place = first_place; copied = false }
 
@@ -134,6 +136,10 @@ module _ {H : Type 0} (bits root : ℕ) (old : Ledger H) (m : Records) (fields :
         all = count_is ∙ sym holds.are_fields.sized;
         typed = typed_first (slice_get trees 0);
         cleared = first bits victim m trees holds.are_fields.each;
+        whole = λ fresh. record {
+          owned = λ r lies. holds.owns.all r (ap old.sealed lies ∙ is.candidate.unsealed);
+          none_left = λ r left lies. true≢false (sym (left_out r left) ∙ ap old.sealed lies ∙ is.candidate.unsealed);
+        };
       };
       last = record { last = λ over. absurd (omega arith) };
     }
@@ -143,6 +149,35 @@ module _ {H : Type 0} (bits root : ℕ) (old : Ledger H) (m : Records) (fields :
         subst (λ (x : PlanView). OpensPlan bits root old mid m n fields trees None x) (λ i. record { victim = sym v i; fields = sym f i; place = sym p i; copied = sym c i })
         (subst (λ (k : Records). OpensPlan bits root old mid m k fields trees None begun) (sym same)
         (subst (λ (l : Ledger H). OpensPlan bits root old l m m fields trees None begun) (sym seals.same) opens_here))
+
+-- ---- the victim is given up
+module _ {H : Type 0} (bits root : ℕ) (old : Ledger H) (m : Records) (fields : List Field) (trees : List AttributeTrees) (plan : PlanView)
+    (holds : HoldsAttributes bits old m fields trees root) (way : IsUnderWay bits root old m trees plan) (fresh : plan.copied ≡ false) where
+  pub can_unseal : CanUnseal bits old plan.victim
+  can_unseal = record {
+    unit = holds.unit;
+    sealed = way.sealed;
+    unfinished = λ is. none_some (sym way.unfinished ∙ is);
+    none_left = (way.whole fresh).none_left;
+  }
+    where
+      none_some : {v : ℕ} → None ≡ Some v → ⊥
+      none_some is = cc
+
+  pub holds_unsealed : (new : Ledger H) → Unseals old new plan.victim → HoldsAttributes bits new m fields trees root
+  holds_unsealed new unseals = subst (λ (l : Ledger H). HoldsAttributes bits l m fields trees root) (sym unseals.same) (record {
+    are_fields = holds.are_fields;
+    owns = record { each = holds.owns.each; all = λ r free. owned r (nat_eq (buffer_of bits r) plan.victim) refl free };
+    refer = all_weaker old (record old { sealed = new.sealed; of_width = new.of_width }) m trees (entries (root_entries root) ∷ parts_of trees) (entries (root_entries root) ∷ parts_of trees)
+        holds.refer (λ r less. less);
+    unit = holds.unit;
+    apart = holds.apart;
+  })
+    where
+      owned : (r : ℕ) (t : Bool) → nat_eq (buffer_of bits r) plan.victim ≡ t → new.sealed (buffer_of bits r) ≡ false
+          → uses old r ≤ count_in r m (entries (root_entries root) ∷ parts_of trees)
+      owned r true is free = (way.whole fresh).owned r (eqb-true (buffer_of bits r) plan.victim is)
+      owned r false is free = holds.owns.all r (sym (unseals.sealed (buffer_of bits r) ∙ ap (λ (t : Bool). cond t false (old.sealed (buffer_of bits r))) is) ∙ free)
 
 -- ---- after a walk
 module _ {H : Type 0} (bits root : ℕ) (old mid new : Ledger H) (m k n : Records) (fields : List Field) (trees next : List AttributeTrees) (before : Option PlanView) (start plan : PlanView)

@@ -49,18 +49,19 @@ through_fits m a at (key ∷ k ∷ passed) to few some through =
     let more = through_fits m a (at_key at key) (k ∷ passed) to few (omega arith) through.1 in
     (more.0, record { of_phase = more.1.of_phase; above = key_total.trans at.key key to one.1.above more.1.above })
 
-pub passed_way : OthersStayCleared → {H : Type 0} (bits : ℕ) (ledger : Ledger H) (m : Records) (trees : List AttributeTrees) (plan new : PlanView) (a : AttributeTrees) (key : PlanKey)
-    → IsUnderWay bits ledger m trees plan → AllByRecursion (IsFieldAt m) trees → slice_get trees plan.place.stage.field ≡ Some a → HasType a.type key × IsPast plan.place key
+pub passed_way : OthersStayCleared → {H : Type 0} (bits root : ℕ) (ledger : Ledger H) (m : Records) (trees : List AttributeTrees) (plan new : PlanView) (a : AttributeTrees) (key : PlanKey)
+    → IsUnderWay bits root ledger m trees plan → AllByRecursion (IsFieldAt m) trees → slice_get trees plan.place.stage.field ≡ Some a → HasType a.type key × IsPast plan.place key
     → IsClearedField bits plan.victim (at_key plan.place key) plan.place.stage.field m a
-    → new.victim ≡ plan.victim → new.fields ≡ plan.fields → new.place ≡ place_after plan.fields plan.place key → IsUnderWay bits ledger m trees new
-passed_way others bits ledger m trees plan new a key way each at fits cleared victim fields place =
-    subst (λ (p : PlanView). IsUnderWay bits ledger m trees p)
+    → new.victim ≡ plan.victim → new.fields ≡ plan.fields → new.place ≡ place_after plan.fields plan.place key → new.copied ≡ plan.copied → IsUnderWay bits root ledger m trees new
+passed_way others bits root ledger m trees plan new a key way each at fits cleared victim fields place copied =
+    subst (λ (p : PlanView). IsUnderWay bits root ledger m trees p)
     (plan_is new plan.victim plan.fields (at_key plan.place key) new.copied victim fields (place ∙ place_is plan.fields plan.place key fits.1) refl) (record {
       sealed = way.sealed;
       unfinished = way.unfinished;
       all = way.all;
       typed = subst (λ o. IfSome o (λ (b : AttributeTrees). HasType b.type key)) (sym at) fits.0;
       cleared = all;
+      whole = λ fresh. way.whole (sym copied ∙ fresh);
     })
   where
     all : IsCleared bits plan.victim (at_key plan.place key) m trees
@@ -117,7 +118,7 @@ through_counts k next a from at (key ∷ passed) to there up few rises through =
 
 -- ---- a walk that passed them
 module _ {H : Type 0} (bits root : ℕ) (fields : List Field) (old mid : Ledger H) (m k : Records) (trees next : List AttributeTrees) (from to at : PlanView) (visited count : ℕ)
-    (visits : Visits bits root old mid m k fields trees next from to visited) (way : IsUnderWay bits mid k next at) (few : to.place.stage.phase < PHASES)
+    (visits : Visits bits root old mid m k fields trees next from to visited) (way : IsUnderWay bits root mid k next at) (few : to.place.stage.phase < PHASES)
     (passes : PassesKeys k next to at count) where
   same_place : at_key to.place at.place.key ≡ at.place
   same_place = ap (λ (s : Stage). record { stage = s; key = at.place.key }) (sym passes.stage)

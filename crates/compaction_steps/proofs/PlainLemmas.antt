@@ -1,5 +1,5 @@
 -- When no list of attributes is a bit vector: bit vectors are not wanted, or there are too few documents.
-use Rattle.std.proofs.Common.{◌≡◌, ℕ, suc, ◌<◌, ◌≤◌, Bool, true, false, List, [], ◌∷◌, length, Some, inl, inr, refl, ap, subst, arith}
+use Rattle.std.proofs.Common.{◌≡◌, ℕ, suc, ◌<◌, Bool, true, false, List, [], ◌∷◌, length, Some, inl, inr, refl, ap, subst, arith}
 use Rattle.std.specs.List.{AllByRecursion}
 use Rattle.entry_ref.specs.Records.{Records}
 use Rattle.tree_read.specs.Pairs.{lookup_pair}
@@ -16,7 +16,7 @@ use Rattle.image_format.specs.declared.TheConstants.{LEAST_DENSE}
 use Rattle.index_model.specs.Columns.{column_of, documents_with, Column}
 use Rattle.index_model.specs.Index.{list_of}
 use Rattle.attr_types.specs.Table.{Table}
-use Rattle.attr_types.specs.Value.{type_of, value_cmp}
+use Rattle.attr_types.specs.Value.{value_cmp}
 use Rattle.attr_types.specs.declared.field.Field.{Field}
 use Rattle.attr_types.specs.declared.kind.Kind.{Kind}
 use Rattle.attr_types.specs.declared.kind.Kind.TheVariants.{Single, Array, WeightedSet}

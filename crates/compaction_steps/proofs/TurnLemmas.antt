@@ -7,6 +7,8 @@ use Rattle.std.specs.Option.{IfSome, option_and_then}
 use Rattle.list_lemmas.proofs.Each.{AllByRecursion-slice_get}
 use Rattle.entry_ref.specs.Records.{Records}
 use Rattle.store_api.specs.Ledgers.{Ledger}
+use Rattle.store_api.specs.Parts.{count_in, uses}
+use Rattle.store_api.proofs.Uses.{back_uses, uses-same}
 use Rattle.compaction_moves.specs.Cleared.{IsCleared}
 use Rattle.compaction_steps.specs.StepsLaws.{PhaseEndLeavesCleared}
 use Rattle.attr_compaction.proofs.PlaceLemmas.{not_start}
@@ -19,7 +21,7 @@ use Rattle.image_format.specs.Tables.{AttributeTrees}
 use Rattle.attr_types.specs.declared.field.Field.{Field}
 use Rattle.attr_compaction.specs.PhaseKeys.{key_past, HasType}
 use Rattle.attr_operations.specs.Calls.{KeepsStore, LeavesEntries}
-use Rattle.attr_operations.specs.Fields.{HoldsAttributes, IsFieldAt, trees_of, trees_of_field}
+use Rattle.attr_operations.specs.Fields.{HoldsAttributes, IsFieldAt, parts_of, trees_of, trees_of_field}
 use Rattle.attr_operations.specs.Views.{table_at}
 use Rattle.attr_operations.proofs.Holding.{holds_left}
 use Rattle.attr_operations.proofs.TreeLists.{tree_get, tree_set, trees_length}
@@ -58,36 +60,48 @@ typed_start : (o : Option AttributeTrees) → IfSome o (λ a. HasType a.type Sta
 typed_start None = tt
 typed_start (Some a) = tt
 
-pub over_way : PhaseEndLeavesCleared → {H : Type 0} (bits : ℕ) (ledger : Ledger H) (m : Records) (trees : List AttributeTrees) (plan new : PlanView) (a : AttributeTrees) → IsUnderWay bits ledger m trees plan
+pub over_way : PhaseEndLeavesCleared → {H : Type 0} (bits root : ℕ) (ledger : Ledger H) (m : Records) (trees : List AttributeTrees) (plan new : PlanView) (a : AttributeTrees) → IsUnderWay bits root ledger m trees plan
     → AllByRecursion (IsFieldAt m) trees → plan.place.stage.phase < PHASES → slice_get trees plan.place.stage.field ≡ Some a
     → None ≡ key_past plan.place.key (keys_at m a plan.place.stage.phase)
-    → new.victim ≡ plan.victim → new.fields ≡ plan.fields → new.place ≡ place_after plan.fields plan.place Start → IsUnderWay bits ledger m trees new
-over_way ends bits ledger m trees plan new a way each few at none victim fields place =
-    subst (λ (p : PlanView). IsUnderWay bits ledger m trees p) (plan_is new plan.victim plan.fields (place_after plan.fields plan.place Start) new.copied victim fields place refl) (record {
+    → new.victim ≡ plan.victim → new.fields ≡ plan.fields → new.place ≡ place_after plan.fields plan.place Start → new.copied ≡ plan.copied → IsUnderWay bits root ledger m trees new
+over_way ends bits root ledger m trees plan new a way each few at none victim fields place copied =
+    subst (λ (p : PlanView). IsUnderWay bits root ledger m trees p) (plan_is new plan.victim plan.fields (place_after plan.fields plan.place Start) new.copied victim fields place refl) (record {
       sealed = way.sealed;
       unfinished = way.unfinished;
       all = way.all;
       typed = typed_start (slice_get trees (place_after plan.fields plan.place Start).stage.field);
       cleared = subst (λ (n : ℕ). IsCleared bits plan.victim (place_after n plan.place Start) m trees) (sym way.all)
           (ends bits plan.victim plan.place m trees a each few at (sym none) way.cleared);
+      whole = λ fresh. way.whole (sym copied ∙ fresh);
     })
 
 -- ---- a key was refused
-pub left_way : {H : Type 0} (bits : ℕ) (old new : Ledger H) (m o : Records) (trees : List AttributeTrees) (plan : PlanView) → IsUnderWay bits old m trees plan → LeavesEntries old new m o
-    → KeepsStore old new → IsUnderWay bits new o trees plan
-left_way bits old new m o trees plan way left keeps = record {
+left_uses : {H : Type 0} (old new : Ledger H) (m n : Records) → LeavesEntries old new m n → (r : ℕ) → uses new r ≡ uses old r
+left_uses old new m n left r = uses-same old new r (back_uses (old.status r) (new.status r) (left.status r))
+
+pub left_way : {H : Type 0} (bits root : ℕ) (old new : Ledger H) (m o : Records) (trees : List AttributeTrees) (plan : PlanView) → IsUnderWay bits root old m trees plan → LeavesEntries old new m o
+    → KeepsStore old new → IsUnderWay bits root new o trees plan
+left_way bits root old new m o trees plan way left keeps = record {
   sealed = ap (λ (s : ℕ → Bool). s plan.victim) keeps.sealed ∙ way.sealed;
   unfinished = keeps.finished ∙ way.unfinished;
   all = way.all;
   typed = way.typed;
   cleared = subst (λ (f : Records). IsCleared bits plan.victim plan.place f trees) (sym left.records) way.cleared;
+  whole = λ fresh. let was = way.whole fresh in record {
+    owned = λ r lies.
+        let most = was.owned r lies in
+        let count = ap (λ (f : Records). count_in r f (parts_of trees)) left.records in
+        let same = left_uses old new m o left r in
+        omega arith;
+    none_left = λ r gone. was.none_left r (keeps.left r gone);
+  };
 }
 
 pub left_all : {H : Type 0} (bits : ℕ) (old new : Ledger H) (m o : Records) (fields : List Field) (trees : List AttributeTrees) (root : ℕ) (plan : PlanView)
-    → HoldsAttributes bits old m fields trees root → IsUnderWay bits old m trees plan → LeavesEntries old new m o → KeepsStore old new → CompactsTo bits new m o fields trees trees root plan
+    → HoldsAttributes bits old m fields trees root → IsUnderWay bits root old m trees plan → LeavesEntries old new m o → KeepsStore old new → CompactsTo bits new m o fields trees trees root plan
 left_all bits old new m o fields trees root plan holds way left keeps = record {
   holds = holds_left bits old new m o fields trees root holds left keeps;
-  under_way = left_way bits old new m o trees plan way left keeps;
+  under_way = left_way bits root old new m o trees plan way left keeps;
   table = ap (λ (f : Records). table_at f trees) left.records;
   keys = subst (λ (f : Records). KeepKeys m f trees trees) (sym left.records) (same_keys m trees);
 }
@@ -111,10 +125,10 @@ pub record AtPlace {bits : ℕ} (m : Records) (fields : List Field) (roots : Lis
   pub typed : HasType field.value plan.place.key
 
 module _ {bits : ℕ} {H : Type 0} (ledger : Ledger H) (m : Records) (fields : List Field) (roots : List (FieldRoots bits)) (root : ℕ) (plan : PlanView) (i : ℕ) where
-  pub below_fields : IsUnderWay bits ledger m (trees_of fields roots) plan → length roots ≡ length fields → i < plan.fields → i < length fields
+  pub below_fields : IsUnderWay bits root ledger m (trees_of fields roots) plan → length roots ≡ length fields → i < plan.fields → i < length fields
   below_fields way sized below = let all = way.all in let same = trees_length fields roots sized in omega arith
 
-  module _ (holds : HoldsAttributes bits ledger m fields (trees_of fields roots) root) (way : IsUnderWay bits ledger m (trees_of fields roots) plan) (sized : length roots ≡ length fields)
+  module _ (holds : HoldsAttributes bits ledger m fields (trees_of fields roots) root) (way : IsUnderWay bits root ledger m (trees_of fields roots) plan) (sized : length roots ≡ length fields)
       (place : i ≡ plan.place.stage.field) (below : i < plan.fields) (field : Field) (own : FieldRoots bits) (read : field ≡ get_or fields i field) (had : own ≡ get_or roots i own) where
     field_there : slice_get fields i ≡ Some field
     field_there = slice_get_read fields (length fields) i field refl (below_fields way sized below) read

@@ -1,5 +1,5 @@
 -- A unit of a compaction: what the move of its key asks for, and what all attributes are after it.
-use Rattle.std.proofs.Common.{◌≡◌, ◌≢◌, ℕ, zero, suc, ◌<◌, ◌≤◌, Bool, true, false, cond, nat_eq, List, [], ◌∷◌, length, set, Some, refl, sym, ap, subst, ◌∙◌, arith, inl, inr}
+use Rattle.std.proofs.Common.{◌≡◌, ◌≢◌, ℕ, zero, suc, ◌<◌, ◌≤◌, Bool, ◌||◌, true, false, true≢false, cond, nat_eq, List, [], ◌∷◌, length, set, Some, refl, sym, ap, subst, ◌∙◌, arith, inl, inr}
 use Rattle.std.proofs.lemmas.Bool.{cases_eq}
 use Rattle.std.specs.Prelude.{◌↔◌, slice_get}
 use Rattle.std.specs.List.{AllByRecursion}
@@ -54,7 +54,7 @@ use Rattle.attr_operations.proofs.TreeLists.{get_set-same, set_length}
 use Rattle.compaction_moves.specs.FieldMoves.{HasBegun, MovesField}
 use Rattle.compaction_steps.specs.Units.{keys_at, CompactsTo, HasActive, IsUnderWay, KeepsKeys, SparesBelow}
 use Rattle.compaction_steps.proofs.KeyLemmas.{all_keep, keeps_stay, one_keeps_then, next_fits}
-use Rattle.compaction_steps.proofs.Moving.{MovesPart, all_stay, mid_are, new_holds, new_table, other_stays}
+use Rattle.compaction_steps.proofs.Moving.{MovesPart, all_stay, mid_are, new_holds, new_owned, new_table, other_stays}
 
 -- what the move of one key asks for
 pub record MeetsMove {H : Type 0} (bits : ℕ) (ledger : Ledger H) (m : Records) (a : AttributeTrees) (plan : PlanView) : Type 0 where
@@ -66,8 +66,16 @@ pub record MeetsMove {H : Type 0} (bits : ℕ) (ledger : Ledger H) (m : Records)
   pub refers : RefersAt ledger m (part_of a ∷ []) a
   pub cleared : IsClearedField bits plan.victim plan.place plan.place.stage.field m a
 
+pub or_left : (a b : Bool) → (a || b) ≡ false → a ≡ false
+or_left false b e = refl
+or_left true b e = absurd (true≢false e)
+
+pub or_right : (a b : Bool) → (a || b) ≡ false → b ≡ false
+or_right false b e = e
+or_right true b e = absurd (true≢false e)
+
 module _ {H : Type 0} (bits : ℕ) (old : Ledger H) (m : Records) (fields : List Field) (trees : List AttributeTrees) (root : ℕ) (plan : PlanView) (a : AttributeTrees)
-    (holds : HoldsAttributes bits old m fields trees root) (way : IsUnderWay bits old m trees plan) (at : slice_get trees plan.place.stage.field ≡ Some a) where
+    (holds : HoldsAttributes bits old m fields trees root) (way : IsUnderWay bits root old m trees plan) (at : slice_get trees plan.place.stage.field ≡ Some a) where
   abbrev before : List Part
   before = entries (root_entries root) ∷ parts_of trees
 
@@ -98,9 +106,9 @@ module _ {H : Type 0} (bits : ℕ) (old : Ledger H) (m : Records) (fields : List
       (subst (λ (f : Records). MeetsMove bits (record old { unit = true }) f a plan) (sym records) (meets_move settled))
 
   -- ---- the key was moved, and the unit accepted
-  module _ (laws : FieldLaws) (stays : StayLeavesCleared) (others : OthersStayCleared) (mid new : Ledger H) (n o : Records) (key : PlanKey) (b : AttributeTrees) (type : b.type ≡ a.type)
+  module _ {clean : Type 0} (laws : FieldLaws) (stays : StayLeavesCleared) (others : OthersStayCleared) (mid new : Ledger H) (n o : Records) (key : PlanKey) (b : AttributeTrees) (type : b.type ≡ a.type)
       (few : plan.place.stage.phase < PHASES) (next : key_past plan.place.key (keys_at m a plan.place.stage.phase) ≡ Some key)
-      (part : MovesPart bits plan.victim (record old { unit = true }) mid m n a b)
+      (part : MovesPart bits plan.victim clean (record old { unit = true }) mid m n a b)
       (cleared : IsClearedField bits plan.victim (record { stage = plan.place.stage; key = key }) plan.place.stage.field n b)
       (accepts : Accepts mid new n o) (keeps : KeepsStore old new) where
     abbrev i : ℕ
@@ -157,8 +165,8 @@ module _ {H : Type 0} (bits : ℕ) (old : Ledger H) (m : Records) (fields : List
     typed = subst (λ o. IfSome o (λ (c : AttributeTrees). HasType c.type key)) (sym (get_set-same trees i a b at))
         (subst (λ (t : ValueType). HasType t key) (sym type) (next_fits m a plan.place key few next).0)
 
-    pub unit_compacts : (copied : Bool) → CompactsTo bits new m o fields trees after root (record { victim = plan.victim; fields = plan.fields; place = place; copied = copied })
-    unit_compacts copied = record {
+    pub unit_compacts : (copied : Bool) → (copied ≡ false → clean) → (copied ≡ false → plan.copied ≡ false) → CompactsTo bits new m o fields trees after root (record { victim = plan.victim; fields = plan.fields; place = place; copied = copied })
+    unit_compacts copied is_clean was_none = record {
       holds = new_holds laws bits plan.victim (record old { unit = true }) mid m n fields trees root i a b at holds.are_fields begun_owns begun_refer part new o accepts old way.sealed
           (λ r. refl) holds.owns keeps.sealed (keeps.unit ∙ holds.unit) (keeps.finished ∙ way.unfinished);
       under_way = record {
@@ -167,6 +175,8 @@ module _ {H : Type 0} (bits : ℕ) (old : Ledger H) (m : Records) (fields : List
         all = way.all ∙ sym (set_length trees i b);
         typed = typed;
         cleared = new_cleared;
+        whole = λ none. new_owned laws bits plan.victim (record old { unit = true }) mid m n fields trees root i a b at holds.are_fields begun_owns begun_refer part new o accepts old way.sealed
+            (λ r. refl) holds.owns keeps.sealed (is_clean none) keeps.left (way.whole (was_none none));
       };
       table = new_table laws bits plan.victim (record old { unit = true }) mid m n fields trees root i a b at holds.are_fields begun_owns begun_refer part new o accepts;
       keys = all_keep m o trees after (set_length trees i b) (λ j c d here there. one_keeps_then m n o c d d (mid_keys j c d here there) (keeps_stay n o d (one_stays after parts_stay j d there)));
@@ -193,10 +203,12 @@ form_moved m n a b kind type was now column plain dense is =
     same : (value : Value) → list_of value (index_of a.type n b.dictionary) ≡ list_of value (index_of a.type m a.dictionary)
     same value = now.index_of_documents.lists value ∙ ap (documents_with value) column ∙ sym (was.index_of_documents.lists value)
 
-part_moved : {H : Type 0} (bits victim : ℕ) (old mid : Ledger H) (m n : Records) (a b : AttributeTrees) → b.kind ≡ a.kind → b.type ≡ a.type → IsFieldAt m a
-    → MovesField bits victim a.kind a.type old mid m n a.documents a.dictionary b.documents b.dictionary → MovesPart bits victim old mid m n a b
-part_moved bits victim old mid m n a b kind type was moves = record {
+part_moved : {H : Type 0} {clean : Type 0} (bits victim : ℕ) (old mid : Ledger H) (m n : Records) (a b : AttributeTrees) → b.kind ≡ a.kind → b.type ≡ a.type → IsFieldAt m a
+    → (moves : MovesField bits victim a.kind a.type old mid m n a.documents a.dictionary b.documents b.dictionary)
+    → (clean → moves.left ≡ []) → MovesPart bits victim clean old mid m n a b
+part_moved bits victim old mid m n a b kind type was moves none = record {
   left = moves.left;
+  left_none = none;
   left_in = key_lies bits victim a.dictionary m moves.left moves.left_in;
   is_field = subst (λ (k : Kind). IsField k b.type n b.documents b.dictionary) (sym kind)
       (subst (λ (t : ValueType). IsField a.kind t n b.documents b.dictionary) (sym type) moves.field_is);
@@ -210,12 +222,13 @@ part_moved bits victim old mid m n a b kind type was moves = record {
   turns = subst (λ (k : Kind). Turns old mid m n (part_of a ∷ []) (field_part k b.documents b.dictionary ∷ entries moves.left ∷ [])) (sym kind) moves.turns;
 }
 
-pub part_begun : {H : Type 0} (bits victim : ℕ) (old begun mid : Ledger H) (m k n : Records) (a b : AttributeTrees) → b.kind ≡ a.kind → b.type ≡ a.type
+pub part_begun : {H : Type 0} {clean : Type 0} (bits victim : ℕ) (old begun mid : Ledger H) (m k n : Records) (a b : AttributeTrees) → b.kind ≡ a.kind → b.type ≡ a.type
     → begun ≡ record old { unit = true } → k ≡ m → IsFieldAt k a
-    → MovesField bits victim a.kind a.type begun mid k n a.documents a.dictionary b.documents b.dictionary → MovesPart bits victim (record old { unit = true }) mid m n a b
-part_begun bits victim old begun mid m k n a b kind type begins records was moves =
-    subst (λ (l : Ledger _). MovesPart bits victim l mid m n a b) begins
-    (subst (λ (f : Records). MovesPart bits victim begun mid f n a b) records (part_moved bits victim begun mid k n a b kind type was moves))
+    → (moves : MovesField bits victim a.kind a.type begun mid k n a.documents a.dictionary b.documents b.dictionary)
+    → (clean → moves.left ≡ []) → MovesPart bits victim clean (record old { unit = true }) mid m n a b
+part_begun {H} {clean} bits victim old begun mid m k n a b kind type begins records was moves none =
+    subst (λ (l : Ledger _). MovesPart bits victim clean l mid m n a b) begins
+    (subst (λ (f : Records). MovesPart bits victim clean begun mid f n a b) records (part_moved bits victim begun mid k n a b kind type was moves none))
 
 -- ---- the width of a full store
 -- a record of it was in use as the unit began, and so it is again: it lies in an active buffer

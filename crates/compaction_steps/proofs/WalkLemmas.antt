@@ -187,7 +187,7 @@ next_not_start k next at key is = by (slice_get next at.stage.field) is
 
 -- ---- a walk, turn by turn
 module _ {H : Type 0} (bits root : ℕ) (fields : List Field) where
-  pub visits_none : (old : Ledger H) (m : Records) (trees : List AttributeTrees) (plan : PlanView) → HoldsAttributes bits old m fields trees root → IsUnderWay bits old m trees plan
+  pub visits_none : (old : Ledger H) (m : Records) (trees : List AttributeTrees) (plan : PlanView) → HoldsAttributes bits old m fields trees root → IsUnderWay bits root old m trees plan
       → HasLastField plan → Visits bits root old old m m fields trees trees plan plan 0
   visits_none old m trees plan holds under_way last = record {
     holds = holds;
@@ -204,7 +204,7 @@ module _ {H : Type 0} (bits root : ℕ) (fields : List Field) where
 
   module _ (old mid new : Ledger H) (m k n : Records) (trees next after : List AttributeTrees) (from to at : PlanView) (visited : ℕ)
       (visits : Visits bits root old mid m k fields trees next from to visited)
-      (holds : HoldsAttributes bits new n fields after root) (under_way : IsUnderWay bits new n after at) (table : table_at n after ≡ table_at k next) (keys : KeepKeys k n next after)
+      (holds : HoldsAttributes bits new n fields after root) (under_way : IsUnderWay bits root new n after at) (table : table_at n after ≡ table_at k next) (keys : KeepKeys k n next after)
       (keeps : KeepsStore mid new) where
     -- a turn that was refused leaves the walk where it was
     pub visits_still : at ≡ to → Visits bits root old new m n fields trees after from at visited

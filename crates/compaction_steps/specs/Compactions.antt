@@ -62,7 +62,7 @@ pub record OpensPlan {H : Type 0} (bits root : ℕ) (old new : Ledger H) (m n : 
   pub counts : RisesBy old new (λ width. 0)
   pub left : LeavesEntries old new m n
   pub holds : HoldsAttributes bits new n fields trees root
-  pub under_way : IsUnderWay bits new n trees plan
+  pub under_way : IsUnderWay bits root new n trees plan
   pub last : HasLastField plan
 
 module _ {H : Type 0} (bits root : ℕ) (old new : Ledger H) (m n : Records) (fields : List Field) (trees next : List AttributeTrees)
@@ -81,7 +81,7 @@ module _ {H : Type 0} (bits root : ℕ) (old new : Ledger H) (m n : Records) (fi
     pub plan : PlanView
     pub plan_is : after ≡ Some plan
     pub went : Went plan visited
-    pub under_way : IsUnderWay bits new n next plan
+    pub under_way : IsUnderWay bits root new n next plan
     pub last : HasLastField plan
 
   -- no key is left, and nothing that is reached lies in its buffer

@@ -2,6 +2,7 @@ pub mod Counts
 pub mod Units
 pub mod Walks
 pub mod Compactions
+pub mod GivenUp
 pub mod LeavesCleared
 pub mod StepsLaws
 pub mod Sights

@@ -1,5 +1,5 @@
 -- A compaction of attributes in progress, and the effect of one turn.
-use Rattle.std.specs.Prelude.{◌≡◌, ℕ, ◌<◌, Bool, true, ◌||◌, List, length, slice_get, Option, None, Some, unwrap_or}
+use Rattle.std.specs.Prelude.{◌≡◌, ◌≢◌, ℕ, ◌<◌, ◌≤◌, Bool, true, false, ◌||◌, List, ◌∷◌, length, slice_get, Option, None, Some, unwrap_or}
 use Rattle.std.specs.List.{AllByRecursion, AllZip}
 use Rattle.std.specs.Option.{IfSome, option_and_then}
 use Rattle.std.specs.declared.cmp.Ordering.TheVariants.{Less}
@@ -7,6 +7,8 @@ use Rattle.entry_ref.specs.References.{buffer_of}
 use Rattle.entry_ref.specs.Records.{Records}
 use Rattle.arena_api.specs.Works.{active_width}
 use Rattle.store_api.specs.Ledgers.{Ledger}
+use Rattle.store_api.specs.Parts.{count_in, entries, uses}
+use Rattle.store_api.specs.Statuses.{Status}
 use Rattle.store_api.specs.declared.store.StoreError.{StoreError}
 use Rattle.store_api.specs.declared.store.StoreError.TheVariants as errors
 use Rattle.compaction_moves.specs.Cleared.{IsCleared}
@@ -21,7 +23,8 @@ use Rattle.attr_compaction.specs.PhaseKeys.{key_past, phase_keys, HasType}
 use Rattle.value_index.specs.Forms.{IsPlainIndex}
 use Rattle.value_index.specs.Indexes.{key_at}
 use Rattle.compaction_steps.specs.Passes.{GoesThrough}
-use Rattle.attr_operations.specs.Fields.{HoldsAttributes, IsOfFormAt}
+use Rattle.array_store.specs.Roots.{root_entries}
+use Rattle.attr_operations.specs.Fields.{parts_of, HoldsAttributes, IsOfFormAt}
 use Rattle.attr_operations.specs.Views.{table_at}
 use Rattle.compaction_steps.specs.declared.unit.Turn.{Turn}
 use Rattle.compaction_steps.specs.declared.unit.Turn.TheVariants.{Moved, PhaseOver}
@@ -34,15 +37,22 @@ keys_at m a phase = phase_keys a.type m a.documents a.dictionary phase
 abbrev pub next_at : Records → List AttributeTrees → PlanPlace → Option PlanKey
 next_at m trees at = option_and_then (λ a. key_past at.key (keys_at m a at.stage.phase)) (slice_get trees at.stage.field)
 
+-- what is in use in a buffer belongs to the attributes or to the last root record, and no commit left an entry of it out
+pub record OwnsBuffer {H : Type 0} (bits root : ℕ) (ledger : Ledger H) (m : Records) (trees : List AttributeTrees) (buffer : ℕ)
+    : Type 0 where
+  pub owned : (r : ℕ) → buffer_of bits r ≡ buffer → uses ledger r ≤ count_in r m (entries (root_entries root) ∷ parts_of trees)
+  pub none_left : (r : ℕ) → ledger.status r ≡ Status.left → buffer_of bits r ≢ buffer
+
 -- attributes are emptied out of a sealed buffer: what they reach of it is after the plan's place, whose key has its
--- attribute's type
-pub record IsUnderWay {H : Type 0} (bits : ℕ) (ledger : Ledger H) (m : Records) (trees : List AttributeTrees) (plan : PlanView)
+-- attribute's type. While no record of a value was copied, nothing else is in use in it
+pub record IsUnderWay {H : Type 0} (bits root : ℕ) (ledger : Ledger H) (m : Records) (trees : List AttributeTrees) (plan : PlanView)
     : Type 0 where
   pub sealed : ledger.sealed plan.victim ≡ true
   pub unfinished : ledger.finished ≡ None
   pub all : plan.fields ≡ length trees
   pub typed : IfSome (slice_get trees plan.place.stage.field) (λ a. HasType a.type plan.place.key)
   pub cleared : IsCleared bits plan.victim plan.place m trees
+  pub whole : plan.copied ≡ false → OwnsBuffer bits root ledger m trees plan.victim
 
 -- the result of a turn
 abbrev pub turn_of : Option PlanKey → Turn
@@ -88,7 +98,7 @@ ArePlain m trees = AllByRecursion (λ a. IsPlainIndex m a.dictionary) trees
 pub record CompactsTo {H : Type 0} (bits : ℕ) (new : Ledger H) (m n : Records) (fields : List Field)
     (trees next : List AttributeTrees) (root : ℕ) (plan : PlanView) : Type 0 where
   pub holds : HoldsAttributes bits new n fields next root
-  pub under_way : IsUnderWay bits new n next plan
+  pub under_way : IsUnderWay bits root new n next plan
   pub table : table_at n next ≡ table_at m trees
   pub keys : KeepKeys m n trees next
 

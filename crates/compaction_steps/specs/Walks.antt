@@ -42,7 +42,7 @@ module _ {H : Type 0} (bits root : ℕ) (old new : Ledger H) (m n : Records) (fi
   -- lies elsewhere
   pub record Visits (keys : ℕ) : Type 0 where
     pub holds : HoldsAttributes bits new n fields next root
-    pub under_way : IsUnderWay bits new n next to
+    pub under_way : IsUnderWay bits root new n next to
     pub last : HasLastField to
     pub table : table_at n next ≡ table_at m trees
     pub keep : KeepKeys m n trees next

@@ -115,12 +115,14 @@ pub fn move_unit<const OFFSET_BITS: u32, S: Store<OFFSET_BITS>>(
 ) -> Result<FieldRoots<OFFSET_BITS>, StoreError>
     requires holds { HoldsAttributes OFFSET_BITS (S.ledger store.old) (S.records store.old) fields.now
         (trees_of fields.now roots.now) root }
-    requires under_way { IsUnderWay OFFSET_BITS (S.ledger store.old) (S.records store.old) (trees_of fields.now roots.now) plan.now }
+    requires under_way { IsUnderWay OFFSET_BITS root (S.ledger store.old) (S.records store.old) (trees_of fields.now roots.now) plan.now }
     requires phase { plan.now.place.stage.phase < PHASES }
     requires at { slice_get (trees_of fields.now roots.now) plan.now.place.stage.field ≡ Some (trees_of_field field.now own) }
     requires next { key_past plan.now.place.key (keys_at (S.records store.old) (trees_of_field field.now own) plan.now.place.stage.phase)
         ≡ Some key.now }
-    ensures moves { IfOk result (λ next. (copies : Bool) → CompactsTo OFFSET_BITS (S.ledger store.new) (S.records store.old)
+    ensures moves { IfOk result (λ next. (copies : Bool)
+        → (copies ≡ false → CopiesNone OFFSET_BITS (S.records store.old) (trees_of_field field.now own.entry) plan.now key.now)
+        → CompactsTo OFFSET_BITS (S.ledger store.new) (S.records store.old)
         (S.records store.new) fields.now (trees_of fields.now roots.now)
         (set (trees_of fields.now roots.now) plan.now.place.stage.field (trees_of_field field.now next))
         root.entry (plan_at plan.now copies key.now)) }

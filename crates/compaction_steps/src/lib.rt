@@ -21,5 +21,6 @@ mod walk;
 mod ways;
 
 pub use clear_passing::{Passed, pass_clear};
+pub use ending::give_up;
 pub use stepping::{Step, compact};
 pub use steps_laws::{same_law, stage_law, step_law};

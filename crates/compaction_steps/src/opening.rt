@@ -50,7 +50,7 @@ pub fn open_plan<const OFFSET_BITS: u32, S: Store<OFFSET_BITS>>(
     requires few { length fields.now ≤ MOST_FIELDS }
     requires holds { HoldsAttributes OFFSET_BITS (S.ledger store.old) (S.records store.old) fields.now
         (trees_of fields.now roots.now) root }
-    requires under_way { IfSome before (IsUnderWay OFFSET_BITS (S.ledger store.old) (S.records store.old) (trees_of fields.now roots.now)) }
+    requires under_way { IfSome before (IsUnderWay OFFSET_BITS root (S.ledger store.old) (S.records store.old) (trees_of fields.now roots.now)) }
     requires last { IfSome before HasLastField }
     requires unfinished { (S.ledger store.old).finished ≡ None }
     ensures opens { IfSome result (OpensPlan OFFSET_BITS root.entry (S.ledger store.old) (S.ledger store.new) (S.records store.old)

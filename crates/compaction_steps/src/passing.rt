@@ -28,9 +28,9 @@ pub fn pass_keys<const OFFSET_BITS: u32, S: Store<OFFSET_BITS>>(
     requires sized { length roots.now ≡ length fields.now }
     requires holds { HoldsAttributes OFFSET_BITS (S.ledger store.old) (S.records store.old) fields.now
         (trees_of fields.now roots.now) root }
-    requires under_way { IsUnderWay OFFSET_BITS (S.ledger store.old) (S.records store.old) (trees_of fields.now roots.now) plan.old }
+    requires under_way { IsUnderWay OFFSET_BITS root (S.ledger store.old) (S.records store.old) (trees_of fields.now roots.now) plan.old }
     requires phase { plan.old.place.stage.phase < PHASES }
-    ensures under_way { IsUnderWay OFFSET_BITS (S.ledger store.old) (S.records store.old) (trees_of fields.now roots.now) plan.new }
+    ensures under_way { IsUnderWay OFFSET_BITS root.entry (S.ledger store.old) (S.records store.old) (trees_of fields.now roots.now) plan.new }
     ensures passes { PassesKeys (S.records store.old) (trees_of fields.now roots.now) plan.old plan.new result }
     ensures few { result ≤ most }
     ensures same { store.new ≡ store.old }

@@ -45,7 +45,7 @@ pub fn compact<const OFFSET_BITS: u32, S: Store<OFFSET_BITS>>(
     requires few { length fields.now ≤ MOST_FIELDS }
     requires holds { HoldsAttributes OFFSET_BITS (S.ledger store.old) (S.records store.old) fields.now
         (trees_of fields.now roots.old) root }
-    requires under_way { IfSome before (IsUnderWay OFFSET_BITS (S.ledger store.old) (S.records store.old) (trees_of fields.now roots.old)) }
+    requires under_way { IfSome before (IsUnderWay OFFSET_BITS root (S.ledger store.old) (S.records store.old) (trees_of fields.now roots.old)) }
     requires last { IfSome before HasLastField }
     requires unfinished { (S.ledger store.old).finished ≡ None }
     ensures sized { length roots.new ≡ length fields.now }

@@ -40,12 +40,12 @@ pub fn compact_one<const OFFSET_BITS: u32, S: Store<OFFSET_BITS>>(
     requires sized { length roots.old ≡ length fields.now }
     requires holds { HoldsAttributes OFFSET_BITS (S.ledger store.old) (S.records store.old) fields.now
         (trees_of fields.now roots.old) root }
-    requires under_way { IsUnderWay OFFSET_BITS (S.ledger store.old) (S.records store.old) (trees_of fields.now roots.old) plan.old }
+    requires under_way { IsUnderWay OFFSET_BITS root (S.ledger store.old) (S.records store.old) (trees_of fields.now roots.old) plan.old }
     requires phase { plan.old.place.stage.phase < PHASES }
     ensures sized { length roots.new ≡ length fields.now }
     ensures holds { HoldsAttributes OFFSET_BITS (S.ledger store.new) (S.records store.new) fields.now
         (trees_of fields.now roots.new) root.entry }
-    ensures under_way { IsUnderWay OFFSET_BITS (S.ledger store.new) (S.records store.new) (trees_of fields.now roots.new) plan.new }
+    ensures under_way { IsUnderWay OFFSET_BITS root.entry (S.ledger store.new) (S.records store.new) (trees_of fields.now roots.new) plan.new }
     ensures table { table_at (S.records store.new) (trees_of fields.now roots.new)
         ≡ table_at (S.records store.old) (trees_of fields.now roots.old) }
     ensures keys { KeepKeys (S.records store.old) (S.records store.new) (trees_of fields.now roots.old) (trees_of fields.now roots.new) }

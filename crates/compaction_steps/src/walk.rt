@@ -55,7 +55,7 @@ pub fn visit_keys<const OFFSET_BITS: u32, S: Store<OFFSET_BITS>>(
     requires sized { length roots.old ≡ length fields.now }
     requires holds { HoldsAttributes OFFSET_BITS (S.ledger store.old) (S.records store.old) fields.now
         (trees_of fields.now roots.old) root }
-    requires under_way { IsUnderWay OFFSET_BITS (S.ledger store.old) (S.records store.old) (trees_of fields.now roots.old) plan.old }
+    requires under_way { IsUnderWay OFFSET_BITS root (S.ledger store.old) (S.records store.old) (trees_of fields.now roots.old) plan.old }
     requires last { HasLastField plan.old }
     ensures sized { length roots.new ≡ length fields.now }
     ensures walks { Walks OFFSET_BITS root.entry (S.ledger store.old) (S.ledger store.new) (S.records store.old) (S.records store.new)

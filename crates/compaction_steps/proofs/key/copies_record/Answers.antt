@@ -1,13 +1,11 @@
 use Rattle.std.proofs.Common.{◌≡◌, ℕ, true≢false, refl, sym, ap, subst, ◌∙◌, arith}
-use Rattle.entry_ref.specs.References.{buffer_of}
 use Rattle.attr_types.specs.Value.{type_of}
 use Rattle.attr_types.specs.declared.kind.ValueType.{ValueType}
 use Rattle.attr_compaction.specs.PhaseKeys.{HasType}
 use Rattle.attr_compaction.specs.Places.{has_key}
 use Rattle.attr_compaction.specs.declared.plan.TheConstants.{KEYS}
-use Rattle.attr_compaction.specs.declared.plan.PlanKey.{PlanKey}
 use Rattle.attr_operations.specs.Fields.{trees_of_field}
-use Rattle.value_index.specs.Indexes.{key_at, IsIndex}
+use Rattle.value_index.specs.Indexes.{IsIndex}
 use Rattle.compaction_steps.specs.Units.{HasRecordIn}
 use Rattle.compaction_steps.proofs.CopyLemmas.{copies_apart, copies_elsewhere, copies_no_value}
 use Rattle.compaction_steps.proofs.key.copies_record.Goals as goal

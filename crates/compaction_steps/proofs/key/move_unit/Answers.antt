@@ -9,9 +9,10 @@ use Rattle.attr_operations.proofs.Units.{left_unit, refused_among, keeps_unit, n
 use Rattle.image_format.specs.Documents.{column_at}
 use Rattle.compaction_moves.specs.Counts.{MakesKey}
 use Rattle.value_index.specs.Forms.{IsPlainIndex}
+use Rattle.compaction_moves.specs.Steps.{CopiesNone}
 use Rattle.compaction_steps.specs.Units.{keys_at}
 use Rattle.compaction_steps.proofs.KeyCounts.{key_unit}
-use Rattle.compaction_steps.proofs.UnitSteps.{active_begun, meets_begun, part_begun, spares_begun, unit_compacts}
+use Rattle.compaction_steps.proofs.UnitSteps.{active_begun, meets_begun, part_begun, or_left, or_right, spares_begun, unit_compacts}
 use Rattle.compaction_steps.proofs.key.move_unit.Goals as goal
 
 pub begin-requires : goal.begin-requires
@@ -50,13 +51,15 @@ returns-in-Ok-clause-moves g c =
     let left = none_left_accepted old mid new (records c.args.store.now) (records c.move_one.new.store) (records c.accept.new.self)
     (g.met.S.Store.settled c.args.store.now c.requires.holds.unit) may (g.met.S.Store.left_stays c.move_one.new.store) c.accept.ensures in
     let keeps = keeps_unit old mid new c.requires.holds.unit may c.accept.ensures.unit c.accept.ensures.work c.accept.ensures.shape c.accept.ensures.sealed c.accept.ensures.finished left in
-    λ copies. unit_compacts _ old (records c.args.store.now) c.args.fields.now (trees_of c.args.fields.now c.args.roots.now) c.args.root c.args.plan.now a
+    λ copies none. unit_compacts _ old (records c.args.store.now) c.args.fields.now (trees_of c.args.fields.now c.args.roots.now) c.args.root c.args.plan.now a
     c.requires.holds c.requires.under_way c.requires.at
     (laws_of c.field_law.ensures.stays c.field_law.ensures.lawful c.field_law.ensures.keys) c.same_law.ensures.one c.stage_law.ensures.others mid new (records c.move_one.new.store) (records c.accept.new.self)
     c.args.key.now b refl c.requires.phase c.requires.next
     (part_begun _ c.args.plan.now.victim old (ledger c.begin.new.self) mid (records c.args.store.now) (records c.begin.new.self) (records c.move_one.new.store) a b refl refl
-    c.begin.ensures.ledger c.begin.ensures.records meets.field c.in-Ok.ensures.moved.moves)
+    c.begin.ensures.ledger c.begin.ensures.records meets.field c.in-Ok.ensures.moved.moves
+    (λ is. c.in-Ok.ensures.moved.left_none (subst (λ (f : Records). CopiesNone g.row.OFFSET_BITS f a c.args.plan.now c.args.key.now) (sym c.begin.ensures.records) is)))
     c.in-Ok.ensures.moved.cleared c.accept.ensures keeps (copies || c.args.plan.now.copied)
+    (λ fresh. none (or_left copies c.args.plan.now.copied fresh)) (λ fresh. or_right copies c.args.plan.now.copied fresh)
 
 pub returns-in-Ok-clause-keeps : goal.returns-in-Ok-clause-keeps
 returns-in-Ok-clause-keeps g c =

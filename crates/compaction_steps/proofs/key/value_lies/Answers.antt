@@ -1,6 +1,5 @@
-use Rattle.std.proofs.Common.{◌≡◌, Some, true≢false, refl, sym, ◌∙◌, arith}
+use Rattle.std.proofs.Common.{Some, true≢false, refl, sym, ◌∙◌, arith}
 use Rattle.std.proofs.lemmas.Bool.{eqb-true, eqb-false}
-use Rattle.entry_ref.specs.References.{buffer_of}
 use Rattle.tree_read.specs.Pairs.{lookup_pair}
 use Rattle.tree_read.specs.Trees.{tree_pairs}
 use Rattle.enum_dictionary.specs.Dictionaries.{beside_value}

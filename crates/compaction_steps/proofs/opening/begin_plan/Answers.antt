@@ -28,4 +28,4 @@ returns-clause-opens g c =
     let new = c.seal.new.self in
     let fields = c.args.fields.now in
     opens_begun g.row.OFFSET_BITS c.args.root (ledger old) (records old) fields (trees_of fields c.args.roots.now) c.requires.holds c.stage_law.ensures.first (ledger new) c.in_ok-victim.victim (length fields)
-    c.seal.ensures.seals c.in_ok-victim.ensures.some c.requires.unfinished refl (records new) c.start.result c.seal.ensures.records c.start.ensures.victim c.start.ensures.fields c.start.ensures.place c.start.ensures.copied
+    c.seal.ensures.seals c.in_ok-victim.ensures.some c.requires.unfinished refl (g.met.S.Store.left_out old) (records new) c.start.result c.seal.ensures.records c.start.ensures.victim c.start.ensures.fields c.start.ensures.place c.start.ensures.copied

@@ -20,7 +20,7 @@ returns-in-Some-clause-opens g c =
     let trees = trees_of fields c.args.roots.now in
     subst (λ (o : Option PlanView). OpensPlan g.row.OFFSET_BITS c.args.root (ledger old) (ledger old) (records old) (records old) fields trees o c.in-Some.plan) (sym c.in-Some.is)
     (opens_going g.row.OFFSET_BITS c.args.root (ledger old) (records old) fields trees c.requires.holds c.in-Some.plan
-    (subst (λ (o : Option PlanView). IfSome o (IsUnderWay g.row.OFFSET_BITS (ledger old) (records old) trees)) c.in-Some.is c.requires.under_way)
+    (subst (λ (o : Option PlanView). IfSome o (IsUnderWay g.row.OFFSET_BITS c.args.root (ledger old) (records old) trees)) c.in-Some.is c.requires.under_way)
     (subst (λ (o : Option PlanView). IfSome o HasLastField) c.in-Some.is c.requires.last))
 
 pub returns-in-None-clause-opens : goal.returns-in-None-clause-opens

@@ -49,8 +49,8 @@ returns-in-Some-clause-under_way g c =
     let size = passes.count_is in
     let some = passes.some in
     let fits = through_fits m a plan.place passes.passed c.in-Some.passed.last c.requires.phase (omega arith) passes.through in
-    passed_way c.stage_law.ensures.others g.row.OFFSET_BITS (g.S.Store.ledger c.args.store.now) m (trees_of c.args.fields.now c.args.roots.now) plan c.next.new.self a c.in-Some.passed.last c.requires.under_way
-    c.requires.holds.are_fields.each here.at fits passes.cleared c.next.ensures.victim c.next.ensures.fields c.next.ensures.place
+    passed_way c.stage_law.ensures.others g.row.OFFSET_BITS c.args.root (g.S.Store.ledger c.args.store.now) m (trees_of c.args.fields.now c.args.roots.now) plan c.next.new.self a c.in-Some.passed.last c.requires.under_way
+    c.requires.holds.are_fields.each here.at fits passes.cleared c.next.ensures.victim c.next.ensures.fields c.next.ensures.place c.next.ensures.copied
 
 pub returns-in-Some-clause-passes : goal.returns-in-Some-clause-passes
 returns-in-Some-clause-passes g c =

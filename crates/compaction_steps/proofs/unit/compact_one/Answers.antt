@@ -15,6 +15,7 @@ use Rattle.compaction_steps.proofs.KeyCounts.{key_among, keys_none, keys_plain}
 use Rattle.image_format.specs.Tables.{AttributeTrees}
 use Rattle.list_lemmas.proofs.Each.{AllByRecursion-slice_get}
 use Rattle.value_index.specs.Forms.{IsPlainIndex}
+use Rattle.compaction_moves.specs.Steps.{CopiesNone}
 use Rattle.compaction_steps.specs.Units.{keys_at, plan_at, ArePlain, CompactsTo, IsUnderWay, KeepKeys}
 use Rattle.compaction_steps.proofs.KeyLemmas.{next_fits, same_keys}
 use Rattle.compaction_steps.proofs.TurnLemmas.{at_place, below_fields, goes_on, left_all, moved_roots, moved_way, next_is, over_way, past_next}
@@ -83,7 +84,7 @@ returns-in_default-clause-under_way g c =
     let records = g.S.Frozen.records in
     let trees = trees_of c.args.fields.now c.args.roots.now in
     let same = c.next_of.ensures.same in
-    subst (λ s. IsUnderWay _ (ledger s) (records s) trees c.args.plan.now) (sym same) c.requires.under_way
+    subst (λ s. IsUnderWay _ c.args.root (ledger s) (records s) trees c.args.plan.now) (sym same) c.requires.under_way
 
 pub returns-in_default-clause-roots : goal.returns-in_default-clause-roots
 returns-in_default-clause-roots g c = refl
@@ -153,9 +154,9 @@ returns-in_default-next-clause-under_way g c =
     let here = at_place (g.S.Store.ledger c.args.store.now) (g.S.Frozen.records c.args.store.now) c.args.fields.now c.args.roots.now c.args.root c.args.plan.now c.field-i.result
     c.requires.holds c.requires.under_way c.requires.sized c.field-i.ensures.field c.field-i.ensures.below c.index-fields-i.result c.index-roots-i.result c.index-fields-i.is c.index-roots-i.is in
     let none = sym c.in_default-next.is ∙ c.in-Ok.ensures.next in
-    subst (λ s. IsUnderWay _ (ledger s) (records s) trees c.next.new.self) (sym same)
-    (over_way c.stage_law.ensures.phase _ (ledger old) m trees plan c.next.new.self a c.requires.under_way c.requires.holds.are_fields.each c.requires.phase here.at none c.next.ensures.victim c.next.ensures.fields
-    c.next.ensures.place)
+    subst (λ s. IsUnderWay _ c.args.root (ledger s) (records s) trees c.next.new.self) (sym same)
+    (over_way c.stage_law.ensures.phase _ c.args.root (ledger old) m trees plan c.next.new.self a c.requires.under_way c.requires.holds.are_fields.each c.requires.phase here.at none c.next.ensures.victim c.next.ensures.fields
+    c.next.ensures.place c.next.ensures.copied)
 
 pub returns-in_default-next-clause-goes_on : goal.returns-in_default-next-clause-goes_on
 returns-in_default-next-clause-goes_on g c =
@@ -201,7 +202,7 @@ move_unit-requires g c =
         (
           subst (λ s. HoldsAttributes _ (ledger s) (records s) fields trees c.args.root) (sym same) c.requires.holds,
           (
-            subst (λ s. IsUnderWay _ (ledger s) (records s) trees plan) (sym same) c.requires.under_way,
+            subst (λ s. IsUnderWay _ c.args.root (ledger s) (records s) trees plan) (sym same) c.requires.under_way,
             (c.requires.phase, (here.at, subst (λ s. key_past plan.place.key (keys_at (records s) a plan.place.stage.phase) ≡ Some c.in-Some.key) (sym same) (sym some))),
           ),
         ),
@@ -363,7 +364,8 @@ returns-clause-holds g c =
     (plan_at plan c.copies_record-copies.result c.in-Some.key) c.field-i.result plan.place.stage.field c.index-fields-i.result c.in_ok-roots.field-0
     c.field-i.ensures.field here.at_field
     (subst (λ s. CompactsTo _ (ledger c.move_unit.new.store) (records s) (records c.move_unit.new.store) fields trees
-    (set trees plan.place.stage.field (trees_of_field c.index-fields-i.result c.in_ok-roots.field-0)) c.args.root (plan_at plan c.copies_record-copies.result c.in-Some.key)) same (c.in_ok-roots.ensures.moves c.copies_record-copies.result)))
+    (set trees plan.place.stage.field (trees_of_field c.index-fields-i.result c.in_ok-roots.field-0)) c.args.root (plan_at plan c.copies_record-copies.result c.in-Some.key)) same (c.in_ok-roots.ensures.moves c.copies_record-copies.result
+    (λ is. subst (λ s. CopiesNone g.row.OFFSET_BITS (records s) a plan c.in-Some.key) (sym c.copies_record-copies.ensures.same) (c.copies_record-copies.ensures.none is)))))
     (next_fits m a plan.place c.in-Some.key c.requires.phase (sym some)).1 c.next-2.ensures.victim c.next-2.ensures.fields c.next-2.ensures.place c.next-2.ensures.copied in
     all.holds
 
@@ -387,7 +389,8 @@ returns-clause-under_way g c =
     (plan_at plan c.copies_record-copies.result c.in-Some.key) c.field-i.result plan.place.stage.field c.index-fields-i.result c.in_ok-roots.field-0
     c.field-i.ensures.field here.at_field
     (subst (λ s. CompactsTo _ (ledger c.move_unit.new.store) (records s) (records c.move_unit.new.store) fields trees
-    (set trees plan.place.stage.field (trees_of_field c.index-fields-i.result c.in_ok-roots.field-0)) c.args.root (plan_at plan c.copies_record-copies.result c.in-Some.key)) same (c.in_ok-roots.ensures.moves c.copies_record-copies.result)))
+    (set trees plan.place.stage.field (trees_of_field c.index-fields-i.result c.in_ok-roots.field-0)) c.args.root (plan_at plan c.copies_record-copies.result c.in-Some.key)) same (c.in_ok-roots.ensures.moves c.copies_record-copies.result
+    (λ is. subst (λ s. CopiesNone g.row.OFFSET_BITS (records s) a plan c.in-Some.key) (sym c.copies_record-copies.ensures.same) (c.copies_record-copies.ensures.none is)))))
     (next_fits m a plan.place c.in-Some.key c.requires.phase (sym some)).1 c.next-2.ensures.victim c.next-2.ensures.fields c.next-2.ensures.place c.next-2.ensures.copied in
     all.under_way
 
@@ -411,7 +414,8 @@ returns-clause-table g c =
     (plan_at plan c.copies_record-copies.result c.in-Some.key) c.field-i.result plan.place.stage.field c.index-fields-i.result c.in_ok-roots.field-0
     c.field-i.ensures.field here.at_field
     (subst (λ s. CompactsTo _ (ledger c.move_unit.new.store) (records s) (records c.move_unit.new.store) fields trees
-    (set trees plan.place.stage.field (trees_of_field c.index-fields-i.result c.in_ok-roots.field-0)) c.args.root (plan_at plan c.copies_record-copies.result c.in-Some.key)) same (c.in_ok-roots.ensures.moves c.copies_record-copies.result)))
+    (set trees plan.place.stage.field (trees_of_field c.index-fields-i.result c.in_ok-roots.field-0)) c.args.root (plan_at plan c.copies_record-copies.result c.in-Some.key)) same (c.in_ok-roots.ensures.moves c.copies_record-copies.result
+    (λ is. subst (λ s. CopiesNone g.row.OFFSET_BITS (records s) a plan c.in-Some.key) (sym c.copies_record-copies.ensures.same) (c.copies_record-copies.ensures.none is)))))
     (next_fits m a plan.place c.in-Some.key c.requires.phase (sym some)).1 c.next-2.ensures.victim c.next-2.ensures.fields c.next-2.ensures.place c.next-2.ensures.copied in
     all.table
 
@@ -435,7 +439,8 @@ returns-clause-keys g c =
     (plan_at plan c.copies_record-copies.result c.in-Some.key) c.field-i.result plan.place.stage.field c.index-fields-i.result c.in_ok-roots.field-0
     c.field-i.ensures.field here.at_field
     (subst (λ s. CompactsTo _ (ledger c.move_unit.new.store) (records s) (records c.move_unit.new.store) fields trees
-    (set trees plan.place.stage.field (trees_of_field c.index-fields-i.result c.in_ok-roots.field-0)) c.args.root (plan_at plan c.copies_record-copies.result c.in-Some.key)) same (c.in_ok-roots.ensures.moves c.copies_record-copies.result)))
+    (set trees plan.place.stage.field (trees_of_field c.index-fields-i.result c.in_ok-roots.field-0)) c.args.root (plan_at plan c.copies_record-copies.result c.in-Some.key)) same (c.in_ok-roots.ensures.moves c.copies_record-copies.result
+    (λ is. subst (λ s. CopiesNone g.row.OFFSET_BITS (records s) a plan c.in-Some.key) (sym c.copies_record-copies.ensures.same) (c.copies_record-copies.ensures.none is)))))
     (next_fits m a plan.place c.in-Some.key c.requires.phase (sym some)).1 c.next-2.ensures.victim c.next-2.ensures.fields c.next-2.ensures.place c.next-2.ensures.copied in
     all.keys
 

@@ -28,7 +28,8 @@ use Rattle.attr_operations.proofs.FieldSteps.{laws_of}
 use Rattle.attribute_kinds.proofs.RoomLemmas.{lacks_buffers, names_width, spares_operation}
 use Rattle.attr_operations.proofs.StepLemmas.{leaves_same}
 use Rattle.compaction_steps.specs.Units.{IsUnderWay}
-use Rattle.attribute_kinds.proofs.PlanLemmas.{if_some_map, under_same, under_stepped}
+use Rattle.attribute_kinds.proofs.PlanLemmas.{if_some_map, under_stepped}
+use Rattle.compaction_steps.proofs.TurnLemmas.{left_way}
 use Rattle.attribute_kinds.proofs.attribute.Attribute.apply.Goals as goal
 
 pub step-requires : goal.step-requires
@@ -93,7 +94,7 @@ invariant_of-self g c =
     record {
       stands = now;
       forms = forms;
-      plan_is = if_some_map (IsUnderWay g.row.OFFSET_BITS (ledger old) (records old) trees) (IsUnderWay g.row.OFFSET_BITS (ledger new) (records new) next) inside.plan
+      plan_is = if_some_map (IsUnderWay g.row.OFFSET_BITS inside.last.root (ledger old) (records old) trees) (IsUnderWay g.row.OFFSET_BITS inside.last.root (ledger new) (records new) next) inside.plan
           (λ plan under. under_stepped g.row.OFFSET_BITS (ledger old) (ledger new) (records old) (records new) fields trees next c.args.op.now inside.last.root plan c.step_law.ensures settled (g.met.S.Store.sized old)
           c.self.invariant.stands.holds now.holds c.step.ensures.keeps is.steps under) c.self.invariant.plan_is;
       last_is = c.self.invariant.last_is;
@@ -123,8 +124,9 @@ invariant_of-self-in-Ok-None g c =
           (records new) fields inside.roots.items inside.roots.items inside.last.root inside.last.commit inside.last.operations c.self.invariant.stands c.step.ensures.keeps
           (subst (λ s. LeavesEntries (ledger old) (ledger s) (records old) (records s)) (sym is.store_is) (leaves_same (ledger old) (records old)));
       forms = subst (λ s. HaveForms inside.dense (records s) trees) (sym is.store_is) c.self.invariant.forms;
-      plan_is = if_some_map (IsUnderWay g.row.OFFSET_BITS (ledger old) (records old) trees) (IsUnderWay g.row.OFFSET_BITS (ledger new) (records new) trees) inside.plan
-          (λ plan under. under_same g.row.OFFSET_BITS (ledger old) (ledger new) (records old) (records new) trees plan c.step.ensures.keeps (ap records is.store_is) under) c.self.invariant.plan_is;
+      plan_is = if_some_map (IsUnderWay g.row.OFFSET_BITS inside.last.root (ledger old) (records old) trees) (IsUnderWay g.row.OFFSET_BITS inside.last.root (ledger new) (records new) trees) inside.plan
+          (λ plan under. left_way g.row.OFFSET_BITS inside.last.root (ledger old) (ledger new) (records old) (records new) trees plan under
+          (subst (λ s. LeavesEntries (ledger old) (ledger s) (records old) (records s)) (sym is.store_is) (leaves_same (ledger old) (records old))) c.step.ensures.keeps) c.self.invariant.plan_is;
       last_is = c.self.invariant.last_is;
       waits_is = c.self.invariant.waits_is ∙ ap is_some (sym c.step.ensures.keeps.finished);
     }
@@ -146,8 +148,8 @@ invariant_of-self-in-Err g c =
       stands = stands_left (ledger old) (ledger new) (records old)
           (records new) fields inside.roots.items inside.roots.items inside.last.root inside.last.commit inside.last.operations c.self.invariant.stands c.step.ensures.keeps is.left;
       forms = subst (λ f. HaveForms inside.dense f trees) (sym is.left.records) c.self.invariant.forms;
-      plan_is = if_some_map (IsUnderWay g.row.OFFSET_BITS (ledger old) (records old) trees) (IsUnderWay g.row.OFFSET_BITS (ledger new) (records new) trees) inside.plan
-          (λ plan under. under_same g.row.OFFSET_BITS (ledger old) (ledger new) (records old) (records new) trees plan c.step.ensures.keeps (is.left.records) under) c.self.invariant.plan_is;
+      plan_is = if_some_map (IsUnderWay g.row.OFFSET_BITS inside.last.root (ledger old) (records old) trees) (IsUnderWay g.row.OFFSET_BITS inside.last.root (ledger new) (records new) trees) inside.plan
+          (λ plan under. left_way g.row.OFFSET_BITS inside.last.root (ledger old) (ledger new) (records old) (records new) trees plan under is.left c.step.ensures.keeps) c.self.invariant.plan_is;
       last_is = c.self.invariant.last_is;
       waits_is = c.self.invariant.waits_is ∙ ap is_some (sym c.step.ensures.keeps.finished);
     }

@@ -21,7 +21,8 @@ use Rattle.attr_field.proofs.DocumentsCountLemmas.{one-none}
 use Rattle.attribute_kinds.proofs.StandLemmas.{stands_left}
 use Rattle.attr_operations.proofs.StepLemmas.{keeps_same, leaves_same}
 use Rattle.compaction_steps.specs.Units.{IsUnderWay}
-use Rattle.attribute_kinds.proofs.PlanLemmas.{if_some_map, under_committed, under_same}
+use Rattle.attribute_kinds.proofs.PlanLemmas.{if_some_map, under_committed}
+use Rattle.compaction_steps.proofs.TurnLemmas.{left_way}
 use Rattle.attribute_kinds.proofs.attribute.Attribute.commit.Goals as goal
 
 pub same-self : goal.same-self
@@ -120,9 +121,9 @@ invariant_of-self g c =
       stands = stands_committed (ledger old) (ledger new) (records old) (records new) fields inside.roots.items inside.operations inside.last.root inside.last.commit inside.last.operations c.in-Ok.made.0 c.in-Ok.made.1
           c.self.invariant.stands made;
       forms = forms_stay c.field_law.ensures.form inside.dense (records old) (records new) trees made.stay c.self.invariant.forms;
-      plan_is = if_some_map (IsUnderWay g.row.OFFSET_BITS (ledger old) (records old) trees) (IsUnderWay g.row.OFFSET_BITS (ledger new) (records new) trees) inside.plan
+      plan_is = if_some_map (IsUnderWay g.row.OFFSET_BITS inside.last.root (ledger old) (records old) trees) (IsUnderWay g.row.OFFSET_BITS c.in-Ok.made.0 (ledger new) (records new) trees) inside.plan
           (λ plan under. under_committed g.row.OFFSET_BITS (ledger old) (ledger new) (records old)
-          (records new) fields trees inside.operations inside.last.root c.in-Ok.made.0 c.in-Ok.made.1 plan c.same_law.ensures.all c.self.invariant.stands.holds made under) c.self.invariant.plan_is;
+          (records new) fields trees inside.operations inside.last.root c.in-Ok.made.0 c.in-Ok.made.1 plan c.same_law.ensures.all c.self.invariant.stands.holds made c.in-Ok.ensures.turns under) c.self.invariant.plan_is;
       last_is = c.self.invariant.last_is;
       waits_is = ap is_some (sym made.stores.finished);
     }
@@ -140,8 +141,8 @@ invariant_of-self-in-Err g c =
       stands = stands_left (ledger old) (ledger new) (records old)
           (records new) fields inside.roots.items inside.roots.items inside.last.root inside.last.commit inside.last.operations c.self.invariant.stands c.in-Err.ensures.keeps c.in-Err.ensures.left;
       forms = subst (λ f. HaveForms inside.dense f trees) (sym c.in-Err.ensures.left.records) c.self.invariant.forms;
-      plan_is = if_some_map (IsUnderWay g.row.OFFSET_BITS (ledger old) (records old) trees) (IsUnderWay g.row.OFFSET_BITS (ledger new) (records new) trees) inside.plan
-          (λ plan under. under_same g.row.OFFSET_BITS (ledger old) (ledger new) (records old) (records new) trees plan c.in-Err.ensures.keeps c.in-Err.ensures.left.records under) c.self.invariant.plan_is;
+      plan_is = if_some_map (IsUnderWay g.row.OFFSET_BITS inside.last.root (ledger old) (records old) trees) (IsUnderWay g.row.OFFSET_BITS inside.last.root (ledger new) (records new) trees) inside.plan
+          (λ plan under. left_way g.row.OFFSET_BITS inside.last.root (ledger old) (ledger new) (records old) (records new) trees plan under c.in-Err.ensures.left c.in-Err.ensures.keeps) c.self.invariant.plan_is;
       last_is = c.self.invariant.last_is;
       waits_is = c.self.invariant.waits_is ∙ ap is_some (sym c.in-Err.ensures.keeps.finished);
     }

@@ -36,7 +36,7 @@ returns-then-self-clause-steps g c =
     let inside = c.self.inside in
     let ledger = g.S.Store.ledger in
     let waits = sym c.if-self.true ∙ c.self.invariant.waits_is in
-    let none = none_waits g.row.OFFSET_BITS (ledger inside.store) (g.S.Frozen.records inside.store) (trees_of inside.fields inside.roots.items) inside.plan c.self.invariant.plan_is waits in
+    let none = none_waits g.row.OFFSET_BITS inside.last.root (ledger inside.store) (g.S.Frozen.records inside.store) (trees_of inside.fields inside.roots.items) inside.plan c.self.invariant.plan_is waits in
     record {
       idle = subst (λ (v : AttributeView g.row.S.Denot). IsIdle g.row.OFFSET_BITS (ledger v.store) v.plan) c.self.view_is (record { none = none; why = inl (sym waits) });
       same = refl;
@@ -88,9 +88,9 @@ compact-plan-requires g c =
               subst (λ (xs : List Field). HoldsAttributes g.row.OFFSET_BITS (ledger old) (records old) xs (trees_of xs c.deref_mut.result.now) inside.last.root) fs
                   (subst (λ (xs : List (FieldRoots g.row.OFFSET_BITS)). HoldsAttributes g.row.OFFSET_BITS (ledger old) (records old) fields (trees_of fields xs) inside.last.root) rs stands.holds),
               (
-                subst (λ (o : Option PlanView). IfSome o (IsUnderWay g.row.OFFSET_BITS (ledger old) (records old) (trees_of c.as_slice.result.now c.deref_mut.result.now))) (sym c.take-before.ensures.value)
-                    (subst (λ (xs : List Field). IfSome inside.plan (IsUnderWay g.row.OFFSET_BITS (ledger old) (records old) (trees_of xs c.deref_mut.result.now))) fs
-                    (subst (λ (xs : List (FieldRoots g.row.OFFSET_BITS)). IfSome inside.plan (IsUnderWay g.row.OFFSET_BITS (ledger old) (records old) (trees_of fields xs))) rs c.self.invariant.plan_is)),
+                subst (λ (o : Option PlanView). IfSome o (IsUnderWay g.row.OFFSET_BITS inside.last.root (ledger old) (records old) (trees_of c.as_slice.result.now c.deref_mut.result.now))) (sym c.take-before.ensures.value)
+                    (subst (λ (xs : List Field). IfSome inside.plan (IsUnderWay g.row.OFFSET_BITS inside.last.root (ledger old) (records old) (trees_of xs c.deref_mut.result.now))) fs
+                    (subst (λ (xs : List (FieldRoots g.row.OFFSET_BITS)). IfSome inside.plan (IsUnderWay g.row.OFFSET_BITS inside.last.root (ledger old) (records old) (trees_of fields xs))) rs c.self.invariant.plan_is)),
                 (
                   subst (λ (o : Option PlanView). IfSome o HasLastField) (sym c.take-before.ensures.value) c.self.invariant.last_is,
                   none_finished (ledger old).finished (sym c.if-self.false ∙ c.self.invariant.waits_is),
