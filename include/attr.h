@@ -145,7 +145,8 @@ int32_t attr_commit(attr_engine *engine, struct attr_told *told);
 /* Goes so many keys on in a compaction, which gathers scattered entries so that a buffer comes free; 256 keys after each commit
  * serve well. It changes no answer. An emptied buffer is free once the next commit is made and no reader holds an earlier one.
  * ATTR_OK with keys and finished 0: nothing is worth a step, or an emptied buffer waits for the next commit. ATTR_FULL, ATTR_MEMORY:
- * told->keys were visited, and the next one found no room or no memory. */
+ * told->keys were visited, and the next one found no room or no memory. With ATTR_FULL the compaction is given up where it can be: its
+ * buffer's free entries can be given out again, and the next call may begin another. */
 int32_t attr_compact(attr_engine *engine, uint32_t keys, struct attr_told *told);
 
 /* Puts the documents of a save in, each by a put. The engine has one attribute, of the save's kind and value type. ATTR_BAD_SAVE:

@@ -8,7 +8,7 @@ ghost use Rattle.attr_c.specs.Engines.{open_counts, open_waiting, KeepsWaiting, 
 ghost use Rattle.attr_c.specs.Feeding.{FedTo, Feeds, IsFirstOp, IsLineBetween, IsSaidBefore, Stays, StopsFeed};
 ghost use Rattle.attr_c.specs.Holds.{with_skipped, CommitsAs};
 ghost use Rattle.attr_c.specs.Loading.{AreAllOf, AreFirstOf, ArePuts, IsNextLoaded, LoadsFront, LoadsSave, StopsLoad};
-ghost use Rattle.attr_c.specs.Compacting.{CompactsOpen, IsIdleOpen, RefusesOpen, StepsAs, StopsStep, TellsStep};
+ghost use Rattle.attr_c.specs.Compacting.{CompactsOpen, IsIdleOpen, StepsAs, StopsStep, StopsStepOpen, TellsStep};
 ghost use Rattle.attr_c.specs.Telling.{no_told, with_committed, with_count, with_fed, with_keys, with_line, with_place, with_step};
 ghost use Rattle.attr_c.specs.Telling.{TellsBy};
 ghost use Rattle.attr_c.specs.Stops.{EndsBy, LineOr, Stopped, StopsCommit, StopsOperation};
@@ -18,7 +18,7 @@ ghost use Rattle.image_format.specs.Words.{class_of};
 ghost use Rattle.attribute_kinds.specs.Calls.{HasCommit, KeepsStore, KeepsStoreBut};
 ghost use Rattle.attribute_kinds.specs.Counts.{HasNoVectors};
 ghost use Rattle.compaction_steps.specs.Counts.{MakesKeys};
-ghost use Rattle.attribute_kinds.specs.Compacting.{CompactsTo, IsIdle, RefusesStep};
+ghost use Rattle.attribute_kinds.specs.Compacting.{CompactsTo, IsIdle};
 ghost use Rattle.attribute_kinds.specs.declared.answers.Compacted.TheVariants.{Idle};
 ghost use Rattle.feed_reader.specs.Feed.{feed_of};
 ghost use Rattle.attr_c.specs.Stores.{open_bits, open_ledger, IsOpenUsage};
@@ -236,8 +236,7 @@ fn compact_told<const OFFSET_BITS: u32, S: Store<OFFSET_BITS, Layout = AttrLayou
         → (result ≡ pos 0) × (inner.new.attribute ≡ inner.old.attribute) × TellsStep Idle told.new }
     ensures tells { TellsBy (with_step told.new told.old) (with_keys told.new told.old) told.new result }
     ensures stopped { result ≢ pos 0 → Stopped
-        (StopsStep (CompactsTo OFFSET_BITS S.ledger S.records inner.old.attribute inner.new.attribute keys)
-        (RefusesStep OFFSET_BITS S.ledger S.records inner.old.attribute inner.new.attribute) told.new.keys)
+        (StopsStep OFFSET_BITS S.ledger S.records inner.old.attribute inner.new.attribute keys told.new.keys)
         inner.old.counts inner.new.counts told.new result }
     ensures pool { inner.new.pool ≡ inner.old.pool }
     ensures table { inner.new.attribute.table ≡ inner.old.attribute.table }
@@ -256,7 +255,7 @@ fn compact_told<const OFFSET_BITS: u32, S: Store<OFFSET_BITS, Layout = AttrLayou
     ended(&mut inner.counts, came, told)
 }
 
-/// Visits a number of compaction keys.
+/// Visits a number of compaction keys. With `FULL` the compaction is given up where it can be.
 #[unsafe(no_mangle)]
 pub extern "C" fn attr_compact(
     alloc: Global,
@@ -273,8 +272,7 @@ pub extern "C" fn attr_compact(
     ensures idle { IsIdleOpen at.old.value.inner → (result ≡ pos 0) × KeepsAttributes at.old.value.inner at.new.value.inner
         × TellsStep Idle told.new }
     ensures tells { TellsBy (with_step told.new no_told) (with_keys told.new no_told) told.new result }
-    ensures stopped { result ≢ pos 0 → Stopped (StopsStep (CompactsOpen at.old.value.inner at.new.value.inner keys)
-        (RefusesOpen at.old.value.inner at.new.value.inner) told.new.keys)
+    ensures stopped { result ≢ pos 0 → Stopped (StopsStepOpen at.old.value.inner at.new.value.inner keys told.new.keys)
         (open_counts at.old.value.inner) (open_counts at.new.value.inner) told.new result }
     ensures waiting { KeepsWaiting at.old.value.inner at.new.value.inner }
 {

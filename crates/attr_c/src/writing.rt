@@ -6,17 +6,17 @@ ghost use Rattle.attribute_kinds.specs.Counts.{HasNoVectors};
 ghost use Rattle.compaction_steps.specs.Counts.{MakesKeys};
 ghost use Rattle.attr_c.specs.Holds.{CommitsAs};
 ghost use Rattle.attr_c.specs.Applying.{LeavesAttributes};
-ghost use Rattle.attr_c.specs.Compacting.{StepsAs, StopsStep, TellsStep};
+ghost use Rattle.attr_c.specs.Compacting.{EndsStep, StepsAs, StopsStep, TellsStep};
 ghost use Rattle.attr_c.specs.Stops.{StopsCommit};
 ghost use Rattle.attr_c.specs.Telling.{with_committed, with_keys, with_step};
 ghost use Rattle.attribute_kinds.specs.Calls.{KeepsStoreBut};
-ghost use Rattle.attribute_kinds.specs.Compacting.{CompactsTo, IsIdle, RefusesStep};
+ghost use Rattle.attribute_kinds.specs.Compacting.{CompactsTo, IsIdle};
 ghost use Rattle.attribute_kinds.specs.declared.answers.Compacted.TheVariants.{Idle};
 
 use crate::state::Open;
 use crate::stop::{Stop, note_advance, note_oldest};
 use crate::told::Told;
-use attribute_kinds::{AttrError, Compacted};
+use attribute_kinds::{AttrError, Attribute, Compacted};
 use image_format::AttrLayout;
 use std::alloc::Global;
 use store_api::Store;
@@ -65,7 +65,27 @@ pub fn commit<const OFFSET_BITS: u32, S: Store<OFFSET_BITS, Layout = AttrLayout>
     }
 }
 
-/// Visits a number of compaction keys.
+/// Returns how a step stops at a refused key. A full store gives the compaction up, so that its buffer is used again.
+fn stop_of<const OFFSET_BITS: u32, S: Store<OFFSET_BITS, Layout = AttrLayout>>(
+    attribute: &mut Attribute<OFFSET_BITS, S>,
+    error: AttrError,
+) -> Stop
+    ensures is { result ≡ Stop.Store error }
+    ensures ends { EndsStep S.ledger S.records attribute.old attribute.new error }
+    ensures left { attribute.new ≡ record attribute.old { store = attribute.new.store; plan = attribute.new.plan } }
+    ensures home { (S.ledger attribute.new.store).work.home ≡ (S.ledger attribute.old.store).work.home }
+{
+    match error {
+        AttrError::Full { .. } => {
+            attribute.give_up();
+        }
+        AttrError::CommitsSpent { .. } => {}
+        AttrError::Memory => {}
+    }
+    Stop::Store(error)
+}
+
+/// Visits a number of compaction keys. If the store is full for one, the compaction is given up where it can be.
 pub fn compact<const OFFSET_BITS: u32, S: Store<OFFSET_BITS, Layout = AttrLayout>>(
     alloc: Global,
     inner: &mut Open<OFFSET_BITS, S>,
@@ -74,8 +94,7 @@ pub fn compact<const OFFSET_BITS: u32, S: Store<OFFSET_BITS, Layout = AttrLayout
 ) -> Result<(), Stop>
     ensures steps { OnOk result (StepsAs (CompactsTo OFFSET_BITS S.ledger S.records inner.old.attribute inner.new.attribute keys)
         told.new) }
-    ensures why { IfErr result (StopsStep (CompactsTo OFFSET_BITS S.ledger S.records inner.old.attribute inner.new.attribute keys)
-        (RefusesStep OFFSET_BITS S.ledger S.records inner.old.attribute inner.new.attribute) told.new.keys) }
+    ensures why { IfErr result (StopsStep OFFSET_BITS S.ledger S.records inner.old.attribute inner.new.attribute keys told.new.keys) }
     ensures idle { IsIdle OFFSET_BITS (S.ledger inner.old.attribute.store) inner.old.attribute.plan
         → IsOk result × (inner.new.attribute ≡ inner.old.attribute) × TellsStep Idle told.new }
     ensures tells { OnOk result (told.new ≡ with_step told.new told.old) }
@@ -110,13 +129,13 @@ pub fn compact<const OFFSET_BITS: u32, S: Store<OFFSET_BITS, Layout = AttrLayout
             },
         ) => {
             told.keys = keys;
-            Err(Stop::Store(error))
+            Err(stop_of(&mut inner.attribute, error))
         }
         Ok(Compacted::Finished(buffer)) => {
             told.finished = 1;
             told.buffer = buffer;
             Ok(())
         }
-        Err(error) => Err(Stop::Store(error)),
+        Err(error) => Err(stop_of(&mut inner.attribute, error)),
     }
 }

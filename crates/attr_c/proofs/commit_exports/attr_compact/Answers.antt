@@ -1,7 +1,7 @@
 use Rattle.std.proofs.Common.{◌≡◌, ℤ, sym, ap, subst, ◌∙◌, rules, w32, to_z, of_z}
 use Rattle.std.proofs.lemmas.Int.{to_z-of_z}
 use Rattle.attr_c.proofs.EndLemmas.{stopped_as, tells_as}
-use Rattle.attr_c.specs.Compacting.{CompactsOpen, IsIdleOpen, RefusesOpen, StepsAs, StopsStep}
+use Rattle.attr_c.specs.Compacting.{CompactsOpen, IsIdleOpen, StepsAs, StopsStepOpen}
 use Rattle.attribute_kinds.specs.Calls.{KeepsStoreBut}
 use Rattle.attribute_kinds.specs.Counts.{HasNoVectors}
 use Rattle.compaction_steps.specs.Counts.{MakesKeys}
@@ -43,7 +43,7 @@ returns-in-Narrow-clause-stopped c = λ not.
     let code = to_z-of_z w32 c.compact_told.result (record { sfits = c.compact_told.type_inv }) in
     let end = to_z w32 (of_z w32 c.compact_told.result) in
     subst
-    (λ (o : AnyOpen). Stopped (StopsStep (CompactsOpen o (Narrow now) c.args.keys) (RefusesOpen o (Narrow now)) told.keys) (open_counts o) now.counts told end)
+    (λ (o : AnyOpen). Stopped (StopsStepOpen o (Narrow now) c.args.keys told.keys) (open_counts o) now.counts told end)
     (sym is) (stopped_as _ _ _ _ _ _ code (c.compact_told.ensures.stopped (λ zero. not (ap (λ (z : ℤ). to_z w32 (of_z w32 z)) zero))))
 
 pub returns-in-Narrow-clause-idle : goal.returns-in-Narrow-clause-idle
@@ -73,7 +73,7 @@ returns-in-Wide-clause-stopped c = λ not.
     let code = to_z-of_z w32 c.compact_told-in-Wide.result (record { sfits = c.compact_told-in-Wide.type_inv }) in
     let end = to_z w32 (of_z w32 c.compact_told-in-Wide.result) in
     subst
-    (λ (o : AnyOpen). Stopped (StopsStep (CompactsOpen o (Wide now) c.args.keys) (RefusesOpen o (Wide now)) told.keys) (open_counts o) now.counts told end)
+    (λ (o : AnyOpen). Stopped (StopsStepOpen o (Wide now) c.args.keys told.keys) (open_counts o) now.counts told end)
     (sym is) (stopped_as _ _ _ _ _ _ code (c.compact_told-in-Wide.ensures.stopped (λ zero. not (ap (λ (z : ℤ). to_z w32 (of_z w32 z)) zero))))
 
 pub returns-in-Wide-clause-idle : goal.returns-in-Wide-clause-idle

@@ -1,7 +1,6 @@
 use Rattle.std.proofs.Common.{ℕ, ℤ, ap, sym, subst, ◌∙◌, w32, to_z, of_z, refl}
 use Rattle.std.proofs.lemmas.Int.{to_z-of_z}
 use Rattle.attr_c.proofs.EndLemmas.{on_err_of, on_ok_of, stopped_as, stopped_of, tells_over}
-use Rattle.attribute_kinds.specs.Compacting.{CompactsTo, RefusesStep}
 use Rattle.attr_c.specs.Compacting.{StopsStep}
 use Rattle.attr_c.specs.Stops.{Stopped}
 use Rattle.attr_c.specs.Telling.{with_keys, with_step, TellsBy}
@@ -20,11 +19,9 @@ returns-clause-stopped g c = λ not.
     let told = c.ended.new.told in
     let code = to_z-of_z w32 c.ended.result (record { sfits = c.ended.type_inv }) in
     let failed = c.ended.ensures.other (λ zero. not (ap (λ (z : ℤ). to_z w32 (of_z w32 z)) zero)) in
-    let steps = CompactsTo g.row.OFFSET_BITS g.S.Store.ledger g.S.Frozen.records was.attribute now.attribute c.args.keys in
-    let refuses = RefusesStep g.row.OFFSET_BITS g.S.Store.ledger g.S.Frozen.records was.attribute now.attribute in
-    subst (λ (n : ℕ). Stopped (StopsStep steps refuses n) was.counts c.ended.new.counts told (to_z w32 (of_z w32 c.ended.result))) (sym c.ended.ensures.keys)
+    subst (λ (n : ℕ). Stopped (StopsStep g.row.OFFSET_BITS g.S.Store.ledger g.S.Frozen.records was.attribute now.attribute c.args.keys n) was.counts c.ended.new.counts told (to_z w32 (of_z w32 c.ended.result))) (sym c.ended.ensures.keys)
     (stopped_as _ _ _ _ _ _ code
-    (stopped_of (StopsStep steps refuses c.compact-came.new.told.keys) c.compact-came.result was.counts _ c.ended.new.counts told c.ended.result c.compact-came.ensures.counts failed
+    (stopped_of (StopsStep g.row.OFFSET_BITS g.S.Store.ledger g.S.Frozen.records was.attribute now.attribute c.args.keys c.compact-came.new.told.keys) c.compact-came.result was.counts _ c.ended.new.counts told c.ended.result c.compact-came.ensures.counts failed
     c.compact-came.ensures.why c.ended.ensures.ends))
 
 pub returns-clause-keeps : goal.returns-clause-keeps
